@@ -1,0 +1,16 @@
+//! The edges of the programs: where text goes.
+//!
+//! What is written is stated over devices that tell what they took: a device that tells nothing, as a
+//! real terminal, makes no clause false and none useful.
+#![tactic(auto)]
+
+mod out;
+mod text;
+mod writer;
+
+pub use out::Out;
+pub use text::{WriteFailed, write_text};
+pub use writer::WriterOut;
+
+#[cfg(test)]
+mod tests;
