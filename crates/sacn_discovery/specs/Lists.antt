@@ -4,6 +4,7 @@ use Rattle.std.specs.List.{list_all, AllByRecursion}
 use Rattle.std.specs.Option.{option_map}
 use Rattle.std.specs.Ordering.{nat_cmp, eq_by_cmp}
 use Rattle.std.specs.Cmp.Lexicographic.{slice_cmp}
+use Rattle.std.specs.FinMap.{get}
 use Rattle.sacn_framing.specs.Page.{Page}
 use Rattle.sacn_discovery.specs.declared.limits.TheConstants.{FORGOTTEN_AFTER}
 use Rattle.sacn_discovery.specs.Known.{State, nothing_known, after_expire, after_take, ascending, joined, known_list}
@@ -62,6 +63,11 @@ list_of_run t (c ∷ copies) =
 abbrev pub list_by_pages : ℕ → List Copy → Option (List ℕ)
 list_by_pages t copies = list_of_run t (longest_run copies)
 
+-- the moment of the latest page, where it is less than 25,000 ms before t
+abbrev pub fresh_moment : ℕ → List Copy → Option ℕ
+fresh_moment t [] = None
+fresh_moment t (c ∷ copies) = if nat_lt (t - latest_moment c copies) FORGOTTEN_AFTER then Some (latest_moment c copies) else None
+
 -- ---- runs of calls on one collector
 
 -- a call, with the moment that it hands in
@@ -119,3 +125,13 @@ abbrev pub ListIsThatOfThePages : Type 0
 ListIsThatOfThePages =
     (calls : List Call) (now : ℕ) (cid : List ℕ) → ArePages calls
     → known_list (after_expire now (after_all calls nothing_known)) cid ≡ list_by_pages (max (moment_after 0 calls) now) (copies_in cid 0 calls)
+
+-- the moment of the latest page that is kept of a CID
+abbrev pub kept_moment : State → List ℕ → Option ℕ
+kept_moment s cid = option_map (λ known. known.moment) (get s.sources cid)
+
+-- after any calls the sources kept are those whose latest accepted page is less than 25,000 ms old
+abbrev pub SourcesAreTheFreshOnes : Type 0
+SourcesAreTheFreshOnes =
+    (calls : List Call) (now : ℕ) (cid : List ℕ) → ArePages calls
+    → kept_moment (after_expire now (after_all calls nothing_known)) cid ≡ fresh_moment (max (moment_after 0 calls) now) (copies_in cid 0 calls)

@@ -1,0 +1,4 @@
+pub mod Words
+pub mod Blocks
+pub mod Decoding
+pub mod Digits

@@ -1,0 +1,28 @@
+//! A datagram given as hexadecimal digits.
+ghost use Rattle.std.specs.Prelude.{◌≡◌, IfOk, Ok};
+ghost use Rattle.hex.specs.Hex.{decode_of};
+ghost use Rattle.sacn.specs.Digits.{is_skipped, digits_of};
+
+use hex::FromHexError;
+use std::alloc::Global;
+
+/// Whether an octet between digits is skipped: a space, a tab, LF or CR.
+fn is_skipped(octet: u8) -> bool
+    ensures { result ≡ is_skipped octet }
+{
+    (octet == b' ') | (octet == b'\t') | (octet == b'\n') | (octet == b'\r')
+}
+
+/// The octets that a text of digits spells, two of either case for each, with spaces, tabs and line
+/// ends anywhere between them.
+pub fn octets_of_digits(alloc: Global, text: &[u8]) -> Result<Vec<u8>, FromHexError>
+    ensures { IfOk result (λ octets. decode_of (digits_of text.now) ≡ Ok octets.items) }
+{
+    let mut digits = Vec::with_capacity(alloc, text.len())?;
+    for octet in text.iter() {
+        if !is_skipped(*octet) && digits.push(*octet).is_err() {
+            return Err(FromHexError::OutOfMemory);
+        }
+    }
+    hex::decode(alloc, digits.as_slice())
+}

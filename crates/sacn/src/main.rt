@@ -1,0 +1,28 @@
+//! `sacn`: packets of streaming ACN read, checked and shown.
+#![tactic(auto)]
+
+mod block;
+mod command;
+mod decode;
+mod digits;
+mod fault;
+mod input;
+mod program;
+mod words;
+
+use std::env;
+use std::io;
+use std::io::{ErrorKind, Write};
+use std::process::ExitCode;
+
+fn main(rt: HostRuntime) -> ExitCode {
+    let words: Result<Vec<String>, io::Error> = match env::args(&rt) {
+        Ok(words) => words.collect(rt.alloc()).map_err(io::Error::from),
+        Err(error) => Err(error),
+    };
+    let status = match words {
+        Ok(words) => program::run_program(&rt, words.as_slice(), rt.reader(), io::writer(&rt), rt.stderr()),
+        Err(error) => program::wordless(error.kind(), &mut rt.stderr()),
+    };
+    ExitCode::from(status)
+}
