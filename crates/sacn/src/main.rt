@@ -10,6 +10,9 @@ mod input;
 mod program;
 mod words;
 
+#[cfg(test)]
+mod tests;
+
 use std::env;
 use std::io;
 use std::io::{ErrorKind, Write};

@@ -1,0 +1,4 @@
+//! The program over memory and files, and its printed texts.
+mod datagrams;
+mod decoding;
+mod running;
