@@ -17,7 +17,11 @@ const CASES: [(u8, u8, i8, bool); 8] = [
 #[test]
 fn takes_and_discards(rt: HostRuntime) {
     for (held, arrived, step, taken) in CASES {
-        assert_eq!(rt; signed_step(held, arrived), step, "from {held} to {arrived}");
+        assert_eq!(rt;
+            signed_step(held, arrived),
+            step,
+            "from {held} to {arrived}"
+        );
         assert_eq!(rt; in_sequence(held, arrived), taken, "{arrived} after {held}");
     }
 }
