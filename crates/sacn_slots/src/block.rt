@@ -30,8 +30,10 @@ impl Block {
     /// Each slot of the block, raised to the level that stands there; the first one's is at `at`.
     pub(crate) fn raised(self, levels: &[u8; SLOTS], at: usize) -> Self
         requires { at + BLOCK ≤ SLOTS }
-        ensures low { (i : ℕ) → i < LANES → slice_index result.low i ≡ max (slice_index self.low i) (slice_index levels.now (at + i)) }
-        ensures high { (i : ℕ) → i < LANES → slice_index result.high i ≡ max (slice_index self.high i) (slice_index levels.now (at + LANES + i)) }
+        ensures low { (i : ℕ) → i < LANES →
+            slice_index result.low i ≡ max (slice_index self.low i) (slice_index levels.now (at + i)) }
+        ensures high { (i : ℕ) → i < LANES →
+            slice_index result.high i ≡ max (slice_index self.high i) (slice_index levels.now (at + LANES + i)) }
     {
         Block {
             low: raised_to(self.low, levels, at),
@@ -43,8 +45,10 @@ impl Block {
     pub(crate) fn put(self, slots: &mut [u8; SLOTS], at: usize)
         requires { at + BLOCK ≤ SLOTS }
         ensures below { (k : ℕ) → k < at → slice_index slots.new k ≡ slice_index slots.old k }
-        ensures low { (i : ℕ) → i < LANES → slice_index slots.new (at + i) ≡ slice_index self.low i }
-        ensures high { (i : ℕ) → i < LANES → slice_index slots.new (at + LANES + i) ≡ slice_index self.high i }
+        ensures low { (i : ℕ) → i < LANES →
+            slice_index slots.new (at + i) ≡ slice_index self.low i }
+        ensures high { (i : ℕ) → i < LANES →
+            slice_index slots.new (at + LANES + i) ≡ slice_index self.high i }
     {
         put_lanes(self.low, slots, at);
         put_lanes(self.high, slots, at + LANES);
@@ -54,7 +58,8 @@ impl Block {
 // The lanes, each raised to the level of its slot; the first one's is at `at`.
 fn raised_to(lanes: Lanes, levels: &[u8; SLOTS], at: usize) -> Lanes
     requires { at + LANES ≤ SLOTS }
-    ensures { (i : ℕ) → i < LANES → slice_index result i ≡ max (slice_index lanes i) (slice_index levels.now (at + i)) }
+    ensures { (i : ℕ) → i < LANES →
+        slice_index result i ≡ max (slice_index lanes i) (slice_index levels.now (at + i)) }
 {
     lanes.simd_max(Lanes::from_slice(&levels[at..]))
 }
