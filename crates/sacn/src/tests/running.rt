@@ -24,7 +24,7 @@ fn words(rt: &impl AllocGlobal, texts: &[&str]) -> Result<Vec<String>, Fail> {
     Ok(words)
 }
 
-fn ran<R: AllocGlobal + Files>(rt: &R, texts: &[&str], input: &[u8]) -> Result<Ran, Fail> {
+fn program_run<R: AllocGlobal + Files>(rt: &R, texts: &[&str], input: &[u8]) -> Result<Ran, Fail> {
     let words = words(rt, texts)?;
     let mut out = Vec::new(rt.alloc());
     let mut err = Vec::new(rt.alloc());
@@ -41,7 +41,7 @@ const DIGITS: &[u8] = b"0010 0000 4153432d45312e3137000000
 
 #[test]
 fn digits_on_standard_input_are_decoded(rt: HostRuntime) -> Result<(), Fail> {
-    let run = ran(&rt, &[], DIGITS)?;
+    let run = program_run(&rt, &[], DIGITS)?;
     assert_eq!(rt; run.status, 0);
     assert_eq!(rt; run.out.as_slice(), data_lines(rt.alloc(), "Desk", 0, "00")?.as_bytes());
     assert_eq!(rt; run.err.len(), 0);
@@ -57,7 +57,7 @@ fn bad_input_is_refused_by_name(rt: HostRuntime) -> Result<(), Fail> {
         (b"0g".as_slice(), b"refused Hex\n".as_slice()),
         (b"0010 0001".as_slice(), b"refused Postamble\n".as_slice()),
     ] {
-        let run = ran(&rt, &[], input)?;
+        let run = program_run(&rt, &[], input)?;
         assert_eq!(rt; run.status, 3);
         assert_eq!(rt; run.out.len(), 0);
         assert_eq!(rt; run.err.as_slice(), cause);
@@ -68,9 +68,9 @@ fn bad_input_is_refused_by_name(rt: HostRuntime) -> Result<(), Fail> {
 #[test]
 fn standard_input_has_a_limit(rt: HostRuntime) -> Result<(), Fail> {
     let mut text = vec![in rt.alloc(); b'x'; 1_048_576]?;
-    assert_eq!(rt; ran(&rt, &[], text.as_slice())?.err.as_slice(), b"refused Hex\n".as_slice());
+    assert_eq!(rt; program_run(&rt, &[], text.as_slice())?.err.as_slice(), b"refused Hex\n".as_slice());
     text.push(b'x')?;
-    let run = ran(&rt, &[], text.as_slice())?;
+    let run = program_run(&rt, &[], text.as_slice())?;
     assert_eq!(rt; run.status, 3);
     assert_eq!(rt; run.err.as_slice(), b"refused TooLarge\n".as_slice());
     Ok(())
@@ -79,7 +79,7 @@ fn standard_input_has_a_limit(rt: HostRuntime) -> Result<(), Fail> {
 #[test]
 fn bad_words_are_explained(rt: HostRuntime) -> Result<(), Fail> {
     for texts in [["read"].as_slice(), ["decode"].as_slice(), ["--turns"].as_slice(), ["help"].as_slice()] {
-        let run = ran(&rt, texts, b"")?;
+        let run = program_run(&rt, texts, b"")?;
         assert_eq!(rt; run.status, 2);
         assert_eq!(rt; run.out.len(), 0);
         assert!(rt; run.err.len() > 0);
@@ -90,7 +90,7 @@ fn bad_words_are_explained(rt: HostRuntime) -> Result<(), Fail> {
 #[test]
 fn help_is_printed(rt: HostRuntime) -> Result<(), Fail> {
     for word in ["--help", "-h"] {
-        let run = ran(&rt, &[word], b"")?;
+        let run = program_run(&rt, &[word], b"")?;
         assert_eq!(rt; run.status, 0);
         assert!(rt; run.out.as_slice().starts_with(b"Streaming ACN"));
         assert_eq!(rt; run.err.len(), 0);
@@ -149,7 +149,7 @@ fn files_are_decoded_in_their_order(rt: HostRuntime) -> Result<(), Fail> {
     let sync = file(&rt, "sync", sync_packet(alloc)?.as_slice())?;
     let list = page(alloc, [[0x70, 0x6a], [0x70, 0x54], [0x70, 0x0a]], [0, 0], &[0, 1])?;
     let list = file(&rt, "list", list.as_slice())?;
-    let run = ran(&rt, &["decode", sync.as_str(), data.as_str(), list.as_str()], b"")?;
+    let run = program_run(&rt, &["decode", sync.as_str(), data.as_str(), list.as_str()], b"")?;
     assert_eq!(rt; run.status, 0);
     let lines = format!(in alloc; "sync\n{}page\ncid 00010203-0405-0607-0809-0a0b0c0d0e0f\nname Desk\npage 0\nlast 0\nuniverses 1\nknown 1\n", data_lines(alloc, "Desk", 0, "00")?)?;
     assert_eq!(rt; run.out.as_slice(), lines.as_bytes());
@@ -160,11 +160,11 @@ fn files_are_decoded_in_their_order(rt: HostRuntime) -> Result<(), Fail> {
 fn all_files_are_read_before_any_is_printed(rt: HostRuntime) -> Result<(), Fail> {
     let sync = file(&rt, "first", sync_packet(rt.alloc())?.as_slice())?;
     let short = file(&rt, "short", b"\0\x10")?;
-    let run = ran(&rt, &["decode", sync.as_str(), short.as_str(), sync.as_str()], b"")?;
+    let run = program_run(&rt, &["decode", sync.as_str(), short.as_str(), sync.as_str()], b"")?;
     assert_eq!(rt; run.status, 3);
     assert_eq!(rt; run.out.as_slice(), b"sync\n".as_slice());
     assert_eq!(rt; run.err.as_slice(), b"refused TooShort\n".as_slice());
-    let run = ran(&rt, &["decode", sync.as_str(), "absent/file"], b"")?;
+    let run = program_run(&rt, &["decode", sync.as_str(), "absent/file"], b"")?;
     assert_eq!(rt; run.status, 4);
     assert_eq!(rt; run.out.len(), 0);
     assert_eq!(rt; run.err.as_slice(), b"device read\n".as_slice());
@@ -175,7 +175,7 @@ fn all_files_are_read_before_any_is_printed(rt: HostRuntime) -> Result<(), Fail>
 fn files_have_a_limit(rt: HostRuntime) -> Result<(), Fail> {
     let octets = vec![in rt.alloc(); 0u8; 1_048_577]?;
     let large = file(&rt, "large", octets.as_slice())?;
-    let run = ran(&rt, &["decode", large.as_str(), "absent/file"], b"")?;
+    let run = program_run(&rt, &["decode", large.as_str(), "absent/file"], b"")?;
     assert_eq!(rt; run.status, 3);
     assert_eq!(rt; run.err.as_slice(), b"refused TooLarge\n".as_slice());
     Ok(())

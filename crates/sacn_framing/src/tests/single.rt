@@ -1,7 +1,8 @@
 //! Each octet that a check looks at, changed to each other value.
-use super::octets::{empty_packet, full_packet};
+use super::octets::{changed, empty_packet, full_packet};
 use crate::read_packet;
 use sacn_root::PacketFault;
+use std::process::Abort;
 use std::test::*;
 
 /// The fault of the full packet with this octet at this place, for the places that the checks look at.
@@ -33,16 +34,15 @@ fn expected_of_field(at: usize, octet: u8) -> PacketFault {
     }
 }
 
-#[test]
-fn each_wrong_octet_has_its_fault(rt: HostRuntime) {
-    let mut octets = full_packet();
-    for at in 0..126 {
+/// Each octet of the packet before its slots, changed to each other value, and put back.
+fn each_wrong_octet_has_its_fault_in(rt: &impl Abort, octets: &mut Vec<u8>) {
+    for at in 0..octets.len().min(126) {
         let right = octets[at];
         for change in 1..=255u8 {
             let wrong = right ^ change;
             octets[at] = wrong;
             if let Some(fault) = expected(at, wrong) {
-                assert!(rt; matches!(read_packet(&octets), Err(found) if found == fault), "{wrong} at {at}");
+                assert!(rt; matches!(read_packet(octets.as_slice()), Err(found) if found == fault), "{wrong} at {at}");
             }
         }
         octets[at] = right;
@@ -50,13 +50,25 @@ fn each_wrong_octet_has_its_fault(rt: HostRuntime) {
 }
 
 #[test]
-fn lengths_that_disagree_are_refused(rt: HostRuntime) {
-    let mut octets = full_packet();
-    octets[115..117].copy_from_slice(&[0x72, 0x0a]);
-    assert!(rt; matches!(read_packet(&octets), Err(PacketFault::Length)));
-    let mut octets = empty_packet();
-    octets[16..18].copy_from_slice(&[0x70, 0x15]);
-    assert!(rt; matches!(read_packet(&octets), Err(PacketFault::Length)));
-    octets[16..18].copy_from_slice(&[0x73, 0x00]);
-    assert!(rt; matches!(read_packet(&octets), Err(PacketFault::TooShort)));
+fn each_wrong_octet_has_its_fault(rt: HostRuntime) -> Result<(), Fail> {
+    let mut octets = full_packet(rt.alloc())?;
+    each_wrong_octet_has_its_fault_in(&rt, &mut octets);
+    Ok(())
+}
+
+fn is_refused(octets: &Vec<u8>, fault: PacketFault) -> bool {
+    match read_packet(octets.as_slice()) {
+        Ok(_) => false,
+        Err(found) => found == fault,
+    }
+}
+
+#[test]
+fn lengths_that_disagree_are_refused(rt: HostRuntime) -> Result<(), Fail> {
+    assert!(rt; is_refused(&changed(full_packet(rt.alloc())?, 116, 0x0a), PacketFault::Length));
+    let octets = changed(empty_packet(rt.alloc())?, 17, 0x15);
+    assert!(rt; is_refused(&octets, PacketFault::Length));
+    let octets = changed(octets, 16, 0x73);
+    assert!(rt; is_refused(&octets, PacketFault::TooShort));
+    Ok(())
 }
