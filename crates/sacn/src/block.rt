@@ -74,7 +74,11 @@ fn data_place(alloc: Global, packet: &DataView<'_>) -> Result<String, AllocError
 fn data_options(alloc: Global, packet: &DataView<'_>) -> Result<String, AllocError>
     ensures { IfOk result (λ text. string_bytes text ≡ data_options packet.now) }
 {
-    options(alloc, yes_or_no(packet.preview()), yes_or_no(packet.terminated()))
+    options(
+        alloc,
+        yes_or_no(packet.preview()),
+        yes_or_no(packet.terminated()),
+    )
 }
 
 fn data_rest(alloc: Global, packet: &DataView<'_>) -> Result<Vec<u8>, AllocError>
@@ -84,7 +88,12 @@ fn data_rest(alloc: Global, packet: &DataView<'_>) -> Result<Vec<u8>, AllocError
     let options = data_options(alloc, packet)?;
     let place = data_place(alloc, packet)?;
     let values = data_values(alloc, packet)?;
-    let front = joined(alloc, counts.as_bytes(), options.as_bytes(), place.as_bytes())?;
+    let front = joined(
+        alloc,
+        counts.as_bytes(),
+        options.as_bytes(),
+        place.as_bytes(),
+    )?;
     joined(alloc, front.as_slice(), values.as_bytes(), b"")
 }
 
@@ -125,7 +134,11 @@ fn known_words(alloc: Global, known: Option<Vec<u16>>) -> Result<Vec<u8>, AllocE
     }
 }
 
-fn page_rest(alloc: Global, page: &PageView<'_>, known: Option<Vec<u16>>) -> Result<Vec<u8>, AllocError>
+fn page_rest(
+    alloc: Global,
+    page: &PageView<'_>,
+    known: Option<Vec<u16>>,
+) -> Result<Vec<u8>, AllocError>
     ensures { IfOk result (λ text. text.items ≡ page_rest page.now (option_map (λ v. v.items) known)) }
 {
     let top = page_top(alloc, page)?;
@@ -137,7 +150,11 @@ fn page_rest(alloc: Global, page: &PageView<'_>, known: Option<Vec<u16>>) -> Res
 }
 
 /// The lines of a page, with the list that is known.
-pub fn page_block(alloc: Global, page: &PageView<'_>, known: Option<Vec<u16>>) -> Result<Vec<u8>, AllocError>
+pub fn page_block(
+    alloc: Global,
+    page: &PageView<'_>,
+    known: Option<Vec<u16>>,
+) -> Result<Vec<u8>, AllocError>
     ensures { IfOk result (λ text. text.items ≡ page_block page.now (option_map (λ v. v.items) known)) }
 {
     let top = top(alloc, "page", page.cid())?;

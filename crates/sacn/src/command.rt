@@ -8,12 +8,14 @@ Without a command it reads one datagram from standard input, as hexadecimal digi
 spaces and line ends anywhere between them, and prints its fields and its frame, or
 refuses it with the first check of the standard's layouts that fails.";
 
-const EXAMPLE: &str = "Example, in a clone of the repository:
+const EXAMPLE: &str = "Examples, in a clone of the repository:
   ./sacn < examples/desk.hex
+  ./sacn decode examples/levels.sacn examples/universes.sacn
 
 Exit status: 0; 2 bad words; 3 refused input; 4 a device failed.";
 
-const DECODE_ABOUT: &str = "Prints the packets in files of one datagram each, raw octets, in their order";
+const DECODE_ABOUT: &str =
+    "Prints the packets in files of one datagram each, raw octets, in their order";
 
 /// What the words ask for.
 pub enum Asked<'a> {

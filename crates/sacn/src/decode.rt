@@ -10,13 +10,17 @@ ghost use Rattle.sacn.specs.Decoding.{block, state_after, decoded, octets_of, St
 
 use crate::block::{data_block, page_block};
 use crate::fault::DecodeFault;
-use sacn_edge::{Out, write_text};
 use sacn_discovery::Collector;
+use sacn_edge::{Out, write_text};
 use sacn_framing::{Packet, PageView, read_packet};
 use std::alloc::{AllocError, Global};
 
 // The text of a page, after the collector took it.
-fn page_text(alloc: Global, collector: &mut Collector, page: &PageView<'_>) -> Result<Vec<u8>, AllocError>
+fn page_text(
+    alloc: Global,
+    collector: &mut Collector,
+    page: &PageView<'_>,
+) -> Result<Vec<u8>, AllocError>
     ensures { IfOk result (λ text. (text.items ≡ block (PagePacket page.now) collector.old) × (collector.new ≡ state_after (PagePacket page.now) collector.old)) }
 {
     let Ok(_) = collector.take(0, page) else {
@@ -29,7 +33,11 @@ fn page_text(alloc: Global, collector: &mut Collector, page: &PageView<'_>) -> R
 }
 
 // The text of a packet, and the collector after it.
-fn block_of(alloc: Global, collector: &mut Collector, packet: &Packet<'_>) -> Result<Vec<u8>, AllocError>
+fn block_of(
+    alloc: Global,
+    collector: &mut Collector,
+    packet: &Packet<'_>,
+) -> Result<Vec<u8>, AllocError>
     ensures { IfOk result (λ text. (text.items ≡ block packet.now collector.old) × (collector.new ≡ state_after packet.now collector.old)) }
 {
     match packet {
@@ -40,13 +48,15 @@ fn block_of(alloc: Global, collector: &mut Collector, packet: &Packet<'_>) -> Re
 }
 
 /// Writes the texts of the datagrams, up to the first that is no packet.
-pub fn decode_text<O: Out>(alloc: Global, datagrams: &[Vec<u8>], out: &mut O) -> Result<(), DecodeFault>
+pub fn decode_text<O: Out>(
+    alloc: Global,
+    datagrams: &[Vec<u8>],
+    out: &mut O,
+) -> Result<(), DecodeFault>
     requires { O.failed out.old ≡ false }
-    ensures ok {
-        OnOk result ((O.failed out.new ≡ false)
+    ensures ok { OnOk result ((O.failed out.new ≡ false)
         × ((decoded nothing_known 0 (octets_of datagrams.now)).refused ≡ None)
-        × Adds (O.Tells out.old) (O.Tells out.new) (decoded nothing_known 0 (octets_of datagrams.now)).text)
-    }
+        × Adds (O.Tells out.old) (O.Tells out.new) (decoded nothing_known 0 (octets_of datagrams.now)).text) }
     ensures err { IfErr result (λ fault. Stops fault (O.failed out.new) (Adds (O.Tells out.old) (O.Tells out.new)) (decoded nothing_known 0 (octets_of datagrams.now))) }
 {
     let mut collector = Collector::new(alloc);

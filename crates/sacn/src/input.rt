@@ -23,7 +23,11 @@ pub enum ReadFault {
 }
 
 /// The whole input, if it has at most `limit` octets.
-pub fn read_limited<A: Allocator + Clone + Drop, R: Read + Drop>(alloc: A, reader: R, limit: u64) -> Result<Vec<u8, A>, ReadFault>
+pub fn read_limited<A: Allocator + Clone + Drop, R: Read + Drop>(
+    alloc: A,
+    reader: R,
+    limit: u64,
+) -> Result<Vec<u8, A>, ReadFault>
     requires { limit < 2 ^ 32 }
     ensures small { IfOk result (λ v. length v.items ≤ limit) }
     ensures whole { IfOk result (λ v. IfSome (R.remaining reader) (λ xs. v.items ≡ xs)) }

@@ -8,15 +8,13 @@ mod digits;
 mod fault;
 mod input;
 mod program;
-mod words;
-
 #[cfg(test)]
 mod tests;
+mod words;
 
-use std::env;
-use std::io;
 use std::io::{ErrorKind, Write};
 use std::process::ExitCode;
+use std::{env, io};
 
 fn main(rt: HostRuntime) -> ExitCode {
     let words: Result<Vec<String>, io::Error> = match env::args(&rt) {
@@ -24,7 +22,13 @@ fn main(rt: HostRuntime) -> ExitCode {
         Err(error) => Err(error),
     };
     let status = match words {
-        Ok(words) => program::run_program(&rt, words.as_slice(), rt.reader(), io::writer(&rt), rt.stderr()),
+        Ok(words) => program::run_program(
+            &rt,
+            words.as_slice(),
+            rt.reader(),
+            io::writer(&rt),
+            rt.stderr(),
+        ),
         Err(error) => program::wordless(error.kind(), &mut rt.stderr()),
     };
     ExitCode::from(status)

@@ -72,14 +72,25 @@ impl From<DecodeFault> for Ending {
 
 /// Runs the program on its words, of which the first is its name, and answers the exit status: 0, 2
 /// for bad words, 3 for input that is refused, 4 for a device that fails.
-pub fn run_program<R: AllocGlobal + Files, I: Read + Drop, O: Write + Drop, E: Write + Drop>(rt: &R, words: &[String], input: I, mut out: O, mut err: E) -> u8 {
+pub fn run_program<R: AllocGlobal + Files, I: Read + Drop, O: Write + Drop, E: Write + Drop>(
+    rt: &R,
+    words: &[String],
+    input: I,
+    mut out: O,
+    mut err: E,
+) -> u8 {
     match run(rt, words, input, &mut out) {
         Ok(()) => DONE,
         Err(ending) => ended(rt.alloc(), ending, &mut out, &mut err),
     }
 }
 
-fn run<R: AllocGlobal + Files, I: Read + Drop, O: Write>(rt: &R, words: &[String], input: I, out: &mut O) -> Result<(), Ending> {
+fn run<R: AllocGlobal + Files, I: Read + Drop, O: Write>(
+    rt: &R,
+    words: &[String],
+    input: I,
+    out: &mut O,
+) -> Result<(), Ending> {
     let alloc = rt.alloc();
     let datagrams = match parse(alloc, words) {
         Ok(Asked::Datagram) => standard_input(alloc, input)?,
@@ -117,7 +128,11 @@ fn read_files<R: AllocGlobal + Files>(rt: &R, paths: &[&str]) -> Result<Vec<Vec<
 }
 
 // Decodes, and then flushes what was written. A refusal stands where the device did its part.
-fn print_packets<O: Write>(alloc: Global, datagrams: &[Vec<u8>], out: &mut O) -> Result<(), Ending> {
+fn print_packets<O: Write>(
+    alloc: Global,
+    datagrams: &[Vec<u8>],
+    out: &mut O,
+) -> Result<(), Ending> {
     let decoded = decode_text(alloc, datagrams, &mut WriterOut::new(&mut *out));
     if let Err(DecodeFault::Refused(0, fault)) = decoded {
         return Err(Ending::Packet(fault));
@@ -145,7 +160,12 @@ fn ended<O: Write, E: Write>(alloc: Global, ending: Ending, out: &mut O, err: &m
 }
 
 // Bad words are explained on standard error, and help goes to standard output.
-fn explained<O: Write, E: Write>(alloc: Global, error: clap::Error, out: &mut O, err: &mut E) -> u8 {
+fn explained<O: Write, E: Write>(
+    alloc: Global,
+    error: clap::Error,
+    out: &mut O,
+    err: &mut E,
+) -> u8 {
     if error.kind() == ErrorKind::OutOfMemory {
         return refused(err, "OutOfMemory");
     }

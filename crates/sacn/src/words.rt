@@ -66,7 +66,12 @@ fn spaced(alloc: Global, numbers: &[u16]) -> Result<Vec<u8>, AllocError>
 }
 
 /// Three texts, joined.
-pub fn joined(alloc: Global, first: &[u8], second: &[u8], third: &[u8]) -> Result<Vec<u8>, AllocError>
+pub fn joined(
+    alloc: Global,
+    first: &[u8],
+    second: &[u8],
+    third: &[u8],
+) -> Result<Vec<u8>, AllocError>
     ensures { IfOk result (λ text. text.items ≡ first.now ++ second.now ++ third.now) }
 {
     let mut text = Vec::from_slice(alloc, first)?;

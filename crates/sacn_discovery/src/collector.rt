@@ -139,7 +139,13 @@ impl Collector {
     }
 
     // Keeps the first page of a source with this last page number.
-    fn begin(&mut self, cid: [u8; 16], page: u8, last: u8, numbers: Vec<u16>) -> Result<(), DiscoveryFault>
+    fn begin(
+        &mut self,
+        cid: [u8; 16],
+        page: u8,
+        last: u8,
+        numbers: Vec<u16>,
+    ) -> Result<(), DiscoveryFault>
         requires page { page ≤ last }
         requires other { goes_on last (map.get self.old.sources cid) ≡ false }
         ensures ok { OnOk result (self.new ≡ with_source cid (with_page self.old.moment page last numbers.items (map.get self.old.sources cid)) self.old) }

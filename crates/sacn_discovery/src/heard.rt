@@ -19,9 +19,7 @@ pub struct Heard {
 
 impl Model for Heard {
     ghost use Rattle.std.specs.Prelude.{◌≡◌, ◌+◌, length};
-
     ghost use Rattle.sacn_discovery.specs.Known.{Known, known_code};
-
     ghost use Rattle.sacn_discovery.specs.Shown.{pages_of};
 
     ghost Value = { Known };
@@ -35,7 +33,13 @@ impl Model for Heard {
 
 impl Heard {
     /// A source of one page.
-    pub fn begin(alloc: Global, moment: u64, page: u8, last: u8, numbers: Vec<u16>) -> Result<Heard, AllocError>
+    pub fn begin(
+        alloc: Global,
+        moment: u64,
+        page: u8,
+        last: u8,
+        numbers: Vec<u16>,
+    ) -> Result<Heard, AllocError>
         requires { page ≤ last }
         ensures { IfOk result (λ heard. heard ≡ first_page moment page last numbers.items) }
     {

@@ -8,8 +8,8 @@
 mod collector;
 mod fault;
 mod heard;
-mod limits;
 pub mod laws;
+mod limits;
 mod pages;
 
 pub use collector::Collector;

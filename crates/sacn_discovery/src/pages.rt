@@ -36,7 +36,13 @@ pub fn page_count(n: usize) -> usize
 /// Writes page `k` of a list of universes at the front, and answers its length in octets: 120, and two
 /// for each of its numbers. No other octets are written. A list ascends, so it has at most 65,536
 /// universes on 128 pages.
-pub fn write_page(list: &[u16], k: usize, cid: &[u8; 16], name: &[u8; 64], out: &mut [u8; 1144]) -> usize
+pub fn write_page(
+    list: &[u16],
+    k: usize,
+    cid: &[u8; 16],
+    name: &[u8; 64],
+    out: &mut [u8; 1144],
+) -> usize
     requires rising { IsStrictlyIncreasing list.now }
     requires there { k < page_count (length list.now) }
     ensures text { out.new ≡ page_text (page_of_list list.now k cid.now name.now) unused ++ drop result out.old }

@@ -27,7 +27,12 @@ fn desk() -> [u8; 64] {
 }
 
 /// The text of a page of a list.
-fn written(rt: &(impl Abort + AllocGlobal), list: &[u16], k: usize, cid: &[u8; 16]) -> Result<Vec<u8>, Fail> {
+fn written(
+    rt: &(impl Abort + AllocGlobal),
+    list: &[u16],
+    k: usize,
+    cid: &[u8; 16],
+) -> Result<Vec<u8>, Fail> {
     assert!(rt; rises(list));
     assert!(rt; k < page_count(list.len()));
     let mut out = [0xaa; 1144];
@@ -37,7 +42,12 @@ fn written(rt: &(impl Abort + AllocGlobal), list: &[u16], k: usize, cid: &[u8; 1
 
 /// The text of a page laid out by hand: the three flags-and-length fields, the page and the last one,
 /// and the octets of the numbers.
-fn laid_out(alloc: Global, fields: [[u8; 2]; 3], pages: [u8; 2], numbers: &[u8]) -> Result<Vec<u8>, Fail> {
+fn laid_out(
+    alloc: Global,
+    fields: [[u8; 2]; 3],
+    pages: [u8; 2],
+    numbers: &[u8],
+) -> Result<Vec<u8>, Fail> {
     let mut octets = Vec::from_slice(alloc, b"\0\x10\0\0ASC-E1.17\0\0\0")?;
     octets.extend_from_slice(&fields[0])?;
     octets.extend_from_slice(&[0, 0, 0, 8])?;
@@ -81,14 +91,27 @@ fn numbers_of(alloc: Global, list: &[u16]) -> Result<Vec<u8>, Fail> {
 
 #[test]
 fn pages_are_counted(rt: HostRuntime) {
-    for (n, pages) in [(0, 1), (1, 1), (512, 1), (513, 2), (1024, 2), (1025, 3), (65536, 128)] {
+    for (n, pages) in [
+        (0, 1),
+        (1, 1),
+        (512, 1),
+        (513, 2),
+        (1024, 2),
+        (1025, 3),
+        (65536, 128),
+    ] {
         assert_eq!(rt; page_count(n), pages);
     }
 }
 
 #[test]
 fn a_list_of_no_universe_has_one_page(rt: HostRuntime) -> Result<(), Fail> {
-    let page = laid_out(rt.alloc(), [[0x70, 0x68], [0x70, 0x52], [0x70, 0x08]], [0, 0], &[])?;
+    let page = laid_out(
+        rt.alloc(),
+        [[0x70, 0x68], [0x70, 0x52], [0x70, 0x08]],
+        [0, 0],
+        &[],
+    )?;
     assert_eq!(rt; written(&rt, &[], 0, &CID)?, page);
     let mut collector = Collector::new(rt.alloc());
     assert!(rt; keeps(&mut collector, 0, &page));
@@ -100,9 +123,19 @@ fn a_list_of_no_universe_has_one_page(rt: HostRuntime) -> Result<(), Fail> {
 fn pages_of_two_are_laid_out(rt: HostRuntime) -> Result<(), Fail> {
     let list = universes(rt.alloc(), 513)?;
     let most = numbers_of(rt.alloc(), universes(rt.alloc(), 512)?.as_slice())?;
-    let first = laid_out(rt.alloc(), [[0x74, 0x68], [0x74, 0x52], [0x74, 0x08]], [0, 1], most.as_slice())?;
+    let first = laid_out(
+        rt.alloc(),
+        [[0x74, 0x68], [0x74, 0x52], [0x74, 0x08]],
+        [0, 1],
+        most.as_slice(),
+    )?;
     assert_eq!(rt; written(&rt, list.as_slice(), 0, &CID)?, first);
-    let second = laid_out(rt.alloc(), [[0x70, 0x6a], [0x70, 0x54], [0x70, 0x0a]], [1, 1], &[2, 1])?;
+    let second = laid_out(
+        rt.alloc(),
+        [[0x70, 0x6a], [0x70, 0x54], [0x70, 0x0a]],
+        [1, 1],
+        &[2, 1],
+    )?;
     assert_eq!(rt; written(&rt, list.as_slice(), 1, &CID)?, second);
     Ok(())
 }
@@ -135,16 +168,27 @@ fn another_last_page_drops_the_pages_before(rt: HostRuntime) -> Result<(), Fail>
     let mut collector = Collector::new(rt.alloc());
     assert!(rt; keeps(&mut collector, 0, &written(&rt, list.as_slice(), 0, &CID)?));
     assert!(rt; keeps(&mut collector, 0, &written(&rt, &[5], 0, &CID)?));
-    assert_eq!(rt; collector.list_of(0, &CID)?, Some(vec![in rt.alloc(); 5u16]?));
+    assert_eq!(rt;
+        collector.list_of(0, &CID)?,
+        Some(vec![in rt.alloc(); 5u16]?)
+    );
     Ok(())
 }
 
 #[test]
 fn numbers_are_given_ascending_and_once(rt: HostRuntime) -> Result<(), Fail> {
-    let page = laid_out(rt.alloc(), [[0x70, 0x6e], [0x70, 0x58], [0x70, 0x0e]], [0, 0], &[0, 7, 0, 3, 0, 7])?;
+    let page = laid_out(
+        rt.alloc(),
+        [[0x70, 0x6e], [0x70, 0x58], [0x70, 0x0e]],
+        [0, 0],
+        &[0, 7, 0, 3, 0, 7],
+    )?;
     let mut collector = Collector::new(rt.alloc());
     assert!(rt; keeps(&mut collector, 0, &page));
-    assert_eq!(rt; collector.list_of(0, &CID)?, Some(vec![in rt.alloc(); 3u16, 7]?));
+    assert_eq!(rt;
+        collector.list_of(0, &CID)?,
+        Some(vec![in rt.alloc(); 3u16, 7]?)
+    );
     Ok(())
 }
 
@@ -152,7 +196,13 @@ fn numbers_are_given_ascending_and_once(rt: HostRuntime) -> Result<(), Fail> {
 fn any_number_of_sources_is_kept(rt: HostRuntime) -> Result<(), Fail> {
     let mut collector = Collector::new(rt.alloc());
     for number in 0..=255u8 {
-        assert!(rt; keeps(&mut collector, number as u64, &written(&rt, &[7], 0, &[number; 16])?));
+        assert!(rt;
+            keeps(
+                &mut collector,
+                number as u64,
+                &written(&rt, &[7], 0, &[number; 16])?
+            )
+        );
     }
     assert!(rt; collector.list_of(0, &[200; 16])?.is_some());
     assert_eq!(rt; collector.expire(25_099), 100);

@@ -38,7 +38,10 @@ fn names_are_escaped(rt: HostRuntime) -> Result<(), Fail> {
         let datagrams = vec![in alloc; data_packet(alloc, name)?]?;
         let (answer, text) = decoded(alloc, datagrams.as_slice());
         assert_eq!(rt; answer, Ok(()));
-        assert_eq!(rt; text.as_slice(), data_lines(alloc, printed, 0, "00")?.as_bytes());
+        assert_eq!(rt;
+            text.as_slice(),
+            data_lines(alloc, printed, 0, "00")?.as_bytes()
+        );
     }
     Ok(())
 }
@@ -48,12 +51,24 @@ const PAGE: &str = "page\ncid 00010203-0405-0607-0809-0a0b0c0d0e0f\nname Desk\n"
 #[test]
 fn pages_are_printed_with_what_is_known(rt: HostRuntime) -> Result<(), Fail> {
     let alloc = rt.alloc();
-    let empty = page(alloc, [[0x70, 0x68], [0x70, 0x52], [0x70, 0x08]], [0, 0], &[])?;
-    let three = page(alloc, [[0x70, 0x6e], [0x70, 0x58], [0x70, 0x0e]], [0, 0], &[0, 7, 0, 3, 0, 7])?;
+    let empty = page(
+        alloc,
+        [[0x70, 0x68], [0x70, 0x52], [0x70, 0x08]],
+        [0, 0],
+        &[],
+    )?;
+    let three = page(
+        alloc,
+        [[0x70, 0x6e], [0x70, 0x58], [0x70, 0x0e]],
+        [0, 0],
+        &[0, 7, 0, 3, 0, 7],
+    )?;
     let datagrams = vec![in alloc; empty, three, sync_packet(alloc)?]?;
     let (answer, text) = decoded(alloc, datagrams.as_slice());
     assert_eq!(rt; answer, Ok(()));
-    let lines = format!(in alloc; "{PAGE}page 0\nlast 0\nuniverses none\nknown none\n{PAGE}page 0\nlast 0\nuniverses 7 3 7\nknown 3 7\nsync\n")?;
+    let lines = format!(in alloc;
+        "{PAGE}page 0\nlast 0\nuniverses none\nknown none\n{PAGE}page 0\nlast 0\nuniverses 7 3 7\nknown 3 7\nsync\n"
+    )?;
     assert_eq!(rt; text.as_slice(), lines.as_bytes());
     Ok(())
 }
@@ -68,12 +83,24 @@ fn a_list_is_known_when_its_last_page_came(rt: HostRuntime) -> Result<(), Fail> 
         octets.extend_from_slice(&universe.to_be_bytes())?;
         numbers.push_str(format!(in alloc; " {universe}")?.as_str())?;
     }
-    let second = page(alloc, [[0x70, 0x6a], [0x70, 0x54], [0x70, 0x0a]], [1, 1], &[2, 1])?;
-    let first = page(alloc, [[0x74, 0x68], [0x74, 0x52], [0x74, 0x08]], [0, 1], octets.as_slice())?;
+    let second = page(
+        alloc,
+        [[0x70, 0x6a], [0x70, 0x54], [0x70, 0x0a]],
+        [1, 1],
+        &[2, 1],
+    )?;
+    let first = page(
+        alloc,
+        [[0x74, 0x68], [0x74, 0x52], [0x74, 0x08]],
+        [0, 1],
+        octets.as_slice(),
+    )?;
     let datagrams = vec![in alloc; second, first]?;
     let (answer, text) = decoded(alloc, datagrams.as_slice());
     assert_eq!(rt; answer, Ok(()));
-    let lines = format!(in alloc; "{PAGE}page 1\nlast 1\nuniverses 513\nknown incomplete\n{PAGE}page 0\nlast 1\nuniverses{numbers}\nknown{numbers} 513\n")?;
+    let lines = format!(in alloc;
+        "{PAGE}page 1\nlast 1\nuniverses 513\nknown incomplete\n{PAGE}page 0\nlast 1\nuniverses{numbers}\nknown{numbers} 513\n"
+    )?;
     assert_eq!(rt; text.as_slice(), lines.as_bytes());
     Ok(())
 }
@@ -92,14 +119,24 @@ fn the_first_refused_datagram_ends_the_text(rt: HostRuntime) -> Result<(), Fail>
 #[test]
 fn want_of_memory_leaves_a_prefix(rt: HostRuntime) -> Result<(), Fail> {
     let alloc = rt.alloc();
-    let empty = page(alloc, [[0x70, 0x68], [0x70, 0x52], [0x70, 0x08]], [0, 0], &[])?;
+    let empty = page(
+        alloc,
+        [[0x70, 0x68], [0x70, 0x52], [0x70, 0x08]],
+        [0, 0],
+        &[],
+    )?;
     let datagrams = vec![in alloc; data_packet(alloc, b"Desk")?, empty]?;
-    let lines = format!(in alloc; "{}{PAGE}page 0\nlast 0\nuniverses none\nknown none\n", data_lines(alloc, "Desk", 0, "00")?)?;
+    let lines = format!(in alloc;
+        "{}{PAGE}page 0\nlast 0\nuniverses none\nknown none\n",
+        data_lines(alloc, "Desk", 0, "00")?
+    )?;
     let (answer, text) = decoded(alloc, datagrams.as_slice());
     assert!(rt; lines.as_bytes().starts_with(text.as_slice()));
     match answer {
         Ok(()) => assert_eq!(rt; text.len(), lines.len()),
-        Err(fault) => assert!(rt; matches!(fault, DecodeFault::OutOfMemory | DecodeFault::WriteFailed)),
+        Err(fault) => assert!(rt;
+            matches!(fault, DecodeFault::OutOfMemory | DecodeFault::WriteFailed)
+        ),
     }
     Ok(())
 }
@@ -142,7 +179,14 @@ fn a_sink_that_fails_holds_a_prefix(rt: HostRuntime) -> Result<(), Fail> {
             bad,
         });
         let answer = decode_text(alloc, datagrams.as_slice(), &mut out);
-        assert_eq!(rt; answer, if bad < 12 { Err(DecodeFault::WriteFailed) } else { Ok(()) });
+        assert_eq!(rt;
+            answer,
+            if bad < 12 {
+                Err(DecodeFault::WriteFailed)
+            } else {
+                Ok(())
+            }
+        );
         assert_eq!(rt; out.writer.held.len(), (100 * bad).min(lines.len()));
         assert!(rt; lines.as_bytes().starts_with(out.writer.held.as_slice()));
     }

@@ -1,11 +1,10 @@
 //! Whole runs of the program.
 use super::datagrams::{data_lines, data_packet, page, sync_packet};
 use crate::program::run_program;
-use std::env;
-use std::fs;
 use std::io::{self, Read, Write};
 use std::rt::{Env, Files};
 use std::test::*;
+use std::{env, fs};
 
 /// A run's exit status, and what it wrote to both outputs.
 #[derive(Drop)]
@@ -43,7 +42,10 @@ const DIGITS: &[u8] = b"0010 0000 4153432d45312e3137000000
 fn digits_on_standard_input_are_decoded(rt: HostRuntime) -> Result<(), Fail> {
     let run = program_run(&rt, &[], DIGITS)?;
     assert_eq!(rt; run.status, 0);
-    assert_eq!(rt; run.out.as_slice(), data_lines(rt.alloc(), "Desk", 0, "00")?.as_bytes());
+    assert_eq!(rt;
+        run.out.as_slice(),
+        data_lines(rt.alloc(), "Desk", 0, "00")?.as_bytes()
+    );
     assert_eq!(rt; run.err.len(), 0);
     Ok(())
 }
@@ -68,7 +70,10 @@ fn bad_input_is_refused_by_name(rt: HostRuntime) -> Result<(), Fail> {
 #[test]
 fn standard_input_has_a_limit(rt: HostRuntime) -> Result<(), Fail> {
     let mut text = vec![in rt.alloc(); b'x'; 1_048_576]?;
-    assert_eq!(rt; program_run(&rt, &[], text.as_slice())?.err.as_slice(), b"refused Hex\n".as_slice());
+    assert_eq!(rt;
+        program_run(&rt, &[], text.as_slice())?.err.as_slice(),
+        b"refused Hex\n".as_slice()
+    );
     text.push(b'x')?;
     let run = program_run(&rt, &[], text.as_slice())?;
     assert_eq!(rt; run.status, 3);
@@ -78,7 +83,12 @@ fn standard_input_has_a_limit(rt: HostRuntime) -> Result<(), Fail> {
 
 #[test]
 fn bad_words_are_explained(rt: HostRuntime) -> Result<(), Fail> {
-    for texts in [["read"].as_slice(), ["decode"].as_slice(), ["--turns"].as_slice(), ["help"].as_slice()] {
+    for texts in [
+        ["read"].as_slice(),
+        ["decode"].as_slice(),
+        ["--turns"].as_slice(),
+        ["help"].as_slice(),
+    ] {
         let run = program_run(&rt, texts, b"")?;
         assert_eq!(rt; run.status, 2);
         assert_eq!(rt; run.out.len(), 0);
@@ -123,13 +133,22 @@ fn devices_that_fail_are_named(rt: HostRuntime) -> Result<(), Fail> {
     let words = words(&rt, &[])?;
     let mut out = Vec::new(rt.alloc());
     let mut err = Vec::new(rt.alloc());
-    assert_eq!(rt; run_program(&rt, words.as_slice(), Broken, &mut out, &mut err), 4);
+    assert_eq!(rt;
+        run_program(&rt, words.as_slice(), Broken, &mut out, &mut err),
+        4
+    );
     assert_eq!(rt; err.as_slice(), b"device read\n".as_slice());
     let mut err = Vec::new(rt.alloc());
-    assert_eq!(rt; run_program(&rt, words.as_slice(), DIGITS, Broken, &mut err), 4);
+    assert_eq!(rt;
+        run_program(&rt, words.as_slice(), DIGITS, Broken, &mut err),
+        4
+    );
     assert_eq!(rt; err.as_slice(), b"device write\n".as_slice());
     let mut err = Vec::new(rt.alloc());
-    assert_eq!(rt; run_program(&rt, words.as_slice(), b"".as_slice(), Broken, &mut err), 3);
+    assert_eq!(rt;
+        run_program(&rt, words.as_slice(), b"".as_slice(), Broken, &mut err),
+        3
+    );
     assert_eq!(rt; err.as_slice(), b"refused TooShort\n".as_slice());
     Ok(())
 }
@@ -147,11 +166,23 @@ fn files_are_decoded_in_their_order(rt: HostRuntime) -> Result<(), Fail> {
     let alloc = rt.alloc();
     let data = file(&rt, "data", data_packet(alloc, b"Desk")?.as_slice())?;
     let sync = file(&rt, "sync", sync_packet(alloc)?.as_slice())?;
-    let list = page(alloc, [[0x70, 0x6a], [0x70, 0x54], [0x70, 0x0a]], [0, 0], &[0, 1])?;
+    let list = page(
+        alloc,
+        [[0x70, 0x6a], [0x70, 0x54], [0x70, 0x0a]],
+        [0, 0],
+        &[0, 1],
+    )?;
     let list = file(&rt, "list", list.as_slice())?;
-    let run = program_run(&rt, &["decode", sync.as_str(), data.as_str(), list.as_str()], b"")?;
+    let run = program_run(
+        &rt,
+        &["decode", sync.as_str(), data.as_str(), list.as_str()],
+        b"",
+    )?;
     assert_eq!(rt; run.status, 0);
-    let lines = format!(in alloc; "sync\n{}page\ncid 00010203-0405-0607-0809-0a0b0c0d0e0f\nname Desk\npage 0\nlast 0\nuniverses 1\nknown 1\n", data_lines(alloc, "Desk", 0, "00")?)?;
+    let lines = format!(in alloc;
+        "sync\n{}page\ncid 00010203-0405-0607-0809-0a0b0c0d0e0f\nname Desk\npage 0\nlast 0\nuniverses 1\nknown 1\n",
+        data_lines(alloc, "Desk", 0, "00")?
+    )?;
     assert_eq!(rt; run.out.as_slice(), lines.as_bytes());
     Ok(())
 }
@@ -160,7 +191,11 @@ fn files_are_decoded_in_their_order(rt: HostRuntime) -> Result<(), Fail> {
 fn all_files_are_read_before_any_is_printed(rt: HostRuntime) -> Result<(), Fail> {
     let sync = file(&rt, "first", sync_packet(rt.alloc())?.as_slice())?;
     let short = file(&rt, "short", b"\0\x10")?;
-    let run = program_run(&rt, &["decode", sync.as_str(), short.as_str(), sync.as_str()], b"")?;
+    let run = program_run(
+        &rt,
+        &["decode", sync.as_str(), short.as_str(), sync.as_str()],
+        b"",
+    )?;
     assert_eq!(rt; run.status, 3);
     assert_eq!(rt; run.out.as_slice(), b"sync\n".as_slice());
     assert_eq!(rt; run.err.as_slice(), b"refused TooShort\n".as_slice());

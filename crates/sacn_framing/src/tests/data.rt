@@ -44,7 +44,15 @@ fn is_full_packet(rt: &impl Abort, octets: &Vec<u8>) {
         Ok(Packet::DataPacket(view)) => {
             assert_eq!(rt; view.cid(), CID);
             assert_eq!(rt; view.name(), b"Desk".as_slice());
-            assert_eq!(rt; (view.priority(), view.number(), view.universe(), view.start()), (100, 0, 1, 0));
+            assert_eq!(rt;
+                (
+                    view.priority(),
+                    view.number(),
+                    view.universe(),
+                    view.start()
+                ),
+                (100, 0, 1, 0)
+            );
             assert_eq!(rt; (view.preview(), view.terminated()), (false, false));
             assert_eq!(rt; view.slots().len(), 512);
             assert!(rt; is_all(view.slots(), 255));
@@ -99,7 +107,10 @@ fn packets_are_written(rt: HostRuntime) -> Result<(), Fail> {
     is_full_packet(&rt, &out);
     let (len, out) = written(&rt, &[])?;
     assert_eq!(rt; len, 126);
-    assert!(rt; out.as_slice().starts_with(empty_packet(rt.alloc())?.as_slice()));
+    assert!(rt;
+        out.as_slice()
+            .starts_with(empty_packet(rt.alloc())?.as_slice())
+    );
     assert!(rt; is_all(out.get(126..).unwrap_or(&[]), 0xaa));
     Ok(())
 }
@@ -119,8 +130,16 @@ fn options_of(octets: &Vec<u8>) -> Option<(bool, bool)> {
 
 #[test]
 fn options_are_read(rt: HostRuntime) -> Result<(), Fail> {
-    for (octet, options) in [(0x80, (true, false)), (0x40, (false, true)), (0xc0, (true, true)), (0x3f, (false, false))] {
-        assert_eq!(rt; options_of(&changed(empty_packet(rt.alloc())?, 112, octet)), Some(options));
+    for (octet, options) in [
+        (0x80, (true, false)),
+        (0x40, (false, true)),
+        (0xc0, (true, true)),
+        (0x3f, (false, false)),
+    ] {
+        assert_eq!(rt;
+            options_of(&changed(empty_packet(rt.alloc())?, 112, octet)),
+            Some(options)
+        );
     }
     Ok(())
 }
@@ -176,6 +195,10 @@ fn names_are_padded(rt: HostRuntime) -> Result<(), Fail> {
     assert_eq!(rt; letters_of(&rt, 63)?, Some(63));
     assert_eq!(rt; letters_of(&rt, 64)?, None);
     assert!(rt; source_name("De\0sk").is_none());
-    assert!(rt; source_name("Desk").unwrap_or([7; 64]).starts_with(b"Desk\0\0"));
+    assert!(rt;
+        source_name("Desk")
+            .unwrap_or([7; 64])
+            .starts_with(b"Desk\0\0")
+    );
     Ok(())
 }

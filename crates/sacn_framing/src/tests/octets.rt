@@ -5,7 +5,13 @@ use std::test::*;
 pub const CID: [u8; 16] = [0, 1, 2, 3, 4, 5, 6, 7, 8, 9, 10, 11, 12, 13, 14, 15];
 
 /// What stands before the name of a packet: root fields, CID and framing fields.
-fn front(alloc: Global, root: [u8; 2], vector: u8, framing: [u8; 2], kind: u8) -> Result<Vec<u8>, Fail> {
+fn front(
+    alloc: Global,
+    root: [u8; 2],
+    vector: u8,
+    framing: [u8; 2],
+    kind: u8,
+) -> Result<Vec<u8>, Fail> {
     let mut octets = Vec::from_slice(alloc, b"\0\x10\0\0ASC-E1.17\0\0\0")?;
     octets.extend_from_slice(&root)?;
     octets.extend_from_slice(&[0, 0, 0, vector])?;
@@ -33,7 +39,9 @@ fn desk(octets: &mut Vec<u8>) -> Result<(), Fail> {
 pub fn full_packet(alloc: Global) -> Result<Vec<u8>, Fail> {
     let mut octets = front(alloc, [0x72, 0x6e], 4, [0x72, 0x58], 2)?;
     desk(&mut octets)?;
-    octets.extend_from_slice(&[100, 0, 0, 0, 0, 0, 1, 0x72, 0x0b, 2, 0xa1, 0, 0, 0, 1, 2, 1, 0])?;
+    octets.extend_from_slice(&[
+        100, 0, 0, 0, 0, 0, 1, 0x72, 0x0b, 2, 0xa1, 0, 0, 0, 1, 2, 1, 0,
+    ])?;
     more(&mut octets, 255, 512)?;
     Ok(octets)
 }
@@ -42,12 +50,19 @@ pub fn full_packet(alloc: Global) -> Result<Vec<u8>, Fail> {
 pub fn empty_packet(alloc: Global) -> Result<Vec<u8>, Fail> {
     let mut octets = front(alloc, [0x70, 0x6e], 4, [0x70, 0x58], 2)?;
     desk(&mut octets)?;
-    octets.extend_from_slice(&[100, 0, 0, 0, 0, 0, 1, 0x70, 0x0b, 2, 0xa1, 0, 0, 0, 1, 0, 1, 0])?;
+    octets.extend_from_slice(&[
+        100, 0, 0, 0, 0, 0, 1, 0x70, 0x0b, 2, 0xa1, 0, 0, 0, 1, 0, 1, 0,
+    ])?;
     Ok(octets)
 }
 
 /// A page: its three flags-and-length fields, page and last page, and the octets of its numbers.
-pub fn page(alloc: Global, fields: [[u8; 2]; 3], pages: [u8; 2], numbers: &[u8]) -> Result<Vec<u8>, Fail> {
+pub fn page(
+    alloc: Global,
+    fields: [[u8; 2]; 3],
+    pages: [u8; 2],
+    numbers: &[u8],
+) -> Result<Vec<u8>, Fail> {
     let mut octets = front(alloc, fields[0], 8, fields[1], 2)?;
     desk(&mut octets)?;
     more(&mut octets, 0, 4)?;
@@ -60,19 +75,34 @@ pub fn page(alloc: Global, fields: [[u8; 2]; 3], pages: [u8; 2], numbers: &[u8])
 
 /// A page of no universe.
 pub fn empty_page(alloc: Global) -> Result<Vec<u8>, Fail> {
-    page(alloc, [[0x70, 0x68], [0x70, 0x52], [0x70, 0x08]], [0, 0], &[])
+    page(
+        alloc,
+        [[0x70, 0x68], [0x70, 0x52], [0x70, 0x08]],
+        [0, 0],
+        &[],
+    )
 }
 
 /// A page of 512 universes, all of one number.
 pub fn full_page(alloc: Global) -> Result<Vec<u8>, Fail> {
-    let mut octets = page(alloc, [[0x74, 0x68], [0x74, 0x52], [0x74, 0x08]], [0, 1], &[])?;
+    let mut octets = page(
+        alloc,
+        [[0x74, 0x68], [0x74, 0x52], [0x74, 0x08]],
+        [0, 1],
+        &[],
+    )?;
     more(&mut octets, 7, 1024)?;
     Ok(octets)
 }
 
 /// A page of the universe 513 alone.
 pub fn one_page(alloc: Global) -> Result<Vec<u8>, Fail> {
-    page(alloc, [[0x70, 0x6a], [0x70, 0x54], [0x70, 0x0a]], [1, 1], &[2, 1])
+    page(
+        alloc,
+        [[0x70, 0x6a], [0x70, 0x54], [0x70, 0x0a]],
+        [1, 1],
+        &[2, 1],
+    )
 }
 
 /// A synchronization packet.

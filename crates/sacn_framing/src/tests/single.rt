@@ -42,7 +42,10 @@ fn each_wrong_octet_has_its_fault_in(rt: &impl Abort, octets: &mut Vec<u8>) {
             let wrong = right ^ change;
             octets[at] = wrong;
             if let Some(fault) = expected(at, wrong) {
-                assert!(rt; matches!(read_packet(octets.as_slice()), Err(found) if found == fault), "{wrong} at {at}");
+                assert!(rt;
+                    matches!(read_packet(octets.as_slice()), Err(found) if found == fault),
+                    "{wrong} at {at}"
+                );
             }
         }
         octets[at] = right;
@@ -65,7 +68,12 @@ fn is_refused(octets: &Vec<u8>, fault: PacketFault) -> bool {
 
 #[test]
 fn lengths_that_disagree_are_refused(rt: HostRuntime) -> Result<(), Fail> {
-    assert!(rt; is_refused(&changed(full_packet(rt.alloc())?, 116, 0x0a), PacketFault::Length));
+    assert!(rt;
+        is_refused(
+            &changed(full_packet(rt.alloc())?, 116, 0x0a),
+            PacketFault::Length
+        )
+    );
     let octets = changed(empty_packet(rt.alloc())?, 17, 0x15);
     assert!(rt; is_refused(&octets, PacketFault::Length));
     let octets = changed(octets, 16, 0x73);

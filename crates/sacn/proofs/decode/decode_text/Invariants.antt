@@ -8,7 +8,7 @@ abbrev pub invariant-loop-i : goal.invariant-loop-i
 invariant-loop-i g l = record {
   works : g.O.Out.failed l.out ≡ false;
   so_far :
-    (told : List ℕ)
-    × Adds (g.O.Out.Tells l.fn.out) (g.O.Out.Tells l.out) told
-    × (decoded nothing_known 0 (octets_of l.datagrams) ≡ then_text told (decoded l.collector l.i (drop l.i (octets_of l.datagrams))));
+      (told : List ℕ)
+      × Adds (g.O.Out.Tells l.fn.out) (g.O.Out.Tells l.out) told
+      × (decoded nothing_known 0 (octets_of l.datagrams) ≡ then_text told (decoded l.collector l.i (drop l.i (octets_of l.datagrams))));
 }
