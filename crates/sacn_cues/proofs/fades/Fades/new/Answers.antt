@@ -1,4 +1,4 @@
-use Rattle.std.proofs.Common.{rules, ◌≡◌, List, replicate, length, sym, ap, ◌∙◌}
+use Rattle.std.proofs.Common.{rules, ◌≡◌, List, replicate, None, Some, length, refl, sym, ap, ◌∙◌}
 use Rattle.std.proofs.lemmas.List.{length-replicate}
 use Rattle.std.specs.List.{list_all}
 use Rattle.sacn_patch.specs.declared.limits.TheConstants.{MAX_CHANNELS}
@@ -11,7 +11,7 @@ pub invariant_of-result : goal.invariant_of-result
 invariant_of-result c =
     let stills : c.in_ok-fades.fades.items ≡ replicate MAX_CHANNELS still = c.in_ok-fades.ensures.items_if_clones_equal (λ y same. same) in (
       ap length stills ∙ length-replicate MAX_CHANNELS still,
-      c.in_ok-targets.ensures.items_if_clones_equal (λ y same. search rules),
+      c.in_ok-targets.ensures.items_if_clones_equal (elim [ None ↦ λ same. refl | Some x ↦ λ same. absurd same ]),
       ap (λ (fades : List Fade). list_all (is_over_by 0) fades) stills ∙ still_over MAX_CHANNELS,
     )
 
