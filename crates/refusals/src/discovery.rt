@@ -1,0 +1,68 @@
+//! The collector of discovery pages.
+use crate::Outcome;
+use sacn_discovery::{Collector, DiscoveryFault};
+use sacn_framing::{Packet, read_packet};
+use std::alloc::Global;
+
+/// A page of one universe number, from a source whose CID has sixteen octets `source`.
+fn page(source: u8, universe: u8) -> [u8; 122] {
+    let mut octets = [0; 122];
+    octets[..16].copy_from_slice(b"\0\x10\0\0ASC-E1.17\0\0\0");
+    octets[16..22].copy_from_slice(&[0x70, 0x6a, 0, 0, 0, 8]);
+    octets[22..38].copy_from_slice(&[source; 16]);
+    octets[38..44].copy_from_slice(&[0x70, 0x54, 0, 0, 0, 2]);
+    octets[112..122].copy_from_slice(&[0x70, 0x0a, 0, 0, 0, 1, 0, 0, 0, universe]);
+    octets
+}
+
+fn kept(collector: &mut Collector, now: u64, source: u8, universe: u8) -> Result<(), DiscoveryFault> {
+    match read_packet(&page(source, universe)) {
+        Ok(Packet::PagePacket(page)) => collector.take(now, &page),
+        _ => Ok(()),
+    }
+}
+
+/// The first universe known of a source; None where nothing is known.
+fn known(collector: &mut Collector, now: u64, source: u8) -> Result<Option<u16>, DiscoveryFault> {
+    let list = collector.list_of(now, &[source; 16])?;
+    Ok(list.and_then(|list| list.first().copied()))
+}
+
+// Takes a page, again where memory was refused: what was known before stays known till then.
+fn taken(collector: &mut Collector, source: u8, universe: u8, before: Option<u16>) -> Outcome {
+    if kept(collector, 0, source, universe).is_ok() {
+        return Outcome::Done;
+    }
+    if known(collector, 0, source) != Ok(before) {
+        return Outcome::Wrong("a refused page changed what is known");
+    }
+    if kept(collector, 0, source, universe).is_ok() {
+        Outcome::Refused
+    } else {
+        Outcome::Wrong("a refused page can't be taken again")
+    }
+}
+
+fn listed(collector: &mut Collector, source: u8, universe: u16) -> Outcome {
+    match known(collector, 0, source) {
+        Ok(Some(found)) if found == universe => Outcome::Done,
+        Err(DiscoveryFault::OutOfMemory) if known(collector, 0, source) == Ok(Some(universe)) => Outcome::Refused,
+        _ => Outcome::Wrong("the list of a source"),
+    }
+}
+
+/// `Collector::take` and `Collector::list_of`.
+pub fn calls_made(alloc: Global) -> Outcome {
+    let mut collector = Collector::new(alloc);
+    let mut outcome = Outcome::Done;
+    for source in 0..20u8 {
+        outcome = outcome.then(taken(&mut collector, source, 5, None));
+        outcome = outcome.then(taken(&mut collector, source, 6, Some(5)));
+        outcome = outcome.then(listed(&mut collector, source, 6));
+    }
+    if collector.expire(25_000) == 20 {
+        outcome
+    } else {
+        outcome.then(Outcome::Wrong("the sources that are forgotten"))
+    }
+}

@@ -1,0 +1,56 @@
+//! Calls that take memory, each checked where one request of the run is refused.
+//!
+//! With ample memory it prints `all calls done` and ends with status 0. `rt try --fail-alloc 1..` makes each
+//! request fail in turn. A run in which a call answered for want of memory, left what its contract
+//! says and succeeded when it was made again ends with status 3; any other prints what is wrong with
+//! status 0, which that command shows.
+#![tactic(auto)]
+
+mod cues;
+mod discovery;
+mod patches;
+
+use std::alloc::AllocError;
+use std::process::ExitCode;
+
+/// What came of the calls of one crate.
+#[derive(Clone, Copy, PartialEq, Eq)]
+pub enum Outcome {
+    /// Every call succeeded.
+    Done,
+    /// One request was refused, and the call left what it should.
+    Refused,
+    /// A refused call left something else, or did not succeed when it was made again.
+    Wrong(&'static str),
+}
+
+impl Outcome {
+    /// The outcome of more calls after these.
+    pub fn then(self, next: Outcome) -> Outcome {
+        match (self, next) {
+            (Outcome::Wrong(what), _) => Outcome::Wrong(what),
+            (_, Outcome::Wrong(what)) => Outcome::Wrong(what),
+            (Outcome::Done, Outcome::Done) => Outcome::Done,
+            _ => Outcome::Refused,
+        }
+    }
+}
+
+fn calls_made(rt: &impl AllocGlobal) -> Result<Outcome, AllocError> {
+    let patches = patches::calls_made(rt.alloc());
+    let cues = cues::calls_made(rt.alloc())?;
+    let discovery = discovery::calls_made(rt.alloc());
+    Ok(patches.then(cues).then(discovery))
+}
+
+fn main(rt: HostRuntime) -> ExitCode {
+    let text = match calls_made(&rt) {
+        Ok(Outcome::Done) => "all calls done",
+        Ok(Outcome::Refused) | Err(AllocError) => return ExitCode::from(3),
+        Ok(Outcome::Wrong(what)) => what,
+    };
+    match println!(rt; "{text}") {
+        Ok(()) => ExitCode::from(0),
+        Err(_) => ExitCode::from(4),
+    }
+}
