@@ -1,0 +1,9 @@
+mod Lists
+mod Places
+mod Searches
+mod Edits
+mod Sweeps
+mod Losses
+mod Taking
+mod Layers
+mod Keeps

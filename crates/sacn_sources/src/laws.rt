@@ -1,0 +1,1 @@
+//! Laws of the source table's definitions, which cost nothing when they run.
