@@ -7,3 +7,6 @@ mod Losses
 mod Taking
 mod Layers
 mod Keeps
+mod Mirrors
+mod Histories
+mod Bounds
