@@ -1,7 +1,7 @@
 //! The sources of one universe, as a receiver holds them: who sends there, what each showed last, for how long it counts,
 //! and the merge of what is shown (E1.31, 6 and 6.7.1; the rest is this project's profile).
 //!
-//! [`SourceTable`] is the table that a receiver runs. [`plain`] is the same table as a plain program, for tests and readers.
+//! [`SourceTable`] is the table that a receiver runs.
 #![tactic(auto)]
 
 mod entry;
@@ -20,3 +20,6 @@ pub use kind::Kind;
 pub use limits::{MAX_SOURCES, NETWORK_DATA_LOSS};
 pub use table::SourceTable;
 pub use taken::Taken;
+
+#[cfg(test)]
+mod tests;

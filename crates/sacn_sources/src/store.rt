@@ -1,6 +1,6 @@
 //! The entries of a table, and the levels that are stored for them.
 
-ghost use Rattle.std.specs.Prelude.{◌≡◌, ◌<◌, ◌≤◌, false, not, remove, ℕ, Bool, List, Option, Some, None, length, is_some, slice_index_or, slice_set, max, IfOk, IfErr};
+ghost use Rattle.std.specs.Prelude.{◌≡◌, ◌<◌, ◌≤◌, false, not, remove, ℕ, [], length, is_some, slice_index_or, slice_set, max, IfOk, IfErr};
 ghost use Rattle.arrayvec.specs.ArrayVec.{array_vec_len};
 ghost use Rattle.sacn_sources.specs.declared.entry.Entry.{Entry as Stored};
 
@@ -15,7 +15,7 @@ use sacn_framing::DataView;
 use sacn_sequence::in_sequence;
 use sacn_slots::{Layer, Levels, merge_into};
 use slab::Slab;
-use std::alloc::Global;
+use std::alloc::{Allocator, Global};
 use std::marker::Model;
 
 /// The sources, in strictly ascending order of CID, each with stored levels of its own.
@@ -58,12 +58,9 @@ impl Store {
     pub(crate) fn new(alloc: Global) -> Result<Self, TableFault>
         ensures { IfOk result (λ t. t ≡ new_table) }
     {
-        let Ok(frames) = Slab::with_capacity(alloc, MAX_SOURCES) else {
-            return Err(TableFault::OutOfMemory);
-        };
         Ok(Store {
             entries: ArrayVec::new(),
-            frames,
+            frames: frames_in(alloc)?,
             moment: 0,
         })
     }
@@ -307,6 +304,17 @@ impl Store {
                 key,
             },
         );
+    }
+}
+
+// No frames, with the room for those of every source: the one request that a table makes.
+pub(crate) fn frames_in<A: Allocator>(alloc: A) -> Result<Slab<Levels, A>, TableFault>
+    ensures empty { IfOk result (λ frames. frames.slots ≡ []) }
+    ensures room { IfOk result (λ frames. MAX_SOURCES ≤ frames.capacity) }
+{
+    match Slab::with_capacity(alloc, MAX_SOURCES) {
+        Ok(frames) => Ok(frames),
+        Err(_) => Err(TableFault::OutOfMemory),
     }
 }
 
