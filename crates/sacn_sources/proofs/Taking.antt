@@ -93,6 +93,13 @@ module _ (x : Packet) (rs : List Row) (at : ℕ) (gap : IsGap rs x.source at) wh
       has_room : (n : ℕ) → n < MAX_SOURCES → nat_lt n MAX_SOURCES ≡ true
       has_room n lt = grind (arith, nat_tests)
 
+-- a test of the limit that answered false
+pub few_left : (n : ℕ) → (MAX_SOURCES ≤ n → false ≡ true) → n < MAX_SOURCES
+few_left n full =
+    let differ : ¬ (false ≡ true) = λ same. cc in
+    let not_full : ¬ (MAX_SOURCES ≤ n) = λ le. differ (full le) in
+    omega arith
+
 -- rows that are what they were
 pub rows_same : (a : Taken) (x : Packet) (t : ℕ) (rs : List Row) → taken x rs ≡ a → rows_after a x t rs ≡ rs → take_row x t rs ≡ rs
 rows_same a x t rs is same = ap (λ k. rows_after k x t rs) is ∙ same

@@ -1,6 +1,6 @@
 //! The entries of a table, and the levels that are stored for them.
 
-ghost use Rattle.std.specs.Prelude.{◌≡◌, ◌<◌, ◌≤◌, false, not, remove, ℕ, [], length, is_some, slice_index_or, slice_set, max, IfOk, IfErr};
+ghost use Rattle.std.specs.Prelude.{◌≡◌, ◌↔◌, ◌<◌, ◌≤◌, IsTrue, false, not, remove, ℕ, [], length, is_some, slice_index_or, slice_set, max, IfOk, IfErr};
 ghost use Rattle.arrayvec.specs.ArrayVec.{array_vec_len};
 ghost use Rattle.sacn_sources.specs.declared.entry.Entry.{Entry as Stored};
 
@@ -183,8 +183,7 @@ impl Store {
             Kind::Termination => Taken::UnknownIgnored,
             Kind::Preview => Taken::UnknownIgnored,
             Kind::Live => {
-                let held = self.count();
-                if held >= MAX_SOURCES {
+                if self.is_full() {
                     return Taken::SourcesExceeded;
                 }
                 self.admit(at, packet);
@@ -198,6 +197,13 @@ impl Store {
         ensures { result ≡ length self.now.rows }
     {
         self.entries.len()
+    }
+
+    // Whether there is no room for a further source. Ended ones count.
+    fn is_full(&self) -> bool
+        ensures { IsTrue result ↔ (MAX_SOURCES ≤ length self.now.rows) }
+    {
+        self.count() >= MAX_SOURCES
     }
 
     // Drops the sources that are lost at the table's moment, in one scan. Answers whether one of them was live.
@@ -284,7 +290,7 @@ impl Store {
         let number = packet.number();
         let priority = packet.priority();
         let key = renew(&mut self.entries, at, number, Some(priority), self.moment);
-        self.frames[key].set(packet.slots());
+        overwrite(&mut self.frames[key], packet.slots());
     }
 
     // A new source.
@@ -305,6 +311,14 @@ impl Store {
             },
         );
     }
+}
+
+// Writes other levels in the place of these.
+fn overwrite(levels: &mut Levels, slots: &[u8])
+    requires { length slots.now ≤ 512 }
+    ensures { levels.new ≡ slots.now }
+{
+    levels.set(slots);
 }
 
 // No frames, with the room for those of every source: the one request that a table makes.

@@ -1,7 +1,7 @@
-use Rattle.std.proofs.Common.{ap, sym, ◌∙◌, arith}
+use Rattle.std.proofs.Common.{refl, ap, sym, ◌∙◌, arith}
 use Rattle.sacn_sources.specs.Rows.{Table}
 use Rattle.sacn_sources.specs.Packets.{packet_of}
-use Rattle.sacn_sources.proofs.Taking.{ignored_ending, ignored_preview, ignored_other, exceeded, admitted}
+use Rattle.sacn_sources.proofs.Taking.{ignored_ending, ignored_preview, ignored_other, exceeded, admitted, few_left}
 use Rattle.sacn_sources.specs.Rows.{rows_after}
 use Rattle.sacn_sources.proofs.store.Store.take_unknown.Goals as goal
 
@@ -47,30 +47,30 @@ returns-in-Preview-clause-table c =
     let t = c.args.self.now.moment in
     sym (ap (λ a. let table : Table = record { rows = rows_after a p t rows; moment = t } in table) (ignored_preview p rows c.args.at c.requires c.in-Preview.ensures))
 
-pub returns-then-held-ge-MAX_SOURCES-clause-answer : goal.returns-then-held-ge-MAX_SOURCES-clause-answer
-returns-then-held-ge-MAX_SOURCES-clause-answer c =
+pub returns-then-is_full-clause-answer : goal.returns-then-is_full-clause-answer
+returns-then-is_full-clause-answer c =
     let p = packet_of c.args.packet.now in
     let rows = c.args.self.now.rows in
     let t = c.args.self.now.moment in
-    sym (exceeded p rows c.args.at c.requires c.in-Live.ensures (omega (arith, c.count-held.ensures, c.if-held-ge-MAX_SOURCES.true)))
+    sym (exceeded p rows c.args.at c.requires c.in-Live.ensures (c.if-is_full.ensures.0 refl))
 
-pub returns-then-held-ge-MAX_SOURCES-clause-table : goal.returns-then-held-ge-MAX_SOURCES-clause-table
-returns-then-held-ge-MAX_SOURCES-clause-table c =
+pub returns-then-is_full-clause-table : goal.returns-then-is_full-clause-table
+returns-then-is_full-clause-table c =
     let p = packet_of c.args.packet.now in
     let rows = c.args.self.now.rows in
     let t = c.args.self.now.moment in
-    sym (ap (λ a. let table : Table = record { rows = rows_after a p t rows; moment = t } in table) (exceeded p rows c.args.at c.requires c.in-Live.ensures (omega (arith, c.count-held.ensures, c.if-held-ge-MAX_SOURCES.true))))
+    sym (ap (λ a. let table : Table = record { rows = rows_after a p t rows; moment = t } in table) (exceeded p rows c.args.at c.requires c.in-Live.ensures (c.if-is_full.ensures.0 refl)))
 
-pub returns-else-held-ge-MAX_SOURCES-clause-answer : goal.returns-else-held-ge-MAX_SOURCES-clause-answer
-returns-else-held-ge-MAX_SOURCES-clause-answer c =
+pub returns-else-is_full-clause-answer : goal.returns-else-is_full-clause-answer
+returns-else-is_full-clause-answer c =
     let p = packet_of c.args.packet.now in
     let rows = c.args.self.now.rows in
     let t = c.args.self.now.moment in
-    sym (admitted p rows c.args.at c.requires c.in-Live.ensures (omega (arith, c.count-held.ensures, c.if-held-ge-MAX_SOURCES.false)))
+    sym (admitted p rows c.args.at c.requires c.in-Live.ensures (few_left _ c.if-is_full.ensures.1))
 
-pub returns-else-held-ge-MAX_SOURCES-clause-table : goal.returns-else-held-ge-MAX_SOURCES-clause-table
-returns-else-held-ge-MAX_SOURCES-clause-table c =
+pub returns-else-is_full-clause-table : goal.returns-else-is_full-clause-table
+returns-else-is_full-clause-table c =
     let p = packet_of c.args.packet.now in
     let rows = c.args.self.now.rows in
     let t = c.args.self.now.moment in
-    c.admit.ensures ∙ sym (ap (λ a. let table : Table = record { rows = rows_after a p t rows; moment = t } in table) (admitted p rows c.args.at c.requires c.in-Live.ensures (omega (arith, c.count-held.ensures, c.if-held-ge-MAX_SOURCES.false))))
+    c.admit.ensures ∙ sym (ap (λ a. let table : Table = record { rows = rows_after a p t rows; moment = t } in table) (admitted p rows c.args.at c.requires c.in-Live.ensures (few_left _ c.if-is_full.ensures.1)))
