@@ -19,7 +19,7 @@ pub shown_is : (fr : Frames) (es : List Entry) → layers (rows_in fr es) ≡ fi
 shown_is fr [] = refl
 shown_is fr (e ∷ es) = ap (cons_option (shows fr e)) (shown_is fr es)
 
-module _ (h : Entry → Option Shown) (es : List Entry) (i : ℕ) (d : Entry) (within : i < length es) where
+module _ {E : Type 0} (h : E → Option Shown) (es : List E) (i : ℕ) (d : E) (within : i < length es) where
   more : filter_map h (take (i + 1) es) ≡ filter_map h (take i es) ++ cons_option (h (get_or es i d)) []
   more = ap (filter_map h) (take_more es i d within) ∙ filter_map-append h (take i es) (get_or es i d ∷ [])
 

@@ -10,3 +10,5 @@ mod Keeps
 mod Mirrors
 mod Histories
 mod Bounds
+mod PlainEdits
+mod PlainLayers
