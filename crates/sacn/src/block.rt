@@ -9,6 +9,7 @@ use sacn_framing::{DataView, PageView, multicast_group};
 use std::alloc::{AllocError, Global};
 use uuid::Uuid;
 
+// The lines of both kinds up to the name: the kind and the CID.
 fn top(alloc: Global, kind: &str, cid: [u8; 16]) -> Result<String, AllocError>
     ensures { IfOk result (λ text. string_bytes text ≡ top_text kind.now cid) }
 {
@@ -18,6 +19,7 @@ fn top(alloc: Global, kind: &str, cid: [u8; 16]) -> Result<String, AllocError>
     format!(in alloc; "{kind}\ncid {digits}\nname ")
 }
 
+// The two octets of a multicast group that are the universe's.
 fn group_high(universe: u16) -> u8
     ensures { result ≡ universe / 256 }
 {
@@ -30,6 +32,7 @@ fn group_low(universe: u16) -> u8
     multicast_group(universe)[3]
 }
 
+// The lines that follow the name, a few at a time: a text of many parts proves slowly.
 fn counts(alloc: Global, priority: u8, number: u8) -> Result<String, AllocError>
     ensures { IfOk result (λ text. string_bytes text ≡ counts_words priority number) }
 {
@@ -81,6 +84,7 @@ fn data_options(alloc: Global, packet: &DataView<'_>) -> Result<String, AllocErr
     )
 }
 
+// All lines after the name.
 fn data_rest(alloc: Global, packet: &DataView<'_>) -> Result<Vec<u8>, AllocError>
     ensures { IfOk result (λ text. text.items ≡ data_rest packet.now) }
 {
@@ -115,6 +119,7 @@ fn page_top(alloc: Global, page: &PageView<'_>) -> Result<String, AllocError>
     format!(in alloc; "\npage {number}\nlast {last}\nuniverses")
 }
 
+// The universe numbers of a page, as they came.
 fn numbers_of(alloc: Global, page: &PageView<'_>) -> Result<Vec<u16>, AllocError>
     ensures { IfOk result (λ numbers. numbers.items ≡ page.now.numbers) }
 {
@@ -125,6 +130,7 @@ fn numbers_of(alloc: Global, page: &PageView<'_>) -> Result<Vec<u16>, AllocError
     Ok(numbers)
 }
 
+// What is known of a source: a list, or that a page is lacking.
 fn known_words(alloc: Global, known: Option<Vec<u16>>) -> Result<Vec<u8>, AllocError>
     ensures { IfOk result (λ text. text.items ≡ known_words (option_map (λ v. v.items) known)) }
 {
@@ -134,6 +140,7 @@ fn known_words(alloc: Global, known: Option<Vec<u16>>) -> Result<Vec<u8>, AllocE
     }
 }
 
+// All lines after the name.
 fn page_rest(
     alloc: Global,
     page: &PageView<'_>,

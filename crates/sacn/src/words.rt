@@ -5,18 +5,29 @@ ghost use Rattle.sacn.specs.Words.{is_plain, escape, escaped, spaced, listed, ye
 
 use std::alloc::{AllocError, Global};
 
+/// The printing characters of ASCII: space to tilde.
+const FIRST_PLAIN: u8 = 0x20;
+
+const LAST_PLAIN: u8 = 0x7e;
+
+/// It begins an escape, and so is escaped itself.
+const BACKSLASH: u8 = b'\\';
+
+/// `yes` or `no`.
 pub fn yes_or_no(answer: bool) -> &'static str
     ensures { result.now ≡ yes_or_no answer }
 {
     if answer { "yes" } else { "no" }
 }
 
+// Whether an octet of a name is printed as it is: from 20 to 7e, other than the backslash.
 fn is_plain(octet: u8) -> bool
     ensures { result ≡ is_plain octet }
 {
-    (32 <= octet) & (octet <= 126) & (octet != 92)
+    (FIRST_PLAIN <= octet) & (octet <= LAST_PLAIN) & (octet != BACKSLASH)
 }
 
+// An octet of a name as it is printed.
 fn escape(alloc: Global, octet: u8) -> Result<Vec<u8>, AllocError>
     ensures { IfOk result (λ text. text.items ≡ escape octet) }
 {
@@ -53,6 +64,7 @@ pub fn listed(alloc: Global, numbers: &[u16]) -> Result<Vec<u8>, AllocError>
     spaced(alloc, numbers)
 }
 
+// Each number after a space.
 fn spaced(alloc: Global, numbers: &[u16]) -> Result<Vec<u8>, AllocError>
     ensures { IfOk result (λ text. text.items ≡ spaced numbers.now) }
 {
