@@ -10,6 +10,8 @@
 pub mod document;
 pub mod faults;
 pub mod keys;
+pub mod laws;
+pub mod limits;
 pub mod lines;
 pub mod numbered;
 pub mod rows;
