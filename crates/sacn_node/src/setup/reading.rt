@@ -1,21 +1,23 @@
 //! Reading a setup, phase by phase.
-ghost use Rattle.std.specs.Prelude.{◌≡◌, ◌≤◌, ◌==◌, true, Some, Ok, map, option_map, codes, All};
+ghost use Rattle.std.specs.Prelude.{◌≡◌, ◌≤◌, ◌==◌, true, Some, Ok, map, option_map, codes, length, All};
+ghost use Rattle.std.specs.List.Sorted.{IsStrictlyIncreasing};
 ghost use Rattle.toml.specs.Parse.{parse_document};
 ghost use Rattle.toml.specs.View.{view, table_view};
 ghost use Rattle.sacn_files.specs.Document.{Gives, version_in};
 ghost use Rattle.sacn_files.specs.Keys.{rows_are_known};
 ghost use Rattle.sacn_files.specs.Values.{has_rows};
 ghost use Rattle.sacn_files.specs.Rows.{each};
-ghost use Rattle.sacn_files.specs.declared.limits.TheConstants.{LEAST_UDP_PORT as LEAST};
-ghost use Rattle.sacn_node.specs.Setup.{IsPort};
-ghost use Rattle.sacn_node.specs.SetupReading.{port_rows, port_in, keys_are_known, keys_are_there, udp_port_of, last_phase, value_phase, after_version, setup_in, setup_or_toml};
+ghost use Rattle.sacn_node.specs.Setup.{IsPort, port_numbers};
+ghost use Rattle.sacn_node.specs.SetupReading.{port_rows, port_in, keys_are_known, keys_are_there, udp_port_of, order_fault, unless, last_phase, value_phase, after_version, setup_in, setup_or_toml};
 
 use super::checks::order_fault;
 use super::ports::ports_in;
 use super::{NodeSetup, PortSetup, SetupFault};
 use crate::limits::{MAX_PORTS, NEWEST_SETUP};
 use sacn_files::document::{read_table, version_in};
-use sacn_files::keys::{has_known_keys, inner_rows_are_known, inner_rows_have_keys, rows_are_known, rows_have_keys};
+use sacn_files::keys::{
+    has_known_keys, inner_rows_are_known, inner_rows_have_keys, rows_are_known, rows_have_keys,
+};
 use sacn_files::limits::{DEFAULT_UDP_PORT, LEAST_UDP_PORT, MOST_UDP_PORT};
 use sacn_files::numbered::{has_repeat, in_order};
 use sacn_files::values::{has_rows, rows_at, short_in, value_at};
@@ -67,7 +69,13 @@ fn udp_port_of(table: &Table) -> Option<u16>
 }
 
 /// The last phase, over ports in order of number.
-fn order_phase(alloc: Global, udp_port: u16, ports: Vec<PortSetup>) -> Result<NodeSetup, SetupFault> {
+fn order_phase(alloc: Global, udp_port: u16, ports: Vec<PortSetup>) -> Result<NodeSetup, SetupFault>
+    requires port { LEAST_UDP_PORT ≤ udp_port }
+    requires rising { IsStrictlyIncreasing (port_numbers ports.items) }
+    requires few { length ports.items ≤ MAX_PORTS }
+    requires ports { All IsPort ports.items }
+    ensures { Gives SetupFault.OutOfMemory result (unless (order_fault ports.items) (record { udp_port = udp_port; ports = ports.items })) }
+{
     match order_fault(alloc, ports.as_slice()) {
         Ok(None) => Ok(NodeSetup::new(udp_port, ports)),
         Ok(Some(fault)) => Err(fault),
@@ -77,7 +85,7 @@ fn order_phase(alloc: Global, udp_port: u16, ports: Vec<PortSetup>) -> Result<No
 
 /// The last phase, over ports in the file's order.
 fn last_phase(alloc: Global, udp_port: u16, ports: Vec<PortSetup>) -> Result<NodeSetup, SetupFault>
-    requires port { LEAST ≤ udp_port }
+    requires port { LEAST_UDP_PORT ≤ udp_port }
     requires ports { All IsPort ports.items }
     ensures { Gives SetupFault.OutOfMemory result (last_phase udp_port ports.items) }
 {
