@@ -9,6 +9,8 @@
 mod cues;
 mod discovery;
 mod patches;
+mod setups;
+mod sources;
 
 use std::alloc::AllocError;
 use std::process::ExitCode;
@@ -40,7 +42,13 @@ fn calls_made(rt: &impl AllocGlobal) -> Result<Outcome, AllocError> {
     let patches = patches::calls_made(rt.alloc());
     let cues = cues::calls_made(rt.alloc())?;
     let discovery = discovery::calls_made(rt.alloc());
-    Ok(patches.then(cues).then(discovery))
+    let sources = sources::calls_made(rt.alloc());
+    let setups = setups::calls_made(rt.alloc());
+    Ok(patches
+        .then(cues)
+        .then(discovery)
+        .then(sources)
+        .then(setups))
 }
 
 fn main(rt: HostRuntime) -> ExitCode {
