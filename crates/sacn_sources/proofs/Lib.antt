@@ -1,0 +1,14 @@
+mod Lists
+mod Places
+mod Searches
+mod Edits
+mod Sweeps
+mod Losses
+mod Taking
+mod Layers
+mod Keeps
+mod Mirrors
+mod Histories
+mod Bounds
+mod PlainEdits
+mod PlainLayers

@@ -1,0 +1,26 @@
+//! The sources of one universe, as a receiver holds them: who sends there, what each showed last, for how long it counts,
+//! and the merge of what is shown (E1.31, 6 and 6.7.1; the rest is this project's profile).
+//!
+//! [`SourceTable`] is the table that a receiver runs. [`plain`] has the same table as a plain program.
+#![tactic(auto)]
+
+mod entry;
+mod fault;
+mod held;
+mod kind;
+pub mod laws;
+mod limits;
+pub mod plain;
+mod store;
+mod table;
+mod taken;
+
+pub use fault::TableFault;
+pub use held::HeldView;
+pub use kind::Kind;
+pub use limits::{MAX_SOURCES, NETWORK_DATA_LOSS};
+pub use table::SourceTable;
+pub use taken::Taken;
+
+#[cfg(test)]
+mod tests;
