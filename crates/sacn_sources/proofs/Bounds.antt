@@ -1,8 +1,8 @@
 -- The moment in use is the greatest, the rows rise, and there are few of them.
-use Rattle.std.proofs.Common.{◌≡◌, ℕ, zero, suc, ◌+◌, ◌<◌, ◌≤◌, ◌⊎◌, inl, inr, max, nat_lt, Bool, true, false, cond, T, List, [], ◌∷◌, length, map, get_or, All, AllPairs, Any, Option, Some, None, is_some, refl, sym, ap, subst, ◌∙◌, arith}
+use Rattle.std.proofs.Common.{◌≡◌, ℕ, zero, suc, ◌+◌, ◌<◌, ◌≤◌, inl, inr, max, nat_lt, Bool, true, false, cond, T, List, [], ◌∷◌, length, map, get_or, AllPairs, Option, Some, None, is_some, refl, sym, ap, subst, ◌∙◌, arith}
 use Rattle.std.specs.Ordering.{is_lt}
 use Rattle.std.specs.declared.cmp.Ordering.TheVariants.{Less}
-use Rattle.std.specs.FinMap.{FinMap, get, len, insert, entries, entries_sorted, is_sorted, len-entries, len-empty, len-insert}
+use Rattle.std.specs.FinMap.{get, len, insert, entries, entries_sorted, is_sorted, len-entries, len-empty, len-insert}
 use Rattle.std.specs.FinMap.Entries.{below_all}
 use Rattle.std.proofs.lemmas.Bool.{cases_lt}
 use Rattle.std.proofs.lemmas.Bool.Decides.{nat_tests}
@@ -13,7 +13,7 @@ use Rattle.sacn_sources.specs.Order.{order}
 use Rattle.sacn_sources.specs.declared.limits.TheConstants.{MAX_SOURCES}
 use Rattle.sacn_sources.specs.Rows.{Row, Packet, Kind, Termination, Preview, Live, Other, Held, OutOfSequence, SourcesExceeded}
 use Rattle.sacn_sources.specs.Calls.{Call, Take, Expire, Merge, moment_of, after_calls, moment_in_use, IsGreatestMoment}
-use Rattle.sacn_sources.specs.PlainRule.{Entry, Sources, is_unexpired, unexpired, live, Outcome, unknown_row, known_row, row_for, source_row, change, held_after}
+use Rattle.sacn_sources.specs.PlainRule.{Entry, Sources, is_unexpired, unexpired, live, Outcome, unknown_row, known_row, row_for, change, held_after}
 use Rattle.sacn_sources.specs.Laws.{UsesTheGreatestMoment, RowsRise}
 use Rattle.sacn_sources.proofs.Mirrors.{Mirrors, pair, same_length, first, second, lt_less, entries-unexpired}
 use Rattle.sacn_sources.proofs.Sweeps.{length_left}

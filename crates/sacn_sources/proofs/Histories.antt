@@ -1,16 +1,15 @@
 -- The steps of a table, over every history, beside the plain rule.
-use Rattle.std.proofs.Common.{◌≡◌, ℕ, ◌+◌, ◌-◌, ◌^◌, ◌<◌, ◌≤◌, min, max, nat_lt, Bool, true, false, cond, ◌||◌, List, [], ◌∷◌, length, Option, Some, None, refl, sym, ap, subst, ◌∙◌, arith}
+use Rattle.std.proofs.Common.{◌≡◌, ℕ, ◌+◌, ◌-◌, ◌^◌, min, max, nat_lt, Bool, true, false, cond, ◌||◌, List, [], ◌∷◌, length, Option, Some, None, refl, sym, ap, subst, ◌∙◌, arith}
 use Rattle.std.specs.Option.{option_map}
 use Rattle.std.specs.FinMap.{FinMap, get, len, empty, entries, len-entries, len-empty}
-use Rattle.std.proofs.lemmas.Bool.Decides.{nat_tests}
 use Rattle.sacn_sequence.specs.Sequence.{is_late}
 use Rattle.sacn_slots.specs.Merge.{merge}
 use Rattle.sacn_sources.specs.Order.{order}
 use Rattle.sacn_sources.specs.declared.limits.TheConstants.{MAX_SOURCES}
-use Rattle.sacn_sources.specs.Rows.{Row, Packet, Kind, Termination, Preview, Live, Other, Taken, Held, Observed, EndedNow, OutOfSequence, SourcesExceeded, UnknownIgnored, rows_kept, row_of, put_row, take_unknown, take_known, take_by, taken, observed, rows_after, take_row, layers}
+use Rattle.sacn_sources.specs.Rows.{Row, Packet, Kind, Termination, Preview, Live, Other, Taken, Held, Observed, EndedNow, OutOfSequence, SourcesExceeded, UnknownIgnored, rows_kept, row_of, take_unknown, take_known, take_by, taken, observed, rows_after, take_row, layers}
 use Rattle.sacn_sources.specs.Kept.{Kept, renews, due_at, loses_live}
-use Rattle.sacn_sources.specs.Calls.{Call, Take, Expire, Merge, Answer, Took, Expired, Slots, moment_of, step, answer_to, after_calls, moment_in_use}
-use Rattle.sacn_sources.specs.PlainRule.{Entry, Sources, unexpired, live, ended, renumbered, Outcome, unknown_row, known_row, row_for, source_row, change, held_after, answer_at, plain_rule, expires_live, renews_source, is_news, since_merge, is_due, is_merge, renewal_count}
+use Rattle.sacn_sources.specs.Calls.{Call, Take, Expire, Merge, Took, Expired, Slots, moment_of, step, answer_to, after_calls, moment_in_use}
+use Rattle.sacn_sources.specs.PlainRule.{Entry, Sources, unexpired, live, ended, renumbered, Outcome, unknown_row, known_row, row_for, source_row, change, held_after, answer_at, plain_rule, expires_live, renews_source, is_news, is_due, renewal_count}
 use Rattle.sacn_sources.specs.Laws.{row_with, AnswersByThePlainRule, HoldsByThePlainRule, CountsRenewals}
 use Rattle.sacn_sources.proofs.Mirrors.{Mirrors, row_found, put_mirrors, kept_mirrors, same_length, same_shown, same_losses}
 

@@ -1,15 +1,14 @@
 -- Rows in the order of their sources, and the finite map that holds the same.
-use Rattle.std.proofs.Common.{◌≡◌, ℕ, ◌-◌, nat_lt, Bool, true, false, not, cond, ◌&&◌, ◌||◌, T, List, [], ◌∷◌, length, map, filter, is_some, Option, Some, None, refl, sym, ap, subst, ◌∙◌}
+use Rattle.std.proofs.Common.{◌≡◌, ℕ, Bool, true, false, not, cond, ◌&&◌, ◌||◌, T, List, [], ◌∷◌, length, map, filter, is_some, Some, None, refl, sym, ap, ◌∙◌}
 use Rattle.std.specs.List.{filter_map, cons_option, list_any}
 use Rattle.std.specs.Option.{option_map}
 use Rattle.std.specs.Ordering.{is_eq, is_lt}
 use Rattle.std.specs.declared.cmp.Ordering.{Ordering}
 use Rattle.std.specs.declared.cmp.Ordering.TheVariants.{Less, Equal, Greater}
-use Rattle.std.specs.FinMap.{FinMap, find, put, get, insert, len, entries, entries_sorted, entries-insert, entries-from_sorted, get-entries, len-entries, is_sorted}
+use Rattle.std.specs.FinMap.{find, put, get, insert, len, entries, entries_sorted, entries-insert, entries-from_sorted, get-entries, len-entries, is_sorted}
 use Rattle.std.specs.FinMap.Entries.{below_all}
 use Rattle.std.proofs.lemmas.List.{length-map}
-use Rattle.sacn_slots.specs.Merge.{Shown, merge}
-use Rattle.sacn_sources.specs.Order.{order, same, by_order}
+use Rattle.sacn_sources.specs.Order.{order, by_order}
 use Rattle.sacn_sources.specs.Rows.{Row, row_renewed, rows_kept, row_of, put_row, layers}
 use Rattle.sacn_sources.specs.Kept.{loses_live}
 use Rattle.sacn_sources.specs.PlainRule.{Entry, Sources, is_unexpired, unexpired, unless_expired, shown_by, expires_live}

@@ -8,7 +8,7 @@ use Rattle.std.proofs.lemmas.List.Quantifiers.{all_pairs_remove}
 use Rattle.sacn_sources.specs.Order.{order}
 use Rattle.sacn_sources.specs.declared.plain.entries.PlainEntry.{PlainEntry}
 use Rattle.sacn_sources.specs.declared.limits.TheConstants.{MAX_SOURCES}
-use Rattle.sacn_sources.specs.Rows.{Row, Table, put_row}
+use Rattle.sacn_sources.specs.Rows.{Row, put_row}
 use Rattle.sacn_sources.specs.PlainStored.{plain_row, plain_rows, Ascend, AreOrdered}
 use Rattle.sacn_sources.specs.Places.{IsAt, IsGap}
 use Rattle.sacn_sources.proofs.Lists.{map_set, map_insert, map_remove, pairs_set, pairs_insert}

@@ -7,7 +7,7 @@ use Rattle.sacn_sequence.specs.Sequence.{is_late}
 use Rattle.sacn_slots.specs.Merge.{Shown, merge}
 use Rattle.sacn_sources.specs.Order.{order}
 use Rattle.sacn_sources.specs.declared.limits.TheConstants.{MAX_SOURCES, NETWORK_DATA_LOSS}
-use Rattle.sacn_sources.specs.Rows.{Row, Packet, Kind, Termination, Preview, Live, Other, Taken, Held, Observed, EndedNow, OutOfSequence, SourcesExceeded, UnknownIgnored}
+use Rattle.sacn_sources.specs.Rows.{Packet, Kind, Termination, Preview, Live, Other, Taken, Held, Observed, EndedNow, OutOfSequence, SourcesExceeded, UnknownIgnored}
 use Rattle.sacn_sources.specs.Calls.{Call, Take, Expire, Merge, Answer, Took, Expired, Slots, moment_in_use}
 
 pub record Entry : Type 0 where

@@ -1,5 +1,5 @@
 -- How the plain table stores its rows: entries by rising CID, each with its levels.
-use Rattle.std.specs.Prelude.{◌≡◌, ℕ, ◌≤◌, List, map, length, AllPairs}
+use Rattle.std.specs.Prelude.{◌≡◌, ◌≤◌, List, map, length, AllPairs}
 use Rattle.std.specs.Option.{option_map}
 use Rattle.std.specs.declared.cmp.Ordering.TheVariants.{Less}
 use Rattle.sacn_sources.specs.Order.{order}

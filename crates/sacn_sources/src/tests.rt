@@ -1,5 +1,7 @@
 //! The worked rows of the source table.
 
+ghost use Rattle.std.specs.Prelude.{◌≤◌};
+
 use super::*;
 use crate::store::frames_in;
 use bumpalo::Bump;
@@ -7,6 +9,8 @@ use sacn_framing::{DataFields, Packet, read_packet, write_data};
 use std::alloc::Global;
 use std::process::Abort;
 use std::test::Fail;
+
+mod compared;
 
 /// The most slots of a universe.
 const MAX_SLOTS: usize = 512;
@@ -44,24 +48,32 @@ fn of_kind(kind: Kind, cid: u8, number: u8) -> Sent<'static> {
     }
 }
 
-/// What the table answers to the packet, written as octets and read again. None where the octets are no data packet.
-fn give(table: &mut SourceTable, now: u64, sent: Sent<'_>) -> Option<Taken> {
-    if sent.priority > MAX_PRIORITY || sent.slots.len() > MAX_SLOTS {
-        return None;
-    }
+/// Writes the packet's octets, and answers how many they are.
+fn write_octets(sent: Sent<'_>, octets: &mut [u8; 638]) -> usize
+    ensures { result ≤ 638 }
+{
     let fields = DataFields {
         cid: [sent.cid; 16],
         name: [0; 64],
-        priority: sent.priority,
+        priority: sent.priority.min(MAX_PRIORITY),
         number: sent.number,
         preview: matches!(sent.kind, Kind::Preview),
         terminated: matches!(sent.kind, Kind::Termination),
         universe: 1,
-        start: if matches!(sent.kind, Kind::Other) { 0xdd } else { 0 },
-        slots: sent.slots,
+        start: if matches!(sent.kind, Kind::Other) {
+            0xdd
+        } else {
+            0
+        },
+        slots: &sent.slots[..sent.slots.len().min(MAX_SLOTS)],
     };
+    write_data(&fields, octets)
+}
+
+/// What the table answers to the packet, written as octets and read again. None where the octets are no data packet.
+fn give(table: &mut SourceTable, now: u64, sent: Sent<'_>) -> Option<Taken> {
     let mut octets = [0; 638];
-    let len = write_data(&fields, &mut octets);
+    let len = write_octets(sent, &mut octets);
     match read_packet(&octets[..len]) {
         Ok(Packet::DataPacket(view)) => Some(table.take(now, &view)),
         _ => None,
@@ -71,7 +83,13 @@ fn give(table: &mut SourceTable, now: u64, sent: Sent<'_>) -> Option<Taken> {
 /// The packets are answered so, in order.
 fn gives(rt: &impl Abort, table: &mut SourceTable, packets: &[(u64, Sent<'_>, Taken)]) {
     for (now, sent, taken) in packets {
-        assert_eq!(rt; give(table, *now, *sent), Some(*taken), "source {}, number {} at {now}", sent.cid, sent.number);
+        assert_eq!(rt;
+            give(table, *now, *sent),
+            Some(*taken),
+            "source {}, number {} at {now}",
+            sent.cid,
+            sent.number
+        );
     }
 }
 
@@ -80,7 +98,11 @@ fn shows(rt: &impl Abort, table: &mut SourceTable, now: u64, wanted: &[u8]) {
     let mut slots = [7; 512];
     table.merged(now, &mut slots);
     for (at, level) in slots.iter().enumerate() {
-        assert_eq!(rt; *level, wanted.get(at).copied().unwrap_or(0), "slot {at} at {now}");
+        assert_eq!(rt;
+            *level,
+            wanted.get(at).copied().unwrap_or(0),
+            "slot {at} at {now}"
+        );
     }
 }
 
@@ -122,11 +144,15 @@ fn holds_ended(rt: &impl Abort, table: &SourceTable, cid: u8, number: u8, moment
 #[test]
 fn numbers_wrap(rt: HostRuntime) -> Result<(), Fail> {
     let mut table = SourceTable::new(rt.alloc())?;
-    gives(&rt, &mut table, &[
-        (0, live(1, 250, &[1]), Taken::Held),
-        (0, live(1, 3, &[2]), Taken::Held),
-        (0, live(1, 250, &[3]), Taken::OutOfSequence),
-    ]);
+    gives(
+        &rt,
+        &mut table,
+        &[
+            (0, live(1, 250, &[1]), Taken::Held),
+            (0, live(1, 3, &[2]), Taken::Held),
+            (0, live(1, 250, &[3]), Taken::OutOfSequence),
+        ],
+    );
     shows(&rt, &mut table, 0, &[2]);
     holds(&rt, &table, live(1, 3, &[2]), 0);
     Ok(())
@@ -143,10 +169,14 @@ fn steps_from_a_hundred(rt: HostRuntime) -> Result<(), Fail> {
         (228, Taken::Held),
     ] {
         let mut table = SourceTable::new(rt.alloc())?;
-        gives(&rt, &mut table, &[
-            (0, live(1, 100, &[1]), Taken::Held),
-            (0, live(1, number, &[2]), taken),
-        ]);
+        gives(
+            &rt,
+            &mut table,
+            &[
+                (0, live(1, 100, &[1]), Taken::Held),
+                (0, live(1, number, &[2]), taken),
+            ],
+        );
     }
     Ok(())
 }
@@ -159,32 +189,56 @@ fn number_of(place: u64) -> u8 {
 #[test]
 fn life_with_a_gap(rt: HostRuntime) -> Result<(), Fail> {
     let mut table = SourceTable::new(rt.alloc())?;
-    gives(&rt, &mut table, &[(0, live(1, number_of(0), &[1]), Taken::Held)]);
+    gives(
+        &rt,
+        &mut table,
+        &[(0, live(1, number_of(0), &[1]), Taken::Held)],
+    );
     for place in 237..257 {
-        gives(&rt, &mut table, &[(0, live(1, number_of(place), &[2]), Taken::OutOfSequence)]);
+        gives(
+            &rt,
+            &mut table,
+            &[(0, live(1, number_of(place), &[2]), Taken::OutOfSequence)],
+        );
     }
-    gives(&rt, &mut table, &[(0, live(1, number_of(257), &[3]), Taken::Held)]);
+    gives(
+        &rt,
+        &mut table,
+        &[(0, live(1, number_of(257), &[3]), Taken::Held)],
+    );
     let mut table = SourceTable::new(rt.alloc())?;
-    gives(&rt, &mut table, &[
-        (0, live(1, number_of(0), &[1]), Taken::Held),
-        (0, live(1, number_of(236), &[2]), Taken::Held),
-    ]);
+    gives(
+        &rt,
+        &mut table,
+        &[
+            (0, live(1, number_of(0), &[1]), Taken::Held),
+            (0, live(1, number_of(236), &[2]), Taken::Held),
+        ],
+    );
     Ok(())
 }
 
 #[test]
 fn ended_and_back(rt: HostRuntime) -> Result<(), Fail> {
     let mut table = SourceTable::new(rt.alloc())?;
-    gives(&rt, &mut table, &[
-        (0, live(1, 10, &[9]), Taken::Held),
-        (0, of_kind(Kind::Termination, 1, 12), Taken::EndedNow),
-    ]);
+    gives(
+        &rt,
+        &mut table,
+        &[
+            (0, live(1, 10, &[9]), Taken::Held),
+            (0, of_kind(Kind::Termination, 1, 12), Taken::EndedNow),
+        ],
+    );
     shows(&rt, &mut table, 0, &[]);
     holds_ended(&rt, &table, 1, 12, 0);
-    gives(&rt, &mut table, &[
-        (0, live(1, 11, &[8]), Taken::OutOfSequence),
-        (0, live(1, 13, &[7]), Taken::Held),
-    ]);
+    gives(
+        &rt,
+        &mut table,
+        &[
+            (0, live(1, 11, &[8]), Taken::OutOfSequence),
+            (0, live(1, 13, &[7]), Taken::Held),
+        ],
+    );
     shows(&rt, &mut table, 0, &[7]);
     holds(&rt, &table, live(1, 13, &[7]), 0);
     Ok(())
@@ -196,9 +250,19 @@ fn followed_in_any_order(rt: HostRuntime) -> Result<(), Fail> {
     let sources = [
         live(1, 0, &[10, 200]),
         live(2, 0, &[50, 20, 7]),
-        Sent { priority: 90, ..live(3, 0, &full) },
+        Sent {
+            priority: 90,
+            ..live(3, 0, &full)
+        },
     ];
-    for order in [[0, 1, 2], [0, 2, 1], [1, 0, 2], [1, 2, 0], [2, 0, 1], [2, 1, 0]] {
+    for order in [
+        [0, 1, 2],
+        [0, 2, 1],
+        [1, 0, 2],
+        [1, 2, 0],
+        [2, 0, 1],
+        [2, 1, 0],
+    ] {
         let mut table = SourceTable::new(rt.alloc())?;
         for at in order {
             if let Some(sent) = sources.get(at) {
@@ -206,10 +270,14 @@ fn followed_in_any_order(rt: HostRuntime) -> Result<(), Fail> {
             }
         }
         shows(&rt, &mut table, 0, &[50, 200, 7]);
-        gives(&rt, &mut table, &[
-            (0, of_kind(Kind::Termination, 1, 1), Taken::EndedNow),
-            (0, of_kind(Kind::Termination, 2, 1), Taken::EndedNow),
-        ]);
+        gives(
+            &rt,
+            &mut table,
+            &[
+                (0, of_kind(Kind::Termination, 1, 1), Taken::EndedNow),
+                (0, of_kind(Kind::Termination, 2, 1), Taken::EndedNow),
+            ],
+        );
         shows(&rt, &mut table, 0, &full);
     }
     Ok(())
@@ -218,7 +286,11 @@ fn followed_in_any_order(rt: HostRuntime) -> Result<(), Fail> {
 #[test]
 fn shorter_frame(rt: HostRuntime) -> Result<(), Fail> {
     let mut table = SourceTable::new(rt.alloc())?;
-    gives(&rt, &mut table, &[(0, live(1, 0, &[9; MAX_SLOTS]), Taken::Held)]);
+    gives(
+        &rt,
+        &mut table,
+        &[(0, live(1, 0, &[9; MAX_SLOTS]), Taken::Held)],
+    );
     shows(&rt, &mut table, 0, &[9; MAX_SLOTS]);
     gives(&rt, &mut table, &[(0, live(1, 1, &[1, 2]), Taken::Held)]);
     shows(&rt, &mut table, 0, &[1, 2]);
@@ -246,7 +318,11 @@ fn full_table(rt: &impl Abort, alloc: Global) -> Result<SourceTable, TableFault>
     for cid in 1..17 {
         gives(rt, &mut table, &[(0, live(cid, 0, &[cid]), Taken::Held)]);
     }
-    gives(rt, &mut table, &[(0, live(17, 0, &[17]), Taken::SourcesExceeded)]);
+    gives(
+        rt,
+        &mut table,
+        &[(0, live(17, 0, &[17]), Taken::SourcesExceeded)],
+    );
     Ok(table)
 }
 
@@ -254,7 +330,11 @@ fn full_table(rt: &impl Abort, alloc: Global) -> Result<SourceTable, TableFault>
 fn one_of_sixteen_is_lost(rt: HostRuntime) -> Result<(), Fail> {
     let mut table = full_table(&rt, rt.alloc())?;
     for cid in 2..17 {
-        gives(&rt, &mut table, &[(2000, live(cid, 1, &[cid]), Taken::Held)]);
+        gives(
+            &rt,
+            &mut table,
+            &[(2000, live(cid, 1, &[cid]), Taken::Held)],
+        );
     }
     gives(&rt, &mut table, &[(2500, live(17, 1, &[17]), Taken::Held)]);
     assert!(rt; table.held(&[1; 16]).is_none());
@@ -264,28 +344,44 @@ fn one_of_sixteen_is_lost(rt: HostRuntime) -> Result<(), Fail> {
 #[test]
 fn ended_source_keeps_its_place(rt: HostRuntime) -> Result<(), Fail> {
     let mut table = full_table(&rt, rt.alloc())?;
-    gives(&rt, &mut table, &[(100, of_kind(Kind::Termination, 1, 1), Taken::EndedNow)]);
+    gives(
+        &rt,
+        &mut table,
+        &[(100, of_kind(Kind::Termination, 1, 1), Taken::EndedNow)],
+    );
     for cid in 2..17 {
-        gives(&rt, &mut table, &[(2000, live(cid, 1, &[cid]), Taken::Held)]);
+        gives(
+            &rt,
+            &mut table,
+            &[(2000, live(cid, 1, &[cid]), Taken::Held)],
+        );
     }
-    gives(&rt, &mut table, &[
-        (2599, live(17, 1, &[17]), Taken::SourcesExceeded),
-        (2600, live(17, 2, &[17]), Taken::Held),
-    ]);
+    gives(
+        &rt,
+        &mut table,
+        &[
+            (2599, live(17, 1, &[17]), Taken::SourcesExceeded),
+            (2600, live(17, 2, &[17]), Taken::Held),
+        ],
+    );
     Ok(())
 }
 
 #[test]
 fn previews_show_nothing(rt: HostRuntime) -> Result<(), Fail> {
     let mut table = SourceTable::new(rt.alloc())?;
-    gives(&rt, &mut table, &[
-        (0, of_kind(Kind::Preview, 1, 0), Taken::UnknownIgnored),
-        (0, of_kind(Kind::Other, 1, 0), Taken::UnknownIgnored),
-        (0, of_kind(Kind::Termination, 1, 0), Taken::UnknownIgnored),
-        (0, live(1, 0, &[5]), Taken::Held),
-        (1000, of_kind(Kind::Other, 1, 1), Taken::Observed),
-        (2000, of_kind(Kind::Preview, 1, 2), Taken::Observed),
-    ]);
+    gives(
+        &rt,
+        &mut table,
+        &[
+            (0, of_kind(Kind::Preview, 1, 0), Taken::UnknownIgnored),
+            (0, of_kind(Kind::Other, 1, 0), Taken::UnknownIgnored),
+            (0, of_kind(Kind::Termination, 1, 0), Taken::UnknownIgnored),
+            (0, live(1, 0, &[5]), Taken::Held),
+            (1000, of_kind(Kind::Other, 1, 1), Taken::Observed),
+            (2000, of_kind(Kind::Preview, 1, 2), Taken::Observed),
+        ],
+    );
     holds(&rt, &table, live(1, 2, &[5]), 0);
     shows(&rt, &mut table, 2499, &[5]);
     shows(&rt, &mut table, 2500, &[]);
@@ -305,7 +401,11 @@ fn each_has_its_own_levels(rt: HostRuntime) -> Result<(), Fail> {
     holds(&rt, &table, live(1, 0, &[1]), 0);
     holds(&rt, &table, live(2, 0, &[2]), 0);
     holds(&rt, &table, live(3, 0, &[3]), 0);
-    gives(&rt, &mut table, &[(0, of_kind(Kind::Termination, 1, 1), Taken::EndedNow)]);
+    gives(
+        &rt,
+        &mut table,
+        &[(0, of_kind(Kind::Termination, 1, 1), Taken::EndedNow)],
+    );
     holds_ended(&rt, &table, 1, 1, 0);
     holds(&rt, &table, live(2, 0, &[2]), 0);
     holds(&rt, &table, live(3, 0, &[3]), 0);
@@ -325,7 +425,11 @@ fn merge_is_kept(rt: HostRuntime) -> Result<(), Fail> {
     shows(&rt, &mut table, 0, &[6]);
     shows(&rt, &mut table, 100, &[6]);
     assert_eq!(rt; table.renewals(), 1);
-    gives(&rt, &mut table, &[(200, of_kind(Kind::Preview, 1, 1), Taken::Observed)]);
+    gives(
+        &rt,
+        &mut table,
+        &[(200, of_kind(Kind::Preview, 1, 1), Taken::Observed)],
+    );
     shows(&rt, &mut table, 200, &[6]);
     assert_eq!(rt; table.renewals(), 1);
     shows(&rt, &mut table, 2500, &[]);

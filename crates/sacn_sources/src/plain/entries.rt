@@ -81,7 +81,8 @@ impl Entries {
     {
         let moment = self.moment.max(now);
         for entry in self.items.as_slice() {
-            if moment.saturating_sub(entry.moment) >= NETWORK_DATA_LOSS && entry.priority.is_some()
+            if moment.saturating_sub(entry.moment) >= NETWORK_DATA_LOSS
+                && entry.priority.is_some()
             {
                 return true;
             }

@@ -1,4 +1,4 @@
-use Rattle.std.proofs.Common.{refl, ap, sym, ◌∙◌, arith}
+use Rattle.std.proofs.Common.{refl, ap, sym, ◌∙◌}
 use Rattle.sacn_sources.specs.Rows.{Table}
 use Rattle.sacn_sources.specs.Packets.{packet_of}
 use Rattle.sacn_sources.proofs.Taking.{ignored_ending, ignored_preview, ignored_other, exceeded, admitted, few_left}

@@ -1,4 +1,4 @@
-use Rattle.std.proofs.Common.{ap, sym, ◌∙◌, arith}
+use Rattle.std.proofs.Common.{ap, ◌∙◌, arith}
 use Rattle.std.specs.List.{remove}
 use Rattle.sacn_sources.specs.Rows.{Table}
 use Rattle.sacn_sources.specs.PlainStored.{plain_rows}

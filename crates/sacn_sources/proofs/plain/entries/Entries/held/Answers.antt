@@ -1,4 +1,4 @@
-use Rattle.std.proofs.Common.{ℕ, List, Option, Some, ap, sym, ◌∙◌}
+use Rattle.std.proofs.Common.{Option, Some, ap, sym, ◌∙◌}
 use Rattle.std.specs.Option.{option_map}
 use Rattle.sacn_slots.specs.Layers.{shown_of}
 use Rattle.sacn_slots.specs.Merge.{Shown}

@@ -1,11 +1,8 @@
-use Rattle.std.proofs.Common.{◌≡◌, ◌<◌, ◌≤◌, List, length, get_or, Some, None, ap, sym, ◌∙◌, arith}
+use Rattle.std.proofs.Common.{◌≡◌, ◌<◌, ◌≤◌, length, get_or, ap, sym, ◌∙◌, arith}
 use Rattle.std.specs.List.{filter_map}
 use Rattle.std.proofs.lemmas.List.{take_all, length-set}
 use Rattle.sacn_slots.specs.Merge.{merge}
-use Rattle.sacn_slots.specs.declared.merge.Layer.{Layer}
-use Rattle.sacn_sources.specs.declared.plain.entries.PlainEntry.{PlainEntry}
 use Rattle.sacn_sources.specs.Rows.{Table, slots_of}
-use Rattle.sacn_sources.proofs.PlainEdits.{blank}
 use Rattle.sacn_sources.proofs.PlainLayers.{plain_shows, plain_shown, plain_none, plain_live, plain_ended}
 use Rattle.sacn_sources.proofs.Layers.{more_none, more_some}
 use Rattle.sacn_sources.proofs.plain.entries.Entries.merge.Goals as goal

@@ -1,7 +1,7 @@
-use Rattle.std.proofs.Common.{get_or, set, ap, sym, subst, ◌∙◌}
+use Rattle.std.proofs.Common.{get_or, set, ap, sym, ◌∙◌}
 use Rattle.std.proofs.lemmas.List.{get_or_default}
 use Rattle.sacn_sources.specs.declared.plain.entries.PlainEntry.{PlainEntry}
-use Rattle.sacn_sources.specs.Rows.{Row, Table, row_observed}
+use Rattle.sacn_sources.specs.Rows.{Table, row_observed}
 use Rattle.sacn_sources.specs.Packets.{packet_of}
 use Rattle.sacn_sources.specs.PlainStored.{plain_row, plain_rows}
 use Rattle.sacn_sources.proofs.PlainEdits.{blank, within_plain, plain_there, plain_set, set_ordered}

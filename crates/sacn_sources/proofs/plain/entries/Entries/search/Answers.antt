@@ -1,10 +1,10 @@
-use Rattle.std.proofs.Common.{◌≡◌, ℕ, ◌+◌, ◌<◌, get_or, ap, sym, subst, ◌∙◌, arith, inl, inr}
-use Rattle.std.specs.declared.cmp.Ordering.TheVariants.{Less, Equal, Greater}
+use Rattle.std.proofs.Common.{◌≡◌, get_or, ap, sym, subst, ◌∙◌, arith, inl, inr}
+use Rattle.std.specs.declared.cmp.Ordering.TheVariants.{Less, Equal}
 use Rattle.std.proofs.lemmas.Bool.{cases_lt}
 use Rattle.sacn_sources.specs.declared.plain.entries.PlainEntry.{PlainEntry}
 use Rattle.sacn_sources.specs.Order.{order}
 use Rattle.sacn_sources.specs.Places.{IsAt, IsGap}
-use Rattle.sacn_sources.specs.Rows.{Row, Table}
+use Rattle.sacn_sources.specs.Rows.{Table}
 use Rattle.sacn_sources.proofs.PlainEdits.{blank, scanned_here, scanned_gap, scanned_all}
 use Rattle.sacn_sources.proofs.plain.entries.Entries.search.Goals as goal
 

@@ -1,9 +1,8 @@
-use Rattle.std.proofs.Common.{◌≡◌, get_or, set, refl, ap, sym, subst, ◌∙◌}
-use Rattle.sacn_sources.specs.declared.plain.entries.PlainEntry.{PlainEntry}
+use Rattle.std.proofs.Common.{set, ap, ◌∙◌}
 use Rattle.sacn_sources.specs.Rows.{Row, Table, row_live}
 use Rattle.sacn_sources.specs.Packets.{packet_of}
-use Rattle.sacn_sources.specs.PlainStored.{plain_row, plain_rows}
-use Rattle.sacn_sources.proofs.PlainEdits.{blank, within_plain, plain_there, plain_set, set_ordered, cid_there}
+use Rattle.sacn_sources.specs.PlainStored.{plain_rows}
+use Rattle.sacn_sources.proofs.PlainEdits.{within_plain, plain_set, set_ordered, cid_there}
 use Rattle.sacn_sources.proofs.Edits.{with_rows}
 use Rattle.sacn_sources.proofs.plain.entries.Entries.show.Goals as goal
 

@@ -1,4 +1,4 @@
-use Rattle.std.proofs.Common.{◌≡◌, ◌<◌, ◌+◌, ◌-◌, ℕ, [], not, None, length, drop, get_or, refl, ap, sym, ◌∙◌, arith}
+use Rattle.std.proofs.Common.{◌≡◌, ◌<◌, ◌+◌, ◌-◌, ℕ, [], not, None, length, get_or, refl, ap, sym, ◌∙◌, arith}
 use Rattle.sacn_sources.specs.Rows.{Row, Table, row_renewed}
 use Rattle.sacn_sources.proofs.Sweeps.{swept, swept_none_yet, sweep_drops, sweep_keeps}
 use Rattle.sacn_sources.proofs.plain.entries.Entries.sweep.Goals as goal
