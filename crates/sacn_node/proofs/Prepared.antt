@@ -18,16 +18,16 @@ use Rattle.sacn_node.specs.declared.limits.TheConstants.{MAX_UNIVERSES}
 
 -- ---- numbers that rise
 
-abbrev put_id : ℕ → List ℕ → List ℕ
+abbrev pub put_id : ℕ → List ℕ → List ℕ
 put_id u us = placed (λ v. v) u us
 
-abbrev put_by : ℕ → ℕ → List ℕ → Bool → List ℕ
+abbrev pub put_by : ℕ → ℕ → List ℕ → Bool → List ℕ
 put_by u v vs less = cond less (u ∷ v ∷ vs) (v ∷ put_id u vs)
 
 one_more : (n : ℕ) → 1 + n ≡ suc n
 one_more n = omega arith
 
-put_before : (u v : ℕ) (vs : List ℕ) → put_id u (v ∷ vs) ≡ put_by u v vs (nat_lt u v)
+pub put_before : (u v : ℕ) (vs : List ℕ) → put_id u (v ∷ vs) ≡ put_by u v vs (nat_lt u v)
 put_before u v vs = elim (nat_lt u v) as (λ b. insert (v ∷ vs) (cond (not b) (1 + position_or_len (λ w. nat_lt u w) vs) 0) u ≡ put_by u v vs b) [
   | true ↦ refl
   | false ↦ ap (λ k. insert (v ∷ vs) k u) (one_more (position_or_len (λ w. nat_lt u w) vs))
@@ -83,7 +83,7 @@ above_at u [] above j d lt = absurd (omega arith)
 above_at u (v ∷ vs) above zero d lt = above.0
 above_at u (v ∷ vs) above (suc j) d lt = let v_below = above_at v vs above.1 j d (omega arith) in omega (arith, above.0, v_below)
 
-rise_tail : (u : ℕ) (vs : List ℕ) → Above u vs → Rise vs
+pub rise_tail : (u : ℕ) (vs : List ℕ) → Above u vs → Rise vs
 rise_tail u [] above = tt
 rise_tail u (v ∷ vs) above = above.1
 
