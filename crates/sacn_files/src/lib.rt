@@ -15,7 +15,7 @@ pub mod limits;
 pub mod lines;
 pub mod numbered;
 pub mod rows;
-pub mod values;
-pub mod words;
 #[cfg(test)]
 mod tests;
+pub mod values;
+pub mod words;

@@ -136,13 +136,13 @@ pub fn rows_at<'a>(table: &'a Table, key: &str) -> &'a [Value]
     }
 }
 
-/// The tables of the array of tables at a key of a row.
+/// The tables of the array of tables at a key of a row; none where something else stands there.
 pub fn inner_rows<'a>(row: &'a Value, key: &str) -> &'a [Value]
     ensures { map view result.now ≡ rows_at key.now (members_or_none (view row.now)) }
 {
-    match value_in(row, key) {
-        Some(value) => rows_in(array_values(value)),
-        None => rows_in(None),
+    match row.as_table() {
+        Some(table) => rows_at(table, key),
+        None => &[],
     }
 }
 
