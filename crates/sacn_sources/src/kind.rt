@@ -1,5 +1,8 @@
 //! What a data packet says to a table.
 
+ghost use Rattle.std.specs.Prelude.{◌≡◌};
+ghost use Rattle.sacn_sources.specs.Packets.{kind_of};
+
 use sacn_framing::DataView;
 
 /// What a data packet says to the receiver that holds its source (profile). The first that fits counts, from the top.
@@ -14,9 +17,6 @@ pub enum Kind {
     /// Another start code.
     Other,
 }
-
-ghost use Rattle.std.specs.Prelude.{◌≡◌};
-ghost use Rattle.sacn_sources.specs.Packets.{kind_of};
 
 /// The kind of a packet.
 pub(crate) fn kind_of(packet: &DataView<'_>) -> Kind

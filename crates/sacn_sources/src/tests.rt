@@ -80,7 +80,7 @@ fn give(table: &mut SourceTable, now: u64, sent: Sent<'_>) -> Option<Taken> {
     }
 }
 
-/// The packets are answered so, in order.
+/// The packets are answered so, in order, and each that is Held is read back. The moments rise.
 fn gives(rt: &impl Abort, table: &mut SourceTable, packets: &[(u64, Sent<'_>, Taken)]) {
     for (now, sent, taken) in packets {
         assert_eq!(rt;
@@ -90,6 +90,9 @@ fn gives(rt: &impl Abort, table: &mut SourceTable, packets: &[(u64, Sent<'_>, Ta
             sent.cid,
             sent.number
         );
+        if matches!(*taken, Taken::Held) {
+            holds(rt, table, *sent, *now);
+        }
     }
 }
 

@@ -3,6 +3,9 @@
 ghost use Rattle.std.specs.Prelude.{◌≡◌, ◌<◌, ◌≤◌, not, remove, ℕ, length, slice_index_or, slice_set, max, IfOk, IfErr};
 ghost use Rattle.arrayvec.specs.ArrayVec.{array_vec_len};
 ghost use Rattle.sacn_sources.specs.declared.plain.entries.PlainEntry.{PlainEntry as Stored};
+ghost use Rattle.sacn_sources.specs.Rows.{row_live};
+ghost use Rattle.sacn_sources.specs.Packets.{packet_of};
+ghost use Rattle.sacn_sources.specs.PlainStored.{plain_row};
 
 use crate::held::HeldView;
 use crate::kind::{Kind, kind_of};
@@ -60,8 +63,7 @@ impl Model for Entries {
 
 impl Entries {
     ghost use Rattle.sacn_sequence.specs.Sequence.{is_late};
-    ghost use Rattle.sacn_sources.specs.Rows.{Row, new_table, row_renewed, rows_kept, rows_lost, row_of, put_row, row_live, row_ended, row_observed, taken, take_row, after_expire, slots_of};
-    ghost use Rattle.sacn_sources.specs.Packets.{packet_of};
+    ghost use Rattle.sacn_sources.specs.Rows.{Row, new_table, row_renewed, rows_kept, rows_lost, row_of, put_row, row_ended, row_observed, taken, take_row, after_expire, slots_of};
     ghost use Rattle.sacn_sources.specs.Kept.{loses_live};
     ghost use Rattle.sacn_sources.specs.Places.{IsAt, IsGap};
 
@@ -316,10 +318,6 @@ impl Entries {
         self.items.insert(at, entry);
     }
 }
-
-ghost use Rattle.sacn_sources.specs.Rows.{row_live};
-ghost use Rattle.sacn_sources.specs.Packets.{packet_of};
-ghost use Rattle.sacn_sources.specs.PlainStored.{plain_row};
 
 // The entry of a source that shows what the packet gives.
 fn live_entry(packet: &DataView<'_>, moment: u64) -> PlainEntry
