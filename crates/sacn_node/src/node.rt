@@ -3,8 +3,8 @@
 ghost use Rattle.std.specs.Prelude.{◌≡◌, ◌≤◌, Some, None, length, is_ok, IfOk, OnErr, if◌then◌else◌};
 ghost use Rattle.std.specs.List.Sorted.{IsStrictlyIncreasing};
 
-use crate::ports::{NodePort, copy_ports, copy_numbers, fill_frame, find_port};
 use crate::limits::MAX_PORTS;
+use crate::ports::{NodePort, copy_numbers, copy_ports, fill_frame, find_port};
 use crate::setup::{NodeSetup, universes_of};
 use crate::tables::Tables;
 use crate::taken::{NoPort, NodeTaken};

@@ -14,6 +14,7 @@ const MAX_SLOTS: usize = 512;
 
 /// The greatest priority of a data packet, and the greatest universe.
 const MAX_PRIORITY: u8 = 200;
+
 const MOST_UNIVERSE: u16 = 63999;
 
 /// One port that shows universe 1.
@@ -89,7 +90,11 @@ fn give(node: &mut NodeCore, now: u64, sent: Sent<'_>) -> Option<NodeTaken> {
         preview: matches!(sent.kind, Kind::Preview),
         terminated: matches!(sent.kind, Kind::Termination),
         universe: sent.universe,
-        start: if matches!(sent.kind, Kind::Other) { 0xdd } else { 0 },
+        start: if matches!(sent.kind, Kind::Other) {
+            0xdd
+        } else {
+            0
+        },
         slots: sent.slots,
     };
     let mut octets = [0; 638];
@@ -107,7 +112,13 @@ fn node_of(alloc: Global, text: &str) -> Result<NodeCore, Fail> {
 /// The packets of universe 1 are answered so, in order.
 fn gives(rt: &impl Abort, node: &mut NodeCore, packets: &[(u64, Sent<'_>, Taken)]) {
     for (now, sent, taken) in packets {
-        assert_eq!(rt; give(node, *now, *sent), Some(NodeTaken::FromTable(*taken)), "source {}, number {} at {now}", sent.cid, sent.number);
+        assert_eq!(rt;
+            give(node, *now, *sent),
+            Some(NodeTaken::FromTable(*taken)),
+            "source {}, number {} at {now}",
+            sent.cid,
+            sent.number
+        );
     }
 }
 
@@ -117,16 +128,31 @@ fn shows(rt: &impl Abort, node: &mut NodeCore, now: u64, port: u8, wanted: &[u8]
     assert_eq!(rt; node.frame(now, port, &mut frame), Ok(()));
     assert_eq!(rt; frame[0], 0);
     for (at, level) in frame[1..].iter().enumerate() {
-        assert_eq!(rt; *level, wanted.get(at).copied().unwrap_or(0), "slot {at} of port {port} at {now}");
+        assert_eq!(rt;
+            *level,
+            wanted.get(at).copied().unwrap_or(0),
+            "slot {at} of port {port} at {now}"
+        );
     }
 }
 
 /// The source is held on universe 1, with this number and moment; live with these levels, or ended.
-fn holds(rt: &impl Abort, node: &NodeCore, cid: u32, number: u8, moment: u64, levels: Option<&[u8]>) {
+fn holds(
+    rt: &impl Abort,
+    node: &NodeCore,
+    cid: u32,
+    number: u8,
+    moment: u64,
+    levels: Option<&[u8]>,
+) {
     let held = node.held(1, &cid_of(cid));
     assert!(rt; held.is_some(), "source {cid}");
     if let Some(held) = held {
-        assert_eq!(rt; (held.number(), held.moment()), (number, moment), "source {cid}");
+        assert_eq!(rt;
+            (held.number(), held.moment()),
+            (number, moment),
+            "source {cid}"
+        );
         assert_eq!(rt; held.ended(), levels.is_none(), "source {cid}");
         has_levels(rt, &held, levels.unwrap_or(&[]));
     }
@@ -170,7 +196,11 @@ fn tick_counts_once(rt: HostRuntime) -> Result<(), Fail> {
 fn full_node(rt: &impl Abort, alloc: Global) -> Result<NodeCore, Fail> {
     let mut node = node_of(alloc, ONE_PORT)?;
     for cid in 1..17 {
-        gives(rt, &mut node, &[(0, live(cid, 0, &[cid as u8]), Taken::Held)]);
+        gives(
+            rt,
+            &mut node,
+            &[(0, live(cid, 0, &[cid as u8]), Taken::Held)],
+        );
     }
     Ok(node)
 }
@@ -178,7 +208,11 @@ fn full_node(rt: &impl Abort, alloc: Global) -> Result<NodeCore, Fail> {
 #[test]
 fn one_of_sixteen_is_lost(rt: HostRuntime) -> Result<(), Fail> {
     let mut node = full_node(&rt, rt.alloc())?;
-    gives(&rt, &mut node, &[(0, live(17, 0, &[99]), Taken::SourcesExceeded)]);
+    gives(
+        &rt,
+        &mut node,
+        &[(0, live(17, 0, &[99]), Taken::SourcesExceeded)],
+    );
     for cid in 2..17 {
         gives(&rt, &mut node, &[(2000, live(cid, 1, &[9]), Taken::Held)]);
     }
@@ -189,25 +223,37 @@ fn one_of_sixteen_is_lost(rt: HostRuntime) -> Result<(), Fail> {
 #[test]
 fn ended_source_keeps_its_place(rt: HostRuntime) -> Result<(), Fail> {
     let mut node = full_node(&rt, rt.alloc())?;
-    gives(&rt, &mut node, &[(100, of_kind(Kind::Termination, 1, 1), Taken::EndedNow)]);
+    gives(
+        &rt,
+        &mut node,
+        &[(100, of_kind(Kind::Termination, 1, 1), Taken::EndedNow)],
+    );
     for cid in 2..17 {
         gives(&rt, &mut node, &[(2000, live(cid, 1, &[9]), Taken::Held)]);
     }
-    gives(&rt, &mut node, &[
-        (2599, live(17, 0, &[99]), Taken::SourcesExceeded),
-        (2600, live(17, 1, &[99]), Taken::Held),
-    ]);
+    gives(
+        &rt,
+        &mut node,
+        &[
+            (2599, live(17, 0, &[99]), Taken::SourcesExceeded),
+            (2600, live(17, 1, &[99]), Taken::Held),
+        ],
+    );
     Ok(())
 }
 
 #[test]
 fn previews_renew_nothing(rt: HostRuntime) -> Result<(), Fail> {
     let mut node = node_of(rt.alloc(), ONE_PORT)?;
-    gives(&rt, &mut node, &[
-        (0, of_kind(Kind::Preview, 1, 0), Taken::UnknownIgnored),
-        (0, live(1, 1, &[8]), Taken::Held),
-        (2000, of_kind(Kind::Preview, 1, 2), Taken::Observed),
-    ]);
+    gives(
+        &rt,
+        &mut node,
+        &[
+            (0, of_kind(Kind::Preview, 1, 0), Taken::UnknownIgnored),
+            (0, live(1, 1, &[8]), Taken::Held),
+            (2000, of_kind(Kind::Preview, 1, 2), Taken::Observed),
+        ],
+    );
     shows(&rt, &mut node, 2000, 1, &[8]);
     holds(&rt, &node, 1, 2, 0, Some(&[8]));
     shows(&rt, &mut node, 2500, 1, &[]);
@@ -225,7 +271,10 @@ fn other_ports_and_universes(rt: HostRuntime) -> Result<(), Fail> {
         universe: 7,
         ..live(1, 1, &[6])
     };
-    assert_eq!(rt; give(&mut node, 20, elsewhere), Some(NodeTaken::OtherUniverse));
+    assert_eq!(rt;
+        give(&mut node, 20, elsewhere),
+        Some(NodeTaken::OtherUniverse)
+    );
     assert_eq!(rt; node.moment(), 20);
     assert!(rt; node.held(7, &cid_of(1)).is_none());
     shows(&rt, &mut node, 20, 1, &[5]);
@@ -257,12 +306,19 @@ fn two_ports_of_one_universe(rt: HostRuntime) -> Result<(), Fail> {
 #[test]
 fn ranges_of_two_universes(rt: HostRuntime) -> Result<(), Fail> {
     let mut node = node_of(rt.alloc(), TWO_RANGES)?;
-    gives(&rt, &mut node, &[(0, live(1, 0, &[1, 2, 3, 4]), Taken::Held)]);
+    gives(
+        &rt,
+        &mut node,
+        &[(0, live(1, 0, &[1, 2, 3, 4]), Taken::Held)],
+    );
     let second = Sent {
         universe: 2,
         ..live(1, 0, &[9, 9, 9, 9, 50, 60])
     };
-    assert_eq!(rt; give(&mut node, 0, second), Some(NodeTaken::FromTable(Taken::Held)));
+    assert_eq!(rt;
+        give(&mut node, 0, second),
+        Some(NodeTaken::FromTable(Taken::Held))
+    );
     let mut frame = [7; 513];
     assert_eq!(rt; node.frame(0, 1, &mut frame), Ok(()));
     assert_eq!(rt; (frame[0], frame[1], frame[2], frame[3]), (0, 1, 2, 3));
@@ -326,7 +382,11 @@ fn is_untouched(rt: &impl Abort, node: &mut NodeCore) {
 fn flood_of_foreign_sources(rt: HostRuntime) -> Result<(), Fail> {
     let mut node = full_node(&rt, rt.alloc())?;
     for cid in 1000..11000 {
-        gives(&rt, &mut node, &[(0, live(cid, 0, &[255]), Taken::SourcesExceeded)]);
+        gives(
+            &rt,
+            &mut node,
+            &[(0, live(cid, 0, &[255]), Taken::SourcesExceeded)],
+        );
     }
     is_untouched(&rt, &mut node);
     Ok(())
@@ -340,7 +400,10 @@ struct Numbers {
 
 impl Numbers {
     fn next(&mut self) -> u64 {
-        self.state = self.state.wrapping_mul(6364136223846793005).wrapping_add(1442695040888963407);
+        self.state = self
+            .state
+            .wrapping_mul(6364136223846793005)
+            .wrapping_add(1442695040888963407);
         self.state >> 33
     }
 
@@ -382,14 +445,19 @@ fn refuses_or_ignores(rt: &impl Abort, node: &mut NodeCore, octets: &[u8]) {
     let taken = node.take(0, octets);
     match read_packet(octets) {
         Err(fault) => assert_eq!(rt; taken, NodeTaken::Refused(fault)),
-        Ok(_) => assert!(rt; matches!(taken, NodeTaken::Discovery) || matches!(taken, NodeTaken::Sync)),
+        Ok(_) => assert!(rt;
+            matches!(taken, NodeTaken::Discovery) || matches!(taken, NodeTaken::Sync)
+        ),
     }
 }
 
 #[test]
 fn no_octets(rt: HostRuntime) -> Result<(), Fail> {
     let mut node = node_of(rt.alloc(), ONE_PORT)?;
-    assert_eq!(rt; node.take(5, &[]), NodeTaken::Refused(PacketFault::TooShort));
+    assert_eq!(rt;
+        node.take(5, &[]),
+        NodeTaken::Refused(PacketFault::TooShort)
+    );
     assert_eq!(rt; node.moment(), 5);
     Ok(())
 }
@@ -433,7 +501,14 @@ fn any_packet(numbers: &mut Numbers, turn: u64) -> Said {
 }
 
 /// Both nodes answer the packet alike.
-fn take_alike(rt: &impl Abort, node: &mut NodeCore, plain: &mut PlainNode, setup: &NodeSetup, now: u64, said: &Said) -> Result<(), Fail> {
+fn take_alike(
+    rt: &impl Abort,
+    node: &mut NodeCore,
+    plain: &mut PlainNode,
+    setup: &NodeSetup,
+    now: u64,
+    said: &Said,
+) -> Result<(), Fail> {
     let sent = Sent {
         cid: said.cid,
         universe: said.universe,
@@ -463,7 +538,13 @@ fn hold_alike(rt: &impl Abort, node: &NodeCore, plain: &PlainNode, universe: u16
 }
 
 /// Both show the ports alike.
-fn show_alike(rt: &impl Abort, node: &mut NodeCore, plain: &mut PlainNode, setup: &NodeSetup, now: u64) {
+fn show_alike(
+    rt: &impl Abort,
+    node: &mut NodeCore,
+    plain: &mut PlainNode,
+    setup: &NodeSetup,
+    now: u64,
+) {
     plain.expire(now);
     for port in setup.ports() {
         let mut frame = [7; 513];
@@ -471,14 +552,26 @@ fn show_alike(rt: &impl Abort, node: &mut NodeCore, plain: &mut PlainNode, setup
         assert_eq!(rt; frame[0], 0);
         for (at, level) in frame.iter().enumerate() {
             if at > 0 {
-                assert_eq!(rt; *level, plain.shown(port.ranges(), at), "slot {at} of port {}", port.number());
+                assert_eq!(rt;
+                    *level,
+                    plain.shown(port.ranges(), at),
+                    "slot {at} of port {}",
+                    port.number()
+                );
             }
         }
     }
 }
 
 /// One turn of both: a packet, expiry or a look.
-fn turn_alike(rt: &impl Abort, node: &mut NodeCore, plain: &mut PlainNode, setup: &NodeSetup, numbers: &mut Numbers, turn: u64) -> Result<(), Fail> {
+fn turn_alike(
+    rt: &impl Abort,
+    node: &mut NodeCore,
+    plain: &mut PlainNode,
+    setup: &NodeSetup,
+    numbers: &mut Numbers,
+    turn: u64,
+) -> Result<(), Fail> {
     // Moments go forward by about 23 ms a turn, and back now and then.
     let now = (turn.saturating_mul(20)).saturating_add(numbers.next() % 90);
     match numbers.octet(16) {

@@ -96,7 +96,10 @@ impl PlainNode {
     }
 
     fn count(&self, universe: u16) -> usize {
-        self.rows.iter().filter(|row| row.universe == universe).count()
+        self.rows
+            .iter()
+            .filter(|row| row.universe == universe)
+            .count()
     }
 
     pub(crate) fn row(&self, universe: u16, cid: u32) -> Option<Row> {
@@ -108,7 +111,12 @@ impl PlainNode {
         None
     }
 
-    pub(crate) fn take(&mut self, setup: &NodeSetup, now: u64, said: &Said) -> Result<NodeTaken, AllocError> {
+    pub(crate) fn take(
+        &mut self,
+        setup: &NodeSetup,
+        now: u64,
+        said: &Said,
+    ) -> Result<NodeTaken, AllocError> {
         self.expire(now);
         if !has_universe(setup, said.universe) {
             return Ok(NodeTaken::OtherUniverse);
@@ -139,7 +147,11 @@ impl PlainNode {
         let top = self.top(universe);
         let mut highest = 0;
         for row in self.rows.iter() {
-            if row.universe == universe && row.priority.is_some() && row.priority == top && slot < LEVELS {
+            if row.universe == universe
+                && row.priority.is_some()
+                && row.priority == top
+                && slot < LEVELS
+            {
                 highest = highest.max(row.levels[slot]);
             }
         }
