@@ -1,0 +1,136 @@
+-- What a setup makes sure of: its universes rise, and each of its ranges can be shown.
+use Rattle.std.proofs.Common.{◌≡◌, ℕ, zero, suc, ◌+◌, ◌<◌, ◌≤◌, ◌==◌, nat_lt, ◌||◌, Bool, true, false, cond, not, List, [], ◌∷◌, ◌++◌, length, map, take, drop, get_or, find, All, AllPairs, Option, Some, None, refl, sym, ap, subst, ◌∙◌, arith, inl, inr}
+use Rattle.std.specs.List.{list_any, position_or_len, insert, AllByRecursion}
+use Rattle.std.specs.List.Sorted.{IsStrictlyIncreasing}
+use Rattle.std.proofs.lemmas.Bool.{cases_Bool, cases_eq}
+use Rattle.std.proofs.lemmas.Bool.Decides.{nat_tests}
+use Rattle.std.proofs.lemmas.List.{length-map, get_or-map}
+use Rattle.std.proofs.lemmas.Option.{same_Some}
+use Rattle.std.proofs.lemmas.List.Elements.{All-tail}
+use Rattle.sacn_files.specs.Numbered.{placed}
+use Rattle.sacn_node.specs.declared.setup.SlotRange.{SlotRange}
+use Rattle.sacn_node.specs.Setup.{Port, Setup, IsSetup, IsPort, IsRange, Fits, port_numbers, with_universe, universes_after, universes_from, universes}
+use Rattle.sacn_node.specs.Ports.{IsShown, port_of}
+use Rattle.sacn_node.specs.Cores.{new_core}
+use Rattle.sacn_node.specs.Seen.{Above, Rise, ArePorts, AreTables, seen, new_one}
+use Rattle.sacn_node.specs.declared.tables.OneUniverse.{OneUniverse}
+use Rattle.sacn_node.specs.declared.limits.TheConstants.{MAX_UNIVERSES}
+
+-- ---- numbers that rise
+
+abbrev pub put_id : ℕ → List ℕ → List ℕ
+put_id u us = placed (λ v. v) u us
+
+abbrev pub put_by : ℕ → ℕ → List ℕ → Bool → List ℕ
+put_by u v vs less = cond less (u ∷ v ∷ vs) (v ∷ put_id u vs)
+
+one_more : (n : ℕ) → 1 + n ≡ suc n
+one_more n = omega arith
+
+pub put_before : (u v : ℕ) (vs : List ℕ) → put_id u (v ∷ vs) ≡ put_by u v vs (nat_lt u v)
+put_before u v vs = elim (nat_lt u v) as (λ b. insert (v ∷ vs) (cond (not b) (1 + position_or_len (λ w. nat_lt u w) vs) 0) u ≡ put_by u v vs b) [
+  | true ↦ refl
+  | false ↦ ap (λ k. insert (v ∷ vs) k u) (one_more (position_or_len (λ w. nat_lt u w) vs))
+]
+
+less_is : (u v : ℕ) → nat_lt u v ≡ true → u < v
+less_is u v is = grind (arith, nat_tests)
+
+more_is : (u v : ℕ) → nat_lt u v ≡ false → (v == u) ≡ false → v < u
+more_is u v is differs = grind (arith, nat_tests)
+
+or_parts : (a b : Bool) → (a || b) ≡ false → (a ≡ false) × (b ≡ false)
+or_parts false b h = (refl, h)
+or_parts true b h = let bad : ⊥ = cc in absurd bad
+
+above_put : (lo u : ℕ) (us : List ℕ) → lo < u → list_any (λ v. v == u) us ≡ false → Above lo us → Above lo (put_id u us)
+above_put lo u [] lt new above = (lt, tt)
+above_put lo u (v ∷ vs) lt new above =
+    let parts = or_parts (v == u) (list_any (λ w. w == u) vs) new in
+    subst (Above lo) (sym (put_before u v vs)) (elim (nat_lt u v) as (λ b. nat_lt u v ≡ b → Above lo (put_by u v vs b)) [
+      | true ↦ λ is. (lt, (less_is u v is, above.1))
+      | false ↦ λ is. (above.0, above_put v u vs (more_is u v is parts.0) parts.1 above.1)
+    ] refl)
+
+rise_put : (u : ℕ) (us : List ℕ) → list_any (λ v. v == u) us ≡ false → Rise us → Rise (put_id u us)
+rise_put u [] new rise = tt
+rise_put u (v ∷ vs) new rise =
+    let parts = or_parts (v == u) (list_any (λ w. w == u) vs) new in
+    subst Rise (sym (put_before u v vs)) (elim (nat_lt u v) as (λ b. nat_lt u v ≡ b → Rise (put_by u v vs b)) [
+      | true ↦ λ is. (less_is u v is, rise)
+      | false ↦ λ is. above_put v u vs (more_is u v is parts.0) parts.1 rise
+    ] refl)
+
+rise_with : (us : List ℕ) (r : SlotRange) → Rise us → Rise (with_universe us r)
+rise_with us r rise = elim (list_any (λ u. u == r.universe) us) as (λ b. list_any (λ u. u == r.universe) us ≡ b → Rise (cond b us (put_id r.universe us))) [
+  | true ↦ λ is. rise
+  | false ↦ λ is. rise_put r.universe us is rise
+] refl
+
+rise_after : (us : List ℕ) (rs : List SlotRange) → Rise us → Rise (universes_after us rs)
+rise_after us [] rise = rise
+rise_after us (r ∷ rs) rise = rise_after (with_universe us r) rs (rise_with us r rise)
+
+rise_from : (us : List ℕ) (ps : List Port) → Rise us → Rise (universes_from us ps)
+rise_from us [] rise = rise
+rise_from us (p ∷ ps) rise = rise_from (universes_after us p.ranges) ps (rise_after us p.ranges rise)
+
+pub universes_rise : (ps : List Port) → Rise (universes ps)
+universes_rise ps = rise_from [] ps tt
+
+above_at : (u : ℕ) (vs : List ℕ) → Above u vs → (j d : ℕ) → j < length vs → u < get_or vs j d
+above_at u [] above j d lt = absurd (omega arith)
+above_at u (v ∷ vs) above zero d lt = above.0
+above_at u (v ∷ vs) above (suc j) d lt = let v_below = above_at v vs above.1 j d (omega arith) in omega (arith, above.0, v_below)
+
+pub rise_tail : (u : ℕ) (vs : List ℕ) → Above u vs → Rise vs
+rise_tail u [] above = tt
+rise_tail u (v ∷ vs) above = above.1
+
+pub pairs_rise : (us : List ℕ) → Rise us → (i j d : ℕ) → i < j → j < length us → get_or us i d < get_or us j d
+pairs_rise [] rise i j d lt within = absurd (omega arith)
+pairs_rise (u ∷ us) rise i zero d lt within = absurd (omega arith)
+pairs_rise (u ∷ us) rise zero (suc j) d lt within = above_at u us rise j d (omega arith)
+pairs_rise (u ∷ us) rise (suc i) (suc j) d lt within = pairs_rise us (rise_tail u us rise) i j d (omega arith) (omega arith)
+
+-- ---- the tables of a new node
+
+moments_new : (us : List ℕ) → AllByRecursion (λ (o : OneUniverse). o.table.table.moment ≡ 0) (map new_one us)
+moments_new [] = tt
+moments_new (u ∷ us) = (refl, moments_new us)
+
+pub tables_new : (us : List ℕ) → Rise us → length us ≤ MAX_UNIVERSES → AreTables 0 (map new_one us)
+tables_new us rise few = record {
+  rising = λ i j d lt within.
+      let in_us : j < length us = omega (arith, length-map us new_one) in
+      let first = ap (λ (o : OneUniverse). o.universe) (get_or-map new_one us i 0 d (omega arith)) in
+      let second = ap (λ (o : OneUniverse). o.universe) (get_or-map new_one us j 0 d in_us) in
+      omega (arith, first, second, pairs_rise us rise i j 0 lt in_us);
+  moments = moments_new us;
+  few = omega (arith, few, length-map us new_one);
+}
+
+pub seen_new : (us : List ℕ) → map seen (map new_one us) ≡ (new_core us).tables
+seen_new [] = refl
+seen_new (u ∷ us) = ap (λ gs. seen (new_one u) ∷ gs) (seen_new us)
+
+-- ---- the ports of a setup
+
+pub ports_prepared : (s : Setup) → IsSetup s → ArePorts s.ports
+ports_prepared s is = record {
+  rising = is.rising;
+  few = is.most_ports;
+  shown = λ k d lt i r within.
+      let port = is.ports k d lt in
+      let range = port.ranges i r within in
+      let fits = is.fit k d lt i r within in
+      record { slot = range.slot; port_slot = range.port_slot; within = fits.slot; fits = fits.port_slot };
+}
+
+pub found_has : (P : Port → Type 0) (number : ℕ) (ps : List Port) (p : Port) → port_of number ps ≡ Some p → All P ps → P p
+found_has P number [] p is all = absurd (cc)
+found_has P number (q ∷ qs) p is all =
+    elim (q.number == number) as (λ b. cond b (Some q) (port_of number qs) ≡ Some p → P p) [
+      | true ↦ λ e. subst P (same_Some q p e) (all 0 q (omega arith))
+      | false ↦ λ e. found_has P number qs p e (All-tail P q qs all)
+    ] is

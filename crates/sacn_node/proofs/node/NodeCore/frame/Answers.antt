@@ -1,0 +1,16 @@
+use Rattle.std.proofs.Common.{List, All, sym, subst, ap, ◌∙◌}
+use Rattle.sacn_node.specs.declared.setup.SlotRange.{SlotRange}
+use Rattle.sacn_node.specs.Setup.{Port}
+use Rattle.sacn_node.specs.Ports.{IsShown, port_of}
+use Rattle.sacn_node.proofs.Expired.{core_twice}
+use Rattle.sacn_node.proofs.Prepared.{found_has}
+use Rattle.sacn_node.proofs.node.NodeCore.frame.Goals as goal
+
+pub fill_frame-requires-clause-expired : goal.fill_frame-requires-clause-expired
+fill_frame-requires-clause-expired c = core_twice c.expire.new.self c.self.inside.tables c.args.now c.expire.ensures.core
+
+pub fill_frame-requires-clause-ranges : goal.fill_frame-requires-clause-ranges
+fill_frame-requires-clause-ranges c =
+    subst (λ (rs : List SlotRange). All IsShown rs) (sym c.ranges-in-Some.ensures)
+    (found_has (λ (p : Port). All IsShown p.ranges) c.args.port c.self.inside.ports.items c.in-Some.port.now
+    (ap (port_of c.args.port) (sym c.deref.ensures.value) ∙ c.in-Some.ensures) c.self.invariant.0.shown)

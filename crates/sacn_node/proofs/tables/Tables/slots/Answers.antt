@@ -1,0 +1,28 @@
+use Rattle.std.proofs.Common.{List, [], get_or, set, ap, sym, ◌∙◌}
+use Rattle.sacn_sources.specs.Rows.{Row, slots_of}
+use Rattle.sacn_node.specs.Cores.{Table, Core, slots_on}
+use Rattle.sacn_node.proofs.Expired.{kept_in, set_itself}
+use Rattle.sacn_node.proofs.Places.{table_at, table_absent}
+use Rattle.sacn_node.proofs.tables.Tables.slots.Goals as goal
+
+abbrev blank : Table
+blank = record { universe = 0; rows = [] }
+
+pub returns-in-Ok-clause-slots : goal.returns-in-Ok-clause-slots
+returns-in-Ok-clause-slots c =
+    let n = c.args.self.now in
+    let found = c.in-Ok.ensures.found in
+    c.slots_at.ensures.slots blank ∙ ap slots_of (kept_in n n n.moment c.in-Ok.at blank (sym c.requires) found.0)
+    ∙ sym (ap slots_on (table_at c.args.universe (λ rs. rs) n.tables c.in-Ok.at blank found.0 found.1 found.2))
+
+pub returns-in-Ok-clause-core : goal.returns-in-Ok-clause-core
+returns-in-Ok-clause-core c =
+    let n = c.args.self.now in
+    let found = c.in-Ok.ensures.found in
+    let core : List Row → Core = λ rs. record { moment = n.moment; tables = set n.tables c.in-Ok.at (record { universe = (get_or n.tables c.in-Ok.at blank).universe; rows = rs }) } in
+    c.slots_at.ensures.core blank
+    ∙ ap core (kept_in n n n.moment c.in-Ok.at blank (sym c.requires) found.0)
+    ∙ ap (λ gs. let new : Core = record { moment = n.moment; tables = gs } in new) (set_itself n.tables c.in-Ok.at blank found.0)
+
+pub returns-in-Err-clause-slots : goal.returns-in-Err-clause-slots
+returns-in-Err-clause-slots c = c.merge_into.ensures.merged ∙ sym (ap slots_on (table_absent c.args.universe (λ rs. rs) c.args.self.now.tables c.in-Err.field-0 c.in-Err.ensures.absent))

@@ -1,0 +1,47 @@
+-- How a node stores its ports and its tables.
+use Rattle.std.specs.Prelude.{◌≡◌, ⊤, ℕ, ◌<◌, ◌≤◌, max, List, [], ◌∷◌, length, map, All, AllPairs}
+use Rattle.std.specs.List.{sum_by, AllByRecursion}
+use Rattle.std.specs.List.Sorted.{IsStrictlyIncreasing}
+use Rattle.sacn_sources.specs.Rows.{rows_lost}
+use Rattle.sacn_sources.specs.Kept.{new_kept, kept_after_expire}
+use Rattle.sacn_node.specs.declared.tables.OneUniverse.{OneUniverse}
+use Rattle.sacn_node.specs.declared.limits.TheConstants.{MAX_PORTS, MAX_UNIVERSES}
+use Rattle.sacn_node.specs.Setup.{Port, port_numbers}
+use Rattle.sacn_node.specs.Ports.{IsShown}
+use Rattle.sacn_node.specs.Cores.{Table, Core}
+
+abbrev pub seen : OneUniverse → Table
+seen o = record { universe = o.universe; rows = o.table.table.rows }
+
+abbrev pub core_of : ℕ → List OneUniverse → Core
+core_of moment os = record { moment = moment; tables = map seen os }
+
+abbrev pub new_one : ℕ → OneUniverse
+new_one u = record { universe = u; table = new_kept }
+
+abbrev pub one_expired : ℕ → OneUniverse → OneUniverse
+one_expired now o = record { universe = o.universe; table = kept_after_expire now o.table }
+
+abbrev pub lost_in : ℕ → List OneUniverse → ℕ
+lost_in now os = sum_by (λ o. rows_lost (max o.table.table.moment now) o.table.table.rows) os
+
+-- the universes strictly rise, and each table was handed the node's moments
+pub record AreTables (moment : ℕ) (os : List OneUniverse) : Type 0 where
+  pub rising : AllPairs (λ a b. a.universe < b.universe) os
+  pub moments : AllByRecursion (λ o. o.table.table.moment ≡ moment) os
+  pub few : length os ≤ MAX_UNIVERSES
+
+-- the numbers rise, they are few, and each range can be shown
+pub record ArePorts (ps : List Port) : Type 0 where
+  pub rising : IsStrictlyIncreasing (port_numbers ps)
+  pub few : length ps ≤ MAX_PORTS
+  pub shown : All (λ p. All IsShown p.ranges) ps
+
+-- numbers that strictly rise: all of them are above u, and each is above the one before it
+abbrev pub Above : ℕ → List ℕ → Type 0
+Above u [] = ⊤
+Above u (v ∷ vs) = (u < v) × Above v vs
+
+abbrev pub Rise : List ℕ → Type 0
+Rise [] = ⊤
+Rise (v ∷ vs) = Above v vs

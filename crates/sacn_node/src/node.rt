@@ -1,0 +1,136 @@
+//! The node core.
+
+ghost use Rattle.std.specs.Prelude.{◌≡◌, ◌≤◌, Some, None, length, is_ok, IfOk, OnErr, if◌then◌else◌};
+ghost use Rattle.std.specs.List.Sorted.{IsStrictlyIncreasing};
+
+use crate::limits::MAX_PORTS;
+use crate::ports::{NodePort, copy_numbers, copy_ports, fill_frame, find_port};
+use crate::setup::{NodeSetup, universes_of};
+use crate::tables::Tables;
+use crate::taken::{NoPort, NodeTaken};
+use arrayvec::ArrayVec;
+use sacn_framing::{Packet, read_packet};
+use sacn_sources::{HeldView, TableFault};
+use std::alloc::Global;
+use std::marker::Model;
+
+/// A node: it takes datagrams, and shows frames on its ports.
+///
+/// It has the universes that some range of a port names, and for each of them one table of sources, which all its ports show.
+/// Moments are milliseconds. The node uses the greatest moment that it was handed, and 0 at first. Each call with a moment
+/// moves this clock and drops the sources that are lost, in all tables, before it does anything else, also where it then
+/// answers a refusal.
+///
+/// Only `new` takes memory. No datagram is borrowed after a call returns.
+#[derive(Drop)]
+pub struct NodeCore {
+    numbers: ArrayVec<u8, MAX_PORTS>,
+    ports: Vec<NodePort>,
+    tables: Tables,
+}
+
+impl Model for NodeCore {
+    ghost use Rattle.std.specs.Prelude.{◌≡◌};
+    ghost use Rattle.sacn_node.specs.Setup.{port_numbers};
+    ghost use Rattle.sacn_node.specs.Cores.{Node};
+    ghost use Rattle.sacn_node.specs.Seen.{ArePorts};
+
+    ghost Value = { Node };
+
+    ghost view = { λ n. record { ports = n.ports.items; core = n.tables } };
+
+    ghost invariant = { λ n. ArePorts n.ports.items × (n.numbers.items ≡ port_numbers n.ports.items) };
+}
+
+impl NodeCore {
+    ghost use Rattle.sacn_framing.specs.PacketReading.{reading_packet};
+    ghost use Rattle.sacn_node.specs.Setup.{port_numbers};
+    ghost use Rattle.sacn_node.specs.Cores.{new_node, core_at, core_lost, core_row, node_frame};
+    ghost use Rattle.sacn_node.specs.Readings.{reply_to, after_reading};
+
+    /// A node of these ports at moment 0, which holds no source. All its room is taken here, and a refusal is `OutOfMemory`.
+    pub fn new(alloc: Global, setup: &NodeSetup) -> Result<Self, TableFault>
+        ensures { IfOk result (λ n. n ≡ new_node setup.now.ports) }
+    {
+        let ports = setup.ports();
+        let Ok(universes) = universes_of(alloc, ports) else {
+            return Err(TableFault::OutOfMemory);
+        };
+        Ok(NodeCore {
+            numbers: copy_numbers(ports),
+            ports: copy_ports(alloc, ports)?,
+            tables: Tables::new(alloc, universes.as_slice())?,
+        })
+    }
+
+    /// Takes a datagram, whatever its octets are. A data packet of one of the node's universes goes to that universe's table;
+    /// every other datagram moves the clock alone.
+    pub fn take(&mut self, now: u64, octets: &[u8]) -> NodeTaken
+        ensures answer { result ≡ reply_to (reading_packet octets.now) now self.old.core }
+        ensures core { self.new ≡ record self.old { core = after_reading (reading_packet octets.now) now self.old.core } }
+    {
+        match read_packet(octets) {
+            Ok(Packet::DataPacket(packet)) => self.tables.take(now, &packet),
+            Ok(Packet::PagePacket(_)) => {
+                self.tables.expire(now);
+                NodeTaken::Discovery
+            }
+            Ok(Packet::SyncPacket) => {
+                self.tables.expire(now);
+                NodeTaken::Sync
+            }
+            Err(fault) => {
+                self.tables.expire(now);
+                NodeTaken::Refused(fault)
+            }
+        }
+    }
+
+    /// Drops the sources that are lost. Answers how many those were, in all tables, ended ones too.
+    pub fn tick(&mut self, now: u64) -> usize
+        ensures gone { result ≡ core_lost now self.old.core }
+        ensures core { self.new ≡ record self.old { core = core_at now self.old.core } }
+    {
+        self.tables.expire(now)
+    }
+
+    /// Writes the frame of a port: start code 0, then its 512 slots, each from the range that has it, and 0 where none has.
+    /// `NoPort`, with the frame as it was, where the node has no port of this number.
+    pub fn frame(&mut self, now: u64, port: u8, frame: &mut [u8; 513]) -> Result<(), NoPort>
+        ensures frame { node_frame port self.new ≡ (if is_ok result then Some frame.new else None) }
+        ensures core { self.new ≡ record self.old { core = core_at now self.old.core } }
+        ensures unchanged { OnErr result (frame.new ≡ frame.old) }
+    {
+        self.tables.expire(now);
+        match find_port(&self.ports, port) {
+            Some(port) => {
+                fill_frame(&mut self.tables, port.ranges(), frame);
+                Ok(())
+            }
+            None => Err(NoPort),
+        }
+    }
+
+    /// The source of this CID on a universe, as the latest call with a moment left it.
+    pub fn held(&self, universe: u16, cid: &[u8; 16]) -> Option<HeldView<'_>>
+        ensures { result ≡ core_row universe cid.now self.now.core }
+    {
+        self.tables.held(universe, cid)
+    }
+
+    /// The numbers of the ports, ascending: those of the setup.
+    pub fn port_numbers(&self) -> &[u8]
+        ensures numbers { result.now ≡ port_numbers self.now.ports }
+        ensures rising { IsStrictlyIncreasing result.now }
+        ensures few { length result.now ≤ MAX_PORTS }
+    {
+        self.numbers.as_slice()
+    }
+
+    /// The moment in use: the greatest that was handed in, and 0 at first.
+    pub fn moment(&self) -> u64
+        ensures { result ≡ self.now.core.moment }
+    {
+        self.tables.moment()
+    }
+}

@@ -1,0 +1,171 @@
+//! The tables of a node, one for each of its universes.
+ghost use Rattle.std.specs.Prelude.{◌≡◌, ◌<◌, ◌≤◌, ℕ, List, map, length, slice_index_or, slice_set, IfOk, IfErr, AllPairs};
+ghost use Rattle.sacn_sources.specs.Packets.{packet_of};
+ghost use Rattle.sacn_node.specs.declared.limits.TheConstants.{MAX_UNIVERSES};
+ghost use Rattle.sacn_node.specs.Seen.{one_expired, lost_in, new_one, Rise};
+
+use crate::limits::MAX_UNIVERSES;
+use crate::taken::NodeTaken;
+use sacn_framing::DataView;
+use sacn_slots::merge_into;
+use sacn_sources::{HeldView, SourceTable, TableFault, Taken};
+use std::alloc::Global;
+use std::marker::Model;
+
+#[derive(Drop)]
+pub(crate) struct OneUniverse {
+    pub(crate) universe: u16,
+    pub(crate) table: SourceTable,
+}
+
+/// The tables, in ascending order of their universes.
+#[derive(Drop)]
+pub(crate) struct Tables {
+    list: Vec<OneUniverse>,
+    moment: u64,
+}
+
+impl Model for Tables {
+    ghost use Rattle.sacn_node.specs.Cores.{Core, core_code};
+    ghost use Rattle.sacn_node.specs.Seen.{core_of, AreTables};
+
+    ghost Value = { Core };
+
+    ghost coded = { core_code };
+
+    ghost view = { λ t. core_of t.moment t.list.items };
+
+    ghost invariant = { λ t. AreTables t.moment t.list.items };
+}
+
+impl Tables {
+    ghost use Rattle.sacn_node.specs.Cores.{Table, core_at, core_lost, core_reply, core_after, core_row, core_slots, with_taken, with_kept, new_core};
+    ghost use Rattle.sacn_sources.specs.Rows.{taken, rows_kept, slots_of};
+
+    /// An empty table for each of these universes.
+    pub(crate) fn new(alloc: Global, universes: &[u16]) -> Result<Self, TableFault>
+        requires rising { Rise universes.now }
+        requires few { length universes.now ≤ MAX_UNIVERSES }
+        ensures { IfOk result (λ n. n ≡ new_core universes.now) }
+    {
+        Ok(Tables {
+            list: new_tables(alloc, universes)?,
+            moment: 0,
+        })
+    }
+
+    pub(crate) fn moment(&self) -> u64
+        ensures { result ≡ self.now.moment }
+    {
+        self.moment
+    }
+
+    /// Moves the clock, and drops the sources that are lost, in all tables. Answers how many those were.
+    pub(crate) fn expire(&mut self, now: u64) -> usize
+        ensures gone { result ≡ core_lost now self.old }
+        ensures core { self.new ≡ core_at now self.old }
+    {
+        self.moment = self.moment.max(now);
+        expire_all(&mut self.list, now)
+    }
+
+    /// Takes a data packet.
+    pub(crate) fn take(&mut self, now: u64, packet: &DataView<'_>) -> NodeTaken
+        ensures answer { result ≡ core_reply packet.now.universe (packet_of packet.now) now self.old }
+        ensures core { self.new ≡ core_after packet.now.universe (packet_of packet.now) now self.old }
+    {
+        self.expire(now);
+        match self.search(packet.universe()) {
+            Ok(at) => NodeTaken::FromTable(self.take_at(at, packet)),
+            Err(_) => NodeTaken::OtherUniverse,
+        }
+    }
+
+    /// The source of this CID on a universe.
+    pub(crate) fn held(&self, universe: u16, cid: &[u8; 16]) -> Option<HeldView<'_>>
+        ensures { result ≡ core_row universe cid.now self.now }
+    {
+        match self.search(universe) {
+            Ok(at) => self.list[at].table.held(cid),
+            Err(_) => None,
+        }
+    }
+
+    /// Writes the slots of a universe, where all that is lost is dropped already.
+    pub(crate) fn slots(&mut self, universe: u16, slots: &mut [u8; 512])
+        requires { core_at self.old.moment self.old ≡ self.old }
+        ensures slots { slots.new ≡ core_slots self.old universe }
+        ensures core { self.new ≡ self.old }
+    {
+        match self.search(universe) {
+            Ok(at) => self.slots_at(at, slots),
+            Err(_) => merge_into(&[], slots),
+        }
+    }
+
+    /// Takes a packet into the table at this place.
+    fn take_at(&mut self, at: usize, packet: &DataView<'_>) -> Taken
+        requires { at < length self.old.tables }
+        ensures answer { (d : Table) → result ≡ taken (packet_of packet.now) (rows_kept self.old.moment (slice_index_or self.old.tables at d).rows) }
+        ensures core { (d : Table) → self.new ≡ record self.old { tables = slice_set self.old.tables at (with_taken (packet_of packet.now) self.old.moment (slice_index_or self.old.tables at d)) } }
+    {
+        let moment = self.moment;
+        self.list[at].table.take(moment, packet)
+    }
+
+    /// Writes the slots of the table at this place.
+    fn slots_at(&mut self, at: usize, slots: &mut [u8; 512])
+        requires { at < length self.old.tables }
+        ensures slots { (d : Table) → slots.new ≡ slots_of (rows_kept self.old.moment (slice_index_or self.old.tables at d).rows) }
+        ensures core { (d : Table) → self.new ≡ record self.old { tables = slice_set self.old.tables at (with_kept self.old.moment (slice_index_or self.old.tables at d)) } }
+    {
+        let moment = self.moment;
+        self.list[at].table.merged(moment, slots);
+    }
+
+    /// Where the table of a universe is, or where it would go.
+    fn search(&self, universe: u16) -> Result<usize, usize>
+        ensures found { IfOk result (λ at. (at < length self.now.tables) × ((d : Table) → (slice_index_or self.now.tables at d).universe ≡ universe) × ((j : ℕ) (d : Table) → j < at → (slice_index_or self.now.tables j d).universe < universe)) }
+        ensures gap { IfErr result (λ at. at ≤ length self.now.tables) }
+        ensures absent { IfErr result (λ at. (j : ℕ) (d : Table) → j < length self.now.tables → (j < at → (slice_index_or self.now.tables j d).universe < universe) × (at ≤ j → universe < (slice_index_or self.now.tables j d).universe)) }
+    {
+        self.list.binary_search_by_key(
+            &universe,
+            |one: &OneUniverse| -> u16
+                ensures { result ≡ one.now.universe }
+            { one.universe },
+        )
+    }
+}
+
+fn expire_all(tables: &mut [OneUniverse], now: u64) -> usize
+    requires { length tables.old ≤ MAX_UNIVERSES }
+    ensures gone { result ≡ lost_in now tables.old }
+    ensures tables { tables.new ≡ map (one_expired now) tables.old }
+{
+    let mut gone = 0;
+    for one in tables.iter_mut() {
+        gone += one.table.expire(now);
+    }
+    gone
+}
+
+/// An empty table for each of these universes, in their order.
+fn new_tables(alloc: Global, universes: &[u16]) -> Result<Vec<OneUniverse>, TableFault>
+    ensures { IfOk result (λ list. list.items ≡ map new_one universes.now) }
+{
+    let Ok(mut list) = Vec::with_capacity(alloc, universes.len()) else {
+        return Err(TableFault::OutOfMemory);
+    };
+    for universe in universes {
+        let table = SourceTable::new(alloc)?;
+        let one = OneUniverse {
+            universe: *universe,
+            table,
+        };
+        if list.push(one).is_err() {
+            return Err(TableFault::OutOfMemory);
+        }
+    }
+    Ok(list)
+}
