@@ -1,0 +1,147 @@
+//! The fades of all channels.
+ghost use Rattle.std.specs.Prelude.{◌≡◌, max, true, IfOk, length, replicate, None};
+ghost use Rattle.sacn_cues.specs.Cues.{level_of_channel, level_tracked};
+ghost use Rattle.sacn_cues.specs.Levels.{all_begun, given_to, set_to, end_of, all_still, level_at};
+ghost use Rattle.sacn_cues.specs.Channels.{is_channel};
+ghost use Rattle.sacn_cues.specs.Playing.{longer};
+
+use crate::channel::is_channel;
+use crate::fade::{Fade, Times, set_one};
+use crate::list::CueList;
+use crate::scene::Scene;
+use sacn_patch::MAX_CHANNELS;
+use std::alloc::{AllocError, Global};
+use std::marker::Model;
+
+/// One fade for each channel, and the moment from which all are over.
+#[derive(Drop)]
+pub(crate) struct Fades {
+    fades: Vec<Fade>,
+    // Room for the levels that a command gives. It is empty between calls, so that a command costs
+    // the channels that it names and not all of them.
+    targets: Vec<Option<u16>>,
+    // Every fade that was ever begun is over from this moment on.
+    rest: u64,
+}
+
+impl Model for Fades {
+    ghost use Rattle.std.specs.Prelude.{◌≡◌, length, replicate, None, true};
+    ghost use Rattle.std.specs.List.{list_all};
+    ghost use Rattle.sacn_patch.specs.declared.limits.TheConstants.{MAX_CHANNELS};
+    ghost use Rattle.sacn_cues.specs.Levels.{Running, running_code, is_over_by};
+
+    ghost Value = { Running };
+
+    ghost coded = { running_code };
+
+    ghost view = { λ f. record { rest = f.rest; fades = f.fades.items } };
+
+    ghost invariant = { λ f. (length f.fades.items ≡ MAX_CHANNELS) × (f.targets.items ≡ replicate MAX_CHANNELS None) × (list_all (is_over_by f.rest) f.fades.items ≡ true) };
+}
+
+impl Fades {
+    ghost use Rattle.std.specs.Prelude.{◌≡◌, ◌≤◌, ◌<◌, true};
+    ghost use Rattle.sacn_cues.specs.Levels.{last_moment, StaysLit};
+
+    /// The fades of channels that all rest at level 0.
+    pub(crate) fn new(alloc: Global) -> Result<Fades, AllocError>
+        ensures { IfOk result (λ fades. fades ≡ all_still) }
+    {
+        let still = Fade {
+            from: 0,
+            to: 0,
+            time: 0,
+            moment: 0,
+        };
+        let fades = vec![in alloc; still; MAX_CHANNELS as usize]?;
+        let targets = vec![in alloc; None; MAX_CHANNELS as usize]?;
+        Ok(Fades {
+            fades,
+            targets,
+            rest: 0,
+        })
+    }
+
+    /// Begins the fades of the channels that a cue names.
+    pub(crate) fn play(&mut self, scene: &Scene, now: u64)
+        ensures { self.new ≡ record { rest = max self.old.rest (end_of now (longer scene.now)); fades = all_begun (λ channel. given_to scene.now.up scene.now.down (level_of_channel scene.now.levels channel)) now 1 self.old.fades } }
+    {
+        play_scene(scene, &mut self.targets, &mut self.fades, now);
+        self.rest = rest_after(self.rest, now, scene.longer());
+    }
+
+    /// Begins the fades of all channels that the list names, in the times of one cue, to their
+    /// levels as if all cues up to this number had been played.
+    pub(crate) fn play_to(&mut self, cues: &CueList, number: u16, scene: &Scene, now: u64)
+        ensures { self.new ≡ record { rest = max self.old.rest (end_of now (longer scene.now)); fades = all_begun (λ channel. given_to scene.now.up scene.now.down (level_tracked number cues.now channel)) now 1 self.old.fades } }
+    {
+        let times = scene.times();
+        play_list(cues, number, times, &mut self.targets, &mut self.fades, now);
+        self.rest = rest_after(self.rest, now, scene.longer());
+    }
+
+    /// Sets a channel at once.
+    pub(crate) fn set(&mut self, channel: u16, level: u16, now: u64)
+        requires { is_channel channel ≡ true }
+        ensures { self.new ≡ record { rest = max self.old.rest now; fades = all_begun (set_to channel level) now 1 self.old.fades } }
+    {
+        set_one(&mut self.fades, channel, level, now);
+        self.rest = self.rest.max(now);
+    }
+
+    /// The level of a channel at a moment, 0 outside the channels.
+    pub(crate) fn level(&self, channel: u16, now: u64) -> u16
+        ensures { result ≡ level_at self.now.fades channel now }
+    {
+        if is_channel(channel) {
+            let fade = self.fades[channel as usize - 1];
+            fade.level(now)
+        } else {
+            0
+        }
+    }
+
+    /// The moment from which every fade that was ever begun is over.
+    pub(crate) fn rest(&self) -> u64
+        ensures rest { result ≡ self.now.rest }
+        ensures stays { result < last_moment → StaysLit result self.now.fades }
+    {
+        self.rest
+    }
+}
+
+// Begins the fades of the channels that a cue names. The targets are room, and left empty.
+fn play_scene(scene: &Scene, targets: &mut [Option<u16>], fades: &mut [Fade], now: u64)
+    requires { targets.old ≡ replicate (length fades.old) None }
+    ensures targets { targets.new ≡ targets.old }
+    ensures fades { fades.new ≡ all_begun (λ channel. given_to scene.now.up scene.now.down (level_of_channel scene.now.levels channel)) now 1 fades.old }
+{
+    let times = scene.times();
+    scene.aim(targets);
+    scene.begin(targets, fades, times, now);
+}
+
+// Begins the fades of the channels that a list names. The targets are room, and left empty.
+fn play_list(
+    cues: &CueList,
+    number: u16,
+    times: Times,
+    targets: &mut [Option<u16>],
+    fades: &mut [Fade],
+    now: u64,
+)
+    requires { targets.old ≡ replicate (length fades.old) None }
+    ensures targets { targets.new ≡ targets.old }
+    ensures fades { fades.new ≡ all_begun (λ channel. given_to times.up times.down (level_tracked number cues.now channel)) now 1 fades.old }
+{
+    cues.aim_everywhere(targets);
+    cues.aim_upto(number, targets);
+    cues.begin_everywhere(targets, fades, times, now);
+}
+
+// The moment from which the fades rest, once one of this time begins.
+fn rest_after(rest: u64, moment: u64, time: u32) -> u64
+    ensures { result ≡ max rest (end_of moment time) }
+{
+    rest.max(moment.saturating_add(time as u64))
+}

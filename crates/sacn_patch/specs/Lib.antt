@@ -1,0 +1,3 @@
+pub mod FaultNumbers
+pub mod Parts
+pub mod Patch

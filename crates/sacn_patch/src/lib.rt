@@ -1,0 +1,18 @@
+//! Which channel each slot of each universe shows.
+//!
+//! A `Patch` is a finite map from (universe, slot) to the high or the low octet of a channel's
+//! level. `Patch::fill` writes the slots of one universe from any source of levels, a `LevelOf`.
+#![tactic(auto)]
+
+mod fault;
+mod level;
+pub mod limits;
+mod part;
+mod patch;
+#[cfg(test)]
+mod tests;
+
+pub use fault::PatchFault;
+pub use level::LevelOf;
+pub use limits::{MAX_CHANNELS, MAX_UNIVERSE, SLOTS};
+pub use patch::Patch;
