@@ -1,0 +1,8 @@
+pub mod FaultNumbers
+pub mod Document
+pub mod Keys
+pub mod Values
+pub mod Rows
+pub mod Numbered
+pub mod Words
+pub mod Lines

@@ -1,0 +1,11 @@
+//! Numbers that the files of consoles and nodes share.
+
+/// The UDP port of streaming ACN, where a file names no other. (E1.31, table of defined parameters:
+/// ACN_SDT_MULTICAST_PORT.)
+pub const DEFAULT_UDP_PORT: u16 = 5568;
+
+/// The least UDP port that a file may name (profile).
+pub const LEAST_UDP_PORT: u16 = 1;
+
+/// The greatest UDP port.
+pub const MOST_UDP_PORT: u16 = 65535;
