@@ -8,3 +8,4 @@ pub mod Changes
 pub mod Openings
 pub mod Kept
 pub mod Numbered
+pub mod ShowLemmas

@@ -2,8 +2,8 @@
 use Rattle.std.specs.Prelude.{ℕ}
 use Rattle.sacn_console.specs.declared.command.ConsoleFault.{ConsoleFault}
 use Rattle.sacn_console.specs.declared.command.ConsoleFault.TheVariants.{NoCue, ChannelRange, NoUniverse, Ending, Running, Stopped}
-use Rattle.sacn_console.specs.declared.show.ShowFault.{ShowFault}
-use Rattle.sacn_console.specs.declared.show.ShowFault.TheVariants as show
+use Rattle.sacn_console.specs.declared.show.fault.ShowFault.{ShowFault}
+use Rattle.sacn_console.specs.declared.show.fault.ShowFault.TheVariants as show
 
 abbrev pub console_fault_number : ConsoleFault → ℕ
 console_fault_number NoCue = 1

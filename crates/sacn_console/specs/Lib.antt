@@ -6,3 +6,5 @@ pub mod Due
 pub mod Runs
 pub mod Wakes
 pub mod Shows
+pub mod ShowReading
+pub mod Scripts

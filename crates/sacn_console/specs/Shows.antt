@@ -21,6 +21,12 @@ pub record ShowContent : Type 0 where
 abbrev pub IsUniverse : ℕ → Type 0
 IsUniverse u = (1 ≤ u) × (u ≤ MAX_UNIVERSE)
 
+-- what holds of the universes of each show
+pub record AreUniverses (us : List ℕ) : Type 0 where
+  pub ascending : IsStrictlyIncreasing us
+  pub universes : AllByRecursion IsUniverse us
+  pub few : length us ≤ CONSOLE_UNIVERSES
+
 -- what holds of each show
 pub record ShowOk (s : ShowContent) : Type 0 where
   pub name : is_nameable s.name ≡ true

@@ -61,7 +61,7 @@ impl ConsoleCore {
     ghost use Rattle.sacn_console.specs.Core.{Core, Rising, universes_of, taken, is_of, end_answer, start_answer, line_found, line_at, packet_at, page_due, standing, due, at, after, after_poll, after_command, given, answer, over, size, text};
     ghost use Rattle.sacn_console.specs.Lines.{line_in, Packet, Paged, Gave, Accepted, Page};
     ghost use Rattle.sacn_console.specs.declared.line.Line.{Line as KeptLine};
-    ghost use Rattle.sacn_console.specs.declared.show.ShowFault.TheVariants.{OutOfMemory};
+    ghost use Rattle.sacn_console.specs.declared.show.fault.ShowFault.TheVariants.{OutOfMemory};
 
     /// A console as its life begins: nothing was sent, every universe runs, and the first packet on
     /// each universe will have the number `first`. The show is copied.

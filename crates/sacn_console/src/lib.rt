@@ -7,6 +7,7 @@ pub mod laws;
 pub mod limits;
 mod line;
 mod lines;
+mod script;
 mod sender;
 mod show;
 
@@ -15,5 +16,7 @@ pub use console::ConsoleCore;
 pub use limits::CONSOLE_UNIVERSES;
 pub use line::{Begun, Line, Look, Run, State};
 pub use sender::Sender;
-pub use show::{Show, ShowFault};
+pub use sacn_files::faults::TextFault;
+pub use script::{command_of, read_script};
+pub use show::{PatchRow, Show, ShowFault, read_show, show_of};
 

@@ -26,11 +26,11 @@ pub const DISCOVERY_INTERVAL: u64 = 10_000;
 /// The most UDP ports to which a show is sent (profile).
 pub const MAX_DESTINATIONS: usize = 8;
 
-/// The UDP port of streaming ACN (E1.31 Appendix A, ACN_SDT_MULTICAST_PORT), where a show names none.
-pub const DEFAULT_PORT: u16 = 5568;
-
 /// The priority of a show that names none (E1.31 section 6.2.3).
 pub const DEFAULT_PRIORITY: u8 = 100;
 
 /// The octets of the longest datagram, a discovery page of 512 universes (E1.31 section 8).
 pub const MOST_OCTETS: usize = 1144;
+
+/// The newest version of show files.
+pub const NEWEST_SHOW: u8 = 2;

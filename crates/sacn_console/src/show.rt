@@ -5,51 +5,21 @@ use crate::sender::Sender;
 use sacn_cues::CueList;
 use sacn_patch::Patch;
 use std::marker::Model;
-use thiserror::Error;
 
-/// Why a show is refused. Nothing was made.
-///
-/// The faults come in the order of the phases of reading: the document, its version, unknown keys,
-/// missing keys, values, then the cues and the patch. Each fault has a number of its own, which
-/// `number` gives.
-#[derive(Clone, Copy, Debug, PartialEq, Eq, Error)]
-pub enum ShowFault {
-    /// A request for memory was refused.
-    #[error("out of memory")]
-    OutOfMemory = 1,
-    /// The text isn't a TOML document.
-    #[error("the text isn't TOML")]
-    Toml = 2,
-    /// A table lacks a key that it must have.
-    #[error("a key is missing")]
-    MissingKey = 3,
-    /// A table has a key that isn't listed for it.
-    #[error("a key is unknown")]
-    UnknownKey = 4,
-    /// A value has the wrong kind or lies outside its range.
-    #[error("a value has the wrong kind or range")]
-    KeyValue = 5,
-    /// The version is a whole number other than 1 and 2.
-    #[error("the version is unknown")]
-    Version = 6,
-    /// A cue is refused by the list of those before it.
-    #[error("a cue is refused")]
-    Cue = 7,
-    /// An entry of the patch is refused by those before it, or names a universe that the show doesn't have.
-    #[error("an entry of the patch is refused")]
-    Patch = 8,
-}
+mod cues;
+mod fault;
+mod identity;
+mod patches;
+mod phases;
+mod ports;
+mod universes;
 
-impl ShowFault {
-    ghost use Rattle.sacn_console.specs.FaultNumbers.{show_fault_number};
+pub use fault::ShowFault;
+pub use patches::PatchRow;
+pub use phases::{read_show, show_of};
 
-    /// The fault's number, from 1 to 8.
-    pub fn number(self) -> u8
-        ensures { result ≡ show_fault_number self }
-    {
-        self as u8
-    }
-}
+use identity::Identity;
+use universes::Universes;
 
 /// A show: who sends, on which universes and to which ports, and its cues and patch.
 #[derive(Drop)]
@@ -87,6 +57,26 @@ impl Show {
     ghost use Rattle.sacn_framing.specs.Naming.{padded, is_nameable};
     ghost use Rattle.sacn_console.specs.Shows.{ShowContent, ShowOk, IsUniverse};
     ghost use Rattle.sacn_console.specs.declared.limits.TheConstants.{CONSOLE_UNIVERSES};
+
+    fn new(
+        identity: Identity,
+        universes: Universes,
+        send_to: Vec<u16>,
+        cues: CueList,
+        patch: Patch,
+    ) -> Self
+        ensures { result ≡ record { cid = identity.cid; name = identity.name; priority = identity.priority; universes = universes; send_to = send_to.items; cues = cues; patch = patch } }
+    {
+        let Identity { sender, name } = identity;
+        Show {
+            sender,
+            name,
+            universes: universes.numbers,
+            send_to,
+            cues,
+            patch,
+        }
+    }
 
     /// The CID of the show's packets (E1.31 section 5.6).
     pub fn cid(&self) -> [u8; 16]
