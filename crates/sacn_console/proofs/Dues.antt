@@ -1,0 +1,87 @@
+-- Which datagram is due, by cases.
+use Rattle.std.proofs.Common.{◌≡◌, ℕ, ◌+◌, ◌-◌, ◌/◌, ◌<◌, ◌≤◌, true, false, ◌==◌, List, length, slice_index_or, find, Option, Some, None, MatchOption, suc, zero, refl, arith, nat_lt, nat_le}
+use Rattle.std.specs.Option.{option_map}
+use Rattle.sacn_console.specs.Lines.{Packet, Paged, line_due}
+use Rattle.sacn_console.specs.Core.{Core, is_of, packet_at, line_at, no_line, line_found, page_due, standing, due}
+use Rattle.sacn_console.specs.Lights.{Lights, frame}
+use Rattle.sacn_discovery.specs.Pages.{page_count}
+use Rattle.sacn_console.specs.declared.limits.TheConstants.{DISCOVERY_INTERVAL}
+use Rattle.sacn_console.specs.declared.line.Line.{Line}
+use Rattle.sacn_console.specs.declared.line.Begun.{Begun}
+
+counted : (n : ℕ) → 0 < n → 0 < (n + 511) / 512
+counted n lt = omega arith
+
+not_zero : (n : ℕ) → 0 < n → (n == 0) ≡ false
+not_zero n lt = grind arith
+
+pub page_counted : (n : ℕ) → 0 < page_count n
+page_counted zero = counted 1 (omega arith)
+page_counted (suc n) = rw (not_zero (suc n) (omega arith)) (counted (suc n) (omega arith))
+
+-- where the program finds a due line: p is what the lights of v are at its moment, f the frame that it made
+pub place_found : (v c : Core) (p : Lights) (ls : List Line) (f : List ℕ) (r : Option ℕ) → v ≡ c → p ≡ v.lights → ls ≡ v.lines →
+    MatchOption r (find (line_due p v.moment) ls ≡ None) (λ i. (i < length ls) × ((d : Line) → (find (line_due p v.moment) ls ≡ Some (slice_index_or ls i d)) × (f ≡ frame p (slice_index_or ls i d).universe v.moment))) →
+    MatchOption r (line_found c ≡ None) (λ i. (i < length c.lines) × (line_found c ≡ Some (line_at c i)) × (f ≡ frame c.lights (line_at c i).universe c.moment))
+unfolding line_found
+place_found v c p ls f None e pe le h = rw (← e, ← le, ← pe) h
+place_found v c p ls f (Some i) e pe le h = rw (← e, ← le, ← pe) (h.0, (h.1 no_line).0, (h.1 no_line).1)
+
+pub due_packet : (c : Core) (i : ℕ) → line_found c ≡ Some (line_at c i) → due c ≡ Some (Packet (packet_at c i))
+unfolding due
+due_packet c i e = rw e refl
+
+pub due_page : (c : Core) → line_found c ≡ None → due c ≡ option_map Paged (page_due c)
+unfolding due
+due_page c e = rw e refl
+
+pub page_first : (v c : Core) → v ≡ c → v.cycle ≡ None → page_due c ≡ Some (record { list = standing c.lines; page = 0 })
+unfolding page_due
+page_first v c e is = rw (← e, is) refl
+
+lt_true : (a b : ℕ) → a < b → nat_lt a b ≡ true
+lt_true a b h = grind arith
+
+lt_false : (a b : ℕ) → b ≤ a → nat_lt a b ≡ false
+lt_false a b h = grind arith
+
+le_true : (a b : ℕ) → a ≤ b → nat_le a b ≡ true
+le_true a b h = grind arith
+
+le_false : (a b : ℕ) → b < a → nat_le a b ≡ false
+le_false a b h = grind arith
+
+pub page_next : (c : Core) (b : Begun) → c.cycle ≡ Some b → b.next < page_count (length c.listed) → page_due c ≡ Some (record { list = c.listed; page = b.next })
+unfolding page_due
+page_next c b is lt = rw (is, lt_true b.next (page_count (length c.listed)) lt) refl
+
+pub page_waits : (c : Core) (b : Begun) → c.cycle ≡ Some b → page_count (length c.listed) ≤ b.next → c.moment - b.moment < DISCOVERY_INTERVAL → page_due c ≡ None
+unfolding page_due
+page_waits c b is le lt = rw (is, lt_false b.next (page_count (length c.listed)) le, le_false DISCOVERY_INTERVAL (c.moment - b.moment) lt) refl
+
+pub page_again : (c : Core) (b : Begun) → c.cycle ≡ Some b → page_count (length c.listed) ≤ b.next → DISCOVERY_INTERVAL ≤ c.moment - b.moment → page_due c ≡ Some (record { list = standing c.lines; page = 0 })
+unfolding page_due
+page_again c b is le lt = rw (is, lt_false b.next (page_count (length c.listed)) le, le_true DISCOVERY_INTERVAL (c.moment - b.moment) lt) refl
+
+-- the same, over what the program reads: v is what c is seen to be, len the length of its list, count the pages of that
+
+pub page_still : (v c : Core) (b : Begun) (len count : ℕ) → v ≡ c → c.cycle ≡ Some b → len ≡ length v.listed → count ≡ page_count len → b.next < count → page_due c ≡ Some (record { list = c.listed; page = b.next })
+page_still v c b len count e is le ce lt =
+    let f : count ≡ page_count (length c.listed) = rw (← e, ← le) ce in
+    page_next c b is (rw f at lt)
+
+pub page_over : (v c : Core) (b : Begun) (len count : ℕ) → v ≡ c → c.cycle ≡ Some b → len ≡ length v.listed → count ≡ page_count len → count ≤ b.next → v.moment - b.moment < DISCOVERY_INTERVAL → page_due c ≡ None
+page_over v c b len count e is le ce done lt =
+    let f : count ≡ page_count (length c.listed) = rw (← e, ← le) ce in
+    page_waits c b is (rw f at done) (rw e at lt)
+
+pub page_more : (v c : Core) (b : Begun) (len count : ℕ) → v ≡ c → c.cycle ≡ Some b → len ≡ length v.listed → count ≡ page_count len → count ≤ b.next → DISCOVERY_INTERVAL ≤ v.moment - b.moment → page_due c ≡ Some (record { list = standing c.lines; page = 0 })
+page_more v c b len count e is le ce done lt =
+    let f : count ≡ page_count (length c.listed) = rw (← e, ← le) ce in
+    page_again c b is (rw f at done) (rw e at lt)
+
+pub universe_found : (v c : Core) (ls : List Line) (u : ℕ) (r : Option ℕ) → v ≡ c → ls ≡ v.lines →
+    MatchOption r (find (is_of u) ls ≡ None) (λ i. (i < length ls) × ((d : Line) → (find (is_of u) ls ≡ Some (slice_index_or ls i d)) × ((slice_index_or ls i d).universe ≡ u))) →
+    MatchOption r (find (is_of u) c.lines ≡ None) (λ i. (i < length c.lines) × (find (is_of u) c.lines ≡ Some (line_at c i)) × ((line_at c i).universe ≡ u))
+universe_found v c ls u None e le h = rw (← e, ← le) h
+universe_found v c ls u (Some i) e le h = rw (← e, ← le) (h.0, (h.1 no_line).0, (h.1 no_line).1)

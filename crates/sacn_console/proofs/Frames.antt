@@ -1,0 +1,65 @@
+-- Frames of a player at its own moment, at later ones, and after its commands.
+use Rattle.std.proofs.Common.{◌≡◌, ℕ, ◌*◌, ◌/◌, ◌≤◌, max, List, Option, Some, None, refl, arith, ap, sym, ◌∙◌}
+use Rattle.sacn_patch.specs.Patch.{Patched, universe_frame}
+use Rattle.sacn_cues.specs.declared.limits.TheConstants.{FULL}
+use Rattle.sacn_cues.specs.declared.fade.Fade.{Fade}
+use Rattle.sacn_cues.specs.Levels.{all_begun}
+use Rattle.sacn_cues.specs.Cues.{Cues}
+use Rattle.sacn_cues.specs.Playing.{Played, moved, after, gives, master_by, current_by, rest_by, level_mastered, StaysAsItIs}
+use Rattle.sacn_cues.specs.Playing as play
+use Rattle.sacn_console.specs.Lights.{Lights, lights_at, frame, frame_now}
+
+abbrev pub with_moment : Played → ℕ → Played
+with_moment p m = record { cues = p.cues; moment = m; master = p.master; current = p.current; rest = p.rest; fades = p.fades }
+
+same_max : (m t : ℕ) → m ≡ t → max m t ≡ m
+same_max m t e = omega (arith, e)
+
+-- a player whose clock shows a moment is as it was after a reading at it
+pub settled : (p : Played) (t : ℕ) → p.moment ≡ t → moved t p ≡ p
+settled p t e = ap (with_moment p) (same_max p.moment t e)
+
+max_later : (m t s : ℕ) → t ≤ s → max (max m t) s ≡ max m s
+max_later m t s le = omega (arith, le)
+
+pub later : (p : Played) (t s : ℕ) → t ≤ s → moved s (moved t p) ≡ moved s p
+later p t s le = ap (with_moment p) (max_later p.moment t s le)
+
+max_twice : (m t s : ℕ) → max (max m t) s ≡ max m (max t s)
+max_twice m t s = omega arith
+
+pub twice : (p : Played) (t s : ℕ) → moved s (moved t p) ≡ moved (max t s) p
+twice p t s = ap (with_moment p) (max_twice p.moment t s)
+
+max_again : (m t : ℕ) → max (max m t) t ≡ max m t
+max_again m t = omega arith
+
+abbrev pub stepped : ℕ → play.Command → Played → ℕ → Played
+stepped t k p begun = record {
+  cues = p.cues;
+  moment = max (max p.moment t) t;
+  master = master_by p.master k;
+  current = current_by p.cues p.current k;
+  rest = rest_by p.cues p.current p.rest begun k;
+  fades = all_begun (gives p.cues p.current k) begun 1 p.fades;
+}
+
+-- a command at a moment, after or before a reading at it
+pub after_moved : (t : ℕ) (k : play.Command) (p : Played) → after t k (moved t p) ≡ moved t (after t k p)
+unfolding after
+after_moved t k p = ap (stepped t k p) (max_again p.moment t)
+
+-- ---- frames
+
+pub now_is : (l : Lights) (u t : ℕ) → l.player.moment ≡ t → frame l u t ≡ frame_now l u
+unfolding frame
+now_is l u t e = ap (λ (p : Played). frame_now (record { patch = l.patch; player = p }) u) (settled l.player t e)
+
+pub frame_later : (l : Lights) (u t s : ℕ) → t ≤ s → frame (lights_at t l) u s ≡ frame l u s
+unfolding frame
+frame_later l u t s le = ap (λ (p : Played). frame_now (record { patch = l.patch; player = p }) u) (later l.player t s le)
+
+-- while no fade runs, the frame stays
+pub frame_stays : (l : Lights) (u s : ℕ) → StaysAsItIs l.player → frame l u s ≡ frame_now l u
+unfolding frame frame_now
+frame_stays l u s still = ap (λ (f : ℕ → ℕ). universe_frame (λ c. f c * l.player.master / FULL) l.patch u) (λ i c. still s c i)

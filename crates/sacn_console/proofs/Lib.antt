@@ -1,0 +1,11 @@
+pub mod Plain
+pub mod Searches
+pub mod Frames
+pub mod Wakes
+pub mod Octets
+pub mod Dues
+pub mod Changes
+pub mod Openings
+pub mod Kept
+pub mod Numbered
+pub mod ShowLemmas

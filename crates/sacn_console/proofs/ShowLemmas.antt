@@ -1,0 +1,131 @@
+-- What is read as a show keeps the limits of a console.
+use Rattle.std.proofs.Common.{◌≡◌, ℕ, pos, negsuc, ◌≤◌, nat_le, Bool, true, false, ◌&&◌, if◌then◌else◌, List, [], ◌∷◌, length, map, Option, None, Some, option_and_then, option_map, refl, sym, ap, ◌∙◌, arith, codes}
+use Rattle.std.specs.Prelude.{All, IsPermutation, IfSome}
+use Rattle.std.specs.List.{AllByRecursion}
+use Rattle.std.specs.List.Sorted.{IsStrictlyIncreasing}
+use Rattle.std.proofs.lemmas.Bool.Decides.{nat_tests}
+use Rattle.std.proofs.lemmas.Bool.{and_parts}
+use Rattle.std.proofs.lemmas.List.Elements.{All-from_recursion, recursion_from_All}
+use Rattle.std.proofs.lemmas.List.Sorted.{All-permutation, length_permutation}
+use Rattle.toml.specs.Data.{Data, Members, string, integer, float, boolean, datetime, array, table, get_member, as_str}
+use Rattle.sacn_framing.specs.Naming.{is_nameable, name_from, padded}
+use Rattle.sacn_framing.specs.declared.framing.TheConstants.{MOST_PRIORITY}
+use Rattle.sacn_patch.specs.declared.limits.TheConstants.{MAX_UNIVERSE}
+use Rattle.sacn_files.specs.Values.{number_in, value_or}
+use Rattle.sacn_files.specs.Rows.{each}
+use Rattle.sacn_files.specs.Numbered.{has_repeat, in_order}
+use Rattle.sacn_files.proofs.AscentLemmas.{in_order_rises, in_order_keeps}
+use Rattle.sacn_console.specs.declared.limits.TheConstants.{CONSOLE_UNIVERSES, DEFAULT_PRIORITY}
+use Rattle.sacn_console.specs.Shows.{IsUniverse, AreUniverses}
+use Rattle.sacn_console.specs.ShowReading.{Identity, name_in, cid_in, priority_of, identity_in}
+
+-- chains of readings
+some_is : {X : Type 0} (x y : X) → Some x ≡ Some y → x ≡ y
+some_is x y e = cc
+
+and_then : {X Y : Type 0} (f : X → Option Y) (o : Option X) (y : Y) → option_and_then f o ≡ Some y → (x : X) × (o ≡ Some x) × (f x ≡ Some y)
+and_then f None y e = let bad : ⊥ = cc in absurd bad
+and_then f (Some x) y e = (x, refl, e)
+
+mapped : {X Y : Type 0} (f : X → Y) (o : Option X) (y : Y) → option_map f o ≡ Some y → (x : X) × (o ≡ Some x) × (f x ≡ y)
+mapped f None y e = let bad : ⊥ = cc in absurd bad
+mapped f (Some x) y e = (x, refl, some_is (f x) y e)
+
+-- numbers are in their ranges
+within : (b : Bool) (m n : ℕ) → (if b then Some m else None) ≡ Some n → (b ≡ true) × (m ≡ n)
+within true m n e = (refl, some_is m n e)
+within false m n e = let bad : ⊥ = cc in absurd bad
+
+in_range : (low high m n : ℕ) → nat_le low m && nat_le m high ≡ true → m ≡ n → (low ≤ n) × (n ≤ high)
+in_range low high m n h e = let both = and_parts (nat_le low m) (nat_le m high) h in (at_least low m n both.0 e, at_most m n high both.1 e)
+  where
+    at_least : (low m n : ℕ) → nat_le low m ≡ true → m ≡ n → low ≤ n
+    at_least low m n h e = grind (arith, nat_tests)
+
+    at_most : (m n high : ℕ) → nat_le m high ≡ true → m ≡ n → n ≤ high
+    at_most m n high h e = grind (arith, nat_tests)
+
+number_bounds : (low high n : ℕ) (d : Data) → number_in low high d ≡ Some n → (low ≤ n) × (n ≤ high)
+number_bounds low high n (integer (pos m)) e = let is = within (nat_le low m && nat_le m high) m n e in in_range low high m n is.0 is.1
+number_bounds low high n (integer (negsuc m)) e = let bad : ⊥ = cc in absurd bad
+number_bounds low high n (string s) e = let bad : ⊥ = cc in absurd bad
+number_bounds low high n (float x) e = let bad : ⊥ = cc in absurd bad
+number_bounds low high n (boolean b) e = let bad : ⊥ = cc in absurd bad
+number_bounds low high n (datetime t) e = let bad : ⊥ = cc in absurd bad
+number_bounds low high n (array ds) e = let bad : ⊥ = cc in absurd bad
+number_bounds low high n (table ms) e = let bad : ⊥ = cc in absurd bad
+
+-- what each row gives
+each_all : {X : Type 0} (read : Data → Option X) (P : X → Type 0) → ((d : Data) (x : X) → read d ≡ Some x → P x) → (ds : List Data) (xs : List X) → each read ds ≡ Some xs → AllByRecursion P xs
+each_all read P h [] xs e = let is : [] ≡ xs = some_is [] xs e in rw (← is) tt
+each_all {X} read P h (d ∷ ds) xs e =
+    let x = and_then _ (read d) xs e in
+    let rest = mapped (λ ys. x.0 ∷ ys) (each read ds) xs x.2 in
+    let here : P x.0 = h d x.0 x.1 in
+    let later : AllByRecursion P rest.0 = each_all read P h ds rest.0 rest.1 in
+    rw (← rest.2) (here, later)
+
+each_long : {X : Type 0} (read : Data → Option X) (ds : List Data) (xs : List X) → each read ds ≡ Some xs → length xs ≡ length ds
+each_long read [] xs e = let is : [] ≡ xs = some_is [] xs e in rw (← is) refl
+each_long {X} read (d ∷ ds) xs e =
+    let x = and_then _ (read d) xs e in
+    let rest = mapped (λ ys. x.0 ∷ ys) (each read ds) xs x.2 in
+    let long : length rest.0 ≡ length ds = each_long read ds rest.0 rest.1 in
+    rw (← rest.2, long) refl
+
+-- the universes, in ascending order
+same_numbers : (xs : List ℕ) → map (λ n. n) xs ≡ xs
+same_numbers [] = refl
+same_numbers (x ∷ xs) = ap (λ (ys : List ℕ). x ∷ ys) (same_numbers xs)
+
+universe_written : (d : Data) (n : ℕ) → number_in 1 MAX_UNIVERSE d ≡ Some n → IsUniverse n
+universe_written d n e = number_bounds 1 MAX_UNIVERSE n d e
+
+ascend : (us : List ℕ) → has_repeat us ≡ false → IsStrictlyIncreasing (in_order (λ n. n) us)
+ascend us once =
+    let once2 : has_repeat (map (λ n. n) us) ≡ false = rw (same_numbers us) once in
+    rw (same_numbers (in_order (λ n. n) us)) at (in_order_rises (λ (n : ℕ). n) us once2)
+
+pub universes_written : (ds : List Data) (us : List ℕ) → each (number_in 1 MAX_UNIVERSE) ds ≡ Some us → length ds ≤ CONSOLE_UNIVERSES → has_repeat us ≡ false → AreUniverses (in_order (λ n. n) us)
+universes_written ds us e few once =
+    let kept = in_order_keeps (λ (n : ℕ). n) us in
+    let long : length us ≡ length ds = each_long (number_in 1 MAX_UNIVERSE) ds us e in
+    let all : All IsUniverse us = All-from_recursion IsUniverse us (each_all (number_in 1 MAX_UNIVERSE) IsUniverse universe_written ds us e) in
+    record {
+      ascending = ascend us once;
+      universes = recursion_from_All IsUniverse (in_order (λ n. n) us) (All-permutation IsUniverse us (in_order (λ n. n) us) kept all);
+      few = rw (length_permutation us (in_order (λ n. n) us) kept, long) few;
+    }
+
+pub once : (xs ys : List ℕ) (b : Bool) → xs ≡ ys → b ≡ has_repeat (map (λ n. n) xs) → b ≡ false → has_repeat ys ≡ false
+once xs ys b e h k =
+    let a : has_repeat (map (λ n. n) xs) ≡ false = sym h ∙ k in
+    let a2 : has_repeat xs ≡ false = rw (same_numbers xs) at a in
+    rw e at a2
+
+-- ---- who sends
+
+not_named : (b : Bool) (t n : List ℕ) → (if b then Some n else None) ≡ None → (if b then Some t else None) ≡ None
+not_named true t n e = let bad : ⊥ = cc in absurd bad
+not_named false t n e = refl
+
+is_named : (b : Bool) (t n m : List ℕ) → (if b then Some n else None) ≡ Some m → (if b then Some t else None) ≡ Some t
+is_named true t n m e = refl
+is_named false t n m e = let bad : ⊥ = cc in absurd bad
+
+name_missing : (o : Option Data) (t : List ℕ) → option_and_then as_str o ≡ Some t → name_from t ≡ None → option_and_then name_in o ≡ None
+name_missing None t e h = refl
+name_missing (Some d) t e h = rw e (not_named (is_nameable t) t (padded t) h)
+
+name_there : (o : Option Data) (t m : List ℕ) → option_and_then as_str o ≡ Some t → name_from t ≡ Some m → option_and_then name_in o ≡ Some t
+name_there None t m e h = let bad : ⊥ = cc in absurd bad
+name_there (Some d) t m e h = rw e (is_named (is_nameable t) t (padded t) m h)
+
+pub no_identity : (ms : Members) (cid t : List ℕ) → option_and_then cid_in (get_member (codes "cid") ms) ≡ Some cid → option_and_then as_str (get_member (codes "name") ms) ≡ Some t → name_from t ≡ None → identity_in ms ≡ None
+no_identity ms cid t ce te h = rw (ce, name_missing (get_member (codes "name") ms) t te h) refl
+
+pub no_priority : (ms : Members) (cid t m : List ℕ) → option_and_then cid_in (get_member (codes "cid") ms) ≡ Some cid → option_and_then as_str (get_member (codes "name") ms) ≡ Some t → name_from t ≡ Some m → priority_of ms ≡ None → identity_in ms ≡ None
+no_priority ms cid t m ce te h pe = rw (ce, name_there (get_member (codes "name") ms) t m te h, pe) refl
+
+pub identity_is : (ms : Members) (cid t m : List ℕ) (p : ℕ) → option_and_then cid_in (get_member (codes "cid") ms) ≡ Some cid → option_and_then as_str (get_member (codes "name") ms) ≡ Some t → name_from t ≡ Some m → priority_of ms ≡ Some p → identity_in ms ≡ Some (record { cid = cid; name = t; priority = p })
+identity_is ms cid t m p ce te h pe = rw (ce, name_there (get_member (codes "name") ms) t m te h, pe) refl

@@ -1,0 +1,403 @@
+//! The core of a console.
+ghost use Rattle.std.specs.Prelude.{◌≡◌, ◌<◌, ◌≤◌, length, ◌++◌, drop, IfOk};
+ghost use Rattle.sacn_cues.specs.Playing as play;
+ghost use Rattle.sacn_console.specs.Lights.{told};
+ghost use Rattle.sacn_console.specs.Core.{packet_text, packet_with};
+
+use crate::command::{Command, ConsoleFault};
+use crate::limits::{CONSOLE_UNIVERSES, DISCOVERY_INTERVAL, LEAST_GAP, MOST_OCTETS, TERMINATIONS};
+use crate::line::{Begun, Line, State, can_end, can_start, when_passed};
+use crate::lines::{first_due, first_lines, first_wakes, list_standing, place_of};
+use crate::sender::Sender;
+use crate::show::{Show, ShowFault};
+use arrayvec::ArrayVec;
+use sacn_cues::{CueFault, PlayFault, Player};
+use sacn_discovery::{page_count, write_page};
+use sacn_framing::{DataFields, write_data};
+use sacn_patch::{Patch, SLOTS};
+use std::alloc::Global;
+use std::marker::Model;
+
+/// What a console sends, and when.
+///
+/// Its value is what the rule of sending asks of the list of earlier accepted commands and of the
+/// datagrams given in this life; `laws` states that over every list of calls.
+#[derive(Drop)]
+pub struct ConsoleCore {
+    sender: Sender,
+    lines: Vec<Line>,
+    // For each line the moment before which it isn't due; a command sets them back.
+    wakes: Vec<u64>,
+    cycle: Option<Begun>,
+    listed: ArrayVec<u16, CONSOLE_UNIVERSES>,
+    patch: Patch,
+    player: Player,
+    moment: u64,
+}
+
+impl Model for ConsoleCore {
+    ghost use Rattle.sacn_console.specs.Core.{Core};
+    ghost use Rattle.sacn_console.specs.Wakes.{Sound};
+    ghost use Rattle.std.specs.Coded.{codes};
+    ghost use Rattle.sacn_patch.specs.Patch.{patch_code};
+    ghost use Rattle.sacn_cues.specs.Playing.{played_code};
+
+    ghost Value = { Core };
+
+    ghost coded = { Prim.hlevel (codes, patch_code, played_code) };
+
+    ghost view = { λ c. record { sender = c.sender; lines = c.lines.items; cycle = c.cycle; listed = c.listed.items; lights = record { patch = c.patch; player = c.player }; moment = c.moment } };
+
+    ghost invariant = { λ c. Sound c.wakes.items (record { sender = c.sender; lines = c.lines.items; cycle = c.cycle; listed = c.listed.items; lights = record { patch = c.patch; player = c.player }; moment = c.moment }) };
+}
+
+impl ConsoleCore {
+    ghost use Rattle.std.specs.Prelude.{IfErr, [], find, slice_set, Some, None, slice_index_or, MatchOption, List, ℕ, is_ok};
+    ghost use Rattle.std.specs.Option.{option_map};
+    ghost use Rattle.sacn_discovery.specs.Pages.{page_count as pages_of};
+    ghost use Rattle.sacn_console.specs.Lights.{frame};
+    ghost use Rattle.sacn_console.specs.Due.{life_of};
+    ghost use Rattle.sacn_console.specs.Runs.{core_by};
+    ghost use Rattle.sacn_console.specs.Core.{Core, Rising, universes_of, taken, is_of, end_answer, start_answer, line_found, line_at, packet_at, page_due, standing, due, at, after, after_poll, after_command, given, answer, over, size, text};
+    ghost use Rattle.sacn_console.specs.Lines.{line_in, Packet, Paged, Gave, Accepted, Page};
+    ghost use Rattle.sacn_console.specs.declared.line.Line.{Line as KeptLine};
+    ghost use Rattle.sacn_console.specs.declared.show.fault.ShowFault.TheVariants.{OutOfMemory};
+
+    /// A console as its life begins: nothing was sent, every universe runs, and the first packet on
+    /// each universe will have the number `first`. The show is copied.
+    ///
+    /// The only fault is `OutOfMemory`. `command` and `poll` take no memory.
+    pub fn new(alloc: Global, show: &Show, first: u8) -> Result<Self, ShowFault>
+        ensures made { IfOk result (λ core. core ≡ core_by (life_of show.now first) 0 []) }
+        ensures refused { IfErr result (λ fault. fault ≡ OutOfMemory) }
+    {
+        let Ok(lines) = first_lines(alloc, show.universes.as_slice(), first) else {
+            return Err(ShowFault::OutOfMemory);
+        };
+        let Ok(wakes) = first_wakes(alloc, show.universes.as_slice()) else {
+            return Err(ShowFault::OutOfMemory);
+        };
+        let Ok(patch) = show.patch.try_copy() else {
+            return Err(ShowFault::OutOfMemory);
+        };
+        let Ok(player) = new_player(alloc, show) else {
+            return Err(ShowFault::OutOfMemory);
+        };
+        Ok(ConsoleCore {
+            sender: show.sender,
+            lines,
+            wakes,
+            cycle: None,
+            listed: ArrayVec::new(),
+            patch,
+            player,
+            moment: 0,
+        })
+    }
+
+    /// Gives the datagram that is due at the moment in use, the greatest that was handed in: its
+    /// octets at the front of `out`, and their number. The least-numbered due universe goes first;
+    /// where none is due, the next discovery page. Octets past the answer, and all after None, are
+    /// as they were.
+    pub fn poll(&mut self, now: u64, out: &mut [u8; MOST_OCTETS]) -> Option<usize>
+        ensures answer { result ≡ option_map size (due (at now self.old)) }
+        ensures octets { out.new ≡ over self.old.sender (due (at now self.old)) out.old }
+        ensures core { self.new ≡ after_poll now self.old }
+    {
+        self.move_clock(now);
+        self.give(out)
+    }
+
+    /// Takes a command at the moment in use. After a refusal only the clock has moved.
+    pub fn command(&mut self, now: u64, command: Command) -> Result<(), ConsoleFault>
+        ensures answer { result ≡ answer command (at now self.old) }
+        ensures core { self.new ≡ after_command now command self.old }
+    {
+        self.move_clock(now);
+        match command {
+            Command::Go => self.go(),
+            Command::GoTo(number) => self.go_to(number),
+            Command::SetLevel(channel, level) => self.set_level(channel, level),
+            Command::Master(master) => self.set_master(master),
+            Command::EndUniverse(universe) => self.end(universe),
+            Command::StartUniverse(universe) => self.start(universe),
+        }
+    }
+
+    fn move_clock(&mut self, now: u64)
+        ensures { self.new ≡ at now self.old }
+    {
+        self.moment = self.moment.max(now);
+        move_player(&mut self.player, now);
+    }
+
+    fn go(&mut self) -> Result<(), ConsoleFault>
+        ensures answer { result ≡ answer Command.Go self.old }
+        ensures core { self.new ≡ taken Command.Go (answer Command.Go self.old) self.old }
+    {
+        self.wakes.fill(0);
+        told(self.player.go(self.moment))
+    }
+
+    fn go_to(&mut self, number: u16) -> Result<(), ConsoleFault>
+        ensures answer { result ≡ answer (Command.GoTo number) self.old }
+        ensures core { self.new ≡ taken (Command.GoTo number) (answer (Command.GoTo number) self.old) self.old }
+    {
+        self.wakes.fill(0);
+        told(self.player.go_to(self.moment, number))
+    }
+
+    fn set_level(&mut self, channel: u16, level: u16) -> Result<(), ConsoleFault>
+        ensures answer { result ≡ answer (Command.SetLevel channel level) self.old }
+        ensures core { self.new ≡ taken (Command.SetLevel channel level) (answer (Command.SetLevel channel level) self.old) self.old }
+    {
+        self.wakes.fill(0);
+        told(self.player.set(self.moment, channel, level))
+    }
+
+    fn set_master(&mut self, master: u16) -> Result<(), ConsoleFault>
+        ensures answer { result ≡ answer (Command.Master master) self.old }
+        ensures core { self.new ≡ taken (Command.Master master) (answer (Command.Master master) self.old) self.old }
+    {
+        self.wakes.fill(0);
+        self.player.master(self.moment, master);
+        Ok(())
+    }
+
+    fn end(&mut self, universe: u16) -> Result<(), ConsoleFault>
+        ensures answer { result ≡ answer (Command.EndUniverse universe) self.old }
+        ensures core { self.new ≡ taken (Command.EndUniverse universe) (answer (Command.EndUniverse universe) self.old) self.old }
+    {
+        match self.place_of(universe) {
+            None => Err(ConsoleFault::NoUniverse),
+            Some(place) => match self.can_end(place) {
+                Err(fault) => Err(fault),
+                Ok(()) => {
+                    self.set_state(place, State::Ending(TERMINATIONS));
+                    Ok(())
+                }
+            },
+        }
+    }
+
+    fn start(&mut self, universe: u16) -> Result<(), ConsoleFault>
+        ensures answer { result ≡ answer (Command.StartUniverse universe) self.old }
+        ensures core { self.new ≡ taken (Command.StartUniverse universe) (answer (Command.StartUniverse universe) self.old) self.old }
+    {
+        match self.place_of(universe) {
+            None => Err(ConsoleFault::NoUniverse),
+            Some(place) => match self.can_start(place) {
+                Err(fault) => Err(fault),
+                Ok(()) => {
+                    self.set_state(place, State::Running(None));
+                    Ok(())
+                }
+            },
+        }
+    }
+
+    fn place_of(&self, universe: u16) -> Option<usize>
+        ensures rising { Rising (universes_of self.now.lines) }
+        ensures found { MatchOption result (find (is_of universe) self.now.lines ≡ None) (λ i. (i < length self.now.lines) × (find (is_of universe) self.now.lines ≡ Some (line_at self.now i)) × ((line_at self.now i).universe ≡ universe)) }
+    {
+        place_of(&self.lines, universe)
+    }
+
+    fn can_end(&self, place: usize) -> Result<(), ConsoleFault>
+        requires { place < length self.now.lines }
+        ensures { result ≡ end_answer (line_at self.now place).state }
+    {
+        can_end(&self.lines[place].state)
+    }
+
+    fn can_start(&self, place: usize) -> Result<(), ConsoleFault>
+        requires { place < length self.now.lines }
+        ensures { result ≡ start_answer (line_at self.now place).state }
+    {
+        can_start(&self.lines[place].state)
+    }
+
+    fn set_state(&mut self, place: usize, state: State)
+        requires { place < length self.old.lines }
+        ensures { self.new ≡ record self.old { lines = slice_set self.old.lines place (line_in state (line_at self.old place)) } }
+    {
+        let line = &mut self.lines[place];
+        line.state = state;
+        self.wakes[place] = 0;
+    }
+
+    // Gives the datagram that is due at the moment in use.
+    fn give(&mut self, out: &mut [u8; MOST_OCTETS]) -> Option<usize>
+        ensures answer { result ≡ option_map size (due self.old) }
+        ensures octets { out.new ≡ over self.old.sender (due self.old) out.old }
+        ensures core { self.new ≡ given (due self.old) self.old }
+    {
+        let mut slots = [0; SLOTS];
+        match self.due_place(&mut slots) {
+            Some(place) => Some(self.give_packet(place, &slots, out)),
+            None => self.give_page(out),
+        }
+    }
+
+    // Where the first due universe stands; its frame is then in `slots`.
+    fn due_place(&mut self, slots: &mut [u8; SLOTS]) -> Option<usize>
+        ensures core { self.new ≡ self.old }
+        ensures found { MatchOption result (line_found self.old ≡ None) (λ i. (i < length self.old.lines) × (line_found self.old ≡ Some (line_at self.old i)) × (slots.new ≡ frame self.old.lights (line_at self.old i).universe self.old.moment)) }
+    {
+        let moment = self.moment;
+        let is_still = self.player.is_still();
+        let player = self.player.at(moment);
+        first_due(
+            &self.lines,
+            &mut self.wakes,
+            &self.patch,
+            &player,
+            is_still,
+            moment,
+            slots,
+        )
+    }
+
+    // The packet of the universe at this place, of these slots.
+    fn give_packet(
+        &mut self,
+        place: usize,
+        slots: &[u8; SLOTS],
+        out: &mut [u8; MOST_OCTETS],
+    ) -> usize
+        requires there { place < length self.old.lines }
+        requires frame { slots.now ≡ frame self.old.lights (line_at self.old place).universe self.old.moment }
+        ensures answer { result ≡ size (Packet (packet_at self.old place)) }
+        ensures octets { out.new ≡ over self.old.sender (Some (Packet (packet_at self.old place))) out.old }
+        ensures core { self.new ≡ after (Gave self.old.moment (Packet (packet_at self.old place))) self.old }
+    {
+        let moment = self.moment;
+        let line = &mut self.lines[place];
+        let len = write_packet(&self.sender, line, slots, out);
+        line.sent(moment, slots);
+        self.wakes[place] = when_passed(LEAST_GAP, Some(moment));
+        len
+    }
+
+    // The next page of the cycle, or the first of a new one.
+    fn give_page(&mut self, out: &mut [u8; MOST_OCTETS]) -> Option<usize>
+        ensures answer { result ≡ option_map size (option_map Paged (page_due self.old)) }
+        ensures octets { out.new ≡ over self.old.sender (option_map Paged (page_due self.old)) out.old }
+        ensures core { self.new ≡ given (option_map Paged (page_due self.old)) self.old }
+    {
+        match self.cycle {
+            Some(begun) => self.give_later_page(begun, out),
+            None => Some(self.write_first(out)),
+        }
+    }
+
+    fn give_later_page(&mut self, begun: Begun, out: &mut [u8; MOST_OCTETS]) -> Option<usize>
+        requires { self.old.cycle ≡ Some begun }
+        ensures answer { result ≡ option_map size (option_map Paged (page_due self.old)) }
+        ensures octets { out.new ≡ over self.old.sender (option_map Paged (page_due self.old)) out.old }
+        ensures core { self.new ≡ given (option_map Paged (page_due self.old)) self.old }
+    {
+        if begun.next < page_count(self.listed.len()) {
+            return Some(self.write_next(begun, out));
+        }
+        if self.moment.saturating_sub(begun.moment) < DISCOVERY_INTERVAL {
+            return None;
+        }
+        Some(self.write_first(out))
+    }
+
+    // The first page of a new cycle.
+    fn write_first(&mut self, out: &mut [u8; MOST_OCTETS]) -> usize
+        ensures answer { result ≡ size (Paged (record { list = standing self.old.lines; page = 0 })) }
+        ensures octets { out.new ≡ over self.old.sender (Some (Paged (record { list = standing self.old.lines; page = 0 }))) out.old }
+        ensures core { self.new ≡ after (Gave self.old.moment (Paged (record { list = standing self.old.lines; page = 0 }))) self.old }
+    {
+        list_standing(&self.lines, &mut self.listed);
+        self.cycle = Some(Begun {
+            moment: self.moment,
+            next: 1,
+        });
+        write_page(
+            self.listed.as_slice(),
+            0,
+            &self.sender.cid,
+            &self.sender.name,
+            out,
+        )
+    }
+
+    // The next page of a cycle.
+    fn write_next(&mut self, begun: Begun, out: &mut [u8; MOST_OCTETS]) -> usize
+        requires begun { self.old.cycle ≡ Some begun }
+        requires page { begun.next < pages_of (length self.old.listed) }
+        requires fits { begun.next < usize.MAX }
+        ensures answer { result ≡ size (Paged (record { list = self.old.listed; page = begun.next })) }
+        ensures octets { out.new ≡ over self.old.sender (Some (Paged (record { list = self.old.listed; page = begun.next }))) out.old }
+        ensures core { self.new ≡ after (Gave self.old.moment (Paged (record { list = self.old.listed; page = begun.next }))) self.old }
+    {
+        self.cycle = Some(Begun {
+            moment: begun.moment,
+            next: begun.next + 1,
+        });
+        write_page(
+            self.listed.as_slice(),
+            begun.next,
+            &self.sender.cid,
+            &self.sender.name,
+            out,
+        )
+    }
+}
+
+// A player of a copy of the show's cues.
+fn new_player(alloc: Global, show: &Show) -> Result<Player, CueFault>
+    ensures { IfOk result (λ player. player ≡ play.new_player show.now.cues) }
+{
+    match show.cues.try_copy() {
+        Ok(cues) => Player::new(alloc, cues),
+        Err(fault) => Err(fault),
+    }
+}
+
+// The player's answer, as the console's.
+fn told(answer: Result<(), PlayFault>) -> Result<(), ConsoleFault>
+    ensures { result ≡ told answer }
+{
+    match answer {
+        Ok(()) => Ok(()),
+        Err(PlayFault::NoCue) => Err(ConsoleFault::NoCue),
+        Err(PlayFault::ChannelRange) => Err(ConsoleFault::ChannelRange),
+    }
+}
+
+fn move_player(player: &mut Player, now: u64)
+    ensures { player.new ≡ play.moved now player.old }
+{
+    let _at = player.at(now);
+}
+
+fn write_packet(sender: &Sender, line: &Line, slots: &[u8; SLOTS], out: &mut [u8; MOST_OCTETS]) -> usize
+    requires priority { sender.now.priority ≤ 200 }
+    requires least { 1 ≤ line.now.universe }
+    requires most { line.now.universe ≤ 63999 }
+    ensures len { result ≡ 638 }
+    ensures octets { out.new ≡ packet_text (packet_with sender.now line.now slots.now) ++ drop 638 out.old }
+{
+    let mut packet = [0; 638];
+    let cid = sender.cid;
+    let name = sender.name;
+    let fields = DataFields {
+        cid,
+        name,
+        priority: sender.priority,
+        number: line.number,
+        preview: false,
+        terminated: line.is_ending(),
+        universe: line.universe,
+        start: 0,
+        slots: &slots[..],
+    };
+    let len = write_data(&fields, &mut packet);
+    out[..638].copy_from_slice(&packet);
+    len
+}

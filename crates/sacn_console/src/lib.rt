@@ -1,0 +1,25 @@
+//! The core of a console: what it sends, and when.
+#![tactic(auto)]
+
+mod command;
+mod console;
+pub mod laws;
+pub mod limits;
+mod line;
+mod lines;
+mod script;
+mod sender;
+mod show;
+
+pub use command::{Command, ConsoleFault};
+pub use console::ConsoleCore;
+pub use limits::CONSOLE_UNIVERSES;
+pub use line::{Begun, Line, Look, Run, State};
+pub use sender::Sender;
+pub use sacn_files::faults::TextFault;
+pub use script::{command_of, read_script};
+pub use show::{PatchRow, Show, ShowFault, read_show, show_of};
+
+
+#[cfg(test)]
+mod tests;

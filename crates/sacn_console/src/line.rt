@@ -1,0 +1,224 @@
+//! What a console keeps of one universe.
+ghost use Rattle.std.specs.Prelude.{◌≡◌, ◌<◌, ℕ, true, false};
+ghost use Rattle.sacn_cues.specs.Playing.{StaysAsItIs};
+ghost use Rattle.sacn_console.specs.Lights.{frame_now};
+ghost use Rattle.sacn_console.specs.Lines.{same, passed, asks, is_stopped, is_ending, state_sent, line_sent};
+ghost use Rattle.sacn_console.specs.Wakes.{Finds};
+ghost use Rattle.sacn_console.specs.Core.{end_answer, start_answer};
+
+use crate::command::ConsoleFault;
+use crate::limits::{KEEP_ALIVE, LEAST_GAP, REPEATS};
+use sacn_cues::PlayerAt;
+use sacn_patch::{Patch, SLOTS};
+
+/// The frame of the latest packet, and how many repeats of it are owed.
+#[derive(Clone, Copy)]
+pub struct Run {
+    pub frame: [u8; SLOTS],
+    pub owed: u8,
+}
+
+/// Whether a universe is sent. A running one has no run before its first packet; an ending one owes
+/// so many terminations.
+#[derive(Clone, Copy)]
+pub enum State {
+    Running(Option<Run>),
+    Ending(u8),
+    Stopped,
+}
+
+/// One universe: its state, the number of its next packet, and the moment of its latest one.
+#[derive(Clone, Copy)]
+pub struct Line {
+    pub universe: u16,
+    pub state: State,
+    pub number: u8,
+    pub last: Option<u64>,
+}
+
+/// What a look at a universe finds: it is due, or nothing is due before a moment.
+#[derive(Clone, Copy)]
+pub enum Look {
+    Due,
+    Asleep(u64),
+}
+
+/// A discovery cycle: the moment of its first page, and the page that comes next.
+#[derive(Clone, Copy)]
+pub struct Begun {
+    pub moment: u64,
+    pub next: usize,
+}
+
+fn passed(wait: u64, moment: u64, last: Option<u64>) -> bool
+    ensures { result ≡ passed wait moment last }
+{
+    match last {
+        None => true,
+        Some(last) => moment.saturating_sub(last) >= wait,
+    }
+}
+
+/// The first moment at which so many milliseconds have passed.
+pub(crate) fn when_passed(wait: u64, last: Option<u64>) -> u64
+    requires { 0 < wait }
+    ensures { (s : ℕ) → s < result → passed wait s last ≡ false }
+{
+    match last {
+        None => 0,
+        Some(last) => last.saturating_add(wait),
+    }
+}
+
+#[tactic(auto, unfolding(crate::specs::Lines::same))]
+fn same(a: &[u8; SLOTS], b: &[u8; SLOTS]) -> bool
+    ensures { result ≡ same a.now b.now }
+{
+    a == b
+}
+
+#[tactic(auto, unfolding(crate::specs::Lights::frame_now))]
+fn fill(patch: &Patch, player: &PlayerAt<'_>, universe: u16, slots: &mut [u8; SLOTS])
+    ensures { slots.new ≡ frame_now (record { patch = patch.now; player = player.now.player.now }) universe }
+{
+    patch.fill(universe, player, slots);
+}
+
+fn asks(state: &State, moment: u64, last: Option<u64>, slots: &[u8; SLOTS]) -> bool
+    ensures { result ≡ asks moment last slots.now state.now }
+{
+    match state {
+        State::Running(None) => true,
+        State::Running(Some(run)) => {
+            if run.owed > 0 {
+                return true;
+            }
+            if passed(KEEP_ALIVE, moment, last) {
+                return true;
+            }
+            !same(&run.frame, slots)
+        }
+        State::Ending(_) => true,
+        State::Stopped => false,
+    }
+}
+
+impl Line {
+    /// Looks whether this universe is due at the player's moment. Its frame is made only where the
+    /// timers don't decide.
+    pub(crate) fn look(
+        &self,
+        patch: &Patch,
+        player: &PlayerAt<'_>,
+        is_still: bool,
+        moment: u64,
+        slots: &mut [u8; SLOTS],
+    ) -> Look
+        requires clock { player.now.player.now.moment ≡ moment }
+        requires still { is_still ≡ true → StaysAsItIs player.now.player.now }
+        ensures { Finds (record { patch = patch.now; player = player.now.player.now }) moment self.now slots.new result }
+    {
+        if self.is_stopped() {
+            return Look::Asleep(u64::MAX);
+        }
+        if !passed(LEAST_GAP, moment, self.last) {
+            return Look::Asleep(when_passed(LEAST_GAP, self.last));
+        }
+        fill(patch, player, self.universe, slots);
+        if asks(&self.state, moment, self.last, slots) {
+            return Look::Due;
+        }
+        if is_still {
+            return Look::Asleep(when_passed(KEEP_ALIVE, self.last));
+        }
+        Look::Asleep(0)
+    }
+
+    pub(crate) fn is_stopped(&self) -> bool
+        ensures { result ≡ is_stopped self.now.state }
+    {
+        match self.state {
+            State::Stopped => true,
+            _ => false,
+        }
+    }
+
+    pub(crate) fn is_ending(&self) -> bool
+        ensures { result ≡ is_ending self.now.state }
+    {
+        match self.state {
+            State::Ending(_) => true,
+            _ => false,
+        }
+    }
+
+    /// Its packet with these slots was sent.
+    #[tactic(auto, unfolding(crate::specs::Lines::line_sent))]
+    pub(crate) fn sent(&mut self, moment: u64, slots: &[u8; SLOTS])
+        ensures { self.new ≡ line_sent moment slots.now self.old }
+    {
+        let state = sent_state(&self.state, slots);
+        self.state = state;
+        self.number = self.number.wrapping_add(1);
+        self.last = Some(moment);
+    }
+}
+
+#[tactic(auto, unfolding(crate::specs::Lines::state_sent))]
+fn sent_state(state: &State, slots: &[u8; SLOTS]) -> State
+    ensures { result ≡ state_sent slots.now state.now }
+{
+    match state {
+        State::Running(None) => fresh(slots),
+        State::Running(Some(run)) => {
+            if same(&run.frame, slots) {
+                repeated(slots, run.owed.saturating_sub(1))
+            } else {
+                fresh(slots)
+            }
+        }
+        State::Ending(left) => {
+            if *left < 2 {
+                State::Stopped
+            } else {
+                State::Ending(*left - 1)
+            }
+        }
+        State::Stopped => State::Stopped,
+    }
+}
+
+fn fresh(slots: &[u8; SLOTS]) -> State
+    ensures { result ≡ State.Running (Some (record { frame = slots.now; owed = REPEATS })) }
+{
+    repeated(slots, REPEATS)
+}
+
+fn repeated(slots: &[u8; SLOTS], owed: u8) -> State
+    ensures { result ≡ State.Running (Some (record { frame = slots.now; owed = owed })) }
+{
+    let frame = *slots;
+    State::Running(Some(Run { frame, owed }))
+}
+
+/// Whether a universe in this state can be ended.
+pub(crate) fn can_end(state: &State) -> Result<(), ConsoleFault>
+    ensures { result ≡ end_answer state.now }
+{
+    match state {
+        State::Running(_) => Ok(()),
+        State::Ending(_) => Err(ConsoleFault::Ending),
+        State::Stopped => Err(ConsoleFault::Stopped),
+    }
+}
+
+/// Whether a universe in this state can be started.
+pub(crate) fn can_start(state: &State) -> Result<(), ConsoleFault>
+    ensures { result ≡ start_answer state.now }
+{
+    match state {
+        State::Running(_) => Err(ConsoleFault::Running),
+        State::Ending(_) => Err(ConsoleFault::Ending),
+        State::Stopped => Ok(()),
+    }
+}

@@ -1,0 +1,150 @@
+//! A script's text.
+ghost use Rattle.std.specs.Prelude.{◌≡◌, map};
+ghost use Rattle.sacn_files.specs.Document.{Gives};
+ghost use Rattle.sacn_console.specs.Scripts.{none_in, one_in, two_in, command_in, order_in, script_in, Orders};
+
+use crate::command::Command;
+use sacn_files::faults::TextFault;
+use sacn_files::lines::said_lines;
+use sacn_files::words::{number_in, short_in};
+use std::alloc::Global;
+
+fn go_in(line: usize, words: &[&str]) -> Result<Command, TextFault>
+    ensures { result ≡ none_in line Command.Go (map (λ w. w.now) words.now) }
+{
+    match words {
+        [] => Ok(Command::Go),
+        _ => Err(TextFault::WordCount(line)),
+    }
+}
+
+fn go_to_in(line: usize, words: &[&str]) -> Result<Command, TextFault>
+    ensures { result ≡ one_in line (λ n. Command.GoTo n) (map (λ w. w.now) words.now) }
+{
+    match words {
+        [number] => match short_in(number) {
+            Some(number) => Ok(Command::GoTo(number)),
+            None => Err(TextFault::Number(line)),
+        },
+        _ => Err(TextFault::WordCount(line)),
+    }
+}
+
+fn set_in(line: usize, words: &[&str]) -> Result<Command, TextFault>
+    ensures { result ≡ two_in line (λ n m. Command.SetLevel n m) (map (λ w. w.now) words.now) }
+{
+    match words {
+        [channel, level] => match short_in(channel) {
+            Some(channel) => match short_in(level) {
+                Some(level) => Ok(Command::SetLevel(channel, level)),
+                None => Err(TextFault::Number(line)),
+            },
+            None => Err(TextFault::Number(line)),
+        },
+        _ => Err(TextFault::WordCount(line)),
+    }
+}
+
+fn master_in(line: usize, words: &[&str]) -> Result<Command, TextFault>
+    ensures { result ≡ one_in line (λ n. Command.Master n) (map (λ w. w.now) words.now) }
+{
+    match words {
+        [number] => match short_in(number) {
+            Some(number) => Ok(Command::Master(number)),
+            None => Err(TextFault::Number(line)),
+        },
+        _ => Err(TextFault::WordCount(line)),
+    }
+}
+
+fn end_in(line: usize, words: &[&str]) -> Result<Command, TextFault>
+    ensures { result ≡ one_in line (λ n. Command.EndUniverse n) (map (λ w. w.now) words.now) }
+{
+    match words {
+        [number] => match short_in(number) {
+            Some(number) => Ok(Command::EndUniverse(number)),
+            None => Err(TextFault::Number(line)),
+        },
+        _ => Err(TextFault::WordCount(line)),
+    }
+}
+
+fn start_in(line: usize, words: &[&str]) -> Result<Command, TextFault>
+    ensures { result ≡ one_in line (λ n. Command.StartUniverse n) (map (λ w. w.now) words.now) }
+{
+    match words {
+        [number] => match short_in(number) {
+            Some(number) => Ok(Command::StartUniverse(number)),
+            None => Err(TextFault::Number(line)),
+        },
+        _ => Err(TextFault::WordCount(line)),
+    }
+}
+
+/// The command of some words, from the command word on, of the line of this number (profile):
+/// `WordCount` where there is none, `UnknownWord` where the first isn't known, `WordCount` where there
+/// are too few or too many, `Number` for the first that isn't a whole number of sixteen bits.
+pub fn command_of(words: &[&str], line: usize) -> Result<Command, TextFault>
+    ensures { result ≡ command_in line (map (λ w. w.now) words.now) }
+{
+    match words {
+        [] => Err(TextFault::WordCount(line)),
+        [word, rest @ ..] => {
+            if *word == "go" {
+                go_in(line, rest)
+            } else if *word == "goto" {
+                go_to_in(line, rest)
+            } else if *word == "set" {
+                set_in(line, rest)
+            } else if *word == "master" {
+                master_in(line, rest)
+            } else if *word == "end" {
+                end_in(line, rest)
+            } else if *word == "start" {
+                start_in(line, rest)
+            } else {
+                Err(TextFault::UnknownWord(line))
+            }
+        }
+    }
+}
+
+/// A line's moment and command.
+fn order_in(line: usize, words: &[&str]) -> Result<(u64, Command), TextFault>
+    ensures { result ≡ order_in line (map (λ w. w.now) words.now) }
+{
+    match words.split_first() {
+        None => Err(TextFault::WordCount(line)),
+        Some((first, rest)) => match command_of(rest, line) {
+            Ok(command) => match number_in(u64::MAX, first) {
+                Some(moment) => Ok((moment, command)),
+                None => Err(TextFault::Number(line)),
+            },
+            Err(fault) => Err(fault),
+        },
+    }
+}
+
+/// The orders of a script, each with its moment in milliseconds, or the first faulty line's fault;
+/// `OutOfMemory` may stand in place of either where a request for memory is refused.
+///
+/// A line is a moment and a command. A line without words, or whose first begins with `#`, is
+/// skipped. In a line the command is looked at first, and then the moment (profile).
+pub fn read_script(alloc: Global, text: &str) -> Result<Vec<(u64, Command)>, TextFault>
+    ensures { Orders result (script_in text.now) }
+{
+    let Ok(lines) = said_lines(alloc, text) else {
+        return Err(TextFault::OutOfMemory);
+    };
+    let mut orders = Vec::new(alloc);
+    for line in lines.as_slice() {
+        match order_in(line.number, line.words.as_slice()) {
+            Ok(order) => match orders.push(order) {
+                Ok(()) => {}
+                Err(_) => return Err(TextFault::OutOfMemory),
+            },
+            Err(fault) => return Err(fault),
+        }
+    }
+    Ok(orders)
+}

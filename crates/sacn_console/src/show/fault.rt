@@ -1,0 +1,64 @@
+//! Why a show is refused.
+ghost use Rattle.std.specs.Prelude.{◌≡◌};
+ghost use Rattle.sacn_console.specs.ShowReading.{fault_of};
+
+use sacn_files::faults::FileFault;
+use thiserror::Error;
+
+/// Why a show is refused. Nothing was made.
+///
+/// The faults come in the order of the phases of reading: the document, its version, unknown keys,
+/// missing keys, values, then the cues and the patch. Each fault has a number of its own, which
+/// `number` gives.
+#[derive(Clone, Copy, Debug, PartialEq, Eq, Error)]
+pub enum ShowFault {
+    /// A request for memory was refused.
+    #[error("out of memory")]
+    OutOfMemory = 1,
+    /// The text isn't a TOML document.
+    #[error("the text isn't TOML")]
+    Toml = 2,
+    /// A table lacks a key that it must have.
+    #[error("a key is missing")]
+    MissingKey = 3,
+    /// A table has a key that isn't listed for it.
+    #[error("a key is unknown")]
+    UnknownKey = 4,
+    /// A value has the wrong kind or lies outside its range.
+    #[error("a value has the wrong kind or range")]
+    KeyValue = 5,
+    /// The version is a whole number other than 1 and 2.
+    #[error("the version is unknown")]
+    Version = 6,
+    /// A cue is refused by the list of those before it.
+    #[error("a cue is refused")]
+    Cue = 7,
+    /// An entry of the patch is refused by those before it, or names a universe that the show doesn't have.
+    #[error("an entry of the patch is refused")]
+    Patch = 8,
+}
+
+impl ShowFault {
+    ghost use Rattle.sacn_console.specs.FaultNumbers.{show_fault_number};
+
+    /// The fault's number, from 1 to 8.
+    pub fn number(self) -> u8
+        ensures { result ≡ show_fault_number self }
+    {
+        self as u8
+    }
+}
+
+/// The same fault of a show.
+pub(crate) fn fault_of(fault: FileFault) -> ShowFault
+    ensures { result ≡ fault_of fault }
+{
+    match fault {
+        FileFault::OutOfMemory => ShowFault::OutOfMemory,
+        FileFault::Toml => ShowFault::Toml,
+        FileFault::MissingKey => ShowFault::MissingKey,
+        FileFault::UnknownKey => ShowFault::UnknownKey,
+        FileFault::KeyValue => ShowFault::KeyValue,
+        FileFault::Version => ShowFault::Version,
+    }
+}
