@@ -15,7 +15,12 @@ fn page(source: u8, universe: u8) -> [u8; 122] {
     octets
 }
 
-fn kept(collector: &mut Collector, now: u64, source: u8, universe: u8) -> Result<(), DiscoveryFault> {
+fn kept(
+    collector: &mut Collector,
+    now: u64,
+    source: u8,
+    universe: u8,
+) -> Result<(), DiscoveryFault> {
     match read_packet(&page(source, universe)) {
         Ok(Packet::PagePacket(page)) => collector.take(now, &page),
         _ => Ok(()),
@@ -46,7 +51,8 @@ fn taken(collector: &mut Collector, source: u8, universe: u8, before: Option<u16
 fn listed(collector: &mut Collector, source: u8, universe: u16) -> Outcome {
     match known(collector, 0, source) {
         Ok(Some(found)) if found == universe => Outcome::Done,
-        Err(DiscoveryFault::OutOfMemory) if known(collector, 0, source) == Ok(Some(universe)) => Outcome::Refused,
+        Err(DiscoveryFault::OutOfMemory) if known(collector, 0, source) == Ok(Some(universe)) =>
+            Outcome::Refused,
         _ => Outcome::Wrong("the list of a source"),
     }
 }

@@ -6,10 +6,11 @@
 //! status 0, which that command shows.
 #![tactic(auto)]
 
+mod consoles;
 mod cues;
 mod discovery;
+mod nodes;
 mod patches;
-mod setups;
 mod sources;
 
 use std::alloc::AllocError;
@@ -43,12 +44,16 @@ fn calls_made(rt: &impl AllocGlobal) -> Result<Outcome, AllocError> {
     let cues = cues::calls_made(rt.alloc())?;
     let discovery = discovery::calls_made(rt.alloc());
     let sources = sources::calls_made(rt.alloc());
-    let setups = setups::calls_made(rt.alloc());
-    Ok(patches
-        .then(cues)
-        .then(discovery)
-        .then(sources)
-        .then(setups))
+    let nodes = nodes::calls_made(rt.alloc());
+    let consoles = consoles::calls_made(rt.alloc());
+    Ok(
+        patches
+            .then(cues)
+            .then(discovery)
+            .then(sources)
+            .then(nodes)
+            .then(consoles),
+    )
 }
 
 fn main(rt: HostRuntime) -> ExitCode {

@@ -26,7 +26,9 @@ fn added(patch: &mut Patch, slot: u16) -> Outcome {
     let before = lit(patch);
     match patch.add(1, 1, slot, true) {
         Ok(()) => Outcome::Done,
-        Err(PatchFault::OutOfMemory) if lit(patch) != before => Outcome::Wrong("a refused add changed the patch"),
+        Err(PatchFault::OutOfMemory) if lit(patch) != before => Outcome::Wrong(
+            "a refused add changed the patch",
+        ),
         Err(PatchFault::OutOfMemory) if patch.add(1, 1, slot, true).is_ok() => Outcome::Refused,
         Err(_) => Outcome::Wrong("a refused add can't be made again"),
     }
