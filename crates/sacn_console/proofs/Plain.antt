@@ -12,4 +12,3 @@ some_same a b e = cc
 pub option_paged : (o : Option Page) (g : Datagram) → option_map Paged o ≡ Some g → (p : Page) × (o ≡ Some p) × (g ≡ Paged p)
 option_paged None g e = absurd (cc)
 option_paged (Some p) g e = (p, refl, sym (some_same _ _ e))
-

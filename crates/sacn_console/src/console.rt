@@ -376,7 +376,12 @@ fn move_player(player: &mut Player, now: u64)
     let _at = player.at(now);
 }
 
-fn write_packet(sender: &Sender, line: &Line, slots: &[u8; SLOTS], out: &mut [u8; MOST_OCTETS]) -> usize
+fn write_packet(
+    sender: &Sender,
+    line: &Line,
+    slots: &[u8; SLOTS],
+    out: &mut [u8; MOST_OCTETS],
+) -> usize
     requires priority { sender.now.priority ≤ 200 }
     requires least { 1 ≤ line.now.universe }
     requires most { line.now.universe ≤ 63999 }

@@ -15,11 +15,10 @@ pub use command::{Command, ConsoleFault};
 pub use console::ConsoleCore;
 pub use limits::CONSOLE_UNIVERSES;
 pub use line::{Begun, Line, Look, Run, State};
-pub use sender::Sender;
 pub use sacn_files::faults::TextFault;
 pub use script::{command_of, read_script};
+pub use sender::Sender;
 pub use show::{PatchRow, Show, ShowFault, read_show, show_of};
-
 
 #[cfg(test)]
 mod tests;

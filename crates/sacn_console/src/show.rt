@@ -15,10 +15,9 @@ mod ports;
 mod universes;
 
 pub use fault::ShowFault;
+use identity::Identity;
 pub use patches::PatchRow;
 pub use phases::{read_show, show_of};
-
-use identity::Identity;
 use universes::Universes;
 
 /// A show: who sends, on which universes and to which ports, and its cues and patch.
@@ -36,7 +35,6 @@ impl Model for Show {
     ghost use Rattle.std.specs.Prelude.{◌≡◌, string_bytes};
     ghost use Rattle.sacn_framing.specs.Naming.{padded};
     ghost use Rattle.sacn_console.specs.Shows.{ShowContent, ShowOk};
-
     ghost use Rattle.std.specs.Coded.{codes};
     ghost use Rattle.sacn_patch.specs.Patch.{patch_code};
     ghost use Rattle.sacn_cues.specs.Cues.{cues_code};

@@ -62,10 +62,7 @@ impl ReadRow for PatchReader {
 }
 
 /// Each row, in the file's order.
-pub(super) fn patches_in(
-    alloc: Global,
-    rows: &[Value],
-) -> Result<Option<Vec<PatchRow>>, AllocError>
+pub(super) fn patches_in(alloc: Global, rows: &[Value]) -> Result<Option<Vec<PatchRow>>, AllocError>
     ensures { IfOk result (λ o. option_map (λ v. v.items) o ≡ patches_in (map view rows.now)) }
 {
     read_rows(alloc, &PatchReader, rows)

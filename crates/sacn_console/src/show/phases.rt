@@ -162,7 +162,12 @@ fn send_to_phase(
     }
 }
 
-fn universe_phase(alloc: Global, version: u8, table: &Table, identity: Identity) -> Result<Show, ShowFault>
+fn universe_phase(
+    alloc: Global,
+    version: u8,
+    table: &Table,
+    identity: Identity,
+) -> Result<Show, ShowFault>
     ensures { Gives ShowFault.OutOfMemory result (universe_phase version (table_view table.now) identity) }
 {
     match universes_of(alloc, table) {

@@ -40,11 +40,11 @@ fn due_packet(deeds: &[Deed], now: u64) -> Option<(Given, Deed)> {
 }
 
 fn standing(deeds: &[Deed]) -> usize {
-    let mut count = 0;
+    let mut count = 0usize;
     for universe in [1, 2, 3] {
         let told = told(deeds, universe);
         if !(told.is_ended && told.terminations >= 3) {
-            count += 1;
+            count = count.saturating_add(1);
         }
     }
     count
@@ -63,7 +63,7 @@ fn due(deeds: &[Deed], now: u64) -> Option<(Given, Deed)> {
         }
         None => {}
     }
-    let len = 120 + 2 * standing(deeds);
+    let len = standing(deeds).saturating_mul(2).saturating_add(120);
     Some(((len, 0, 0, 0, 0), Deed::Page(now)))
 }
 
@@ -76,7 +76,11 @@ fn universe_answer(deeds: &[Deed], universe: u16, ends: bool) -> Result<(), Cons
         return Err(ConsoleFault::Ending);
     }
     if told.is_ended == ends {
-        return Err(if ends { ConsoleFault::Stopped } else { ConsoleFault::Running });
+        return Err(if ends {
+            ConsoleFault::Stopped
+        } else {
+            ConsoleFault::Running
+        });
     }
     Ok(())
 }
@@ -87,13 +91,21 @@ fn answer(deeds: &[Deed], command: Command) -> Result<(), ConsoleFault> {
         Command::Go => next_cue(current_cue(deeds)).is_some(),
         Command::GoTo(number) => is_cue(number),
         Command::SetLevel(channel, _) => {
-            return if 1 <= channel && channel <= 2048 { Ok(()) } else { Err(ConsoleFault::ChannelRange) };
+            return if 1 <= channel && channel <= 2048 {
+                Ok(())
+            } else {
+                Err(ConsoleFault::ChannelRange)
+            };
         }
         Command::Master(_) => true,
         Command::EndUniverse(universe) => return universe_answer(deeds, universe, true),
         Command::StartUniverse(universe) => return universe_answer(deeds, universe, false),
     };
-    if stands { Ok(()) } else { Err(ConsoleFault::NoCue) }
+    if stands {
+        Ok(())
+    } else {
+        Err(ConsoleFault::NoCue)
+    }
 }
 
 /// The next number of the generator.
@@ -119,7 +131,13 @@ fn next_command(state: &mut u64) -> Command {
 }
 
 /// One step of both: whether they answer the same.
-fn step(core: &mut ConsoleCore, deeds: &mut Vec<Deed>, now: u64, moment: u64, state: &mut u64) -> Result<bool, AllocError> {
+fn step(
+    core: &mut ConsoleCore,
+    deeds: &mut Vec<Deed>,
+    now: u64,
+    moment: u64,
+    state: &mut u64,
+) -> Result<bool, AllocError> {
     if next(state) % 8 == 0 {
         let command = next_command(state);
         let wanted = answer(deeds.as_slice(), command);
@@ -144,10 +162,10 @@ fn agreeing(alloc: Global, steps: u64, seed: u64) -> Result<u64, Fail> {
     let mut core = core(alloc, SHOW, FIRST as u8)?;
     let mut deeds = Vec::new(alloc);
     let mut state = seed;
-    let mut moment = 0;
+    let mut moment = 0u64;
     for done in 0..steps {
         let ahead = next(&mut state) % 40;
-        let now = (moment + ahead as u64 % 1000).saturating_sub(10);
+        let now = moment.saturating_add(ahead).saturating_sub(10);
         moment = moment.max(now);
         if !step(&mut core, &mut deeds, now, moment, &mut state)? {
             return Ok(done);

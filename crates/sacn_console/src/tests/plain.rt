@@ -133,7 +133,14 @@ fn after_order(fade: Fade, now: u64, command: Command, current: u16, channel: u1
             (cue_level(cue, channel), cue_times(cue))
         }
         Command::GoTo(cue) => (tracked(cue, channel), cue_times(cue)),
-        Command::SetLevel(only, level) => (if only == channel { Some(level as u64) } else { None }, (0, 0)),
+        Command::SetLevel(only, level) => (
+            if only == channel {
+                Some(level as u64)
+            } else {
+                None
+            },
+            (0, 0),
+        ),
         _ => (None, (0, 0)),
     };
     match level {
@@ -186,9 +193,17 @@ fn after_packet(told: History, moment: u64, terminated: bool, slot: u8) -> Histo
         sent: told.sent.wrapping_add(1),
         last: Some(moment),
         is_ended: told.is_ended,
-        terminations: if terminated { told.terminations.wrapping_add(1) } else { told.terminations },
+        terminations: if terminated {
+            told.terminations.wrapping_add(1)
+        } else {
+            told.terminations
+        },
         shown: Some(slot),
-        follow: if repeats { told.follow.wrapping_add(1) } else { 0 },
+        follow: if repeats {
+            told.follow.wrapping_add(1)
+        } else {
+            0
+        },
     }
 }
 
@@ -206,10 +221,26 @@ fn after_turn(told: History, is_ended: bool) -> History {
 fn after_deed(told: History, deed: Deed, universe: u16) -> History {
     match deed {
         Deed::Packet(moment, on, terminated, slot) => {
-            if on == universe { after_packet(told, moment, terminated, slot) } else { told }
+            if on == universe {
+                after_packet(told, moment, terminated, slot)
+            } else {
+                told
+            }
         }
-        Deed::Order(_, Command::EndUniverse(on)) => { if on == universe { after_turn(told, true) } else { told } }
-        Deed::Order(_, Command::StartUniverse(on)) => { if on == universe { after_turn(told, false) } else { told } }
+        Deed::Order(_, Command::EndUniverse(on)) => {
+            if on == universe {
+                after_turn(told, true)
+            } else {
+                told
+            }
+        }
+        Deed::Order(_, Command::StartUniverse(on)) => {
+            if on == universe {
+                after_turn(told, false)
+            } else {
+                told
+            }
+        }
         _ => told,
     }
 }

@@ -8,7 +8,9 @@ use std::test::*;
 fn read_again(alloc: Global) -> Result<bool, Fail> {
     match read_show(alloc, DESK) {
         Ok(show) => Ok(show.priority() == 100),
-        Err(fault) => Ok(fault == ShowFault::OutOfMemory && read_show(alloc, DESK)?.priority() == 100),
+        Err(fault) => Ok(
+            fault == ShowFault::OutOfMemory && read_show(alloc, DESK)?.priority() == 100,
+        ),
     }
 }
 
@@ -20,7 +22,9 @@ fn a_refused_show(rt: HostRuntime) -> Result<(), Fail> {
 
 #[test]
 fn a_refused_table(rt: HostRuntime) -> Result<(), Fail> {
-    let table = toml::table_from_str(rt.alloc(), DESK).ok().ok_or("no table")?;
+    let table = toml::table_from_str(rt.alloc(), DESK)
+        .ok()
+        .ok_or("no table")?;
     match show_of(rt.alloc(), &table) {
         Ok(show) => assert_eq!(rt; show.name(), "Desk"),
         Err(fault) => assert_eq!(rt; fault, ShowFault::OutOfMemory),

@@ -39,7 +39,11 @@ slot = 1
 #[test]
 fn a_change_is_repeated_three_times(rt: HostRuntime) -> Result<(), Fail> {
     let mut core = core(rt.alloc(), DESK, 254)?;
-    let start: [(u64, Given); 3] = [(0, (PACKET, 254, 0, 1, 0)), (0, (122, 0, 0, 0, 0)), (0, NOTHING)];
+    let start: [(u64, Given); 3] = [
+        (0, (PACKET, 254, 0, 1, 0)),
+        (0, (122, 0, 0, 0, 0)),
+        (0, NOTHING),
+    ];
     assert_eq!(rt; wrong_poll(&mut core, start.as_slice()), None);
     assert_eq!(rt; core.command(10, Command::Go), Ok(()));
     let change: [(u64, Given); 4] = [
@@ -75,8 +79,14 @@ fn running(alloc: Global) -> Result<ConsoleCore, Fail> {
 fn an_end_is_told_three_times(rt: HostRuntime) -> Result<(), Fail> {
     let mut core = running(rt.alloc())?;
     assert_eq!(rt; core.command(1000, Command::EndUniverse(1)), Ok(()));
-    assert_eq!(rt; core.command(1000, Command::EndUniverse(1)), Err(ConsoleFault::Ending));
-    assert_eq!(rt; core.command(1000, Command::StartUniverse(1)), Err(ConsoleFault::Ending));
+    assert_eq!(rt;
+        core.command(1000, Command::EndUniverse(1)),
+        Err(ConsoleFault::Ending)
+    );
+    assert_eq!(rt;
+        core.command(1000, Command::StartUniverse(1)),
+        Err(ConsoleFault::Ending)
+    );
     let rows: [(u64, Given); 5] = [
         (1024, NOTHING),
         (1025, (PACKET, 4, ENDED, 1, 255)),
@@ -85,20 +95,41 @@ fn an_end_is_told_three_times(rt: HostRuntime) -> Result<(), Fail> {
         (1100, NOTHING),
     ];
     assert_eq!(rt; wrong_poll(&mut core, rows.as_slice()), None);
-    assert_eq!(rt; core.command(1100, Command::EndUniverse(1)), Err(ConsoleFault::Stopped));
+    assert_eq!(rt;
+        core.command(1100, Command::EndUniverse(1)),
+        Err(ConsoleFault::Stopped)
+    );
     Ok(())
 }
 
 #[test]
 fn refused_commands(rt: HostRuntime) -> Result<(), Fail> {
     let mut core = running(rt.alloc())?;
-    assert_eq!(rt; core.command(1100, Command::EndUniverse(9)), Err(ConsoleFault::NoUniverse));
-    assert_eq!(rt; core.command(1100, Command::StartUniverse(9)), Err(ConsoleFault::NoUniverse));
-    assert_eq!(rt; core.command(1100, Command::StartUniverse(1)), Err(ConsoleFault::Running));
+    assert_eq!(rt;
+        core.command(1100, Command::EndUniverse(9)),
+        Err(ConsoleFault::NoUniverse)
+    );
+    assert_eq!(rt;
+        core.command(1100, Command::StartUniverse(9)),
+        Err(ConsoleFault::NoUniverse)
+    );
+    assert_eq!(rt;
+        core.command(1100, Command::StartUniverse(1)),
+        Err(ConsoleFault::Running)
+    );
     assert_eq!(rt; core.command(1100, Command::Go), Err(ConsoleFault::NoCue));
-    assert_eq!(rt; core.command(1100, Command::GoTo(2)), Err(ConsoleFault::NoCue));
-    assert_eq!(rt; core.command(1100, Command::SetLevel(2049, 0)), Err(ConsoleFault::ChannelRange));
-    assert_eq!(rt; core.command(1100, Command::SetLevel(0, 0)), Err(ConsoleFault::ChannelRange));
+    assert_eq!(rt;
+        core.command(1100, Command::GoTo(2)),
+        Err(ConsoleFault::NoCue)
+    );
+    assert_eq!(rt;
+        core.command(1100, Command::SetLevel(2049, 0)),
+        Err(ConsoleFault::ChannelRange)
+    );
+    assert_eq!(rt;
+        core.command(1100, Command::SetLevel(0, 0)),
+        Err(ConsoleFault::ChannelRange)
+    );
     assert_eq!(rt; polled(&mut core, 1100), NOTHING);
     Ok(())
 }
@@ -253,6 +284,9 @@ fn counts_up(list: &[u16]) -> bool {
 fn one_universe_too_many(rt: HostRuntime) -> Result<(), Fail> {
     let alloc = rt.alloc();
     let text = many(alloc, 1025)?;
-    assert_eq!(rt; read_show(alloc, text.as_str()).err(), Some(crate::ShowFault::KeyValue));
+    assert_eq!(rt;
+        read_show(alloc, text.as_str()).err(),
+        Some(crate::ShowFault::KeyValue)
+    );
     Ok(())
 }
