@@ -1,9 +1,8 @@
 //! Calls that take memory, each checked where one request of the run is refused.
 //!
-//! With ample memory it prints `all calls done` and ends with status 0. `rt try --fail-alloc 1..` makes each
-//! request fail in turn. A run in which a call answered for want of memory, left what its contract
-//! says and succeeded when it was made again ends with status 3; any other prints what is wrong with
-//! status 0, which that command shows.
+//! With ample memory it prints `all calls done` and ends with status 0. `rt try --fail-alloc N` makes the Nth
+//! request fail. A run in which a call answered for want of memory, left what its contract says and
+//! succeeded when it was made again ends with status 3; any other prints what is wrong with status 0.
 #![tactic(auto)]
 
 mod consoles;

@@ -1,5 +1,5 @@
 -- One datagram more.
-use Rattle.std.proofs.Common.{◌≡◌, ℕ, zero, suc, ◌+◌, ◌-◌, ◌<◌, ◌≤◌, List, [], ◌∷◌, ◌++◌, length, map, get_or, take, drop, Option, Some, None, Result, Ok, Err, refl, sym, ap, ◌∙◌, append_assoc, arith, Vec, Global}
+use Rattle.std.proofs.Common.{◌≡◌, ℕ, zero, suc, ◌+◌, ◌<◌, ◌≤◌, List, [], ◌∷◌, ◌++◌, length, get_or, take, drop, Some, None, Result, Ok, Err, refl, sym, ap, ◌∙◌, append_assoc, arith, Vec, Global}
 use Rattle.std.proofs.lemmas.List.{length-append, append-nil, drop_all, take-append-le, take_at}
 use Rattle.std.specs.Fmt.{decimal}
 use Rattle.sacn_root.specs.declared.fault.PacketFault.{PacketFault}

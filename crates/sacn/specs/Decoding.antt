@@ -1,5 +1,5 @@
 -- The text of a list of datagrams, up to the first that is refused.
-use Rattle.std.specs.Prelude.{◌≡◌, ℕ, zero, suc, ◌+◌, ◌<◌, List, [], ◌∷◌, ◌++◌, codes, length, map, take, Bool, true, false, Option, Some, None, Result, Ok, Err, ⊤}
+use Rattle.std.specs.Prelude.{◌≡◌, ℕ, ◌+◌, ◌<◌, List, [], ◌∷◌, ◌++◌, codes, length, map, take, Bool, true, false, Option, Some, None, Result, Ok, Err}
 use Rattle.std.specs.Prelude.{Vec}
 use Rattle.std.specs.declared.alloc.Global.{Global}
 use Rattle.sacn_root.specs.declared.fault.PacketFault.{PacketFault}
@@ -7,7 +7,6 @@ use Rattle.sacn_framing.specs.declared.packet.Packet.{Packet}
 use Rattle.sacn_framing.specs.declared.packet.Packet.TheVariants.{DataPacket, PagePacket, SyncPacket}
 use Rattle.sacn_framing.specs.PacketReading.{reading_packet}
 use Rattle.sacn_discovery.specs.Known.{State, after_take, after_expire, known_list}
-use Rattle.sacn_edge.specs.Told.{Adds}
 use Rattle.sacn.specs.Blocks.{data_block, page_block}
 use Rattle.sacn.specs.declared.fault.DecodeFault.{DecodeFault}
 use Rattle.sacn.specs.declared.fault.DecodeFault.TheVariants.{OutOfMemory, Refused, WriteFailed}

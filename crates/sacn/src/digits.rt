@@ -1,5 +1,6 @@
 //! A datagram given as hexadecimal digits.
-ghost use Rattle.std.specs.Prelude.{◌≡◌, IfOk, Ok};
+ghost use Rattle.std.specs.Prelude.{◌≡◌, ◌⊎◌, IfOk, IfErr, Ok, Err};
+ghost use Rattle.hex.specs.declared.error.FromHexError.TheVariants.{OutOfMemory};
 ghost use Rattle.hex.specs.Hex.{decode_of};
 ghost use Rattle.sacn.specs.Digits.{is_skipped, digits_of};
 
@@ -14,9 +15,10 @@ fn is_skipped(octet: u8) -> bool
 }
 
 /// The octets that a text of digits spells, two of either case for each, with spaces, tabs and line
-/// ends anywhere between them.
+/// ends anywhere between them; or the first fault of that spelling, `OutOfMemory` apart.
 pub fn octets_of_digits(alloc: Global, text: &[u8]) -> Result<Vec<u8>, FromHexError>
-    ensures { IfOk result (λ octets. decode_of (digits_of text.now) ≡ Ok octets.items) }
+    ensures spelled { IfOk result (λ octets. decode_of (digits_of text.now) ≡ Ok octets.items) }
+    ensures refused { IfErr result (λ fault. (fault ≡ OutOfMemory) ⊎ (decode_of (digits_of text.now) ≡ Err fault)) }
 {
     let mut digits = Vec::with_capacity(alloc, text.len())?;
     for octet in text.iter() {

@@ -1,5 +1,6 @@
 //! Whole inputs, up to a limit.
-ghost use Rattle.std.specs.Prelude.{◌≡◌, ◌≤◌, ◌<◌, ◌^◌, length, IfOk, IfSome};
+ghost use Rattle.std.specs.Prelude.{◌≡◌, ◌≤◌, ◌<◌, ◌^◌, length, IfOk, IfErr, IfSome};
+ghost use Rattle.sacn.specs.declared.input.ReadFault.TheVariants.{TooLarge};
 
 use std::alloc::Allocator;
 use std::io::{ErrorKind, Read};
@@ -22,7 +23,8 @@ pub enum ReadFault {
     TooLarge,
 }
 
-/// The whole input, if it has at most `limit` octets.
+/// The whole input, if it has at most `limit` octets; `TooLarge` comes only where it has more. At most one octet more
+/// than the limit is read.
 pub fn read_limited<A: Allocator + Clone + Drop, R: Read + Drop>(
     alloc: A,
     reader: R,
@@ -31,6 +33,7 @@ pub fn read_limited<A: Allocator + Clone + Drop, R: Read + Drop>(
     requires { limit < 2 ^ 32 }
     ensures small { IfOk result (λ v. length v.items ≤ limit) }
     ensures whole { IfOk result (λ v. IfSome (R.remaining reader) (λ xs. v.items ≡ xs)) }
+    ensures large { IfErr result (λ fault. fault ≡ TooLarge → IfSome (R.remaining reader) (λ xs. limit < length xs)) }
 {
     let mut octets = Vec::new(alloc);
     let mut reader = reader.take(limit + 1);

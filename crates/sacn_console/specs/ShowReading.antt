@@ -1,8 +1,8 @@
 -- A show file: its faults by phases, and its value (profile).
-use Rattle.std.specs.Prelude.{◌≡◌, ◌&&◌, ◌||◌, ◌==◌, ℕ, nat_le, nat_lt, Bool, not, true, false, List, [], ◌∷◌, length, Option, None, Some, is_some, if◌then◌else◌, codes, option_and_then, option_map, Result, Ok, Err}
+use Rattle.std.specs.Prelude.{◌≡◌, ◌&&◌, ◌==◌, ℕ, nat_le, Bool, not, false, List, [], ◌∷◌, length, Option, None, Some, if◌then◌else◌, codes, option_and_then, option_map, Result, Ok, Err}
 use Rattle.std.specs.Prelude.{◌⊎◌}
 use Rattle.std.specs.List.{list_any}
-use Rattle.std.specs.FinMap.{get, insert, len, empty}
+use Rattle.std.specs.FinMap.{insert, empty}
 use Rattle.toml.specs.Data.{Data, Members, get_member, as_str, as_bool}
 use Rattle.uuid.specs.Text.{parsed}
 use Rattle.sacn_framing.specs.Naming.{is_nameable}
@@ -10,11 +10,9 @@ use Rattle.sacn_framing.specs.declared.framing.TheConstants.{MOST_PRIORITY}
 use Rattle.sacn_patch.specs.Patch.{Patched, with_slot, refusal}
 use Rattle.sacn_patch.specs.declared.fault.PatchFault.{PatchFault}
 use Rattle.sacn_patch.specs.declared.limits.TheConstants.{MAX_UNIVERSE}
-use Rattle.sacn_cues.specs.Channels.{is_channel}
-use Rattle.sacn_cues.specs.Cues.{Cues}
-use Rattle.sacn_cues.specs.declared.limits.TheConstants.{MAX_CUES, MOST_FADE}
+use Rattle.sacn_cues.specs.Adding.{refusal_at}
+use Rattle.sacn_cues.specs.Cues.{Cues, KeptCue}
 use Rattle.sacn_cues.specs.declared.fault.CueFault.{CueFault}
-use Rattle.sacn_cues.specs.declared.fault.CueFault.TheVariants as cue
 use Rattle.sacn_files.specs.Keys.{has_known_keys, has_keys, rows_are_known, rows_have_keys}
 use Rattle.sacn_files.specs.Values.{rows_at, has_rows, number_in, number_at, array_values, array_at, members_or_none, value_or}
 use Rattle.sacn_files.specs.Rows.{each}
@@ -147,16 +145,9 @@ patch_in d =
 abbrev pub patches_in : List Data → Option (List PatchRow)
 patches_in ds = each patch_in ds
 
--- why a cue is refused by those before it: the first check of the list of cues that fails
-abbrev pub cue_fault : Cues → CueRow → Option CueFault
-cue_fault cues c =
-    if list_any (λ p. not (is_channel p.0)) c.levels then Some cue.ChannelRange
-    else (if nat_lt MOST_FADE c.up || nat_lt MOST_FADE c.down then Some cue.FadeRange
-    else (if is_some (get cues c.number) then Some cue.NumberTaken
-    else (if nat_le MAX_CUES (len cues) then Some cue.Full else None)))
-
-abbrev pub cues_with : Cues → CueRow → Cues
-cues_with cues c = insert cues c.number (record { up = c.up; down = c.down; levels = c.levels })
+-- the times and the levels of a row's cue
+abbrev pub kept_of : CueRow → KeptCue
+kept_of c = record { up = c.up; down = c.down; levels = c.levels }
 
 -- the last phase: each cue added to those before it, then each row of the patch, whose universe is one of the show's
 abbrev pub unless_cue : Option CueFault → Option Cues → Option Cues
@@ -165,7 +156,7 @@ unless_cue (Some fault) later = None
 
 abbrev pub cues_added : Cues → List CueRow → Option Cues
 cues_added done [] = Some done
-cues_added done (c ∷ cs) = unless_cue (cue_fault done c) (cues_added (cues_with done c) cs)
+cues_added done (c ∷ cs) = unless_cue (refusal_at done c.number (kept_of c)) (cues_added (insert done c.number (kept_of c)) cs)
 
 abbrev pub unless_patch : Option PatchFault → Option Patched → Option Patched
 unless_patch None later = later

@@ -3,7 +3,7 @@ use Rattle.std.proofs.Common.{◌≡◌, ℕ, zero, suc, ◌+◌, ◌<◌, Bool,
 use Rattle.std.proofs.lemmas.Bool.Decides.{nat_tests}
 use Rattle.sacn_cues.specs.declared.fade.Fade.{Fade}
 use Rattle.sacn_cues.specs.Targets.{Targets}
-use Rattle.sacn_cues.specs.Levels.{Given, level_in, fade_from, begun_if_given, given_to, all_begun, begun_to, set_to}
+use Rattle.sacn_cues.specs.Levels.{Given, begun_if_given, given_to, all_begun, begun_to, set_to}
 
 module _ (up down now : ℕ) where
   -- a target that is taken away as its fade begins

@@ -1,10 +1,10 @@
 -- Fades that are over.
-use Rattle.std.proofs.Common.{◌≡◌, ℕ, zero, suc, ◌+◌, ◌-◌, ◌<◌, ◌≤◌, max, min, Bool, true, false, ◌&&◌, nat_lt, nat_le, List, [], ◌∷◌, length, get_or, replicate, Option, Some, None, if◌then◌else◌, ◌==◌, refl, sym, ap, ◌∙◌, arith}
+use Rattle.std.proofs.Common.{◌≡◌, ℕ, zero, suc, ◌+◌, ◌-◌, ◌<◌, ◌≤◌, max, min, Bool, true, false, ◌&&◌, nat_lt, nat_le, List, [], ◌∷◌, get_or, replicate, Option, Some, None, if◌then◌else◌, ◌==◌, refl, sym, ap, ◌∙◌, arith}
 use Rattle.std.specs.List.{list_all}
 use Rattle.std.proofs.lemmas.Bool.Decides.{nat_tests}
 use Rattle.sacn_cues.specs.declared.fade.Fade.{Fade}
 use Rattle.sacn_cues.specs.Channels.{is_channel}
-use Rattle.sacn_cues.specs.Levels.{Given, faded, part_of, level_in, begun_if_given, all_begun, end_of, last_moment, is_over_by, still, level_at, StaysLit, given_to, set_to}
+use Rattle.sacn_cues.specs.Levels.{Given, faded, level_in, begun_if_given, all_begun, end_of, last_moment, is_over_by, still, StaysLit, given_to, set_to}
 
 both_true : (a b : Bool) → (a && b) ≡ true → (a ≡ true) × (b ≡ true)
 both_true true b e = (refl, e)

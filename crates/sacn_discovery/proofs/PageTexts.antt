@@ -4,7 +4,7 @@ use Rattle.std.specs.Int.{w16, w32, to_be_bytes}
 use Rattle.std.proofs.lemmas.List.{length-append, length-take, length-drop, take_min}
 use Rattle.sacn_root.specs.RootText.{root_head, flags_and_length}
 use Rattle.sacn_framing.specs.Page.{Page}
-use Rattle.sacn_framing.specs.PageText.{PageLayer, numbers_text, discovery_text, page_framing_text}
+use Rattle.sacn_framing.specs.PageText.{numbers_text, discovery_text, page_framing_text}
 use Rattle.sacn_framing.specs.PacketText.{page_layer}
 use Rattle.sacn_framing.proofs.Numbers.{length_text}
 use Rattle.sacn_framing.proofs.PageLaws.{length_page_text}

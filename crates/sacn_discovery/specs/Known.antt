@@ -1,5 +1,5 @@
 -- What a collector keeps: per CID the last page number, the latest copy of each page, and the latest moment.
-use Rattle.std.specs.Prelude.{◌≡◌, ℕ, ◌+◌, ◌-◌, nat_lt, max, refl, Bool, false, List, [], ◌∷◌, ◌++◌, filter, map, replicate, slice_set, Option, Some, None, if◌then◌else◌, ◌==◌}
+use Rattle.std.specs.Prelude.{ℕ, ◌+◌, ◌-◌, nat_lt, max, refl, Bool, false, List, [], ◌∷◌, ◌++◌, filter, map, replicate, slice_set, Option, Some, None, if◌then◌else◌, ◌==◌}
 use Rattle.std.specs.Option.{option_map}
 use Rattle.std.specs.Ordering.{nat_cmp}
 use Rattle.std.specs.Cmp.Lexicographic.{slice_cmp}

@@ -1,9 +1,9 @@
 -- A table's entries beside the members that it stands for.
-use Rattle.std.proofs.Common.{◌≡◌, ℕ, Bool, true, false, ◌&&◌, ◌||◌, List, [], ◌∷◌, map, String, Global, string_bytes, refl, ap, Bor, option_map}
+use Rattle.std.proofs.Common.{◌≡◌, ℕ, Bool, ◌&&◌, ◌||◌, List, [], ◌∷◌, map, string_bytes, refl, ap, Bor, option_map}
 use Rattle.std.specs.List.{list_all, list_any}
 use Rattle.std.specs.Str.{bytes_eq}
 use Rattle.std.specs.Map.{keys_of}
-use Rattle.toml.specs.Data.{Data, Members, Items, string, integer, float, boolean, datetime, array, table, as_array}
+use Rattle.toml.specs.Data.{Data, string, integer, float, boolean, datetime, array, table, as_array}
 use Rattle.toml.specs.View.{view, members_view, items_view}
 use Rattle.toml.proofs.Views.{Entry}
 use Rattle.toml.specs.declared.value.Value.{Value}

@@ -1,5 +1,5 @@
 -- Texts that are read line by line (profile).
-use Rattle.std.specs.Prelude.{◌==◌, ℕ, ◌+◌, Bool, true, false, List, [], ◌∷◌, ◌++◌, map, Result, Ok, Err, slice_index, if◌then◌else◌}
+use Rattle.std.specs.Prelude.{◌==◌, ℕ, ◌+◌, Bool, true, List, [], ◌∷◌, ◌++◌, map, Result, Ok, Err, slice_index, if◌then◌else◌}
 use Rattle.std.specs.Str.Lines.{lines}
 use Rattle.sacn_files.specs.Words.{words}
 use Rattle.sacn_files.specs.declared.lines.Line.{Line}

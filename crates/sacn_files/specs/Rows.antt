@@ -1,5 +1,5 @@
 -- Lists of a file, read row by row (profile).
-use Rattle.std.specs.Prelude.{List, [], ◌∷◌, Option, None, Some, option_and_then, option_map}
+use Rattle.std.specs.Prelude.{List, [], ◌∷◌, Option, Some, option_and_then, option_map}
 use Rattle.toml.specs.Data.{Data}
 
 -- what each row gives; none where some row gives none

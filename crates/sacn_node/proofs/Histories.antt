@@ -1,31 +1,21 @@
 -- The steps of a node, over every history, beside the plain rule: on each universe they are the steps of one table, on the
 -- calls that reach it.
-use Rattle.std.proofs.Common.{◌≡◌, ℕ, zero, suc, ◌+◌, ◌-◌, ◌<◌, ◌≤◌, ◌⊎◌, inl, inr, ◌==◌, max, Bool, true, false, cond, ◌||◌, List, [], ◌∷◌, length, map, find, get_or, All, Any, Option, Some, None, Ok, Err, refl, sym, ap, subst, ◌∙◌, arith, eqb-true}
-use Rattle.std.specs.List.{list_any, sum_by}
-use Rattle.std.specs.Option.{option_map}
-use Rattle.std.specs.FinMap.{get, empty, len}
-use Rattle.std.proofs.lemmas.Bool.{cases_lt}
+use Rattle.std.proofs.Common.{◌≡◌, ℕ, ◌<◌, ◌==◌, max, Bool, true, false, cond, ◌||◌, List, [], ◌∷◌, map, Option, Some, None, Ok, Err, refl, sym, ap, subst, ◌∙◌, arith, eqb-true}
+use Rattle.std.specs.List.{list_any}
 use Rattle.std.proofs.lemmas.Bool.Decides.{nat_tests}
-use Rattle.std.proofs.lemmas.List.Elements.{All-cons}
-use Rattle.std.proofs.lemmas.List.Sums.{sum_by-cons}
 use Rattle.sacn_framing.specs.PacketReading.{reading_packet}
 use Rattle.sacn_framing.specs.declared.packet.Packet.TheVariants.{DataPacket, PagePacket, SyncPacket}
-use Rattle.sacn_sources.specs.Rows.{Row, Packet, rows_kept, rows_lost, taken, take_row, row_of, slots_of}
+use Rattle.sacn_sources.specs.Rows.{Row, Packet, rows_kept, take_row}
 use Rattle.sacn_sources.specs.Packets.{packet_of}
 use Rattle.sacn_sources.specs.PlainRule.{Sources, unexpired, source_row, shown_by}
 use Rattle.sacn_sources.specs.Calls as one
 use Rattle.sacn_sources.specs.PlainRule as plain
-use Rattle.sacn_sources.specs.Laws as law
-use Rattle.sacn_node.specs.declared.taken.NodeTaken.{NodeTaken}
-use Rattle.sacn_node.specs.declared.taken.NodeTaken.TheVariants.{FromTable, OtherUniverse}
 use Rattle.sacn_node.specs.Setup.{Port, universes}
-use Rattle.sacn_node.specs.Ports.{port_of, frame_on}
 use Rattle.sacn_node.specs.Seen.{Above, Rise}
-use Rattle.sacn_node.specs.Cores.{Table, Core, Node, new_table, with_kept, rows_kept_all, rows_lost_all, table_of, change_rows, core_reply_on, core_at, core_row, core_slots, row_on, slots_on}
-use Rattle.sacn_node.specs.Readings.{Reading, reply_to, after_reading}
-use Rattle.sacn_node.specs.Calls.{Call, Take, Tick, Frame, Answer, Replied, Lost, Shown, moment_of, core_step, step, answer_to, after_calls, moment_in_use, IsGreatestMoment}
-use Rattle.sacn_node.specs.PlainRule.{packet_on, brought, change, held_after, has_universe, holding, reply_at, expired_at, merged_at, answer_at, plain_rule}
-use Rattle.sacn_node.specs.Laws.{AnswersByThePlainRule, HoldsByThePlainRule, KeepsItsPorts, UsesTheGreatestMoment}
+use Rattle.sacn_node.specs.Cores.{Table, Core, new_table, rows_kept_all, table_of, change_rows, core_at}
+use Rattle.sacn_node.specs.Readings.{Reading, after_reading}
+use Rattle.sacn_node.specs.Calls.{Call, Take, Tick, Frame, moment_of, core_step, after_calls, moment_in_use}
+use Rattle.sacn_node.specs.PlainRule.{packet_on, brought, change, held_after}
 use Rattle.sacn_node.proofs.Prepared.{universes_rise, rise_tail}
 
 -- ---- the calls on the table of one universe

@@ -2,7 +2,7 @@
 use Rattle.std.proofs.Common.{◌≡◌, ℕ, ◌==◌, nat_lt, ◌||◌, Bool, true, false, cond, List, [], ◌∷◌, refl, sym, ap, ◌∙◌, eqb-true}
 use Rattle.std.specs.List.{list_any}
 use Rattle.sacn_node.specs.declared.setup.SlotRange.{SlotRange}
-use Rattle.sacn_node.specs.Setup.{Port, with_universe, universes_after, universes_from, universes}
+use Rattle.sacn_node.specs.Setup.{Port, with_universe, universes_after, universes_from}
 use Rattle.sacn_node.specs.Laws.{HasTheUniversesOfItsRanges}
 use Rattle.sacn_node.proofs.Prepared.{put_id, put_by, put_before, universes_rise}
 

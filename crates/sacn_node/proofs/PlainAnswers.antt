@@ -1,30 +1,28 @@
 -- What a node answers and holds after a history is what the plain rule does, from the laws of the table of one universe.
-use Rattle.std.proofs.Common.{◌≡◌, ℕ, zero, suc, ◌+◌, ◌-◌, ◌<◌, ◌≤◌, ◌⊎◌, inl, inr, ◌==◌, max, Bool, true, false, cond, ◌||◌, List, [], ◌∷◌, length, map, get_or, All, Any, Option, Some, None, Ok, Err, refl, sym, ap, ◌∙◌, arith, eq-eqb}
-use Rattle.std.specs.List.{list_any, sum_by, AllByRecursion}
+use Rattle.std.proofs.Common.{◌≡◌, ℕ, suc, ◌+◌, ◌<◌, ◌≤◌, inl, inr, ◌==◌, max, Bool, true, false, cond, ◌||◌, List, [], ◌∷◌, map, get_or, Some, None, Ok, Err, refl, sym, ap, ◌∙◌, arith, eq-eqb}
+use Rattle.std.specs.List.{sum_by, AllByRecursion}
 use Rattle.std.specs.Option.{option_map}
-use Rattle.std.specs.FinMap.{get, empty, len}
+use Rattle.std.specs.FinMap.{get, empty}
 use Rattle.std.proofs.lemmas.Bool.{cases_lt}
 use Rattle.std.proofs.lemmas.List.Elements.{All-cons}
 use Rattle.std.proofs.lemmas.List.Sums.{sum_by-cons}
 use Rattle.sacn_framing.specs.PacketReading.{reading_packet}
 use Rattle.sacn_framing.specs.declared.packet.Packet.TheVariants.{DataPacket, PagePacket, SyncPacket}
-use Rattle.sacn_slots.specs.Merge.{merge}
 use Rattle.sacn_sources.specs.declared.taken.Taken.{Taken}
 use Rattle.sacn_sources.specs.declared.taken.Taken.TheVariants.{Held}
-use Rattle.sacn_sources.specs.Rows.{Row, Packet, rows_kept, rows_lost, taken, row_of, slots_of}
+use Rattle.sacn_sources.specs.Rows.{Row, Packet, rows_kept, rows_lost, taken, slots_of}
 use Rattle.sacn_sources.specs.Packets.{packet_of}
 use Rattle.sacn_sources.specs.PlainRule.{Sources, unexpired, source_row, shown_by}
 use Rattle.sacn_sources.specs.Calls as one
 use Rattle.sacn_sources.specs.PlainRule as plain
 use Rattle.sacn_sources.specs.Laws as law
-use Rattle.sacn_node.specs.declared.taken.NodeTaken.{NodeTaken}
 use Rattle.sacn_node.specs.declared.taken.NodeTaken.TheVariants.{FromTable, OtherUniverse}
 use Rattle.sacn_node.specs.Setup.{Port, universes}
 use Rattle.sacn_node.specs.Ports.{port_of, frame_on}
-use Rattle.sacn_node.specs.Cores.{Table, Core, Node, rows_kept_all, rows_lost_all, table_of, core_reply_on, core_at, core_row, core_slots, row_on, slots_on}
+use Rattle.sacn_node.specs.Cores.{Table, Core, rows_kept_all, rows_lost_all, table_of, core_reply_on, core_at, core_row, core_slots, row_on, slots_on}
 use Rattle.sacn_node.specs.Readings.{Reading, reply_to}
-use Rattle.sacn_node.specs.Calls.{Call, Take, Tick, Frame, Answer, Replied, Lost, Shown, moment_of, answer_to, after_calls, moment_in_use, IsGreatestMoment}
-use Rattle.sacn_node.specs.PlainRule.{held_after, has_universe, holding, reply_at, expired_at, merged_at, answer_at, plain_rule}
+use Rattle.sacn_node.specs.Calls.{Call, Take, Tick, Frame, Replied, Lost, Shown, moment_of, answer_to, after_calls, moment_in_use, IsGreatestMoment}
+use Rattle.sacn_node.specs.PlainRule.{held_after, holding, reply_at, expired_at, merged_at, answer_at}
 use Rattle.sacn_node.specs.Laws.{AnswersByThePlainRule, HoldsByThePlainRule, KeepsItsPorts, UsesTheGreatestMoment}
 use Rattle.sacn_node.proofs.Histories.{calls_on, moment_on, held_on, rows_on, table_moment, table_on, kept_step, same_moment, same_tables, same_ports, has, made_at, table_there}
 

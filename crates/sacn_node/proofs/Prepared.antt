@@ -1,16 +1,14 @@
 -- What a setup makes sure of: its universes rise, and each of its ranges can be shown.
-use Rattle.std.proofs.Common.{◌≡◌, ℕ, zero, suc, ◌+◌, ◌<◌, ◌≤◌, ◌==◌, nat_lt, ◌||◌, Bool, true, false, cond, not, List, [], ◌∷◌, ◌++◌, length, map, take, drop, get_or, find, All, AllPairs, Option, Some, None, refl, sym, ap, subst, ◌∙◌, arith, inl, inr}
+use Rattle.std.proofs.Common.{◌≡◌, ℕ, zero, suc, ◌+◌, ◌<◌, ◌≤◌, ◌==◌, nat_lt, ◌||◌, Bool, true, false, cond, not, List, [], ◌∷◌, length, map, get_or, All, Some, refl, sym, ap, subst, arith}
 use Rattle.std.specs.List.{list_any, position_or_len, insert, AllByRecursion}
-use Rattle.std.specs.List.Sorted.{IsStrictlyIncreasing}
-use Rattle.std.proofs.lemmas.Bool.{cases_Bool, cases_eq}
 use Rattle.std.proofs.lemmas.Bool.Decides.{nat_tests}
 use Rattle.std.proofs.lemmas.List.{length-map, get_or-map}
 use Rattle.std.proofs.lemmas.Option.{same_Some}
 use Rattle.std.proofs.lemmas.List.Elements.{All-tail}
 use Rattle.sacn_files.specs.Numbered.{placed}
 use Rattle.sacn_node.specs.declared.setup.SlotRange.{SlotRange}
-use Rattle.sacn_node.specs.Setup.{Port, Setup, IsSetup, IsPort, IsRange, Fits, port_numbers, with_universe, universes_after, universes_from, universes}
-use Rattle.sacn_node.specs.Ports.{IsShown, port_of}
+use Rattle.sacn_node.specs.Setup.{Port, Setup, IsSetup, with_universe, universes_after, universes_from, universes}
+use Rattle.sacn_node.specs.Ports.{port_of}
 use Rattle.sacn_node.specs.Cores.{new_core}
 use Rattle.sacn_node.specs.Seen.{Above, Rise, ArePorts, AreTables, seen, new_one}
 use Rattle.sacn_node.specs.declared.tables.OneUniverse.{OneUniverse}

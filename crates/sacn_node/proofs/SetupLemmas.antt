@@ -1,6 +1,6 @@
 -- What is read as a setup keeps the limits of a node.
-use Rattle.std.proofs.Common.{◌≡◌, ℕ, pos, negsuc, ◌<◌, ◌≤◌, ◌+◌, nat_lt, nat_le, Bool, true, false, ◌||◌, ◌&&◌, ◌==◌, if◌then◌else◌, List, [], ◌∷◌, length, map, Option, None, Some, option_and_then, option_map, refl, sym, ap, ◌∙◌, arith, codes}
-use Rattle.std.specs.Prelude.{All, IsPermutation}
+use Rattle.std.proofs.Common.{◌≡◌, ℕ, pos, negsuc, ◌≤◌, ◌+◌, nat_lt, nat_le, Bool, true, false, ◌&&◌, ◌==◌, if◌then◌else◌, List, [], ◌∷◌, length, Option, None, Some, option_and_then, option_map, refl, sym, arith, codes}
+use Rattle.std.specs.Prelude.{All}
 use Rattle.std.specs.List.{list_any, AllByRecursion}
 use Rattle.std.specs.List.Sorted.{IsStrictlyIncreasing}
 use Rattle.std.proofs.lemmas.Bool.Decides.{nat_tests}
@@ -17,9 +17,8 @@ use Rattle.sacn_files.specs.Numbered.{has_repeat, in_order}
 use Rattle.sacn_files.proofs.AscentLemmas.{or_parts, in_order_rises, in_order_keeps}
 use Rattle.sacn_node.specs.declared.limits.TheConstants.{MAX_PORTS, MAX_UNIVERSES, MAX_RANGES, LEAST_PORT, MOST_PORT}
 use Rattle.sacn_node.specs.declared.setup.SlotRange.{SlotRange}
-use Rattle.sacn_node.specs.declared.setup.fault.SetupFault.{SetupFault}
 use Rattle.sacn_node.specs.declared.setup.fault.SetupFault.TheVariants.{Limit, RangeEnd, Overlap}
-use Rattle.sacn_node.specs.Setup.{Port, Setup, port_numbers, universes, passes_end, has_overlap, IsRange, IsPort, Fits, IsSetup}
+use Rattle.sacn_node.specs.Setup.{Port, port_numbers, universes, passes_end, has_overlap, IsRange, IsPort, Fits, IsSetup}
 use Rattle.sacn_node.specs.SetupReading.{universe_at, slot_at, range_in, whole, ranges_in, ranges_of, port_in, udp_port_of, order_fault}
 
 -- chains of readings

@@ -1,5 +1,5 @@
 -- What a node core keeps, by eight-bit numbers: the rows of each of its universes, and its moment in use.
-use Rattle.std.specs.Prelude.{ℕ, max, ◌==◌, nat_lt, refl, if◌then◌else◌, List, [], ◌∷◌, map, find, Option, Some, None}
+use Rattle.std.specs.Prelude.{ℕ, max, ◌==◌, refl, if◌then◌else◌, List, [], ◌∷◌, map, find, Option, Some, None}
 use Rattle.std.specs.List.{sum_by}
 use Rattle.std.specs.Coded.{Coded, code_by, coded×, coded_ℕ, coded_list}
 use Rattle.sacn_sources.specs.Rows.{Row, Packet, row_code, rows_kept, rows_lost, taken, take_row, row_of, slots_of}

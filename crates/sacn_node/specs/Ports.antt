@@ -1,7 +1,8 @@
 -- The ports of a node, and what they show: of each universe the slots that their ranges name (E1.11, null start code; the
 -- ranges are profile).
-use Rattle.std.specs.Prelude.{ℕ, ◌+◌, ◌-◌, ◌≤◌, Bool, ◌&&◌, ◌==◌, nat_le, nat_lt, if◌then◌else◌, List, map, find, get_or, Option, Some, None, All}
+use Rattle.std.specs.Prelude.{ℕ, ◌+◌, ◌-◌, ◌≤◌, Bool, ◌&&◌, ◌==◌, nat_le, nat_lt, if◌then◌else◌, List, map, find, get_or, Option, Some, None}
 use Rattle.std.specs.List.{range_with_len}
+use Rattle.sacn_slots.specs.declared.universe.TheConstants.{SLOTS, FRAME_OCTETS}
 use Rattle.sacn_node.specs.declared.setup.SlotRange.{SlotRange}
 use Rattle.sacn_node.specs.Setup.{Port}
 
@@ -9,8 +10,8 @@ use Rattle.sacn_node.specs.Setup.{Port}
 pub record IsShown (r : SlotRange) : Type 0 where
   pub slot : 1 ≤ r.slot
   pub port_slot : 1 ≤ r.port_slot
-  pub within : r.slot + r.count ≤ 513
-  pub fits : r.port_slot + r.count ≤ 513
+  pub within : r.slot + r.count ≤ SLOTS + 1
+  pub fits : r.port_slot + r.count ≤ SLOTS + 1
 
 abbrev pub port_of : ℕ → List Port → Option Port
 port_of number ports = find (λ p. p.number == number) ports
@@ -34,7 +35,7 @@ abbrev pub octet_at : (ℕ → List ℕ) → List SlotRange → ℕ → ℕ
 octet_at slots rs i = if i == 0 then 0 else level_by slots i (find (covers i) rs)
 
 unfoldable pub port_frame : (ℕ → List ℕ) → List SlotRange → List ℕ
-port_frame slots rs = map (octet_at slots rs) (range_with_len 0 513)
+port_frame slots rs = map (octet_at slots rs) (range_with_len 0 FRAME_OCTETS)
 
 abbrev pub frame_on : (ℕ → List ℕ) → Option Port → Option (List ℕ)
 frame_on slots None = None

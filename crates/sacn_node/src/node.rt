@@ -10,6 +10,7 @@ use crate::tables::Tables;
 use crate::taken::{NoPort, NodeTaken};
 use arrayvec::ArrayVec;
 use sacn_framing::{Packet, read_packet};
+use sacn_slots::FRAME_OCTETS;
 use sacn_sources::{HeldView, TableFault};
 use std::alloc::Global;
 use std::marker::Model;
@@ -96,7 +97,12 @@ impl NodeCore {
 
     /// Writes the frame of a port: start code 0, then its 512 slots, each from the range that has it, and 0 where none has.
     /// `NoPort`, with the frame as it was, where the node has no port of this number.
-    pub fn frame(&mut self, now: u64, port: u8, frame: &mut [u8; 513]) -> Result<(), NoPort>
+    pub fn frame(
+        &mut self,
+        now: u64,
+        port: u8,
+        frame: &mut [u8; FRAME_OCTETS],
+    ) -> Result<(), NoPort>
         ensures frame { node_frame port self.new ≡ (if is_ok result then Some frame.new else None) }
         ensures core { self.new ≡ record self.old { core = core_at now self.old.core } }
         ensures unchanged { OnErr result (frame.new ≡ frame.old) }

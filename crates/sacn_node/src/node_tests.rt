@@ -508,7 +508,7 @@ fn take_alike(
     setup: &NodeSetup,
     now: u64,
     said: &Said,
-) -> Result<(), Fail> {
+) -> Result<NodeTaken, Fail> {
     let sent = Sent {
         cid: said.cid,
         universe: said.universe,
@@ -519,7 +519,7 @@ fn take_alike(
     };
     let wanted = plain.take(setup, now, said)?;
     assert_eq!(rt; give(node, now, sent), Some(wanted));
-    Ok(())
+    Ok(wanted)
 }
 
 /// Both hold the source alike.
@@ -563,7 +563,7 @@ fn show_alike(
     }
 }
 
-/// One turn of both: a packet, expiry or a look.
+/// One turn of both: a packet, whose answer it gives, expiry or a look.
 fn turn_alike(
     rt: &impl Abort,
     node: &mut NodeCore,
@@ -571,19 +571,30 @@ fn turn_alike(
     setup: &NodeSetup,
     numbers: &mut Numbers,
     turn: u64,
-) -> Result<(), Fail> {
+) -> Result<Option<NodeTaken>, Fail> {
     // Moments go forward by about 23 ms a turn, and back now and then.
     let now = (turn.saturating_mul(20)).saturating_add(numbers.next() % 90);
+    let mut answer = None;
     match numbers.octet(16) {
         0 => assert_eq!(rt; node.tick(now), plain.expire(now)),
         1 => show_alike(rt, node, plain, setup, now),
         _ => {
             let said = any_packet(numbers, turn);
-            take_alike(rt, node, plain, setup, now, &said)?;
+            answer = Some(take_alike(rt, node, plain, setup, now, &said)?);
             hold_alike(rt, node, plain, said.universe, said.cid);
         }
     }
     assert_eq!(rt; node.moment(), plain.moment);
+    Ok(answer)
+}
+
+/// Puts an answer with those before it, where it is another.
+fn note(answers: &mut Vec<NodeTaken>, answer: Option<NodeTaken>) -> Result<(), Fail> {
+    if let Some(answer) = answer {
+        if !answers.as_slice().contains(&answer) {
+            answers.push(answer)?;
+        }
+    }
     Ok(())
 }
 
@@ -594,8 +605,12 @@ fn as_the_plain_program(rt: HostRuntime) -> Result<(), Fail> {
     let mut node = NodeCore::new(alloc, &setup).ok().ok_or("no room")?;
     let mut plain = PlainNode::new(alloc);
     let mut numbers = Numbers { state: 1 };
+    let mut answers = Vec::new(alloc);
     for turn in 0..6000 {
-        turn_alike(&rt, &mut node, &mut plain, &setup, &mut numbers, turn)?;
+        let answer = turn_alike(&rt, &mut node, &mut plain, &setup, &mut numbers, turn)?;
+        note(&mut answers, answer)?;
     }
+    // The six answers of a table, and a universe that isn't the node's.
+    assert_eq!(rt; answers.len(), 7);
     Ok(())
 }

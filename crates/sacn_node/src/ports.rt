@@ -2,6 +2,7 @@
 
 ghost use Rattle.std.specs.Prelude.{◌≡◌, ◌+◌, ◌≤◌, ◌<◌, ℕ, true, false, length, slice_index, All, IfOk};
 ghost use Rattle.std.specs.Option.{option_map};
+ghost use Rattle.sacn_slots.specs.declared.universe.TheConstants.{SLOTS, FRAME_OCTETS};
 ghost use Rattle.sacn_node.specs.Cores.{core_at, core_slots};
 ghost use Rattle.sacn_node.specs.Setup.{port_numbers};
 ghost use Rattle.sacn_node.specs.Ports.{IsShown, covers, level_in, port_frame, port_of};
@@ -10,6 +11,7 @@ use crate::limits::MAX_PORTS;
 use crate::setup::{PortSetup, SlotRange};
 use crate::tables::Tables;
 use arrayvec::ArrayVec;
+use sacn_slots::{FRAME_OCTETS, SLOTS};
 use sacn_sources::TableFault;
 use std::alloc::Global;
 use std::marker::Model;
@@ -98,14 +100,14 @@ pub(crate) fn find_port(ports: &[NodePort], number: u8) -> Option<&NodePort>
 }
 
 /// Writes the frame of a port with these ranges, where all that is lost is dropped already.
-pub(crate) fn fill_frame(tables: &mut Tables, ranges: &[SlotRange], frame: &mut [u8; 513])
+pub(crate) fn fill_frame(tables: &mut Tables, ranges: &[SlotRange], frame: &mut [u8; FRAME_OCTETS])
     requires expired { core_at tables.old.moment tables.old ≡ tables.old }
     requires ranges { All IsShown ranges.now }
     ensures frame { frame.new ≡ port_frame (core_slots tables.old) ranges.now }
     ensures core { tables.new ≡ tables.old }
 {
     frame.fill(0);
-    let mut slots = [0; 512];
+    let mut slots = [0; SLOTS];
     let mut at = ranges.len();
     // The first range that has a slot gives it, so that it is written last.
     while at > 0 {
@@ -115,7 +117,12 @@ pub(crate) fn fill_frame(tables: &mut Tables, ranges: &[SlotRange], frame: &mut 
 }
 
 /// Writes what a range shows. `slots` is room for the universe's slots.
-fn show_range(tables: &mut Tables, range: SlotRange, slots: &mut [u8; 512], frame: &mut [u8; 513])
+fn show_range(
+    tables: &mut Tables,
+    range: SlotRange,
+    slots: &mut [u8; SLOTS],
+    frame: &mut [u8; FRAME_OCTETS],
+)
     requires expired { core_at tables.old.moment tables.old ≡ tables.old }
     requires range { IsShown range }
     ensures inside { (i : ℕ) → covers i range ≡ true → slice_index frame.new i ≡ level_in (core_slots tables.old) i range }
@@ -132,9 +139,15 @@ fn show_range(tables: &mut Tables, range: SlotRange, slots: &mut [u8; 512], fram
     );
 }
 
-fn copy_slots(slots: &[u8; 512], from: usize, count: usize, to: usize, frame: &mut [u8; 513])
-    requires within { from + count ≤ 512 }
-    requires fits { to + count ≤ 513 }
+fn copy_slots(
+    slots: &[u8; SLOTS],
+    from: usize,
+    count: usize,
+    to: usize,
+    frame: &mut [u8; FRAME_OCTETS],
+)
+    requires within { from + count ≤ SLOTS }
+    requires fits { to + count ≤ FRAME_OCTETS }
     ensures below { (k : ℕ) → k < to → slice_index frame.new k ≡ slice_index frame.old k }
     ensures inside { (k : ℕ) → k < count → slice_index frame.new (to + k) ≡ slice_index slots.now (from + k) }
     ensures above { (k : ℕ) → to + count ≤ k → slice_index frame.new k ≡ slice_index frame.old k }

@@ -7,7 +7,7 @@ ghost use Rattle.sacn_node.specs.Seen.{one_expired, lost_in, new_one, Rise};
 use crate::limits::MAX_UNIVERSES;
 use crate::taken::NodeTaken;
 use sacn_framing::DataView;
-use sacn_slots::merge_into;
+use sacn_slots::{SLOTS, merge_into};
 use sacn_sources::{HeldView, SourceTable, TableFault, Taken};
 use std::alloc::Global;
 use std::marker::Model;
@@ -92,7 +92,7 @@ impl Tables {
     }
 
     /// Writes the slots of a universe, where all that is lost is dropped already.
-    pub(crate) fn slots(&mut self, universe: u16, slots: &mut [u8; 512])
+    pub(crate) fn slots(&mut self, universe: u16, slots: &mut [u8; SLOTS])
         requires { core_at self.old.moment self.old ≡ self.old }
         ensures slots { slots.new ≡ core_slots self.old universe }
         ensures core { self.new ≡ self.old }
@@ -114,7 +114,7 @@ impl Tables {
     }
 
     /// Writes the slots of the table at this place.
-    fn slots_at(&mut self, at: usize, slots: &mut [u8; 512])
+    fn slots_at(&mut self, at: usize, slots: &mut [u8; SLOTS])
         requires { at < length self.old.tables }
         ensures slots { (d : Table) → slots.new ≡ slots_of (rows_kept self.old.moment (slice_index_or self.old.tables at d).rows) }
         ensures core { (d : Table) → self.new ≡ record self.old { tables = slice_set self.old.tables at (with_kept self.old.moment (slice_index_or self.old.tables at d)) } }

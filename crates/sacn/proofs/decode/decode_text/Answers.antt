@@ -2,7 +2,7 @@ use Rattle.std.proofs.Common.{◌≡◌, ◌<◌, ◌+◌, ◌++◌, ◌∙◌, 
 use Rattle.sacn_framing.specs.PacketReading.{reading_packet}
 use Rattle.sacn_discovery.specs.Known.{nothing_known, State}
 use Rattle.sacn_edge.specs.Told.{Adds}
-use Rattle.sacn.specs.Decoding.{Decoded, block, state_after, decoded, then_text, octets_of}
+use Rattle.sacn.specs.Decoding.{block, decoded, then_text, octets_of}
 use Rattle.sacn_edge.proofs.ToldLemmas.{Adds-append}
 use Rattle.sacn.proofs.Decodes.{told_part, written_part, packet_more, is_refused}
 use Rattle.sacn.proofs.decode.decode_text.Goals as goal

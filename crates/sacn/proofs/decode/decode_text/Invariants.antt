@@ -1,7 +1,7 @@
 use Rattle.std.proofs.Common.{◌≡◌, false, drop, List, ℕ}
 use Rattle.sacn_discovery.specs.Known.{nothing_known}
 use Rattle.sacn_edge.specs.Told.{Adds}
-use Rattle.sacn.specs.Decoding.{Decoded, decoded, then_text, octets_of}
+use Rattle.sacn.specs.Decoding.{decoded, then_text, octets_of}
 use Rattle.sacn.proofs.decode.decode_text.Given as goal
 
 abbrev pub invariant-loop-i : goal.invariant-loop-i

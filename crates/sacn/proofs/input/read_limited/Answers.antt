@@ -1,4 +1,4 @@
-use Rattle.std.proofs.Common.{◌≤◌, length, arith, rules, ◌∙◌}
+use Rattle.std.proofs.Common.{rules}
 use Rattle.sacn.proofs.ReadLemmas.{whole}
 use Rattle.sacn.proofs.input.read_limited.Goals as goal
 

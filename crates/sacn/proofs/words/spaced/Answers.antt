@@ -1,4 +1,4 @@
-use Rattle.std.proofs.Common.{◌≡◌, ◌++◌, ◌+◌, ap, ◌∙◌, arith, List, ℕ, drop}
+use Rattle.std.proofs.Common.{◌++◌, ◌+◌, ap, ◌∙◌, arith, List, ℕ, drop}
 use Rattle.sacn.specs.Words.{spaced}
 use Rattle.sacn.proofs.Decodes.{spaced_more}
 use Rattle.sacn.proofs.words.spaced.Goals as goal

@@ -1,4 +1,4 @@
-use Rattle.std.proofs.Common.{rules, ◌≡◌, ◌-◌, ◌<◌, length, ap, sym, ◌∙◌, arith, get_or, None}
+use Rattle.std.proofs.Common.{rules, ◌-◌, ◌<◌, length, ap, ◌∙◌, get_or, None}
 use Rattle.std.proofs.lemmas.List.{get_or_default}
 use Rattle.sacn_cues.specs.Levels.{begun_if_given, given_to}
 use Rattle.sacn_cues.proofs.Begun.{one_begun}

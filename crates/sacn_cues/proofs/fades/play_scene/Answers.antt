@@ -1,4 +1,4 @@
-use Rattle.std.proofs.Common.{◌≡◌, ℕ, length, refl, sym, ap, ◌∙◌}
+use Rattle.std.proofs.Common.{ℕ, length, refl, sym, ap, ◌∙◌}
 use Rattle.sacn_cues.specs.Cues.{level_of_channel}
 use Rattle.sacn_cues.specs.Levels.{all_begun, given_to}
 use Rattle.sacn_cues.proofs.Steps.{cue_begun}

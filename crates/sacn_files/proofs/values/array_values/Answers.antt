@@ -1,6 +1,4 @@
-use Rattle.std.proofs.Common.{◌∙◌, ap, sym}
 use Rattle.toml.specs.View.{view}
-use Rattle.sacn_files.specs.Values.{values_in}
 use Rattle.sacn_files.proofs.TableLemmas.{values_in-view, array_values-as_array}
 use Rattle.sacn_files.proofs.values.array_values.Goals as goal
 

@@ -1,4 +1,4 @@
-use Rattle.std.proofs.Common.{◌≡◌, ◌≤◌, ◌++◌, length, drop}
+use Rattle.std.proofs.Common.{◌≡◌, ◌++◌, length, drop}
 use Rattle.sacn_node.specs.Setup.{port_numbers}
 use Rattle.sacn_node.proofs.ports.copy_numbers.Given as goal
 

@@ -1,5 +1,5 @@
-use Rattle.std.proofs.Common.{◌≡◌, ℕ, List, length, max, replicate, Option, None, true, sym, ap, ◌∙◌, arith}
-use Rattle.std.proofs.lemmas.List.{with_items_is, length-replicate}
+use Rattle.std.proofs.Common.{◌≡◌, ℕ, List, length, max, replicate, Option, None, sym, ap, ◌∙◌, arith}
+use Rattle.std.proofs.lemmas.List.{with_items_is}
 use Rattle.std.specs.List.{list_all}
 use Rattle.sacn_patch.specs.declared.limits.TheConstants.{MAX_CHANNELS}
 use Rattle.sacn_cues.specs.declared.fade.Fade.{Fade}

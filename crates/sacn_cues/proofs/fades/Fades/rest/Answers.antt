@@ -1,5 +1,4 @@
-use Rattle.std.proofs.Common.{List, subst, ap}
-use Rattle.sacn_cues.specs.declared.fade.Fade.{Fade}
+use Rattle.std.proofs.Common.{subst}
 use Rattle.sacn_cues.specs.Levels.{Running, StaysLit}
 use Rattle.sacn_cues.proofs.Stillness.{stays_lit}
 use Rattle.sacn_cues.proofs.fades.Fades.rest.Goals as goal

@@ -1,7 +1,7 @@
-use Rattle.std.proofs.Common.{rules, ◌≡◌, ◌≤◌, ◌<◌, max, nat_lt, true, sym, subst, ap, ◌∙◌, arith}
+use Rattle.std.proofs.Common.{rules, ◌≤◌, ◌<◌, max, subst, arith}
 use Rattle.std.proofs.lemmas.Bool.Decides.{nat_tests}
 use Rattle.sacn_cues.specs.Levels.{last_moment}
-use Rattle.sacn_cues.specs.Playing.{Played, level_shown, StaysAsItIs}
+use Rattle.sacn_cues.specs.Playing.{level_shown, StaysAsItIs}
 use Rattle.sacn_cues.proofs.player.Player.is_still.Goals as goal
 
 pub returns-then-rest-self-clause-stays : goal.returns-then-rest-self-clause-stays

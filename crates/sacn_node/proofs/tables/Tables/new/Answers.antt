@@ -1,4 +1,4 @@
-use Rattle.std.proofs.Common.{map, ap, sym, subst, ◌∙◌}
+use Rattle.std.proofs.Common.{ap, sym, subst, ◌∙◌}
 use Rattle.sacn_node.specs.Cores.{Core}
 use Rattle.sacn_node.specs.Seen.{AreTables, core_of}
 use Rattle.sacn_node.proofs.Prepared.{tables_new, seen_new}

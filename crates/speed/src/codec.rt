@@ -1,0 +1,78 @@
+//! Data packets read and written.
+ghost use Rattle.std.specs.Prelude.{◌≤◌};
+
+use crate::fault::SpeedFault;
+use crate::turn::{self, Turn};
+use sacn_framing::{DataFields, Packet, read_packet, write_data};
+use std::io::Write;
+use std::time::Clock;
+
+pub const READ: &str = "read a data packet of 512 slots";
+
+pub const WRITE: &str = "write a data packet of 512 slots";
+
+/// Writes a full data packet of a source of a universe, and answers its length.
+pub fn written(
+    source: u8,
+    universe: u16,
+    number: u8,
+    slots: &[u8; 512],
+    out: &mut [u8; 638],
+) -> usize
+    requires least { 1 ≤ universe }
+    requires most { universe ≤ 63999 }
+{
+    let fields = DataFields {
+        cid: [source; 16],
+        name: [0; 64],
+        priority: 100,
+        number,
+        preview: false,
+        terminated: false,
+        universe,
+        start: 0,
+        slots: slots.as_slice(),
+    };
+    write_data(&fields, out)
+}
+
+#[derive(Drop)]
+struct Reading {
+    octets: [u8; 638],
+}
+
+impl Turn for Reading {
+    fn turn(&mut self, number: u64) -> u64 {
+        self.octets[111] = (number % 256) as u8;
+        match read_packet(&self.octets) {
+            Ok(Packet::DataPacket(packet)) => u64::from(packet.number()),
+            _ => 0,
+        }
+    }
+}
+
+#[derive(Drop)]
+struct Writing {
+    slots: [u8; 512],
+    out: [u8; 638],
+}
+
+impl Turn for Writing {
+    fn turn(&mut self, number: u64) -> u64 {
+        self.slots[0] = (number % 256) as u8;
+        let length = written(1, 1, 0, &self.slots, &mut self.out);
+        u64::from(self.out[126]).wrapping_add(length as u64)
+    }
+}
+
+pub fn measured<C: Clock, O: Write>(clock: &C, out: &mut O, calls: u64) -> Result<(), SpeedFault> {
+    let mut octets = [0; 638];
+    written(1, 1, 0, &[7; 512], &mut octets);
+    let mut reading = Reading { octets };
+    turn::measured(clock, out, READ, calls, &mut reading)?;
+    let mut writing = Writing {
+        slots: [7; 512],
+        out: [0; 638],
+    };
+    turn::measured(clock, out, WRITE, calls, &mut writing)
+}

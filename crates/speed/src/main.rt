@@ -1,0 +1,79 @@
+//! What the calls of every turn cost, measured by the machine's clock.
+//!
+//! `speed` alone names what it measures; `speed N` takes each measure, with `N` thousand calls of those that take
+//! nanoseconds. Each line is a measure's name, the calls made, the nanoseconds of one, and a sum over what they
+//! answered, so that no compiler leaves them out.
+#![tactic(auto)]
+
+mod codec;
+mod consoles;
+mod fault;
+mod nodes;
+mod sources;
+mod turn;
+
+use fault::SpeedFault;
+use std::alloc::AllocGlobal;
+use std::env::{self, Env};
+use std::io::{self, Write};
+use std::process::ExitCode;
+use std::time::Clock;
+
+const MEASURES: [&str; 9] = [
+    codec::READ,
+    codec::WRITE,
+    sources::TAKE,
+    sources::MERGE,
+    nodes::IGNORE,
+    nodes::SHOW,
+    consoles::LOAD,
+    consoles::IDLE,
+    consoles::CHANGE,
+];
+
+// The first word after the program's name.
+fn first_word<R: AllocGlobal + Env>(rt: &R) -> io::Result<Option<String>> {
+    let mut words = env::args(rt)?;
+    words.next();
+    Ok(words.next())
+}
+
+fn all_named<O: Write>(out: &mut O) -> Result<(), SpeedFault> {
+    for name in MEASURES {
+        writeln!(out, "{name}")?;
+    }
+    Ok(())
+}
+
+fn all_measured<R: AllocGlobal + Clock, O: Write>(
+    rt: &R,
+    out: &mut O,
+    thousands: u64,
+) -> Result<(), SpeedFault> {
+    let calls = thousands.saturating_mul(1000);
+    codec::measured(rt, out, calls)?;
+    sources::measured(rt, out, calls)?;
+    nodes::measured(rt, out, calls)?;
+    consoles::measured(rt, out)
+}
+
+fn run<R: AllocGlobal + Clock + Env, O: Write>(rt: &R, out: &mut O) -> Result<(), SpeedFault> {
+    match first_word(rt)? {
+        None => all_named(out),
+        Some(word) => match word.as_str().parse::<u64>() {
+            Ok(thousands) => all_measured(rt, out, thousands),
+            Err(_) => Err(SpeedFault::Word),
+        },
+    }
+}
+
+fn main(rt: HostRuntime) -> ExitCode {
+    match run(&rt, &mut io::writer(&rt)) {
+        Ok(()) => ExitCode::from(0),
+        Err(fault) => {
+            // Where even this can't be said, the status says it.
+            let _ = eprintln!(rt; "speed: {fault}");
+            ExitCode::from(1)
+        }
+    }
+}
