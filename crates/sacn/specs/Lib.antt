@@ -2,3 +2,4 @@ pub mod Words
 pub mod Blocks
 pub mod Decoding
 pub mod Digits
+pub mod Looks

@@ -7,6 +7,7 @@ mod decode;
 mod digits;
 mod fault;
 mod input;
+mod look;
 mod program;
 #[cfg(test)]
 mod tests;
