@@ -1,2 +1,5 @@
 pub mod Told
 pub mod Writers
+pub mod Heard
+pub mod NodeText
+pub mod Shown

@@ -4,10 +4,16 @@
 //! real terminal, makes no clause false and none useful.
 #![tactic(auto)]
 
+mod clock;
+mod line;
+mod link;
 mod out;
+mod shown;
 mod text;
 mod writer;
 
+pub use clock::Clock;
+pub use link::{BUFFER_OCTETS, Link, Received};
 pub use out::Out;
 pub use text::{WriteFailed, write_text};
 pub use writer::WriterOut;
