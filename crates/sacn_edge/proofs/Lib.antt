@@ -1,2 +1,4 @@
 pub mod ToldLemmas
 pub mod ShownLemmas
+pub mod Settled
+pub mod NodeLemmas

@@ -20,7 +20,7 @@ append_nil (x ∷ xs) = ap (λ t. x ∷ t) (append_nil xs)
 pub Adds-nil : (a : List ℕ → Type 0) → Adds a a []
 Adds-nil a = λ ys told. (ys, told, sym (append_nil ys))
 
-shown_last : (last : Option (List ℕ)) (frame : List ℕ) → is_shown last frame ≡ true → last ≡ Some frame
+pub shown_last : (last : Option (List ℕ)) (frame : List ℕ) → is_shown last frame ≡ true → last ≡ Some frame
 shown_last None frame is = absurd (cc)
 shown_last (Some last) frame is = ap Some (same_is last frame is)
 

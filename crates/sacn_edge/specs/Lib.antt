@@ -3,3 +3,4 @@ pub mod Writers
 pub mod Heard
 pub mod NodeText
 pub mod Shown
+pub mod NodeRun

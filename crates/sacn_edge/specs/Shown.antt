@@ -10,9 +10,16 @@ abbrev pub frame_text : ℕ → PortShown → Option (List ℕ) → List ℕ
 frame_text moment s None = []
 frame_text moment s (Some frame) = if is_shown s.last frame then [] else line_text (record { port = s.number; moment = moment; frame = frame })
 
+abbrev pub later : Option (List ℕ) → Option (List ℕ) → Option (List ℕ)
+later last None = last
+later last (Some frame) = Some frame
+
 abbrev pub with_last : PortShown → Option (List ℕ) → PortShown
-with_last s None = s
-with_last s (Some frame) = record { number = s.number; last = Some frame }
+with_last s frame = record { number = s.number; last = later s.last frame }
+
+-- a port for which no line was written
+abbrev pub unshown : ℕ → PortShown
+unshown port = record { number = port; last = None }
 
 -- the same of a port of a node
 abbrev pub port_text : Node → PortShown → List ℕ

@@ -7,14 +7,18 @@
 mod clock;
 mod line;
 mod link;
+mod node_loop;
 mod out;
+mod report;
 mod shown;
 mod text;
 mod writer;
 
 pub use clock::Clock;
 pub use link::{BUFFER_OCTETS, Link, Received};
+pub use node_loop::run_node;
 pub use out::Out;
+pub use report::{ConsoleReport, NodeReport};
 pub use text::{WriteFailed, write_text};
 pub use writer::WriterOut;
 

@@ -11,7 +11,7 @@ use crate::text::{WriteFailed, write_text};
 use sacn_node::{NoPort, NodeCore};
 
 /// A port of a node, and the frame of the latest line written for it.
-#[derive(Clone, Copy)]
+#[derive(Clone, Copy, Default)]
 pub(crate) struct PortShown {
     pub(crate) number: u8,
     pub(crate) last: Option<[u8; FRAME_OCTETS]>,
