@@ -2,3 +2,4 @@ pub mod ToldLemmas
 pub mod ShownLemmas
 pub mod Settled
 pub mod NodeLemmas
+pub mod ConsoleLemmas

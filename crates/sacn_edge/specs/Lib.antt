@@ -4,3 +4,4 @@ pub mod Heard
 pub mod NodeText
 pub mod Shown
 pub mod NodeRun
+pub mod ConsoleSends

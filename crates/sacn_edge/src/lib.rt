@@ -5,6 +5,7 @@
 #![tactic(auto)]
 
 mod clock;
+mod console_loop;
 mod line;
 mod link;
 mod node_loop;
@@ -15,6 +16,7 @@ mod text;
 mod writer;
 
 pub use clock::Clock;
+pub use console_loop::run_console;
 pub use link::{BUFFER_OCTETS, Link, Received};
 pub use node_loop::run_node;
 pub use out::Out;
