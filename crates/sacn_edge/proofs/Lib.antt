@@ -3,3 +3,4 @@ pub mod ShownLemmas
 pub mod Settled
 pub mod NodeLemmas
 pub mod ConsoleLemmas
+pub mod MemoryLemmas

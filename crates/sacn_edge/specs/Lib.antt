@@ -5,3 +5,5 @@ pub mod NodeText
 pub mod Shown
 pub mod NodeRun
 pub mod ConsoleSends
+pub mod MemoryItems
+pub mod MemoryTold
