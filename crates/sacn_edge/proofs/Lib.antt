@@ -1,1 +1,6 @@
 pub mod ToldLemmas
+pub mod ShownLemmas
+pub mod Settled
+pub mod NodeLemmas
+pub mod ConsoleLemmas
+pub mod MemoryLemmas

@@ -1,15 +1,34 @@
-//! The edges of the programs: where text goes.
+//! The edges of the programs: where datagrams and moments come from, where text and datagrams go, and the
+//! loops of a node and of a console over them.
 //!
-//! What is written is stated over devices that tell what they took: a device that tells nothing, as a
-//! real terminal, makes no clause false and none useful.
+//! What the loops do is stated over devices that tell what was asked of them: a link its receives and sends,
+//! a clock its readings, a sink the octets that it took. Those over memory tell. A device that tells nothing,
+//! as a socket or a terminal of the machine, makes no clause false and none useful.
 #![tactic(auto)]
 
+mod clock;
+mod console_loop;
+mod line;
+mod link;
+pub mod memory;
+mod node_loop;
 mod out;
+mod report;
+mod shown;
+mod system;
 mod text;
+mod udp;
 mod writer;
 
+pub use clock::Clock;
+pub use console_loop::run_console;
+pub use link::{BUFFER_OCTETS, Link, Received};
+pub use node_loop::run_node;
 pub use out::Out;
+pub use report::{ConsoleReport, NodeReport};
+pub use system::SystemClock;
 pub use text::{WriteFailed, write_text};
+pub use udp::{SocketFailed, UdpLink};
 pub use writer::WriterOut;
 
 #[cfg(test)]

@@ -1,0 +1,107 @@
+-- After a call at a moment, nothing more is lost at it.
+use Rattle.std.proofs.Common.{◌≡◌, ℕ, max, Bool, true, false, cond, List, [], ◌∷◌, find, filter, refl, sym, ap, ◌∙◌, arith, nat_eq, Option, Some, None, Ok, Err}
+use Rattle.std.specs.declared.cmp.Ordering.TheVariants.{Less, Equal, Greater}
+use Rattle.std.proofs.lemmas.Bool.{lt-ltb}
+use Rattle.std.specs.Prelude.{nat_lt, ◌-◌, ⊤}
+use Rattle.sacn_sources.specs.declared.taken.Taken.{Taken}
+use Rattle.sacn_sources.specs.declared.taken.Taken.TheVariants.{Held, Observed, EndedNow, OutOfSequence, SourcesExceeded, UnknownIgnored}
+use Rattle.sacn_framing.specs.PacketReading.{reading_packet}
+use Rattle.sacn_framing.specs.declared.packet.Packet.TheVariants.{DataPacket, PagePacket, SyncPacket}
+use Rattle.sacn_sources.specs.Order.{order, same, by_order}
+use Rattle.sacn_sources.specs.Packets.{packet_of}
+use Rattle.sacn_sources.specs.Rows.{Row, Packet, row_renewed, rows_kept, row_of, put_row, row_live, row_ended, row_observed, rows_after, observed, take_row, taken}
+use Rattle.sacn_node.specs.Cores.{Table, Core, Node, with_kept, rows_kept_all, change_rows, core_at, core_after}
+use Rattle.sacn_node.specs.Readings.{Reading, after_reading}
+use Rattle.sacn_node.specs.Calls.{core_step, step}
+use Rattle.sacn_edge.specs.Heard.{Heard, Silence, Octets, Fault}
+use Rattle.sacn_edge.specs.NodeText.{call_at}
+
+abbrev Renewed : ℕ → List Row → Type 0
+Renewed t [] = ⊤
+Renewed t (r ∷ rs) = (row_renewed t r ≡ true) × Renewed t rs
+
+abbrev AllRenewed : ℕ → List Table → Type 0
+AllRenewed t [] = ⊤
+AllRenewed t (g ∷ gs) = Renewed t g.rows × AllRenewed t gs
+
+renewed_kept : (t : ℕ) (rs : List Row) → Renewed t rs → rows_kept t rs ≡ rs
+renewed_kept t [] all = refl
+renewed_kept t (r ∷ rs) all = rw all.0 (ap (λ l. r ∷ l) (renewed_kept t rs all.1))
+
+kept_renewed : (t : ℕ) (rs : List Row) → Renewed t (rows_kept t rs)
+kept_renewed t [] = tt
+kept_renewed t (r ∷ rs) =
+    elim (row_renewed t r) as (λ b. row_renewed t r ≡ b → Renewed t (cond b (r ∷ rows_kept t rs) (rows_kept t rs))) [
+      | true ↦ λ is. (is, kept_renewed t rs)
+      | false ↦ λ is. kept_renewed t rs
+    ] refl
+
+put_renewed : (t : ℕ) (n : Row) (rs : List Row) → row_renewed t n ≡ true → Renewed t rs → Renewed t (put_row n rs)
+put_renewed t n [] new all = (new, tt)
+put_renewed t n (r ∷ rs) new all =
+    elim (order n.source r.source) as (λ o. Renewed t (by_order o (n ∷ r ∷ rs) (n ∷ rs) (r ∷ put_row n rs))) [
+      | Less ↦ (new, all)
+      | Equal ↦ (new, all.1)
+      | Greater ↦ (all.0, put_renewed t n rs new all.1)
+    ]
+
+now_renewed : (t : ℕ) → nat_lt (t - t) 2500 ≡ true
+now_renewed t = lt-ltb (t - t) 2500 (omega arith)
+
+observed_renewed : (t : ℕ) (x : Packet) (s : List ℕ) (all rs : List Row) → Renewed t all → Renewed t rs → Renewed t (observed x (row_of s rs) all)
+observed_renewed t x s all [] kept rest = kept
+observed_renewed t x s all (r ∷ rs) kept rest =
+    elim (same s r.source) as (λ b. Renewed t (observed x (cond b (Some r) (row_of s rs)) all)) [
+      | true ↦ put_renewed t (row_observed x r) all rest.0 kept
+      | false ↦ observed_renewed t x s all rs kept rest.1
+    ]
+
+after_renewed : (answer : Taken) (t : ℕ) (x : Packet) (rs : List Row) → Renewed t rs → Renewed t (rows_after answer x t rs)
+after_renewed Held t x rs all = put_renewed t (row_live x t) rs (now_renewed t) all
+after_renewed EndedNow t x rs all = put_renewed t (row_ended x t) rs (now_renewed t) all
+after_renewed Observed t x rs all = observed_renewed t x x.source rs rs all all
+after_renewed OutOfSequence t x rs all = all
+after_renewed SourcesExceeded t x rs all = all
+after_renewed UnknownIgnored t x rs all = all
+
+all_kept : (t : ℕ) (gs : List Table) → AllRenewed t (rows_kept_all t gs)
+all_kept t [] = tt
+all_kept t (g ∷ gs) = (kept_renewed t g.rows, all_kept t gs)
+
+kept_all : (t : ℕ) (gs : List Table) → AllRenewed t gs → rows_kept_all t gs ≡ gs
+kept_all t [] all = refl
+kept_all t (g ∷ gs) all =
+    ap (λ rs. let kept : Table = record { universe = g.universe; rows = rs } in kept ∷ rows_kept_all t gs) (renewed_kept t g.rows all.0)
+    ∙ ap (λ l. g ∷ l) (kept_all t gs all.1)
+
+change_renewed : (t u : ℕ) (x : Packet) (gs : List Table) → AllRenewed t gs → AllRenewed t (change_rows u (take_row x t) gs)
+change_renewed t u x [] all = all
+change_renewed t u x (g ∷ gs) all =
+    elim (nat_eq g.universe u) as (λ b. AllRenewed t (cond b (record { universe = g.universe; rows = take_row x t g.rows } ∷ gs) (g ∷ change_rows u (take_row x t) gs))) [
+      | true ↦ (after_renewed (taken x g.rows) t x g.rows all.0, all.1)
+      | false ↦ (all.0, change_renewed t u x gs all.1)
+    ]
+
+max_twice : (m now : ℕ) → max (max m now) now ≡ max m now
+max_twice m now = omega arith
+
+-- a core all of whose rows are renewed at its moment stays so
+settled : (m now : ℕ) (gs : List Table) → AllRenewed (max m now) gs → core_at now (record { moment = max m now; tables = gs }) ≡ record { moment = max m now; tables = gs }
+settled m now gs all =
+    ap (λ k. let c : Core = record { moment = k; tables = rows_kept_all k gs } in c) (max_twice m now)
+    ∙ ap (λ l. let c : Core = record { moment = max m now; tables = l } in c) (kept_all (max m now) gs all)
+
+expired : (c : Core) (now : ℕ) → core_at now (core_at now c) ≡ core_at now c
+expired c now = settled c.moment now (rows_kept_all (max c.moment now) c.tables) (all_kept (max c.moment now) c.tables)
+
+reading_settled : (reading : Reading) (c : Core) (now : ℕ) → core_at now (after_reading reading now c) ≡ after_reading reading now c
+reading_settled (Ok (DataPacket d)) c now =
+    settled c.moment now _ (change_renewed (max c.moment now) d.universe (packet_of d) (rows_kept_all (max c.moment now) c.tables) (all_kept (max c.moment now) c.tables))
+reading_settled (Ok (PagePacket p)) c now = expired c now
+reading_settled (Ok SyncPacket) c now = expired c now
+reading_settled (Err fault) c now = expired c now
+
+pub turn_settled : (now : ℕ) (heard : Heard) (c : Core) → core_at now (core_step (call_at now heard) c) ≡ core_step (call_at now heard) c
+turn_settled now Silence c = expired c now
+turn_settled now (Octets octets) c = reading_settled (reading_packet octets) c now
+turn_settled now Fault c = expired c now
