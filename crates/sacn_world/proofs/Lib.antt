@@ -1,1 +1,2 @@
+pub mod Cids
 pub mod Entries

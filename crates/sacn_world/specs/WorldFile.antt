@@ -1,5 +1,5 @@
 -- A world's file: its faults by phases, and its consoles and nodes (profile).
-use Rattle.std.specs.Prelude.{◌&&◌, ◌||◌, ◌+◌, ℕ, Bool, not, false, List, [], ◌∷◌, Option, None, Some, if◌then◌else◌, codes, is_some, option_and_then, Result, Ok, Err, Vec}
+use Rattle.std.specs.Prelude.{◌≢◌, ◌&&◌, ◌||◌, ◌+◌, ℕ, Bool, not, false, List, [], ◌∷◌, Option, None, Some, if◌then◌else◌, codes, is_some, option_and_then, Result, Ok, Err, Vec, AllPairs}
 use Rattle.std.specs.declared.alloc.Global.{Global}
 use Rattle.std.specs.List.{list_all, list_any}
 use Rattle.std.specs.Str.{bytes_eq}
@@ -109,6 +109,10 @@ same_cid d e = bytes_eq d.0.cid e.0.cid
 abbrev pub has_same_cid : List Desk → Bool
 has_same_cid [] = false
 has_same_cid (d ∷ ds) = list_any (λ e. same_cid d e) ds || has_same_cid ds
+
+-- no two consoles have one CID
+abbrev pub HaveOwnCids : List Desk → Type 0
+HaveOwnCids ds = AllPairs (λ d e. d.0.cid ≢ e.0.cid) ds
 
 -- the last phase: the consoles, then the nodes, then two consoles of one CID
 abbrev pub or_fault : {X Y : Type 0} → (X → Result Y WorldTextFault) → Result X WorldTextFault → Result Y WorldTextFault

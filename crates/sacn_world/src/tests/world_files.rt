@@ -7,7 +7,25 @@ use std::alloc::Global;
 use std::test::*;
 
 /// A second console, with the show of the first, before the node.
-const SAME_DESK: &str = "[[console]]
+const SAME_SHOW: &str = "[[console]]
+[console.show]
+version = 1
+cid = \"00010203-0405-0607-0809-0a0b0c0d0e0f\"
+name = \"Desk\"
+universes = [1]
+[[console.show.cue]]
+number = 1
+fade = 0
+levels = [[1, 65535]]
+[[console.show.patch]]
+channel = 1
+universe = 1
+slot = 1
+[[node]]
+";
+
+/// A second console, whose show has the first one's CID in another spelling.
+const SAME_CID: &str = "[[console]]
 [console.show]
 version = 2
 cid = \"000102030405060708090A0B0C0D0E0F\"
@@ -47,6 +65,14 @@ fn wrong<'a>(alloc: Global, rows: &[(&'a str, WorldTextFault)]) -> Option<&'a st
     None
 }
 
+/// The first number of the first console.
+fn first_number(desks: &[(Show, u8)]) -> Option<u8> {
+    match desks.first() {
+        Some(desk) => Some(desk.1),
+        None => None,
+    }
+}
+
 fn shows_desk(show: &Show) -> bool {
     show.name() == "Desk" && show.priority() == 100 && show.universes() == [1].as_slice()
 }
@@ -59,7 +85,7 @@ fn has_one_port(setup: &NodeSetup) -> bool {
 fn one_console_and_one_node(rt: HostRuntime) -> Result<(), Fail> {
     let (desks, setups) = read_world(rt.alloc(), WORLD)?;
     assert_eq!(rt; (desks.len(), setups.len()), (1, 1));
-    assert_eq!(rt; desks[0].1, 0);
+    assert_eq!(rt; first_number(desks.as_slice()), Some(0));
     assert!(rt; shows_desk(&desks[0].0));
     assert!(rt; has_one_port(&setups[0]));
     Ok(())
@@ -70,7 +96,7 @@ fn first_numbers(rt: HostRuntime) -> Result<(), Fail> {
     let alloc = rt.alloc();
     let text = WORLD.replace(alloc, "[[console]]\n", "[[console]]\nfirst = 255\n")?;
     let (desks, _setups) = read_world(alloc, text.as_str())?;
-    assert_eq!(rt; desks[0].1, 255);
+    assert_eq!(rt; first_number(desks.as_slice()), Some(255));
     assert_eq!(rt;
         edited(alloc, "[[console]]\n", "[[console]]\nfirst = 256\n")?,
         Some(WorldTextFault::KeyValue)
@@ -189,12 +215,32 @@ fn members_have_numbers(rt: HostRuntime) {
 #[test]
 fn consoles_of_one_cid(rt: HostRuntime) -> Result<(), Fail> {
     let alloc = rt.alloc();
-    let text = WORLD.replace(alloc, "[[node]]\n", SAME_DESK)?;
-    assert_eq!(rt; fault(alloc, text.as_str()), Some(WorldTextFault::SameCid));
-    let other = text.replace(alloc, "0A0B0C0D0E0F", "0A0B0C0D0E0E")?;
-    let (desks, _setups) = read_world(alloc, other.as_str())?;
+    assert_eq!(rt;
+        edited(alloc, "[[node]]\n", SAME_SHOW)?,
+        Some(WorldTextFault::SameCid)
+    );
+    assert_eq!(rt;
+        edited(alloc, "[[node]]\n", SAME_CID)?,
+        Some(WorldTextFault::SameCid)
+    );
+    Ok(())
+}
+
+#[test]
+fn consoles_of_two_cids(rt: HostRuntime) -> Result<(), Fail> {
+    let alloc = rt.alloc();
+    let other = SAME_CID.replace(alloc, "0A0B0C0D0E0F", "0A0B0C0D0E0E")?;
+    let text = WORLD.replace(alloc, "[[node]]\n", other.as_str())?;
+    let (desks, _setups) = read_world(alloc, text.as_str())?;
     assert_eq!(rt; desks.len(), 2);
     assert_eq!(rt; desks[1].0.name(), "Other desk");
+    Ok(())
+}
+
+#[test]
+fn nodes_come_before_cids(rt: HostRuntime) -> Result<(), Fail> {
+    let alloc = rt.alloc();
+    let text = WORLD.replace(alloc, "[[node]]\n", SAME_SHOW)?;
     let bad = text.replace(alloc, "port]]\nnumber = 1\n", "port]]\nnumber = 0\n")?;
     assert_eq!(rt;
         fault(alloc, bad.as_str()),

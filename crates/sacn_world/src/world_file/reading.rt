@@ -1,8 +1,8 @@
 //! Reading a world, phase by phase.
-ghost use Rattle.std.specs.Prelude.{◌≡◌, ◌||◌, false, Ok, map, option_map, codes, IfOk};
+ghost use Rattle.std.specs.Prelude.{◌≡◌, Ok, map, IfOk};
 ghost use Rattle.toml.specs.Parse.{parse_document};
 ghost use Rattle.toml.specs.View.{view, table_view};
-ghost use Rattle.sacn_world.specs.WorldFile.{console_rows, node_rows, keys_are_known, keys_are_there, values_are_good, last_phase, value_phase, after_version, world_in, world_or_toml, has_same_cid, GivesWorld};
+ghost use Rattle.sacn_world.specs.WorldFile.{console_rows, node_rows, keys_are_known, keys_are_there, values_are_good, last_phase, value_phase, after_version, world_in, world_or_toml, HaveOwnCids, GivesWorld};
 
 use super::cids::has_same_cid;
 use super::members::{Desks, Setups, are_consoles, are_nodes, read_members};
@@ -57,9 +57,10 @@ fn values_are_good(table: &Table) -> bool
 }
 
 /// The last phase: the consoles, then the nodes, then two consoles of one CID.
+#[tactic(auto, using(crate::proofs::Cids::own_cids))]
 fn last_phase(alloc: Global, consoles: &[Value], nodes: &[Value]) -> Result<Members, WorldTextFault>
     ensures world { GivesWorld result (last_phase (map view consoles.now) (map view nodes.now)) }
-    ensures different { IfOk result (λ world. has_same_cid world.0.items ≡ false) }
+    ensures different { IfOk result (λ world. HaveOwnCids world.0.items) }
 {
     match read_members(alloc, &Desks, consoles) {
         Ok(desks) => match read_members(alloc, &Setups, nodes) {
@@ -79,7 +80,7 @@ fn last_phase(alloc: Global, consoles: &[Value], nodes: &[Value]) -> Result<Memb
 /// The values, and then the last phase.
 fn value_phase(alloc: Global, table: &Table) -> Result<Members, WorldTextFault>
     ensures world { GivesWorld result (value_phase (table_view table.now)) }
-    ensures different { IfOk result (λ world. has_same_cid world.0.items ≡ false) }
+    ensures different { IfOk result (λ world. HaveOwnCids world.0.items) }
 {
     if !values_are_good(table) {
         return Err(WorldTextFault::KeyValue);
@@ -90,7 +91,7 @@ fn value_phase(alloc: Global, table: &Table) -> Result<Members, WorldTextFault>
 /// The phases after the version.
 fn after_version(alloc: Global, table: &Table) -> Result<Members, WorldTextFault>
     ensures world { GivesWorld result (after_version (Ok 1) (table_view table.now)) }
-    ensures different { IfOk result (λ world. has_same_cid world.0.items ≡ false) }
+    ensures different { IfOk result (λ world. HaveOwnCids world.0.items) }
 {
     if !keys_are_known(table) {
         return Err(WorldTextFault::UnknownKey);
@@ -104,7 +105,7 @@ fn after_version(alloc: Global, table: &Table) -> Result<Members, WorldTextFault
 /// The world of a table, or the fault of the first phase that fails.
 fn world_of(alloc: Global, table: &Table) -> Result<Members, WorldTextFault>
     ensures world { GivesWorld result (world_in (table_view table.now)) }
-    ensures different { IfOk result (λ world. has_same_cid world.0.items ≡ false) }
+    ensures different { IfOk result (λ world. HaveOwnCids world.0.items) }
 {
     match version_in(value_at(table, "version"), NEWEST_WORLD) {
         Ok(_) => after_version(alloc, table),
@@ -123,7 +124,7 @@ pub fn read_world(
     text: &str,
 ) -> Result<(Vec<(Show, u8)>, Vec<NodeSetup>), WorldTextFault>
     ensures world { GivesWorld result (world_or_toml (parse_document text.now)) }
-    ensures different { IfOk result (λ world. has_same_cid world.0.items ≡ false) }
+    ensures different { IfOk result (λ world. HaveOwnCids world.0.items) }
 {
     match read_table(alloc, text) {
         Ok(table) => world_of(alloc, &table),
