@@ -55,11 +55,11 @@ fn restarts_and_orders(rt: HostRuntime) -> Result<(), Fail> {
     Ok(())
 }
 
-/// The octets of a schedule's first event, if it is noise that comes to node 0 at 3500.
-fn noise_of(events: &[Event]) -> Option<&[u8]> {
+/// Whether the first event is noise of these octets, which comes to node 0 at 3500.
+fn is_noise(events: &[Event], wanted: &[u8]) -> bool {
     match events.first() {
-        Some(Event::Noise(0, 3500, octets)) => Some(octets.as_slice()),
-        _ => None,
+        Some(Event::Noise(0, 3500, octets)) => octets.as_slice() == wanted,
+        _ => false,
     }
 }
 
@@ -67,9 +67,9 @@ fn noise_of(events: &[Event]) -> Option<&[u8]> {
 fn octets_of_noise(rt: HostRuntime) -> Result<(), Fail> {
     let none = read_schedule(rt.alloc(), "noise 0 3500 -\nlook 0 1 900\n")?;
     assert_eq!(rt; none.len(), 2);
-    assert_eq!(rt; noise_of(none.as_slice()), Some([].as_slice()));
+    assert!(rt; is_noise(none.as_slice(), &[]));
     let three = read_schedule(rt.alloc(), "noise 0 3500 aB01Ff\n")?;
-    assert_eq!(rt; noise_of(three.as_slice()), Some([171, 1, 255].as_slice()));
+    assert!(rt; is_noise(three.as_slice(), &[171, 1, 255]));
     Ok(())
 }
 
