@@ -1,11 +1,11 @@
 -- A schedule: what happens, a line for each event (profile).
-use Rattle.std.specs.Prelude.{ℕ, List, [], ◌∷◌, map, Option, None, Some, Result, Ok, Err, codes, if◌then◌else◌, Vec}
+use Rattle.std.specs.Prelude.{◌≡◌, ℕ, List, [], ◌∷◌, ◌++◌, map, Option, None, Some, Result, Ok, Err, codes, if◌then◌else◌, Vec}
 use Rattle.std.specs.declared.alloc.Global.{Global}
 use Rattle.std.specs.Str.{bytes_eq}
 use Rattle.hex.specs.Hex.{decode_of}
 use Rattle.hex.specs.declared.error.FromHexError.{FromHexError}
 use Rattle.sacn_files.specs.Words.{number_in}
-use Rattle.sacn_files.specs.Lines.{entries_in}
+use Rattle.sacn_files.specs.Lines.{Said, entries_in}
 use Rattle.sacn_files.specs.declared.faults.TextFault.{TextFault}
 use Rattle.sacn_files.specs.declared.faults.TextFault.TheVariants.{OutOfMemory, UnknownWord, WordCount, Hex}
 use Rattle.sacn_console.specs.Scripts.{or_number, command_in}
@@ -97,6 +97,23 @@ event_in line (w ∷ ws) =
 -- a schedule's events, or the first faulty line's fault
 abbrev pub schedule_in : List ℕ → Result (List Happening) TextFault
 schedule_in text = entries_in event_in text
+
+-- in terms of lines: what a line gives; these lines give these events, each its own
+abbrev pub line_event : Said → Result Happening TextFault
+line_event l = event_in l.0 l.1
+
+abbrev pub AreGiven : List Said → List Happening → Type 0
+AreGiven ls hs = map line_event ls ≡ map (λ h. Ok h) hs
+
+-- the fault of the first faulty line: those before it give events, and those after it aren't looked at
+pub record IsFirstFault (fault : TextFault) (ls : List Said) : Type 0 where
+  pub good : List Said
+  pub line : Said
+  pub rest : List Said
+  pub events : List Happening
+  pub whole : ls ≡ good ++ line ∷ rest
+  pub gives : AreGiven good events
+  pub faulty : line_event line ≡ Err fault
 
 -- a call gives this event or these events, or this fault, unless a request for memory was refused
 abbrev pub GivesEvent : Result Event TextFault → Result Happening TextFault → Type 0

@@ -1,6 +1,8 @@
 //! A schedule's text.
-ghost use Rattle.std.specs.Prelude.{◌≡◌, map};
-ghost use Rattle.sacn_world.specs.Schedules.{rare_in, event_in, schedule_in, GivesEvent, GivesEvents};
+ghost use Rattle.std.specs.Prelude.{◌≡◌, ◌⊎◌, map, IfOk, IfErr};
+ghost use Rattle.sacn_files.specs.Lines.{said_lines};
+ghost use Rattle.sacn_world.specs.Events.{happening};
+ghost use Rattle.sacn_world.specs.Schedules.{rare_in, event_in, schedule_in, AreGiven, IsFirstFault, GivesEvent, GivesEvents};
 
 mod entries;
 
@@ -49,13 +51,8 @@ fn event_in(alloc: Global, line: usize, words: &[&str]) -> Result<Event, TextFau
     }
 }
 
-/// The events of a schedule, a line each, or the first faulty line's fault; `OutOfMemory` may stand in
-/// place of either where a request for memory is refused.
-///
-/// A line without words, or whose first begins with `#`, is skipped. In a line the first word is looked
-/// at, then an order's command, then the count of words, then numbers and digits from left to right
-/// (profile).
-pub fn read_schedule(alloc: Global, text: &str) -> Result<Vec<Event>, TextFault>
+/// The events of a schedule, by the definition over its lines.
+fn events_of(alloc: Global, text: &str) -> Result<Vec<Event>, TextFault>
     ensures { GivesEvents result (schedule_in text.now) }
 {
     let Ok(lines) = said_lines(alloc, text) else {
@@ -72,4 +69,19 @@ pub fn read_schedule(alloc: Global, text: &str) -> Result<Vec<Event>, TextFault>
         }
     }
     Ok(events)
+}
+
+/// The events of a schedule, a line each, or the first faulty line's fault; `OutOfMemory` may stand in
+/// place of either where a request for memory is refused.
+///
+/// A line without words, or whose first begins with `#`, is skipped. In a line the first word is looked
+/// at, then an order's command, then the count of words, then numbers and digits from left to right
+/// (profile).
+#[tactic(auto, using(crate::proofs::FirstFaults::each_given, crate::proofs::FirstFaults::fault_given))]
+pub fn read_schedule(alloc: Global, text: &str) -> Result<Vec<Event>, TextFault>
+    ensures exact { GivesEvents result (schedule_in text.now) }
+    ensures each { IfOk result (λ events. AreGiven (said_lines text.now) (map happening events.items)) }
+    ensures first { IfErr result (λ fault. (fault ≡ TextFault.OutOfMemory) ⊎ IsFirstFault fault (said_lines text.now)) }
+{
+    events_of(alloc, text)
 }

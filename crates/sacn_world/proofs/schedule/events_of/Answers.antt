@@ -1,7 +1,7 @@
 use Rattle.std.proofs.Common.{◌≡◌, ◌∷◌, ◌+◌, ◌∙◌, drop, ap, sym}
 use Rattle.std.proofs.lemmas.List.{drop_more}
 use Rattle.sacn_world.proofs.Entries.{read_more}
-use Rattle.sacn_world.proofs.schedule.read_schedule.Goals as goal
+use Rattle.sacn_world.proofs.schedule.events_of.Goals as goal
 
 pub loop-line-preserved : goal.loop-line-preserved
 loop-line-preserved c =
