@@ -1,0 +1,3 @@
+pub mod Cids
+pub mod Entries
+pub mod FirstFaults

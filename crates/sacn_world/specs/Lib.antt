@@ -1,0 +1,5 @@
+pub mod Reads
+pub mod Events
+pub mod WorldFaults
+pub mod WorldFile
+pub mod Schedules

@@ -1,0 +1,13 @@
+//! The file of a world.
+
+mod cids;
+mod fault;
+mod members;
+mod reading;
+
+pub use fault::WorldTextFault;
+pub use reading::read_world;
+
+/// The newest version of world files, and the only one. The tables of shows and setups in it have
+/// versions of their own.
+pub const NEWEST_WORLD: u8 = 1;

@@ -1,0 +1,35 @@
+//! Consoles of one CID.
+ghost use Rattle.std.specs.Prelude.{◌≡◌};
+ghost use Rattle.std.specs.List.{list_any};
+ghost use Rattle.std.specs.Str.{bytes_eq};
+ghost use Rattle.sacn_world.specs.WorldFile.{same_cid, has_same_cid};
+
+use sacn_console::Show;
+
+fn are_equal(cid: &[u8], other: &[u8]) -> bool
+    ensures { result ≡ bytes_eq cid.now other.now }
+{
+    cid == other
+}
+
+fn same_cid(desk: &(Show, u8), other: &(Show, u8)) -> bool
+    ensures { result ≡ same_cid desk.now other.now }
+{
+    are_equal(&desk.0.cid(), &other.0.cid())
+}
+
+fn shares_cid(desk: &(Show, u8), others: &[(Show, u8)]) -> bool
+    ensures { result ≡ list_any (λ other. same_cid desk.now other) others.now }
+{
+    others.iter().any(|other| same_cid(desk, other))
+}
+
+/// Whether the shows of two consoles have one CID.
+pub(super) fn has_same_cid(desks: &[(Show, u8)]) -> bool
+    ensures { result ≡ has_same_cid desks.now }
+{
+    match desks.split_first() {
+        Some((first, rest)) => shares_cid(first, rest) || has_same_cid(rest),
+        None => false,
+    }
+}
