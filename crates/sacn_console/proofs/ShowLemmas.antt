@@ -14,7 +14,8 @@ use Rattle.sacn_files.specs.Values.{number_in}
 use Rattle.sacn_files.specs.Rows.{each}
 use Rattle.sacn_files.specs.Numbered.{has_repeat, in_order}
 use Rattle.sacn_files.proofs.AscentLemmas.{in_order_rises, in_order_keeps}
-use Rattle.sacn_console.specs.declared.limits.TheConstants.{CONSOLE_UNIVERSES}
+use Rattle.sacn_console.specs.declared.limits.TheConstants.{CONSOLE_UNIVERSES, MAX_DESTINATIONS}
+use Rattle.sacn_files.specs.declared.limits.TheConstants.{LEAST_UDP_PORT, MOST_UDP_PORT}
 use Rattle.sacn_console.specs.Shows.{IsUniverse, AreUniverses}
 use Rattle.sacn_console.specs.ShowReading.{name_in, cid_in, priority_of, identity_in}
 
@@ -71,6 +72,10 @@ each_long {X} read (d ∷ ds) xs e =
     let rest = mapped (λ ys. x.0 ∷ ys) (each read ds) xs x.2 in
     let long : length rest.0 ≡ length ds = each_long read ds rest.0 rest.1 in
     rw (← rest.2, long) refl
+
+-- as many ports as there are values
+pub ports_written : (ds : List Data) (ps : List ℕ) → each (number_in LEAST_UDP_PORT MOST_UDP_PORT) ds ≡ Some ps → length ds ≤ MAX_DESTINATIONS → length ps ≤ MAX_DESTINATIONS
+ports_written ds ps e few = let long : length ps ≡ length ds = each_long (number_in LEAST_UDP_PORT MOST_UDP_PORT) ds ps e in rw long few
 
 -- the universes, in ascending order
 same_numbers : (xs : List ℕ) → map (λ n. n) xs ≡ xs

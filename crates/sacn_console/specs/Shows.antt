@@ -6,7 +6,7 @@ use Rattle.sacn_patch.specs.Patch.{Patched}
 use Rattle.sacn_patch.specs.declared.limits.TheConstants.{MAX_UNIVERSE}
 use Rattle.sacn_cues.specs.Cues.{Cues}
 use Rattle.sacn_framing.specs.Naming.{is_nameable}
-use Rattle.sacn_console.specs.declared.limits.TheConstants.{CONSOLE_UNIVERSES}
+use Rattle.sacn_console.specs.declared.limits.TheConstants.{CONSOLE_UNIVERSES, MAX_DESTINATIONS}
 
 pub record ShowContent : Type 0 where
   pub cid : List ℕ
@@ -34,3 +34,4 @@ pub record ShowOk (s : ShowContent) : Type 0 where
   pub ascending : IsStrictlyIncreasing s.universes
   pub universes : AllByRecursion IsUniverse s.universes
   pub few : length s.universes ≤ CONSOLE_UNIVERSES
+  pub destinations : length s.send_to ≤ MAX_DESTINATIONS

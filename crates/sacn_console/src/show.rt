@@ -18,6 +18,7 @@ pub use fault::ShowFault;
 use identity::Identity;
 pub use patches::PatchRow;
 pub use phases::{read_show, show_of};
+use ports::Destinations;
 use universes::Universes;
 
 /// A show: who sends, on which universes and to which ports, and its cues and patch.
@@ -54,23 +55,23 @@ impl Show {
     ghost use Rattle.std.specs.List.Sorted.{IsStrictlyIncreasing};
     ghost use Rattle.sacn_framing.specs.Naming.{padded, is_nameable};
     ghost use Rattle.sacn_console.specs.Shows.{ShowContent, ShowOk, IsUniverse};
-    ghost use Rattle.sacn_console.specs.declared.limits.TheConstants.{CONSOLE_UNIVERSES};
+    ghost use Rattle.sacn_console.specs.declared.limits.TheConstants.{CONSOLE_UNIVERSES, MAX_DESTINATIONS};
 
     fn new(
         identity: Identity,
         universes: Universes,
-        send_to: Vec<u16>,
+        send_to: Destinations,
         cues: CueList,
         patch: Patch,
     ) -> Self
-        ensures { result ≡ record { cid = identity.cid; name = identity.name; priority = identity.priority; universes = universes; send_to = send_to.items; cues = cues; patch = patch } }
+        ensures { result ≡ record { cid = identity.cid; name = identity.name; priority = identity.priority; universes = universes; send_to = send_to; cues = cues; patch = patch } }
     {
         let Identity { sender, name } = identity;
         Show {
             sender,
             name,
             universes: universes.numbers,
-            send_to,
+            send_to: send_to.ports,
             cues,
             patch,
         }
@@ -109,9 +110,11 @@ impl Show {
         self.universes.as_slice()
     }
 
-    /// The UDP ports to which its packets are sent, in the file's order; a port may stand twice.
+    /// The UDP ports to which its packets are sent, in the file's order: at most `MAX_DESTINATIONS`; a port may stand
+    /// twice.
     pub fn send_to(&self) -> &[u16]
-        ensures { result.now ≡ self.now.send_to }
+        ensures ports { result.now ≡ self.now.send_to }
+        ensures few { length result.now ≤ MAX_DESTINATIONS }
     {
         self.send_to.as_slice()
     }

@@ -9,7 +9,7 @@ use super::cues::{CueRow, cues_added, cues_in};
 use super::fault::fault_of;
 use super::identity::{Identity, identity_in};
 use super::patches::{PatchRow, patches_added, patches_in};
-use super::ports::send_to_of;
+use super::ports::{Destinations, send_to_of};
 use super::universes::{Universes, universes_of};
 use super::{Show, ShowFault};
 use crate::limits::NEWEST_SHOW;
@@ -97,11 +97,11 @@ fn own_phase(
     alloc: Global,
     identity: Identity,
     universes: Universes,
-    send_to: Vec<u16>,
+    send_to: Destinations,
     cues: Vec<CueRow>,
     rows: Vec<PatchRow>,
 ) -> Result<Show, ShowFault>
-    ensures { Gives ShowFault.OutOfMemory result (own_phase identity universes send_to.items cues.items rows.items) }
+    ensures { Gives ShowFault.OutOfMemory result (own_phase identity universes send_to cues.items rows.items) }
 {
     match cues_added(alloc, cues) {
         Ok(cues) => match patches_added(alloc, universes.numbers.as_slice(), rows.as_slice()) {
@@ -117,10 +117,10 @@ fn patch_phase(
     table: &Table,
     identity: Identity,
     universes: Universes,
-    send_to: Vec<u16>,
+    send_to: Destinations,
     cues: Vec<CueRow>,
 ) -> Result<Show, ShowFault>
-    ensures { Gives ShowFault.OutOfMemory result (patch_phase (table_view table.now) identity universes send_to.items cues.items) }
+    ensures { Gives ShowFault.OutOfMemory result (patch_phase (table_view table.now) identity universes send_to cues.items) }
 {
     match patches_in(alloc, patch_rows(table)) {
         Ok(Some(rows)) => own_phase(alloc, identity, universes, send_to, cues, rows),
@@ -135,9 +135,9 @@ fn cue_phase(
     table: &Table,
     identity: Identity,
     universes: Universes,
-    send_to: Vec<u16>,
+    send_to: Destinations,
 ) -> Result<Show, ShowFault>
-    ensures { Gives ShowFault.OutOfMemory result (cue_phase version (table_view table.now) identity universes send_to.items) }
+    ensures { Gives ShowFault.OutOfMemory result (cue_phase version (table_view table.now) identity universes send_to) }
 {
     match cues_in(alloc, version, cue_rows(table)) {
         Ok(Some(cues)) => patch_phase(alloc, table, identity, universes, send_to, cues),
