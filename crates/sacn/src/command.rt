@@ -1,8 +1,10 @@
 //! The command line.
-use clap::{Arg, ArgAction, ArgMatches, Command, Error};
+use clap::error::ErrorKind;
+use clap::{Arg, ArgAction, ArgMatches, Command, Error, value_parser};
 use std::alloc::Global;
 
-const ABOUT: &str = "Streaming ACN (ANSI E1.31-2018), read and checked.
+const ABOUT: &str =
+    "Streaming ACN (ANSI E1.31-2018): datagrams read and checked, consoles and nodes run.
 
 Without a command it reads one datagram from standard input, as hexadecimal digits with
 spaces and line ends anywhere between them, and prints its fields and its frame, or
@@ -11,11 +13,21 @@ refuses it with the first check of the standard's layouts that fails.";
 const EXAMPLE: &str = "Examples, in a clone of the repository:
   ./sacn < examples/desk.hex
   ./sacn decode examples/levels.sacn examples/universes.sacn
+  ./sacn node examples/node.toml --turns 2000000 &
+  ./sacn console examples/show.toml examples/script.txt --turns 2000000
 
 Exit status: 0; 2 bad words; 3 refused input; 4 a device failed.";
 
 const DECODE_ABOUT: &str =
     "Prints the packets in files of one datagram each, raw octets, in their order";
+
+const CONSOLE_ABOUT: &str =
+    "Sends a show's universes on 127.0.0.1 as a script orders, and prints how many datagrams that were";
+
+const NODE_ABOUT: &str =
+    "Hears datagrams on 127.0.0.1, and prints each port's frame whenever it is another";
+
+const MOST_TURNS: i64 = 1_000_000_000;
 
 /// What the words ask for.
 pub enum Asked<'a> {
@@ -23,6 +35,18 @@ pub enum Asked<'a> {
     Datagram,
     /// The datagrams of these files.
     Decode(Vec<&'a str>),
+    /// A console of this show, given the orders of this script.
+    Console {
+        show: &'a str,
+        script: &'a str,
+        turns: u64,
+        first: u8,
+    },
+    /// A node of this setup.
+    Node {
+        setup: &'a str,
+        turns: u64,
+    },
 }
 
 fn files<'a>(alloc: Global) -> Arg<'a> {
@@ -30,6 +54,46 @@ fn files<'a>(alloc: Global) -> Arg<'a> {
         .required(true)
         .num_args(1..)
         .action(ArgAction::Append)
+}
+
+fn file<'a>(alloc: Global, name: &'a str) -> Arg<'a> {
+    Arg::new(alloc, name).required(true)
+}
+
+fn turns<'a>(alloc: Global) -> Arg<'a> {
+    Arg::new(alloc, "turns")
+        .long("turns")
+        .value_name("N")
+        .help("How many turns it makes, 1 to 1000000000")
+        .required(true)
+        .value_parser(value_parser!(u64).range(1..=MOST_TURNS))
+}
+
+fn first<'a>(alloc: Global) -> Arg<'a> {
+    Arg::new(alloc, "first")
+        .long("first")
+        .value_name("F")
+        .help("The number of the first packet of each universe, 0 to 255")
+        .default_value("0")
+        .value_parser(value_parser!(u8))
+}
+
+fn console<'a>(alloc: Global) -> Result<Command<'a>, Error> {
+    let command = Command::new(alloc, "console")
+        .about(CONSOLE_ABOUT)
+        .arg(file(alloc, "SHOW"))?
+        .arg(file(alloc, "SCRIPT"))?
+        .arg(turns(alloc))?
+        .arg(first(alloc))?;
+    Ok(command)
+}
+
+fn node<'a>(alloc: Global) -> Result<Command<'a>, Error> {
+    let command = Command::new(alloc, "node")
+        .about(NODE_ABOUT)
+        .arg(file(alloc, "SETUP"))?
+        .arg(turns(alloc))?;
+    Ok(command)
 }
 
 fn command<'a>(alloc: Global) -> Result<Command<'a>, Error> {
@@ -40,7 +104,9 @@ fn command<'a>(alloc: Global) -> Result<Command<'a>, Error> {
         .about(ABOUT)
         .after_help(EXAMPLE)
         .disable_help_subcommand(true)
-        .subcommand(decode)?;
+        .subcommand(decode)?
+        .subcommand(console(alloc)?)?
+        .subcommand(node(alloc)?)?;
     Ok(command)
 }
 
@@ -49,17 +115,70 @@ fn matches<'a>(alloc: Global, words: &'a [String]) -> Result<ArgMatches<'a>, Err
     command(alloc)?.try_get_matches_from(words)
 }
 
-fn asked_of<'a>(alloc: Global, matches: &ArgMatches<'a>) -> Result<Asked<'a>, Error> {
-    let Some((_, decode)) = matches.subcommand() else {
-        return Ok(Asked::Datagram);
+fn wrong_number(alloc: Global, name: &str) -> Error {
+    let message = match name {
+        "turns" => "--turns takes a number of 1 to 1000000000, in decimal digits",
+        _ => "--first takes a number of 0 to 255, in decimal digits",
     };
+    let mut command = match command(alloc) {
+        Ok(command) => command,
+        Err(error) => return error,
+    };
+    match command.error(ErrorKind::ValueValidation, message) {
+        Ok(error) => error,
+        Err(error) => Error::from(error),
+    }
+}
+
+// A number that is spelled by digits alone: clap takes a sign before them.
+fn number<'a>(alloc: Global, matches: &ArgMatches<'a>, name: &str) -> Result<u64, Error> {
+    match (matches.get_str(name), matches.get_one::<u64>(name)) {
+        (Some(text), Some(number)) if !text.starts_with('+') => Ok(number),
+        _ => Err(wrong_number(alloc, name)),
+    }
+}
+
+fn text<'a>(matches: &ArgMatches<'a>, name: &str) -> &'a str {
+    // clap saw to it that each file is named.
+    matches.get_str(name).unwrap_or("")
+}
+
+fn decode_asked<'a>(alloc: Global, matches: &ArgMatches<'a>) -> Result<Asked<'a>, Error> {
     let mut files = Vec::new(alloc);
-    if let Some(paths) = decode.get_strs("FILE") {
+    if let Some(paths) = matches.get_strs("FILE") {
         for path in paths {
             files.push(*path)?;
         }
     }
     Ok(Asked::Decode(files))
+}
+
+fn console_asked<'a>(alloc: Global, matches: &ArgMatches<'a>) -> Result<Asked<'a>, Error> {
+    let turns = number(alloc, matches, "turns")?;
+    let first = number(alloc, matches, "first")?;
+    Ok(Asked::Console {
+        show: text(matches, "SHOW"),
+        script: text(matches, "SCRIPT"),
+        turns,
+        first: u8::try_from(first).unwrap_or(0),
+    })
+}
+
+fn node_asked<'a>(alloc: Global, matches: &ArgMatches<'a>) -> Result<Asked<'a>, Error> {
+    let turns = number(alloc, matches, "turns")?;
+    Ok(Asked::Node {
+        setup: text(matches, "SETUP"),
+        turns,
+    })
+}
+
+fn asked_of<'a>(alloc: Global, matches: &ArgMatches<'a>) -> Result<Asked<'a>, Error> {
+    match matches.subcommand() {
+        None => Ok(Asked::Datagram),
+        Some(("console", console)) => console_asked(alloc, console),
+        Some(("node", node)) => node_asked(alloc, node),
+        Some((_, decode)) => decode_asked(alloc, decode),
+    }
 }
 
 /// What the words of a command line ask for, the program's name first. The error of bad words, and of

@@ -1,13 +1,16 @@
-//! `sacn`: packets of streaming ACN read, checked and shown.
+//! `sacn`: packets of streaming ACN read, checked and shown; consoles and nodes run.
 #![tactic(auto)]
 
 mod block;
 mod command;
 mod decode;
 mod digits;
+mod ending;
 mod fault;
+mod files;
 mod input;
 mod look;
+mod network;
 mod program;
 #[cfg(test)]
 mod tests;
@@ -30,7 +33,7 @@ fn main(rt: HostRuntime) -> ExitCode {
             io::writer(&rt),
             rt.stderr(),
         ),
-        Err(error) => program::wordless(error.kind(), &mut rt.stderr()),
+        Err(error) => ending::wordless(error.kind(), &mut rt.stderr()),
     };
     ExitCode::from(status)
 }

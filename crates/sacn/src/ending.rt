@@ -1,0 +1,193 @@
+//! Why a run ends before its work is done, and how it says so.
+use crate::fault::DecodeFault;
+use crate::input::ReadFault;
+use clap::error::ErrorKind;
+use hex::FromHexError;
+use sacn_console::{ShowFault, TextFault};
+use sacn_edge::{SocketFailed, WriteFailed};
+use sacn_node::SetupFault;
+use sacn_root::PacketFault;
+use sacn_sources::TableFault;
+use std::alloc::{AllocError, Global};
+use std::io::Write;
+
+/// The exit statuses.
+pub const DONE: u8 = 0;
+
+const BAD_WORDS: u8 = 2;
+
+const REFUSED: u8 = 3;
+
+const DEVICE_FAILED: u8 = 4;
+
+/// Why a run ends before its work is done.
+pub enum Ending {
+    /// The words are bad, or ask for help.
+    Words(clap::Error),
+    OutOfMemory,
+    TooLarge,
+    /// Standard input isn't an even number of hexadecimal digits.
+    Hex,
+    /// A file that should be text isn't UTF-8.
+    NotText,
+    Packet(PacketFault),
+    Show(ShowFault),
+    Setup(SetupFault),
+    /// A line of a script is wrong.
+    Line(TextFault),
+    DeviceRead,
+    DeviceWrite,
+    DeviceSocket,
+}
+
+impl From<AllocError> for Ending {
+    fn from(_error: AllocError) -> Ending {
+        Ending::OutOfMemory
+    }
+}
+
+impl From<ReadFault> for Ending {
+    fn from(fault: ReadFault) -> Ending {
+        match fault {
+            ReadFault::OutOfMemory => Ending::OutOfMemory,
+            ReadFault::Device => Ending::DeviceRead,
+            ReadFault::TooLarge => Ending::TooLarge,
+        }
+    }
+}
+
+impl From<FromHexError> for Ending {
+    fn from(error: FromHexError) -> Ending {
+        match error {
+            FromHexError::OutOfMemory => Ending::OutOfMemory,
+            _ => Ending::Hex,
+        }
+    }
+}
+
+impl From<DecodeFault> for Ending {
+    fn from(fault: DecodeFault) -> Ending {
+        match fault {
+            DecodeFault::OutOfMemory => Ending::OutOfMemory,
+            DecodeFault::Refused(_, fault) => Ending::Packet(fault),
+            DecodeFault::WriteFailed => Ending::DeviceWrite,
+        }
+    }
+}
+
+impl From<ShowFault> for Ending {
+    fn from(fault: ShowFault) -> Ending {
+        Ending::Show(fault)
+    }
+}
+
+impl From<SetupFault> for Ending {
+    fn from(fault: SetupFault) -> Ending {
+        Ending::Setup(fault)
+    }
+}
+
+impl From<TextFault> for Ending {
+    fn from(fault: TextFault) -> Ending {
+        Ending::Line(fault)
+    }
+}
+
+impl From<TableFault> for Ending {
+    fn from(_fault: TableFault) -> Ending {
+        Ending::OutOfMemory
+    }
+}
+
+impl From<SocketFailed> for Ending {
+    fn from(_fault: SocketFailed) -> Ending {
+        Ending::DeviceSocket
+    }
+}
+
+impl From<WriteFailed> for Ending {
+    fn from(_fault: WriteFailed) -> Ending {
+        Ending::DeviceWrite
+    }
+}
+
+/// Says how a run ended, and answers its status.
+pub fn ended<O: Write, E: Write>(alloc: Global, ending: Ending, out: &mut O, err: &mut E) -> u8 {
+    match ending {
+        Ending::Words(error) => explained(alloc, error, out, err),
+        Ending::OutOfMemory => refused(err, "OutOfMemory"),
+        Ending::TooLarge => refused(err, "TooLarge"),
+        Ending::Hex => refused(err, "Hex"),
+        Ending::NotText => refused(err, "NotText"),
+        Ending::Packet(fault) => {
+            let _ = writeln!(err, "refused {fault:?}");
+            REFUSED
+        }
+        Ending::Show(fault) => {
+            let _ = writeln!(err, "refused {fault:?}");
+            REFUSED
+        }
+        Ending::Setup(fault) => {
+            let _ = writeln!(err, "refused {fault:?}");
+            REFUSED
+        }
+        Ending::Line(fault) => refused_line(err, fault),
+        Ending::DeviceRead => failed(err, "read"),
+        Ending::DeviceWrite => failed(err, "write"),
+        Ending::DeviceSocket => failed(err, "socket"),
+    }
+}
+
+// Bad words are explained on standard error, and help goes to standard output.
+fn explained<O: Write, E: Write>(
+    alloc: Global,
+    error: clap::Error,
+    out: &mut O,
+    err: &mut E,
+) -> u8 {
+    if error.kind() == ErrorKind::OutOfMemory {
+        return refused(err, "OutOfMemory");
+    }
+    let Ok(text) = format!(in alloc; "{error}") else {
+        return refused(err, "OutOfMemory");
+    };
+    if error.use_stderr() {
+        let _ = err.write_all(text.as_bytes());
+        return BAD_WORDS;
+    }
+    if out.write_all(text.as_bytes()).is_err() || out.flush().is_err() {
+        return failed(err, "write");
+    }
+    DONE
+}
+
+fn refused<E: Write>(err: &mut E, cause: &str) -> u8 {
+    let _ = writeln!(err, "refused {cause}");
+    REFUSED
+}
+
+fn refused_line<E: Write>(err: &mut E, fault: TextFault) -> u8 {
+    let (line, name) = match fault {
+        TextFault::OutOfMemory => return refused(err, "OutOfMemory"),
+        TextFault::UnknownWord(line) => (line, "UnknownWord"),
+        TextFault::WordCount(line) => (line, "WordCount"),
+        TextFault::Number(line) => (line, "Number"),
+        TextFault::Hex(line) => (line, "Hex"),
+    };
+    let _ = writeln!(err, "refused line {line} {name}");
+    REFUSED
+}
+
+fn failed<E: Write>(err: &mut E, what: &str) -> u8 {
+    let _ = writeln!(err, "device {what}");
+    DEVICE_FAILED
+}
+
+/// The status where the words themselves can't be had: one of them is no text, or no memory is left.
+pub fn wordless<E: Write>(kind: std::io::ErrorKind, err: &mut E) -> u8 {
+    if kind == std::io::ErrorKind::OutOfMemory {
+        return refused(err, "OutOfMemory");
+    }
+    let _ = err.write_all(b"error: a word of the command line is no text\n");
+    BAD_WORDS
+}

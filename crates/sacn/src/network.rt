@@ -1,0 +1,54 @@
+//! A console and a node on 127.0.0.1.
+use crate::ending::Ending;
+use sacn_console::{ConsoleCore, read_script, read_show};
+use sacn_edge::{SystemClock, UdpLink, WriterOut, run_console, run_node};
+use sacn_node::{NodeCore, read_node};
+use std::io::Write;
+use std::net::Net;
+use std::rt::Clock;
+
+/// Runs a console of a show for so many turns, gives it the orders of a script, and prints what came of it.
+pub fn console<R: AllocGlobal + Net + Clock, O: Write>(
+    rt: &R,
+    texts: (&str, &str),
+    first: u8,
+    turns: u64,
+    out: &mut O,
+) -> Result<(), Ending> {
+    let alloc = rt.alloc();
+    let show = read_show(alloc, texts.0)?;
+    let script = read_script(alloc, texts.1)?;
+    let mut core = ConsoleCore::new(alloc, &show, first)?;
+    let mut link = UdpLink::bind(rt, 0, show.send_to())?;
+    let mut clock = SystemClock::new(rt);
+    let report = run_console(&mut link, &mut clock, &mut core, script.as_slice(), turns);
+    let line = writeln!(
+        out,
+        "sent {} failed {} refused {}",
+        report.sent, report.failed, report.refused
+    );
+    if line.is_err() || out.flush().is_err() {
+        return Err(Ending::DeviceWrite);
+    }
+    Ok(())
+}
+
+/// Runs a node of a setup for so many turns, which prints its frames as they change.
+pub fn node<R: AllocGlobal + Net + Clock, O: Write>(
+    rt: &R,
+    text: &str,
+    turns: u64,
+    out: &mut O,
+) -> Result<(), Ending> {
+    let alloc = rt.alloc();
+    let setup = read_node(alloc, text)?;
+    let mut core = NodeCore::new(alloc, &setup)?;
+    let mut link = UdpLink::bind(rt, setup.udp_port(), &[])?;
+    let mut clock = SystemClock::new(rt);
+    let mut lines = WriterOut::new(&mut *out);
+    run_node(&mut link, &mut clock, &mut lines, &mut core, turns)?;
+    if out.flush().is_err() {
+        return Err(Ending::DeviceWrite);
+    }
+    Ok(())
+}
