@@ -2,19 +2,20 @@
 use super::datagrams::{data_lines, data_packet, page, sync_packet};
 use crate::program::run_program;
 use std::io::{self, Read, Write};
-use std::rt::{Env, Files};
+use std::net::Net;
+use std::rt::{Clock, Env, Files};
 use std::test::*;
 use std::{env, fs};
 
 /// A run's exit status, and what it wrote to both outputs.
 #[derive(Drop)]
-struct Ran {
-    status: u8,
-    out: Vec<u8>,
-    err: Vec<u8>,
+pub struct Ran {
+    pub status: u8,
+    pub out: Vec<u8>,
+    pub err: Vec<u8>,
 }
 
-fn words(rt: &impl AllocGlobal, texts: &[&str]) -> Result<Vec<String>, Fail> {
+pub fn words(rt: &impl AllocGlobal, texts: &[&str]) -> Result<Vec<String>, Fail> {
     let mut words = Vec::new(rt.alloc());
     words.push(String::from_str(rt.alloc(), "sacn")?)?;
     for text in texts {
@@ -23,7 +24,11 @@ fn words(rt: &impl AllocGlobal, texts: &[&str]) -> Result<Vec<String>, Fail> {
     Ok(words)
 }
 
-fn program_run<R: AllocGlobal + Files>(rt: &R, texts: &[&str], input: &[u8]) -> Result<Ran, Fail> {
+pub fn program_run<R: AllocGlobal + Files + Net + Clock>(
+    rt: &R,
+    texts: &[&str],
+    input: &[u8],
+) -> Result<Ran, Fail> {
     let words = words(rt, texts)?;
     let mut out = Vec::new(rt.alloc());
     let mut err = Vec::new(rt.alloc());
@@ -110,7 +115,7 @@ fn help_is_printed(rt: HostRuntime) -> Result<(), Fail> {
 
 /// A device whose every read and write fails.
 #[derive(Drop)]
-struct Broken;
+pub struct Broken;
 
 impl Read for Broken {
     fn read(&mut self, _buf: &mut [u8]) -> io::Result<usize> {
@@ -154,7 +159,11 @@ fn devices_that_fail_are_named(rt: HostRuntime) -> Result<(), Fail> {
 }
 
 /// Writes a file of the test's own, and answers its path.
-fn file<R: AllocGlobal + Files + Env>(rt: &R, name: &str, octets: &[u8]) -> Result<String, Fail> {
+pub fn file<R: AllocGlobal + Files + Env>(
+    rt: &R,
+    name: &str,
+    octets: &[u8],
+) -> Result<String, Fail> {
     let folder = env::temp_dir(rt)?;
     let path = format!(in rt.alloc(); "{}/sacn-{name}", folder.display())?;
     fs::write(rt, path.as_str(), octets)?;
