@@ -9,7 +9,7 @@ use Rattle.sacn_discovery.specs.Known.{State}
 use Rattle.sacn.specs.Words.{spaced}
 use Rattle.sacn.specs.Decoding.{Decoded, decoded, decoded_by, then_text, block, state_after, octets_of}
 
-drop_first : {X : Type 0} (xs : List X) (i : ℕ) (d : X) → i < length xs → drop i xs ≡ get_or xs i d ∷ drop (i + 1) xs
+pub drop_first : {X : Type 0} (xs : List X) (i : ℕ) (d : X) → i < length xs → drop i xs ≡ get_or xs i d ∷ drop (i + 1) xs
 drop_first [] i d lt = absurd (omega arith)
 drop_first (x ∷ xs) zero d lt = refl
 drop_first (x ∷ xs) (suc i) d lt = let same : suc i + 1 ≡ suc (i + 1) = omega arith in rw same (drop_first xs i d (omega arith))
@@ -20,6 +20,11 @@ spaced_more numbers i text piece all lt so_far is =
     ∙ ap (λ (p : List ℕ). text ++ (p ++ spaced (drop (i + 1) numbers))) is
     ∙ ap (λ (l : List ℕ). text ++ spaced l) (sym (drop_first numbers i 0 lt))
     ∙ so_far
+
+-- as many cells past a front as past nothing
+pub take_past : (xs ys : List ℕ) (n : ℕ) → take (length xs + n) (xs ++ ys) ≡ xs ++ take n ys
+take_past [] ys n = let same : 0 + n ≡ n = omega arith in ap (λ (k : ℕ). take k ys) same
+take_past (x ∷ xs) ys n = let same : suc (length xs) + n ≡ suc (length xs + n) = omega arith in rw same (ap (λ (l : List ℕ). x ∷ l) (take_past xs ys n))
 
 octets_first : (ds : List (Vec ℕ Global)) (i : ℕ) (d : Vec ℕ Global) → i < length ds → drop i (octets_of ds) ≡ (get_or ds i d).items ∷ drop (i + 1) (octets_of ds)
 octets_first [] i d lt = absurd (omega arith)
@@ -50,10 +55,6 @@ module _ (total : Decoded) (told : List ℕ) (s : State) (ds : List (Vec ℕ Glo
 
       pub told_part : take (length told) total.text ≡ told
       told_part = ap (λ (l : List ℕ). take (length told) l) text_is ∙ take_at told (block packet s ++ rest.text) (length told) refl
-
-      take_past : (xs ys : List ℕ) (n : ℕ) → take (length xs + n) (xs ++ ys) ≡ xs ++ take n ys
-      take_past [] ys n = let same : 0 + n ≡ n = omega arith in ap (λ (k : ℕ). take k ys) same
-      take_past (x ∷ xs) ys n = let same : suc (length xs) + n ≡ suc (length xs + n) = omega arith in rw same (ap (λ (l : List ℕ). x ∷ l) (take_past xs ys n))
 
       pub written_part : (n : ℕ) → n < length (block packet s) → (length told + n < length total.text) × (take (length told + n) total.text ≡ told ++ take n (block packet s))
       written_part n less = (

@@ -3,3 +3,4 @@ pub mod Blocks
 pub mod Decoding
 pub mod Digits
 pub mod Looks
+pub mod Simulating

@@ -13,6 +13,7 @@ refuses it with the first check of the standard's layouts that fails.";
 const EXAMPLE: &str = "Examples, in a clone of the repository:
   ./sacn < examples/desk.hex
   ./sacn decode examples/levels.sacn examples/universes.sacn
+  ./sacn sim examples/world.toml examples/schedule.txt
   ./sacn node examples/node.toml --turns 2000000 &
   ./sacn console examples/show.toml examples/script.txt --turns 2000000
 
@@ -20,6 +21,9 @@ Exit status: 0; 2 bad words; 3 refused input; 4 a device failed.";
 
 const DECODE_ABOUT: &str =
     "Prints the packets in files of one datagram each, raw octets, in their order";
+
+const SIM_ABOUT: &str =
+    "Runs a world of consoles and nodes by a schedule of events, and prints what each look shows";
 
 const CONSOLE_ABOUT: &str =
     "Sends a show's universes on 127.0.0.1 as a script orders, and prints how many datagrams that were";
@@ -35,6 +39,8 @@ pub enum Asked<'a> {
     Datagram,
     /// The datagrams of these files.
     Decode(Vec<&'a str>),
+    /// A world, run by a schedule.
+    Simulate { world: &'a str, schedule: &'a str },
     /// A console of this show, given the orders of this script.
     Console {
         show: &'a str,
@@ -78,6 +84,14 @@ fn first<'a>(alloc: Global) -> Arg<'a> {
         .value_parser(value_parser!(u8))
 }
 
+fn sim<'a>(alloc: Global) -> Result<Command<'a>, Error> {
+    let command = Command::new(alloc, "sim")
+        .about(SIM_ABOUT)
+        .arg(file(alloc, "WORLD"))?
+        .arg(file(alloc, "SCHEDULE"))?;
+    Ok(command)
+}
+
 fn console<'a>(alloc: Global) -> Result<Command<'a>, Error> {
     let command = Command::new(alloc, "console")
         .about(CONSOLE_ABOUT)
@@ -105,6 +119,7 @@ fn command<'a>(alloc: Global) -> Result<Command<'a>, Error> {
         .after_help(EXAMPLE)
         .disable_help_subcommand(true)
         .subcommand(decode)?
+        .subcommand(sim(alloc)?)?
         .subcommand(console(alloc)?)?
         .subcommand(node(alloc)?)?;
     Ok(command)
@@ -153,6 +168,13 @@ fn decode_asked<'a>(alloc: Global, matches: &ArgMatches<'a>) -> Result<Asked<'a>
     Ok(Asked::Decode(files))
 }
 
+fn sim_asked<'a>(matches: &ArgMatches<'a>) -> Asked<'a> {
+    Asked::Simulate {
+        world: text(matches, "WORLD"),
+        schedule: text(matches, "SCHEDULE"),
+    }
+}
+
 fn console_asked<'a>(alloc: Global, matches: &ArgMatches<'a>) -> Result<Asked<'a>, Error> {
     let turns = number(alloc, matches, "turns")?;
     let first = number(alloc, matches, "first")?;
@@ -175,6 +197,7 @@ fn node_asked<'a>(alloc: Global, matches: &ArgMatches<'a>) -> Result<Asked<'a>, 
 fn asked_of<'a>(alloc: Global, matches: &ArgMatches<'a>) -> Result<Asked<'a>, Error> {
     match matches.subcommand() {
         None => Ok(Asked::Datagram),
+        Some(("sim", sim)) => Ok(sim_asked(sim)),
         Some(("console", console)) => console_asked(alloc, console),
         Some(("node", node)) => node_asked(alloc, node),
         Some((_, decode)) => decode_asked(alloc, decode),

@@ -1,5 +1,5 @@
 //! Why a run ends before its work is done, and how it says so.
-use crate::fault::DecodeFault;
+use crate::fault::{DecodeFault, SimFault};
 use crate::input::ReadFault;
 use clap::error::ErrorKind;
 use hex::FromHexError;
@@ -8,6 +8,7 @@ use sacn_edge::{SocketFailed, WriteFailed};
 use sacn_node::SetupFault;
 use sacn_root::PacketFault;
 use sacn_sources::TableFault;
+use sacn_world::{WorldFault, WorldTextFault};
 use std::alloc::{AllocError, Global};
 use std::io::Write;
 
@@ -33,8 +34,11 @@ pub enum Ending {
     Packet(PacketFault),
     Show(ShowFault),
     Setup(SetupFault),
-    /// A line of a script is wrong.
+    /// A line of a script or of a schedule is wrong.
     Line(TextFault),
+    World(WorldTextFault),
+    /// The event of this number is refused.
+    Event(usize, WorldFault),
     DeviceRead,
     DeviceWrite,
     DeviceSocket,
@@ -71,6 +75,18 @@ impl From<DecodeFault> for Ending {
             DecodeFault::OutOfMemory => Ending::OutOfMemory,
             DecodeFault::Refused(_, fault) => Ending::Packet(fault),
             DecodeFault::WriteFailed => Ending::DeviceWrite,
+        }
+    }
+}
+
+impl From<SimFault> for Ending {
+    fn from(fault: SimFault) -> Ending {
+        match fault {
+            SimFault::OutOfMemory => Ending::OutOfMemory,
+            SimFault::World(fault) => Ending::World(fault),
+            SimFault::Schedule(fault) => Ending::Line(fault),
+            SimFault::Event(step, fault) => Ending::Event(step, fault),
+            SimFault::WriteFailed => Ending::DeviceWrite,
         }
     }
 }
@@ -132,6 +148,11 @@ pub fn ended<O: Write, E: Write>(alloc: Global, ending: Ending, out: &mut O, err
             REFUSED
         }
         Ending::Line(fault) => refused_line(err, fault),
+        Ending::World(fault) => refused_world(err, fault),
+        Ending::Event(step, fault) => {
+            let _ = writeln!(err, "refused step {step} {fault:?}");
+            REFUSED
+        }
         Ending::DeviceRead => failed(err, "read"),
         Ending::DeviceWrite => failed(err, "write"),
         Ending::DeviceSocket => failed(err, "socket"),
@@ -175,6 +196,18 @@ fn refused_line<E: Write>(err: &mut E, fault: TextFault) -> u8 {
         TextFault::Hex(line) => (line, "Hex"),
     };
     let _ = writeln!(err, "refused line {line} {name}");
+    REFUSED
+}
+
+// A world's own fault, or that of one of its consoles or nodes.
+fn refused_world<E: Write>(err: &mut E, fault: WorldTextFault) -> u8 {
+    let _ = match fault {
+        WorldTextFault::Console(index, fault) => {
+            writeln!(err, "refused Console {index} {fault:?}")
+        }
+        WorldTextFault::Node(index, fault) => writeln!(err, "refused Node {index} {fault:?}"),
+        own => writeln!(err, "refused {own:?}"),
+    };
     REFUSED
 }
 

@@ -1,6 +1,7 @@
-//! Why datagrams aren't all decoded.
+//! Why datagrams aren't all decoded, and why a simulation ends early.
 
 use sacn_root::PacketFault;
+use sacn_world::{TextFault, WorldFault, WorldTextFault};
 use thiserror::Error;
 
 /// Why `decode_text` ends before the last datagram.
@@ -13,6 +14,26 @@ pub enum DecodeFault {
     #[error("datagram {0} is no packet: {1}")]
     Refused(usize, PacketFault),
     /// The sink failed. A prefix of the text is written.
+    #[error("the device failed")]
+    WriteFailed,
+}
+
+/// Why `sim_text` ends before the last event.
+#[derive(Clone, Copy, Debug, PartialEq, Eq, Error)]
+pub enum SimFault {
+    /// No memory is left. A prefix of the lines is written.
+    #[error("out of memory")]
+    OutOfMemory,
+    /// The world's text is refused. Nothing is written.
+    #[error("the world is refused: {0}")]
+    World(WorldTextFault),
+    /// A line of the schedule is faulty. Nothing is written.
+    #[error("the schedule is refused: {0}")]
+    Schedule(TextFault),
+    /// The event of this number, from 0, is refused. The lines of the looks before it are written.
+    #[error("event {0} is refused: {1}")]
+    Event(usize, WorldFault),
+    /// The sink failed. A prefix of the lines is written.
     #[error("the device failed")]
     WriteFailed,
 }

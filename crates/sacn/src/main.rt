@@ -10,8 +10,10 @@ mod fault;
 mod files;
 mod input;
 mod look;
+mod marked;
 mod network;
 mod program;
+mod simulate;
 #[cfg(test)]
 mod tests;
 mod words;

@@ -3,10 +3,11 @@ use crate::command::{Asked, parse};
 use crate::decode::decode_text;
 use crate::digits::octets_of_digits;
 use crate::ending::{DONE, Ending, ended};
-use crate::fault::DecodeFault;
 use crate::files::{octets_of_files, text_of_file};
 use crate::input::{MOST_OCTETS, read_limited};
+use crate::marked::Marked;
 use crate::network;
+use crate::simulate::sim_text;
 use sacn_edge::WriterOut;
 use std::alloc::Global;
 use std::io::{Read, Write};
@@ -74,18 +75,33 @@ fn standard_input<I: Read + Drop>(alloc: Global, input: I) -> Result<Vec<Vec<u8>
     Ok(datagrams)
 }
 
-// Decodes, and then flushes what was written. A refusal stands where the device did its part.
+// Decodes the datagrams.
 fn print_packets<O: Write>(
     alloc: Global,
     datagrams: &[Vec<u8>],
     out: &mut O,
 ) -> Result<(), Ending> {
-    let decoded = decode_text(alloc, datagrams, &mut WriterOut::new(&mut *out));
-    if let Err(DecodeFault::Refused(0, fault)) = decoded {
-        return Err(Ending::Packet(fault));
-    }
-    if out.flush().is_err() {
+    let mut out = Marked::new(out);
+    let decoded = decode_text(alloc, datagrams, &mut WriterOut::new(&mut out));
+    finished(&mut out, decoded.map_err(Ending::from))
+}
+
+// Runs a world by a schedule.
+fn print_looks<O: Write>(
+    alloc: Global,
+    world: &str,
+    schedule: &str,
+    out: &mut O,
+) -> Result<(), Ending> {
+    let mut out = Marked::new(out);
+    let ended = sim_text(alloc, world, schedule, &mut WriterOut::new(&mut out));
+    finished(&mut out, ended.map_err(Ending::from))
+}
+
+// Flushes what was written: a refusal stands only where the device did its part.
+fn finished<W: Write>(out: &mut Marked<'_, W>, ended: Result<(), Ending>) -> Result<(), Ending> {
+    if out.is_marked() && out.flush().is_err() {
         return Err(Ending::DeviceWrite);
     }
-    Ok(decoded?)
+    ended
 }
