@@ -3,3 +3,4 @@ mod datagrams;
 mod decoding;
 mod network;
 mod running;
+mod simulating;
