@@ -11,6 +11,7 @@ mod discovery;
 mod nodes;
 mod patches;
 mod sources;
+mod world_files;
 
 use std::alloc::AllocError;
 use std::process::ExitCode;
@@ -45,13 +46,15 @@ fn calls_made(rt: &impl AllocGlobal) -> Result<Outcome, AllocError> {
     let sources = sources::calls_made(rt.alloc());
     let nodes = nodes::calls_made(rt.alloc());
     let consoles = consoles::calls_made(rt.alloc());
+    let world_files = world_files::calls_made(rt.alloc());
     Ok(
         patches
             .then(cues)
             .then(discovery)
             .then(sources)
             .then(nodes)
-            .then(consoles),
+            .then(consoles)
+            .then(world_files),
     )
 }
 

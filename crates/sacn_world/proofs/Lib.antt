@@ -1,3 +1,3 @@
-pub mod Cids
 pub mod Entries
 pub mod FirstFaults
+pub mod OwnCids

@@ -1,4 +1,5 @@
 pub mod Reads
+pub mod Cids
 pub mod Events
 pub mod WorldFaults
 pub mod WorldFile

@@ -1,8 +1,7 @@
 -- A world's file: its faults by phases, and its consoles and nodes (profile).
-use Rattle.std.specs.Prelude.{◌≢◌, ◌&&◌, ◌||◌, ◌+◌, ℕ, Bool, not, false, List, [], ◌∷◌, Option, None, Some, if◌then◌else◌, codes, is_some, option_and_then, Result, Ok, Err, Vec, AllPairs}
+use Rattle.std.specs.Prelude.{◌&&◌, ◌+◌, ℕ, Bool, not, List, [], ◌∷◌, Option, None, Some, if◌then◌else◌, codes, is_some, option_and_then, Result, Ok, Err, Vec}
 use Rattle.std.specs.declared.alloc.Global.{Global}
-use Rattle.std.specs.List.{list_all, list_any}
-use Rattle.std.specs.Str.{bytes_eq}
+use Rattle.std.specs.List.{list_all}
 use Rattle.toml.specs.Data.{Data, Members, get_member, as_table}
 use Rattle.sacn_files.specs.declared.faults.FileFault.{FileFault}
 use Rattle.sacn_files.specs.Document.{version_in}
@@ -19,12 +18,10 @@ use Rattle.sacn_world.specs.declared.world_file.TheConstants.{NEWEST_WORLD}
 use Rattle.sacn_world.specs.declared.world_file.fault.WorldTextFault.{WorldTextFault}
 use Rattle.sacn_world.specs.declared.world_file.fault.WorldTextFault.TheVariants.{OutOfMemory, Toml, MissingKey, UnknownKey, KeyValue, Console, Node, SameCid}
 use Rattle.sacn_world.specs.WorldFaults.{world_fault_of}
+use Rattle.sacn_world.specs.Cids.{Desk, has_same_cid}
 use Rattle.sacn_world.specs.Reads.{GivesAs}
 
--- a console's show with its first number; the consoles and the nodes
-abbrev pub Desk : Type 0
-Desk = ShowContent × ℕ
-
+-- the consoles and the nodes
 abbrev pub WorldContent : Type 0
 WorldContent = List Desk × List Setup
 
@@ -101,18 +98,6 @@ setup_at i d = with_node i (node_in d)
 abbrev pub each_from : {X : Type 0} → (ℕ → Data → Result X WorldTextFault) → ℕ → List Data → Result (List X) WorldTextFault
 each_from read i [] = Ok []
 each_from read i (d ∷ ds) = before (read i d) (each_from read (i + 1) ds)
-
--- two consoles have one CID
-abbrev pub same_cid : Desk → Desk → Bool
-same_cid d e = bytes_eq d.0.cid e.0.cid
-
-abbrev pub has_same_cid : List Desk → Bool
-has_same_cid [] = false
-has_same_cid (d ∷ ds) = list_any (λ e. same_cid d e) ds || has_same_cid ds
-
--- no two consoles have one CID
-abbrev pub HaveOwnCids : List Desk → Type 0
-HaveOwnCids ds = AllPairs (λ d e. d.0.cid ≢ e.0.cid) ds
 
 -- the last phase: the consoles, then the nodes, then two consoles of one CID
 abbrev pub or_fault : {X Y : Type 0} → (X → Result Y WorldTextFault) → Result X WorldTextFault → Result Y WorldTextFault

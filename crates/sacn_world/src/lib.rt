@@ -4,6 +4,7 @@
 //! events of a schedule, a line each. Both answer the value, or the first fault.
 #![tactic(auto)]
 
+mod cids;
 mod event;
 mod schedule;
 mod world_file;

@@ -1,6 +1,5 @@
 //! The file of a world.
 
-mod cids;
 mod fault;
 mod members;
 mod reading;

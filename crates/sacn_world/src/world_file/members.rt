@@ -2,9 +2,8 @@
 ghost use Rattle.std.specs.Prelude.{◌≡◌, map, option_map};
 ghost use Rattle.std.specs.List.{list_all};
 ghost use Rattle.toml.specs.View.{view, table_view};
-ghost use Rattle.sacn_files.specs.Document.{Gives};
 ghost use Rattle.sacn_world.specs.Reads.{GivesAs};
-ghost use Rattle.sacn_world.specs.WorldFile.{Desk, first_of, table_at, console_in, node_in, is_console, is_node, desk_in, setup_at, each_from};
+ghost use Rattle.sacn_world.specs.WorldFile.{first_of, table_at, console_in, is_console, is_node, each_from};
 
 use super::WorldTextFault;
 use sacn_console::{Show, ShowFault, show_of};

@@ -2,11 +2,12 @@
 ghost use Rattle.std.specs.Prelude.{◌≡◌, Ok, map, IfOk};
 ghost use Rattle.toml.specs.Parse.{parse_document};
 ghost use Rattle.toml.specs.View.{view, table_view};
-ghost use Rattle.sacn_world.specs.WorldFile.{console_rows, node_rows, keys_are_known, keys_are_there, values_are_good, last_phase, value_phase, after_version, world_in, world_or_toml, HaveOwnCids, GivesWorld};
+ghost use Rattle.sacn_world.specs.WorldFile.{console_rows, node_rows, keys_are_known, keys_are_there, values_are_good, last_phase, value_phase, after_version, world_in, world_or_toml, GivesWorld};
+ghost use Rattle.sacn_world.specs.Cids.{HaveOwnCids};
 
-use super::cids::has_same_cid;
 use super::members::{Desks, Setups, are_consoles, are_nodes, read_members};
 use super::{NEWEST_WORLD, WorldTextFault};
+use crate::cids::has_same_cid;
 use sacn_console::Show;
 use sacn_files::document::{read_table, version_in};
 use sacn_files::keys::{has_known_keys, rows_are_known, rows_have_keys};
@@ -57,7 +58,6 @@ fn values_are_good(table: &Table) -> bool
 }
 
 /// The last phase: the consoles, then the nodes, then two consoles of one CID.
-#[tactic(auto, using(crate::proofs::Cids::own_cids))]
 fn last_phase(alloc: Global, consoles: &[Value], nodes: &[Value]) -> Result<Members, WorldTextFault>
     ensures world { GivesWorld result (last_phase (map view consoles.now) (map view nodes.now)) }
     ensures different { IfOk result (λ world. HaveOwnCids world.0.items) }

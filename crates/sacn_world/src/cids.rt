@@ -1,8 +1,8 @@
 //! Consoles of one CID.
-ghost use Rattle.std.specs.Prelude.{◌≡◌};
+ghost use Rattle.std.specs.Prelude.{◌≡◌, ◌↔◌, false};
 ghost use Rattle.std.specs.List.{list_any};
 ghost use Rattle.std.specs.Str.{bytes_eq};
-ghost use Rattle.sacn_world.specs.WorldFile.{same_cid, has_same_cid};
+ghost use Rattle.sacn_world.specs.Cids.{same_cid, has_same_cid, HaveOwnCids};
 
 use sacn_console::Show;
 
@@ -24,12 +24,20 @@ fn shares_cid(desk: &(Show, u8), others: &[(Show, u8)]) -> bool
     others.iter().any(|other| same_cid(desk, other))
 }
 
-/// Whether the shows of two consoles have one CID.
-pub(super) fn has_same_cid(desks: &[(Show, u8)]) -> bool
+fn two_share_cid(desks: &[(Show, u8)]) -> bool
     ensures { result ≡ has_same_cid desks.now }
 {
     match desks.split_first() {
-        Some((first, rest)) => shares_cid(first, rest) || has_same_cid(rest),
+        Some((first, rest)) => shares_cid(first, rest) || two_share_cid(rest),
         None => false,
     }
+}
+
+/// Whether the shows of two consoles have one CID.
+#[tactic(auto, using(crate::proofs::OwnCids::own_cids))]
+pub(crate) fn has_same_cid(desks: &[(Show, u8)]) -> bool
+    ensures test { result ≡ has_same_cid desks.now }
+    ensures own { (result ≡ false) ↔ HaveOwnCids desks.now }
+{
+    two_share_cid(desks)
 }
