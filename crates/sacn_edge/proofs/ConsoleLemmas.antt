@@ -1,5 +1,5 @@
 -- The datagrams of a console's turns.
-use Rattle.std.proofs.Common.{◌≡◌, ℕ, ◌+◌, ◌*◌, ◌-◌, ◌≤◌, min, Bool, true, false, not, cond, List, [], ◌∷◌, ◌++◌, map, take, drop, length, count_by, find, refl, sym, ap, subst, ◌∙◌, arith, append_assoc, Option, Some, None, is_some, max, zero-add, add-zero}
+use Rattle.std.proofs.Common.{◌≡◌, ℕ, ◌+◌, ◌*◌, ◌≤◌, Bool, true, false, not, cond, List, [], ◌∷◌, ◌++◌, take, drop, length, count_by, refl, sym, ap, subst, ◌∙◌, arith, append_assoc, Option, Some, None, is_some, max, zero-add, add-zero}
 use Rattle.std.specs.Option.{option_map}
 use Rattle.std.specs.List.{range_with_len}
 use Rattle.std.proofs.lemmas.List.{length-map, length-take, length-append, length-drop, take_at, drop-drop, map-append}
@@ -8,12 +8,10 @@ use Rattle.std.proofs.lemmas.List.FromFn.{length-range_with_len}
 use Rattle.sacn_patch.specs.Patch.{Patched, slot_level, universe_frame}
 use Rattle.std.specs.FinMap.{get}
 use Rattle.sacn_cues.specs.Playing.{level_mastered}
-use Rattle.sacn_discovery.specs.Pages.{numbers_on}
 use Rattle.sacn_console.specs.declared.line.Line.{Line}
-use Rattle.sacn_console.specs.declared.sender.Sender.{Sender}
 use Rattle.sacn_console.specs.Lights.{Lights, frame, frame_now, lights_at}
-use Rattle.sacn_console.specs.Lines.{Page, Datagram, Packet, Paged, line_due}
-use Rattle.sacn_console.specs.Core.{Core, due, due_by, line_found, page_due, packet_of, packet_with, size, text, over, at, after_poll}
+use Rattle.sacn_console.specs.Lines.{Page, Datagram, Packet, Paged}
+use Rattle.sacn_console.specs.Core.{Core, due, due_by, line_found, page_due, packet_of, packet_with, size, text, at, after_poll}
 use Rattle.sacn_edge.specs.declared.report.ConsoleReport.{ConsoleReport}
 use Rattle.sacn_edge.specs.Told.{Extends}
 use Rattle.sacn_edge.specs.Heard.{Transcript, Hands}

@@ -1,5 +1,5 @@
 -- After a call at a moment, nothing more is lost at it.
-use Rattle.std.proofs.Common.{◌≡◌, ℕ, max, Bool, true, false, cond, List, [], ◌∷◌, find, filter, refl, sym, ap, ◌∙◌, arith, nat_eq, Option, Some, None, Ok, Err}
+use Rattle.std.proofs.Common.{◌≡◌, ℕ, max, true, false, cond, List, [], ◌∷◌, refl, ap, ◌∙◌, arith, nat_eq, Some, Ok, Err}
 use Rattle.std.specs.declared.cmp.Ordering.TheVariants.{Less, Equal, Greater}
 use Rattle.std.proofs.lemmas.Bool.{lt-ltb}
 use Rattle.std.specs.Prelude.{nat_lt, ◌-◌, ⊤}
@@ -10,9 +10,9 @@ use Rattle.sacn_framing.specs.declared.packet.Packet.TheVariants.{DataPacket, Pa
 use Rattle.sacn_sources.specs.Order.{order, same, by_order}
 use Rattle.sacn_sources.specs.Packets.{packet_of}
 use Rattle.sacn_sources.specs.Rows.{Row, Packet, row_renewed, rows_kept, row_of, put_row, row_live, row_ended, row_observed, rows_after, observed, take_row, taken}
-use Rattle.sacn_node.specs.Cores.{Table, Core, Node, with_kept, rows_kept_all, change_rows, core_at, core_after}
+use Rattle.sacn_node.specs.Cores.{Table, Core, rows_kept_all, change_rows, core_at}
 use Rattle.sacn_node.specs.Readings.{Reading, after_reading}
-use Rattle.sacn_node.specs.Calls.{core_step, step}
+use Rattle.sacn_node.specs.Calls.{core_step}
 use Rattle.sacn_edge.specs.Heard.{Heard, Silence, Octets, Fault}
 use Rattle.sacn_edge.specs.NodeText.{call_at}
 

@@ -1,12 +1,11 @@
 -- The lines of a turn, port by port.
-use Rattle.std.proofs.Common.{◌≡◌, ℕ, zero, suc, ◌+◌, ◌<◌, Bool, true, false, List, [], ◌∷◌, ◌++◌, take, drop, length, map, get_or, refl, sym, ap, ◌∙◌, arith, append_assoc, Option, None, Some}
-use Rattle.std.specs.Prelude.{if◌then◌else◌}
+use Rattle.std.proofs.Common.{◌≡◌, ℕ, zero, suc, ◌+◌, ◌<◌, true, List, [], ◌∷◌, ◌++◌, take, drop, length, map, get_or, refl, sym, ap, ◌∙◌, arith, append_assoc, Option, None, Some}
 use Rattle.std.specs.Cmp.Lexicographic.{bytes_decides}
 use Rattle.std.proofs.lemmas.List.{take_more, drop_more, length-take, length-map, get_or_at}
 use Rattle.sacn_edge.specs.declared.shown.PortShown.{PortShown}
 use Rattle.sacn_edge.specs.Told.{Adds}
-use Rattle.sacn_edge.specs.NodeText.{same, is_shown, line_text}
-use Rattle.sacn_edge.specs.Shown.{frame_text, with_last, port_text, port_after, ports_text}
+use Rattle.sacn_edge.specs.NodeText.{same, is_shown}
+use Rattle.sacn_edge.specs.Shown.{frame_text, with_last, port_text, ports_text}
 use Rattle.sacn_node.specs.Cores.{Node}
 
 same_is : (a b : List ℕ) → same a b ≡ true → a ≡ b

@@ -1,5 +1,5 @@
 -- What a console hands to its link over what a clock read (profile). Lists of readings have the latest first.
-use Rattle.std.specs.Prelude.{◌≡◌, ℕ, ◌+◌, max, Bool, true, false, not, nat_le, is_ok, List, [], ◌∷◌, ◌++◌, map, length, drop, count_by, if◌then◌else◌, Option, None, Some}
+use Rattle.std.specs.Prelude.{ℕ, ◌+◌, max, Bool, true, false, not, nat_le, is_ok, List, [], ◌∷◌, ◌++◌, map, length, drop, count_by, if◌then◌else◌, Option, None, Some}
 use Rattle.sacn_console.specs.declared.command.Command.{Command}
 use Rattle.sacn_console.specs.declared.sender.Sender.{Sender}
 use Rattle.sacn_console.specs.Lines.{Datagram}

@@ -19,12 +19,7 @@ struct Given {
 }
 
 /// Gives the lines before the first whose moment is above the greatest reading.
-fn order(
-    core: &mut ConsoleCore,
-    now: u64,
-    greatest: u64,
-    script: &[(u64, Command)],
-) -> Given
+fn order(core: &mut ConsoleCore, now: u64, greatest: u64, script: &[(u64, Command)]) -> Given
     ensures lines { result.lines ≡ length (come greatest script.now) }
     ensures within { result.lines ≤ length script.now }
     ensures refused { result.refused ≡ refusals now (come greatest script.now) core.old }
@@ -90,15 +85,13 @@ pub fn run_console<L: Link, C: Clock>(
     turns: u64,
 ) -> ConsoleReport
     // Each turn has one reading, and what is handed over is what is due in it.
-    ensures {
-        (readings : List ℕ) × (handed : Handed)
+    ensures { (readings : List ℕ) × (handed : Handed)
         × (length readings ≡ turns)
         × Extends (C.readings clock.old) (C.readings clock.new) (in_order readings)
         × Hands (L.told link.old) (L.told link.new) handed
         × (datagrams handed ≡ console_sends core.old script.now readings)
         × (core.new ≡ (desk_after core.old script.now readings).core)
-        × (result ≡ sends_report handed (refused_by core.old script.now readings))
-    }
+        × (result ≡ sends_report handed (refused_by core.old script.now readings)) }
 {
     let mut report = ConsoleReport {
         sent: 0,

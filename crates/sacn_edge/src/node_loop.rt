@@ -97,24 +97,20 @@ pub fn run_node<L: Link, C: Clock, O: Out>(
     requires { O.failed out.old ≡ false }
 
     // Each turn has one reading and one receive, and what is written is the node's text over them.
-    ensures ok {
-        IfOk result (λ report. (ts : List Turn)
+    ensures ok { IfOk result (λ report. (ts : List Turn)
         × (length ts ≡ turns)
         × Turned (C.readings clock.old) (C.readings clock.new) (L.told link.old) (L.told link.new) ts
         × Adds (O.Tells out.old) (O.Tells out.new) (node_text core.old ts)
         × (core.new ≡ node_after core.old ts)
-        × (report ≡ report_of ts))
-    }
+        × (report ≡ report_of ts)) }
     ensures works { OnOk result (O.failed out.new ≡ false) }
 
     // What is written is the node's text up to a line of the last turn, of which a part is.
-    ensures err {
-        OnErr result ((t : Turn) × (ts : List Turn)
+    ensures err { OnErr result ((t : Turn) × (ts : List Turn)
         × (length ts < turns)
         × Turned (C.readings clock.old) (C.readings clock.new) (L.told link.old) (L.told link.new) (t ∷ ts)
         × StopsIn core.old t ts (O.Tells out.old) (O.Tells out.new)
-        × (core.new ≡ node_after core.old (t ∷ ts)))
-    }
+        × (core.new ≡ node_after core.old (t ∷ ts))) }
     ensures failed { OnErr result (O.failed out.new ≡ true) }
 {
     let mut report = NodeReport {

@@ -26,11 +26,7 @@ pub struct UdpLink {
 impl UdpLink {
     /// A link on this port, or on one that the machine chooses where it is 0, which sends to these ports.
     /// `SocketFailed` where the machine refuses the socket.
-    pub fn bind(
-        rt: &impl Net,
-        port: u16,
-        destinations: &[u16],
-    ) -> Result<UdpLink, SocketFailed>
+    pub fn bind(rt: &impl Net, port: u16, destinations: &[u16]) -> Result<UdpLink, SocketFailed>
         requires { length destinations.now ≤ MAX_DESTINATIONS }
     {
         let Ok(socket) = UdpSocket::bind(rt, (Ipv4Addr::LOCALHOST, port)) else {

@@ -66,7 +66,13 @@ fn a_source_comes_and_is_lost(rt: HostRuntime) -> Result<(), Fail> {
     let mut clock = clock(alloc)?;
     let mut out = WriterOut::new(Vec::new(alloc));
     let report = run_node(&mut link, &mut clock, &mut out, &mut node(alloc)?, 3);
-    assert_eq!(rt; report, Ok(NodeReport { received: 1, failed: 1 }));
+    assert_eq!(rt;
+        report,
+        Ok(NodeReport {
+            received: 1,
+            failed: 1
+        })
+    );
     assert_eq!(rt; out.writer.as_slice(), lines(alloc)?.as_slice());
     Ok(())
 }
@@ -78,7 +84,13 @@ fn a_failed_receive_is_a_turn(rt: HostRuntime) -> Result<(), Fail> {
     let mut clock = clock(alloc)?;
     let mut out = WriterOut::new(Vec::new(alloc));
     let report = run_node(&mut link, &mut clock, &mut out, &mut node(alloc)?, 3);
-    assert_eq!(rt; report, Ok(NodeReport { received: 0, failed: 2 }));
+    assert_eq!(rt;
+        report,
+        Ok(NodeReport {
+            received: 0,
+            failed: 2
+        })
+    );
     assert_eq!(rt; out.writer.as_slice(), line(alloc, "0", "")?.as_slice());
     Ok(())
 }
@@ -113,7 +125,8 @@ fn what_stands_after_a_failed_write_is_a_prefix(rt: HostRuntime) -> Result<(), F
     ];
     for (bad, len, next) in runs {
         let run = failing_run(alloc, bad)?;
-        assert_eq!(rt; run.0.as_slice(), &text[..len]);
+        assert_eq!(rt; run.0.len(), len);
+        assert!(rt; text.as_slice().starts_with(run.0.as_slice()));
         assert!(rt; run.1);
         assert_eq!(rt; run.2, next);
     }

@@ -1,4 +1,4 @@
-use Rattle.std.proofs.Common.{sym, ◌∙◌}
+use Rattle.std.proofs.Common.{sym}
 use Rattle.sacn_console.specs.Core.{at}
 use Rattle.sacn_edge.proofs.ConsoleLemmas.{due_small}
 use Rattle.sacn_edge.proofs.console_loop.send.Goals as goal

@@ -1,15 +1,13 @@
-use Rattle.std.proofs.Common.{rules, arith, ◌≡◌, ◌+◌, ◌<◌, ◌∷◌, [], List, length, map, refl, sym, ap, subst, ◌∙◌}
+use Rattle.std.proofs.Common.{rules, arith, ◌≡◌, ◌∷◌, [], length, map, refl, sym, ap, subst, ◌∙◌}
 use Rattle.std.proofs.lemmas.List.{length-map}
 use Rattle.std.proofs.lemmas.Result.{err_from_is_err_and}
 use Rattle.sacn_node.specs.Setup.{port_numbers}
 use Rattle.sacn_node.specs.Cores.{Node, core_at}
 use Rattle.sacn_node.specs.Calls.{step}
-use Rattle.sacn_edge.specs.declared.shown.PortShown.{PortShown}
 use Rattle.sacn_edge.specs.declared.report.NodeReport.{NodeReport}
 use Rattle.sacn_edge.specs.Heard.{heard_of, is_datagram, is_failure}
 use Rattle.sacn_edge.specs.NodeText.{Turn, call_at, node_after, lines_after}
-use Rattle.sacn_edge.specs.NodeRun.{report_of}
-use Rattle.sacn_edge.specs.Shown.{unshown, port_after}
+use Rattle.sacn_edge.specs.Shown.{port_after}
 use Rattle.sacn_edge.proofs.ShownLemmas.{Adds-nil}
 use Rattle.sacn_edge.proofs.Settled.{turn_settled}
 use Rattle.sacn_edge.proofs.NodeLemmas.{rising_distinct, numbers, numbers_unshown, nothing_shown, Remembers, more_text, more_remembered, more_numbers, stops_in, turned_more, counted, put_back, nothing_told}

@@ -13,12 +13,12 @@ invariant-loop-turn g l = record {
   few : l.report.received + l.report.failed ≤ l.turn;
   distinct : Distinct (port_numbers l.fn.core.ports);
   run :
-    (ts : List Turn)
-    × (length ts ≡ l.turn)
-    × Turned (g.C.Clock.readings l.fn.clock) (g.C.Clock.readings l.clock) (g.L.Link.told l.fn.link) (g.L.Link.told l.link) ts
-    × Adds (g.O.Out.Tells l.fn.out) (g.O.Out.Tells l.out) (node_text l.fn.core ts)
-    × (l.core ≡ node_after l.fn.core ts)
-    × (l.report ≡ report_of ts)
-    × (numbers l.ports.items ≡ port_numbers l.fn.core.ports)
-    × Remembers (lines_after l.fn.core ts) l.ports.items;
+      (ts : List Turn)
+      × (length ts ≡ l.turn)
+      × Turned (g.C.Clock.readings l.fn.clock) (g.C.Clock.readings l.clock) (g.L.Link.told l.fn.link) (g.L.Link.told l.link) ts
+      × Adds (g.O.Out.Tells l.fn.out) (g.O.Out.Tells l.out) (node_text l.fn.core ts)
+      × (l.core ≡ node_after l.fn.core ts)
+      × (l.report ≡ report_of ts)
+      × (numbers l.ports.items ≡ port_numbers l.fn.core.ports)
+      × Remembers (lines_after l.fn.core ts) l.ports.items;
 }

@@ -1,4 +1,4 @@
-use Rattle.std.proofs.Common.{◌≡◌, ◌≤◌, ◌+◌, ◌-◌, ◌∙◌, length, drop, take, List, ℕ, arith}
+use Rattle.std.proofs.Common.{◌≤◌, ◌-◌, ◌∙◌, length, drop, take, List, ℕ, arith}
 use Rattle.std.proofs.lemmas.List.{length-take, length-drop}
 use Rattle.sacn_edge.proofs.ToldLemmas.{Adds-append, take-next, not_zero}
 use Rattle.sacn_edge.proofs.text.write_text.Goals as goal
