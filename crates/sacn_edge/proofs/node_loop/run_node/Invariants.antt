@@ -1,8 +1,9 @@
-use Rattle.std.proofs.Common.{◌≡◌, ◌≤◌, ◌+◌, List, length, false}
+use Rattle.std.proofs.Common.{◌≡◌, ◌≤◌, ◌<◌, ◌+◌, List, length, false}
 use Rattle.sacn_node.specs.Setup.{port_numbers}
 use Rattle.sacn_edge.specs.Told.{Adds}
 use Rattle.sacn_edge.specs.NodeText.{Turn, node_after, node_text, lines_after}
 use Rattle.sacn_edge.specs.NodeRun.{Turned, report_of}
+use Rattle.sacn_edge.specs.Shown.{AreCurrent}
 use Rattle.sacn_edge.proofs.NodeLemmas.{Distinct, numbers, Remembers}
 use Rattle.sacn_edge.proofs.node_loop.run_node.Given as goal
 
@@ -12,6 +13,7 @@ invariant-loop-turn g l = record {
   works : g.O.Out.failed l.out ≡ false;
   few : l.report.received + l.report.failed ≤ l.turn;
   distinct : Distinct (port_numbers l.fn.core.ports);
+  current : 0 < l.turn → AreCurrent l.core l.ports.items;
   run :
       (ts : List Turn)
       × (length ts ≡ l.turn)

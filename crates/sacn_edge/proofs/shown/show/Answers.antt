@@ -5,8 +5,19 @@ use Rattle.std.proofs.lemmas.List.Edits.{map_over_more}
 use Rattle.sacn_edge.specs.Told.{Adds}
 use Rattle.sacn_edge.specs.Shown.{port_text, port_after, ports_text}
 use Rattle.sacn_edge.proofs.ToldLemmas.{Adds-append}
-use Rattle.sacn_edge.proofs.ShownLemmas.{no_port, next_read, split_at, ports_text-more}
+use Rattle.sacn_edge.proofs.ShownLemmas.{Adds-nil, current_texts, current_stay, no_port, next_read, split_at, ports_text-more}
 use Rattle.sacn_edge.proofs.shown.show.Goals as goal
+
+pub returns-then-is_still-clause-ok : goal.returns-then-is_still-clause-ok
+returns-then-is_still-clause-ok g c =
+    let n = c.args.core.now in
+    let ss = c.args.ports.now in
+    let current = c.requires.still c.if-is_still.true in
+    (
+      c.requires.works,
+      subst (Adds (g.O.Out.Tells c.args.out.now) (g.O.Out.Tells c.args.out.now)) (sym (current_texts n ss current)) (Adds-nil (g.O.Out.Tells c.args.out.now)),
+      current_stay n ss current,
+    )
 
 pub returns-in_err-show_port-clause-err : goal.returns-in_err-show_port-clause-err
 returns-in_err-show_port-clause-err g c =
