@@ -92,8 +92,7 @@ turn_current n (s ∷ ss) = (later_twice s.last (node_frame s.number n), turn_cu
 pub still_current : (n m : Node) (ss : List PortShown) → m.ports ≡ n.ports → m.core.tables ≡ n.core.tables → AreCurrent n ss → AreCurrent m ss
 still_current n m [] ports tables all = tt
 still_current n m (s ∷ ss) ports tables all =
-    let frame : List Port → List Table → Option (List ℕ) = λ ps gs. frame_on (λ u. slots_on (table_of u gs)) (port_of s.number ps) in
-    (
+    let frame : List Port → List Table → Option (List ℕ) = λ ps gs. frame_on (λ u. slots_on (table_of u gs)) (port_of s.number ps) in (
       ap (λ ps. later s.last (frame ps m.core.tables)) ports ∙ ap (λ gs. later s.last (frame n.ports gs)) tables ∙ all.0,
       still_current n m ss ports tables all.1,
     )

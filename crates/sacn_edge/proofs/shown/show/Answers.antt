@@ -12,8 +12,7 @@ pub returns-then-is_still-clause-ok : goal.returns-then-is_still-clause-ok
 returns-then-is_still-clause-ok g c =
     let n = c.args.core.now in
     let ss = c.args.ports.now in
-    let current = c.requires.still c.if-is_still.true in
-    (
+    let current = c.requires.still c.if-is_still.true in (
       c.requires.works,
       subst (Adds (g.O.Out.Tells c.args.out.now) (g.O.Out.Tells c.args.out.now)) (sym (current_texts n ss current)) (Adds-nil (g.O.Out.Tells c.args.out.now)),
       current_stay n ss current,
