@@ -32,6 +32,27 @@ fn a_socket_hears_itself(rt: HostRuntime) -> Result<(), Fail> {
 }
 
 #[test]
+fn a_long_datagram_is_cut(rt: HostRuntime) -> Result<(), Fail> {
+    let mut link = UdpLink::bind(&rt, 5575, &[5575])?;
+    let mut buffer = [0; 2048];
+    assert_eq!(rt; link.receive(&mut buffer), Received::Nothing);
+    let long = vec![in rt.alloc(); 7u8; 3000]?;
+    assert!(rt; link.send(long.as_slice()));
+    assert_eq!(rt; received(&mut link, &mut buffer), Some(2048));
+    Ok(())
+}
+
+/// Nobody can be sent to at port 0.
+#[test]
+fn a_send_goes_on_after_a_failure(rt: HostRuntime) -> Result<(), Fail> {
+    let mut link = UdpLink::bind(&rt, 5577, &[0, 5577])?;
+    assert!(rt; !link.send(b"x"));
+    let mut buffer = [0; 2048];
+    assert_eq!(rt; received(&mut link, &mut buffer), Some(1));
+    Ok(())
+}
+
+#[test]
 fn a_port_is_bound_once(rt: HostRuntime) -> Result<(), Fail> {
     let link = UdpLink::bind(&rt, 5573, &[])?;
     assert!(rt; UdpLink::bind(&rt, 5573, &[]).is_err());

@@ -95,6 +95,17 @@ fn a_failed_receive_is_a_turn(rt: HostRuntime) -> Result<(), Fail> {
     Ok(())
 }
 
+#[test]
+fn a_long_datagram_is_cut(rt: HostRuntime) -> Result<(), Fail> {
+    let alloc = rt.alloc();
+    let mut link = link(alloc, Incoming::Datagram(vec![in alloc; 7u8; 3000]?))?;
+    let mut buffer = [0; 2048];
+    assert_eq!(rt; link.receive(&mut buffer), Received::Datagram(2048));
+    assert_eq!(rt; link.receive(&mut buffer), Received::Nothing);
+    assert!(rt; buffer.ends_with(&[7, 7]));
+    Ok(())
+}
+
 /// What came of a run whose write of one number fails: what was written, and what the next receive brings.
 fn failing_run(alloc: Global, bad: usize) -> Result<(Vec<u8>, bool, Received), Fail> {
     let mut link = link(alloc, two_slots(alloc)?)?;
