@@ -9,3 +9,4 @@ pub mod MemoryItems
 pub mod MemoryTold
 pub mod PlainText
 pub mod SendsByList
+pub mod Sockets
