@@ -1,5 +1,5 @@
 -- The datagrams of a console's turns.
-use Rattle.std.proofs.Common.{◌≡◌, ℕ, ◌+◌, ◌*◌, ◌-◌, ◌≤◌, min, Bool, true, false, not, cond, List, [], ◌∷◌, ◌++◌, map, take, drop, length, count_by, find, refl, sym, ap, subst, ◌∙◌, arith, append_assoc, Option, Some, None, is_some, max, zero-add, add-zero}
+use Rattle.std.proofs.Common.{◌≡◌, ℕ, ◌+◌, ◌*◌, ◌≤◌, Bool, true, false, not, cond, List, [], ◌∷◌, ◌++◌, take, drop, length, count_by, refl, sym, ap, subst, ◌∙◌, arith, append_assoc, Option, Some, None, is_some, max, zero-add, add-zero}
 use Rattle.std.specs.Option.{option_map}
 use Rattle.std.specs.List.{range_with_len}
 use Rattle.std.proofs.lemmas.List.{length-map, length-take, length-append, length-drop, take_at, drop-drop, map-append}
@@ -8,16 +8,14 @@ use Rattle.std.proofs.lemmas.List.FromFn.{length-range_with_len}
 use Rattle.sacn_patch.specs.Patch.{Patched, slot_level, universe_frame}
 use Rattle.std.specs.FinMap.{get}
 use Rattle.sacn_cues.specs.Playing.{level_mastered}
-use Rattle.sacn_discovery.specs.Pages.{numbers_on}
 use Rattle.sacn_console.specs.declared.line.Line.{Line}
-use Rattle.sacn_console.specs.declared.sender.Sender.{Sender}
 use Rattle.sacn_console.specs.Lights.{Lights, frame, frame_now, lights_at}
-use Rattle.sacn_console.specs.Lines.{Page, Datagram, Packet, Paged, line_due}
-use Rattle.sacn_console.specs.Core.{Core, due, due_by, line_found, page_due, packet_of, packet_with, size, text, over, at, after_poll}
+use Rattle.sacn_console.specs.Lines.{Page, Datagram, Packet, Paged}
+use Rattle.sacn_console.specs.Core.{Core, due, due_by, line_found, page_due, packet_of, packet_with, size, text, at, after_poll}
 use Rattle.sacn_edge.specs.declared.report.ConsoleReport.{ConsoleReport}
 use Rattle.sacn_edge.specs.Told.{Extends}
 use Rattle.sacn_edge.specs.Heard.{Transcript, Hands}
-use Rattle.sacn_edge.specs.ConsoleSends.{Script, Desk, Handed, come, commanded, refusals, lines_at, ordered, after_turn, desk_after, octets_of, sent_at, handed_of, datagrams, console_sends, refused_by, sends_report, counted_send}
+use Rattle.sacn_edge.specs.ConsoleSends.{Script, Reader, Handed, come, commanded, refusals, lines_at, ordered, reader_after, core_after, octets_of, sent_at, handed_of, datagrams, console_sends, refused_by, sends_report, counted_send}
 
 universe_long : (level : ℕ → ℕ) (patch : Patched) (u : ℕ) → length (universe_frame level patch u) ≡ 512
 unfolding universe_frame
@@ -61,7 +59,7 @@ front octets out old n is long before small =
 
 -- ---- one turn more
 
-append_nil : {X : Type 0} (xs : List X) → xs ++ [] ≡ xs
+pub append_nil : {X : Type 0} (xs : List X) → xs ++ [] ≡ xs
 append_nil [] = refl
 append_nil (x ∷ xs) = ap (λ t. x ∷ t) (append_nil xs)
 
@@ -117,28 +115,35 @@ pub Extends-nil : (a : Option (List ℕ)) → Extends a a []
 Extends-nil None = tt
 Extends-nil (Some xs) = sym (append_nil xs)
 
--- what the loop has of a console before a turn, and what the turn makes of it
-module _ (first : Core) (script : Script) (readings : List ℕ) (core : Core) (next greatest now : ℕ) (is : record { core = core; left = drop next script; greatest = greatest } ≡ desk_after first script readings) where
+-- what the loop has of a console and its script before a turn, and what the turn makes of it
+module _ (first : Core) (script : Script) (readings : List ℕ) (core : Core) (next greatest now : ℕ) (core_is : core ≡ core_after first script readings) (is : record { left = drop next script; greatest = greatest } ≡ reader_after script readings) where
   abbrev pub lines_given : Script
   lines_given = come (max greatest now) (drop next script)
 
-  pub desk_more : (given new : Core) (lines : ℕ) → given ≡ commanded now lines_given core → new ≡ after_poll now given → lines ≡ length lines_given
-      → record { core = new; left = drop (next + lines) script; greatest = max greatest now } ≡ desk_after first script (now ∷ readings)
-  desk_more given new lines gave polled many =
-      let cores : new ≡ after_poll now (commanded now lines_given core) = polled ∙ ap (after_poll now) gave in
+  lines_are : lines_given ≡ lines_at now (reader_after script readings)
+  lines_are = ap (lines_at now) is
+
+  ordered_is : (given : Core) → given ≡ commanded now lines_given core → given ≡ ordered now script readings (core_after first script readings)
+  ordered_is given gave = gave ∙ ap (λ ls. commanded now ls core) lines_are ∙ ap (commanded now (lines_at now (reader_after script readings))) core_is
+
+  pub core_more : (given new : Core) → given ≡ commanded now lines_given core → new ≡ after_poll now given → new ≡ core_after first script (now ∷ readings)
+  core_more given new gave polled = polled ∙ ap (after_poll now) (ordered_is given gave)
+
+  pub reader_more : (lines : ℕ) → lines ≡ length lines_given → record { left = drop (next + lines) script; greatest = max greatest now } ≡ reader_after script (now ∷ readings)
+  reader_more lines many =
       let lefts : drop (next + lines) script ≡ drop (length lines_given) (drop next script) = ap (λ n. drop (next + n) script) many ∙ sym (drop-drop (length lines_given) next script) in
-      (λ i. let d : Desk = record { core = cores i; left = lefts i; greatest = max greatest now } in d)
-      ∙ ap (after_turn now) is
+      (λ i. let r : Reader = record { left = lefts i; greatest = max greatest now } in r)
+      ∙ ap (λ (r : Reader). let s : Reader = record { left = drop (length (lines_at now r)) r.left; greatest = max r.greatest now } in s) is
 
   pub sends_more : (hs : Handed) (given : Core) (sent : Option Bool) → given ≡ commanded now lines_given core → is_some sent ≡ is_some (due (at now given)) → datagrams hs ≡ console_sends first script readings
       → datagrams (hs ++ handed_of (sent_at now given) sent) ≡ console_sends first script (now ∷ readings)
   sends_more hs given sent gave same sofar =
       datagrams_more hs now given sent same
       ∙ ap (λ os. os ++ sent_at now given) sofar
-      ∙ ap (λ c. console_sends first script readings ++ sent_at now c) gave
-      ∙ ap (λ d. console_sends first script readings ++ sent_at now (ordered now d)) is
+      ∙ ap (λ c. console_sends first script readings ++ sent_at now c) (ordered_is given gave)
 
   pub refused_more : (refused : ℕ) → refused ≡ refusals now lines_given core → refused_by first script readings + refused ≡ refused_by first script (now ∷ readings)
   refused_more refused many =
       ap (λ n. refused_by first script readings + n) many
-      ∙ ap (λ (d : Desk). refused_by first script readings + refusals now (lines_at now d) d.core) is
+      ∙ ap (λ ls. refused_by first script readings + refusals now ls core) lines_are
+      ∙ ap (λ c. refused_by first script readings + refusals now (lines_at now (reader_after script readings)) c) core_is

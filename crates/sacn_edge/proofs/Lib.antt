@@ -4,3 +4,5 @@ pub mod Settled
 pub mod NodeLemmas
 pub mod ConsoleLemmas
 pub mod MemoryLemmas
+pub mod PlainTexts
+pub mod ListSends

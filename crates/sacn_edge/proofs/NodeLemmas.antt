@@ -1,9 +1,9 @@
 -- The lines of a node's turns, from what its loop keeps of each port.
-use Rattle.std.proofs.Common.{◌≡◌, ◌≢◌, ℕ, zero, suc, ◌+◌, ◌<◌, Bool, true, false, cond, List, [], ◌∷◌, ◌++◌, take, drop, length, map, count_by, nat_eq, refl, sym, ap, subst, ◌∙◌, arith, add_comm, append_assoc, Option, Some, None, slice_index}
-use Rattle.std.specs.Prelude.{⊤, if◌then◌else◌}
+use Rattle.std.proofs.Common.{◌≡◌, ◌≢◌, ℕ, zero, suc, ◌+◌, ◌<◌, Bool, true, false, cond, List, [], ◌∷◌, ◌++◌, take, drop, length, map, count_by, refl, sym, ap, subst, ◌∙◌, arith, add_comm, append_assoc, Option, Some, None, slice_index}
+use Rattle.std.specs.Prelude.{⊤}
 use Rattle.std.specs.List.Sorted.{IsStrictlyIncreasing}
 use Rattle.std.proofs.lemmas.Bool.{ne_eqb, eq-eqb}
-use Rattle.std.proofs.lemmas.List.{take_at, length-map}
+use Rattle.std.proofs.lemmas.List.{take_at}
 use Rattle.std.proofs.lemmas.List.Sums.{sum_by-cons}
 use Rattle.sacn_node.specs.Setup.{port_numbers}
 use Rattle.sacn_node.specs.Cores.{Node, node_frame}
@@ -12,7 +12,7 @@ use Rattle.sacn_edge.specs.Told.{Adds, Extends}
 use Rattle.sacn_edge.specs.Heard.{Heard, Transcript, Hears}
 use Rattle.sacn_edge.specs.NodeText.{Turn, Line, line_text, is_shown, last_frame, with_frame, with_ports, lines_after, node_after, text_of}
 use Rattle.sacn_edge.specs.NodeRun.{Turned, StopsIn, readings, hearings}
-use Rattle.sacn_edge.specs.Shown.{frame_text, later, with_last, unshown, port_text, port_after, ports_text, FailsAmong}
+use Rattle.sacn_edge.specs.Shown.{frame_text, later, unshown, port_text, port_after, ports_text, FailsAmong}
 use Rattle.sacn_edge.proofs.ToldLemmas.{Adds-append}
 use Rattle.sacn_edge.proofs.ShownLemmas.{append_nil, shown_last}
 
@@ -121,8 +121,7 @@ turn_text n (s ∷ ss) ls distinct all =
 pub turn_remembered : (n : Node) (ss : List PortShown) (ls : List Line) → Distinct (numbers ss) → Remembers ls ss → Remembers (with_ports n (numbers ss) ls) (map (port_after n) ss)
 turn_remembered n [] ls distinct all = tt
 turn_remembered n (s ∷ ss) ls distinct all =
-    let next = with_frame s.number n.core.moment (node_frame s.number n) ls in
-    (
+    let next = with_frame s.number n.core.moment (node_frame s.number n) ls in (
       other_frames n s.number (numbers ss) next distinct.0 ∙ own_frame n.core.moment s (node_frame s.number n) ls all.0,
       turn_remembered n ss next distinct.1 (others_remember s.number n.core.moment (node_frame s.number n) ls ss distinct.0 all.1),
     )
@@ -201,17 +200,16 @@ stops n ss ls a b c distinct all sofar fails =
     let asked = asked_line n.core.moment s (node_frame s.number n) before k (other_frames n s.number (numbers done) ls front.1 ∙ kept.1) fails.5 in
     let after = some_more n (numbers rest) (with_frame s.number n.core.moment (node_frame s.number n) before) in
     let l = asked.0 in
-    let text : text_of (more.0 ++ ls) ≡ text_of ls ++ ports_text n done = ap text_of (sym more.1) ∙ turn_text n done ls front.0 kept.0 in
-    (
+    let text : text_of (more.0 ++ ls) ≡ text_of ls ++ ports_text n done = ap text_of (sym more.1) ∙ turn_text n done ls front.0 kept.0 in (
       after.0,
       l,
       more.0,
       k,
       ap (λ l. with_ports n (numbers l) ls) parted
-      ∙ ap (λ ps. with_ports n ps ls) (numbers-append done (s ∷ rest))
-      ∙ with_ports-append n (numbers done) (s.number ∷ numbers rest) ls
-      ∙ after.1
-      ∙ ap (λ x. after.0 ++ x) (asked.1 ∙ ap (λ x. l ∷ x) more.1),
+          ∙ ap (λ ps. with_ports n ps ls) (numbers-append done (s ∷ rest))
+          ∙ with_ports-append n (numbers done) (s.number ∷ numbers rest) ls
+          ∙ after.1
+          ∙ ap (λ x. after.0 ++ x) (asked.1 ∙ ap (λ x. l ∷ x) more.1),
       subst (λ (t : List ℕ). k < length t) asked.2 fails.5,
       subst (Adds a c) (sym (append_assoc (text_of ls) (ports_text n done) (take k (port_text n s))) ∙ ap (λ t. t ++ take k (port_text n s)) (sym text) ∙ ap (λ t. text_of (more.0 ++ ls) ++ take k t) asked.2)
           (Adds-append (text_of ls) (ports_text n done ++ take k (port_text n s)) sofar fails.6),
@@ -238,6 +236,7 @@ nothing_told c l = record { clock = no_readings c; link = no_hearings l }
     no_readings : (c : Option (List ℕ)) → Extends c c []
     no_readings None = tt
     no_readings (Some xs) = sym (append_nil xs)
+
     no_hearings : (l : Option Transcript) → Hears l l []
     no_hearings None = tt
     no_hearings (Some x) = (sym (append_nil x.heard), refl)

@@ -1,7 +1,8 @@
 -- After a call at a moment, nothing more is lost at it.
-use Rattle.std.proofs.Common.{◌≡◌, ℕ, max, Bool, true, false, cond, List, [], ◌∷◌, find, filter, refl, sym, ap, ◌∙◌, arith, nat_eq, Option, Some, None, Ok, Err}
+use Rattle.std.proofs.Common.{filter, Bool, sym, suc, length, ◌+◌, ◌≤◌, ◌==◌, ◌≡◌, ℕ, max, true, false, cond, List, [], ◌∷◌, refl, ap, ◌∙◌, arith, nat_eq, Some, Ok, Err}
 use Rattle.std.specs.declared.cmp.Ordering.TheVariants.{Less, Equal, Greater}
-use Rattle.std.proofs.lemmas.Bool.{lt-ltb}
+use Rattle.std.proofs.lemmas.Bool.{lt-ltb, eqb-true}
+use Rattle.std.proofs.lemmas.List.Sums.{sum_by-cons}
 use Rattle.std.specs.Prelude.{nat_lt, ◌-◌, ⊤}
 use Rattle.sacn_sources.specs.declared.taken.Taken.{Taken}
 use Rattle.sacn_sources.specs.declared.taken.Taken.TheVariants.{Held, Observed, EndedNow, OutOfSequence, SourcesExceeded, UnknownIgnored}
@@ -9,10 +10,10 @@ use Rattle.sacn_framing.specs.PacketReading.{reading_packet}
 use Rattle.sacn_framing.specs.declared.packet.Packet.TheVariants.{DataPacket, PagePacket, SyncPacket}
 use Rattle.sacn_sources.specs.Order.{order, same, by_order}
 use Rattle.sacn_sources.specs.Packets.{packet_of}
-use Rattle.sacn_sources.specs.Rows.{Row, Packet, row_renewed, rows_kept, row_of, put_row, row_live, row_ended, row_observed, rows_after, observed, take_row, taken}
-use Rattle.sacn_node.specs.Cores.{Table, Core, Node, with_kept, rows_kept_all, change_rows, core_at, core_after}
+use Rattle.sacn_sources.specs.Rows.{Row, Packet, row_renewed, rows_kept, rows_lost, row_of, put_row, row_live, row_ended, row_observed, rows_after, observed, take_row, taken}
+use Rattle.sacn_node.specs.Cores.{Table, Core, rows_lost_all, core_lost, rows_kept_all, change_rows, core_at}
 use Rattle.sacn_node.specs.Readings.{Reading, after_reading}
-use Rattle.sacn_node.specs.Calls.{core_step, step}
+use Rattle.sacn_node.specs.Calls.{core_step}
 use Rattle.sacn_edge.specs.Heard.{Heard, Silence, Octets, Fault}
 use Rattle.sacn_edge.specs.NodeText.{call_at}
 
@@ -105,3 +106,33 @@ pub turn_settled : (now : ℕ) (heard : Heard) (c : Core) → core_at now (core_
 turn_settled now Silence c = expired c now
 turn_settled now (Octets octets) c = reading_settled (reading_packet octets) c now
 turn_settled now Fault c = expired c now
+
+-- ---- where nothing is lost, nothing changes
+
+kept_few : {X : Type 0} (p : X → Bool) (xs : List X) → length (filter p xs) ≤ length xs
+kept_few p [] = omega arith
+kept_few p (x ∷ xs) =
+    elim (p x) as (λ b. length (cond b (x ∷ filter p xs) (filter p xs)) ≤ suc (length xs)) [
+      | true ↦ let rest = kept_few p xs in omega (arith, rest)
+      | false ↦ let rest = kept_few p xs in omega (arith, rest)
+    ]
+
+all_kept_same : {X : Type 0} (p : X → Bool) (xs : List X) → length xs ≤ length (filter p xs) → filter p xs ≡ xs
+all_kept_same p [] many = refl
+all_kept_same p (x ∷ xs) many =
+    elim (p x) as (λ b. suc (length xs) ≤ length (cond b (x ∷ filter p xs) (filter p xs)) → cond b (x ∷ filter p xs) (filter p xs) ≡ x ∷ xs) [
+      | true ↦ λ long. ap (λ l. x ∷ l) (all_kept_same p xs (omega (arith, long)))
+      | false ↦ λ long. absurd (omega (arith, long, kept_few p xs))
+    ] many
+
+tables_kept : (t : ℕ) (gs : List Table) → rows_lost_all t gs ≡ 0 → rows_kept_all t gs ≡ gs
+tables_kept t [] none = refl
+tables_kept t (g ∷ gs) none =
+    let sum : rows_lost_all t (g ∷ gs) ≡ rows_lost t g.rows + rows_lost_all t gs = sum_by-cons (λ (g : Table). rows_lost t g.rows) g gs in
+    let first : rows_lost t g.rows ≡ 0 = omega (arith, sum, none) in
+    let rest : rows_lost_all t gs ≡ 0 = omega (arith, sum, none) in
+    ap (λ rs. let kept : Table = record { universe = g.universe; rows = rs } in kept ∷ rows_kept_all t gs) (all_kept_same (row_renewed t) g.rows (omega (arith, first)))
+    ∙ ap (λ l. g ∷ l) (tables_kept t gs rest)
+
+pub none_lost : (now lost : ℕ) (c : Core) → lost ≡ core_lost now c → (lost == 0) ≡ true → (core_at now c).tables ≡ c.tables
+none_lost now lost c counted none = tables_kept (max c.moment now) c.tables (sym counted ∙ eqb-true lost 0 none)

@@ -1,5 +1,5 @@
 -- What a console hands to its link over what a clock read (profile). Lists of readings have the latest first.
-use Rattle.std.specs.Prelude.{◌≡◌, ℕ, ◌+◌, max, Bool, true, false, not, nat_le, is_ok, List, [], ◌∷◌, ◌++◌, map, length, drop, count_by, if◌then◌else◌, Option, None, Some}
+use Rattle.std.specs.Prelude.{ℕ, ◌+◌, max, Bool, true, false, not, nat_le, is_ok, List, [], ◌∷◌, ◌++◌, map, length, drop, count_by, if◌then◌else◌, Option, None, Some}
 use Rattle.sacn_console.specs.declared.command.Command.{Command}
 use Rattle.sacn_console.specs.declared.sender.Sender.{Sender}
 use Rattle.sacn_console.specs.Lines.{Datagram}
@@ -25,30 +25,29 @@ abbrev pub refusals : ℕ → Script → Core → ℕ
 refusals now [] c = 0
 refusals now (line ∷ lines) c = (if is_ok (answer line.1 (at now c)) then 0 else 1) + refusals now lines (after_command now line.1 c)
 
--- a console in its run: its core, the lines that are left, and the greatest reading so far
-pub record Desk : Type 0 where
-  pub core : Core
+-- a script in its run: the lines that are left, and the greatest reading so far
+pub record Reader : Type 0 where
   pub left : Script
   pub greatest : ℕ
 
--- the lines that a turn gives, and the core after them
-abbrev pub lines_at : ℕ → Desk → Script
-lines_at now d = come (max d.greatest now) d.left
+-- the lines that a turn gives
+abbrev pub lines_at : ℕ → Reader → Script
+lines_at now r = come (max r.greatest now) r.left
 
-abbrev pub ordered : ℕ → Desk → Core
-ordered now d = commanded now (lines_at now d) d.core
+abbrev pub reader_after : Script → List ℕ → Reader
+reader_after script [] = record { left = script; greatest = 0 }
+reader_after script (now ∷ readings) =
+    let r = reader_after script readings in
+    record { left = drop (length (lines_at now r)) r.left; greatest = max r.greatest now }
 
--- a turn: the lines whose moments have come are given, and then the core is polled once
-abbrev pub after_turn : ℕ → Desk → Desk
-after_turn now d = record {
-  core = after_poll now (ordered now d);
-  left = drop (length (lines_at now d)) d.left;
-  greatest = max d.greatest now;
-}
+-- the core in a turn, once its lines are given
+abbrev pub ordered : ℕ → Script → List ℕ → Core → Core
+ordered now script readings c = commanded now (lines_at now (reader_after script readings)) c
 
-abbrev pub desk_after : Core → Script → List ℕ → Desk
-desk_after first script [] = record { core = first; left = script; greatest = 0 }
-desk_after first script (now ∷ readings) = after_turn now (desk_after first script readings)
+-- the core after some turns: in each the lines whose moments have come are given, and then it is polled once
+abbrev pub core_after : Core → Script → List ℕ → Core
+core_after first script [] = first
+core_after first script (now ∷ readings) = after_poll now (ordered now script readings (core_after first script readings))
 
 abbrev pub octets_of : Sender → Option Datagram → List (List ℕ)
 octets_of sender None = []
@@ -62,13 +61,13 @@ sent_at now c = octets_of c.sender (due (at now c))
 abbrev pub console_sends : Core → Script → List ℕ → List (List ℕ)
 console_sends first script [] = []
 console_sends first script (now ∷ readings) =
-    console_sends first script readings ++ sent_at now (ordered now (desk_after first script readings))
+    console_sends first script readings ++ sent_at now (ordered now script readings (core_after first script readings))
 
 -- how many commands the core refuses
 abbrev pub refused_by : Core → Script → List ℕ → ℕ
 refused_by first script [] = 0
 refused_by first script (now ∷ readings) =
-    refused_by first script readings + refusals now (lines_at now (desk_after first script readings)) (desk_after first script readings).core
+    refused_by first script readings + refusals now (lines_at now (reader_after script readings)) (core_after first script readings)
 
 -- the readings in their order
 abbrev pub in_order : List ℕ → List ℕ

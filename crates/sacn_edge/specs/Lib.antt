@@ -7,3 +7,6 @@ pub mod NodeRun
 pub mod ConsoleSends
 pub mod MemoryItems
 pub mod MemoryTold
+pub mod PlainText
+pub mod SendsByList
+pub mod Sockets

@@ -1,5 +1,5 @@
 -- What a node's loop keeps of the lines that it wrote, and what it writes in a turn.
-use Rattle.std.specs.Prelude.{◌≡◌, ℕ, ◌<◌, List, [], ◌∷◌, ◌++◌, length, take, Option, None, Some, if◌then◌else◌}
+use Rattle.std.specs.Prelude.{◌≡◌, ℕ, ◌<◌, List, [], ◌∷◌, ◌++◌, length, take, Option, None, Some, ⊤, if◌then◌else◌}
 use Rattle.sacn_node.specs.Cores.{Node, node_frame}
 use Rattle.sacn_edge.specs.declared.shown.PortShown.{PortShown}
 use Rattle.sacn_edge.specs.Told.{Adds}
@@ -31,6 +31,11 @@ port_after n s = with_last s (node_frame s.number n)
 abbrev pub ports_text : Node → List PortShown → List ℕ
 ports_text n [] = []
 ports_text n (s ∷ ss) = port_text n s ++ ports_text n ss
+
+-- the latest line of each port has its frame
+abbrev pub AreCurrent : Node → List PortShown → Type 0
+AreCurrent n [] = ⊤
+AreCurrent n (s ∷ ss) = (later s.last (node_frame s.number n) ≡ s.last) × AreCurrent n ss
 
 -- the texts of some ports were written, and of that of the next port a proper part
 abbrev pub FailsAmong : Node → List PortShown → (List ℕ → Type 0) → (List ℕ → Type 0) → Type 0

@@ -1,9 +1,9 @@
 //! The console's loop.
-ghost use Rattle.std.specs.Prelude.{◌≡◌, ◌≤◌, ◌<◌, ◌+◌, ◌-◌, ◌^◌, ◌∷◌, [], List, ℕ, Bool, length, is_some, if◌then◌else◌};
+ghost use Rattle.std.specs.Prelude.{◌≡◌, ◌≤◌, ◌<◌, ◌+◌, ◌-◌, ◌^◌, ◌∷◌, [], List, ℕ, Bool, length, take, is_some, if◌then◌else◌};
 ghost use Rattle.sacn_console.specs.Core.{at, due, after_poll};
 ghost use Rattle.sacn_edge.specs.Told.{Extends};
 ghost use Rattle.sacn_edge.specs.Heard.{Hands};
-ghost use Rattle.sacn_edge.specs.ConsoleSends.{come, commanded, refusals, sent_at, handed_of, Handed, datagrams, console_sends, desk_after, refused_by, in_order, sends_report, counted_send};
+ghost use Rattle.sacn_edge.specs.ConsoleSends.{come, commanded, refusals, sent_at, handed_of, Handed, datagrams, console_sends, core_after, refused_by, in_order, sends_report, counted_send};
 
 use crate::clock::Clock;
 use crate::link::Link;
@@ -19,12 +19,7 @@ struct Given {
 }
 
 /// Gives the lines before the first whose moment is above the greatest reading.
-fn order(
-    core: &mut ConsoleCore,
-    now: u64,
-    greatest: u64,
-    script: &[(u64, Command)],
-) -> Given
+fn order(core: &mut ConsoleCore, now: u64, greatest: u64, script: &[(u64, Command)]) -> Given
     ensures lines { result.lines ≡ length (come greatest script.now) }
     ensures within { result.lines ≤ length script.now }
     ensures refused { result.refused ≡ refusals now (come greatest script.now) core.old }
@@ -47,6 +42,14 @@ fn order(
     given
 }
 
+/// Hands over the front of these octets.
+fn hand<L: Link>(link: &mut L, octets: &[u8; MOST_OCTETS], len: usize) -> bool
+    requires { len ≤ MOST_OCTETS }
+    ensures { Hands (L.told link.old) (L.told link.new) ((take len octets.now, result) ∷ []) }
+{
+    link.send(&octets[..len])
+}
+
 /// Sends what is due, and answers whether the send succeeded; None where nothing is due.
 fn send<L: Link>(
     link: &mut L,
@@ -59,7 +62,7 @@ fn send<L: Link>(
     ensures core { core.new ≡ after_poll now core.old }
 {
     match core.poll(now, octets) {
-        Some(len) => Some(link.send(&octets[..len])),
+        Some(len) => Some(hand(link, octets, len)),
         None => None,
     }
 }
@@ -90,15 +93,13 @@ pub fn run_console<L: Link, C: Clock>(
     turns: u64,
 ) -> ConsoleReport
     // Each turn has one reading, and what is handed over is what is due in it.
-    ensures {
-        (readings : List ℕ) × (handed : Handed)
+    ensures { (readings : List ℕ) × (handed : Handed)
         × (length readings ≡ turns)
         × Extends (C.readings clock.old) (C.readings clock.new) (in_order readings)
         × Hands (L.told link.old) (L.told link.new) handed
         × (datagrams handed ≡ console_sends core.old script.now readings)
-        × (core.new ≡ (desk_after core.old script.now readings).core)
-        × (result ≡ sends_report handed (refused_by core.old script.now readings))
-    }
+        × (core.new ≡ core_after core.old script.now readings)
+        × (result ≡ sends_report handed (refused_by core.old script.now readings)) }
 {
     let mut report = ConsoleReport {
         sent: 0,

@@ -8,6 +8,7 @@
 
 mod clock;
 mod console_loop;
+pub mod laws;
 mod line;
 mod link;
 pub mod memory;

@@ -29,11 +29,12 @@ pub struct ListClock {
 }
 
 impl ListClock {
-    ghost use Rattle.sacn_edge.specs.MemoryTold.{clock_told};
+    ghost use Rattle.sacn_edge.specs.MemoryTold.{clock_told, reads};
 
     /// A clock that was not read yet.
     pub fn new(list: Vec<u64>) -> Self
-        ensures { clock_told result ≡ Some [] }
+        ensures told { clock_told result ≡ Some [] }
+        ensures reads { reads result ≡ list.items }
     {
         ListClock { list, count: 0 }
     }
@@ -75,11 +76,13 @@ pub struct MemoryLink {
 }
 
 impl MemoryLink {
-    ghost use Rattle.sacn_edge.specs.MemoryTold.{link_told};
+    ghost use Rattle.sacn_edge.specs.MemoryTold.{link_told, brings, fails};
 
     /// A link of which nothing was asked yet. The send whose number, from 0, is `failing` will fail.
     pub fn new(alloc: Global, incoming: Vec<Incoming>, failing: Option<u64>) -> Self
-        ensures { link_told result ≡ Some (record { heard = []; handed = [] }) }
+        ensures told { link_told result ≡ Some (record { heard = []; handed = [] }) }
+        ensures brings { brings result ≡ incoming.items }
+        ensures fails { fails result ≡ failing }
     {
         MemoryLink {
             alloc,

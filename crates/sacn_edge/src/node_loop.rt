@@ -2,7 +2,7 @@
 ghost use Rattle.std.specs.Prelude.{◌≡◌, ◌≤◌, ◌<◌, ◌+◌, ◌-◌, ◌^◌, ◌∷◌, [], List, length, false, true, map, ℕ, if◌then◌else◌, OnOk, IfOk, OnErr};
 ghost use Rattle.std.specs.List.Sorted.{IsStrictlyIncreasing};
 ghost use Rattle.sacn_node.specs.Setup.{port_numbers};
-ghost use Rattle.sacn_node.specs.Calls.{step};
+ghost use Rattle.sacn_node.specs.Calls.{step, Take, Tick};
 ghost use Rattle.sacn_edge.specs.Told.{Adds, Extends};
 ghost use Rattle.sacn_edge.specs.Heard.{Hears, heard_of, is_datagram, is_failure};
 ghost use Rattle.sacn_edge.specs.NodeText.{Turn, call_at, node_after, node_text};
@@ -18,11 +18,29 @@ use crate::text::WriteFailed;
 use arrayvec::ArrayVec;
 use sacn_node::{MAX_PORTS, NodeCore};
 
-/// What a turn read and received.
+/// What a turn read and received, and whether it is known that no frame changed.
 #[derive(Clone, Copy)]
 struct Hearing {
     now: u64,
     received: Received,
+    is_still: bool,
+}
+
+/// Gives the node a datagram. What it changed isn't known.
+fn take(core: &mut NodeCore, now: u64, octets: &[u8]) -> bool
+    ensures still { result ≡ false }
+    ensures core { core.new ≡ step (Take now octets.now) core.old }
+{
+    core.take(now, octets);
+    false
+}
+
+/// Moves the node's clock. Where no source was lost, no frame changed.
+fn tick(core: &mut NodeCore, now: u64) -> bool
+    ensures still { result ≡ true → core.new.core.tables ≡ core.old.core.tables }
+    ensures core { core.new ≡ step (Tick now) core.old }
+{
+    core.tick(now) == 0
 }
 
 /// Reads the clock, receives once, and gives the node what came; where nothing did, its clock is moved.
@@ -35,21 +53,20 @@ fn hear<L: Link, C: Clock>(
     ensures clock { Extends (C.readings clock.old) (C.readings clock.new) (result.now ∷ []) }
     ensures link { Hears (L.told link.old) (L.told link.new) (heard_of result.received buffer.new ∷ []) }
     ensures core { core.new ≡ step (call_at result.now (heard_of result.received buffer.new)) core.old }
+    ensures still { result.is_still ≡ true → core.new.core.tables ≡ core.old.core.tables }
 {
     let now = clock.now();
     let received = link.receive(buffer);
-    match received {
-        Received::Datagram(len) => {
-            core.take(now, &buffer[..len]);
-        }
-        Received::Nothing => {
-            core.tick(now);
-        }
-        Received::Failed => {
-            core.tick(now);
-        }
+    let is_still = match received {
+        Received::Datagram(len) => take(core, now, &buffer[..len]),
+        Received::Nothing => tick(core, now),
+        Received::Failed => tick(core, now),
+    };
+    Hearing {
+        now,
+        received,
+        is_still,
     }
-    Hearing { now, received }
 }
 
 /// Counts one receive.
@@ -97,24 +114,20 @@ pub fn run_node<L: Link, C: Clock, O: Out>(
     requires { O.failed out.old ≡ false }
 
     // Each turn has one reading and one receive, and what is written is the node's text over them.
-    ensures ok {
-        IfOk result (λ report. (ts : List Turn)
+    ensures ok { IfOk result (λ report. (ts : List Turn)
         × (length ts ≡ turns)
         × Turned (C.readings clock.old) (C.readings clock.new) (L.told link.old) (L.told link.new) ts
         × Adds (O.Tells out.old) (O.Tells out.new) (node_text core.old ts)
         × (core.new ≡ node_after core.old ts)
-        × (report ≡ report_of ts))
-    }
+        × (report ≡ report_of ts)) }
     ensures works { OnOk result (O.failed out.new ≡ false) }
 
     // What is written is the node's text up to a line of the last turn, of which a part is.
-    ensures err {
-        OnErr result ((t : Turn) × (ts : List Turn)
+    ensures err { OnErr result ((t : Turn) × (ts : List Turn)
         × (length ts < turns)
         × Turned (C.readings clock.old) (C.readings clock.new) (L.told link.old) (L.told link.new) (t ∷ ts)
         × StopsIn core.old t ts (O.Tells out.old) (O.Tells out.new)
-        × (core.new ≡ node_after core.old (t ∷ ts)))
-    }
+        × (core.new ≡ node_after core.old (t ∷ ts))) }
     ensures failed { OnErr result (O.failed out.new ≡ true) }
 {
     let mut report = NodeReport {
@@ -126,7 +139,8 @@ pub fn run_node<L: Link, C: Clock, O: Out>(
     for turn in 0..turns {
         let hearing = hear(link, clock, core, &mut buffer);
         count(&mut report, hearing.received);
-        show(out, core, hearing.now, ports.as_mut_slice())?;
+        let is_still = hearing.is_still & (turn > 0);
+        show(out, core, hearing.now, is_still, ports.as_mut_slice())?;
     }
     Ok(report)
 }

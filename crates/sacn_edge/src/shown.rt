@@ -3,7 +3,7 @@ ghost use Rattle.std.specs.Prelude.{◌≡◌, false, true, OnOk, OnErr, map, So
 ghost use Rattle.sacn_node.specs.Cores.{core_at};
 ghost use Rattle.sacn_edge.specs.Told.{Adds, AddsPart};
 ghost use Rattle.sacn_edge.specs.NodeText.{is_shown};
-ghost use Rattle.sacn_edge.specs.Shown.{frame_text, with_last, port_text, port_after, ports_text, FailsAmong};
+ghost use Rattle.sacn_edge.specs.Shown.{frame_text, with_last, port_text, port_after, ports_text, AreCurrent, FailsAmong};
 
 use crate::line::{FRAME_OCTETS, line_of};
 use crate::out::Out;
@@ -68,19 +68,25 @@ fn show_port<O: Out>(
     }
 }
 
-/// Writes the lines of a turn: of each port whose frame isn't that of its latest line.
+/// Writes the lines of a turn: of each port whose frame isn't that of its latest line. No frame is made
+/// where it is known that none changed.
 pub(crate) fn show<O: Out>(
     out: &mut O,
     core: &mut NodeCore,
     now: u64,
+    is_still: bool,
     ports: &mut [PortShown],
 ) -> Result<(), WriteFailed>
     requires works { O.failed out.old ≡ false }
     requires settled { core_at now core.old.core ≡ core.old.core }
+    requires still { is_still ≡ true → AreCurrent core.old ports.old }
     ensures core { core.new ≡ core.old }
     ensures ok { OnOk result ((O.failed out.new ≡ false) × Adds (O.Tells out.old) (O.Tells out.new) (ports_text core.old ports.old) × (ports.new ≡ map (port_after core.old) ports.old)) }
     ensures err { OnErr result ((O.failed out.new ≡ true) × FailsAmong core.old ports.old (O.Tells out.old) (O.Tells out.new)) }
 {
+    if is_still {
+        return Ok(());
+    }
     for shown in ports.iter_mut() {
         show_port(out, core, now, shown)?;
     }

@@ -1,5 +1,5 @@
 //! A link over a UDP socket of the machine.
-ghost use Rattle.std.specs.Prelude.{◌≤◌, length};
+ghost use Rattle.std.specs.Prelude.{◌≡◌, ◌≤◌, length, IfOk};
 
 use crate::link::{BUFFER_OCTETS, Link, Received};
 use arrayvec::ArrayVec;
@@ -24,14 +24,13 @@ pub struct UdpLink {
 }
 
 impl UdpLink {
+    ghost use Rattle.sacn_edge.specs.Sockets.{destinations_of};
+
     /// A link on this port, or on one that the machine chooses where it is 0, which sends to these ports.
     /// `SocketFailed` where the machine refuses the socket.
-    pub fn bind(
-        rt: &impl Net,
-        port: u16,
-        destinations: &[u16],
-    ) -> Result<UdpLink, SocketFailed>
+    pub fn bind(rt: &impl Net, port: u16, destinations: &[u16]) -> Result<UdpLink, SocketFailed>
         requires { length destinations.now ≤ MAX_DESTINATIONS }
+        ensures { IfOk result (λ link. destinations_of link ≡ destinations.now) }
     {
         let Ok(socket) = UdpSocket::bind(rt, (Ipv4Addr::LOCALHOST, port)) else {
             return Err(SocketFailed);

@@ -38,7 +38,14 @@ fn what_is_due_is_handed_over(rt: HostRuntime) -> Result<(), Fail> {
     ];
     for (failing, sent, failed) in runs {
         let (link, report) = desk_run(rt.alloc(), "0 go\n10 start 1\n", failing)?;
-        assert_eq!(rt; report, ConsoleReport { sent, failed, refused: 1 });
+        assert_eq!(rt;
+            report,
+            ConsoleReport {
+                sent,
+                failed,
+                refused: 1
+            }
+        );
         let handed = link.handed();
         assert_eq!(rt; handed.len(), 3);
         assert_eq!(rt; seen(handed[0].as_slice()), (638, 0, 1, 255));
@@ -51,7 +58,14 @@ fn what_is_due_is_handed_over(rt: HostRuntime) -> Result<(), Fail> {
 #[test]
 fn a_line_waits_for_its_moment(rt: HostRuntime) -> Result<(), Fail> {
     let (link, report) = desk_run(rt.alloc(), "10 set 1 65535\n0 go\n", None)?;
-    assert_eq!(rt; report, ConsoleReport { sent: 3, failed: 0, refused: 0 });
+    assert_eq!(rt;
+        report,
+        ConsoleReport {
+            sent: 3,
+            failed: 0,
+            refused: 0
+        }
+    );
     let handed = link.handed();
     assert_eq!(rt; handed.len(), 3);
     assert_eq!(rt; seen(handed[0].as_slice()), (638, 0, 1, 0));

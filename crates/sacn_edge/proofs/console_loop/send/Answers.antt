@@ -1,7 +1,7 @@
-use Rattle.std.proofs.Common.{sym, ◌∙◌}
+use Rattle.std.proofs.Common.{sym}
 use Rattle.sacn_console.specs.Core.{at}
 use Rattle.sacn_edge.proofs.ConsoleLemmas.{due_small}
 use Rattle.sacn_edge.proofs.console_loop.send.Goals as goal
 
-pub shared_ref_as_front-send : goal.shared_ref_as_front-send
-shared_ref_as_front-send g c = due_small (at c.args.now c.args.core.now) c.in-Some.len (sym c.in-Some.ensures.answer)
+pub hand-requires : goal.hand-requires
+hand-requires g c = due_small (at c.args.now c.args.core.now) c.in-Some.len (sym c.in-Some.ensures.answer)

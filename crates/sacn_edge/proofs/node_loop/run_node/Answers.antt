@@ -1,16 +1,15 @@
-use Rattle.std.proofs.Common.{rules, arith, ◌≡◌, ◌+◌, ◌<◌, ◌∷◌, [], List, length, map, refl, sym, ap, subst, ◌∙◌}
+use Rattle.std.proofs.Common.{nat_lt, rules, arith, ◌≡◌, ◌∷◌, [], length, map, refl, sym, ap, subst, ◌∙◌}
 use Rattle.std.proofs.lemmas.List.{length-map}
+use Rattle.std.proofs.lemmas.Bool.{and_parts, ltb-true}
 use Rattle.std.proofs.lemmas.Result.{err_from_is_err_and}
 use Rattle.sacn_node.specs.Setup.{port_numbers}
 use Rattle.sacn_node.specs.Cores.{Node, core_at}
 use Rattle.sacn_node.specs.Calls.{step}
-use Rattle.sacn_edge.specs.declared.shown.PortShown.{PortShown}
 use Rattle.sacn_edge.specs.declared.report.NodeReport.{NodeReport}
 use Rattle.sacn_edge.specs.Heard.{heard_of, is_datagram, is_failure}
 use Rattle.sacn_edge.specs.NodeText.{Turn, call_at, node_after, lines_after}
-use Rattle.sacn_edge.specs.NodeRun.{report_of}
-use Rattle.sacn_edge.specs.Shown.{unshown, port_after}
-use Rattle.sacn_edge.proofs.ShownLemmas.{Adds-nil}
+use Rattle.sacn_edge.specs.Shown.{port_after, AreCurrent}
+use Rattle.sacn_edge.proofs.ShownLemmas.{Adds-nil, current_after, still_current}
 use Rattle.sacn_edge.proofs.Settled.{turn_settled}
 use Rattle.sacn_edge.proofs.NodeLemmas.{rising_distinct, numbers, numbers_unshown, nothing_shown, Remembers, more_text, more_remembered, more_numbers, stops_in, turned_more, counted, put_back, nothing_told}
 use Rattle.sacn_edge.proofs.node_loop.run_node.Goals as goal
@@ -21,6 +20,7 @@ loop-turn-init g c =
     record {
       works = c.requires;
       few = search rules;
+      current = λ lt. absurd (omega (arith, lt));
       distinct = rising_distinct ports c.ports_of-ports.ensures.rising;
       run = (
         [],
@@ -39,6 +39,14 @@ show-requires-clause-settled g c =
     let now = c.hear-hearing.result.now in
     subst (λ (m : Node). core_at now m.core ≡ m.core) (sym c.hear-hearing.ensures.core)
     (turn_settled now (heard_of c.hear-hearing.result.received c.hear-hearing.new.buffer) c.loop-turn.core.core)
+
+pub show-requires-clause-still : goal.show-requires-clause-still
+show-requires-clause-still g c = λ both.
+    let parts = and_parts c.hear-hearing.result.is_still (nat_lt 0 c.loop-turn.turn) both in
+    let current = c.loop-turn.invariant.current (ltb-true 0 c.loop-turn.turn parts.1) in
+    let ports : c.hear-hearing.new.core.ports ≡ c.loop-turn.core.ports = ap (λ (m : Node). m.ports) c.hear-hearing.ensures.core in
+    subst (AreCurrent c.hear-hearing.new.core) (sym c.as_mut_slice.ensures.value)
+    (still_current c.loop-turn.core c.hear-hearing.new.core c.loop-turn.ports.items ports (c.hear-hearing.ensures.still parts.0) current)
 
 pub returns-in_err-show-clause-err : goal.returns-in_err-show-clause-err
 returns-in_err-show-clause-err g c =
@@ -83,6 +91,7 @@ loop-turn-preserved g c =
       works = ok.0;
       few = omega (arith, c.count.ensures.few, c.loop-turn.invariant.few);
       distinct = distinct;
+      current = λ lt. current_after n c.show.new.core ss _ c.in_ok-show.ensures.core back;
       run = (
         t ∷ ts,
         omega (arith, run.1),
