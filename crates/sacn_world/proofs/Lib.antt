@@ -1,0 +1,11 @@
+pub mod Numbers
+pub mod Sources
+pub mod All
+pub mod Lists
+pub mod Steps
+pub mod Maps
+pub mod Forward
+pub mod CatchUp
+pub mod NodeSteps
+pub mod Growth
+pub mod Sending

@@ -1,0 +1,9 @@
+pub mod FaultNumbers
+pub mod Streams
+pub mod Holdings
+pub mod Seen
+pub mod Nodes
+pub mod Worlds
+pub mod CatchUp
+pub mod Counts
+pub mod Members

@@ -1,0 +1,12 @@
+//! Consoles, nodes and the network between them, event by event.
+#![tactic(auto)]
+
+mod answer;
+mod event;
+mod fault;
+mod limits;
+
+pub use answer::Answer;
+pub use event::Event;
+pub use fault::{NewFault, WorldFault};
+pub use limits::TOO_FAR_BEHIND;
