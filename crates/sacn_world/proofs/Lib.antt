@@ -9,3 +9,6 @@ pub mod CatchUp
 pub mod NodeSteps
 pub mod Growth
 pub mod Sending
+pub mod Polls
+pub mod Consoles
+pub mod Runs

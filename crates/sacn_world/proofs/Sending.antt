@@ -1,16 +1,16 @@
 -- Datagrams have places, and sending keeps streams in order.
 use Rattle.std.proofs.Common.{◌≡◌, ℕ, zero, suc, ◌+◌, ◌-◌, ◌<◌, ◌≤◌, Bool, true, false, cond, List, [], ◌∷◌, ◌++◌, map, length, get_or, take, Option, Some, None, refl, sym, ap, subst, ◌∙◌, inl, inr, ◌⊎◌, arith, length-append}
 use Rattle.std.specs.Prelude.{filter, count_by, slice_get, slice_set, ◌==◌, ◌&&◌}
-use Rattle.std.proofs.lemmas.List.{get_or_push, append-nil}
+use Rattle.std.proofs.lemmas.List.{get_or_push, append-nil, take-append-le, take_at}
 use Rattle.std.proofs.lemmas.List.Sums.{sum_by-cons}
-use Rattle.std.proofs.lemmas.Option.{same_Some}
+use Rattle.std.proofs.lemmas.Option.{same_Some, slice_get_within}
 use Rattle.std.proofs.lemmas.Bool.{cases_lt, cases_Bool, and_parts, and_from, eqb-true, eq-eqb}
-use Rattle.sacn_world.proofs.Sources.{same_source, same-itself}
+use Rattle.sacn_world.proofs.Sources.{same_source}
 use Rattle.sacn_world.proofs.Growth.{stream_push, at_stays, at_kept}
 use Rattle.sacn_world.specs.Streams.{Sent, nothing, at, life_at, is_of, stream_of, Ordered, place_of}
 use Rattle.sacn_world.specs.Worlds.{Console}
 
-count_here : {X : Type 0} (p : X → Bool) (x : X) (xs : List X) (b : Bool) → p x ≡ b → count_by p (x ∷ xs) ≡ cond b 1 0 + count_by p xs
+pub count_here : {X : Type 0} (p : X → Bool) (x : X) (xs : List X) (b : Bool) → p x ≡ b → count_by p (x ∷ xs) ≡ cond b 1 0 + count_by p xs
 count_here p x xs b e = sum_by-cons (λ y. cond (p y) 1 0) x xs ∙ ap (λ c. cond c 1 0 + count_by p xs) e
 
 -- the k-th element, if it passes, stands among those that pass as far on as there are passing ones before it
@@ -32,16 +32,26 @@ module _ {X : Type 0} (p : X → Bool) where
             rw c r
       ] refl
 
-pub itself : (x : Sent) → is_of x.source x.universe x ≡ true
-itself x = and_from _ _ (same-itself x.source) (eq-eqb _ _ refl)
+-- a datagram of a stream has a place in it
+pub place_within : (s : List ℕ) (u : ℕ) (sent : List Sent) (k : ℕ) (x : Sent) → slice_get sent k ≡ Some x → is_of s u x ≡ true → place_of s u k sent < length (stream_of s u sent)
+unfolding stream_of place_of
+place_within s u sent k x e of = (ranked (is_of s u) sent k x nothing e of).0
 
-pub place_within : (sent : List Sent) (k : ℕ) (x : Sent) → slice_get sent k ≡ Some x → place_of sent k x < length (stream_of x.source x.universe sent)
-unfolding stream_of
-place_within sent k x e = (ranked (is_of x.source x.universe) sent k x nothing e (itself x)).0
+pub place_is : (s : List ℕ) (u : ℕ) (sent : List Sent) (k : ℕ) (x : Sent) → slice_get sent k ≡ Some x → is_of s u x ≡ true → at (stream_of s u sent) (place_of s u k sent) ≡ x
+unfolding stream_of place_of
+place_is s u sent k x e of = (ranked (is_of s u) sent k x nothing e of).1
 
-pub place_is : (sent : List Sent) (k : ℕ) (x : Sent) → slice_get sent k ≡ Some x → at (stream_of x.source x.universe sent) (place_of sent k x) ≡ x
-unfolding stream_of
-place_is sent k x e = (ranked (is_of x.source x.universe) sent k x nothing e (itself x)).1
+-- a place stays as more is sent
+pub place_stays : (s : List ℕ) (u : ℕ) (sent : List Sent) (y : Sent) (k : ℕ) (x : Sent) → slice_get sent k ≡ Some x → place_of s u k (sent ++ y ∷ []) ≡ place_of s u k sent
+unfolding place_of
+place_stays s u sent y k x e =
+    let lt = slice_get_within sent k x e in
+    ap (count_by (is_of s u)) (take-append-le k sent (y ∷ []) (omega (arith, lt)))
+
+-- the place of the packet that is sent next
+pub next_place : (s : List ℕ) (u : ℕ) (sent : List Sent) (y : Sent) → place_of s u (length sent) (sent ++ y ∷ []) ≡ count_by (is_of s u) sent
+unfolding place_of
+next_place s u sent y = ap (count_by (is_of s u)) (take_at sent (y ∷ []) (length sent) refl)
 
 -- ---- a stream with a packet more
 
@@ -84,58 +94,59 @@ ordered_push st x ord latest begun =
           ];
     }
 
-pub streams_push : (sent : List Sent) (c : Console) (u : ℕ) (live : Bool) (p : ℕ) (l : List ℕ) → LifeOk sent c → ((s : List ℕ) (v : ℕ) → Ordered (stream_of s v sent)) → (s : List ℕ) (v : ℕ) → Ordered (stream_of s v (sent ++ sent_by c u live p l ∷ []))
-streams_push sent c u live p l ok ord s v =
-    let x = sent_by c u live p l in
+-- what was sent before in a stream is of no later life, and of this life it has the same first number
+abbrev pub Latest : List Sent → List ℕ → ℕ → Type 0
+Latest sent s life = (u p : ℕ) → p < length (stream_of s u sent) → life_at (stream_of s u sent) p ≤ life
+
+abbrev pub Begun : List Sent → List ℕ → ℕ → ℕ → Type 0
+Begun sent s life first = (u p : ℕ) → p < length (stream_of s u sent) → life_at (stream_of s u sent) p ≡ life → (at (stream_of s u sent) p).first ≡ first
+
+pub streams_push : (sent : List Sent) (x : Sent) → Latest sent x.source x.life → Begun sent x.source x.life x.first → ((s : List ℕ) (v : ℕ) → Ordered (stream_of s v sent)) → (s : List ℕ) (v : ℕ) → Ordered (stream_of s v (sent ++ x ∷ []))
+streams_push sent x latest begun ord s v =
     subst Ordered (sym (stream_push s v sent x))
     (elim (is_of s v x) as (λ b. is_of s v x ≡ b → Ordered (stream_of s v sent ++ cond b (x ∷ []) [])) [
       | true ↦ λ e.
-          let es = same_source s c.source (and_parts _ _ e).0 in
-          let f : (y : List ℕ) → y ≡ c.source → Ordered (stream_of y v sent) → Ordered (stream_of y v sent ++ x ∷ []) =
-          λ y ey o. subst (λ z. Ordered (stream_of z v sent) → Ordered (stream_of z v sent ++ x ∷ [])) (sym ey) (λ o'. ordered_push (stream_of c.source v sent) x o' (ok.latest v) (ok.begun v)) o in
+          let es = same_source s x.source (and_parts _ _ e).0 in
+          let f : (y : List ℕ) → y ≡ x.source → Ordered (stream_of y v sent) → Ordered (stream_of y v sent ++ x ∷ []) =
+          λ y ey o. subst (λ z. Ordered (stream_of z v sent) → Ordered (stream_of z v sent ++ x ∷ [])) (sym ey) (λ o'. ordered_push (stream_of x.source v sent) x o' (latest v) (begun v)) o in
           f s es (ord s v)
       | false ↦ λ e. subst Ordered (sym (append-nil (stream_of s v sent))) (ord s v)
     ] refl)
 
 -- a place of the longer stream is an old one, or that of the new packet
-lives_cases : (sent : List Sent) (c d : Console) (u : ℕ) (live : Bool) (p : ℕ) (l : List ℕ) (v q : ℕ) → q < length (stream_of d.source v (sent ++ sent_by c u live p l ∷ [])) → (q < length (stream_of d.source v sent)) ⊎ ((at (stream_of d.source v (sent ++ sent_by c u live p l ∷ [])) q ≡ sent_by c u live p l) × (d.source ≡ c.source))
-lives_cases sent c d u live p l v q lt =
-    let x = sent_by c u live p l in
-    let st = stream_of d.source v sent in
-    let push = stream_push d.source v sent x in
-    let lt' : q < length (st ++ cond (is_of d.source v x) (x ∷ []) []) = subst (λ ys. q < length ys) push lt in
+lives_cases : (sent : List Sent) (x : Sent) (r : List ℕ) (v q : ℕ) → q < length (stream_of r v (sent ++ x ∷ [])) → (q < length (stream_of r v sent)) ⊎ ((at (stream_of r v (sent ++ x ∷ [])) q ≡ x) × (r ≡ x.source))
+lives_cases sent x r v q lt =
+    let st = stream_of r v sent in
+    let push = stream_push r v sent x in
+    let lt' : q < length (st ++ cond (is_of r v x) (x ∷ []) []) = subst (λ ys. q < length ys) push lt in
     elim (cases_lt q (length st)) [
       | inl old ↦ inl old
       | inr new ↦
-          elim (is_of d.source v x) as (λ b. is_of d.source v x ≡ b → q < length (st ++ cond b (x ∷ []) []) → (q < length st) ⊎ ((at (stream_of d.source v (sent ++ x ∷ [])) q ≡ x) × (d.source ≡ c.source))) [
+          elim (is_of r v x) as (λ b. is_of r v x ≡ b → q < length (st ++ cond b (x ∷ []) []) → (q < length st) ⊎ ((at (stream_of r v (sent ++ x ∷ [])) q ≡ x) × (r ≡ x.source))) [
             | true ↦ λ e h.
                 let at_end : length st ≡ q = omega (arith, length-append st (x ∷ []), h, new) in
-                inr (ap (λ ys. at ys q) (push ∙ ap (λ b. st ++ cond b (x ∷ []) []) e) ∙ get_or_push st x nothing q at_end, same_source d.source c.source (and_parts _ _ e).0)
+                inr (ap (λ ys. at ys q) (push ∙ ap (λ b. st ++ cond b (x ∷ []) []) e) ∙ get_or_push st x nothing q at_end, same_source r x.source (and_parts _ _ e).0)
             | false ↦ λ e h. inl (subst (λ ys. q < length ys) (append-nil st) h)
           ] refl lt'
     ]
 
 -- a console's own stream, or another's
-pub lives_push : (sent : List Sent) (c d : Console) (u : ℕ) (live : Bool) (p : ℕ) (l : List ℕ) → (c.source ≡ d.source → c ≡ d) → LifeOk sent d → LifeOk (sent ++ sent_by c u live p l ∷ []) d
-lives_push sent c d u live p l one ok =
-    let x = sent_by c u live p l in
-    let cases : (v q : ℕ) → q < length (stream_of d.source v (sent ++ x ∷ [])) → (q < length (stream_of d.source v sent)) ⊎ ((at (stream_of d.source v (sent ++ x ∷ [])) q ≡ x) × (d.source ≡ c.source)) =
-    λ v q lt. lives_cases sent c d u live p l v q lt in
-    record {
-      latest = λ v q lt. elim (cases v q lt) [
-        | inl old ↦
-            let e = ap (λ (y : Sent). y.life) (at_kept sent x d.source v q old) in
-            let o = ok.latest v q old in
-            omega (arith, e, o)
-        | inr new ↦
-            let e = ap (λ (y : Sent). y.life) new.0 in
-            let f = ap (λ (y : Console). y.life) (one (sym new.1)) in
-            omega (arith, e, f)
-      ];
-      begun = λ v q lt e. elim (cases v q lt) [
-        | inl old ↦
-            let k = at_kept sent x d.source v q old in
-            ap (λ (y : Sent). y.first) k ∙ ok.begun v q old (sym (ap (λ (y : Sent). y.life) k) ∙ e)
-        | inr new ↦ ap (λ (y : Sent). y.first) new.0 ∙ ap (λ (y : Console). y.first) (one (sym new.1))
-      ];
-    }
+pub latest_push : (sent : List Sent) (x : Sent) (r : List ℕ) (life : ℕ) → (r ≡ x.source → x.life ≡ life) → Latest sent r life → Latest (sent ++ x ∷ []) r life
+latest_push sent x r life one latest v q lt = elim (lives_cases sent x r v q lt) [
+  | inl old ↦
+      let e = ap (λ (y : Sent). y.life) (at_kept sent x r v q old) in
+      let o = latest v q old in
+      omega (arith, e, o)
+  | inr new ↦
+      let e = ap (λ (y : Sent). y.life) new.0 in
+      let f = one new.1 in
+      omega (arith, e, f)
+]
+
+pub begun_push : (sent : List Sent) (x : Sent) (r : List ℕ) (life first : ℕ) → (r ≡ x.source → x.first ≡ first) → Begun sent r life first → Begun (sent ++ x ∷ []) r life first
+begun_push sent x r life first one begun v q lt e = elim (lives_cases sent x r v q lt) [
+  | inl old ↦
+      let k = at_kept sent x r v q old in
+      ap (λ (y : Sent). y.first) k ∙ begun v q old (sym (ap (λ (y : Sent). y.life) k) ∙ e)
+  | inr new ↦ ap (λ (y : Sent). y.first) new.0 ∙ one new.1
+]
