@@ -12,3 +12,5 @@ pub mod Sending
 pub mod Polls
 pub mod Consoles
 pub mod Runs
+pub mod Counts
+pub mod Looks
