@@ -195,7 +195,7 @@ grown sent x s u c n nok k g e =
 
 -- ---- a whole world
 
-set_same : {X : Type 0} (xs : List X) (i : ℕ) (y n : X) → slice_get (slice_set xs i y) i ≡ Some n → y ≡ n
+pub set_same : {X : Type 0} (xs : List X) (i : ℕ) (y n : X) → slice_get (slice_set xs i y) i ≡ Some n → y ≡ n
 set_same [] i y n e = cc
 set_same (x ∷ xs) zero y n e = same_Some y n e
 set_same (x ∷ xs) (suc i) y n e = set_same xs i y n e

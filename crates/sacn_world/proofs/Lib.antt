@@ -14,3 +14,4 @@ pub mod Consoles
 pub mod Runs
 pub mod Counts
 pub mod Looks
+pub mod Replies

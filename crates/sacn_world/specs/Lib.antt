@@ -7,3 +7,5 @@ pub mod Worlds
 pub mod CatchUp
 pub mod Counts
 pub mod Members
+pub mod Arrivals
+pub mod Laws
