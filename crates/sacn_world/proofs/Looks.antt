@@ -2,7 +2,14 @@
 use Rattle.std.proofs.Common.{◌≡◌, ℕ, zero, suc, ◌+◌, ◌<◌, ◌≤◌, Bool, true, false, List, [], ◌∷◌, ◌++◌, map, length, get_or, Option, Some, None, Result, Ok, Err, refl, sym, ap, subst, ◌∙◌, inl, inr, ◌⊎◌, arith}
 use Rattle.std.specs.Prelude.{slice_get, find, ◌==◌, Contains}
 use Rattle.std.specs.List.{AllByRecursion, cons_option, filter_map}
-use Rattle.std.proofs.lemmas.Bool.{eqb-true}
+use Rattle.std.proofs.lemmas.Bool.{eqb-true, ne_eqb}
+use Rattle.std.proofs.lemmas.Option.{same_Some}
+use Rattle.std.proofs.Common.{◌-◌, cond}
+use Rattle.std.specs.Prelude.{if◌then◌else◌}
+use Rattle.sacn_node.specs.declared.setup.SlotRange.{SlotRange}
+use Rattle.sacn_node.specs.Ports.{covers, octet_at, level_in, level_by}
+use Rattle.sacn_world.specs.Nodes.{node_slots, slots_on}
+use Rattle.sacn_world.specs.Laws.{SamePlacesGiveTheSameLevels}
 use Rattle.sacn_framing.specs.declared.packet.Packet.{Packet}
 use Rattle.sacn_framing.specs.declared.packet.Packet.TheVariants.{DataPacket, PagePacket, SyncPacket}
 use Rattle.sacn_framing.specs.PacketReading.{reading_packet}
@@ -26,6 +33,15 @@ use Rattle.sacn_world.proofs.All.{all_get}
 use Rattle.sacn_world.proofs.Lists.{found}
 use Rattle.sacn_world.proofs.Growth.{longer, at_kept, holds_within}
 use Rattle.sacn_world.proofs.Runs.{step_ok, after_ok, start_ok}
+
+-- what is found passes
+found_passes : {X : Type 0} (test : X → Bool) (xs : List X) (x : X) → find test xs ≡ Some x → test x ≡ true
+found_passes test [] x e = absurd (cc)
+found_passes test (y ∷ ys) x e =
+    elim (test y) as (λ b. test y ≡ b → cond b (Some y) (find test ys) ≡ Some x → test x ≡ true) [
+      | true ↦ λ f g. ap test (sym (same_Some y x g)) ∙ f
+      | false ↦ λ f g. found_passes test ys x g
+    ] refl e
 
 -- ---- elements
 
@@ -189,3 +205,27 @@ looks_same merges shows setups es fs i j u hs gs apart a b same' =
     let ok = after_ok (new_world shows setups) (start_ok shows setups apart) es in
     let l = run_longer w fs in
     slots_same merges u w.sent (after w fs).sent hs gs same' (λ s q k. l.alike s u q (shown_within w ok i u hs a s q k))
+
+-- ---- and so at the ports
+
+universe_slots : (w : World) (i u : ℕ) (hs : List Hold) (on : HeldOn w i u hs) → node_slots w.sent on.node u ≡ slots u w.sent hs
+universe_slots w i u hs on =
+    let is : on.holding.universe ≡ u = eqb-true _ _ (found_passes (λ (g : Holding). g.universe == u) on.node.holdings on.holding on.is_holding) in
+    ap (slots_on w.sent) on.is_holding ∙ ap (λ v. slots v w.sent on.holding.held) is ∙ ap (slots u w.sent) on.holds
+
+octet_by : (slots : ℕ → List ℕ) (rs : List SlotRange) (a u : ℕ) (r : SlotRange) → 0 < a → find (covers a) rs ≡ Some r → r.universe ≡ u → octet_at slots rs a ≡ get_or (slots u) (r.slot - 1 + (a - r.port_slot)) 0
+unfolding level_in
+octet_by slots rs a u r up is eu =
+    ap (λ b. if b then 0 else level_by slots a (find (covers a) rs)) (ne_eqb a 0 (λ e. absurd (omega (arith, up, e))))
+    ∙ ap (level_by slots a) is ∙ ap (λ v. get_or (slots v) (r.slot - 1 + (a - r.port_slot)) 0) eu
+
+pub levels_same : MergesTheSet → SamePlacesGiveTheSameLevels
+levels_same merges shows setups es fs i j u hs gs apart on off same' rs qs a b up there is =
+    let w = after (new_world shows setups) es in
+    let v = after w fs in
+    let e : node_slots w.sent on.node u ≡ node_slots v.sent off.node u =
+    universe_slots w i u hs on ∙ looks_same merges shows setups es fs i j u hs gs apart on off same' ∙ sym (universe_slots v j u gs off) in
+    octet_by (node_slots w.sent on.node) rs a u is.one up is.is_one is.universe
+    ∙ ap (λ n. get_or (node_slots w.sent on.node u) n 0) is.slot
+    ∙ ap (λ xs. get_or xs (is.other.slot - 1 + (b - is.other.port_slot)) 0) e
+    ∙ sym (octet_by (node_slots v.sent off.node) qs b u is.other there is.is_other is.other_universe)

@@ -4,6 +4,7 @@
 mod answer;
 mod event;
 mod fault;
+pub mod laws;
 mod limits;
 
 pub use answer::Answer;
