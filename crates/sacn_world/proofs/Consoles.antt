@@ -18,7 +18,8 @@ use Rattle.sacn_console.specs.Runs.{core_by, line_by}
 use Rattle.sacn_console.specs.Lines as line
 use Rattle.sacn_console.specs.Core as console
 use Rattle.sacn_world.specs.Streams.{Sent, nothing, at, is_of, is_on, stream_of, life_at}
-use Rattle.sacn_world.specs.Worlds.{Console, sent_by, with_core, polled, begun, new_console, is_of_life, LineOk, ConsoleOk}
+use Rattle.sacn_world.specs.declared.console.Console.{Console}
+use Rattle.sacn_world.specs.Worlds.{sent_by, with_core, polled, begun, new_console, is_of_life, LineOk, ConsoleOk}
 use Rattle.sacn_world.proofs.All.{all_weaker, all_map}
 use Rattle.sacn_world.proofs.Sources.{same_source, same-itself}
 use Rattle.sacn_world.proofs.Sending.{count_here, latest_push, begun_push}

@@ -21,7 +21,8 @@ use Rattle.sacn_sources.specs.Order.{same}
 use Rattle.sacn_sources.specs.declared.taken.Taken.{Taken}
 use Rattle.sacn_sources.specs.declared.taken.Taken.TheVariants.{SourcesExceeded, EndedNow, UnknownIgnored, OutOfSequence, Observed, Held}
 use Rattle.sacn_world.specs.CatchUp.{count_after, CountOk}
-use Rattle.sacn_world.specs.Worlds.{NodeOk, WorldOk, Console, World, Outcome, step, sent_by, with_node, order_step, poll_by, poll_step, restart_console, come, arrive, deliver_step, look_step, heard, noise_step, restart_node, left_by, after, new_console, new_world, Apart}
+use Rattle.sacn_world.specs.declared.console.Console.{Console}
+use Rattle.sacn_world.specs.Worlds.{NodeOk, WorldOk, World, Outcome, step, sent_by, with_node, order_step, poll_by, poll_step, restart_console, come, arrive, deliver_step, look_step, heard, noise_step, restart_node, left_by, after, new_console, new_world, Apart}
 use Rattle.sacn_world.specs.Counts.{Count, no_count, count_reply, count_come, count_deliver, count_step, count_run, Shows, count_arrive}
 use Rattle.std.specs.Prelude.{Result, Ok, Err}
 use Rattle.sacn_framing.specs.Data.{Data}

@@ -15,3 +15,4 @@ pub mod Runs
 pub mod Counts
 pub mod Looks
 pub mod Replies
+pub mod Marks

@@ -27,7 +27,8 @@ use Rattle.sacn_world.specs.Streams.{Sent, nothing, at, stream_of, is_live, prio
 use Rattle.sacn_world.specs.Holdings.{Hold, newest, refusal}
 use Rattle.sacn_world.specs.Seen.{shown_by}
 use Rattle.sacn_world.specs.Nodes.{Holding, Node, shown_of, slots, HoldOk, node_at}
-use Rattle.sacn_world.specs.Worlds.{Console, World, Outcome, sent_by, polled, with_sent, poll_by, poll_step, order_step, restart_console, come, arrive, deliver_step, look_step, heard, noise_step, restart_node, step, left_by, after, new_console, new_world, Apart, WorldOk, NodeOk}
+use Rattle.sacn_world.specs.declared.console.Console.{Console}
+use Rattle.sacn_world.specs.Worlds.{World, Outcome, sent_by, polled, with_sent, poll_by, poll_step, order_step, restart_console, come, arrive, deliver_step, look_step, heard, noise_step, restart_node, step, left_by, after, new_console, new_world, Apart, WorldOk, NodeOk}
 use Rattle.sacn_world.specs.Members.{IsShown, SameShown, HeldOn}
 use Rattle.sacn_world.proofs.All.{all_get}
 use Rattle.sacn_world.proofs.Lists.{found}

@@ -20,7 +20,8 @@ use Rattle.sacn_console.specs.Lines as line
 use Rattle.sacn_console.specs.Core as console
 use Rattle.sacn_world.specs.Streams.{Sent, nothing, at, is_of, is_on, is_live, priority, levels, stream_of, place_of, life_at, rank, number_at}
 use Rattle.sacn_world.specs.Seen.{kind_by, packet_at}
-use Rattle.sacn_world.specs.Worlds.{Console, said_by, sent_by, is_of_life, LineOk, IsNumbered}
+use Rattle.sacn_world.specs.declared.console.Console.{Console}
+use Rattle.sacn_world.specs.Worlds.{said_by, sent_by, is_of_life, LineOk, IsNumbered}
 use Rattle.sacn_world.proofs.All.{all_weaker, all_map}
 use Rattle.sacn_world.proofs.Lists.{found}
 use Rattle.sacn_world.proofs.Sources.{same-itself}

@@ -22,7 +22,8 @@ use Rattle.sacn_world.specs.Streams.{Sent, nothing, at, is_of, is_on, stream_of,
 use Rattle.sacn_world.specs.Holdings.{Delivery, newest, noted, refusal}
 use Rattle.sacn_world.specs.Seen.{kind_by, packet_at}
 use Rattle.sacn_world.specs.Nodes.{Holding, Node, node_of, nothing_held, node_after, node_at, HoldOk}
-use Rattle.sacn_world.specs.Worlds.{Console, World, Outcome, Step, with_console, with_node, with_core, order_step, sent_by, said_by, with_sent, polled, poll_by, poll_step, begun, restart_console, come, arrive, deliver_step, look_step, heard, noise_step, restart_node, step, left_by, after, new_console, new_world, Apart, NodeOk, ConsoleOk, IsNumbered, Numbered, WorldOk}
+use Rattle.sacn_world.specs.declared.console.Console.{Console}
+use Rattle.sacn_world.specs.Worlds.{World, Outcome, Step, with_console, with_node, with_core, order_step, sent_by, said_by, with_sent, polled, poll_by, poll_step, begun, restart_console, come, arrive, deliver_step, look_step, heard, noise_step, restart_node, step, left_by, after, new_console, new_world, Apart, NodeOk, ConsoleOk, IsNumbered, Numbered, WorldOk}
 use Rattle.sacn_world.proofs.All.{all_weaker, all_get, all_set}
 use Rattle.sacn_world.proofs.Sources.{same-itself}
 use Rattle.sacn_world.proofs.NodeSteps.{below_after, all_kept, all_noted}

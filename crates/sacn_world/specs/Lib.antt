@@ -9,3 +9,4 @@ pub mod Counts
 pub mod Members
 pub mod Arrivals
 pub mod Laws
+pub mod Watches

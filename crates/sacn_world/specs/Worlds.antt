@@ -17,6 +17,8 @@ use Rattle.sacn_console.specs.Lines as line
 use Rattle.sacn_node.specs.declared.taken.NodeTaken.TheVariants.{Discovery, Sync, Refused}
 use Rattle.sacn_node.specs.Setup.{Port}
 use Rattle.sacn_node.specs.Readings.{Reading}
+-- a console: its show, the index of its life and that life's first number, and what its rule asks of this life
+pub use Rattle.sacn_world.specs.declared.console.Console.{Console}
 use Rattle.sacn_world.specs.declared.event.Event.{Event}
 use Rattle.sacn_world.specs.declared.event.Event.TheVariants.{Order, Poll, Deliver, Look, RestartConsole, RestartNode, Noise}
 use Rattle.sacn_world.specs.declared.answer.Answer.{Answer}
@@ -27,13 +29,6 @@ use Rattle.sacn_world.specs.Streams.{Sent, at, life_at, is_of, stream_of, place_
 use Rattle.sacn_world.specs.Holdings.{Delivery, Hold, hold_of, newest, noted, refusal}
 use Rattle.sacn_world.specs.Seen.{packet_at}
 use Rattle.sacn_world.specs.Nodes.{Holding, Node, node_of, node_reply, node_after, node_at, frame_of, holding_of, seen_core, HoldOk}
-
--- a console: its show, the index of its life and that life's first number, and what its rule asks of this life
-pub record Console : Type 0 where
-  pub show : ShowContent
-  pub life : ℕ
-  pub first : ℕ
-  pub core : console.Core
 
 pub record World : Type 0 where
   pub consoles : List Console

@@ -2,10 +2,13 @@
 #![tactic(auto)]
 
 mod answer;
+mod console;
 mod event;
 mod fault;
 pub mod laws;
 mod limits;
+mod mark;
+mod watched;
 
 pub use answer::Answer;
 pub use event::Event;
