@@ -7,7 +7,8 @@ use Rattle.std.proofs.lemmas.Option.{same_Some, slice_get-map, none-some as none
 use Rattle.sacn_world.proofs.All.{all_get, all_filter}
 use Rattle.sacn_world.proofs.Sources.{same_source, same-itself}
 use Rattle.sacn_world.proofs.Lists.{found, find-map}
-use Rattle.sacn_world.proofs.Maps.{Sorted, sorted_put, sorted_filter, hold_of-filter}
+use Rattle.sacn_world.specs.Holdings.{Sorted}
+use Rattle.sacn_world.proofs.Maps.{sorted_put, sorted_filter, hold_of-filter}
 use Rattle.sacn_world.proofs.Forward.{other_kept}
 use Rattle.sacn_world.proofs.CatchUp.{delivered_count, catches_up, count_kept}
 use Rattle.sacn_world.proofs.NodeSteps.{rule_from, all_kept, newest_within}
@@ -77,7 +78,7 @@ counted_kept st s last c t hs k = record {
   count = count_kept st s last c hs (unexpired t hs) (λ h e. hold_of-filter (is_renewed t) s hs h k.sorted e) k.count;
 }
 
-sorted_after : (a : Taken) (n : Hold) (hs : List Hold) → Sorted hs → Sorted (holding_after a n hs)
+pub sorted_after : (a : Taken) (n : Hold) (hs : List Hold) → Sorted hs → Sorted (holding_after a n hs)
 sorted_after Held n hs so = sorted_put n hs so
 sorted_after EndedNow n hs so = sorted_put n hs so
 sorted_after Observed n hs so = so

@@ -16,3 +16,4 @@ pub mod Counts
 pub mod Looks
 pub mod Replies
 pub mod Marks
+pub mod Fits

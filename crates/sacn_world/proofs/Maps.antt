@@ -12,19 +12,14 @@ use Rattle.std.specs.declared.cmp.Ordering.TheVariants.{Less, Equal, Greater}
 use Rattle.sacn_world.proofs.Sources.{same_source, same-itself, order-itself}
 use Rattle.sacn_world.proofs.Lists.{found}
 use Rattle.sacn_world.proofs.All.{all_weaker, all_filter}
-use Rattle.sacn_world.specs.Holdings.{Hold, hold_of, put}
+use Rattle.sacn_world.specs.Holdings.{Sorted, Hold, hold_of, put}
 use Rattle.sacn_sources.specs.Order.{order, same, by_order}
 
--- sources strictly ascend
-abbrev pub Sorted : List Hold → Type 0
-Sorted [] = ⊤
-Sorted (h ∷ hs) = AllByRecursion (λ (k : Hold). order h.source k.source ≡ Less) hs × Sorted hs
-
-order_turned : (a b : List ℕ) → order a b ≡ ordering_reverse (order b a)
+pub order_turned : (a b : List ℕ) → order a b ≡ ordering_reverse (order b a)
 unfolding order
 order_turned a b = nat_list_cmp_total.antisymm a b
 
-order_through : (a b c : List ℕ) → order a b ≡ Less → order b c ≡ Less → order a c ≡ Less
+pub order_through : (a b c : List ℕ) → order a b ≡ Less → order b c ≡ Less → order a c ≡ Less
 unfolding order
 order_through a b c = nat_list_cmp_total.trans a b c
 

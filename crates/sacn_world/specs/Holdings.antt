@@ -1,5 +1,7 @@
 -- What a node holds on one universe, by places.
-use Rattle.std.specs.Prelude.{ℕ, ◌+◌, ◌-◌, Bool, true, false, ◌&&◌, ◌==◌, nat_lt, nat_le, max, if◌then◌else◌, List, [], ◌∷◌, length, filter, find, Option, Some, None}
+use Rattle.std.specs.Prelude.{◌≡◌, ⊤, ℕ, ◌+◌, ◌-◌, Bool, true, false, ◌&&◌, ◌==◌, nat_lt, nat_le, max, if◌then◌else◌, List, [], ◌∷◌, length, filter, find, Option, Some, None}
+use Rattle.std.specs.List.{AllByRecursion}
+use Rattle.std.specs.declared.cmp.Ordering.TheVariants.{Less}
 use Rattle.sacn_sources.specs.Order.{order, same, by_order}
 use Rattle.sacn_sources.specs.declared.limits.TheConstants.{MAX_SOURCES, NETWORK_DATA_LOSS}
 use Rattle.sacn_sources.specs.declared.taken.Taken.{Taken}
@@ -31,6 +33,11 @@ hold_of s hs = find (λ h. same s h.source) hs
 abbrev pub put : Hold → List Hold → List Hold
 put n [] = n ∷ []
 put n (h ∷ hs) = by_order (order n.source h.source) (n ∷ h ∷ hs) (n ∷ hs) (h ∷ put n hs)
+
+-- sources strictly ascend
+abbrev pub Sorted : List Hold → Type 0
+Sorted [] = ⊤
+Sorted (h ∷ hs) = AllByRecursion (λ k. order h.source k.source ≡ Less) hs × Sorted hs
 
 -- ---- delivery: the answer to a packet of a source that is not held, and of one that is
 

@@ -15,8 +15,9 @@ use Rattle.sacn_world.specs.declared.fault.WorldFault.{WorldFault}
 use Rattle.sacn_world.specs.declared.fault.WorldFault.TheVariants.{TooFarBehind, OldLife}
 use Rattle.sacn_world.specs.declared.limits.TheConstants.{TOO_FAR_BEHIND}
 use Rattle.sacn_world.specs.Streams.{Sent, stream_of, life_at}
-use Rattle.sacn_world.specs.Holdings.{Hold, Delivery}
-use Rattle.sacn_world.specs.Nodes.{Holding, Node}
+use Rattle.sacn_node.specs.Seen.{Rise}
+use Rattle.sacn_world.specs.Holdings.{Hold, Delivery, Sorted}
+use Rattle.sacn_world.specs.Nodes.{Holding, Node, seen_core}
 
 abbrev pub is_mark_of : List ℕ → ℕ → Mark → Bool
 is_mark_of s u m = same s m.source && (m.universe == u)
@@ -47,8 +48,12 @@ remarked b d m = record {
   held = if b then d.held else m.held;
 }
 
+-- the first of a stream
+abbrev pub first_mark : Bool → Mark → Mark
+first_mark b d = record { source = d.source; universe = d.universe; newest = d.newest; life = d.life; held = if b then d.held else 0 }
+
 abbrev pub marked : Bool → Mark → List Mark → List Mark
-marked b d [] = d ∷ []
+marked b d [] = first_mark b d ∷ []
 marked b d (m ∷ ms) = if is_mark_of d.source d.universe m then remarked b d m ∷ ms else m ∷ marked b d ms
 
 -- why a packet of this life and place may not come, where the mark is that of its stream
@@ -101,3 +106,14 @@ by_places marks n = record { ports = n.ports; moment = n.core.moment; holdings =
 -- a mark has the life of its newest place
 abbrev pub MarkOk : List Sent → Mark → Type 0
 MarkOk sent m = m.life ≡ life_at (stream_of m.source m.universe sent) m.newest
+
+-- ---- what holds of each node that a world keeps
+
+abbrev pub node_by_places : Watch → Node
+node_by_places w = by_places w.marks w.node
+
+pub record WatchOk (sent : List Sent) (w : Watch) : Type 0 where
+  pub core : w.node.core ≡ seen_core sent (node_by_places w)
+  pub marks : AllByRecursion (MarkOk sent) w.marks
+  pub rise : Rise (map (λ g. g.universe) (node_by_places w).holdings)
+  pub sorted : AllByRecursion (λ g. Sorted g.held) (node_by_places w).holdings

@@ -3,7 +3,7 @@
 ghost use Rattle.std.specs.Prelude.{◌≡◌, ◌<◌, true, ◌∷◌, [], find, length, vec_len, vec_capacity};
 ghost use Rattle.std.specs.Option.{option_map};
 ghost use Rattle.sacn_sources.specs.Order.{same};
-ghost use Rattle.sacn_world.specs.Watches.{is_mark_of, mark_of, marked, remarked, moves};
+ghost use Rattle.sacn_world.specs.Watches.{is_mark_of, mark_of, first_mark, marked, remarked, moves};
 
 use sacn_node::NodeTaken;
 use sacn_sources::Taken;
@@ -45,6 +45,17 @@ impl Mark {
         ensures { result ≡ is_mark_of source.now universe self.now }
     {
         is_same(source, &self.source) && self.universe == universe
+    }
+
+    /// As the first of its stream.
+    fn first(&self, moves: bool) -> Mark
+        ensures { result ≡ first_mark moves self.now }
+    {
+        let mut mark = *self;
+        if !moves {
+            mark.held = 0;
+        }
+        mark
     }
 
     /// After the delivery that `came` is of.
@@ -100,5 +111,5 @@ pub(crate) fn note(marks: &mut Vec<Mark>, moves: bool, came: &Mark)
             return;
         }
     }
-    marks.push_reserved(*came);
+    marks.push_reserved(came.first(moves));
 }
