@@ -17,3 +17,4 @@ pub mod Looks
 pub mod Replies
 pub mod Marks
 pub mod Fits
+pub mod Deliveries

@@ -10,3 +10,4 @@ pub mod Members
 pub mod Arrivals
 pub mod Laws
 pub mod Watches
+pub mod Wire

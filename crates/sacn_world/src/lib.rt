@@ -8,6 +8,7 @@ mod fault;
 pub mod laws;
 mod limits;
 mod mark;
+mod sent;
 mod watched;
 
 pub use answer::Answer;
