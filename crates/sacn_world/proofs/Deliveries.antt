@@ -176,7 +176,7 @@ module _ (w : World) (ok : WorldOk w) (k i m : ℕ) (y : Watch) (x : Sent) (ther
   own_stream : (p : Packet) (u : ℕ) → x.packet ≡ p → is_on u p ≡ true → is_of x.source u x ≡ true
   own_stream p u ep on = and_from _ _ (same-itself x.source) (ap (is_on u) ep ∙ on)
 
-  refused : (p : Packet) → x.packet ≡ p → refusal_in x.source x.life y.marks (stream_in w.sent k x.source p) ≡ refused_for w.sent k n x.source p
+  pub refused : (p : Packet) → x.packet ≡ p → refusal_in x.source x.life y.marks (stream_in w.sent k x.source p) ≡ refused_for w.sent k n x.source p
   unfolding by_places
   refused (DataPacket d) ep =
       refusal_is w.sent x.source d.universe x.life (place_of x.source d.universe k w.sent) y.marks (life_is d.universe (own_stream (DataPacket d) d.universe ep (eq-eqb d.universe d.universe refl))) yok.marks
@@ -187,7 +187,7 @@ module _ (w : World) (ok : WorldOk w) (k i m : ℕ) (y : Watch) (x : Sent) (ther
     agreed : Agrees w.sent k m n x.source p
     agreed = agrees w ok k i m n x there ex p ep (subst (IsNumbered w.sent k x.source) ep (ok.numbered k x ex)) may
 
-    reply_is : reply_to (Ok p) m y.node.core ≡ replied w.sent k m n x.source p
+    pub reply_is : reply_to (Ok p) m y.node.core ≡ replied w.sent k m n x.source p
     reply_is = ap (reply_to (Ok p) m) yok.core ∙ agreed.reply
 
     core_is : after_reading (Ok p) m y.node.core ≡ seen_core w.sent (moved w.sent k m n x.source p)
@@ -201,7 +201,7 @@ module _ (w : World) (ok : WorldOk w) (k i m : ℕ) (y : Watch) (x : Sent) (ther
   unfolding by_places
   noted_now d ms b e = sym (noted_is b d y.marks) ∙ ap (map delivery_of) e
 
-  taken_moved : (p : Packet) → x.packet ≡ p → refused_for w.sent k n x.source p ≡ None → Moved w.sent y (taken_by (Ok p) m (came_by x.source x.life (stream_in w.sent k x.source p)) y) (moved w.sent k m n x.source p)
+  pub taken_moved : (p : Packet) → x.packet ≡ p → refused_for w.sent k n x.source p ≡ None → Moved w.sent y (taken_by (Ok p) m (came_by x.source x.life (stream_in w.sent k x.source p)) y) (moved w.sent k m n x.source p)
   taken_moved (DataPacket d) ep may =
       let s = x.source in
       let u = d.universe in

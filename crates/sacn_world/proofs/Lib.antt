@@ -18,3 +18,4 @@ pub mod Replies
 pub mod Marks
 pub mod Fits
 pub mod Deliveries
+pub mod Keeping

@@ -11,3 +11,4 @@ pub mod Arrivals
 pub mod Laws
 pub mod Watches
 pub mod Wire
+pub mod Kept

@@ -10,8 +10,10 @@ mod limits;
 mod mark;
 mod sent;
 mod watched;
+mod world;
 
 pub use answer::Answer;
 pub use event::Event;
 pub use fault::{NewFault, WorldFault};
 pub use limits::TOO_FAR_BEHIND;
+pub use world::World;

@@ -1,0 +1,133 @@
+//! The world.
+
+ghost use Rattle.std.specs.Prelude.{◌≡◌};
+ghost use Rattle.sacn_world.specs.Kept.{Stepped, SteppedWithRoom};
+ghost use Rattle.sacn_world.specs.Worlds.{step, shown};
+
+use crate::answer::Answer;
+use crate::event::Event;
+use crate::console::Console;
+use crate::fault::WorldFault;
+use crate::sent::SentDatagram;
+use crate::watched::Watched;
+use sacn_console::Command;
+use sacn_framing::read_packet;
+use sacn_node::laws::universes_are_those_of_ranges;
+use std::alloc::Global;
+use std::marker::Model;
+
+/// Consoles, nodes, and all that was sent.
+#[derive(Drop)]
+pub struct World {
+    alloc: Global,
+    consoles: Vec<Console>,
+    sent: Vec<SentDatagram>,
+    nodes: Vec<Watched>,
+}
+
+impl Model for World {
+    ghost use Rattle.std.specs.Coded.{codes};
+    ghost use Rattle.sacn_patch.specs.Patch.{patch_code};
+    ghost use Rattle.sacn_cues.specs.Cues.{cues_code};
+    ghost use Rattle.sacn_cues.specs.Playing.{played_code};
+    ghost use Rattle.sacn_world.specs.Worlds.{World as Places};
+    ghost use Rattle.sacn_world.specs.Kept.{seen_world, Kept};
+
+    ghost Value = { Places };
+
+    ghost coded = { Prim.hlevel (codes, patch_code, cues_code, played_code) };
+
+    ghost view = { λ w. seen_world w.consoles.items w.sent.items w.nodes.items };
+
+    ghost invariant = { λ w. Kept w.consoles.items w.sent.items w.nodes.items };
+}
+
+impl World {
+    fn order(&mut self, console: usize, now: u64, command: Command) -> Result<Answer, WorldFault>
+        ensures { Stepped (step self.old (Event.Order console now command)) result self.old self.new }
+    {
+        if console >= self.consoles.len() {
+            return Err(WorldFault::NoConsole);
+        }
+        let console = &mut self.consoles[console];
+        Ok(Answer::Ordered(console.core.command(now, command)))
+    }
+
+    fn restart_console(&mut self, console: usize, first: u8) -> Result<Answer, WorldFault>
+        ensures { SteppedWithRoom (step self.old (Event.RestartConsole console first)) result self.old self.new }
+    {
+        if console >= self.consoles.len() {
+            return Err(WorldFault::NoConsole);
+        }
+        let alloc = self.alloc;
+        if self.consoles[console].restart(alloc, first).is_err() {
+            return Err(WorldFault::OutOfMemory);
+        }
+        Ok(Answer::Restarted)
+    }
+
+    fn restart_node(&mut self, node: usize) -> Result<Answer, WorldFault>
+        ensures { SteppedWithRoom (step self.old (Event.RestartNode node)) result self.old self.new }
+    {
+        universes_are_those_of_ranges();
+        if node >= self.nodes.len() {
+            return Err(WorldFault::NoNode);
+        }
+        let alloc = self.alloc;
+        if self.nodes[node].restart(alloc).is_err() {
+            return Err(WorldFault::OutOfMemory);
+        }
+        Ok(Answer::Restarted)
+    }
+
+    fn deliver(&mut self, datagram: usize, node: usize, now: u64) -> Result<Answer, WorldFault>
+        ensures { SteppedWithRoom (step self.old (Event.Deliver datagram node now)) result self.old self.new }
+    {
+        if node >= self.nodes.len() {
+            return Err(WorldFault::NoNode);
+        }
+        if datagram >= self.sent.len() {
+            return Err(WorldFault::NoDatagram);
+        }
+        let sent = &self.sent[datagram];
+        if let Some(fault) = sent.refusal(&self.nodes[node]) {
+            return Err(fault);
+        }
+        match self.nodes[node].take(now, sent.octets.as_slice(), sent.came()) {
+            Ok(reply) => Ok(Answer::Taken(reply)),
+            Err(_) => Err(WorldFault::OutOfMemory),
+        }
+    }
+
+    fn look(&mut self, node: usize, port: u8, now: u64) -> Result<Answer, WorldFault>
+        ensures { Stepped (step self.old (Event.Look node port now)) result self.old self.new }
+    {
+        if node >= self.nodes.len() {
+            return Err(WorldFault::NoNode);
+        }
+        let frame = self.nodes[node].look(now, port);
+        Ok(shown(frame))
+    }
+
+    fn noise(&mut self, node: usize, now: u64, octets: &Vec<u8>) -> Result<Answer, WorldFault>
+        ensures { Stepped (step self.old (Event.Noise node now octets.now)) result self.old self.new }
+    {
+        if node >= self.nodes.len() {
+            return Err(WorldFault::NoNode);
+        }
+        if read_packet(octets.as_slice()).is_ok() {
+            return Err(WorldFault::NoiseIsPacket);
+        }
+        Ok(Answer::Taken(self.nodes[node].hear(now, octets.as_slice())))
+    }
+}
+
+/// The answer to a look: a frame, where the node has the port.
+fn shown(frame: Option<[u8; 513]>) -> Answer
+    ensures { result ≡ shown frame }
+{
+    match frame {
+        Some(frame) => Answer::Shown(frame),
+        None => Answer::NoSuchPort,
+    }
+}
