@@ -1,6 +1,8 @@
 -- What a world keeps, after an event.
 use Rattle.std.proofs.Common.{◌≡◌, ℕ, ◌+◌, ◌<◌, ◌≤◌, List, [], ◌∷◌, map, length, Option, Some, None, Result, Ok, Err, refl, sym, ap, subst, ◌∙◌, inl, inr, ◌⊎◌, arith, slice_get}
-use Rattle.std.specs.Prelude.{slice_set, option_map}
+use Rattle.std.specs.Prelude.{slice_set, option_map, is_ok}
+use Rattle.std.proofs.Common.{zero, suc, true, false}
+use Rattle.std.proofs.lemmas.Option.{same_Some}
 use Rattle.std.specs.List.{AllByRecursion}
 use Rattle.std.proofs.lemmas.List.{map-set, length-map}
 use Rattle.std.proofs.lemmas.Option.{slice_get-map, slice_get_past}
@@ -256,3 +258,22 @@ module _ (cs : List Console) (fs : List SentDatagram) (ws : List Watch) (keeps :
 -- with the answer as the code gives it
 pub answered_as : {s : Step} {a b : Answer} {w : World} → s ≡ Ok (record { answer = a; world = w }) → a ≡ b → s ≡ Ok (record { answer = b; world = w })
 answered_as {w = w} h e = h ∙ (λ j. Ok (record { answer = e j; world = w }))
+
+-- what was written back as it was
+pub put_back : {X : Type 0} (xs : List X) (i : ℕ) (x y : X) → slice_get xs i ≡ Some x → y ≡ x → slice_set xs i y ≡ xs
+put_back [] i x y e f = refl
+put_back (z ∷ zs) zero x y e f = ap (λ a. a ∷ zs) (f ∙ sym (same_Some z x e))
+put_back (z ∷ zs) (suc i) x y e f = ap (λ ys. z ∷ ys) (put_back zs i x y e f)
+
+pub some_packet : (r : Reading) → is_ok r ≡ true → (p : Packet) × (r ≡ Ok p)
+some_packet (Ok p) e = (p, refl)
+some_packet (Err f) e = absurd (cc)
+
+pub some_fault : (r : Reading) → is_ok r ≡ false → (f : PacketFault) × (r ≡ Err f)
+some_fault (Ok p) e = absurd (cc)
+some_fault (Err f) e = (f, refl)
+
+pub there_is : {X : Type 0} (xs : List X) (i : ℕ) → i < length xs → (x : X) × (slice_get xs i ≡ Some x)
+there_is [] i lt = absurd (omega (arith, lt))
+there_is (x ∷ xs) zero lt = (x, refl)
+there_is (x ∷ xs) (suc i) lt = there_is xs i (omega (arith, lt))

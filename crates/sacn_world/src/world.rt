@@ -60,9 +60,9 @@ impl World {
             return Err(WorldFault::NoConsole);
         }
         let alloc = self.alloc;
-        if self.consoles[console].restart(alloc, first).is_err() {
+        let Ok(()) = self.consoles[console].restart(alloc, first) else {
             return Err(WorldFault::OutOfMemory);
-        }
+        };
         Ok(Answer::Restarted)
     }
 
@@ -74,9 +74,9 @@ impl World {
             return Err(WorldFault::NoNode);
         }
         let alloc = self.alloc;
-        if self.nodes[node].restart(alloc).is_err() {
+        let Ok(()) = self.nodes[node].restart(alloc) else {
             return Err(WorldFault::OutOfMemory);
-        }
+        };
         Ok(Answer::Restarted)
     }
 
@@ -93,10 +93,10 @@ impl World {
         if let Some(fault) = sent.refusal(&self.nodes[node]) {
             return Err(fault);
         }
-        match self.nodes[node].take(now, sent.octets.as_slice(), sent.came()) {
-            Ok(reply) => Ok(Answer::Taken(reply)),
-            Err(_) => Err(WorldFault::OutOfMemory),
-        }
+        let Ok(reply) = self.nodes[node].take(now, sent.octets.as_slice(), sent.came()) else {
+            return Err(WorldFault::OutOfMemory);
+        };
+        Ok(Answer::Taken(reply))
     }
 
     fn look(&mut self, node: usize, port: u8, now: u64) -> Result<Answer, WorldFault>
