@@ -1,9 +1,10 @@
 -- A datagram as a world keeps it: its octets, and where it stands in its stream.
-use Rattle.std.specs.Prelude.{◌≡◌, ℕ, List, map, slice_get, Option, Some, None, Ok, Err}
+use Rattle.std.specs.Prelude.{◌≡◌, ◌==◌, ◌&&◌, Bool, false, ℕ, List, map, count_by, slice_get, Option, Some, None, Ok, Err}
 use Rattle.std.specs.Option.{option_map}
 use Rattle.sacn_framing.specs.declared.packet.Packet.{Packet}
 use Rattle.sacn_framing.specs.declared.packet.Packet.TheVariants.{DataPacket, PagePacket, SyncPacket}
 use Rattle.sacn_framing.specs.PacketReading.{reading_packet}
+use Rattle.sacn_sources.specs.Order.{same}
 use Rattle.sacn_node.specs.Readings.{Reading}
 pub use Rattle.sacn_world.specs.declared.sent.SentDatagram.{SentDatagram}
 pub use Rattle.sacn_world.specs.declared.sent.InStream.{InStream}
@@ -43,3 +44,17 @@ refusal_in s life marks (Some i) = mark_refusal life i.place (mark_of s i.univer
 
 abbrev pub refusal_by : SentDatagram → List Mark → Option WorldFault
 refusal_by f marks = refusal_in f.source f.life marks f.stream
+
+-- a datagram that stands in this stream
+abbrev pub is_in : ℕ → Option InStream → Bool
+is_in u None = false
+is_in u (Some i) = i.universe == u
+
+abbrev pub is_filed : List ℕ → ℕ → SentDatagram → Bool
+is_filed s u f = same s f.source && is_in u f.stream
+
+-- where octets of the source s that are sent next stand
+abbrev pub stream_next : List SentDatagram → List ℕ → Packet → Option InStream
+stream_next fs s (DataPacket d) = Some (record { universe = d.universe; place = count_by (is_filed s d.universe) fs })
+stream_next fs s (PagePacket p) = None
+stream_next fs s SyncPacket = None

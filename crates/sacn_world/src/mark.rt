@@ -81,7 +81,7 @@ impl Mark {
 
 /// Whether two CIDs are the same.
 #[tactic(auto, unfolding(sacn_sources::specs::Order::order))]
-fn is_same(a: &[u8; 16], b: &[u8; 16]) -> bool
+pub(crate) fn is_same(a: &[u8; 16], b: &[u8; 16]) -> bool
     ensures { result ≡ same a.now b.now }
 {
     a.cmp(b).is_eq()
