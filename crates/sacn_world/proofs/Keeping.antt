@@ -91,10 +91,10 @@ module _ (cs : List Console) (fs : List SentDatagram) (ws : List Watch) (keeps :
   abbrev w : World
   w = seen_world cs fs ws
 
-  turned : (e : Event) (s : Step) → step w e ≡ s → step v e ≡ s
+  pub turned : (e : Event) (s : Step) → step w e ≡ s → step v e ≡ s
   turned e s h = subst (λ (z : World). step z e ≡ s) is h
 
-  ok_after : (e : Event) (o : Outcome) → step w e ≡ Ok o → WorldOk o.world
+  pub ok_after : (e : Event) (o : Outcome) → step w e ≡ Ok o → WorldOk o.world
   ok_after e o h = subst WorldOk (ap (left_by w) h) (step_ok w keeps.ok e)
 
   -- ---- consoles
@@ -111,7 +111,7 @@ module _ (cs : List Console) (fs : List SentDatagram) (ws : List Watch) (keeps :
   unfolding step
   no_console_restart i first past = turned (RestartConsole i first) _ (ap (restart_console w i first) (slice_get_past cs i past))
 
-  console_done : (e : Event) (a : Answer) (i : ℕ) (y : Console) → step w e ≡ Ok (record { answer = a; world = with_console w i y }) → Done v e a (slice_set cs i y) fs ws
+  pub console_done : (e : Event) (a : Answer) (i : ℕ) (y : Console) → step w e ≡ Ok (record { answer = a; world = with_console w i y }) → Done v e a (slice_set cs i y) fs ws
   console_done e a i y h = record { step = turned e _ h; kept = record { ok = ok_after e _ h; datagrams = keeps.datagrams; nodes = keeps.nodes } }
 
   pub order_done : (i m : ℕ) (k : Command) (c : Console) → slice_get cs i ≡ Some c → (core : console.Core) → core ≡ console.after_command m k c.core → Done v (Order i m k) (answered.Ordered (console.answer k (console.at m c.core))) (slice_set cs i (with_core c core)) fs ws

@@ -19,3 +19,4 @@ pub mod Marks
 pub mod Fits
 pub mod Deliveries
 pub mod Keeping
+pub mod Posting

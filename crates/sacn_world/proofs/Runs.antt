@@ -40,7 +40,7 @@ set_cases (x ∷ xs) zero (suc j) y d e = inr (e, λ f. omega (arith, f))
 set_cases (x ∷ xs) (suc i) zero y d e = inr (e, λ f. omega (arith, f))
 set_cases (x ∷ xs) (suc i) (suc j) y d e = elim (set_cases xs i j y d e) [ inl h ↦ inl (ap suc h.0, h.1) | inr h ↦ inr (h.0, λ f. h.1 (omega (arith, f))) ]
 
-pushed_cases : {X : Type 0} (xs : List X) (k : ℕ) (y x : X) → slice_get (xs ++ y ∷ []) k ≡ Some x → (slice_get xs k ≡ Some x) ⊎ ((k ≡ length xs) × (x ≡ y))
+pub pushed_cases : {X : Type 0} (xs : List X) (k : ℕ) (y x : X) → slice_get (xs ++ y ∷ []) k ≡ Some x → (slice_get xs k ≡ Some x) ⊎ ((k ≡ length xs) × (x ≡ y))
 pushed_cases [] zero y x e = inr (refl, sym (same_Some y x e))
 pushed_cases [] (suc k) y x e = absurd (cc)
 pushed_cases (z ∷ xs) zero y x e = inl e
