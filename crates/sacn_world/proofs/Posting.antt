@@ -26,11 +26,14 @@ use Rattle.sacn_world.specs.Streams.{Sent, is_of, is_on, place_of, stream_of, li
 use Rattle.sacn_world.specs.Nodes.{Node, seen_core}
 use Rattle.sacn_world.specs.Worlds.{World, Outcome, with_console, with_core, said_by, sent_by, with_sent, polled, poll_by, poll_step, step, left_by, WorldOk, NodeOk}
 use Rattle.sacn_world.specs.Watches.{Watch, Mark, node_by_places, by_places, delivery_of, MarkOk, WatchOk}
-use Rattle.sacn_world.specs.Wire.{SentDatagram, InStream, said, seen_sent, stream_in, DatagramOk, is_in, is_filed, stream_next}
+use Rattle.sacn_world.specs.Wire.{SentDatagram, InStream, said, seen_sent, stream_in, DatagramOk, is_in, is_filed, stream_next, posted}
 use Rattle.sacn_world.specs.Kept.{seen_world, Kept, IsAccepted}
 use Rattle.sacn_world.proofs.Growth.{node_kept, at_kept}
 use Rattle.sacn_world.proofs.Sending.{count_here, place_stays, next_place}
-use Rattle.sacn_world.proofs.Runs.{step_ok, pushed_cases}
+use Rattle.sacn_world.proofs.Runs.{step_ok, pushed_cases, mapped}
+use Rattle.sacn_world.proofs.Counts.{set_same}
+use Rattle.std.specs.Prelude.{Vec}
+use Rattle.std.specs.declared.alloc.Global.{Global}
 use Rattle.sacn_world.proofs.Keeping.{Done, turned, ok_after, console_done}
 
 -- ---- the octets that a poll gives are read as what was due
@@ -162,3 +165,33 @@ module _ (cs : List Console) (fs : List SentDatagram) (ws : List Watch) (keeps :
           nodes = subst (λ ss. AllByRecursion (WatchOk ss) ws) (sym (pushed cs fs ws keeps f)) (watches_kept cs fs ws keeps f ws keeps.ok.nodes keeps.nodes);
         };
       }
+
+pub done_as : {v : World} {e : Event} {cs : List Console} {ws : List Watch} {fs gs : List SentDatagram} {n k : ℕ} → Done v e (answered.Sent n) cs fs ws → fs ≡ gs → n ≡ k → Done v e (answered.Sent k) cs gs ws
+done_as {v = v} {e = e} {cs = cs} {ws = ws} {gs = gs} {n = n} d ef en = subst (λ j. Done v e (answered.Sent j) cs gs ws) en (subst (λ hs. Done v e (answered.Sent n) cs hs ws) ef d)
+
+pub idle_as : {v : World} {e : Event} {cs : List Console} {ws : List Watch} {fs gs : List SentDatagram} → Done v e answered.Idle cs fs ws → fs ≡ gs → Done v e answered.Idle cs gs ws
+idle_as {v = v} {e = e} {cs = cs} {ws = ws} d ef = subst (λ hs. Done v e answered.Idle cs hs ws) ef d
+
+-- nothing was due
+pub none_due : (o : Option line.Datagram) → option_map console.size o ≡ None → o ≡ None
+none_due None e = refl
+none_due (Some d) e = absurd (cc)
+
+pub due_fits : (sender : Sender) (o : Option line.Datagram) (len : ℕ) → option_map console.size o ≡ Some len → ((d : line.Datagram) → o ≡ Some d → console.IsLawful sender d) → len ≤ 1144
+due_fits sender o len e lawful =
+    let d = mapped console.size o len e in
+    let f = fits_buffer sender d.0 (lawful d.0 d.1) in
+    omega (arith, f, d.2)
+
+-- what was due is sent
+pub posted_done : WrittenIsRead → WrittenPageIsRead → (cs : List Console) (fs : List SentDatagram) (ws : List Watch) → Kept cs fs ws → (v : World) → seen_world cs fs ws ≡ v → (i m : ℕ) (c : Console) → slice_get cs i ≡ Some c → (len : ℕ) (out old : List ℕ) (core : console.Core) (z : Console) (octets : Vec ℕ Global) (f : SentDatagram) → option_map console.size (console.due (console.at m c.core)) ≡ Some len → out ≡ console.over c.core.sender (console.due (console.at m c.core)) old → ((d : line.Datagram) → console.due (console.at m c.core) ≡ Some d → console.IsLawful c.core.sender d) → length out ≡ 1144 → length old ≡ 1144 → core ≡ console.after_poll m c.core → octets.items ≡ take len out → slice_get (slice_set cs i (with_core c core)) i ≡ Some z → f ≡ posted z fs octets → Done v (Poll i m) (answered.Sent (length fs)) (slice_set cs i (with_core c core)) (fs ++ f ∷ []) ws
+posted_done data' page' cs fs ws keeps v is i m c ec len out old core z octets f el eo lawful lo ll ek eoct ez ef =
+    let o = console.due (console.at m c.core) in
+    let d = mapped console.size o len el in
+    let eout : out ≡ console.text c.core.sender d.0 ++ drop (console.size d.0) old = eo ∙ ap (λ x. console.over c.core.sender x old) d.1 in
+    let read : reading_packet octets.items ≡ Ok (said_by c.core.sender d.0) =
+    ap reading_packet (eoct ∙ ap (λ n. take n out) (sym d.2)) ∙ poll_read data' page' c.core.sender d.0 out old (lawful d.0 d.1) lo ll eout in
+    let same' : with_core c core ≡ z = set_same cs i (with_core c core) z ez in
+    let fc : f ≡ posted c fs octets = ef ∙ ap (λ (y : Console). posted y fs octets) (sym same') in
+    subst (λ (g : SentDatagram). Done v (Poll i m) (answered.Sent (length fs)) (slice_set cs i (with_core c core)) (fs ++ g ∷ []) ws) (sym fc)
+    (sent_done cs fs ws keeps v is i m c ec d.0 d.1 core ek (posted c fs octets) refl refl refl read refl)

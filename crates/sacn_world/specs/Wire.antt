@@ -8,6 +8,9 @@ use Rattle.sacn_sources.specs.Order.{same}
 use Rattle.sacn_node.specs.Readings.{Reading}
 pub use Rattle.sacn_world.specs.declared.sent.SentDatagram.{SentDatagram}
 pub use Rattle.sacn_world.specs.declared.sent.InStream.{InStream}
+use Rattle.std.specs.Prelude.{Vec}
+use Rattle.std.specs.declared.alloc.Global.{Global}
+use Rattle.sacn_world.specs.declared.console.Console.{Console}
 use Rattle.sacn_world.specs.declared.fault.WorldFault.{WorldFault}
 use Rattle.sacn_world.specs.Streams.{Sent, place_of}
 use Rattle.sacn_world.specs.Watches.{Mark, mark_of, mark_refusal}
@@ -58,3 +61,13 @@ abbrev pub stream_next : List SentDatagram → List ℕ → Packet → Option In
 stream_next fs s (DataPacket d) = Some (record { universe = d.universe; place = count_by (is_filed s d.universe) fs })
 stream_next fs s (PagePacket p) = None
 stream_next fs s SyncPacket = None
+
+-- octets of a console as a datagram that is sent next
+abbrev pub posted : Console → List SentDatagram → Vec ℕ Global → SentDatagram
+posted c fs octets = record {
+  source = c.show.cid;
+  life = c.life;
+  first = c.first;
+  stream = stream_next fs c.show.cid (said (reading_packet octets.items));
+  octets = octets;
+}

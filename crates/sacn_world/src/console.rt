@@ -1,8 +1,10 @@
 //! A console of a world.
 
 ghost use Rattle.std.specs.Prelude.{◌≡◌, ◌+◌, OnOk, OnErr, IfOk};
+ghost use Rattle.sacn_world.specs.Wire.{posted};
 ghost use Rattle.sacn_world.specs.Worlds.{begun};
 
+use crate::sent::{SentDatagram, stream_next};
 use sacn_console::{ConsoleCore, Show};
 use std::alloc::{AllocError, Global};
 
@@ -46,5 +48,20 @@ impl Console {
         self.first = first;
         self.core = core;
         Ok(())
+    }
+
+    /// These octets as a datagram of this console, which is sent next.
+    pub(crate) fn posted(&self, sent: &[SentDatagram], octets: Vec<u8>) -> SentDatagram
+        ensures { result ≡ posted self.now sent.now octets }
+    {
+        let source = self.show.cid();
+        let stream = stream_next(sent, &source, octets.as_slice());
+        SentDatagram {
+            source,
+            life: self.life,
+            first: self.first,
+            stream,
+            octets,
+        }
     }
 }

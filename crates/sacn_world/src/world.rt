@@ -1,6 +1,6 @@
 //! The world.
 
-ghost use Rattle.std.specs.Prelude.{◌≡◌};
+ghost use Rattle.std.specs.Prelude.{◌≡◌, ◌≤◌, [], take, vec_capacity};
 ghost use Rattle.sacn_world.specs.Kept.{Stepped, SteppedWithRoom};
 ghost use Rattle.sacn_world.specs.Worlds.{step, shown};
 
@@ -11,6 +11,8 @@ use crate::fault::WorldFault;
 use crate::sent::SentDatagram;
 use crate::watched::Watched;
 use sacn_console::Command;
+use sacn_console::limits::MOST_OCTETS;
+use sacn_framing::laws::{written_is_read, written_page_is_read};
 use sacn_framing::read_packet;
 use sacn_node::laws::universes_are_those_of_ranges;
 use std::alloc::Global;
@@ -51,6 +53,31 @@ impl World {
         }
         let console = &mut self.consoles[console];
         Ok(Answer::Ordered(console.core.command(now, command)))
+    }
+
+    fn poll(&mut self, console: usize, now: u64) -> Result<Answer, WorldFault>
+        ensures { SteppedWithRoom (step self.old (Event.Poll console now)) result self.old self.new }
+    {
+        written_is_read();
+        written_page_is_read();
+        if console >= self.consoles.len() {
+            return Err(WorldFault::NoConsole);
+        }
+        let Ok(mut octets) = Vec::with_capacity(self.alloc, MOST_OCTETS) else {
+            return Err(WorldFault::OutOfMemory);
+        };
+        let Ok(()) = self.sent.reserve(1) else {
+            return Err(WorldFault::OutOfMemory);
+        };
+        let mut out = [0; MOST_OCTETS];
+        let Some(len) = self.consoles[console].core.poll(now, &mut out) else {
+            return Ok(Answer::Idle);
+        };
+        copy_into(&mut octets, &out, len);
+        let number = self.sent.len();
+        let datagram = self.consoles[console].posted(self.sent.as_slice(), octets);
+        self.sent.push_reserved(datagram);
+        Ok(Answer::Sent(number))
     }
 
     fn restart_console(&mut self, console: usize, first: u8) -> Result<Answer, WorldFault>
@@ -120,6 +147,16 @@ impl World {
         }
         Ok(Answer::Taken(self.nodes[node].hear(now, octets.as_slice())))
     }
+}
+
+/// The first octets of a datagram, where there is room for them.
+fn copy_into(octets: &mut Vec<u8>, out: &[u8; MOST_OCTETS], len: usize)
+    requires empty { octets.old.items ≡ [] }
+    requires room { MOST_OCTETS ≤ vec_capacity octets.old }
+    requires len { len ≤ MOST_OCTETS }
+    ensures { octets.new.items ≡ take len out.now }
+{
+    let _ = octets.extend_from_slice(&out[..len]);
 }
 
 /// The answer to a look: a frame, where the node has the port.
