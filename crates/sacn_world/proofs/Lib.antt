@@ -20,3 +20,4 @@ pub mod Fits
 pub mod Deliveries
 pub mod Keeping
 pub mod Posting
+pub mod Readers

@@ -36,7 +36,7 @@ use Rattle.sacn_world.proofs.Growth.{longer, at_kept, holds_within}
 use Rattle.sacn_world.proofs.Runs.{step_ok, after_ok, start_ok}
 
 -- what is found passes
-found_passes : {X : Type 0} (test : X → Bool) (xs : List X) (x : X) → find test xs ≡ Some x → test x ≡ true
+pub found_passes : {X : Type 0} (test : X → Bool) (xs : List X) (x : X) → find test xs ≡ Some x → test x ≡ true
 found_passes test [] x e = absurd (cc)
 found_passes test (y ∷ ys) x e =
     elim (test y) as (λ b. test y ≡ b → cond b (Some y) (find test ys) ≡ Some x → test x ≡ true) [

@@ -5,7 +5,9 @@ use Rattle.sacn_world.specs.declared.answer.Answer.{Answer}
 use Rattle.sacn_world.specs.declared.console.Console.{Console}
 use Rattle.sacn_world.specs.declared.fault.WorldFault.{WorldFault}
 use Rattle.sacn_world.specs.declared.fault.WorldFault.TheVariants.{OutOfMemory}
-use Rattle.sacn_world.specs.Worlds.{World, Outcome, Step, WorldOk}
+use Rattle.std.specs.Prelude.{true}
+use Rattle.sacn_world.specs.declared.event.Event.{Event}
+use Rattle.sacn_world.specs.Worlds.{World, Outcome, Step, takes_memory, WorldOk}
 use Rattle.sacn_world.specs.Watches.{Watch, node_by_places, WatchOk}
 use Rattle.sacn_world.specs.Wire.{SentDatagram, seen_sent, DatagramOk}
 
@@ -32,3 +34,8 @@ Stepped s (Err fault) old new = (s ≡ Err fault) × (new ≡ old)
 abbrev pub SteppedWithRoom : Step → Result Answer WorldFault → World → World → Type 0
 SteppedWithRoom s (Ok a) old new = s ≡ Ok (record { answer = a; world = new })
 SteppedWithRoom s (Err fault) old new = ((s ≡ Err fault) ⊎ ((fault ≡ OutOfMemory) × IsAccepted s)) × (new ≡ old)
+
+-- the step of an event; want of memory only where the event may take some
+abbrev pub SteppedBy : Event → Step → Result Answer WorldFault → World → World → Type 0
+SteppedBy e s (Ok a) old new = s ≡ Ok (record { answer = a; world = new })
+SteppedBy e s (Err fault) old new = ((s ≡ Err fault) ⊎ ((fault ≡ OutOfMemory) × (takes_memory e ≡ true) × IsAccepted s)) × (new ≡ old)

@@ -1,6 +1,7 @@
 -- What the world keeps of a node: its core, and of each stream that it was sent the newest place and the place it holds.
 use Rattle.std.specs.Prelude.{◌≡◌, ℕ, ◌+◌, nat_lt, nat_le, max, Bool, true, false, ◌&&◌, ◌==◌, if◌then◌else◌, List, [], ◌∷◌, map, find, Option, Some, None}
 use Rattle.std.specs.List.{AllByRecursion}
+use Rattle.std.specs.Option.{option_map}
 use Rattle.sacn_sources.specs.Order.{order, same}
 use Rattle.sacn_sources.specs.Rows.{Row}
 use Rattle.sacn_sources.specs.declared.taken.Taken.TheVariants.{Held, Observed, EndedNow, OutOfSequence, SourcesExceeded, UnknownIgnored}
@@ -117,3 +118,7 @@ pub record WatchOk (sent : List Sent) (w : Watch) : Type 0 where
   pub marks : AllByRecursion (MarkOk sent) w.marks
   pub rise : Rise (map (λ g. g.universe) (node_by_places w).holdings)
   pub sorted : AllByRecursion (λ g. Sorted g.held) (node_by_places w).holdings
+
+-- the place noted of a source that the core holds
+abbrev pub place_noted : ℕ → List ℕ → Watch → Option ℕ
+place_noted u s w = option_map (λ r. held_place (mark_of s u w.marks)) (numbers.core_row u s w.node.core)

@@ -1,5 +1,5 @@
 -- Consoles, nodes, and a network that loses, repeats and delays: what a world answers to events.
-use Rattle.std.specs.Prelude.{◌≡◌, ℕ, ◌+◌, ◌%◌, ◌<◌, ◌≤◌, List, [], ◌∷◌, ◌++◌, map, take, length, count_by, slice_get, slice_set, ◌==◌, ◌&&◌, Bool, Option, Some, None, Result, Ok, Err}
+use Rattle.std.specs.Prelude.{◌≡◌, ℕ, ◌+◌, ◌%◌, ◌<◌, ◌≤◌, List, [], ◌∷◌, ◌++◌, map, take, length, count_by, slice_get, slice_set, ◌==◌, ◌&&◌, Bool, true, false, Option, Some, None, Result, Ok, Err}
 use Rattle.std.specs.List.{AllByRecursion}
 use Rattle.sacn_framing.specs.declared.packet.Packet.{Packet}
 use Rattle.sacn_framing.specs.declared.packet.Packet.TheVariants.{DataPacket, PagePacket, SyncPacket}
@@ -27,7 +27,9 @@ use Rattle.sacn_world.specs.declared.fault.WorldFault.{WorldFault}
 use Rattle.sacn_world.specs.declared.fault.WorldFault.TheVariants.{NoConsole, NoNode, NoDatagram, NoiseIsPacket}
 use Rattle.sacn_world.specs.Streams.{Sent, at, life_at, is_of, stream_of, place_of, Ordered}
 use Rattle.sacn_world.specs.Holdings.{Delivery, Hold, hold_of, newest, noted, refusal}
-use Rattle.sacn_world.specs.Seen.{packet_at}
+use Rattle.std.specs.Option.{option_map}
+use Rattle.sacn_sources.specs.Rows.{Row}
+use Rattle.sacn_world.specs.Seen.{packet_at, seen}
 use Rattle.sacn_world.specs.Nodes.{Holding, Node, node_of, node_reply, node_after, node_at, frame_of, holding_of, seen_core, HoldOk}
 
 pub record World : Type 0 where
@@ -177,6 +179,23 @@ hold_in s u (Some n) = place_on s (holding_of u n.holdings)
 -- what node i holds of a source on a universe
 abbrev pub held_at : ℕ → List ℕ → ℕ → World → Option Hold
 held_at i s u w = hold_in s u (slice_get w.nodes i)
+
+-- its place, and what the place says
+abbrev pub place_at : ℕ → List ℕ → ℕ → World → Option ℕ
+place_at i s u w = option_map (λ h. h.place) (held_at i s u w)
+
+abbrev pub row_at : ℕ → List ℕ → ℕ → World → Option Row
+row_at i s u w = option_map (seen u w.sent) (held_at i s u w)
+
+-- the event may take memory
+abbrev pub takes_memory : Event → Bool
+takes_memory (Order i m k) = false
+takes_memory (Poll i m) = true
+takes_memory (Deliver k i m) = true
+takes_memory (Look i port m) = false
+takes_memory (RestartConsole i first) = true
+takes_memory (RestartNode i) = true
+takes_memory (Noise i m octets) = false
 
 -- ---- what holds of each world that can be come to
 

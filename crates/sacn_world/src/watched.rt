@@ -1,10 +1,10 @@
 //! A node of a world.
 
-ghost use Rattle.std.specs.Prelude.{◌≡◌, IfOk, OnOk, OnErr, Some, None, Ok, [], option_map};
+ghost use Rattle.std.specs.Prelude.{◌≡◌, IfOk, OnOk, OnErr, Some, None, Ok, []};
 ghost use Rattle.sacn_framing.specs.PacketReading.{reading_packet};
 ghost use Rattle.sacn_node.specs.Cores.{core_at, core_row, node_frame};
 ghost use Rattle.sacn_node.specs.Readings.{reply_to, after_reading};
-ghost use Rattle.sacn_world.specs.Watches.{Mark, mark_of, mark_refusal, marks_after, with_core, new_watch, taken_by};
+ghost use Rattle.sacn_world.specs.Watches.{mark_of, held_place, place_noted, mark_refusal, marks_after, with_core, new_watch, taken_by};
 
 use crate::fault::WorldFault;
 use crate::limits::TOO_FAR_BEHIND;
@@ -115,13 +115,23 @@ impl Watched {
         self.core.held(universe, cid)
     }
 
+    /// The place of what the node holds of a source on a universe.
+    pub(crate) fn place(&self, universe: u16, cid: &[u8; 16]) -> Option<usize>
+        ensures { result ≡ place_noted universe cid.now self.now }
+    {
+        match self.held(universe, cid) {
+            Some(_) => Some(self.noted(universe, cid)),
+            None => None,
+        }
+    }
+
     /// The place that is noted as held.
-    pub(crate) fn noted(&self, universe: u16, cid: &[u8; 16]) -> Option<usize>
-        ensures { result ≡ option_map (λ (m : Mark). m.held) (mark_of cid.now universe self.now.marks) }
+    fn noted(&self, universe: u16, cid: &[u8; 16]) -> usize
+        ensures { result ≡ held_place (mark_of cid.now universe self.now.marks) }
     {
         match mark_of(&self.marks, cid, universe) {
-            Some(mark) => Some(mark.held),
-            None => None,
+            Some(mark) => mark.held,
+            None => 0,
         }
     }
 }

@@ -1,8 +1,8 @@
 //! The world.
 
 ghost use Rattle.std.specs.Prelude.{◌≡◌, ◌≤◌, [], take, vec_capacity};
-ghost use Rattle.sacn_world.specs.Kept.{Stepped, SteppedWithRoom};
-ghost use Rattle.sacn_world.specs.Worlds.{step, shown};
+ghost use Rattle.sacn_world.specs.Kept.{Stepped, SteppedWithRoom, SteppedBy};
+ghost use Rattle.sacn_world.specs.Worlds.{step, shown, place_at, row_at};
 
 use crate::answer::Answer;
 use crate::event::Event;
@@ -15,6 +15,7 @@ use sacn_console::limits::MOST_OCTETS;
 use sacn_framing::laws::{written_is_read, written_page_is_read};
 use sacn_framing::read_packet;
 use sacn_node::laws::universes_are_those_of_ranges;
+use sacn_sources::HeldView;
 use std::alloc::Global;
 use std::marker::Model;
 
@@ -45,6 +46,47 @@ impl Model for World {
 }
 
 impl World {
+    /// Takes an event. A refused one leaves the whole world as it was, clocks too.
+    ///
+    /// The faults, in the order of the checks: `NoConsole`, `NoNode`, `NoDatagram`; `TooFarBehind` and `OldLife`, by the newest
+    /// data packet of the source and universe that was delivered to the node since it started, whatever it answered, also on
+    /// universes that the node does not have; `NoiseIsPacket`; last `OutOfMemory`, which `Order`, `Look` and `Noise` never give.
+    pub fn step(&mut self, event: &Event) -> Result<Answer, WorldFault>
+        ensures { SteppedBy event.now (step self.old event.now) result self.old self.new }
+    {
+        match event {
+            Event::Order(console, now, command) => self.order(*console, *now, *command),
+            Event::Poll(console, now) => self.poll(*console, *now),
+            Event::Deliver(datagram, node, now) => self.deliver(*datagram, *node, *now),
+            Event::Look(node, port, now) => self.look(*node, *port, *now),
+            Event::RestartConsole(console, first) => self.restart_console(*console, *first),
+            Event::RestartNode(node) => self.restart_node(*node),
+            Event::Noise(node, now, octets) => self.noise(*node, *now, octets),
+        }
+    }
+
+    /// The place that a node holds of a source on a universe: the index, in the list of all data packets that the source ever
+    /// sent there, of the latest one that was answered Held or EndedNow. None where it holds none, or there is no such node.
+    pub fn place(&self, node: usize, cid: &[u8; 16], universe: u16) -> Option<usize>
+        ensures { result ≡ place_at node cid.now universe self.now }
+    {
+        if node >= self.nodes.len() {
+            return None;
+        }
+        self.nodes[node].place(universe, cid)
+    }
+
+    /// What a node holds of a source on a universe: the number, priority and levels of the packet at that place, and when it was
+    /// renewed. None where it holds none, or there is no such node.
+    pub fn held(&self, node: usize, universe: u16, cid: &[u8; 16]) -> Option<HeldView<'_>>
+        ensures { result ≡ row_at node cid.now universe self.now }
+    {
+        if node >= self.nodes.len() {
+            return None;
+        }
+        self.nodes[node].held(universe, cid)
+    }
+
     fn order(&mut self, console: usize, now: u64, command: Command) -> Result<Answer, WorldFault>
         ensures { Stepped (step self.old (Event.Order console now command)) result self.old self.new }
     {
