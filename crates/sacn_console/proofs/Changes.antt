@@ -174,7 +174,7 @@ universe_ok v c i x e ok lt is =
     let lt2 : i < length v.lines = rw e lt in
     rw is (universe_in v.lines i x ok.universes lt2)
 
-frame_len : (p : Lights) (u t : ℕ) → length (frame p u t) ≡ 512
+pub frame_len : (p : Lights) (u t : ℕ) → length (frame p u t) ≡ 512
 unfolding frame frame_now universe_frame
 frame_len p u t = rw length-map refl
 

@@ -9,3 +9,4 @@ pub mod Openings
 pub mod Kept
 pub mod Numbered
 pub mod ShowLemmas
+pub mod Lawful

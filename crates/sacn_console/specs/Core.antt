@@ -2,7 +2,8 @@
 use Rattle.std.specs.Prelude.{◌≡◌, ℕ, ◌+◌, ◌-◌, ◌*◌, max, Bool, false, not, ◌==◌, nat_lt, nat_le, if◌then◌else◌, List, [], ◌∷◌, ◌++◌, map, filter, find, length, drop, Option, Some, None, Result, Ok, Err, ◌<◌, ◌≤◌, slice_index_or}
 use Rattle.std.specs.Option.{option_map}
 use Rattle.std.specs.List.{AllByRecursion}
-use Rattle.sacn_framing.specs.Data.{Data}
+use Rattle.sacn_framing.specs.Data.{Data, IsData}
+use Rattle.sacn_framing.specs.Page.{IsPage}
 use Rattle.sacn_framing.specs.FramingText.{nothing}
 use Rattle.sacn_framing.specs.PacketText.{data_text, page_text, unused}
 use Rattle.sacn_discovery.specs.Pages.{page_count, page_of_list, numbers_on}
@@ -101,6 +102,11 @@ due_by c None = option_map Paged (page_due c)
 -- the datagram of a poll at the core's moment
 unfoldable pub due : Core → Option Datagram
 due c = due_by c (line_found c)
+
+-- what reading finds in the datagram can be said by a packet
+abbrev pub IsLawful : Sender → Datagram → Type 0
+IsLawful sender (Packet d) = IsData d
+IsLawful sender (Paged p) = IsPage (page_of_list p.list p.page sender.cid sender.name)
 
 -- ---- what a deed makes of the core
 

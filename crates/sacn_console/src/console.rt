@@ -1,5 +1,7 @@
 //! The core of a console.
 ghost use Rattle.std.specs.Prelude.{◌≡◌, ◌<◌, ◌≤◌, length, ◌++◌, drop, IfOk};
+ghost use Rattle.std.specs.Prelude.{◌^◌};
+ghost use Rattle.std.specs.List.{AllByRecursion};
 ghost use Rattle.sacn_cues.specs.Playing as play;
 ghost use Rattle.sacn_console.specs.Lights.{told};
 ghost use Rattle.sacn_console.specs.Core.{packet_text, packet_with};
@@ -58,8 +60,8 @@ impl ConsoleCore {
     ghost use Rattle.sacn_console.specs.Lights.{frame};
     ghost use Rattle.sacn_console.specs.Due.{life_of};
     ghost use Rattle.sacn_console.specs.Runs.{core_by};
-    ghost use Rattle.sacn_console.specs.Core.{Core, Rising, universes_of, taken, is_of, end_answer, start_answer, line_found, line_at, packet_at, page_due, standing, due, at, after, after_poll, after_command, given, answer, over, size, text};
-    ghost use Rattle.sacn_console.specs.Lines.{line_in, Packet, Paged, Gave, Accepted, Page};
+    ghost use Rattle.sacn_console.specs.Core.{Core, Rising, universes_of, taken, is_of, end_answer, start_answer, line_found, line_at, packet_at, page_due, standing, due, IsLawful, at, after, after_poll, after_command, given, answer, over, size, text};
+    ghost use Rattle.sacn_console.specs.Lines.{line_in, Datagram, Packet, Paged, Gave, Accepted, Page};
     ghost use Rattle.sacn_console.specs.declared.line.Line.{Line as KeptLine};
     ghost use Rattle.sacn_console.specs.declared.show.fault.ShowFault.TheVariants.{OutOfMemory};
 
@@ -103,9 +105,18 @@ impl ConsoleCore {
         ensures answer { result ≡ option_map size (due (at now self.old)) }
         ensures octets { out.new ≡ over self.old.sender (due (at now self.old)) out.old }
         ensures core { self.new ≡ after_poll now self.old }
+        ensures lawful { (d : Datagram) → due (at now self.old) ≡ Some d → IsLawful self.old.sender d }
     {
+        self.tell_lawful(now);
         self.move_clock(now);
         self.give(out)
+    }
+
+    // What is due at a moment can be said by a packet. This costs nothing.
+    fn tell_lawful(&self, now: u64)
+        ensures { (d : Datagram) → due (at now self.now) ≡ Some d → IsLawful self.now.sender d }
+    {
+        tell_ranges(&self.sender, self.listed.as_slice());
     }
 
     /// Takes a command at the moment in use. After a refusal only the clock has moved.
@@ -357,6 +368,16 @@ fn new_player(alloc: Global, show: &Show) -> Result<Player, CueFault>
         Ok(cues) => Player::new(alloc, cues),
         Err(fault) => Err(fault),
     }
+}
+
+// What the types of a sender and of numbers say. This costs nothing.
+fn tell_ranges(sender: &Sender, listed: &[u16])
+    ensures cid { length sender.now.cid ≡ 16 }
+    ensures name { length sender.now.name ≡ 64 }
+    ensures listed { AllByRecursion (λ n. n < 2 ^ 16) listed.now }
+{
+    let _sender = sender;
+    let _listed = listed;
 }
 
 // The player's answer, as the console's.

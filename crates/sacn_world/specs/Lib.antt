@@ -4,3 +4,17 @@ pub mod Events
 pub mod WorldFaults
 pub mod WorldFile
 pub mod Schedules
+pub mod FaultNumbers
+pub mod Streams
+pub mod Holdings
+pub mod Seen
+pub mod Nodes
+pub mod Worlds
+pub mod CatchUp
+pub mod Counts
+pub mod Members
+pub mod Arrivals
+pub mod Laws
+pub mod Watches
+pub mod Wire
+pub mod Kept

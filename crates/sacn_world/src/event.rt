@@ -2,13 +2,14 @@
 
 use sacn_console::Command;
 
-/// One event of a world: one call of one core (profile).
+/// One event of a world: a call of one console or of one node (profile).
 ///
-/// Consoles, nodes and datagrams are numbered from 0; a datagram's number is its place among all that
-/// were sent. Moments are milliseconds.
+/// Consoles, nodes and datagrams are numbered from 0; a datagram's number is its place among all that were sent.
+/// Moments are milliseconds of the clock of the console or node that the event is for; clocks need not agree, and may
+/// go back.
 #[derive(Debug, PartialEq, Eq, Drop)]
 pub enum Event {
-    /// A console, a moment and the order that it is given then.
+    /// A console, the moment, and the order that it is given then.
     Order(usize, u64, Command),
     /// A console, and the moment at which it is asked for what is due.
     Poll(usize, u64),

@@ -1,0 +1,106 @@
+-- What a node holds on one universe, by places.
+use Rattle.std.specs.Prelude.{◌≡◌, ⊤, ℕ, ◌+◌, ◌-◌, Bool, true, false, ◌&&◌, ◌==◌, nat_lt, nat_le, max, if◌then◌else◌, List, [], ◌∷◌, length, filter, find, Option, Some, None}
+use Rattle.std.specs.List.{AllByRecursion}
+use Rattle.std.specs.declared.cmp.Ordering.TheVariants.{Less}
+use Rattle.sacn_sources.specs.Order.{order, same, by_order}
+use Rattle.sacn_sources.specs.declared.limits.TheConstants.{MAX_SOURCES, NETWORK_DATA_LOSS}
+use Rattle.sacn_sources.specs.declared.taken.Taken.{Taken}
+use Rattle.sacn_sources.specs.declared.taken.Taken.TheVariants.{Held, Observed, EndedNow, OutOfSequence, SourcesExceeded, UnknownIgnored}
+use Rattle.sacn_world.specs.declared.limits.TheConstants.{TOO_FAR_BEHIND}
+use Rattle.sacn_world.specs.declared.fault.WorldFault.{WorldFault}
+use Rattle.sacn_world.specs.declared.fault.WorldFault.TheVariants.{TooFarBehind, OldLife}
+use Rattle.sacn_world.specs.Streams.{Sent, at, is_live, life_at, follows}
+
+-- an entry of a holding, a finite map from sources: the source's place that is held, and when it was renewed
+pub record Hold : Type 0 where
+  pub source : List ℕ
+  pub place : ℕ
+  pub moment : ℕ
+
+-- ---- expiry (E1.31, 6.7.1, network data loss)
+
+abbrev pub is_renewed : ℕ → Hold → Bool
+is_renewed t h = nat_lt (t - h.moment) NETWORK_DATA_LOSS
+
+abbrev pub unexpired : ℕ → List Hold → List Hold
+unexpired t hs = filter (is_renewed t) hs
+
+-- ---- the map, in the order of its sources
+
+abbrev pub hold_of : List ℕ → List Hold → Option Hold
+hold_of s hs = find (λ h. same s h.source) hs
+
+abbrev pub put : Hold → List Hold → List Hold
+put n [] = n ∷ []
+put n (h ∷ hs) = by_order (order n.source h.source) (n ∷ h ∷ hs) (n ∷ hs) (h ∷ put n hs)
+
+-- sources strictly ascend
+abbrev pub Sorted : List Hold → Type 0
+Sorted [] = ⊤
+Sorted (h ∷ hs) = AllByRecursion (λ k. order h.source k.source ≡ Less) hs × Sorted hs
+
+-- ---- delivery: the answer to a packet of a source that is not held, and of one that is
+
+abbrev pub answer_unknown : Bool → Bool → Taken
+answer_unknown true true = Held
+answer_unknown true false = SourcesExceeded
+answer_unknown false room = UnknownIgnored
+
+abbrev pub answer_known : Bool → Bool → Taken
+answer_known live false = OutOfSequence
+answer_known true true = Held
+answer_known false true = EndedNow
+
+abbrev pub answer_by : List Sent → ℕ → Bool → Option Hold → Taken
+answer_by st q room None = answer_unknown (is_live (at st q)) room
+answer_by st q room (Some h) = answer_known (is_live (at st q)) (follows st h.place q)
+
+-- the answer to place q of the stream st of the source s, of a universe that holds hs after expiry
+abbrev pub answer : List Sent → List ℕ → ℕ → List Hold → Taken
+answer st s q hs = answer_by st q (nat_lt (length hs) MAX_SOURCES) (hold_of s hs)
+
+-- what is held after that answer
+abbrev pub holding_after : Taken → Hold → List Hold → List Hold
+holding_after Held n hs = put n hs
+holding_after EndedNow n hs = put n hs
+holding_after Observed n hs = hs
+holding_after OutOfSequence n hs = hs
+holding_after SourcesExceeded n hs = hs
+holding_after UnknownIgnored n hs = hs
+
+abbrev pub delivered : List Sent → List ℕ → ℕ → ℕ → List Hold → List Hold
+delivered st s q t hs = holding_after (answer st s q hs) (record { source = s; place = q; moment = t }) hs
+
+-- ---- which deliveries are admissible
+
+-- the newest data packet of a stream that was delivered to a node since it started, whatever was answered
+pub record Delivery : Type 0 where
+  pub source : List ℕ
+  pub universe : ℕ
+  pub place : ℕ
+
+-- the newest place of a stream among them
+abbrev pub newest : List ℕ → ℕ → List Delivery → Option ℕ
+newest s u [] = None
+newest s u (d ∷ ds) = if same s d.source && (d.universe == u) then Some d.place else newest s u ds
+
+-- a delivery more: of each stream the greatest place stands, once
+abbrev pub noted : Delivery → List Delivery → List Delivery
+noted d [] = d ∷ []
+noted d (e ∷ es) =
+    if same d.source e.source && (e.universe == d.universe) then record { source = e.source; universe = e.universe; place = max d.place e.place } ∷ es else e ∷ noted d es
+
+-- where n is the newest place delivered: q is of an earlier life, or of the same life and too many places before it
+abbrev pub is_old_life : List Sent → ℕ → ℕ → Bool
+is_old_life st n q = nat_lt (life_at st q) (life_at st n)
+
+abbrev pub is_too_far_behind : List Sent → ℕ → ℕ → Bool
+is_too_far_behind st n q = (life_at st q == life_at st n) && nat_le (q + TOO_FAR_BEHIND) n
+
+abbrev pub refusal_at : List Sent → ℕ → ℕ → Option WorldFault
+refusal_at st n q = if is_too_far_behind st n q then Some TooFarBehind else if is_old_life st n q then Some OldLife else None
+
+-- why place q may not be delivered; None where it is admissible
+abbrev pub refusal : List Sent → Option ℕ → ℕ → Option WorldFault
+refusal st None q = None
+refusal st (Some n) q = refusal_at st n q

@@ -1,0 +1,67 @@
+//! A console of a world.
+
+ghost use Rattle.std.specs.Prelude.{◌≡◌, ◌+◌, OnOk, OnErr, IfOk};
+ghost use Rattle.sacn_world.specs.Wire.{posted};
+ghost use Rattle.sacn_world.specs.Worlds.{begun};
+
+use crate::sent::{SentDatagram, stream_next};
+use sacn_console::{ConsoleCore, Show};
+use std::alloc::{AllocError, Global};
+
+/// A console: its show, the index of its life and that life's first number, and what it does in this life.
+#[derive(Drop)]
+pub struct Console {
+    pub(crate) show: Show,
+    pub(crate) life: u64,
+    pub(crate) first: u8,
+    pub(crate) core: ConsoleCore,
+}
+
+impl Console {
+    /// A console in its life 0.
+    pub(crate) fn new(alloc: Global, show: Show, first: u8) -> Result<Self, AllocError>
+        ensures { IfOk result (λ c. c ≡ begun show 0 first) }
+    {
+        match ConsoleCore::new(alloc, &show, first) {
+            Ok(core) => Ok(Console {
+                show,
+                life: 0,
+                first,
+                core,
+            }),
+            Err(_) => Err(AllocError),
+        }
+    }
+
+    /// Begins a new life. Nothing changes where there is no room for its core, or no number for it.
+    pub(crate) fn restart(&mut self, alloc: Global, first: u8) -> Result<(), AllocError>
+        ensures begun { OnOk result (self.new ≡ begun self.old.show (self.old.life + 1) first) }
+        ensures unchanged { OnErr result (self.new ≡ self.old) }
+    {
+        let Some(life) = self.life.checked_add(1) else {
+            return Err(AllocError);
+        };
+        let Ok(core) = ConsoleCore::new(alloc, &self.show, first) else {
+            return Err(AllocError);
+        };
+        self.life = life;
+        self.first = first;
+        self.core = core;
+        Ok(())
+    }
+
+    /// These octets as a datagram of this console, which is sent next.
+    pub(crate) fn posted(&self, sent: &[SentDatagram], octets: Vec<u8>) -> SentDatagram
+        ensures { result ≡ posted self.now sent.now octets }
+    {
+        let source = self.show.cid();
+        let stream = stream_next(sent, &source, octets.as_slice());
+        SentDatagram {
+            source,
+            life: self.life,
+            first: self.first,
+            stream,
+            octets,
+        }
+    }
+}

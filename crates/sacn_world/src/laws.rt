@@ -1,0 +1,36 @@
+//! Laws of a world, over every list of commands, sends, deliveries, losses, repeats, delays, clock readings and restarts. They
+//! cost nothing when they run.
+//!
+//! A refused event leaves a world as it was, so each law holds of the lists that a world accepts.
+
+ghost use Rattle.sacn_world.specs.Laws.{NumbersAnswerAsPlacesDo, HeldPlacesAreLater, PlacesNeverGoBack, RowsAreOfPlaces, TwentyOneInARowAreShown, SamePlacesGiveTheSameSlots, SamePlacesGiveTheSameLevels};
+
+use sacn_slots::laws::merge_is_of_a_set;
+
+/// World follows the model: at each delivery that a world accepts, a node core, which reads octets and knows eight-bit numbers
+/// alone, answers what the unbounded places say, and then keeps what the places held look like.
+pub fn numbers_answer_as_places_do()
+    ensures { NumbersAnswerAsPlacesDo }
+{}
+
+/// A held place never gives way to an earlier one while its entry lasts, and what a table has is what its places say.
+pub fn places_never_go_back()
+    ensures later { HeldPlacesAreLater }
+    ensures kept { PlacesNeverGoBack }
+    ensures entry { RowsAreOfPlaces }
+{}
+
+/// Catch-up: a delivery that makes twenty-one live packets of one life come one after another, or more, leaves the node
+/// showing its packet.
+pub fn twenty_one_in_a_row_are_shown()
+    ensures { TwentyOneInARowAreShown }
+{}
+
+/// Where the same places of the same sources are shown on a universe, at two looks of one node or two, the universe's slots
+/// are equal, and so are any two port slots that ranges fill from the same slot of it.
+pub fn same_places_same_slots()
+    ensures slots { SamePlacesGiveTheSameSlots }
+    ensures levels { SamePlacesGiveTheSameLevels }
+{
+    merge_is_of_a_set();
+}

@@ -1,0 +1,212 @@
+//! The world.
+
+ghost use Rattle.std.specs.Prelude.{◌≡◌, ◌≤◌, [], take, vec_capacity};
+ghost use Rattle.sacn_world.specs.Kept.{Stepped, SteppedWithRoom, SteppedBy};
+ghost use Rattle.sacn_world.specs.Worlds.{step, shown, place_at, row_at};
+
+use crate::answer::Answer;
+use crate::event::Event;
+use crate::console::Console;
+use crate::fault::WorldFault;
+use crate::sent::SentDatagram;
+use crate::watched::Watched;
+use sacn_console::Command;
+use sacn_console::limits::MOST_OCTETS;
+use sacn_framing::laws::{written_is_read, written_page_is_read};
+use sacn_framing::read_packet;
+use sacn_node::laws::universes_are_those_of_ranges;
+use sacn_sources::HeldView;
+use std::alloc::Global;
+use std::marker::Model;
+
+/// Consoles, nodes, and all that was sent.
+#[derive(Drop)]
+pub struct World {
+    alloc: Global,
+    consoles: Vec<Console>,
+    sent: Vec<SentDatagram>,
+    nodes: Vec<Watched>,
+}
+
+impl Model for World {
+    ghost use Rattle.std.specs.Coded.{codes};
+    ghost use Rattle.sacn_patch.specs.Patch.{patch_code};
+    ghost use Rattle.sacn_cues.specs.Cues.{cues_code};
+    ghost use Rattle.sacn_cues.specs.Playing.{played_code};
+    ghost use Rattle.sacn_world.specs.Worlds.{World as Places};
+    ghost use Rattle.sacn_world.specs.Kept.{seen_world, Kept};
+
+    ghost Value = { Places };
+
+    ghost coded = { Prim.hlevel (codes, patch_code, cues_code, played_code) };
+
+    ghost view = { λ w. seen_world w.consoles.items w.sent.items w.nodes.items };
+
+    ghost invariant = { λ w. Kept w.consoles.items w.sent.items w.nodes.items };
+}
+
+impl World {
+    /// Takes an event. A refused one leaves the whole world as it was, clocks too.
+    ///
+    /// The faults, in the order of the checks: `NoConsole`, `NoNode`, `NoDatagram`; `TooFarBehind` and `OldLife`, by the newest
+    /// data packet of the source and universe that was delivered to the node since it started, whatever it answered, also on
+    /// universes that the node does not have; `NoiseIsPacket`; last `OutOfMemory`, which `Order`, `Look` and `Noise` never give.
+    pub fn step(&mut self, event: &Event) -> Result<Answer, WorldFault>
+        ensures { SteppedBy event.now (step self.old event.now) result self.old self.new }
+    {
+        match event {
+            Event::Order(console, now, command) => self.order(*console, *now, *command),
+            Event::Poll(console, now) => self.poll(*console, *now),
+            Event::Deliver(datagram, node, now) => self.deliver(*datagram, *node, *now),
+            Event::Look(node, port, now) => self.look(*node, *port, *now),
+            Event::RestartConsole(console, first) => self.restart_console(*console, *first),
+            Event::RestartNode(node) => self.restart_node(*node),
+            Event::Noise(node, now, octets) => self.noise(*node, *now, octets),
+        }
+    }
+
+    /// The place that a node holds of a source on a universe: the index, in the list of all data packets that the source ever
+    /// sent there, of the latest one that was answered Held or EndedNow. None where it holds none, or there is no such node.
+    pub fn place(&self, node: usize, cid: &[u8; 16], universe: u16) -> Option<usize>
+        ensures { result ≡ place_at node cid.now universe self.now }
+    {
+        if node >= self.nodes.len() {
+            return None;
+        }
+        self.nodes[node].place(universe, cid)
+    }
+
+    /// What a node holds of a source on a universe: the number, priority and levels of the packet at that place, and when it was
+    /// renewed. None where it holds none, or there is no such node.
+    pub fn held(&self, node: usize, universe: u16, cid: &[u8; 16]) -> Option<HeldView<'_>>
+        ensures { result ≡ row_at node cid.now universe self.now }
+    {
+        if node >= self.nodes.len() {
+            return None;
+        }
+        self.nodes[node].held(universe, cid)
+    }
+
+    fn order(&mut self, console: usize, now: u64, command: Command) -> Result<Answer, WorldFault>
+        ensures { Stepped (step self.old (Event.Order console now command)) result self.old self.new }
+    {
+        if console >= self.consoles.len() {
+            return Err(WorldFault::NoConsole);
+        }
+        let console = &mut self.consoles[console];
+        Ok(Answer::Ordered(console.core.command(now, command)))
+    }
+
+    fn poll(&mut self, console: usize, now: u64) -> Result<Answer, WorldFault>
+        ensures { SteppedWithRoom (step self.old (Event.Poll console now)) result self.old self.new }
+    {
+        written_is_read();
+        written_page_is_read();
+        if console >= self.consoles.len() {
+            return Err(WorldFault::NoConsole);
+        }
+        let Ok(mut octets) = Vec::with_capacity(self.alloc, MOST_OCTETS) else {
+            return Err(WorldFault::OutOfMemory);
+        };
+        let Ok(()) = self.sent.reserve(1) else {
+            return Err(WorldFault::OutOfMemory);
+        };
+        let mut out = [0; MOST_OCTETS];
+        let Some(len) = self.consoles[console].core.poll(now, &mut out) else {
+            return Ok(Answer::Idle);
+        };
+        copy_into(&mut octets, &out, len);
+        let number = self.sent.len();
+        let datagram = self.consoles[console].posted(self.sent.as_slice(), octets);
+        self.sent.push_reserved(datagram);
+        Ok(Answer::Sent(number))
+    }
+
+    fn restart_console(&mut self, console: usize, first: u8) -> Result<Answer, WorldFault>
+        ensures { SteppedWithRoom (step self.old (Event.RestartConsole console first)) result self.old self.new }
+    {
+        if console >= self.consoles.len() {
+            return Err(WorldFault::NoConsole);
+        }
+        let alloc = self.alloc;
+        let Ok(()) = self.consoles[console].restart(alloc, first) else {
+            return Err(WorldFault::OutOfMemory);
+        };
+        Ok(Answer::Restarted)
+    }
+
+    fn restart_node(&mut self, node: usize) -> Result<Answer, WorldFault>
+        ensures { SteppedWithRoom (step self.old (Event.RestartNode node)) result self.old self.new }
+    {
+        universes_are_those_of_ranges();
+        if node >= self.nodes.len() {
+            return Err(WorldFault::NoNode);
+        }
+        let alloc = self.alloc;
+        let Ok(()) = self.nodes[node].restart(alloc) else {
+            return Err(WorldFault::OutOfMemory);
+        };
+        Ok(Answer::Restarted)
+    }
+
+    fn deliver(&mut self, datagram: usize, node: usize, now: u64) -> Result<Answer, WorldFault>
+        ensures { SteppedWithRoom (step self.old (Event.Deliver datagram node now)) result self.old self.new }
+    {
+        if node >= self.nodes.len() {
+            return Err(WorldFault::NoNode);
+        }
+        if datagram >= self.sent.len() {
+            return Err(WorldFault::NoDatagram);
+        }
+        let sent = &self.sent[datagram];
+        if let Some(fault) = sent.refusal(&self.nodes[node]) {
+            return Err(fault);
+        }
+        let Ok(reply) = self.nodes[node].take(now, sent.octets.as_slice(), sent.came()) else {
+            return Err(WorldFault::OutOfMemory);
+        };
+        Ok(Answer::Taken(reply))
+    }
+
+    fn look(&mut self, node: usize, port: u8, now: u64) -> Result<Answer, WorldFault>
+        ensures { Stepped (step self.old (Event.Look node port now)) result self.old self.new }
+    {
+        if node >= self.nodes.len() {
+            return Err(WorldFault::NoNode);
+        }
+        let frame = self.nodes[node].look(now, port);
+        Ok(shown(frame))
+    }
+
+    fn noise(&mut self, node: usize, now: u64, octets: &Vec<u8>) -> Result<Answer, WorldFault>
+        ensures { Stepped (step self.old (Event.Noise node now octets.now)) result self.old self.new }
+    {
+        if node >= self.nodes.len() {
+            return Err(WorldFault::NoNode);
+        }
+        if read_packet(octets.as_slice()).is_ok() {
+            return Err(WorldFault::NoiseIsPacket);
+        }
+        Ok(Answer::Taken(self.nodes[node].hear(now, octets.as_slice())))
+    }
+}
+
+/// The first octets of a datagram, where there is room for them.
+fn copy_into(octets: &mut Vec<u8>, out: &[u8; MOST_OCTETS], len: usize)
+    requires empty { octets.old.items ≡ [] }
+    requires room { MOST_OCTETS ≤ vec_capacity octets.old }
+    requires len { len ≤ MOST_OCTETS }
+    ensures { octets.new.items ≡ take len out.now }
+{
+    let _ = octets.extend_from_slice(&out[..len]);
+}
+
+/// The answer to a look: a frame, where the node has the port.
+fn shown(frame: Option<[u8; 513]>) -> Answer
+    ensures { result ≡ shown frame }
+{
+    match frame {
+        Some(frame) => Answer::Shown(frame),
+        None => Answer::NoSuchPort,
+    }
+}
