@@ -1,2 +1,3 @@
 pub mod Decodes
+pub mod Simulates
 pub mod ReadLemmas

@@ -40,7 +40,10 @@ pub enum Asked<'a> {
     /// The datagrams of these files.
     Decode(Vec<&'a str>),
     /// A world, run by a schedule.
-    Simulate { world: &'a str, schedule: &'a str },
+    Simulate {
+        world: &'a str,
+        schedule: &'a str,
+    },
     /// A console of this show, given the orders of this script.
     Console {
         show: &'a str,

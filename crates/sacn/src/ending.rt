@@ -22,6 +22,7 @@ const REFUSED: u8 = 3;
 const DEVICE_FAILED: u8 = 4;
 
 /// Why a run ends before its work is done.
+#[derive(Drop)]
 pub enum Ending {
     /// The words are bad, or ask for help.
     Words(clap::Error),

@@ -35,32 +35,38 @@ fn run<R: AllocGlobal + Files + Net + Clock, I: Read + Drop, O: Write>(
     out: &mut O,
 ) -> Result<(), Ending> {
     let alloc = rt.alloc();
-    match parse(alloc, words) {
-        Ok(Asked::Datagram) => {
+    let asked = match parse(alloc, words) {
+        Ok(asked) => asked,
+        Err(error) => return Err(Ending::Words(error)),
+    };
+    match asked {
+        Asked::Datagram => {
             let datagrams = standard_input(alloc, input)?;
             print_packets(alloc, datagrams.as_slice(), out)
         }
-        Ok(Asked::Decode(files)) => {
+        Asked::Decode(files) => {
             let datagrams = octets_of_files(rt, files.as_slice())?;
             print_packets(alloc, datagrams.as_slice(), out)
         }
-        Ok(
-            Asked::Console {
-                show,
-                script,
-                turns,
-                first,
-            },
-        ) => {
+        Asked::Simulate { world, schedule } => {
+            let world = text_of_file(rt, world)?;
+            let schedule = text_of_file(rt, schedule)?;
+            print_looks(alloc, world.as_str(), schedule.as_str(), out)
+        }
+        Asked::Console {
+            show,
+            script,
+            turns,
+            first,
+        } => {
             let show = text_of_file(rt, show)?;
             let script = text_of_file(rt, script)?;
             network::console(rt, (show.as_str(), script.as_str()), first, turns, out)
         }
-        Ok(Asked::Node { setup, turns }) => {
+        Asked::Node { setup, turns } => {
             let setup = text_of_file(rt, setup)?;
             network::node(rt, setup.as_str(), turns, out)
         }
-        Err(error) => Err(Ending::Words(error)),
     }
 }
 

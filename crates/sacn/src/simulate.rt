@@ -55,9 +55,10 @@ fn simulate<O: Out>(
     ensures err { IfErr result (λ fault. Breaks fault (O.failed out.new) (Adds (O.Tells out.old) (O.Tells out.new)) (simulated world.old 0 events.now)) }
 {
     for i in 0..events.len() {
-        match world.step(&events[i]) {
+        let event = &events[i];
+        match world.step(event) {
             Ok(answer) => {
-                let Ok(line) = line_of(alloc, &events[i], &answer) else {
+                let Ok(line) = line_of(alloc, event, &answer) else {
                     return Err(SimFault::OutOfMemory);
                 };
                 let Ok(_) = write_text(out, line.as_slice()) else {

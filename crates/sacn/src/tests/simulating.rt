@@ -82,9 +82,11 @@ fn prints<R: AllocGlobal + Files + Env + Net + Clock>(
 ) -> Result<bool, Fail> {
     let run = simulated(rt, world, schedule)?;
     let status = if refusal.is_empty() { 0 } else { 3 };
-    Ok(run.status == status
-        && run.out.as_slice() == lines.as_bytes()
-        && run.err.as_slice() == refusal.as_bytes())
+    Ok(
+        run.status == status
+            && run.out.as_slice() == lines.as_bytes()
+            && run.err.as_slice() == refusal.as_bytes(),
+    )
 }
 
 #[test]
@@ -96,7 +98,15 @@ fn looks_are_printed(rt: HostRuntime) -> Result<(), Fail> {
 #[test]
 fn a_refused_event_ends_the_run(rt: HostRuntime) -> Result<(), Fail> {
     let schedule = format!(in rt.alloc(); "{SCHEDULE}deliver 5 0 3500\nlook 0 1 3500\n")?;
-    assert!(rt; prints(&rt, WORLD, schedule.as_str(), LINES, "refused step 8 NoDatagram\n")?);
+    assert!(rt;
+        prints(
+            &rt,
+            WORLD,
+            schedule.as_str(),
+            LINES,
+            "refused step 8 NoDatagram\n"
+        )?
+    );
     Ok(())
 }
 
@@ -157,7 +167,11 @@ fn refused_texts_are_named(rt: HostRuntime) -> Result<(), Fail> {
         (TWINS, "", "refused SameCid\n"),
         ("version = 1\n", "look 0 300 0\n", "refused line 1 Number\n"),
         ("version = 1\n", "\nnoise 0 5 zz\n", "refused line 2 Hex\n"),
-        ("version = 1\n", "# nothing\npoll 0 0\n", "refused step 0 NoConsole\n"),
+        (
+            "version = 1\n",
+            "# nothing\npoll 0 0\n",
+            "refused step 0 NoConsole\n",
+        ),
     ] {
         assert!(rt; prints(&rt, world, schedule, "", refusal)?, "{refusal}");
     }
@@ -188,6 +202,9 @@ fn a_failed_output_is_named_where_anything_was_written(rt: HostRuntime) -> Resul
     assert_eq!(rt; run.err.as_slice(), b"device write\n".as_slice());
     let run = broken_run(&rt, "poll 9 0\nlook 0 1 0\n")?;
     assert_eq!(rt; run.status, 3);
-    assert_eq!(rt; run.err.as_slice(), b"refused step 0 NoConsole\n".as_slice());
+    assert_eq!(rt;
+        run.err.as_slice(),
+        b"refused step 0 NoConsole\n".as_slice()
+    );
     Ok(())
 }
