@@ -14,6 +14,6 @@ mod world;
 
 pub use answer::Answer;
 pub use event::Event;
-pub use fault::{NewFault, WorldFault};
+pub use fault::{NewFault, RunFault, WorldFault};
 pub use limits::TOO_FAR_BEHIND;
 pub use world::World;
