@@ -1,5 +1,5 @@
 -- A deed that changes one line, where no two have one universe.
-use Rattle.std.proofs.Common.{◌≡◌, ℕ, ◌+◌, ◌<◌, ◌≤◌, nat_lt, Bool, true, false, not, cond, Result, Ok, if◌then◌else◌, ◌==◌, List, [], ◌∷◌, ◌++◌, length, get_or, slice_index_or, slice_set, drop, map, filter, find, Err, Option, Some, None, suc, zero, refl, add-one, max, OnOk, OnErr, IfErr, arith, ap, sym, ◌∙◌}
+use Rattle.std.proofs.Common.{◌≡◌, ℕ, ◌+◌, ◌<◌, ◌≤◌, true, false, not, cond, Result, Ok, if◌then◌else◌, ◌==◌, List, [], ◌∷◌, ◌++◌, length, get_or, slice_index_or, slice_set, drop, map, filter, find, Err, Option, Some, None, suc, zero, refl, add-one, max, OnOk, OnErr, IfErr, arith, ap, sym, ◌∙◌}
 use Rattle.std.specs.List.{AllByRecursion}
 use Rattle.std.proofs.lemmas.List.{get_or_read, length-set, length-map}
 use Rattle.sacn_patch.specs.Patch.{universe_frame}
@@ -10,7 +10,7 @@ use Rattle.sacn_cues.specs.Playing.{Played, moved, refusal}
 use Rattle.sacn_cues.specs.Playing as play
 use Rattle.sacn_cues.specs.declared.fault.PlayFault.{PlayFault}
 use Rattle.sacn_console.specs.Shows.{IsUniverse}
-use Rattle.sacn_console.specs.Lights.{Lights, frame, lights_at, player_command, ordered, console_fault, play_answer, told}
+use Rattle.sacn_console.specs.Lights.{Lights, frame, player_command, console_fault, play_answer, told}
 use Rattle.sacn_console.specs.declared.limits.TheConstants.{TERMINATIONS}
 use Rattle.sacn_console.proofs.Frames.{settled}
 use Rattle.sacn_console.specs.Lines.{Page, Packet, Paged, Gave, Accepted, line_in, is_stopped, line_sent, line_after}
@@ -23,7 +23,6 @@ use Rattle.sacn_console.specs.declared.line.State.TheVariants.{Running, Ending}
 use Rattle.sacn_console.specs.declared.command.ConsoleFault.TheVariants as fault
 use Rattle.sacn_console.specs.declared.command.Command.TheVariants.{Go, GoTo, SetLevel, Master, EndUniverse, StartUniverse}
 use Rattle.sacn_console.specs.declared.command.Command.{Command}
-use Rattle.sacn_console.specs.declared.command.ConsoleFault.{ConsoleFault}
 
 abbrev pub changed : ℕ → (Line → Line) → Line → Line
 changed u g l = if l.universe == u then g l else l

@@ -1,10 +1,8 @@
 -- Frames of a player at its own moment, at later ones, and after its commands.
-use Rattle.std.proofs.Common.{◌≡◌, ℕ, ◌*◌, ◌/◌, ◌≤◌, max, List, Option, Some, None, refl, arith, ap, sym, ◌∙◌}
-use Rattle.sacn_patch.specs.Patch.{Patched, universe_frame}
+use Rattle.std.proofs.Common.{◌≡◌, ℕ, ◌*◌, ◌/◌, ◌≤◌, max, arith, ap}
+use Rattle.sacn_patch.specs.Patch.{universe_frame}
 use Rattle.sacn_cues.specs.declared.limits.TheConstants.{FULL}
-use Rattle.sacn_cues.specs.declared.fade.Fade.{Fade}
 use Rattle.sacn_cues.specs.Levels.{all_begun}
-use Rattle.sacn_cues.specs.Cues.{Cues}
 use Rattle.sacn_cues.specs.Playing.{Played, moved, after, gives, master_by, current_by, rest_by, level_mastered, StaysAsItIs}
 use Rattle.sacn_cues.specs.Playing as play
 use Rattle.sacn_console.specs.Lights.{Lights, lights_at, frame, frame_now}

@@ -9,7 +9,7 @@ use Rattle.sacn_cues.specs.History as history
 use Rattle.sacn_cues.specs.History.{History, StepsFollowTheCalls, ReadingsShowTheLevels, current_cue, accepted}
 use Rattle.sacn_console.specs.declared.limits.TheConstants.{LEAST_GAP, KEEP_ALIVE, REPEATS, TERMINATIONS, DISCOVERY_INTERVAL}
 use Rattle.sacn_discovery.specs.Pages.{page_count}
-use Rattle.sacn_console.specs.Lights.{Lights, lights_at, frame, frame_now, ordered, player_command, play_answer}
+use Rattle.sacn_console.specs.Lights.{Lights, lights_at, frame, frame_now, ordered, player_command}
 use Rattle.sacn_console.proofs.Frames.{later, twice, after_moved}
 use Rattle.sacn_console.proofs.Plain.{same_number, some_same, option_paged}
 use Rattle.sacn_console.specs.Lines.{Page, Datagram, Packet, Paged, Deed, Accepted, Gave, same, passed, line_due, asks, state_sent, line_sent, line_after, is_ending, is_stopped}

@@ -1,19 +1,15 @@
 -- A console as its life begins.
-use Rattle.std.proofs.Common.{◌≡◌, ℕ, ◌+◌, ◌%◌, ◌<◌, ◌≤◌, Bool, true, false, List, [], ◌∷◌, ◌++◌, length, get_or, drop, map, suc, zero, add-one, append_assoc, append-nil, drop-cons, refl, arith, ap, sym, ◌∙◌, None, Some}
+use Rattle.std.proofs.Common.{◌≡◌, ℕ, ◌+◌, ◌%◌, ◌<◌, ◌≤◌, List, [], ◌∷◌, ◌++◌, length, get_or, drop, map, suc, zero, add-one, append_assoc, append-nil, drop-cons, refl, arith, ap, sym, ◌∙◌, None, Some}
 use Rattle.std.proofs.lemmas.List.{length-map}
 use Rattle.std.specs.List.{AllByRecursion, AllPairs}
 use Rattle.std.proofs.lemmas.List.Kept.{AllPairs-from_increasing}
 use Rattle.sacn_console.specs.Core.{Rising, universes_of}
-use Rattle.sacn_console.specs.Wakes.{Sound, IsAsleep, awake}
-use Rattle.sacn_console.specs.Shows.{IsUniverse, ShowContent, ShowOk}
-use Rattle.sacn_console.specs.declared.limits.TheConstants.{CONSOLE_UNIVERSES}
+use Rattle.sacn_console.specs.Wakes.{Sound, awake}
+use Rattle.sacn_console.specs.Shows.{ShowContent, ShowOk}
 use Rattle.sacn_patch.specs.Patch.{Patched}
-use Rattle.sacn_cues.specs.Playing.{Played, new_player, moved}
-use Rattle.sacn_console.specs.Lights.{Lights}
-use Rattle.std.specs.List.Sorted.{IsStrictlyIncreasing}
-use Rattle.sacn_framing.specs.Naming.{padded}
+use Rattle.sacn_cues.specs.Playing.{Played, new_player}
 use Rattle.sacn_console.specs.declared.sender.Sender.{Sender}
-use Rattle.sacn_console.specs.Due.{Life, life_of}
+use Rattle.sacn_console.specs.Due.{life_of}
 use Rattle.sacn_console.specs.Runs.{line_by, lights_by, core_by}
 use Rattle.sacn_console.specs.declared.line.Line.{Line}
 use Rattle.sacn_console.specs.declared.line.Begun.{Begun}

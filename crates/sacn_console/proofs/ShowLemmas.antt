@@ -1,6 +1,6 @@
 -- What is read as a show keeps the limits of a console.
 use Rattle.std.proofs.Common.{◌≡◌, ℕ, pos, negsuc, ◌≤◌, nat_le, Bool, true, false, ◌&&◌, if◌then◌else◌, List, [], ◌∷◌, length, map, Option, None, Some, option_and_then, option_map, refl, sym, ap, ◌∙◌, arith, codes}
-use Rattle.std.specs.Prelude.{All, IsPermutation, IfSome}
+use Rattle.std.specs.Prelude.{All}
 use Rattle.std.specs.List.{AllByRecursion}
 use Rattle.std.specs.List.Sorted.{IsStrictlyIncreasing}
 use Rattle.std.proofs.lemmas.Bool.Decides.{nat_tests}
@@ -9,15 +9,14 @@ use Rattle.std.proofs.lemmas.List.Elements.{All-from_recursion, recursion_from_A
 use Rattle.std.proofs.lemmas.List.Sorted.{All-permutation, length_permutation}
 use Rattle.toml.specs.Data.{Data, Members, string, integer, float, boolean, datetime, array, table, get_member, as_str}
 use Rattle.sacn_framing.specs.Naming.{is_nameable, name_from, padded}
-use Rattle.sacn_framing.specs.declared.framing.TheConstants.{MOST_PRIORITY}
 use Rattle.sacn_patch.specs.declared.limits.TheConstants.{MAX_UNIVERSE}
-use Rattle.sacn_files.specs.Values.{number_in, value_or}
+use Rattle.sacn_files.specs.Values.{number_in}
 use Rattle.sacn_files.specs.Rows.{each}
 use Rattle.sacn_files.specs.Numbered.{has_repeat, in_order}
 use Rattle.sacn_files.proofs.AscentLemmas.{in_order_rises, in_order_keeps}
-use Rattle.sacn_console.specs.declared.limits.TheConstants.{CONSOLE_UNIVERSES, DEFAULT_PRIORITY}
+use Rattle.sacn_console.specs.declared.limits.TheConstants.{CONSOLE_UNIVERSES}
 use Rattle.sacn_console.specs.Shows.{IsUniverse, AreUniverses}
-use Rattle.sacn_console.specs.ShowReading.{Identity, name_in, cid_in, priority_of, identity_in}
+use Rattle.sacn_console.specs.ShowReading.{name_in, cid_in, priority_of, identity_in}
 
 -- chains of readings
 some_is : {X : Type 0} (x y : X) → Some x ≡ Some y → x ≡ y

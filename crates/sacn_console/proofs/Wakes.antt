@@ -1,6 +1,6 @@
 -- Wakes of lines, over looks and changes.
-use Rattle.std.proofs.Common.{◌≡◌, ℕ, ◌<◌, ◌≤◌, Bool, true, false, not, ◌&&◌, ◌||◌, ◌==◌, ◌≢◌, ◌-◌, nat_lt, if◌then◌else◌, List, [], ◌∷◌, length, get_or, slice_index_or, slice_set, replicate, map, Option, Some, None, suc, zero, refl, arith, ap, sym, ◌∙◌}
-use Rattle.std.proofs.lemmas.List.{length-set, length-replicate, length-map, get_or-set_other, get_or_read}
+use Rattle.std.proofs.Common.{◌≡◌, ℕ, ◌<◌, ◌≤◌, Bool, true, false, not, ◌&&◌, ◌||◌, ◌==◌, ◌≢◌, nat_lt, List, length, get_or, slice_index_or, slice_set, replicate, Option, Some, None, suc, zero, refl, arith, ap, sym, ◌∙◌}
+use Rattle.std.proofs.lemmas.List.{length-set, length-replicate, get_or-set_other, get_or_read}
 use Rattle.std.proofs.lemmas.Grind.{get_or-set_at}
 use Rattle.sacn_cues.specs.Playing.{StaysAsItIs}
 use Rattle.sacn_console.specs.declared.limits.TheConstants.{LEAST_GAP, KEEP_ALIVE}
@@ -8,7 +8,6 @@ use Rattle.sacn_console.specs.Lights.{Lights, lights_at, frame, frame_now}
 use Rattle.sacn_console.specs.Lines.{same, passed, asks, line_due, line_sent, is_stopped}
 use Rattle.sacn_console.specs.Core.{Core}
 use Rattle.sacn_console.specs.Wakes.{Finds, IsAsleep, WakesOk}
-use Rattle.sacn_console.specs.declared.line.Run.{Run}
 use Rattle.sacn_console.specs.declared.line.Line.{Line}
 use Rattle.sacn_console.specs.declared.line.Look.TheVariants.{Due, Asleep}
 use Rattle.sacn_console.specs.declared.line.State.{State}

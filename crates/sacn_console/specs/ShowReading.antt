@@ -1,5 +1,5 @@
 -- A show file: its faults by phases, and its value (profile).
-use Rattle.std.specs.Prelude.{◌≡◌, ◌&&◌, ◌||◌, ◌==◌, ℕ, nat_le, nat_lt, Bool, not, true, false, List, [], ◌∷◌, length, Option, None, Some, is_some, if◌then◌else◌, codes, option_and_then, option_map, Result, Ok, Err}
+use Rattle.std.specs.Prelude.{◌≡◌, ◌&&◌, ◌||◌, ◌==◌, ℕ, nat_le, nat_lt, Bool, not, false, List, [], ◌∷◌, length, Option, None, Some, is_some, if◌then◌else◌, codes, option_and_then, option_map, Result, Ok, Err}
 use Rattle.std.specs.Prelude.{◌⊎◌}
 use Rattle.std.specs.List.{list_any}
 use Rattle.std.specs.FinMap.{get, insert, len, empty}

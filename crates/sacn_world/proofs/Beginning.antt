@@ -1,20 +1,18 @@
 -- A new world.
-use Rattle.std.proofs.Common.{◌≡◌, ℕ, zero, suc, ◌+◌, ◌<◌, ◌≤◌, Bool, true, false, cond, List, [], ◌∷◌, map, length, Option, Some, None, refl, sym, ap, subst, ◌∙◌, inl, inr, ◌⊎◌, arith, slice_get}
+use Rattle.std.proofs.Common.{◌≡◌, ℕ, zero, suc, Bool, true, false, List, [], ◌∷◌, map, Some, refl, sym, ap, subst, ◌∙◌, inl, inr, slice_get}
 use Rattle.std.specs.Prelude.{if◌then◌else◌}
-use Rattle.std.specs.Option.{option_map}
 use Rattle.std.specs.List.{AllByRecursion}
 use Rattle.std.proofs.lemmas.Bool.{cases_Bool}
 use Rattle.std.proofs.lemmas.Option.{slice_get-map, same_Some, none-some as none_some}
 use Rattle.sacn_sources.specs.Order.{same}
 use Rattle.sacn_console.specs.Shows.{ShowContent}
-use Rattle.sacn_node.specs.Setup.{Port, Setup, universes}
+use Rattle.sacn_node.specs.Setup.{Setup}
 use Rattle.sacn_node.specs.Laws.{HasTheUniversesOfItsRanges}
 use Rattle.sacn_world.specs.declared.console.Console.{Console}
-use Rattle.sacn_world.specs.Streams.{Sent}
-use Rattle.sacn_world.specs.Nodes.{Node, node_of}
-use Rattle.sacn_world.specs.Worlds.{World, has_cid, has_same_cid, new_console, new_world, Apart, WorldOk}
+use Rattle.sacn_world.specs.Nodes.{node_of}
+use Rattle.sacn_world.specs.Worlds.{has_cid, has_same_cid, new_console, new_world, Apart, WorldOk}
 use Rattle.sacn_world.specs.Watches.{Watch, new_watch, node_by_places, WatchOk}
-use Rattle.sacn_world.specs.Wire.{SentDatagram, seen_sent}
+use Rattle.sacn_world.specs.Wire.{SentDatagram}
 use Rattle.sacn_world.specs.Kept.{seen_world, Kept}
 use Rattle.sacn_world.proofs.Sources.{same-itself}
 use Rattle.sacn_world.proofs.Runs.{start_ok, mapped}

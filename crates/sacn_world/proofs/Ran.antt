@@ -1,12 +1,11 @@
 -- Runs, event by event.
-use Rattle.std.proofs.Common.{get_or, ◌≡◌, ℕ, zero, suc, ◌+◌, ◌<◌, ◌≤◌, true, List, [], ◌∷◌, ◌++◌, take, length, Option, Some, None, Result, Ok, Err, refl, sym, ap, subst, ◌∙◌, inl, inr, ◌⊎◌, arith, slice_get}
-use Rattle.std.proofs.lemmas.Option.{same_Some, slice_get_within}
+use Rattle.std.proofs.Common.{get_or, ◌≡◌, ℕ, zero, suc, ◌+◌, ◌<◌, true, List, [], ◌∷◌, ◌++◌, take, length, Some, None, Ok, Err, refl, sym, ap, subst, ◌∙◌, inl, ◌⊎◌, arith, slice_get}
+use Rattle.std.proofs.lemmas.Option.{same_Some}
 use Rattle.sacn_world.specs.declared.answer.Answer.{Answer}
 use Rattle.sacn_world.specs.declared.event.Event.{Event}
-use Rattle.sacn_world.specs.declared.fault.RunFault.{RunFault}
 use Rattle.sacn_world.specs.declared.fault.WorldFault.{WorldFault}
 use Rattle.sacn_world.specs.declared.fault.WorldFault.TheVariants.{OutOfMemory}
-use Rattle.sacn_world.specs.Worlds.{World, Outcome, Step, step, takes_memory}
+use Rattle.sacn_world.specs.Worlds.{World, Step, step, takes_memory}
 use Rattle.sacn_world.specs.Kept.{IsAccepted, SteppedBy}
 use Rattle.sacn_world.specs.Running.{Ran, answered_first, first_then, ran, Stopped}
 

@@ -8,14 +8,14 @@ ghost use Rattle.sacn_world.specs.Running.{ran, Stopped};
 ghost use Rattle.sacn_world.specs.Worlds.{step, new_world, new_console, has_cid, has_same_cid, shown, place_at, row_at};
 
 use crate::answer::Answer;
-use crate::event::Event;
 use crate::console::Console;
+use crate::event::Event;
 use crate::fault::{NewFault, RunFault, WorldFault};
 use crate::mark::is_same;
 use crate::sent::SentDatagram;
 use crate::watched::Watched;
-use sacn_console::{Command, Show};
 use sacn_console::limits::MOST_OCTETS;
+use sacn_console::{Command, Show};
 use sacn_framing::laws::{written_is_read, written_page_is_read};
 use sacn_framing::read_packet;
 use sacn_node::NodeSetup;

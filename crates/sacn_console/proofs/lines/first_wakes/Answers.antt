@@ -1,4 +1,3 @@
-use Rattle.std.proofs.Common.{arith}
 use Rattle.sacn_console.proofs.Openings.{more_wakes}
 use Rattle.sacn_console.proofs.lines.first_wakes.Goals as goal
 

@@ -1,6 +1,6 @@
 use Rattle.std.proofs.Common.{refl, arith, ◌∙◌}
 use Rattle.sacn_cues.specs.Playing as play
-use Rattle.sacn_console.specs.declared.command.Command.TheVariants.{Go, GoTo, SetLevel, Master}
+use Rattle.sacn_console.specs.declared.command.Command.TheVariants.{SetLevel}
 use Rattle.sacn_console.proofs.Wakes.{wakes_cleared}
 use Rattle.sacn_console.proofs.Changes.{light_told, ok_played}
 use Rattle.sacn_console.proofs.console.ConsoleCore.set_level.Goals as goal

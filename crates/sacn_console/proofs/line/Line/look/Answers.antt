@@ -1,5 +1,4 @@
 use Rattle.std.proofs.Common.{sym, ◌∙◌}
-use Rattle.sacn_console.specs.Lights.{Lights}
 use Rattle.sacn_console.proofs.Wakes.{look_stopped, look_early, look_due, look_quiet, look_awake}
 use Rattle.sacn_console.proofs.line.Line.look.Goals as goal
 

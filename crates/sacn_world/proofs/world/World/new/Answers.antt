@@ -1,4 +1,4 @@
-use Rattle.std.proofs.Common.{sym, ap, ◌∙◌, refl}
+use Rattle.std.proofs.Common.{sym, ap, ◌∙◌}
 use Rattle.sacn_world.specs.Worlds.{has_same_cid}
 use Rattle.sacn_world.proofs.Beginning.{kept_as}
 use Rattle.sacn_world.proofs.world.World.new.Goals as goal

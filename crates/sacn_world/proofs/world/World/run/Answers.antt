@@ -1,6 +1,4 @@
-use Rattle.std.proofs.Common.{rules, refl, sym, ap, ◌∙◌, arith, ◌≡◌, ◌++◌, ◌∷◌, [], Some, slice_get}
-use Rattle.sacn_world.specs.Running.{ran}
-use Rattle.sacn_world.specs.declared.event.Event.{Event}
+use Rattle.std.proofs.Common.{sym, ap, ◌∙◌, arith, Some}
 use Rattle.sacn_world.proofs.Ran.{ran_more, read_at, stopped_at}
 use Rattle.sacn_world.proofs.world.World.run.Goals as goal
 
