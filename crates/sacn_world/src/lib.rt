@@ -9,6 +9,8 @@ pub mod laws;
 mod limits;
 mod mark;
 mod sent;
+#[cfg(test)]
+mod tests;
 mod watched;
 mod world;
 
