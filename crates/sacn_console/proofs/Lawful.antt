@@ -1,17 +1,16 @@
 -- What is due is a packet as reading finds it: its fields are in range.
-use Rattle.std.proofs.Common.{◌≡◌, ℕ, zero, suc, ◌+◌, ◌-◌, ◌*◌, ◌/◌, ◌^◌, ◌<◌, ◌≤◌, max, Bool, true, false, cond, List, [], ◌∷◌, length, take, drop, map, Option, Some, None, refl, sym, ap, subst, ◌∙◌, arith, length-take, nat_lt, nat_le}
-use Rattle.std.specs.Prelude.{get_or, ◌==◌, if◌then◌else◌, filter, find, not}
+use Rattle.std.proofs.Common.{◌≡◌, ℕ, zero, suc, ◌-◌, ◌*◌, ◌^◌, ◌<◌, ◌≤◌, Bool, true, false, cond, List, [], ◌∷◌, length, take, drop, map, Option, Some, None, refl, subst, arith, length-take, nat_lt, nat_le}
+use Rattle.std.specs.Prelude.{get_or, if◌then◌else◌, filter, find, not}
 use Rattle.std.specs.Option.{option_map}
 use Rattle.std.specs.List.{AllByRecursion}
-use Rattle.std.proofs.lemmas.Bool.{cases_Bool, ltb-true}
+use Rattle.std.proofs.lemmas.Bool.{ltb-true}
 use Rattle.std.proofs.lemmas.Option.{same_Some}
-use Rattle.sacn_framing.specs.Data.{Data, IsData}
+use Rattle.sacn_framing.specs.Data.{IsData}
 use Rattle.sacn_framing.specs.Page.{IsPage}
-use Rattle.sacn_discovery.specs.Pages.{page_count, page_of_list, numbers_on}
+use Rattle.sacn_discovery.specs.Pages.{page_count, page_of_list}
 use Rattle.sacn_console.specs.Shows.{IsUniverse}
-use Rattle.sacn_console.specs.Lights.{Lights, frame, frame_now}
-use Rattle.sacn_patch.specs.Patch.{universe_frame}
-use Rattle.sacn_console.specs.Lines.{Page, Datagram, Packet, Paged, line_due, is_stopped}
+use Rattle.sacn_console.specs.Lights.{Lights}
+use Rattle.sacn_console.specs.Lines.{Page, Datagram, Paged, line_due, is_stopped}
 use Rattle.sacn_console.specs.Core.{Core, IsLawful, at, due, due_by, line_found, page_by, page_due, standing, packet_with, packet_of, universes_of}
 use Rattle.sacn_console.specs.declared.sender.Sender.{Sender}
 use Rattle.sacn_console.specs.declared.line.Line.{Line}

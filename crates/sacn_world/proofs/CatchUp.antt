@@ -1,13 +1,13 @@
 -- Twenty-one places in a row cannot all be late.
-use Rattle.std.proofs.Common.{◌≡◌, ℕ, zero, suc, ◌+◌, ◌-◌, ◌%◌, ◌<◌, ◌≤◌, Bool, true, false, not, cond, List, [], ◌∷◌, length, Option, Some, None, refl, sym, ap, subst, ◌∙◌, inl, inr, ◌⊎◌, arith}
-use Rattle.std.specs.Prelude.{filter, find, nat_lt, nat_le, ◌==◌, ◌&&◌, if◌then◌else◌}
-use Rattle.std.proofs.lemmas.Bool.{cases_Bool, cases_lt}
+use Rattle.std.proofs.Common.{◌≡◌, ℕ, ◌+◌, ◌-◌, ◌%◌, ◌<◌, ◌≤◌, Bool, true, false, not, List, length, Option, Some, None, refl, sym, ap, subst, ◌∙◌, inl, inr, ◌⊎◌, arith}
+use Rattle.std.specs.Prelude.{nat_lt, ◌&&◌, if◌then◌else◌}
+use Rattle.std.proofs.lemmas.Bool.{cases_lt}
 use Rattle.std.proofs.lemmas.Bool.Decides.{nat_tests}
 use Rattle.sacn_sources.specs.declared.limits.TheConstants.{MAX_SOURCES}
 use Rattle.sacn_world.proofs.Numbers.{ahead, late_is, rank_later}
 use Rattle.std.proofs.lemmas.Bool.{eqb-true}
 use Rattle.std.proofs.lemmas.Option.{same_Some}
-use Rattle.sacn_world.proofs.Maps.{hold_of-put, hold_of_other-put, hold_of-filter}
+use Rattle.sacn_world.proofs.Maps.{hold_of-put}
 use Rattle.sacn_world.specs.Streams.{Sent, at, life_at, rank, number_at, is_live, follows, Ordered, late}
 use Rattle.sacn_world.specs.Holdings.{Hold, hold_of, put, answer_unknown, answer_known, answer_by, answer, holding_after, delivered}
 use Rattle.sacn_sources.specs.declared.taken.Taken.{Taken}

@@ -1,9 +1,8 @@
 -- Each event of a console keeps what holds of consoles.
-use Rattle.std.proofs.Common.{◌≡◌, ℕ, zero, suc, ◌+◌, ◌-◌, ◌%◌, ◌<◌, ◌≤◌, max, Bool, true, false, not, cond, List, [], ◌∷◌, ◌++◌, map, length, Option, Some, None, Result, Ok, Err, refl, sym, ap, subst, ◌∙◌, inl, inr, ◌⊎◌, arith}
-use Rattle.std.specs.Prelude.{count_by, filter, slice_get, slice_set, ◌==◌, ◌&&◌, if◌then◌else◌}
+use Rattle.std.proofs.Common.{◌≡◌, ℕ, suc, ◌+◌, ◌%◌, ◌<◌, ◌≤◌, Bool, true, false, cond, List, [], ◌∷◌, ◌++◌, map, length, Some, None, Result, Ok, Err, refl, sym, ap, subst, ◌∙◌, inl, inr, arith}
+use Rattle.std.specs.Prelude.{count_by, ◌==◌, ◌&&◌, if◌then◌else◌}
 use Rattle.std.specs.List.{AllByRecursion}
-use Rattle.std.proofs.lemmas.Bool.{cases_Bool, and_parts, and_from, eqb-true, eq-eqb, ne_eqb}
-use Rattle.std.proofs.lemmas.Option.{same_Some}
+use Rattle.std.proofs.lemmas.Bool.{cases_Bool, and_from, eqb-true, eq-eqb, ne_eqb}
 use Rattle.sacn_framing.specs.Data.{Data}
 use Rattle.sacn_sources.specs.Order.{same}
 use Rattle.sacn_console.specs.Shows.{ShowContent}
@@ -13,11 +12,10 @@ use Rattle.sacn_console.specs.declared.limits.TheConstants.{TERMINATIONS}
 use Rattle.sacn_console.specs.declared.command.Command.{Command}
 use Rattle.sacn_console.specs.declared.command.Command.TheVariants.{Go, GoTo, SetLevel, Master, EndUniverse, StartUniverse}
 use Rattle.sacn_console.specs.declared.command.ConsoleFault.{ConsoleFault}
-use Rattle.sacn_console.specs.Due.{life_of}
 use Rattle.sacn_console.specs.Runs.{core_by, line_by}
 use Rattle.sacn_console.specs.Lines as line
 use Rattle.sacn_console.specs.Core as console
-use Rattle.sacn_world.specs.Streams.{Sent, nothing, at, is_of, is_on, stream_of, life_at}
+use Rattle.sacn_world.specs.Streams.{Sent, is_of, stream_of, life_at}
 use Rattle.sacn_world.specs.declared.console.Console.{Console}
 use Rattle.sacn_world.specs.Worlds.{sent_by, with_core, polled, begun, new_console, is_of_life, LineOk, ConsoleOk}
 use Rattle.sacn_world.proofs.All.{all_weaker, all_map}

@@ -1,17 +1,17 @@
 -- The catch-up count over a run.
-use Rattle.std.proofs.Common.{◌≡◌, ◌≢◌, ℕ, zero, suc, ◌+◌, ◌-◌, ◌<◌, ◌≤◌, max, Bool, true, false, not, cond, List, [], ◌∷◌, ◌++◌, map, length, Option, Some, None, refl, sym, ap, subst, ◌∙◌, inl, inr, ◌⊎◌, arith}
-use Rattle.std.specs.Prelude.{filter, find, slice_get, slice_set, option_map, ◌==◌, ◌&&◌, if◌then◌else◌}
+use Rattle.std.proofs.Common.{◌≡◌, ℕ, zero, suc, ◌-◌, ◌<◌, ◌≤◌, max, Bool, true, false, not, cond, List, [], ◌∷◌, ◌++◌, map, length, Option, Some, None, refl, sym, ap, subst, ◌∙◌, inl, inr, arith}
+use Rattle.std.specs.Prelude.{find, slice_get, slice_set, option_map, ◌==◌, ◌&&◌, if◌then◌else◌}
 use Rattle.std.specs.List.{AllByRecursion}
 use Rattle.std.proofs.lemmas.Bool.{cases_Bool, eqb-true, ne_eqb, and_parts, and_from, cases_eq, eq-eqb, eqb-false}
 use Rattle.std.proofs.lemmas.Option.{same_Some, slice_get-map, none-some as none_some}
-use Rattle.sacn_world.proofs.All.{all_get, all_filter}
+use Rattle.sacn_world.proofs.All.{all_get}
 use Rattle.sacn_world.proofs.Sources.{same_source, same-itself}
 use Rattle.sacn_world.proofs.Lists.{found, find-map}
 use Rattle.sacn_world.specs.Holdings.{Sorted}
 use Rattle.sacn_world.proofs.Maps.{sorted_put, sorted_filter, hold_of-filter}
 use Rattle.sacn_world.proofs.Forward.{other_kept}
 use Rattle.sacn_world.proofs.CatchUp.{delivered_count, catches_up, count_kept}
-use Rattle.sacn_world.proofs.NodeSteps.{rule_from, all_kept, newest_within}
+use Rattle.sacn_world.proofs.NodeSteps.{rule_from, all_kept}
 use Rattle.sacn_world.proofs.Growth.{at_kept, number_kept, longer, holds_within}
 use Rattle.sacn_world.proofs.Sending.{place_within}
 use Rattle.sacn_world.proofs.Runs.{step_ok, after_ok, start_ok, mapped}
@@ -25,7 +25,7 @@ use Rattle.sacn_world.specs.CatchUp.{count_after, CountOk}
 use Rattle.sacn_world.specs.declared.console.Console.{Console}
 use Rattle.sacn_world.specs.Worlds.{NodeOk, WorldOk, World, Outcome, step, sent_by, with_node, order_step, poll_by, poll_step, restart_console, come, arrive, deliver_step, look_step, heard, noise_step, restart_node, left_by, after, new_console, new_world, Apart}
 use Rattle.sacn_world.specs.Counts.{Count, no_count, count_reply, count_come, count_deliver, count_step, count_run, Shows, count_arrive}
-use Rattle.std.specs.Prelude.{Result, Ok, Err}
+use Rattle.std.specs.Prelude.{Ok, Err}
 use Rattle.sacn_framing.specs.Data.{Data}
 use Rattle.sacn_framing.specs.declared.packet.Packet.{Packet}
 use Rattle.sacn_framing.specs.declared.packet.Packet.TheVariants.{DataPacket, PagePacket, SyncPacket}

@@ -1,29 +1,22 @@
 -- A datagram at a node that a world keeps.
-use Rattle.std.proofs.Common.{◌≡◌, ℕ, ◌+◌, ◌<◌, ◌≤◌, max, Bool, true, false, cond, List, [], ◌∷◌, map, length, Option, Some, None, Result, Ok, Err, refl, sym, ap, subst, ◌∙◌, inl, inr, ◌⊎◌, arith}
-use Rattle.std.specs.Prelude.{find, ⊤, option_map, slice_get, nat_lt, nat_le, ◌==◌, ◌&&◌, if◌then◌else◌}
+use Rattle.std.proofs.Common.{◌≡◌, ℕ, ◌+◌, ◌≤◌, max, Bool, true, false, cond, List, [], ◌∷◌, map, Option, Some, None, Ok, refl, sym, ap, subst, ◌∙◌, inl, inr, arith}
+use Rattle.std.specs.Prelude.{option_map, slice_get, nat_lt, nat_le, ◌==◌, ◌&&◌, if◌then◌else◌}
 use Rattle.std.specs.List.{AllByRecursion}
-use Rattle.std.proofs.lemmas.Bool.{cases_Bool, and_parts, and_from, eqb-true, eq-eqb, leb-true, le-leb, cases_lt}
-use Rattle.std.proofs.lemmas.Bool.Decides.{nat_tests}
+use Rattle.std.proofs.lemmas.Bool.{and_parts, and_from, eqb-true, eq-eqb, leb-true, le-leb, cases_lt}
 use Rattle.sacn_framing.specs.declared.packet.Packet.{Packet}
 use Rattle.sacn_framing.specs.declared.packet.Packet.TheVariants.{DataPacket, PagePacket, SyncPacket}
-use Rattle.sacn_sources.specs.Order.{same}
-use Rattle.sacn_node.specs.declared.taken.NodeTaken.{NodeTaken}
-use Rattle.sacn_node.specs.declared.taken.NodeTaken.TheVariants.{FromTable, OtherUniverse, Discovery, Sync, Refused}
 use Rattle.sacn_node.specs.Cores.{Core, core_at}
-use Rattle.sacn_node.specs.Cores as numbers
-use Rattle.sacn_node.specs.Readings.{Reading, reply_to, after_reading}
-use Rattle.sacn_node.specs.Seen.{Rise, Above}
+use Rattle.sacn_node.specs.Readings.{reply_to, after_reading}
+use Rattle.sacn_node.specs.Seen.{Rise}
 use Rattle.sacn_world.specs.declared.limits.TheConstants.{TOO_FAR_BEHIND}
-use Rattle.sacn_world.specs.declared.fault.WorldFault.{WorldFault}
 use Rattle.sacn_world.specs.declared.fault.WorldFault.TheVariants.{TooFarBehind, OldLife}
-use Rattle.sacn_world.specs.Streams.{Sent, nothing, at, is_of, is_on, stream_of, life_at, place_of}
-use Rattle.sacn_world.specs.Holdings.{Hold, Delivery, Sorted, is_renewed, unexpired, delivered, newest, noted, refusal, refusal_at}
-use Rattle.sacn_world.specs.Nodes.{Holding, Node, with_unexpired, unexpired_all, holding_of, reply_on, change, node_reply, node_after, node_at, seen_core, seen_table}
-use Rattle.sacn_world.specs.Worlds.{NodeOk, WorldOk, World, IsNumbered}
+use Rattle.sacn_world.specs.Streams.{Sent, is_of, is_on, stream_of, life_at, place_of}
+use Rattle.sacn_world.specs.Holdings.{Hold, Delivery, Sorted, is_renewed, newest, noted, refusal}
+use Rattle.sacn_world.specs.Nodes.{Holding, Node, unexpired_all, change, node_after, node_at, seen_core}
+use Rattle.sacn_world.specs.Worlds.{WorldOk, World, IsNumbered}
 use Rattle.sacn_world.specs.Arrivals.{refused_for, replied, moved}
-use Rattle.sacn_world.specs.Watches.{Mark, Watch, is_mark_of, mark_of, moves, first_mark, remarked, marked, marks_after, mark_refusal, holding_from, delivery_of, by_places, node_by_places, taken_by, with_core, MarkOk, WatchOk}
-use Rattle.sacn_world.specs.Wire.{SentDatagram, InStream, said, seen_sent, stream_in, DatagramOk, came_by, came_of, refusal_in, refusal_by}
-use Rattle.sacn_world.proofs.All.{all_weaker, all_get}
+use Rattle.sacn_world.specs.Watches.{Mark, Watch, is_mark_of, mark_of, moves, remarked, marked, mark_refusal, holding_from, delivery_of, by_places, node_by_places, taken_by, with_core, MarkOk, WatchOk}
+use Rattle.sacn_world.specs.Wire.{stream_in, came_by, refusal_in}
 use Rattle.sacn_world.proofs.Sources.{same_source, same-itself}
 use Rattle.sacn_world.proofs.Lists.{found}
 use Rattle.sacn_world.proofs.Maps.{sorted_filter}

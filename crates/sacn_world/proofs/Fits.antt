@@ -1,6 +1,6 @@
 -- The places that are noted as held are those of the node's rows.
-use Rattle.std.proofs.Common.{◌≡◌, ℕ, ◌<◌, ◌≤◌, max, Bool, true, false, cond, List, [], ◌∷◌, map, length, Option, Some, None, refl, sym, ap, subst, ◌∙◌, inl, inr, ◌⊎◌, arith}
-use Rattle.std.specs.Prelude.{find, filter, ⊤, option_map, nat_lt, nat_le, ◌==◌, ◌&&◌, if◌then◌else◌}
+use Rattle.std.proofs.Common.{◌≡◌, ℕ, ◌≤◌, Bool, true, false, cond, List, [], ◌∷◌, map, Some, None, refl, sym, ap, subst, ◌∙◌, inl, inr, arith}
+use Rattle.std.specs.Prelude.{◌==◌, ◌&&◌, if◌then◌else◌}
 use Rattle.std.specs.List.{AllByRecursion}
 use Rattle.std.specs.Ordering.{is_eq}
 use Rattle.std.specs.declared.cmp.Ordering.TheVariants.{Less, Equal, Greater}
@@ -9,18 +9,16 @@ use Rattle.sacn_sources.specs.Order.{order, same, by_order}
 use Rattle.sacn_sources.specs.Rows.{Row}
 use Rattle.sacn_sources.specs.declared.taken.Taken.{Taken}
 use Rattle.sacn_sources.specs.declared.taken.Taken.TheVariants.{Held, Observed, EndedNow, OutOfSequence, SourcesExceeded, UnknownIgnored}
-use Rattle.sacn_node.specs.declared.taken.NodeTaken.{NodeTaken}
-use Rattle.sacn_node.specs.declared.taken.NodeTaken.TheVariants.{FromTable, OtherUniverse}
+use Rattle.sacn_node.specs.declared.taken.NodeTaken.TheVariants.{FromTable}
 use Rattle.sacn_node.specs.Cores.{Table}
 use Rattle.sacn_node.specs.Seen.{Rise, Above}
-use Rattle.sacn_world.specs.Streams.{Sent, at, stream_of, life_at}
-use Rattle.sacn_world.specs.Holdings.{Hold, Delivery, Sorted, is_renewed, unexpired, put, answer, holding_after, delivered, newest, noted}
-use Rattle.sacn_world.specs.Nodes.{Holding, Node, with_unexpired, unexpired_all, holding_of, reply_on, change, seen_table}
-use Rattle.sacn_world.specs.Watches.{Mark, is_mark_of, mark_of, moves, first_mark, remarked, marked, held_place, hold_from, holding_from, delivery_of, MarkOk}
+use Rattle.sacn_world.specs.Streams.{Sent}
+use Rattle.sacn_world.specs.Holdings.{Hold, Sorted, is_renewed, put, answer, holding_after, delivered}
+use Rattle.sacn_world.specs.Nodes.{Holding, unexpired_all, holding_of, reply_on, change, seen_table}
+use Rattle.sacn_world.specs.Watches.{Mark, is_mark_of, mark_of, moves, first_mark, remarked, marked, held_place, hold_from, holding_from}
 use Rattle.sacn_world.proofs.All.{all_weaker, all_filter}
-use Rattle.sacn_world.proofs.Sources.{same_source, same-itself, order-itself}
-use Rattle.sacn_world.proofs.Maps.{order_turned, order_through, sorted_filter}
-use Rattle.sacn_world.proofs.Counts.{sorted_after}
+use Rattle.sacn_world.proofs.Sources.{same_source, same-itself}
+use Rattle.sacn_world.proofs.Maps.{order_turned, order_through}
 
 -- ---- marks after one was noted
 
@@ -97,8 +95,8 @@ fits_kept ms t (g ∷ gs) fit = (all_filter (Fit ms g.universe) (is_renewed t) g
 other_universe : (b : Bool) (d : Mark) (ms : List Mark) (u : ℕ) (hs : List Hold) → (u ≡ d.universe → ⊥) → AllByRecursion (Fit ms u) hs → AllByRecursion (Fit (marked b d ms) u) hs
 other_universe b d ms u hs ne fit =
     all_weaker (Fit ms u) _ (λ h f.
-        let no' : (d.universe == u) ≡ false = ne_eqb _ _ (λ e. ne (sym e)) in
-        place_of_other b d h.source u ms (elim (same h.source d.source) as (λ t. (t && (d.universe == u)) ≡ false) [ true ↦ no' | false ↦ refl ]) ∙ f) hs fit
+    let no' : (d.universe == u) ≡ false = ne_eqb _ _ (λ e. ne (sym e)) in
+    place_of_other b d h.source u ms (elim (same h.source d.source) as (λ t. (t && (d.universe == u)) ≡ false) [ true ↦ no' | false ↦ refl ]) ∙ f) hs fit
 
 above_all : (b : Bool) (d : Mark) (ms : List Mark) (v : ℕ) (gs : List Holding) → Above v (map (λ (g : Holding). g.universe) gs) → d.universe ≤ v → Fits ms gs → Fits (marked b d ms) gs
 above_all b d ms v [] above le fit = tt

@@ -1,13 +1,12 @@
 -- What stays when a packet more is sent.
-use Rattle.std.proofs.Common.{◌≡◌, ℕ, zero, suc, ◌+◌, ◌-◌, ◌%◌, ◌<◌, ◌≤◌, Bool, true, false, cond, List, [], ◌∷◌, ◌++◌, map, length, get_or, take, Option, Some, None, refl, sym, ap, subst, ◌∙◌, inl, inr, arith, length-append}
-use Rattle.std.specs.Prelude.{filter, count_by, ◌==◌, ◌&&◌}
+use Rattle.std.proofs.Common.{◌≡◌, ℕ, ◌+◌, ◌%◌, ◌<◌, cond, List, [], ◌∷◌, ◌++◌, map, length, take, refl, ap, ◌∙◌, arith, length-append}
+use Rattle.std.specs.Prelude.{count_by, ◌==◌}
 use Rattle.std.specs.List.{AllByRecursion}
-use Rattle.std.proofs.lemmas.List.{get_or_append_left, take-append-le, get_or_push, append-nil}
+use Rattle.std.proofs.lemmas.List.{get_or_append_left, take-append-le}
 use Rattle.std.proofs.lemmas.List.Elements.{filter-append}
-use Rattle.std.proofs.lemmas.Bool.{cases_lt, cases_Bool, and_parts, eqb-true}
 use Rattle.sacn_world.proofs.NodeSteps.{newest_within}
 use Rattle.sacn_world.specs.Streams.{is_live, priority, levels, Sent, nothing, at, life_at, rank, number_at, is_of, priority, levels, stream_of}
-use Rattle.sacn_world.specs.Holdings.{Hold, delivered, Delivery}
+use Rattle.sacn_world.specs.Holdings.{Hold, Delivery}
 use Rattle.sacn_world.specs.Seen.{shown_by, seen, rows_of}
 use Rattle.sacn_world.specs.Nodes.{Holding, Node, seen_table, seen_core, HoldOk}
 use Rattle.sacn_world.specs.Worlds.{NodeOk}

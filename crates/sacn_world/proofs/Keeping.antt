@@ -1,17 +1,17 @@
 -- What a world keeps, after an event.
-use Rattle.std.proofs.Common.{◌≡◌, ℕ, ◌+◌, ◌<◌, ◌≤◌, List, [], ◌∷◌, map, length, Option, Some, None, Result, Ok, Err, refl, sym, ap, subst, ◌∙◌, inl, inr, ◌⊎◌, arith, slice_get}
+use Rattle.std.proofs.Common.{◌≡◌, ℕ, ◌+◌, ◌<◌, ◌≤◌, List, [], ◌∷◌, map, length, Option, Some, None, Ok, Err, refl, sym, ap, subst, ◌∙◌, arith, slice_get}
 use Rattle.std.specs.Prelude.{slice_set, option_map, is_ok}
 use Rattle.std.proofs.Common.{zero, suc, true, false}
 use Rattle.std.proofs.lemmas.Option.{same_Some}
 use Rattle.std.specs.List.{AllByRecursion}
-use Rattle.std.proofs.lemmas.List.{map-set, length-map}
+use Rattle.std.proofs.lemmas.List.{map-set}
 use Rattle.std.proofs.lemmas.Option.{slice_get-map, slice_get_past}
 use Rattle.sacn_framing.specs.PacketReading.{reading_packet}
 use Rattle.sacn_console.specs.declared.command.Command.{Command}
 use Rattle.sacn_console.specs.Core as console
 use Rattle.sacn_node.specs.Cores.{core_at, core_slots, node_frame}
 use Rattle.sacn_node.specs.Ports.{port_of, frame_on}
-use Rattle.sacn_node.specs.Readings.{Reading, reply_to, after_reading}
+use Rattle.sacn_node.specs.Readings.{Reading, reply_to}
 use Rattle.sacn_framing.specs.declared.packet.Packet.{Packet}
 use Rattle.std.specs.Prelude.{Vec}
 use Rattle.std.specs.declared.alloc.Global.{Global}
@@ -32,11 +32,11 @@ use Rattle.sacn_world.specs.declared.event.Event.TheVariants.{Order, Poll, Deliv
 use Rattle.sacn_world.specs.declared.fault.WorldFault.{WorldFault}
 use Rattle.sacn_world.specs.declared.fault.WorldFault.TheVariants.{NoConsole, NoNode, NoDatagram, NoiseIsPacket}
 use Rattle.sacn_world.specs.Streams.{Sent}
-use Rattle.sacn_world.specs.Nodes.{Node, node_at, node_of, frame_of, node_slots, seen_core}
-use Rattle.sacn_world.specs.Worlds.{World, Outcome, Step, with_console, with_node, with_core, order_step, poll_step, begun, restart_console, deliver_step, arrive, shown, look_step, heard, noise_step, restart_node, step, left_by, WorldOk}
+use Rattle.sacn_world.specs.Nodes.{Node, node_at, node_of, frame_of, seen_core}
+use Rattle.sacn_world.specs.Worlds.{World, Outcome, Step, with_console, with_node, with_core, order_step, poll_step, begun, restart_console, deliver_step, shown, look_step, heard, noise_step, restart_node, step, left_by, WorldOk}
 use Rattle.sacn_world.specs.Arrivals.{refused_for, replied, moved, arrival}
-use Rattle.sacn_world.specs.Watches.{Watch, Mark, holding_from, MarkOk, node_by_places, by_places, with_core as with_node_core, taken_by, new_watch, WatchOk}
-use Rattle.sacn_world.specs.Wire.{SentDatagram, seen_sent, stream_in, DatagramOk, came_by, came_of, refusal_in, refusal_by}
+use Rattle.sacn_world.specs.Watches.{Watch, holding_from, node_by_places, by_places, with_core as with_node_core, taken_by, new_watch, WatchOk}
+use Rattle.sacn_world.specs.Wire.{SentDatagram, seen_sent, stream_in, came_by, came_of, refusal_in, refusal_by}
 use Rattle.sacn_world.specs.Kept.{seen_world, Kept, IsAccepted}
 use Rattle.sacn_world.proofs.All.{all_get, all_set}
 use Rattle.sacn_world.proofs.NodeSteps.{slots_seen}

@@ -24,3 +24,5 @@ pub mod Deliveries
 pub mod Keeping
 pub mod Posting
 pub mod Readers
+pub mod Ran
+pub mod Beginning

@@ -1,6 +1,6 @@
 -- Two looks of one run: the same places give the same slots.
-use Rattle.std.proofs.Common.{◌≡◌, ℕ, zero, suc, ◌+◌, ◌<◌, ◌≤◌, Bool, true, false, List, [], ◌∷◌, ◌++◌, map, length, get_or, Option, Some, None, Result, Ok, Err, refl, sym, ap, subst, ◌∙◌, inl, inr, ◌⊎◌, arith}
-use Rattle.std.specs.Prelude.{slice_get, find, ◌==◌, Contains}
+use Rattle.std.proofs.Common.{◌≡◌, ℕ, zero, suc, ◌+◌, ◌<◌, Bool, true, false, List, [], ◌∷◌, ◌++◌, map, length, get_or, Option, Some, None, Ok, Err, refl, sym, ap, subst, ◌∙◌, inl, inr, ◌⊎◌, arith}
+use Rattle.std.specs.Prelude.{find, ◌==◌, Contains}
 use Rattle.std.specs.List.{AllByRecursion, cons_option, filter_map}
 use Rattle.std.proofs.lemmas.Bool.{eqb-true, ne_eqb}
 use Rattle.std.proofs.lemmas.Option.{same_Some}
@@ -17,23 +17,22 @@ use Rattle.sacn_slots.specs.Merge.{Shown, MergesTheSet}
 use Rattle.sacn_console.specs.declared.command.Command.{Command}
 use Rattle.sacn_console.specs.Shows.{ShowContent}
 use Rattle.sacn_console.specs.Lines as line
-use Rattle.sacn_console.specs.Core as console
 use Rattle.sacn_node.specs.Readings.{Reading}
 use Rattle.sacn_node.specs.Setup.{Port}
 use Rattle.sacn_world.specs.declared.event.Event.{Event}
 use Rattle.sacn_world.specs.declared.event.Event.TheVariants.{Order, Poll, Deliver, Look, RestartConsole, RestartNode, Noise}
 use Rattle.sacn_world.specs.declared.fault.WorldFault.{WorldFault}
-use Rattle.sacn_world.specs.Streams.{Sent, nothing, at, stream_of, is_live, priority, levels, place_of}
-use Rattle.sacn_world.specs.Holdings.{Hold, newest, refusal}
+use Rattle.sacn_world.specs.Streams.{Sent, nothing, at, stream_of, is_live, priority, levels}
+use Rattle.sacn_world.specs.Holdings.{Hold}
 use Rattle.sacn_world.specs.Seen.{shown_by}
-use Rattle.sacn_world.specs.Nodes.{Holding, Node, shown_of, slots, HoldOk, node_at}
+use Rattle.sacn_world.specs.Nodes.{Holding, Node, shown_of, slots, HoldOk}
 use Rattle.sacn_world.specs.declared.console.Console.{Console}
-use Rattle.sacn_world.specs.Worlds.{World, Outcome, sent_by, polled, with_sent, poll_by, poll_step, order_step, restart_console, come, arrive, deliver_step, look_step, heard, noise_step, restart_node, step, left_by, after, new_console, new_world, Apart, WorldOk, NodeOk}
+use Rattle.sacn_world.specs.Worlds.{World, sent_by, poll_by, poll_step, order_step, restart_console, come, arrive, deliver_step, look_step, heard, noise_step, restart_node, step, left_by, after, new_console, new_world, Apart, WorldOk, NodeOk}
 use Rattle.sacn_world.specs.Members.{IsShown, SameShown, HeldOn}
 use Rattle.sacn_world.proofs.All.{all_get}
 use Rattle.sacn_world.proofs.Lists.{found}
 use Rattle.sacn_world.proofs.Growth.{longer, at_kept, holds_within}
-use Rattle.sacn_world.proofs.Runs.{step_ok, after_ok, start_ok}
+use Rattle.sacn_world.proofs.Runs.{after_ok, start_ok}
 
 -- what is found passes
 pub found_passes : {X : Type 0} (test : X → Bool) (xs : List X) (x : X) → find test xs ≡ Some x → test x ≡ true

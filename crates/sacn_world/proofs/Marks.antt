@@ -1,8 +1,8 @@
 -- Marks of the streams that came to a node.
-use Rattle.std.proofs.Common.{◌≡◌, ℕ, zero, suc, ◌<◌, ◌≤◌, max, Bool, true, false, cond, List, [], ◌∷◌, ◌++◌, map, length, take, drop, Option, Some, None, refl, sym, ap, subst, ◌∙◌, inl, inr, ◌⊎◌, arith}
-use Rattle.std.specs.Prelude.{find, slice_get, slice_set, option_map, ◌==◌, ◌&&◌, if◌then◌else◌}
+use Rattle.std.proofs.Common.{◌≡◌, ℕ, zero, suc, Bool, true, List, [], ◌∷◌, ◌++◌, take, drop, Some, sym, ap, ◌∙◌}
+use Rattle.std.specs.Prelude.{slice_get, slice_set, if◌then◌else◌}
 use Rattle.std.proofs.lemmas.Option.{same_Some}
-use Rattle.sacn_world.specs.Watches.{Mark, is_mark_of, mark_of, remarked, marked}
+use Rattle.sacn_world.specs.Watches.{Mark, is_mark_of, remarked, marked}
 
 -- the mark that is found is written
 pub noted_here : (b : Bool) (d : Mark) (ms : List Mark) (i : ℕ) (m : Mark) → slice_get ms i ≡ Some m → is_mark_of d.source d.universe m ≡ true → slice_set ms i (remarked b d m) ≡ take i ms ++ marked b d (drop i ms)

@@ -1,5 +1,5 @@
 -- Numbers of places: what the eight-bit rule says of two places of one life.
-use Rattle.std.proofs.Common.{◌≡◌, ℕ, suc, zero, ◌+◌, ◌-◌, ◌%◌, ◌<◌, ◌≤◌, ℤ, pos, negsuc, Bool, true, false, not, ◌&&◌, cond, eqb, List, [], ◌∷◌, ◌++◌, length, get_or, take, refl, sym, ap, ◌∙◌, inl, inr, None, arith}
+use Rattle.std.proofs.Common.{◌≡◌, ℕ, suc, zero, ◌+◌, ◌-◌, ◌%◌, ◌<◌, ◌≤◌, pos, negsuc, Bool, false, not, ◌&&◌, List, length, take, refl, sym, ap, ◌∙◌, inl, inr, None, arith}
 use Rattle.std.specs.Prelude.{nat_lt, nat_le, ◌==◌, count_by, int_lt, int_le, ◌-ℤ◌, if◌then◌else◌}
 use Rattle.std.proofs.lemmas.Bool.Decides.{nat_tests}
 use Rattle.std.proofs.lemmas.Bool.{agree_below_at, eq-eqb, ne_eqb, le-ltb, cases_eq, cases_lt}

@@ -1,28 +1,20 @@
 -- A console's packets have the numbers of their places.
-use Rattle.std.proofs.Common.{◌≡◌, ℕ, zero, suc, ◌+◌, ◌-◌, ◌%◌, ◌<◌, ◌≤◌, max, Bool, true, false, not, cond, List, [], ◌∷◌, ◌++◌, map, length, take, Option, Some, None, refl, sym, ap, subst, ◌∙◌, inl, inr, ◌⊎◌, arith}
+use Rattle.std.proofs.Common.{◌≡◌, ℕ, ◌+◌, ◌%◌, Bool, true, false, not, cond, List, [], ◌∷◌, ◌++◌, length, take, Option, Some, None, refl, sym, ap, ◌∙◌, arith}
 use Rattle.std.specs.Prelude.{option_map, filter, find, count_by, slice_get, ◌==◌, ◌&&◌, if◌then◌else◌}
 use Rattle.std.specs.List.{AllByRecursion}
-use Rattle.std.proofs.lemmas.Bool.{cases_Bool, and_parts, and_from, eqb-true, eq-eqb, ne_eqb}
-use Rattle.std.proofs.lemmas.Option.{same_Some, none-some as none_some}
+use Rattle.std.proofs.lemmas.Bool.{and_from, eq-eqb}
+use Rattle.std.proofs.lemmas.Option.{same_Some}
 use Rattle.std.proofs.lemmas.List.{take_at, get_or_push}
 use Rattle.sacn_framing.specs.Data.{Data}
-use Rattle.sacn_framing.specs.declared.packet.Packet.{Packet}
-use Rattle.sacn_framing.specs.declared.packet.Packet.TheVariants.{DataPacket, PagePacket, SyncPacket}
-use Rattle.sacn_sources.specs.Order.{same}
 use Rattle.sacn_sources.specs.Packets.{packet_of, kind_of}
-use Rattle.sacn_sources.specs.declared.kind.Kind.{Kind}
 use Rattle.sacn_sources.specs.declared.kind.Kind.TheVariants.{Live, Termination, Preview, Other}
 use Rattle.sacn_console.specs.declared.line.Line.{Line}
-use Rattle.sacn_console.specs.declared.line.State.{State}
-use Rattle.sacn_console.specs.declared.command.Command.{Command}
-use Rattle.sacn_console.specs.declared.command.Command.TheVariants as command
 use Rattle.sacn_console.specs.Lines as line
 use Rattle.sacn_console.specs.Core as console
-use Rattle.sacn_world.specs.Streams.{Sent, nothing, at, is_of, is_on, is_live, priority, levels, stream_of, place_of, life_at, rank, number_at}
+use Rattle.sacn_world.specs.Streams.{Sent, nothing, at, is_of, is_live, priority, levels, stream_of, place_of, rank, number_at}
 use Rattle.sacn_world.specs.Seen.{kind_by, packet_at}
 use Rattle.sacn_world.specs.declared.console.Console.{Console}
-use Rattle.sacn_world.specs.Worlds.{said_by, sent_by, is_of_life, LineOk, IsNumbered}
-use Rattle.sacn_world.proofs.All.{all_weaker, all_map}
+use Rattle.sacn_world.specs.Worlds.{sent_by, is_of_life, LineOk}
 use Rattle.sacn_world.proofs.Lists.{found}
 use Rattle.sacn_world.proofs.Sources.{same-itself}
 use Rattle.sacn_world.proofs.Growth.{stream_push}

@@ -1,36 +1,34 @@
 -- A datagram more is sent.
-use Rattle.std.proofs.Common.{◌≡◌, ℕ, zero, suc, ◌+◌, ◌-◌, ◌*◌, ◌<◌, ◌≤◌, Bool, true, false, cond, List, [], ◌∷◌, ◌++◌, map, length, take, drop, Option, Some, None, Result, Ok, Err, refl, sym, ap, subst, ◌∙◌, inl, inr, ◌⊎◌, arith, slice_get, append-nil, length-append, length-drop}
-use Rattle.std.specs.Prelude.{slice_set, option_map, count_by, ◌==◌, ◌&&◌}
+use Rattle.std.proofs.Common.{◌≡◌, ℕ, suc, ◌<◌, ◌≤◌, List, [], ◌∷◌, ◌++◌, map, length, take, drop, Option, Some, None, Ok, refl, sym, ap, subst, ◌∙◌, inl, inr, arith, slice_get, append-nil, length-append, length-drop}
+use Rattle.std.specs.Prelude.{slice_set, option_map, count_by, ◌&&◌}
 use Rattle.std.specs.List.{AllByRecursion}
 use Rattle.std.proofs.lemmas.List.{take_at, map-append, length-map}
-use Rattle.std.proofs.lemmas.Option.{slice_get-map, slice_get_within, same_Some}
+use Rattle.std.proofs.lemmas.Option.{slice_get-map}
 use Rattle.sacn_framing.specs.Data.{Data, IsData}
-use Rattle.sacn_framing.specs.Page.{IsPage} 
+use Rattle.sacn_framing.specs.Page.{IsPage}
 use Rattle.sacn_framing.specs.Page as paged
 use Rattle.sacn_framing.specs.FramingText.{nothing}
 use Rattle.sacn_framing.specs.PacketText.{data_text, page_text, unused}
 use Rattle.sacn_framing.specs.PacketReading.{reading_packet}
 use Rattle.sacn_framing.specs.declared.packet.Packet.{Packet}
 use Rattle.sacn_framing.specs.declared.packet.Packet.TheVariants.{DataPacket, PagePacket, SyncPacket}
-use Rattle.sacn_discovery.specs.Pages.{page_of_list, numbers_on}
+use Rattle.sacn_discovery.specs.Pages.{page_of_list}
 use Rattle.sacn_sources.specs.Order.{same}
 use Rattle.sacn_console.specs.declared.sender.Sender.{Sender}
 use Rattle.sacn_console.specs.Lines as line
 use Rattle.sacn_console.specs.Core as console
-use Rattle.sacn_world.specs.declared.answer.Answer.{Answer}
 use Rattle.sacn_world.specs.declared.answer.Answer.TheVariants as answered
 use Rattle.sacn_world.specs.declared.console.Console.{Console}
 use Rattle.sacn_world.specs.declared.event.Event.{Event}
 use Rattle.sacn_world.specs.declared.event.Event.TheVariants.{Poll}
-use Rattle.sacn_world.specs.Streams.{Sent, is_of, is_on, place_of, stream_of, life_at}
-use Rattle.sacn_world.specs.Nodes.{Node, seen_core}
-use Rattle.sacn_world.specs.Worlds.{World, Outcome, with_console, with_core, said_by, sent_by, with_sent, polled, poll_by, poll_step, step, left_by, WorldOk, NodeOk}
+use Rattle.sacn_world.specs.Streams.{Sent, is_of, is_on, place_of, stream_of}
+use Rattle.sacn_world.specs.Worlds.{World, with_console, with_core, said_by, sent_by, poll_by, poll_step, step, NodeOk}
 use Rattle.sacn_world.specs.Watches.{Watch, Mark, node_by_places, by_places, delivery_of, MarkOk, WatchOk}
-use Rattle.sacn_world.specs.Wire.{SentDatagram, InStream, said, seen_sent, stream_in, DatagramOk, is_in, is_filed, stream_next, posted}
+use Rattle.sacn_world.specs.Wire.{SentDatagram, said, seen_sent, stream_in, DatagramOk, is_in, is_filed, stream_next, posted}
 use Rattle.sacn_world.specs.Kept.{seen_world, Kept, IsAccepted}
 use Rattle.sacn_world.proofs.Growth.{node_kept, at_kept}
 use Rattle.sacn_world.proofs.Sending.{count_here, place_stays, next_place}
-use Rattle.sacn_world.proofs.Runs.{step_ok, pushed_cases, mapped}
+use Rattle.sacn_world.proofs.Runs.{pushed_cases, mapped}
 use Rattle.sacn_world.proofs.Counts.{set_same}
 use Rattle.std.specs.Prelude.{Vec}
 use Rattle.std.specs.declared.alloc.Global.{Global}

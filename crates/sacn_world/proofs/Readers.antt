@@ -1,19 +1,19 @@
 -- What is read of a world that is kept.
-use Rattle.std.proofs.Common.{◌≡◌, ℕ, ◌<◌, ◌≤◌, Bool, true, false, List, [], ◌∷◌, map, length, Option, Some, None, Result, Ok, Err, refl, sym, ap, subst, ◌∙◌, inl, inr, ◌⊎◌, arith, slice_get}
+use Rattle.std.proofs.Common.{◌≡◌, ℕ, ◌≤◌, true, List, map, length, Option, Some, None, Result, Ok, Err, refl, sym, ap, ◌∙◌, inl, inr, slice_get}
 use Rattle.std.specs.Prelude.{find, ◌==◌}
 use Rattle.std.specs.Option.{option_map}
 use Rattle.std.proofs.lemmas.Bool.{eqb-true}
 use Rattle.std.proofs.lemmas.Option.{slice_get-map, slice_get_past}
 use Rattle.sacn_sources.specs.Order.{same}
 use Rattle.sacn_sources.specs.Rows.{Row, row_of}
-use Rattle.sacn_node.specs.Cores.{Core, Table, core_row, row_on, table_of}
+use Rattle.sacn_node.specs.Cores.{Table, core_row, row_on, table_of}
 use Rattle.sacn_world.specs.declared.console.Console.{Console}
 use Rattle.sacn_world.specs.declared.answer.Answer.{Answer}
 use Rattle.sacn_world.specs.declared.event.Event.{Event}
 use Rattle.sacn_world.specs.declared.fault.WorldFault.{WorldFault}
 use Rattle.sacn_world.specs.Streams.{Sent}
 use Rattle.sacn_world.specs.Holdings.{Hold, hold_of}
-use Rattle.sacn_world.specs.Seen.{seen, rows_of}
+use Rattle.sacn_world.specs.Seen.{seen}
 use Rattle.sacn_world.specs.Nodes.{Holding, Node, holding_of, seen_core, seen_table}
 use Rattle.sacn_world.specs.Worlds.{World, Step, place_on, hold_in, held_at, place_at, row_at, takes_memory}
 use Rattle.sacn_world.specs.Watches.{Mark, Watch, mark_of, held_place, hold_from, holding_from, by_places, node_by_places, place_noted, WatchOk}

@@ -1,11 +1,9 @@
 -- What a node core answers to a datagram by numbers is what the places say.
-use Rattle.std.proofs.Common.{◌≡◌, ℕ, ◌<◌, ◌≤◌, max, Bool, true, false, List, [], ◌∷◌, map, length, Option, Some, None, Result, Ok, Err, refl, sym, ap, subst, ◌∙◌, arith}
-use Rattle.std.specs.Prelude.{slice_get, slice_set, ◌==◌, ◌&&◌}
+use Rattle.std.proofs.Common.{◌≡◌, ℕ, true, List, map, Option, Some, None, Ok, Err, refl, sym, ap, ◌∙◌}
+use Rattle.std.specs.Prelude.{slice_get}
 use Rattle.std.proofs.lemmas.Bool.{and_from, eq-eqb}
-use Rattle.sacn_framing.specs.Data.{Data}
 use Rattle.sacn_framing.specs.declared.packet.Packet.{Packet}
 use Rattle.sacn_framing.specs.declared.packet.Packet.TheVariants.{DataPacket, PagePacket, SyncPacket}
-use Rattle.sacn_sources.specs.Packets.{packet_of}
 use Rattle.sacn_console.specs.Shows.{ShowContent}
 use Rattle.sacn_node.specs.declared.taken.NodeTaken.{NodeTaken}
 use Rattle.sacn_node.specs.Setup.{Port}
@@ -16,9 +14,8 @@ use Rattle.sacn_world.specs.declared.event.Event.TheVariants.{Deliver}
 use Rattle.sacn_world.specs.declared.answer.Answer.{Answer}
 use Rattle.sacn_world.specs.declared.answer.Answer.TheVariants as answered
 use Rattle.sacn_world.specs.declared.fault.WorldFault.{WorldFault}
-use Rattle.sacn_world.specs.Streams.{Sent, is_of, is_on, stream_of, place_of}
-use Rattle.sacn_world.specs.Holdings.{newest, refusal}
-use Rattle.sacn_world.specs.Nodes.{Node, node_reply, node_after, node_at, seen_core}
+use Rattle.sacn_world.specs.Streams.{Sent, is_of, is_on, place_of}
+use Rattle.sacn_world.specs.Nodes.{Node, node_reply, node_after, seen_core}
 use Rattle.sacn_world.specs.Worlds.{World, Outcome, Step, with_node, come, arrive, deliver_step, step, left_by, after, new_console, new_world, Apart, NodeOk, WorldOk, IsNumbered}
 use Rattle.sacn_world.specs.Arrivals.{refused_for, replied, moved, arrival}
 use Rattle.sacn_world.proofs.All.{all_get}

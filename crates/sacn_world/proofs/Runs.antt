@@ -1,6 +1,6 @@
 -- Each event keeps what holds of worlds.
-use Rattle.std.proofs.Common.{◌≡◌, ℕ, zero, suc, ◌+◌, ◌<◌, ◌≤◌, max, Bool, true, false, cond, List, [], ◌∷◌, ◌++◌, map, length, Option, Some, None, Result, Ok, Err, refl, sym, ap, subst, ◌∙◌, inl, inr, ◌⊎◌, arith}
-use Rattle.std.specs.Prelude.{slice_get, slice_set, option_map, ◌==◌, ◌&&◌}
+use Rattle.std.proofs.Common.{◌≡◌, ℕ, zero, suc, ◌<◌, true, List, [], ◌∷◌, ◌++◌, map, length, Option, Some, None, Ok, Err, refl, sym, ap, subst, ◌∙◌, inl, inr, ◌⊎◌, arith}
+use Rattle.std.specs.Prelude.{slice_get, slice_set, option_map}
 use Rattle.std.specs.List.{AllByRecursion}
 use Rattle.std.proofs.lemmas.Bool.{and_from, eq-eqb}
 use Rattle.std.proofs.lemmas.Option.{slice_get-map, same_Some}
@@ -18,18 +18,18 @@ use Rattle.sacn_node.specs.Setup.{Port, universes}
 use Rattle.sacn_world.specs.declared.event.Event.{Event}
 use Rattle.sacn_world.specs.declared.event.Event.TheVariants.{Order, Poll, Deliver, Look, RestartConsole, RestartNode, Noise}
 use Rattle.sacn_world.specs.declared.fault.WorldFault.{WorldFault}
-use Rattle.sacn_world.specs.Streams.{Sent, nothing, at, is_of, is_on, stream_of, place_of, is_live, priority, levels, number_at, Ordered}
-use Rattle.sacn_world.specs.Holdings.{Delivery, newest, noted, refusal}
+use Rattle.sacn_world.specs.Streams.{Sent, is_of, is_on, stream_of, place_of, is_live, priority, levels, Ordered}
+use Rattle.sacn_world.specs.Holdings.{newest, refusal}
 use Rattle.sacn_world.specs.Seen.{kind_by, packet_at}
-use Rattle.sacn_world.specs.Nodes.{Holding, Node, node_of, nothing_held, node_after, node_at, HoldOk}
+use Rattle.sacn_world.specs.Nodes.{Holding, Node, node_of, nothing_held, node_at, HoldOk}
 use Rattle.sacn_world.specs.declared.console.Console.{Console}
-use Rattle.sacn_world.specs.Worlds.{World, Outcome, Step, with_console, with_node, with_core, order_step, sent_by, said_by, with_sent, polled, poll_by, poll_step, begun, restart_console, come, arrive, deliver_step, look_step, heard, noise_step, restart_node, step, left_by, after, new_console, new_world, Apart, NodeOk, ConsoleOk, IsNumbered, Numbered, WorldOk}
+use Rattle.sacn_world.specs.Worlds.{World, with_console, with_node, order_step, sent_by, with_sent, polled, poll_by, poll_step, restart_console, come, arrive, deliver_step, look_step, heard, noise_step, restart_node, step, left_by, after, new_console, new_world, Apart, NodeOk, ConsoleOk, IsNumbered, Numbered, WorldOk}
 use Rattle.sacn_world.proofs.All.{all_weaker, all_get, all_set}
 use Rattle.sacn_world.proofs.Sources.{same-itself}
 use Rattle.sacn_world.proofs.NodeSteps.{below_after, all_kept, all_noted}
 use Rattle.sacn_world.proofs.Growth.{ok_kept, at_kept, number_kept}
 use Rattle.sacn_world.proofs.Sending.{place_within, place_stays, streams_push}
-use Rattle.sacn_world.proofs.Polls.{numbered, get_pushed}
+use Rattle.sacn_world.proofs.Polls.{numbered}
 use Rattle.sacn_world.proofs.Consoles.{ordered_ok, idle_ok, other_ok, polled_ok, restarted_ok, new_ok, empty_streams}
 
 -- the element at a place of a list of which one place was written

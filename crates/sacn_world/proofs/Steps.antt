@@ -1,10 +1,9 @@
 -- One delivery: the table's answer is the holding's.
-use Rattle.std.proofs.Common.{◌≡◌, ℕ, ◌+◌, ◌-◌, ◌<◌, ◌≤◌, Bool, true, false, not, cond, List, [], ◌∷◌, map, length, Option, Some, None, refl, sym, ap, ◌∙◌, inl, inr, arith}
+use Rattle.std.proofs.Common.{◌≡◌, ℕ, Bool, true, false, not, List, length, Option, Some, None, refl, sym, ap, ◌∙◌}
 use Rattle.std.proofs.lemmas.List.{length-map}
 use Rattle.sacn_sources.specs.declared.limits.TheConstants.{MAX_SOURCES}
 use Rattle.sacn_world.proofs.Lists.{row_of_seen, put_seen}
-use Rattle.std.specs.Prelude.{filter, find, option_map, ⊤, nat_lt}
-use Rattle.std.specs.List.{AllByRecursion}
+use Rattle.std.specs.Prelude.{option_map, nat_lt}
 use Rattle.sacn_world.specs.Streams.{priority, levels, Sent, at, number_at, is_live, priority, levels, stream_of, follows, late}
 use Rattle.sacn_world.specs.Holdings.{Hold, hold_of, answer_unknown, answer_known, answer_by, answer, holding_after}
 use Rattle.sacn_world.specs.Seen.{shown_by, kind_by, packet_at, seen, rows_of}

@@ -1,5 +1,5 @@
 -- What is so in every world that can be come to, whatever was sent, lost, repeated, delayed and restarted.
-use Rattle.std.specs.Prelude.{◌≡◌, ◌⊎◌, ℕ, ◌+◌, ◌-◌, ◌<◌, ◌≤◌, List, map, find, slice_get, Option, Some, None, Ok}
+use Rattle.std.specs.Prelude.{◌≡◌, ◌⊎◌, ℕ, ◌+◌, ◌-◌, ◌<◌, ◌≤◌, List, map, find, slice_get, Some, Ok}
 use Rattle.std.specs.Option.{option_map}
 use Rattle.sacn_framing.specs.Data.{Data}
 use Rattle.sacn_framing.specs.declared.packet.Packet.TheVariants.{DataPacket}
@@ -13,7 +13,7 @@ use Rattle.sacn_node.specs.Readings.{reply_to, after_reading}
 use Rattle.sacn_world.specs.declared.event.Event.{Event}
 use Rattle.sacn_world.specs.declared.event.Event.TheVariants.{Deliver}
 use Rattle.sacn_world.specs.declared.answer.Answer.TheVariants as answered
-use Rattle.sacn_world.specs.Streams.{Sent, stream_of, place_of}
+use Rattle.sacn_world.specs.Streams.{Sent, place_of}
 use Rattle.sacn_world.specs.Holdings.{Hold, hold_of, answer, delivered}
 use Rattle.sacn_world.specs.Seen.{seen, rows_of}
 use Rattle.sacn_world.specs.Nodes.{Holding, Node, holding_of, slots, node_slots, seen_core}

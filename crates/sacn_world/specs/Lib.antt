@@ -18,3 +18,4 @@ pub mod Laws
 pub mod Watches
 pub mod Wire
 pub mod Kept
+pub mod Running

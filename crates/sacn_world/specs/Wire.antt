@@ -1,6 +1,5 @@
 -- A datagram as a world keeps it: its octets, and where it stands in its stream.
-use Rattle.std.specs.Prelude.{◌≡◌, ◌==◌, ◌&&◌, Bool, false, ℕ, List, map, count_by, slice_get, Option, Some, None, Ok, Err}
-use Rattle.std.specs.Option.{option_map}
+use Rattle.std.specs.Prelude.{◌≡◌, ◌==◌, ◌&&◌, Bool, false, ℕ, List, count_by, Option, Some, None, Ok, Err}
 use Rattle.sacn_framing.specs.declared.packet.Packet.{Packet}
 use Rattle.sacn_framing.specs.declared.packet.Packet.TheVariants.{DataPacket, PagePacket, SyncPacket}
 use Rattle.sacn_framing.specs.PacketReading.{reading_packet}

@@ -43,6 +43,15 @@ impl WorldFault {
     }
 }
 
+/// Where a run stopped, and why. The steps before have been taken, and no others.
+#[derive(Clone, Copy, Debug, PartialEq, Eq)]
+pub struct RunFault {
+    /// The step, counted from 0.
+    pub step: usize,
+    /// Why its event was refused; `OutOfMemory` at step 0 also where there was no room for all answers.
+    pub fault: WorldFault,
+}
+
 /// Why a world was not made.
 ///
 /// Each fault has a number of its own, which `number` gives. `SameCid` is looked for first.

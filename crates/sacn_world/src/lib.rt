@@ -21,7 +21,7 @@ mod world_file;
 
 pub use answer::Answer;
 pub use event::Event;
-pub use fault::{NewFault, WorldFault};
+pub use fault::{NewFault, RunFault, WorldFault};
 pub use limits::TOO_FAR_BEHIND;
 pub use sacn_files::faults::TextFault;
 pub use schedule::read_schedule;

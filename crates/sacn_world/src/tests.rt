@@ -1,7 +1,8 @@
-//! Worked rows of world files and schedules.
+//! Worked rows of world files, schedules and worlds.
 mod refusals;
 mod schedules;
 mod world_files;
+mod worlds;
 
 /// A world of one console and one node, both on universe 1.
 const WORLD: &str = "version = 1

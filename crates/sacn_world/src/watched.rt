@@ -62,7 +62,13 @@ impl Watched {
     }
 
     /// Why a packet of this stream, life and place may not come.
-    pub(crate) fn refusal(&self, source: &[u8; 16], universe: u16, life: u64, place: usize) -> Option<WorldFault>
+    pub(crate) fn refusal(
+        &self,
+        source: &[u8; 16],
+        universe: u16,
+        life: u64,
+        place: usize,
+    ) -> Option<WorldFault>
         ensures { result ≡ mark_refusal life place (mark_of source.now universe self.now.marks) }
     {
         match mark_of(&self.marks, source, universe) {
@@ -72,7 +78,12 @@ impl Watched {
     }
 
     /// A datagram comes, of which `came` is noted. Nothing changes where there is no room for the note.
-    pub(crate) fn take(&mut self, now: u64, octets: &[u8], came: Option<Mark>) -> Result<NodeTaken, AllocError>
+    pub(crate) fn take(
+        &mut self,
+        now: u64,
+        octets: &[u8],
+        came: Option<Mark>,
+    ) -> Result<NodeTaken, AllocError>
         ensures reply { IfOk result (λ reply. reply ≡ reply_to (reading_packet octets.now) now self.old.node.core) }
         ensures taken { OnOk result (self.new ≡ taken_by (reading_packet octets.now) now came self.old) }
         ensures unchanged { OnErr result (self.new ≡ self.old) }
@@ -140,7 +151,10 @@ impl Watched {
 fn behind(newest: &Mark, life: u64, place: usize) -> Option<WorldFault>
     ensures { result ≡ mark_refusal life place (Some newest.now) }
 {
-    if life == newest.life && newest.newest >= TOO_FAR_BEHIND && place <= newest.newest - TOO_FAR_BEHIND {
+    if life == newest.life
+        && newest.newest >= TOO_FAR_BEHIND
+        && place <= newest.newest - TOO_FAR_BEHIND
+    {
         return Some(WorldFault::TooFarBehind);
     }
     if life < newest.life {

@@ -1,22 +1,27 @@
 //! The world.
 
-ghost use Rattle.std.specs.Prelude.{◌≡◌, ◌≤◌, [], take, vec_capacity};
+ghost use Rattle.std.specs.Prelude.{◌≡◌, ◌≤◌, [], take, vec_capacity, Some, IfOk, IfErr, map, true, false, ◌⊎◌};
 ghost use Rattle.sacn_world.specs.Kept.{Stepped, SteppedWithRoom, SteppedBy};
-ghost use Rattle.sacn_world.specs.Worlds.{step, shown, place_at, row_at};
+ghost use Rattle.sacn_world.specs.Watches.{new_watch};
+ghost use Rattle.sacn_world.specs.declared.fault.NewFault.TheVariants.{SameCid, OutOfMemory};
+ghost use Rattle.sacn_world.specs.Running.{ran, Stopped};
+ghost use Rattle.sacn_world.specs.Worlds.{step, new_world, new_console, has_cid, has_same_cid, shown, place_at, row_at};
 
 use crate::answer::Answer;
-use crate::event::Event;
 use crate::console::Console;
-use crate::fault::WorldFault;
+use crate::event::Event;
+use crate::fault::{NewFault, RunFault, WorldFault};
+use crate::mark::is_same;
 use crate::sent::SentDatagram;
 use crate::watched::Watched;
-use sacn_console::Command;
 use sacn_console::limits::MOST_OCTETS;
+use sacn_console::{Command, Show};
 use sacn_framing::laws::{written_is_read, written_page_is_read};
 use sacn_framing::read_packet;
+use sacn_node::NodeSetup;
 use sacn_node::laws::universes_are_those_of_ranges;
 use sacn_sources::HeldView;
-use std::alloc::Global;
+use std::alloc::{AllocError, Global};
 use std::marker::Model;
 
 /// Consoles, nodes, and all that was sent.
@@ -46,6 +51,36 @@ impl Model for World {
 }
 
 impl World {
+    /// A world of these shows, each with the first number of its console's first life, and of nodes of these setups. Nothing was
+    /// sent yet. The two lists are consumed, also by a refusal.
+    ///
+    /// `SameCid` where two shows have one CID, and then `OutOfMemory`.
+    pub fn new(
+        alloc: Global,
+        consoles: Vec<(Show, u8)>,
+        nodes: Vec<NodeSetup>,
+    ) -> Result<Self, NewFault>
+        ensures made { IfOk result (λ world. (world ≡ new_world consoles.items (map (λ n. n.ports) nodes.items)) × (has_same_cid consoles.items ≡ false)) }
+        ensures refused { IfErr result (λ fault. ((fault ≡ SameCid) × (has_same_cid consoles.items ≡ true)) ⊎ ((fault ≡ OutOfMemory) × (has_same_cid consoles.items ≡ false))) }
+    {
+        universes_are_those_of_ranges();
+        if has_same_cid(consoles.as_slice()) {
+            return Err(NewFault::SameCid);
+        }
+        let Ok(consoles) = new_consoles(alloc, consoles) else {
+            return Err(NewFault::OutOfMemory);
+        };
+        let Ok(nodes) = new_nodes(alloc, nodes) else {
+            return Err(NewFault::OutOfMemory);
+        };
+        Ok(World {
+            alloc,
+            consoles,
+            sent: Vec::new(alloc),
+            nodes,
+        })
+    }
+
     /// Takes an event. A refused one leaves the whole world as it was, clocks too.
     ///
     /// The faults, in the order of the checks: `NoConsole`, `NoNode`, `NoDatagram`; `TooFarBehind` and `OldLife`, by the newest
@@ -63,6 +98,27 @@ impl World {
             Event::RestartNode(node) => self.restart_node(*node),
             Event::Noise(node, now, octets) => self.noise(*node, *now, octets),
         }
+    }
+
+    /// Takes a list of events, up to the first that is refused. Room for all answers is taken first.
+    pub fn run(&mut self, events: &[Event]) -> Result<Vec<Answer>, RunFault>
+        ensures answers { IfOk result (λ answers. ran self.old events.now ≡ Some (record { answers = answers.items; world = self.new })) }
+        ensures stopped { IfErr result (λ fault. Stopped self.old events.now fault self.new) }
+    {
+        let Ok(mut answers) = Vec::with_capacity(self.alloc, events.len()) else {
+            return Err(RunFault {
+                step: 0,
+                fault: WorldFault::OutOfMemory,
+            });
+        };
+        for place in 0..events.len() {
+            let answer = match self.step(&events[place]) {
+                Ok(answer) => answer,
+                Err(fault) => return Err(RunFault { step: place, fault }),
+            };
+            answers.push_reserved(answer);
+        }
+        Ok(answers)
     }
 
     /// The place that a node holds of a source on a universe: the index, in the list of all data packets that the source ever
@@ -209,4 +265,56 @@ fn shown(frame: Option<[u8; 513]>) -> Answer
         Some(frame) => Answer::Shown(frame),
         None => Answer::NoSuchPort,
     }
+}
+
+/// Whether two shows have one CID.
+fn has_same_cid(consoles: &[(Show, u8)]) -> bool
+    ensures { result ≡ has_same_cid consoles.now }
+{
+    for place in 0..consoles.len() {
+        if has_cid(&consoles[place + 1..], &consoles[place].0.cid()) {
+            return true;
+        }
+    }
+    false
+}
+
+/// Whether a show has this CID.
+fn has_cid(consoles: &[(Show, u8)], cid: &[u8; 16]) -> bool
+    ensures { result ≡ has_cid cid.now consoles.now }
+{
+    for console in consoles {
+        if is_same(cid, &console.0.cid()) {
+            return true;
+        }
+    }
+    false
+}
+
+/// The consoles of these shows, in their life 0.
+fn new_consoles(alloc: Global, shows: Vec<(Show, u8)>) -> Result<Vec<Console>, AllocError>
+    ensures { IfOk result (λ consoles. consoles.items ≡ map new_console shows.items) }
+{
+    let mut consoles = Vec::new(alloc);
+    for (show, first) in shows {
+        let console = Console::new(alloc, show, first)?;
+        if consoles.push(console).is_err() {
+            return Err(AllocError);
+        }
+    }
+    Ok(consoles)
+}
+
+/// The nodes of these setups, which hold nothing.
+fn new_nodes(alloc: Global, setups: Vec<NodeSetup>) -> Result<Vec<Watched>, AllocError>
+    ensures { IfOk result (λ nodes. nodes.items ≡ map (λ n. new_watch n.ports) setups.items) }
+{
+    let mut nodes = Vec::new(alloc);
+    for setup in setups {
+        let node = Watched::new(alloc, setup)?;
+        if nodes.push(node).is_err() {
+            return Err(AllocError);
+        }
+    }
+    Ok(nodes)
 }

@@ -4,8 +4,8 @@ use Rattle.sacn_framing.specs.PacketReading.{reading_packet}
 use Rattle.sacn_world.specs.declared.sent.SentDatagram.{SentDatagram}
 use Rattle.sacn_world.specs.Watches.{Watch, taken_by}
 use Rattle.sacn_world.specs.Wire.{came_of, refusal_by}
-use Rattle.sacn_world.specs.Kept.{seen_world, Kept}
-use Rattle.sacn_world.proofs.Keeping.{Done, no_node_deliver, no_datagram, deliver_refused, deliver_is, deliver_done, put_back, there_is}
+use Rattle.sacn_world.specs.Kept.{seen_world}
+use Rattle.sacn_world.proofs.Keeping.{no_node_deliver, no_datagram, deliver_refused, deliver_is, deliver_done, put_back, there_is}
 use Rattle.sacn_world.proofs.world.World.deliver.Goals as goal
 
 pub returns-then-node-len : goal.returns-then-node-len
@@ -36,8 +36,7 @@ returns-in_default-take c =
     let x : Watch = c.index_mut.result.now in
     let ef = slice_get_read s.sent.items s.sent.len c.args.datagram f (search rules) (omega arith) c.index-sent.ensures in
     let ey = slice_get_read s.nodes.items s.nodes.len c.args.node y (search rules) (omega arith) c.index.ensures in
-    let ex = slice_get_read s.nodes.items s.nodes.len c.args.node x (search rules) (omega arith) c.index_mut.ensures.value in
-    (
+    let ex = slice_get_read s.nodes.items s.nodes.len c.args.node x (search rules) (omega arith) c.index_mut.ensures.value in (
       inr (refl, deliver_is s.consoles.items s.sent.items s.nodes.items c.self.invariant c.args.self.now c.self.view_is c.args.datagram c.args.node c.args.now y f ey ef (sym c.refusal.ensures ∙ c.in_default.is)),
       ap (seen_world s.consoles.items s.sent.items) (put_back s.nodes.items c.args.node x c.take.new.self ex c.in_default-take.ensures.unchanged) ∙ c.self.view_is,
     )

@@ -1,7 +1,7 @@
-use Rattle.std.proofs.Common.{rules, refl, sym, ap, ◌∙◌, arith}
+use Rattle.std.proofs.Common.{rules, refl, sym, arith}
 use Rattle.std.proofs.lemmas.Option.{slice_get_read}
 use Rattle.sacn_world.specs.Watches.{Watch}
-use Rattle.sacn_world.proofs.Keeping.{Done, no_node_look, look_done, answered_as}
+use Rattle.sacn_world.proofs.Keeping.{no_node_look, look_done, answered_as}
 use Rattle.sacn_world.proofs.world.World.look.Goals as goal
 
 pub returns-then-node-len : goal.returns-then-node-len

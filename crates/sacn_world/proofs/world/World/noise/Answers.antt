@@ -4,7 +4,7 @@ use Rattle.sacn_framing.specs.PacketReading.{reading_packet}
 use Rattle.sacn_node.specs.Readings.{reply_to}
 use Rattle.std.specs.Prelude.{is_ok, None}
 use Rattle.sacn_world.specs.Watches.{Watch, taken_by}
-use Rattle.sacn_world.proofs.Keeping.{Done, no_node_noise, noise_refused, noise_done, some_packet, some_fault, there_is}
+use Rattle.sacn_world.proofs.Keeping.{no_node_noise, noise_refused, noise_done, some_packet, some_fault, there_is}
 use Rattle.sacn_world.proofs.world.World.noise.Goals as goal
 
 pub returns-then-node-len : goal.returns-then-node-len

@@ -1,11 +1,8 @@
-use Rattle.std.proofs.Common.{rules, refl, sym, ap, ◌∙◌, arith}
+use Rattle.std.proofs.Common.{rules, refl, sym, ap, arith}
 use Rattle.std.proofs.lemmas.Option.{slice_get_read}
-use Rattle.sacn_console.specs.Core.{answer, at}
 use Rattle.sacn_world.specs.declared.answer.Answer.TheVariants.{Ordered}
-use Rattle.sacn_world.specs.declared.event.Event.TheVariants.{Order}
 use Rattle.sacn_world.specs.declared.console.Console.{Console}
-use Rattle.sacn_world.specs.Kept.{Stepped}
-use Rattle.sacn_world.proofs.Keeping.{Done, no_console_order, order_done, answered_as}
+use Rattle.sacn_world.proofs.Keeping.{no_console_order, order_done, answered_as}
 use Rattle.sacn_world.proofs.world.World.order.Goals as goal
 
 pub returns-then-console-len : goal.returns-then-console-len

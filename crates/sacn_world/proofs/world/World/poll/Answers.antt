@@ -1,9 +1,9 @@
-use Rattle.std.proofs.Common.{rules, refl, sym, ap, subst, ◌∙◌, ◌++◌, ◌∷◌, [], arith, inl, inr, ◌≡◌, None}
+use Rattle.std.proofs.Common.{rules, refl, sym, ap, ◌∙◌, ◌++◌, ◌∷◌, [], arith, inl, inr}
 use Rattle.std.proofs.lemmas.Option.{slice_get_read}
 use Rattle.sacn_world.specs.declared.console.Console.{Console}
 use Rattle.sacn_world.specs.declared.sent.SentDatagram.{SentDatagram}
 use Rattle.sacn_world.specs.Kept.{seen_world}
-use Rattle.sacn_world.proofs.Keeping.{Done, no_console_poll, there_is}
+use Rattle.sacn_world.proofs.Keeping.{no_console_poll, there_is}
 use Rattle.sacn_world.proofs.Posting.{poll_is, idle_done, idle_as, none_due, due_fits, posted_done, done_as}
 use Rattle.sacn_world.proofs.world.World.poll.Goals as goal
 
@@ -21,8 +21,7 @@ returns-in_default c =
 pub returns-in_default-reserve : goal.returns-in_default-reserve
 returns-in_default-reserve c =
     let s = c.self.inside in
-    let y = there_is s.consoles.items c.args.console (omega arith) in
-    (
+    let y = there_is s.consoles.items c.args.console (omega arith) in (
       inr (refl, poll_is s.consoles.items s.sent.items s.nodes.items c.self.invariant c.args.self.now c.self.view_is c.args.console c.args.now y.0 y.1),
       ap (λ fs. seen_world s.consoles.items fs s.nodes.items) c.in_default-reserve.ensures.items ∙ c.self.view_is,
     )
