@@ -5,7 +5,7 @@ use Rattle.sacn_world.specs.declared.answer.Answer.{Answer}
 use Rattle.sacn_world.specs.declared.event.Event.{Event}
 use Rattle.sacn_world.specs.declared.fault.WorldFault.{WorldFault}
 use Rattle.sacn_world.specs.declared.fault.WorldFault.TheVariants.{OutOfMemory}
-use Rattle.sacn_world.specs.Worlds.{World, Step, step, takes_memory}
+use Rattle.sacn_world.specs.Worlds.{World, Step, step, takes_memory, after, left_by}
 use Rattle.sacn_world.specs.Kept.{IsAccepted, SteppedBy}
 use Rattle.sacn_world.specs.Running.{Ran, answered_first, first_then, ran, Stopped}
 
@@ -55,3 +55,15 @@ pub read_at : {X : Type 0} (xs : List X) (i : ℕ) (x : X) → i < length xs →
 read_at [] i x lt e = absurd (omega (arith, lt))
 read_at (y ∷ ys) zero x lt e = ap Some (sym e)
 read_at (y ∷ ys) (suc i) x lt e = read_at ys i x (omega (arith, lt)) e
+
+-- a run that is answered leaves the world after its events
+pub ran_after : (w : World) (es : List Event) (r : Ran) → ran w es ≡ Some r → after w es ≡ r.world
+ran_after w [] r h = ap (λ (x : Ran). x.world) (same_Some _ _ h)
+ran_after w (e ∷ es) r h =
+    elim (step w e) as (λ t. first_then t (λ v. ran v es) ≡ Some r → after (left_by w t) es ≡ r.world) [
+      | Err f ↦ λ g. absurd (cc)
+      | Ok o ↦ λ g. elim (ran o.world es) as (λ q. ran o.world es ≡ q → answered_first o.answer q ≡ Some r → after o.world es ≡ r.world) [
+        | None ↦ λ a b. absurd (cc)
+        | Some q ↦ λ a b. ran_after o.world es q a ∙ ap (λ (x : Ran). x.world) (same_Some _ _ b)
+      ] refl g
+    ] h

@@ -18,6 +18,7 @@ use Rattle.sacn_world.specs.Holdings.{Hold, hold_of, answer, delivered}
 use Rattle.sacn_world.specs.Seen.{seen, rows_of}
 use Rattle.sacn_world.specs.Nodes.{Holding, Node, holding_of, slots, node_slots, seen_core}
 use Rattle.sacn_world.specs.Worlds.{World, Outcome, step, after, new_console, new_world, Apart}
+use Rattle.sacn_world.specs.Running.{Ran, ran}
 use Rattle.sacn_world.specs.Counts.{count_step, count_run, no_count, Shows}
 use Rattle.sacn_world.specs.Members.{HeldOn, SameShown}
 
@@ -84,3 +85,7 @@ SamePlacesGiveTheSameLevels =
     let v = after w later in
     (on : HeldOn w i u hs) (off : HeldOn v j u gs) → SameShown u w.sent hs v.sent gs →
     (rs qs : List SlotRange) (a b : ℕ) → 0 < a → 0 < b → ShowTheSame u rs qs a b → octet_at (node_slots w.sent on.node) rs a ≡ octet_at (node_slots v.sent off.node) qs b
+
+-- A run that is answered leaves the world after its events, of which the other laws speak
+abbrev pub RunsLeaveTheWorldAfter : Type 0
+RunsLeaveTheWorldAfter = (w : World) (events : List Event) (r : Ran) → ran w events ≡ Some r → after w events ≡ r.world

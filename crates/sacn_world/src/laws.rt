@@ -3,7 +3,7 @@
 //!
 //! A refused event leaves a world as it was, so each law holds of the lists that a world accepts.
 
-ghost use Rattle.sacn_world.specs.Laws.{NumbersAnswerAsPlacesDo, HeldPlacesAreLater, PlacesNeverGoBack, RowsAreOfPlaces, TwentyOneInARowAreShown, SamePlacesGiveTheSameSlots, SamePlacesGiveTheSameLevels};
+ghost use Rattle.sacn_world.specs.Laws.{NumbersAnswerAsPlacesDo, HeldPlacesAreLater, PlacesNeverGoBack, RowsAreOfPlaces, TwentyOneInARowAreShown, SamePlacesGiveTheSameSlots, SamePlacesGiveTheSameLevels, RunsLeaveTheWorldAfter};
 
 use sacn_slots::laws::merge_is_of_a_set;
 
@@ -34,3 +34,8 @@ pub fn same_places_same_slots()
 {
     merge_is_of_a_set();
 }
+
+/// A run that is answered leaves the world after its events, of which the other laws speak.
+pub fn runs_leave_the_world_after()
+    ensures { RunsLeaveTheWorldAfter }
+{}
