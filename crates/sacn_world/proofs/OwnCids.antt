@@ -8,11 +8,11 @@ use Rattle.std.proofs.lemmas.List.Kept.{AllPairs-cons}
 use Rattle.std.proofs.lemmas.Slice.Eq.{bytes_eq-Decides}
 use Rattle.sacn_world.specs.Cids.{Desk, same_cid, has_same_cid, HaveOwnCids}
 
-or_parts : (a b : Bool) → a || b ≡ false → (a ≡ false) × (b ≡ false)
+pub or_parts : (a b : Bool) → a || b ≡ false → (a ≡ false) × (b ≡ false)
 or_parts false b h = (refl, h)
 or_parts true b h = let bad : ⊥ = cc in absurd bad
 
-differ : (d e : Desk) → same_cid d e ≡ false → d.0.cid ≢ e.0.cid
+pub differ : (d e : Desk) → same_cid d e ≡ false → d.0.cid ≢ e.0.cid
 differ d e h = λ same. let equal : bytes_eq d.0.cid e.0.cid ≡ true = (bytes_eq-Decides d.0.cid e.0.cid).1 same in let bad : ⊥ = cc in bad
 
 none_same : (d : Desk) (ds : List Desk) → list_any (λ e. same_cid d e) ds ≡ false → AllByRecursion (λ e. d.0.cid ≢ e.0.cid) ds

@@ -1,5 +1,5 @@
 -- Consoles, nodes, and a network that loses, repeats and delays: what a world answers to events.
-use Rattle.std.specs.Prelude.{◌≡◌, ℕ, ◌+◌, ◌%◌, ◌<◌, ◌≤◌, List, [], ◌∷◌, ◌++◌, map, length, count_by, slice_get, slice_set, ◌==◌, ◌&&◌, Bool, true, false, if◌then◌else◌, Option, Some, None, Result, Ok, Err}
+use Rattle.std.specs.Prelude.{◌≡◌, ℕ, ◌+◌, ◌%◌, ◌<◌, ◌≤◌, List, [], ◌∷◌, ◌++◌, map, length, count_by, slice_get, slice_set, ◌==◌, ◌&&◌, Bool, true, false, Option, Some, None, Result, Ok, Err}
 use Rattle.std.specs.List.{AllByRecursion}
 use Rattle.sacn_framing.specs.declared.packet.Packet.{Packet}
 use Rattle.sacn_framing.specs.declared.packet.Packet.TheVariants.{DataPacket, PagePacket, SyncPacket}
@@ -28,7 +28,6 @@ use Rattle.sacn_world.specs.declared.fault.WorldFault.TheVariants.{NoConsole, No
 use Rattle.sacn_world.specs.Streams.{Sent, at, life_at, is_of, stream_of, place_of, Ordered}
 use Rattle.sacn_world.specs.Holdings.{Hold, hold_of, newest, refusal}
 use Rattle.std.specs.Option.{option_map}
-use Rattle.sacn_sources.specs.Order.{same}
 use Rattle.sacn_sources.specs.Rows.{Row}
 use Rattle.sacn_world.specs.Seen.{packet_at, seen}
 use Rattle.sacn_world.specs.Nodes.{Holding, Node, node_of, node_reply, node_after, node_at, frame_of, holding_of, HoldOk}
@@ -162,15 +161,6 @@ new_console s = begun s.0 0 s.1
 
 abbrev pub new_world : List (ShowContent × ℕ) → List (List Port) → World
 new_world shows setups = record { consoles = map new_console shows; sent = []; nodes = map node_of setups }
-
--- a show has this CID, and two shows have one CID
-abbrev pub has_cid : List ℕ → List (ShowContent × ℕ) → Bool
-has_cid cid [] = false
-has_cid cid (s ∷ ss) = if same cid s.0.cid then true else has_cid cid ss
-
-abbrev pub has_same_cid : List (ShowContent × ℕ) → Bool
-has_same_cid [] = false
-has_same_cid (s ∷ ss) = if has_cid s.0.cid ss then true else has_same_cid ss
 
 -- no two consoles have one CID
 abbrev pub Apart : List Console → Type 0

@@ -5,13 +5,14 @@ ghost use Rattle.sacn_world.specs.Kept.{Stepped, SteppedWithRoom, SteppedBy};
 ghost use Rattle.sacn_world.specs.Watches.{new_watch};
 ghost use Rattle.sacn_world.specs.declared.fault.NewFault.TheVariants.{SameCid, OutOfMemory};
 ghost use Rattle.sacn_world.specs.Running.{ran, Stopped};
-ghost use Rattle.sacn_world.specs.Worlds.{step, new_world, new_console, has_cid, has_same_cid, shown, place_at, row_at};
+ghost use Rattle.sacn_world.specs.Cids.{has_same_cid};
+ghost use Rattle.sacn_world.specs.Worlds.{step, new_world, new_console, shown, place_at, row_at};
 
 use crate::answer::Answer;
+use crate::cids::has_same_cid;
 use crate::console::Console;
 use crate::event::Event;
 use crate::fault::{NewFault, RunFault, WorldFault};
-use crate::mark::is_same;
 use crate::sent::SentDatagram;
 use crate::watched::Watched;
 use sacn_console::limits::MOST_OCTETS;
@@ -265,30 +266,6 @@ fn shown(frame: Option<[u8; 513]>) -> Answer
         Some(frame) => Answer::Shown(frame),
         None => Answer::NoSuchPort,
     }
-}
-
-/// Whether two shows have one CID.
-fn has_same_cid(consoles: &[(Show, u8)]) -> bool
-    ensures { result ≡ has_same_cid consoles.now }
-{
-    for place in 0..consoles.len() {
-        if has_cid(&consoles[place + 1..], &consoles[place].0.cid()) {
-            return true;
-        }
-    }
-    false
-}
-
-/// Whether a show has this CID.
-fn has_cid(consoles: &[(Show, u8)], cid: &[u8; 16]) -> bool
-    ensures { result ≡ has_cid cid.now consoles.now }
-{
-    for console in consoles {
-        if is_same(cid, &console.0.cid()) {
-            return true;
-        }
-    }
-    false
 }
 
 /// The consoles of these shows, in their life 0.
