@@ -1,4 +1,9 @@
 //! Consoles, nodes and the network between them, event by event.
+//!
+//! A [`World`] is made of shows and of node setups, and takes [`Event`]s: orders and polls of a console, deliveries of sent
+//! datagrams to a node in any order, repeated or late, looks at a port, restarts, and noise. Its value knows places, the indices
+//! of packets in unbounded streams; its nodes read octets and know eight-bit numbers alone. Each call's contract is the world's
+//! rule by places, and `laws` says what holds of every list of events.
 #![tactic(auto)]
 
 mod answer;
