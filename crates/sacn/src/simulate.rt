@@ -7,7 +7,8 @@ use crate::fault::SimFault;
 use crate::look::{frame_words, look_line};
 use sacn_edge::{Out, write_text};
 use sacn_world::{
-    Answer, Event, NewFault, TextFault, World, WorldFault, WorldTextFault, read_schedule, read_world,
+    Answer, Event, NewFault, TextFault, World, WorldFault, WorldTextFault, read_schedule,
+    read_world,
 };
 use std::alloc::{AllocError, Global};
 

@@ -1,8 +1,12 @@
 //! Consoles, nodes and the network between them, event by event.
 //!
-//! A [`World`] keeps any number of consoles and nodes, and every datagram that was sent; an [`Event`] is one call of one
-//! of them. `read_world` reads a world's consoles and nodes from a TOML document, and `read_schedule` the events of a
-//! schedule, a line each.
+//! A [`World`] is made of shows and of node setups, and takes [`Event`]s: orders and polls of a console, deliveries of sent
+//! datagrams to a node in any order, repeated or late, looks at a port, restarts, and noise. Its value knows places, the indices
+//! of packets in unbounded streams; its nodes read octets and know eight-bit numbers alone. Each call's contract is the world's
+//! rule by places, and `laws` says what holds of every list of events.
+//!
+//! `read_world` reads a world's consoles and nodes from a TOML document, and `read_schedule` the events of a schedule, a line
+//! each.
 #![tactic(auto)]
 
 mod answer;

@@ -4,10 +4,11 @@ use sacn_console::{Command, Show, read_show};
 use sacn_node::{NodeSetup, NodeTaken, read_node};
 use sacn_root::PacketFault;
 use sacn_sources::Taken;
-use std::alloc::Global;
+use std::alloc::{AllocError, Global};
 use std::test::Fail;
 
-const DESK: &str = "version = 1\ncid = \"00010203-0405-0607-0809-0a0b0c0d0e0f\"\nname = \"Desk\"\nuniverses = [1]\n[[cue]]\nnumber = 1\nfade = 0\nlevels = [[1, 65535]]\n[[patch]]\nchannel = 1\nuniverse = 1\nslot = 1\n";
+const DESK: &str =
+    "version = 1\ncid = \"00010203-0405-0607-0809-0a0b0c0d0e0f\"\nname = \"Desk\"\nuniverses = [1]\n[[cue]]\nnumber = 1\nfade = 0\nlevels = [[1, 65535]]\n[[patch]]\nchannel = 1\nuniverse = 1\nslot = 1\n";
 
 const ONE_PORT: &str = "version = 1\n[[port]]\nnumber = 1\nuniverse = 1\n";
 
@@ -127,8 +128,14 @@ fn too_far_behind(rt: HostRuntime) -> Result<(), Fail> {
     assert_eq!(rt; take(&mut world, 0), Err(WorldFault::TooFarBehind));
     assert!(rt; all_late(&mut world, 1, 2));
     assert_eq!(rt; take(&mut world, 999), Err(WorldFault::NoDatagram));
-    assert_eq!(rt; world.step(&Event::Poll(5, 0)).err(), Some(WorldFault::NoConsole));
-    assert_eq!(rt; world.step(&Event::RestartNode(5)).err(), Some(WorldFault::NoNode));
+    assert_eq!(rt;
+        world.step(&Event::Poll(5, 0)).err(),
+        Some(WorldFault::NoConsole)
+    );
+    assert_eq!(rt;
+        world.step(&Event::RestartNode(5)).err(),
+        Some(WorldFault::NoNode)
+    );
     Ok(())
 }
 
@@ -136,7 +143,10 @@ fn too_far_behind(rt: HostRuntime) -> Result<(), Fail> {
 fn two_shows_of_one_cid(rt: HostRuntime) -> Result<(), Fail> {
     let shows = shows(rt.alloc(), 2, 0)?;
     let setups = setups(rt.alloc())?;
-    assert_eq!(rt; World::new(rt.alloc(), shows, setups).err(), Some(NewFault::SameCid));
+    assert_eq!(rt;
+        World::new(rt.alloc(), shows, setups).err(),
+        Some(NewFault::SameCid)
+    );
     Ok(())
 }
 
@@ -159,6 +169,27 @@ fn a_node_starts_anew(rt: HostRuntime) -> Result<(), Fail> {
     Ok(())
 }
 
+/// The shortest data packet, without slots, up to its source name.
+const SHORTEST: [u8; 48] = [
+    0x00, 0x10, 0x00, 0x00, 0x41, 0x53, 0x43, 0x2d, 0x45, 0x31, 0x2e, 0x31, 0x37, 0x00, 0x00, 0x00,
+    0x70, 0x6e, 0x00, 0x00, 0x00, 0x04, 0, 1, 2, 3, 4, 5, 6, 7, 8, 9, 10, 11, 12, 13, 14, 15, 0x70,
+    0x58, 0x00, 0x00, 0x00, 0x02, 0x44, 0x65, 0x73, 0x6b,
+];
+
+/// And what follows the name, which has 60 octets more.
+const SHORTEST_END: [u8; 18] = [
+    0x64, 0x00, 0x00, 0x00, 0x00, 0x00, 0x01, 0x70, 0x0b, 0x02, 0xa1, 0x00, 0x00, 0x00, 0x01, 0x00,
+    0x01, 0x00,
+];
+
+fn shortest(alloc: Global) -> Result<Vec<u8>, AllocError> {
+    let mut octets = Vec::new(alloc);
+    octets.extend_from_slice(&SHORTEST)?;
+    octets.extend_from_slice(&[0; 60])?;
+    octets.extend_from_slice(&SHORTEST_END)?;
+    Ok(octets)
+}
+
 /// Octets of no length are noise; the shortest data packet is none.
 #[test]
 fn noise(rt: HostRuntime) -> Result<(), Fail> {
@@ -169,6 +200,10 @@ fn noise(rt: HostRuntime) -> Result<(), Fail> {
         }
         _ => return Err("not taken".into()),
     }
+    let packet = shortest(rt.alloc())?;
+    assert_eq!(rt; packet.len(), 126);
+    let fault = world.step(&Event::Noise(0, 0, packet)).err();
+    assert_eq!(rt; fault, Some(WorldFault::NoiseIsPacket));
     Ok(())
 }
 
