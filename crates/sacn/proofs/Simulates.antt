@@ -1,5 +1,5 @@
 -- One event more.
-use Rattle.std.proofs.Common.{subst, inl, inr, Bool, true, false, ◌⊎◌, IfErr, ◌≡◌, ℕ, zero, suc, ◌+◌, ◌<◌, ◌≤◌, List, [], ◌∷◌, ◌++◌, length, get_or, take, drop, Some, None, Result, Ok, Err, refl, sym, ap, ◌∙◌, append_assoc, arith}
+use Rattle.std.proofs.Common.{subst, inl, inr, Bool, true, false, ◌⊎◌, IfErr, ◌≡◌, ℕ, ◌+◌, ◌<◌, ◌≤◌, List, [], ◌++◌, length, get_or, take, drop, Some, None, Result, Ok, Err, refl, sym, ap, ◌∙◌, append_assoc, arith}
 use Rattle.std.proofs.lemmas.List.{length-append, append-nil, drop_all, take-append-le, take_at}
 use Rattle.sacn_world.specs.declared.answer.Answer.{Answer}
 use Rattle.sacn_world.specs.declared.event.Event.{Event}
@@ -8,7 +8,7 @@ use Rattle.sacn_world.specs.declared.fault.NewFault.{NewFault}
 use Rattle.sacn_world.specs.declared.fault.NewFault.TheVariants as new
 use Rattle.sacn_world.specs.Cids.{Desk, HaveOwnCids, has_same_cid}
 use Rattle.sacn_world.proofs.OwnCids.{tested}
-use Rattle.sacn_world.specs.Worlds.{World, Outcome, Step, step}
+use Rattle.sacn_world.specs.Worlds.{World, Step, step}
 use Rattle.sacn_world.specs.WorldFile.{WorldContent}
 use Rattle.sacn.specs.declared.fault.SimFault.{SimFault}
 use Rattle.sacn.specs.declared.fault.SimFault.TheVariants as sim

@@ -1,5 +1,5 @@
 -- What a simulation prints: the lines of the looks among a world's answers.
-use Rattle.std.specs.Prelude.{◌≡◌, ◌⊎◌, ℕ, ◌+◌, ◌<◌, List, [], ◌∷◌, ◌++◌, codes, length, map, take, Bool, true, false, Option, Some, None, Result, Ok, Err}
+use Rattle.std.specs.Prelude.{◌≡◌, ◌⊎◌, ℕ, ◌+◌, ◌<◌, List, [], ◌∷◌, ◌++◌, codes, length, map, take, Bool, true, false, Option, Some, None, Ok, Err}
 use Rattle.toml.specs.Parse.{parse_document}
 use Rattle.sacn_world.specs.declared.answer.Answer.{Answer}
 use Rattle.sacn_world.specs.declared.answer.Answer.TheVariants as answered
@@ -9,7 +9,7 @@ use Rattle.sacn_world.specs.declared.fault.WorldFault.{WorldFault}
 use Rattle.sacn_world.specs.Events.{happening}
 use Rattle.sacn_world.specs.Schedules.{schedule_in}
 use Rattle.sacn_world.specs.WorldFile.{WorldContent, world_or_toml}
-use Rattle.sacn_world.specs.Worlds.{World, Outcome, Step, step, new_world}
+use Rattle.sacn_world.specs.Worlds.{World, Step, step, new_world}
 use Rattle.sacn.specs.Looks.{look_line, frame_words}
 use Rattle.sacn.specs.declared.fault.SimFault.{SimFault}
 use Rattle.sacn.specs.declared.fault.SimFault.TheVariants as sim

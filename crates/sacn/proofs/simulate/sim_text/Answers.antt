@@ -1,4 +1,4 @@
-use Rattle.std.proofs.Common.{◌≡◌, List, ℕ, ◌∙◌, sym, map}
+use Rattle.std.proofs.Common.{List, ℕ}
 use Rattle.sacn_edge.specs.Told.{Adds}
 use Rattle.sacn.proofs.Simulates.{stops_at, never_twins}
 use Rattle.sacn.proofs.simulate.sim_text.Goals as goal
