@@ -12,6 +12,7 @@ mod nodes;
 mod patches;
 mod sources;
 mod world_files;
+mod worlds;
 
 use std::alloc::AllocError;
 use std::process::ExitCode;
@@ -47,6 +48,7 @@ fn calls_made(rt: &impl AllocGlobal) -> Result<Outcome, AllocError> {
     let nodes = nodes::calls_made(rt.alloc());
     let consoles = consoles::calls_made(rt.alloc());
     let world_files = world_files::calls_made(rt.alloc());
+    let worlds = worlds::calls_made(rt.alloc());
     Ok(
         patches
             .then(cues)
@@ -54,7 +56,8 @@ fn calls_made(rt: &impl AllocGlobal) -> Result<Outcome, AllocError> {
             .then(sources)
             .then(nodes)
             .then(consoles)
-            .then(world_files),
+            .then(world_files)
+            .then(worlds),
     )
 }
 
