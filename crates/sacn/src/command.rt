@@ -14,8 +14,8 @@ const EXAMPLE: &str = "Examples, in a clone of the repository:
   ./sacn < examples/desk.hex
   ./sacn decode examples/levels.sacn examples/universes.sacn
   ./sacn sim examples/world.toml examples/schedule.txt
-  ./sacn node examples/node.toml --turns 2000000 &
-  ./sacn console examples/show.toml examples/script.txt --turns 2000000
+  ./sacn node examples/node.toml --turns 40000000 &
+  ./sacn console examples/show.toml examples/script.txt --turns 10000000
 
 Exit status: 0; 2 bad words; 3 refused input; 4 a device failed.";
 
