@@ -1,7 +1,7 @@
 //! A console and a node on 127.0.0.1.
 use crate::ending::Ending;
-use sacn_console::{ConsoleCore, read_script, read_show};
-use sacn_edge::{SystemClock, UdpLink, WriterOut, run_console, run_node};
+use sacn_console::{Command, ConsoleCore, Show, read_script, read_show};
+use sacn_edge::{ConsoleReport, SystemClock, UdpLink, WriterOut, run_console, run_node};
 use sacn_node::{NodeCore, read_node};
 use std::io::Write;
 use std::net::Net;
@@ -15,13 +15,38 @@ pub fn console<R: AllocGlobal + Net + Clock, O: Write>(
     turns: u64,
     out: &mut O,
 ) -> Result<(), Ending> {
-    let alloc = rt.alloc();
-    let show = read_show(alloc, texts.0)?;
-    let script = read_script(alloc, texts.1)?;
-    let mut core = ConsoleCore::new(alloc, &show, first)?;
+    let show = read_show(rt.alloc(), texts.0)?;
+    let report = perform(rt, &show, texts.1, first, turns)?;
+    tell(report, out)
+}
+
+// Reads the script, and plays it. (The check of a function takes much longer the more values it has to drop on its ways out.)
+fn perform<R: AllocGlobal + Net + Clock>(
+    rt: &R,
+    show: &Show,
+    script: &str,
+    first: u8,
+    turns: u64,
+) -> Result<ConsoleReport, Ending> {
+    let script = read_script(rt.alloc(), script)?;
+    play(rt, show, script.as_slice(), first, turns)
+}
+
+// Sends the show on a socket of its own.
+fn play<R: AllocGlobal + Net + Clock>(
+    rt: &R,
+    show: &Show,
+    script: &[(u64, Command)],
+    first: u8,
+    turns: u64,
+) -> Result<ConsoleReport, Ending> {
+    let mut core = ConsoleCore::new(rt.alloc(), show, first)?;
     let mut link = UdpLink::bind(rt, 0, show.send_to())?;
     let mut clock = SystemClock::new(rt);
-    let report = run_console(&mut link, &mut clock, &mut core, script.as_slice(), turns);
+    Ok(run_console(&mut link, &mut clock, &mut core, script, turns))
+}
+
+fn tell<O: Write>(report: ConsoleReport, out: &mut O) -> Result<(), Ending> {
     let line = writeln!(
         out,
         "sent {} failed {} refused {}",

@@ -1,0 +1,142 @@
+#!/usr/bin/env bash
+# The launcher's ways to fail, over a small tree of no real crates and a kit that only pretends: each says what it met, and leaves nothing behind.
+# Prints 'ok NAME', 'not ok NAME: why' or 'skipped NAME: why' for each, as ./test counts them.
+set -u
+top=$(cd "$(dirname "$(readlink -f "$0")")/.." && pwd)
+room=$(mktemp -d)
+trap 'rm -rf "$room"' EXIT
+tree=$room/tree
+mkdir -p "$tree/tools" "$room/bin" "$room/rooms"
+cp "$top/sacn" "$tree/"
+cp "$top/tools/prove.py" "$top/tools/kit" "$tree/tools/"
+echo "Handles allowed: Net." >"$tree/HANDLES"
+printf '%s\n' "low:" "left: low" "right: low" "sacn: left right" "apart: low" >"$tree/crates.txt"
+for name in low left right sacn apart; do
+  mkdir -p "$tree/crates/$name/src"
+  echo "//! $name" >"$tree/crates/$name/src/lib.rt"
+done
+
+# The kit that pretends: KIT_SAYS is its version, KIT_FAILS the crate that it can't prove, KIT_SLEEPS for how long a proof takes.
+cat >"$room/bin/rt" <<'KIT'
+#!/usr/bin/env bash
+name=$(basename "$PWD")
+case $1 in
+  version) echo "${KIT_SAYS-$(cat "$KIT_FILE")}" ;;
+  lib | run)
+    echo "$name" >>"$KIT_LOG"
+    sleep "${KIT_SLEEPS:-0}"
+    [ "$name" != "${KIT_FAILS-}" ] || { echo "fn $name::wrong: not proved"; exit 1; }
+    mkdir -p out/rlib && echo built >out/rlib/stamp
+    if [ "$1" = run ]; then printf '#!/bin/sh\necho proved "$@"\n' >out/sacn; chmod +x out/sacn; fi
+    ;;
+  try) cat >/dev/null; echo tried "$@"; echo "checked: ended status=3" >&2; echo "run=ended status=3 runners=1 proved=no" >&2; echo "refused TooShort" >&2; exit 3 ;;
+esac
+KIT
+chmod +x "$room/bin/rt"
+export KIT_FILE=$tree/tools/kit KIT_LOG=$room/log TMPDIR=$room/rooms
+usual=$PATH
+
+# Runs the launcher with the kit that pretends; what it said and its status are left in $room.
+launch() {
+  : >"$KIT_LOG"
+  PATH=$room/bin:$usual "$tree/sacn" "$@" >"$room/out" 2>"$room/err" </dev/null
+  status=$?
+}
+anew() { rm -rf "$tree"/crates/*/out; }
+says() { grep -qF -- "$1" "$room/err"; }
+prints() { grep -qF -- "$1" "$room/out"; }
+# check NAME TEST..: the test's answer is the case's.
+check() {
+  local name=$1
+  shift
+  if "$@"; then echo "ok launcher: $name"; else
+    echo "not ok launcher: $name: $* (status $status)"
+    sed 's/^/# /' "$room/err"
+  fi
+}
+nothing_left() { [ -z "$(ls -A "$room/rooms")" ] && ! pgrep -f "$room/bin/rt" >/dev/null; }
+refused() { [ "$status" = 1 ] && says "$1"; }
+
+no_kit() {
+  PATH=$room/none:/usr/bin:/bin "$tree/sacn" prove >"$room/out" 2>"$room/err" </dev/null
+  status=$?
+  refused "the kit's command rt isn't on the PATH"
+}
+if PATH=/usr/bin:/bin command -v rt >/dev/null; then echo "skipped launcher: no kit: a kit is in /usr/bin"; else check "no kit is named, with where it looked" no_kit; fi
+
+another_kit() { KIT_SAYS="rattle-kit-99" launch prove; refused "wants $(cat "$KIT_FILE")" && says "it is rattle-kit-99"; }
+check "another kit than the tree's is named, with where it stands" another_kit
+
+runs_unproved() { anew; launch; [ "$status" = 3 ] && prints "tried" && says "isn't proved on this machine yet: ./sacn prove" && says "refused TooShort" && ! says "run=ended"; }
+check "what lights no stage runs unproved at once, and says so" runs_unproved
+
+stage_is_proved() { anew; launch node x; [ "$status" = 0 ] && prints "proved node x" && ! prints tried; }
+check "what lights a stage is proved first" stage_is_proved
+
+not_needed_is_left() { ! grep -qx apart "$KIT_LOG" && [ "$(tail -n 1 "$KIT_LOG")" = sacn ] && [ "$(head -n 1 "$KIT_LOG")" = low ]; }
+check "what the program doesn't stand on isn't proved, and what it stands on comes first" not_needed_is_left
+
+built_is_used() { launch decode; [ "$status" = 0 ] && prints "proved decode" && [ ! -s "$KIT_LOG" ]; }
+check "a build of this very tree is used" built_is_used
+
+changed_is_not_used() { echo "//! more" >>"$tree/crates/left/src/lib.rt"; launch decode; [ "$status" = 3 ] && prints tried; }
+check "a build of another tree isn't" changed_is_not_used
+
+failing_crate() { anew; KIT_FAILS=left launch prove; refused "left was not proved" && says "fn left::wrong: not proved" && [ ! -e "$tree/crates/sacn/out/sacn" ]; }
+check "a crate that isn't proved is named, with the end of its log" failing_crate
+check "and nothing of the run is left" nothing_left
+
+interrupted() {
+  anew
+  : >"$KIT_LOG"
+  (PATH=$room/bin:$usual KIT_SLEEPS=30 exec setsid "$tree/sacn" prove >"$room/out" 2>"$room/err" </dev/null) &
+  for _ in $(seq 100); do grep -q low "$KIT_LOG" && break; sleep 0.05; done
+  pkill -INT -f "$tree/tools/prove.py"
+  wait $!
+  status=$?
+  [ "$status" = 130 ] && says "interrupted; what was proved is kept"
+}
+check "an interrupt ends the run" interrupted
+check "and leaves no process and no room" nothing_left
+
+goes_on() { anew; KIT_FAILS=right launch prove; [ -e "$tree/crates/low/out/rlib/stamp" ] && launch prove && [ -x "$tree/crates/sacn/out/sacn" ]; }
+check "the next start goes on from what was proved" goes_on
+
+two_at_once() {
+  anew
+  PATH=$room/bin:$usual KIT_SLEEPS=1 "$tree/sacn" prove >/dev/null 2>&1 </dev/null &
+  sleep 0.7
+  KIT_LOG=$KIT_LOG.own launch prove
+  wait
+  [ "$status" = 0 ] && says "another run proves this tree; waiting for it to end" && [ ! -s "$KIT_LOG.own" ] && [ -x "$tree/crates/sacn/out/sacn" ]
+}
+check "a second run waits for the first, says so, and takes what that built" two_at_once
+
+full_disk() {
+  anew
+  launch prove
+  : >"$KIT_LOG"
+  echo "//! more" >>"$tree/crates/low/src/lib.rt"
+  head -c 200000 /dev/zero >>"$tree/crates/low/src/lib.rt"
+  TMPDIR=$room/small launch prove
+  [ "$status" = 1 ] && says "No space left on device"
+}
+mkdir "$room/small"
+if mount -t tmpfs -o size=64k none "$room/small" 2>/dev/null; then
+  check "no room on the disk is said" full_disk
+  umount "$room/small"
+else
+  echo "skipped launcher: no room on the disk: this machine lets no small disk be made"
+fi
+
+every_command_is_placed() {
+  local words stage name
+  words=$("$top/crates/sacn/out/sacn" --help 2>/dev/null | sed -n '/^Commands:/,/^$/s/^  \([a-z]*\) .*/\1/p')
+  stage=$(sed -n 's/^stage="\(.*\)"$/\1/p' "$top/sacn")
+  for name in $words; do
+    case " $stage decode sim groups explain check manual completion " in *" $name "*) ;; *) echo "# $name"; return 1 ;; esac
+  done
+  [ -n "$words" ]
+}
+status=0
+if [ -x "$top/crates/sacn/out/sacn" ]; then check "each command of the program is known to light a stage or not to" every_command_is_placed; else echo "skipped launcher: each command is placed: the program isn't built"; fi

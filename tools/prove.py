@@ -1,0 +1,248 @@
+#!/usr/bin/env python3
+"""Proves the crates that a program stands on, side by side, and then builds the program.
+
+usage: prove.py PROGRAM SUM [--cpu NAME]
+
+SUM stands for all that the program is made from; it is written beside the program, with the processor that it is built for.
+
+Each crate is proved in a room of its own, a folder with the crate and what is built of the crates below it, so that no check
+waits for another that it has nothing to do with. What a crate's check keeps goes back into the crate's out/, also where the
+run is ended: the next run goes on from there. Status 0: built; 1: not; 130: interrupted.
+"""
+import fcntl
+import os
+import shutil
+import signal
+import subprocess
+import sys
+import tempfile
+import time
+
+TOP = os.path.dirname(os.path.dirname(os.path.realpath(__file__)))
+# The most memory that the check of a crate was seen to take, in bytes.
+NEED = 3_500_000_000
+MOST_JOBS = 4
+# The processor that the kit builds for where none is named.
+DEFAULT_CPU = "x86-64-v2"
+LAST_LINES = 20
+PARTS = ("src", "specs", "proofs")
+
+
+class Stopped(Exception):
+    """The run ends: why, for a person."""
+
+
+def say(text):
+    print(f"sacn: {text}", file=sys.stderr, flush=True)
+
+
+def libraries():
+    """The crates of crates.txt, each with the crates of the repository that it names."""
+    found = {}
+    with open(f"{TOP}/crates.txt", encoding="utf-8") as lines:
+        for line in lines:
+            name, colon, below = line.partition("#")[0].partition(":")
+            if colon:
+                found[name.split()[0]] = below.split()
+    return {name: [it for it in below if it in found] for name, below in found.items()}
+
+
+def below(crates, name):
+    """All crates below one, lowest first."""
+    found = []
+    for it in crates[name]:
+        found += [other for other in [*below(crates, it), it] if other not in found]
+    return found
+
+
+def lanes():
+    """How many checks run side by side: one a processor, and no more than there is memory for."""
+    processors = len(os.sched_getaffinity(0))
+    with open("/proc/meminfo", encoding="utf-8") as lines:
+        free = next((1024 * int(it.split()[1]) for it in lines if it.startswith("MemAvailable:")), NEED)
+    return max(1, min(processors, free // NEED))
+
+
+def link_or_copy(source, to):
+    try:
+        os.link(source, to)
+    except OSError:
+        shutil.copy2(source, to)
+
+
+class Proof:
+    """The check of one crate, in a room of its own."""
+
+    def __init__(self, name, lower, command):
+        self.name = name
+        self.home = f"{TOP}/crates/{name}"
+        self.room = tempfile.mkdtemp(prefix="sacn-prove-")
+        self.log = f"{self.room}/log"
+        self.command = command
+        self.process = None
+        self.began = time.monotonic()
+        try:
+            self.fill(lower)
+            with open(self.log, "wb") as log:
+                self.process = subprocess.Popen(
+                    self.command,
+                    cwd=f"{self.room}/crates/{name}",
+                    stdin=subprocess.DEVNULL,
+                    stdout=log,
+                    stderr=subprocess.STDOUT,
+                    start_new_session=True,
+                )
+        except OSError:
+            self.leave()
+            raise
+
+    def fill(self, lower):
+        shutil.copy2(f"{TOP}/HANDLES", self.room)
+        with open(f"{TOP}/crates.txt", encoding="utf-8") as lines, open(f"{self.room}/crates.txt", "w", encoding="utf-8") as own:
+            own.writelines(it for it in lines if it.split(":")[0].split()[:1] in [[name] for name in [*lower, self.name]])
+        for name in lower:
+            self.bring(name, "out/rlib")
+        self.bring(self.name)
+        if os.path.isdir(f"{self.home}/out"):
+            shutil.move(f"{self.home}/out", f"{self.room}/crates/{self.name}/out")
+
+    def bring(self, name, *more):
+        for part in (*PARTS, *more):
+            if os.path.isdir(f"{TOP}/crates/{name}/{part}"):
+                shutil.copytree(f"{TOP}/crates/{name}/{part}", f"{self.room}/crates/{name}/{part}", copy_function=link_or_copy)
+
+    def end(self):
+        """Ends the check and all that it started."""
+        if self.process and self.process.poll() is None:
+            os.killpg(self.process.pid, signal.SIGKILL)
+            self.process.wait()
+
+    def leave(self):
+        """Gives the crate back what its check kept, and clears the room."""
+        made = f"{self.room}/crates/{self.name}/out"
+        if os.path.isdir(made):
+            shutil.rmtree(f"{self.home}/out", ignore_errors=True)
+            shutil.move(made, f"{self.home}/out")
+        shutil.rmtree(self.room, ignore_errors=True)
+
+    def last_lines(self):
+        with open(self.log, encoding="utf-8", errors="replace") as log:
+            return log.read().rstrip().split("\n")[-LAST_LINES:]
+
+
+class Progress:
+    """Where the run is: one line that is written again on a terminal, and elsewhere a line for each change."""
+
+    def __init__(self, count):
+        self.count = count
+        self.began = time.monotonic()
+        self.is_terminal = sys.stderr.isatty()
+        self.last = None
+
+    def show(self, done, running):
+        minutes = int(time.monotonic() - self.began) // 60
+        names = ", ".join(it.name for it in running)
+        text = f"sacn: {done} of {self.count} crates proved, {minutes} min" + (f"; under way: {names}" if names else "")
+        if self.is_terminal:
+            width = shutil.get_terminal_size().columns - 1
+            print(f"\r\x1b[K{text[:width]}", end="", file=sys.stderr, flush=True)
+        elif (done, names) != self.last:
+            print(text, file=sys.stderr, flush=True)
+        self.last = done, names
+
+    def end(self):
+        if self.is_terminal and self.last:
+            print(file=sys.stderr, flush=True)
+
+
+def prove(crates, program, cpu):
+    """Proves what stands below the program, and then the program, and builds it."""
+    needed = [*below(crates, program), program]
+    progress, done, running, most = Progress(len(needed)), [], [], lanes()
+    # A crate with the longest chain of others above it comes first.
+    above = {name: 0 for name in needed}
+    for name in reversed(needed):
+        for it in crates[name]:
+            above[it] = max(above[it], above[name] + 1)
+    left = sorted(needed, key=lambda name: -above[name])
+    try:
+        while left or running:
+            ready = [it for it in left if all(lower in done for lower in crates[it])]
+            idle = most - sum(it.jobs for it in running)
+            for at, name in enumerate(ready):
+                if idle <= 0:
+                    break
+                jobs = max(1, min(MOST_JOBS, idle // (len(ready) - at)))
+                words = ["rt", "lib", "--jobs", str(jobs)]
+                if name == program:
+                    words = ["rt", "run", "--jobs", str(jobs), *(["--cpu", cpu] if cpu else []), "--", "--help"]
+                running.append(Proof(name, below(crates, name), words))
+                running[-1].jobs = jobs
+                left.remove(name)
+                idle -= jobs
+            progress.show(len(done), running)
+            time.sleep(0.2)
+            for proof in [it for it in running if it.process.poll() is not None]:
+                if proof.process.returncode:
+                    progress.end()
+                    raise Stopped("\n".join([f"{proof.name} was not proved; the end of what its check said:", *proof.last_lines()]))
+                proof.leave()
+                running.remove(proof)
+                done.append(proof.name)
+        progress.show(len(done), running)
+        progress.end()
+    finally:
+        for proof in running:
+            proof.end()
+            proof.leave()
+
+
+def interrupted(number, _):
+    raise KeyboardInterrupt
+
+
+def stamp_of(program):
+    return f"{TOP}/crates/{program}/out/{program}.tree"
+
+
+def is_built(program, tree):
+    try:
+        with open(stamp_of(program), encoding="utf-8") as stamp:
+            return stamp.readline().rstrip("\n") == tree
+    except OSError:
+        return False
+
+
+def main(program, tree, *words):
+    for it in (signal.SIGINT, signal.SIGTERM, signal.SIGHUP):
+        signal.signal(it, interrupted)
+    cpu = words[1] if words[:1] == ("--cpu",) else ""
+    # The folder itself is the lock, which ends with this process.
+    folder = os.open(TOP, os.O_RDONLY)
+    try:
+        fcntl.flock(folder, fcntl.LOCK_EX | fcntl.LOCK_NB)
+    except BlockingIOError:
+        say("another run proves this tree; waiting for it to end")
+        fcntl.flock(folder, fcntl.LOCK_EX)
+        if is_built(program, tree):
+            return
+    began = time.monotonic()
+    prove(libraries(), program, cpu)
+    with open(stamp_of(program), "w", encoding="utf-8") as stamp:
+        stamp.write(f"{tree}\n{cpu or DEFAULT_CPU}\n")
+    say(f"proved and built in {int(time.monotonic() - began)} s")
+
+
+if __name__ == "__main__":
+    try:
+        main(*sys.argv[1:])
+    except KeyboardInterrupt:
+        print(file=sys.stderr)
+        say("interrupted; what was proved is kept")
+        sys.exit(130)
+    except Stopped as why:
+        say(why)
+        sys.exit(1)
+    except OSError as why:
+        say(f"{why.strerror or why}: {why.filename or 'a file'}")
+        sys.exit(1)
