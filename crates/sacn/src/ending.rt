@@ -1,6 +1,4 @@
 //! Why a run ends before its work is done, and how it says so.
-use crate::fault::{DecodeFault, SimFault};
-use crate::input::ReadFault;
 use clap::error::ErrorKind;
 use hex::FromHexError;
 use sacn_console::{ShowFault, TextFault};
@@ -8,6 +6,7 @@ use sacn_edge::{SocketFailed, WriteFailed};
 use sacn_node::SetupFault;
 use sacn_root::PacketFault;
 use sacn_sources::TableFault;
+use sacn_text::{DecodeFault, ReadFault, SimFault};
 use sacn_world::{WorldFault, WorldTextFault};
 use std::alloc::{AllocError, Global};
 use std::io::Write;

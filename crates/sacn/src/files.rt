@@ -1,6 +1,6 @@
 //! The files that the words name.
 use crate::ending::Ending;
-use crate::input::{MOST_OCTETS, read_limited};
+use sacn_text::{MOST_OCTETS, read_limited};
 use std::alloc::Alloc;
 use std::fs;
 use std::rt::Files;

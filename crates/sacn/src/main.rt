@@ -1,22 +1,14 @@
 //! `sacn`: packets of streaming ACN read, checked and shown; consoles and nodes run.
 #![tactic(auto)]
 
-mod block;
 mod command;
-mod decode;
-mod digits;
 mod ending;
-mod fault;
 mod files;
-mod input;
-mod look;
 mod marked;
 mod network;
 mod program;
-mod simulate;
 #[cfg(test)]
 mod tests;
-mod words;
 
 use std::io::{ErrorKind, Write};
 use std::process::ExitCode;

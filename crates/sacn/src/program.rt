@@ -1,14 +1,11 @@
 //! The program, over any words, input and outputs.
 use crate::command::{Asked, parse};
-use crate::decode::decode_text;
-use crate::digits::octets_of_digits;
 use crate::ending::{DONE, Ending, ended};
 use crate::files::{octets_of_files, text_of_file};
-use crate::input::{MOST_OCTETS, read_limited};
 use crate::marked::Marked;
 use crate::network;
-use crate::simulate::sim_text;
 use sacn_edge::WriterOut;
+use sacn_text::{MOST_OCTETS, decode_text, octets_of_digits, read_limited, sim_text};
 use std::alloc::Global;
 use std::io::{Read, Write};
 use std::net::Net;

@@ -1,6 +1,5 @@
 //! The program over memory and files, and its printed texts.
 mod datagrams;
-mod decoding;
 mod network;
 mod running;
 mod simulating;

@@ -40,17 +40,6 @@ pub fn data_packet(alloc: Global, text: &[u8]) -> Result<Vec<u8>, Fail> {
     Ok(octets)
 }
 
-/// The same with 512 slots at 255.
-pub fn full_packet(alloc: Global) -> Result<Vec<u8>, Fail> {
-    let mut octets = front(alloc, [0x72, 0x6e], 4, [0x72, 0x58], 2)?;
-    name(&mut octets, b"Desk")?;
-    octets.extend_from_slice(&[
-        100, 0, 0, 0, 0, 0, 1, 0x72, 0x0b, 2, 0xa1, 0, 0, 0, 1, 2, 1, 0,
-    ])?;
-    octets.extend_from_slice(&[255; 512])?;
-    Ok(octets)
-}
-
 /// A page of universe discovery: its three flags-and-length fields, page and last page, and numbers.
 pub fn page(
     alloc: Global,

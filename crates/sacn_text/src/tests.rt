@@ -1,0 +1,3 @@
+//! Printed texts of packets laid out by hand.
+mod datagrams;
+mod decoding;
