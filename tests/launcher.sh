@@ -112,6 +112,20 @@ two_at_once() {
 }
 check "a second run waits for the first, says so, and takes what that built" two_at_once
 
+desk_ends_well() {
+  anew
+  launch prove
+  printf '#!/bin/sh\ntrap "" INT\nwhile read -r line; do echo "took $line"; done\necho "ended all"\nexit 7\n' >"$tree/crates/sacn/out/sacn"
+  (PATH=$room/bin:$usual exec setsid "$tree/sacn" desk show.toml >"$room/out" 2>"$room/err" < <(echo go; sleep 30)) &
+  local launcher=$!
+  for _ in $(seq 100); do grep -q "took go" "$room/out" && break; sleep 0.05; done
+  kill -TERM "$launcher"
+  wait "$launcher"
+  status=$?
+  [ "$status" = 7 ] && prints "took go" && prints "ended all"
+}
+check "TERM ends a desk's input, and the desk ends what it has lit" desk_ends_well
+
 full_disk() {
   anew
   launch prove
