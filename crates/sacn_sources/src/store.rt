@@ -67,6 +67,19 @@ impl Store {
         })
     }
 
+    pub(crate) fn moment(&self) -> u64
+        ensures { result ≡ self.now.moment }
+    {
+        self.moment
+    }
+
+    /// Moves the clock alone.
+    pub(crate) fn advance(&mut self, now: u64)
+        ensures { self.new ≡ record self.old { moment = max self.old.moment now } }
+    {
+        self.moment = self.moment.max(now);
+    }
+
     /// Moves the clock, and drops the sources that are lost.
     pub(crate) fn expire(&mut self, now: u64) -> Lost
         ensures sources { result.sources ≡ rows_lost (max self.old.moment now) self.old.rows }
