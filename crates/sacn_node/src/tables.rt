@@ -24,6 +24,8 @@ pub(crate) struct OneUniverse {
 pub(crate) struct Tables {
     list: Vec<OneUniverse>,
     moment: u64,
+    /// No source of any table was renewed before this moment, and one that was renewed at it isn't lost yet.
+    earliest: u64,
 }
 
 impl Model for Tables {
@@ -36,12 +38,11 @@ impl Model for Tables {
 
     ghost view = { λ t. core_of t.moment t.list.items };
 
-    ghost invariant = { λ t. AreTables t.moment t.list.items };
+    ghost invariant = { λ t. AreTables t.moment t.earliest t.list.items };
 }
 
 impl Tables {
     ghost use Rattle.sacn_node.specs.Cores.{Table, core_at, core_lost, core_reply, core_after, core_row, core_slots, with_taken, with_kept, new_core};
-    ghost use Rattle.sacn_node.specs.Wakes.{oldest_in};
     ghost use Rattle.sacn_sources.specs.Rows.{taken, rows_kept, slots_of};
 
     /// An empty table for each of these universes.
@@ -53,6 +54,7 @@ impl Tables {
         Ok(Tables {
             list: new_tables(alloc, universes)?,
             moment: 0,
+            earliest: 0,
         })
     }
 
@@ -67,8 +69,12 @@ impl Tables {
         ensures gone { result ≡ core_lost now self.old }
         ensures core { self.new ≡ core_at now self.old }
     {
-        self.moment = self.moment.max(now);
-        expire_all(&mut self.list, now)
+        let moment = self.moment.max(now);
+        if moment.saturating_sub(self.earliest) < NETWORK_DATA_LOSS {
+            self.moment = moment;
+            return 0;
+        }
+        self.sweep(now)
     }
 
     /// Takes a data packet.
@@ -83,27 +89,13 @@ impl Tables {
         }
     }
 
-    /// The moment of the source that was renewed the longest ago, on any universe, and `u64::MAX` where none is held.
-    fn oldest(&self) -> u64
-        ensures { result ≡ oldest_in self.now.tables }
-    {
-        oldest_table(&self.list)
-    }
-
     /// The first moment at which a source that is held is lost, if no packet comes, and `None` where there is none.
     pub(crate) fn wakes(&self) -> Option<u64>
         ensures never { IfNone result ((t : ℕ) → t < 2 ^ 64 → core_lost t self.now ≡ 0) }
         ensures asleep { IfSome result (λ w. (t : ℕ) → t < w → core_lost t self.now ≡ 0) }
         ensures awake { IfSome result (λ w. 1 ≤ core_lost w self.now) }
     {
-        let moment = self.moment();
-        let Some(wake) = self.oldest().checked_add(NETWORK_DATA_LOSS) else {
-            return None;
-        };
-        if wake <= moment {
-            return Some(0);
-        }
-        Some(wake)
+        oldest_table(&self.list).checked_add(NETWORK_DATA_LOSS)
     }
 
     /// The source of this CID on a universe.
@@ -126,6 +118,18 @@ impl Tables {
             Ok(at) => self.slots_at(at, slots),
             Err(_) => merge_into(&[], slots),
         }
+    }
+
+    /// Looks at every source of all tables, and drops those that are lost.
+    fn sweep(&mut self, now: u64) -> usize
+        ensures gone { result ≡ core_lost now self.old }
+        ensures core { self.new ≡ core_at now self.old }
+    {
+        let moment = self.moment.max(now);
+        let gone = expire_all(&mut self.list, moment);
+        self.moment = moment;
+        self.earliest = oldest_table(&self.list).min(moment);
+        gone
     }
 
     /// Takes a packet into the table at this place.
