@@ -1,6 +1,6 @@
 //! The table of sources, with its latest merge.
 
-ghost use Rattle.std.specs.Prelude.{◌≡◌, ◌<◌, ◌≤◌, ◌^◌, ℕ, max, IfOk, IfSome, IfNone};
+ghost use Rattle.std.specs.Prelude.{◌≡◌, ◌+◌, ◌<◌, ◌≤◌, ◌^◌, ℕ, length, take, drop, max, IfOk, IfSome, IfNone};
 
 use crate::fault::TableFault;
 use crate::held::HeldView;
@@ -96,13 +96,19 @@ impl SourceTable {
         ensures slots { slots.new ≡ slots_of (after_expire now self.old.table).rows }
         ensures table { self.new ≡ kept_after_merged now self.old }
     {
-        self.expire(now);
-        if self.due {
-            self.store.merge(&mut self.slots);
-            self.renewals = self.renewals.saturating_add(1);
-            self.due = false;
-        }
+        self.renew(now);
         *slots = self.slots;
+    }
+
+    /// Writes a part of the merge, which is made anew where `merged` makes it anew: the slots from the index `from` on, as
+    /// many as there is room for.
+    pub fn merged_part(&mut self, now: u64, from: usize, part: &mut [u8])
+        requires within { from + length part.old ≤ 512 }
+        ensures part { part.new ≡ take (length part.old) (drop from (slots_of (after_expire now self.old.table).rows)) }
+        ensures table { self.new ≡ kept_after_merged now self.old }
+    {
+        self.renew(now);
+        part.copy_from_slice(&self.slots[from..from + part.len()]);
     }
 
     /// The source of this CID, as the latest call with a moment left it.
@@ -146,5 +152,17 @@ impl SourceTable {
         self.earliest = self.store.oldest().min(self.store.moment());
         self.due |= lost.live;
         lost.sources
+    }
+
+    /// Makes the kept slots the merge, where they aren't yet.
+    fn renew(&mut self, now: u64)
+        ensures { self.new ≡ kept_after_merged now self.old }
+    {
+        self.expire(now);
+        if self.due {
+            self.store.merge(&mut self.slots);
+            self.renewals = self.renewals.saturating_add(1);
+            self.due = false;
+        }
     }
 }
