@@ -1,6 +1,8 @@
 //! The tables of a node, one for each of its universes.
-ghost use Rattle.std.specs.Prelude.{◌≡◌, ◌<◌, ◌≤◌, ◌^◌, ℕ, List, map, length, slice_index_or, slice_set, IfOk, IfErr, IfSome, IfNone, AllPairs};
+ghost use Rattle.std.specs.Prelude.{◌≡◌, ◌+◌, ◌<◌, ◌≤◌, ◌^◌, ℕ, List, [], map, length, take, drop, slice_index_or, slice_set, IfOk, IfErr, IfSome, IfNone, AllPairs};
 ghost use Rattle.sacn_sources.specs.Packets.{packet_of};
+ghost use Rattle.sacn_slots.specs.declared.universe.TheConstants.{SLOTS};
+ghost use Rattle.sacn_sources.specs.Rows.{slots_of};
 ghost use Rattle.sacn_node.specs.declared.limits.TheConstants.{MAX_UNIVERSES};
 ghost use Rattle.sacn_node.specs.Seen.{one_expired, lost_in, new_one, Rise};
 ghost use Rattle.sacn_sources.specs.Wakes.{oldest_by, oldest_of};
@@ -43,7 +45,7 @@ impl Model for Tables {
 
 impl Tables {
     ghost use Rattle.sacn_node.specs.Cores.{Table, core_at, core_lost, core_reply, core_after, core_row, core_slots, with_taken, with_kept, new_core};
-    ghost use Rattle.sacn_sources.specs.Rows.{taken, rows_kept, slots_of};
+    ghost use Rattle.sacn_sources.specs.Rows.{taken, rows_kept};
 
     /// An empty table for each of these universes.
     pub(crate) fn new(alloc: Global, universes: &[u16]) -> Result<Self, TableFault>
@@ -108,15 +110,16 @@ impl Tables {
         }
     }
 
-    /// Writes the slots of a universe, where all that is lost is dropped already.
-    pub(crate) fn slots(&mut self, universe: u16, slots: &mut [u8; SLOTS])
-        requires { core_at self.old.moment self.old ≡ self.old }
-        ensures slots { slots.new ≡ core_slots self.old universe }
+    /// Writes slots of a universe, from the index `from` on, where all that is lost is dropped already.
+    pub(crate) fn slots(&mut self, universe: u16, from: usize, part: &mut [u8])
+        requires expired { core_at self.old.moment self.old ≡ self.old }
+        requires within { from + length part.old ≤ SLOTS }
+        ensures part { part.new ≡ take (length part.old) (drop from (core_slots self.old universe)) }
         ensures core { self.new ≡ self.old }
     {
         match self.search(universe) {
-            Ok(at) => self.slots_at(at, slots),
-            Err(_) => merge_into(&[], slots),
+            Ok(at) => self.slots_at(at, from, part),
+            Err(_) => no_slots(from, part),
         }
     }
 
@@ -142,14 +145,15 @@ impl Tables {
         self.list[at].table.take(moment, packet)
     }
 
-    /// Writes the slots of the table at this place.
-    fn slots_at(&mut self, at: usize, slots: &mut [u8; SLOTS])
-        requires { at < length self.old.tables }
-        ensures slots { (d : Table) → slots.new ≡ slots_of (rows_kept self.old.moment (slice_index_or self.old.tables at d).rows) }
+    /// Writes slots of the table at this place, from the index `from` on.
+    fn slots_at(&mut self, at: usize, from: usize, part: &mut [u8])
+        requires there { at < length self.old.tables }
+        requires within { from + length part.old ≤ SLOTS }
+        ensures part { (d : Table) → part.new ≡ take (length part.old) (drop from (slots_of (rows_kept self.old.moment (slice_index_or self.old.tables at d).rows))) }
         ensures core { (d : Table) → self.new ≡ record self.old { tables = slice_set self.old.tables at (with_kept self.old.moment (slice_index_or self.old.tables at d)) } }
     {
         let moment = self.moment;
-        self.list[at].table.merged(moment, slots);
+        self.list[at].table.merged_part(moment, from, part);
     }
 
     /// Where the table of a universe is, or where it would go.
@@ -176,6 +180,16 @@ fn oldest_table(tables: &[OneUniverse]) -> u64
         oldest = oldest.min(one.table.oldest());
     }
     oldest
+}
+
+/// Writes slots of a universe that no table has, from the index `from` on: those of no source.
+fn no_slots(from: usize, part: &mut [u8])
+    requires { from + length part.old ≤ SLOTS }
+    ensures { part.new ≡ take (length part.old) (drop from (slots_of [])) }
+{
+    let mut slots = [0; SLOTS];
+    merge_into(&[], &mut slots);
+    part.copy_from_slice(&slots[from..from + part.len()]);
 }
 
 fn expire_all(tables: &mut [OneUniverse], now: u64) -> usize

@@ -21,7 +21,7 @@ invariant_of-self c =
     let oldest = c.oldest_table.ensures ∙ ap (oldest_by (λ (o : OneUniverse). oldest_of o.table.table.rows)) (c.deref.ensures.value ∙ items) ∙ oldest_seen new in
     subst (AreTables t c.min-self-inside.result) (sym items)
     (tables_expired m t (omega (arith, c.max-moment.ensures)) c.self.inside.earliest c.min-self-inside.result os c.self.invariant c.max-moment.type_inv
-      (c.min-self-inside.ensures ∙ ap (λ o. min o t) oldest))
+    (c.min-self-inside.ensures ∙ ap (λ o. min o t) oldest))
 
 pub returns-clause-gone : goal.returns-clause-gone
 returns-clause-gone c =
