@@ -3,7 +3,7 @@ use Rattle.std.proofs.lemmas.List.{drop_all}
 use Rattle.sacn_sources.specs.declared.entry.Entry.{Entry}
 use Rattle.sacn_sources.specs.Wakes.{oldest_by}
 use Rattle.sacn_sources.proofs.Wakes.{oldest_most}
-use Rattle.sacn_sources.proofs.store.oldest_entry.Goals as goal
+use Rattle.sacn_sources.proofs.entry.oldest_entry.Goals as goal
 
 pub loop-entry-init : goal.loop-entry-init
 loop-entry-init c = record {

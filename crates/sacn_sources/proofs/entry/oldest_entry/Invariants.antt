@@ -1,6 +1,6 @@
 use Rattle.std.proofs.Common.{◌≡◌, ◌≤◌, ◌-◌, ◌^◌, min, drop}
 use Rattle.sacn_sources.specs.Wakes.{oldest_by}
-use Rattle.sacn_sources.proofs.store.oldest_entry.Given as goal
+use Rattle.sacn_sources.proofs.entry.oldest_entry.Given as goal
 
 -- the least so far and the least of the rest are the least of all
 abbrev pub invariant-loop-entry : goal.invariant-loop-entry
