@@ -1,5 +1,5 @@
 -- After a call at a moment, nothing more is lost at it.
-use Rattle.std.proofs.Common.{filter, Bool, sym, suc, length, ◌+◌, ◌≤◌, ◌==◌, ◌≡◌, ℕ, max, true, false, cond, List, [], ◌∷◌, refl, ap, ◌∙◌, arith, nat_eq, Some, Ok, Err}
+use Rattle.std.proofs.Common.{filter, Bool, sym, suc, length, ◌+◌, ◌≤◌, ◌==◌, ◌≡◌, ℕ, max, true, false, cond, List, [], ◌∷◌, refl, ap, ◌∙◌, arith, nat_eq, Option, Some, None, Ok, Err}
 use Rattle.std.specs.declared.cmp.Ordering.TheVariants.{Less, Equal, Greater}
 use Rattle.std.proofs.lemmas.Bool.{lt-ltb, eqb-true}
 use Rattle.std.proofs.lemmas.List.Sums.{sum_by-cons}
@@ -11,9 +11,10 @@ use Rattle.sacn_framing.specs.declared.packet.Packet.TheVariants.{DataPacket, Pa
 use Rattle.sacn_sources.specs.Order.{order, same, by_order}
 use Rattle.sacn_sources.specs.Packets.{packet_of}
 use Rattle.sacn_sources.specs.Rows.{Row, Packet, row_renewed, rows_kept, rows_lost, row_of, put_row, row_live, row_ended, row_observed, rows_after, observed, take_row, taken}
-use Rattle.sacn_node.specs.Cores.{Table, Core, rows_lost_all, core_lost, rows_kept_all, change_rows, core_at}
-use Rattle.sacn_node.specs.Readings.{Reading, after_reading}
-use Rattle.sacn_node.specs.Calls.{core_step}
+use Rattle.sacn_node.specs.declared.taken.NodeTaken.TheVariants.{FromTable, OtherUniverse}
+use Rattle.sacn_node.specs.Cores.{Table, Core, Node, rows_lost_all, core_lost, rows_kept_all, change_rows, core_at, table_of, core_reply_on}
+use Rattle.sacn_node.specs.Readings.{Reading, after_reading, reply_to}
+use Rattle.sacn_node.specs.Calls.{core_step, step, Take, Tick}
 use Rattle.sacn_edge.specs.Heard.{Heard, Silence, Octets, Fault}
 use Rattle.sacn_edge.specs.NodeText.{call_at}
 
@@ -136,3 +137,53 @@ tables_kept t (g ∷ gs) none =
 
 pub none_lost : (now lost : ℕ) (c : Core) → lost ≡ core_lost now c → (lost == 0) ≡ true → (core_at now c).tables ≡ c.tables
 none_lost now lost c counted none = tables_kept (max c.moment now) c.tables (sym counted ∙ eqb-true lost 0 none)
+
+-- ---- a datagram, once what is lost at its moment was dropped
+
+core_twice : (c : Core) (now : ℕ) (read : ℕ → List Table → Core) → read (max (max c.moment now) now) (rows_kept_all (max (max c.moment now) now) (rows_kept_all (max c.moment now) c.tables)) ≡ read (max c.moment now) (rows_kept_all (max c.moment now) c.tables)
+core_twice c now read =
+    let t = max c.moment now in
+    ap (λ k. read k (rows_kept_all k (rows_kept_all t c.tables))) (max_twice c.moment now)
+    ∙ ap (read t) (kept_all t (rows_kept_all t c.tables) (all_kept t c.tables))
+
+pub reading_later : (reading : Reading) (c : Core) (now : ℕ) → after_reading reading now (core_at now c) ≡ after_reading reading now c
+reading_later (Ok (DataPacket d)) c now = core_twice c now (λ k gs. record { moment = k; tables = change_rows d.universe (take_row (packet_of d) k) gs })
+reading_later (Ok (PagePacket p)) c now = expired c now
+reading_later (Ok SyncPacket) c now = expired c now
+reading_later (Err fault) c now = expired c now
+
+change_none : (u : ℕ) (f : List Row → List Row) (gs : List Table) → table_of u gs ≡ None → change_rows u f gs ≡ gs
+change_none u f [] none = refl
+change_none u f (g ∷ gs) none =
+    elim (g.universe == u) as (λ b. cond b (Some g) (table_of u gs) ≡ None → cond b (record { universe = g.universe; rows = f g.rows } ∷ gs) (g ∷ change_rows u f gs) ≡ g ∷ gs) [
+      | true ↦ λ some. absurd (cc)
+      | false ↦ λ rest. ap (λ l. g ∷ l) (change_none u f gs rest)
+    ] none
+
+other_none : (x : Packet) (o : Option Table) → ((taken : Taken) → core_reply_on x o ≡ FromTable taken → ⊥) → o ≡ None
+other_none x None not = refl
+other_none x (Some g) not = absurd (not (taken x g.rows) refl)
+
+-- what no table took leaves the tables as they were
+pub reading_passes : (reading : Reading) (c : Core) (now : ℕ) → ((taken : Taken) → reply_to reading now c ≡ FromTable taken → ⊥) → (after_reading reading now c).tables ≡ (core_at now c).tables
+reading_passes (Ok (DataPacket d)) c now not =
+    let kept = rows_kept_all (max c.moment now) c.tables in
+    change_none d.universe (take_row (packet_of d) (max c.moment now)) kept (other_none (packet_of d) (table_of d.universe kept) not)
+reading_passes (Ok (PagePacket p)) c now not = refl
+reading_passes (Ok SyncPacket) c now not = refl
+reading_passes (Err fault) c now not = refl
+
+pub take_passes : (octets : List ℕ) (now : ℕ) (old ticked : Core) → ticked ≡ core_at now old → ticked.tables ≡ old.tables → ((taken : Taken) → reply_to (reading_packet octets) now ticked ≡ FromTable taken → ⊥) → (after_reading (reading_packet octets) now ticked).tables ≡ old.tables
+take_passes octets now old ticked is same not =
+    reading_passes (reading_packet octets) ticked now not
+    ∙ ap (λ (c : Core). (core_at now c).tables) is
+    ∙ ap (λ (c : Core). c.tables) (expired old now ∙ sym is)
+    ∙ same
+
+pub take_later : (octets : List ℕ) (now : ℕ) (old ticked : Node) → ticked ≡ step (Tick now) old → step (Take now octets) ticked ≡ step (Take now octets) old
+take_later octets now old ticked is =
+    ap (step (Take now octets)) is
+    ∙ ap (λ (c : Core). let n : Node = record { ports = old.ports; core = c } in n) (reading_later (reading_packet octets) old.core now)
+
+pub other_from : (taken : Taken) → OtherUniverse ≡ FromTable taken → ⊥
+other_from taken is = cc

@@ -16,7 +16,7 @@ use crate::report::NodeReport;
 use crate::shown::{PortShown, show};
 use crate::text::WriteFailed;
 use arrayvec::ArrayVec;
-use sacn_node::{MAX_PORTS, NodeCore};
+use sacn_node::{MAX_PORTS, NodeCore, NodeTaken};
 
 /// What a turn read and received, and whether it is known that no frame changed.
 #[derive(Clone, Copy)]
@@ -26,13 +26,19 @@ struct Hearing {
     is_still: bool,
 }
 
-/// Gives the node a datagram. What it changed isn't known.
+/// Gives the node a datagram. Where no source was lost and no table of the node took it, no frame changed.
 fn take(core: &mut NodeCore, now: u64, octets: &[u8]) -> bool
-    ensures still { result ≡ false }
+    ensures still { result ≡ true → core.new.core.tables ≡ core.old.core.tables }
     ensures core { core.new ≡ step (Take now octets.now) core.old }
 {
-    core.take(now, octets);
-    false
+    let is_still = tick(core, now);
+    match core.take(now, octets) {
+        NodeTaken::FromTable(_) => false,
+        NodeTaken::OtherUniverse => is_still,
+        NodeTaken::Discovery => is_still,
+        NodeTaken::Sync => is_still,
+        NodeTaken::Refused(_) => is_still,
+    }
 }
 
 /// Moves the node's clock. Where no source was lost, no frame changed.

@@ -93,11 +93,11 @@ pairs_rise (u ∷ us) rise (suc i) (suc j) d lt within = pairs_rise us (rise_tai
 
 -- ---- the tables of a new node
 
-moments_new : (us : List ℕ) → AllByRecursion (λ (o : OneUniverse). o.table.table.moment ≡ 0) (map new_one us)
+moments_new : (us : List ℕ) → AllByRecursion (λ (o : OneUniverse). o.table.table.moment ≤ 0) (map new_one us)
 moments_new [] = tt
-moments_new (u ∷ us) = (refl, moments_new us)
+moments_new (u ∷ us) = (omega arith, moments_new us)
 
-pub tables_new : (us : List ℕ) → Rise us → length us ≤ MAX_UNIVERSES → AreTables 0 (map new_one us)
+pub tables_new : (us : List ℕ) → Rise us → length us ≤ MAX_UNIVERSES → AreTables 0 0 (map new_one us)
 tables_new us rise few = record {
   rising = λ i j d lt within.
       let in_us : j < length us = omega (arith, length-map us new_one) in
@@ -106,6 +106,9 @@ tables_new us rise few = record {
       omega (arith, first, second, pairs_rise us rise i j 0 lt in_us);
   moments = moments_new us;
   few = omega (arith, few, length-map us new_one);
+  rows = omega arith;
+  past = omega arith;
+  young = omega arith;
 }
 
 pub seen_new : (us : List ℕ) → map seen (map new_one us) ≡ (new_core us).tables

@@ -1,5 +1,5 @@
 -- How a node stores its ports and its tables.
-use Rattle.std.specs.Prelude.{◌≡◌, ⊤, ℕ, ◌<◌, ◌≤◌, max, List, [], ◌∷◌, length, map, All, AllPairs}
+use Rattle.std.specs.Prelude.{◌≡◌, ⊤, ℕ, ◌-◌, ◌<◌, ◌≤◌, max, List, [], ◌∷◌, length, map, All, AllPairs}
 use Rattle.std.specs.List.{sum_by, AllByRecursion}
 use Rattle.std.specs.List.Sorted.{IsStrictlyIncreasing}
 use Rattle.sacn_sources.specs.Rows.{rows_lost}
@@ -9,6 +9,8 @@ use Rattle.sacn_node.specs.declared.limits.TheConstants.{MAX_PORTS, MAX_UNIVERSE
 use Rattle.sacn_node.specs.Setup.{Port, port_numbers}
 use Rattle.sacn_node.specs.Ports.{IsShown}
 use Rattle.sacn_node.specs.Cores.{Table, Core}
+use Rattle.sacn_node.specs.Wakes.{oldest_in}
+use Rattle.sacn_sources.specs.declared.limits.TheConstants.{NETWORK_DATA_LOSS}
 
 abbrev pub seen : OneUniverse → Table
 seen o = record { universe = o.universe; rows = o.table.table.rows }
@@ -25,11 +27,15 @@ one_expired now o = record { universe = o.universe; table = kept_after_expire no
 abbrev pub lost_in : ℕ → List OneUniverse → ℕ
 lost_in now os = sum_by (λ o. rows_lost (max o.table.table.moment now) o.table.table.rows) os
 
--- the universes strictly rise, and each table was handed the node's moments
-pub record AreTables (moment : ℕ) (os : List OneUniverse) : Type 0 where
+-- the universes strictly rise, no table was handed a later moment than the node, no row was renewed before the moment
+-- `earliest`, and one that was renewed at it isn't lost yet
+pub record AreTables (moment earliest : ℕ) (os : List OneUniverse) : Type 0 where
   pub rising : AllPairs (λ a b. a.universe < b.universe) os
-  pub moments : AllByRecursion (λ o. o.table.table.moment ≡ moment) os
+  pub moments : AllByRecursion (λ o. o.table.table.moment ≤ moment) os
   pub few : length os ≤ MAX_UNIVERSES
+  pub rows : earliest ≤ oldest_in (map seen os)
+  pub past : earliest ≤ moment
+  pub young : moment - earliest < NETWORK_DATA_LOSS
 
 -- the numbers rise, they are few, and each range can be shown
 pub record ArePorts (ps : List Port) : Type 0 where

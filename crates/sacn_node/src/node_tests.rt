@@ -1,13 +1,15 @@
-//! The worked rows of the node, and the node beside a plain program.
+//! The worked rows of the node.
 
 use super::*;
-use crate::plain_node::{PlainNode, Said};
-use sacn_framing::{DataFields, read_packet, write_data};
-use sacn_root::PacketFault;
+use sacn_framing::{DataFields, write_data};
 use sacn_sources::{HeldView, Kind, TableFault, Taken};
-use std::alloc::{AllocError, Global};
+use std::alloc::Global;
 use std::process::Abort;
 use std::test::Fail;
+
+mod compared;
+mod octets;
+mod wakes;
 
 /// The most slots of a universe.
 const MAX_SLOTS: usize = 512;
@@ -327,71 +329,6 @@ fn ranges_of_two_universes(rt: HostRuntime) -> Result<(), Fail> {
     Ok(())
 }
 
-/// The octets of an extended packet up to its framing vector: root and framing fields, and the vector.
-fn extended(alloc: Global, root: u8, framing: u8, vector: u8) -> Result<Vec<u8>, AllocError> {
-    let mut octets = Vec::new(alloc);
-    octets.extend_from_slice(&[0, 16, 0, 0])?;
-    octets.extend_from_slice(b"ASC-E1.17\0\0\0")?;
-    octets.extend_from_slice(&[0x70, root, 0, 0, 0, 8])?;
-    octets.extend_from_slice(&[1; 16])?;
-    octets.extend_from_slice(&[0x70, framing, 0, 0, 0, vector])?;
-    Ok(octets)
-}
-
-/// The page of a console with no universe: 120 octets.
-fn empty_page(alloc: Global) -> Result<Vec<u8>, AllocError> {
-    let mut octets = extended(alloc, 0x68, 0x52, 2)?;
-    octets.extend_from_slice(&[0; 68])?;
-    octets.extend_from_slice(&[0x70, 8, 0, 0, 0, 1, 0, 0])?;
-    Ok(octets)
-}
-
-/// A synchronization packet: 49 octets.
-fn sync_packet(alloc: Global) -> Result<Vec<u8>, AllocError> {
-    let mut octets = extended(alloc, 0x21, 0x0b, 1)?;
-    octets.extend_from_slice(&[1, 0, 1, 0, 0])?;
-    Ok(octets)
-}
-
-#[test]
-fn pages_and_synchronization_change_nothing(rt: HostRuntime) -> Result<(), Fail> {
-    let alloc = rt.alloc();
-    let mut node = node_of(alloc, SAME_UNIVERSE)?;
-    gives(&rt, &mut node, &[(0, live(1, 0, &[3]), Taken::Held)]);
-    let page = empty_page(alloc)?;
-    let sync = sync_packet(alloc)?;
-    assert_eq!(rt; (page.len(), sync.len()), (120, 49));
-    assert_eq!(rt; node.take(0, page.as_slice()), NodeTaken::Discovery);
-    shows(&rt, &mut node, 0, 1, &[3]);
-    assert_eq!(rt; node.take(0, sync.as_slice()), NodeTaken::Sync);
-    shows(&rt, &mut node, 0, 2, &[3]);
-    assert_eq!(rt; node.take(2500, page.as_slice()), NodeTaken::Discovery);
-    shows(&rt, &mut node, 0, 1, &[]);
-    Ok(())
-}
-
-/// The sixteen are held as `full_node` left them, and the frame shows the highest of them.
-fn is_untouched(rt: &impl Abort, node: &mut NodeCore) {
-    for cid in 1..17 {
-        holds(rt, node, cid, 0, 0, Some(&[cid as u8]));
-    }
-    shows(rt, node, 0, 1, &[16]);
-}
-
-#[test]
-fn flood_of_foreign_sources(rt: HostRuntime) -> Result<(), Fail> {
-    let mut node = full_node(&rt, rt.alloc())?;
-    for cid in 1000..11000 {
-        gives(
-            &rt,
-            &mut node,
-            &[(0, live(cid, 0, &[255]), Taken::SourcesExceeded)],
-        );
-    }
-    is_untouched(&rt, &mut node);
-    Ok(())
-}
-
 /// A generator of fixed numbers.
 #[derive(Drop)]
 struct Numbers {
@@ -416,52 +353,6 @@ impl Numbers {
     }
 }
 
-#[test]
-fn any_octets(rt: HostRuntime) -> Result<(), Fail> {
-    let alloc = rt.alloc();
-    let mut node = node_of(alloc, ONE_PORT)?;
-    gives(&rt, &mut node, &[(0, live(1, 0, &[3]), Taken::Held)]);
-    let page = empty_page(alloc)?;
-    let mut numbers = Numbers { state: 7 };
-    for _ in 0..2000 {
-        let mut octets = page.clone()?;
-        let len = octets.len();
-        for _ in 0..numbers.octet(4) {
-            let at = (numbers.next() % 128) as usize;
-            if at < len {
-                octets[at] = numbers.octet(255);
-            }
-        }
-        octets.truncate(numbers.octet(121) as usize);
-        refuses_or_ignores(&rt, &mut node, octets.as_slice());
-    }
-    shows(&rt, &mut node, 0, 1, &[3]);
-    holds(&rt, &node, 1, 0, 0, Some(&[3]));
-    Ok(())
-}
-
-/// The octets are refused with the fault of their reading, or are no data packet.
-fn refuses_or_ignores(rt: &impl Abort, node: &mut NodeCore, octets: &[u8]) {
-    let taken = node.take(0, octets);
-    match read_packet(octets) {
-        Err(fault) => assert_eq!(rt; taken, NodeTaken::Refused(fault)),
-        Ok(_) => assert!(rt;
-            matches!(taken, NodeTaken::Discovery) || matches!(taken, NodeTaken::Sync)
-        ),
-    }
-}
-
-#[test]
-fn no_octets(rt: HostRuntime) -> Result<(), Fail> {
-    let mut node = node_of(rt.alloc(), ONE_PORT)?;
-    assert_eq!(rt;
-        node.take(5, &[]),
-        NodeTaken::Refused(PacketFault::TooShort)
-    );
-    assert_eq!(rt; node.moment(), 5);
-    Ok(())
-}
-
 // Run with each request for memory refused in turn, a new node is answered, or want of memory and nothing else.
 
 #[test]
@@ -473,144 +364,4 @@ fn memory_refused_to_a_new_node(rt: HostRuntime) {
             Err(fault) => assert_eq!(rt; fault, TableFault::OutOfMemory),
         }
     }
-}
-
-// ---- the node beside the plain program
-
-/// A packet of one of twenty sources, on one of three universes of which the node has two.
-fn any_packet(numbers: &mut Numbers, turn: u64) -> Said {
-    let kind = match numbers.octet(12) {
-        0 => Kind::Termination,
-        1 => Kind::Preview,
-        2 => Kind::Other,
-        _ => Kind::Live,
-    };
-    let universe = match numbers.octet(8) {
-        0 => 1,
-        1 | 2 | 3 => 4,
-        _ => 9,
-    };
-    Said {
-        cid: numbers.octet(20) as u32,
-        universe,
-        number: ((turn / 4 % 256) as u8).wrapping_add(numbers.octet(40)),
-        kind,
-        priority: numbers.octet(3).saturating_add(98),
-        levels: [numbers.octet(255), numbers.octet(255), 0, numbers.octet(9)],
-    }
-}
-
-/// Both nodes answer the packet alike.
-fn take_alike(
-    rt: &impl Abort,
-    node: &mut NodeCore,
-    plain: &mut PlainNode,
-    setup: &NodeSetup,
-    now: u64,
-    said: &Said,
-) -> Result<NodeTaken, Fail> {
-    let sent = Sent {
-        cid: said.cid,
-        universe: said.universe,
-        number: said.number,
-        kind: said.kind,
-        priority: said.priority,
-        slots: &said.levels,
-    };
-    let wanted = plain.take(setup, now, said)?;
-    assert_eq!(rt; give(node, now, sent), Some(wanted));
-    Ok(wanted)
-}
-
-/// Both hold the source alike.
-fn hold_alike(rt: &impl Abort, node: &NodeCore, plain: &PlainNode, universe: u16, cid: u32) {
-    let held = node.held(universe, &cid_of(cid));
-    let row = plain.row(universe, cid);
-    assert_eq!(rt; held.is_some(), row.is_some());
-    if let (Some(held), Some(row)) = (held, row) {
-        assert_eq!(rt; (held.number(), held.moment()), (row.number, row.moment));
-        assert_eq!(rt; held.ended(), row.priority.is_none());
-        assert_eq!(rt; held.priority(), row.priority.unwrap_or(0));
-        if row.priority.is_some() {
-            has_levels(rt, &held, &row.levels);
-        }
-    }
-}
-
-/// Both show the ports alike.
-fn show_alike(
-    rt: &impl Abort,
-    node: &mut NodeCore,
-    plain: &mut PlainNode,
-    setup: &NodeSetup,
-    now: u64,
-) {
-    plain.expire(now);
-    for port in setup.ports() {
-        let mut frame = [7; 513];
-        assert_eq!(rt; node.frame(now, port.number(), &mut frame), Ok(()));
-        assert_eq!(rt; frame[0], 0);
-        for (at, level) in frame.iter().enumerate() {
-            if at > 0 {
-                assert_eq!(rt;
-                    *level,
-                    plain.shown(port.ranges(), at),
-                    "slot {at} of port {}",
-                    port.number()
-                );
-            }
-        }
-    }
-}
-
-/// One turn of both: a packet, whose answer it gives, expiry or a look.
-fn turn_alike(
-    rt: &impl Abort,
-    node: &mut NodeCore,
-    plain: &mut PlainNode,
-    setup: &NodeSetup,
-    numbers: &mut Numbers,
-    turn: u64,
-) -> Result<Option<NodeTaken>, Fail> {
-    // Moments go forward by about 23 ms a turn, and back now and then.
-    let now = (turn.saturating_mul(20)).saturating_add(numbers.next() % 90);
-    let mut answer = None;
-    match numbers.octet(16) {
-        0 => assert_eq!(rt; node.tick(now), plain.expire(now)),
-        1 => show_alike(rt, node, plain, setup, now),
-        _ => {
-            let said = any_packet(numbers, turn);
-            answer = Some(take_alike(rt, node, plain, setup, now, &said)?);
-            hold_alike(rt, node, plain, said.universe, said.cid);
-        }
-    }
-    assert_eq!(rt; node.moment(), plain.moment);
-    Ok(answer)
-}
-
-/// Puts an answer with those before it, where it is another.
-fn note(answers: &mut Vec<NodeTaken>, answer: Option<NodeTaken>) -> Result<(), Fail> {
-    if let Some(answer) = answer {
-        if !answers.as_slice().contains(&answer) {
-            answers.push(answer)?;
-        }
-    }
-    Ok(())
-}
-
-#[test]
-fn as_the_plain_program(rt: HostRuntime) -> Result<(), Fail> {
-    let alloc = rt.alloc();
-    let setup = read_node(alloc, THREE_PORTS).ok().ok_or("refused")?;
-    let mut node = NodeCore::new(alloc, &setup).ok().ok_or("no room")?;
-    let mut plain = PlainNode::new(alloc);
-    let mut numbers = Numbers { state: 1 };
-    let mut answers = Vec::new(alloc);
-    for turn in 0..6000 {
-        let answer = turn_alike(&rt, &mut node, &mut plain, &setup, &mut numbers, turn)?;
-        note(&mut answers, answer)?;
-    }
-    // The six answers of a table, and a universe that isn't the node's.
-    assert_eq!(rt; answers.len(), 7);
-    Ok(())
 }

@@ -1,6 +1,6 @@
 //! The ports of a node, and their frames.
 
-ghost use Rattle.std.specs.Prelude.{◌≡◌, ◌+◌, ◌≤◌, ◌<◌, ℕ, true, false, length, slice_index, All, IfOk};
+ghost use Rattle.std.specs.Prelude.{◌≡◌, ◌+◌, ◌≤◌, ◌<◌, ℕ, true, false, length, slice_index, All, IfOk, IfSome, List, [], ◌∷◌};
 ghost use Rattle.std.specs.Option.{option_map};
 ghost use Rattle.sacn_slots.specs.declared.universe.TheConstants.{SLOTS, FRAME_OCTETS};
 ghost use Rattle.sacn_node.specs.Cores.{core_at, core_slots};
@@ -106,53 +106,43 @@ pub(crate) fn fill_frame(tables: &mut Tables, ranges: &[SlotRange], frame: &mut 
     ensures frame { frame.new ≡ port_frame (core_slots tables.old) ranges.now }
     ensures core { tables.new ≡ tables.old }
 {
+    if let Some(range) = whole_range(ranges) {
+        frame[0] = 0;
+        show_range(tables, range, frame);
+        return;
+    }
     frame.fill(0);
-    let mut slots = [0; SLOTS];
     let mut at = ranges.len();
     // The first range that has a slot gives it, so that it is written last.
     while at > 0 {
         at -= 1;
-        show_range(tables, ranges[at], &mut slots, frame);
+        show_range(tables, ranges[at], frame);
     }
 }
 
-/// Writes what a range shows. `slots` is room for the universe's slots.
-fn show_range(
-    tables: &mut Tables,
-    range: SlotRange,
-    slots: &mut [u8; SLOTS],
-    frame: &mut [u8; FRAME_OCTETS],
-)
+/// The range of a port that shows one range on all of its slots.
+fn whole_range(ranges: &[SlotRange]) -> Option<SlotRange>
+    ensures { IfSome result (λ r. (ranges.now ≡ r ∷ []) × (r.port_slot ≡ 1) × (r.count ≡ SLOTS)) }
+{
+    match ranges {
+        [range] if range.port_slot == 1 && usize::from(range.count) == SLOTS => Some(*range),
+        _ => None,
+    }
+}
+
+/// Writes what a range shows.
+fn show_range(tables: &mut Tables, range: SlotRange, frame: &mut [u8; FRAME_OCTETS])
     requires expired { core_at tables.old.moment tables.old ≡ tables.old }
     requires range { IsShown range }
     ensures inside { (i : ℕ) → covers i range ≡ true → slice_index frame.new i ≡ level_in (core_slots tables.old) i range }
     ensures outside { (i : ℕ) → covers i range ≡ false → slice_index frame.new i ≡ slice_index frame.old i }
     ensures core { tables.new ≡ tables.old }
 {
-    tables.slots(range.universe, slots);
-    copy_slots(
-        slots,
+    let to = usize::from(range.port_slot);
+    let end = to + usize::from(range.count);
+    tables.slots(
+        range.universe,
         usize::from(range.slot) - 1,
-        usize::from(range.count),
-        usize::from(range.port_slot),
-        frame,
+        &mut frame[to..end],
     );
-}
-
-fn copy_slots(
-    slots: &[u8; SLOTS],
-    from: usize,
-    count: usize,
-    to: usize,
-    frame: &mut [u8; FRAME_OCTETS],
-)
-    requires within { from + count ≤ SLOTS }
-    requires fits { to + count ≤ FRAME_OCTETS }
-    ensures below { (k : ℕ) → k < to → slice_index frame.new k ≡ slice_index frame.old k }
-    ensures inside { (k : ℕ) → k < count → slice_index frame.new (to + k) ≡ slice_index slots.now (from + k) }
-    ensures above { (k : ℕ) → to + count ≤ k → slice_index frame.new k ≡ slice_index frame.old k }
-{
-    for i in 0..count {
-        frame[to + i] = slots[from + i];
-    }
 }

@@ -1,14 +1,17 @@
 //! The tables of a node, one for each of its universes.
-ghost use Rattle.std.specs.Prelude.{◌≡◌, ◌<◌, ◌≤◌, ℕ, List, map, length, slice_index_or, slice_set, IfOk, IfErr, AllPairs};
+ghost use Rattle.std.specs.Prelude.{◌≡◌, ◌+◌, ◌<◌, ◌≤◌, ◌^◌, ℕ, List, [], map, length, take, drop, slice_index_or, slice_set, IfOk, IfErr, IfSome, IfNone, AllPairs};
 ghost use Rattle.sacn_sources.specs.Packets.{packet_of};
+ghost use Rattle.sacn_slots.specs.declared.universe.TheConstants.{SLOTS};
+ghost use Rattle.sacn_sources.specs.Rows.{slots_of};
 ghost use Rattle.sacn_node.specs.declared.limits.TheConstants.{MAX_UNIVERSES};
 ghost use Rattle.sacn_node.specs.Seen.{one_expired, lost_in, new_one, Rise};
+ghost use Rattle.sacn_sources.specs.Wakes.{oldest_by, oldest_of};
 
 use crate::limits::MAX_UNIVERSES;
 use crate::taken::NodeTaken;
 use sacn_framing::DataView;
 use sacn_slots::{SLOTS, merge_into};
-use sacn_sources::{HeldView, SourceTable, TableFault, Taken};
+use sacn_sources::{HeldView, NETWORK_DATA_LOSS, SourceTable, TableFault, Taken};
 use std::alloc::Global;
 use std::marker::Model;
 
@@ -23,6 +26,8 @@ pub(crate) struct OneUniverse {
 pub(crate) struct Tables {
     list: Vec<OneUniverse>,
     moment: u64,
+    /// No source of any table was renewed before this moment, and one that was renewed at it isn't lost yet.
+    earliest: u64,
 }
 
 impl Model for Tables {
@@ -35,12 +40,12 @@ impl Model for Tables {
 
     ghost view = { λ t. core_of t.moment t.list.items };
 
-    ghost invariant = { λ t. AreTables t.moment t.list.items };
+    ghost invariant = { λ t. AreTables t.moment t.earliest t.list.items };
 }
 
 impl Tables {
     ghost use Rattle.sacn_node.specs.Cores.{Table, core_at, core_lost, core_reply, core_after, core_row, core_slots, with_taken, with_kept, new_core};
-    ghost use Rattle.sacn_sources.specs.Rows.{taken, rows_kept, slots_of};
+    ghost use Rattle.sacn_sources.specs.Rows.{taken, rows_kept};
 
     /// An empty table for each of these universes.
     pub(crate) fn new(alloc: Global, universes: &[u16]) -> Result<Self, TableFault>
@@ -51,6 +56,7 @@ impl Tables {
         Ok(Tables {
             list: new_tables(alloc, universes)?,
             moment: 0,
+            earliest: 0,
         })
     }
 
@@ -65,8 +71,12 @@ impl Tables {
         ensures gone { result ≡ core_lost now self.old }
         ensures core { self.new ≡ core_at now self.old }
     {
-        self.moment = self.moment.max(now);
-        expire_all(&mut self.list, now)
+        let moment = self.moment.max(now);
+        if moment.saturating_sub(self.earliest) < NETWORK_DATA_LOSS {
+            self.moment = moment;
+            return 0;
+        }
+        self.sweep(now)
     }
 
     /// Takes a data packet.
@@ -81,6 +91,15 @@ impl Tables {
         }
     }
 
+    /// The first moment at which a source that is held is lost, if no packet comes, and `None` where there is none.
+    pub(crate) fn wakes(&self) -> Option<u64>
+        ensures never { IfNone result ((t : ℕ) → t < 2 ^ 64 → core_lost t self.now ≡ 0) }
+        ensures asleep { IfSome result (λ w. (t : ℕ) → t < w → core_lost t self.now ≡ 0) }
+        ensures awake { IfSome result (λ w. 1 ≤ core_lost w self.now) }
+    {
+        oldest_table(&self.list).checked_add(NETWORK_DATA_LOSS)
+    }
+
     /// The source of this CID on a universe.
     pub(crate) fn held(&self, universe: u16, cid: &[u8; 16]) -> Option<HeldView<'_>>
         ensures { result ≡ core_row universe cid.now self.now }
@@ -91,16 +110,29 @@ impl Tables {
         }
     }
 
-    /// Writes the slots of a universe, where all that is lost is dropped already.
-    pub(crate) fn slots(&mut self, universe: u16, slots: &mut [u8; SLOTS])
-        requires { core_at self.old.moment self.old ≡ self.old }
-        ensures slots { slots.new ≡ core_slots self.old universe }
+    /// Writes slots of a universe, from the index `from` on, where all that is lost is dropped already.
+    pub(crate) fn slots(&mut self, universe: u16, from: usize, part: &mut [u8])
+        requires expired { core_at self.old.moment self.old ≡ self.old }
+        requires within { from + length part.old ≤ SLOTS }
+        ensures part { part.new ≡ take (length part.old) (drop from (core_slots self.old universe)) }
         ensures core { self.new ≡ self.old }
     {
         match self.search(universe) {
-            Ok(at) => self.slots_at(at, slots),
-            Err(_) => merge_into(&[], slots),
+            Ok(at) => self.slots_at(at, from, part),
+            Err(_) => no_slots(from, part),
         }
+    }
+
+    /// Looks at every source of all tables, and drops those that are lost.
+    fn sweep(&mut self, now: u64) -> usize
+        ensures gone { result ≡ core_lost now self.old }
+        ensures core { self.new ≡ core_at now self.old }
+    {
+        let moment = self.moment.max(now);
+        let gone = expire_all(&mut self.list, moment);
+        self.moment = moment;
+        self.earliest = oldest_table(&self.list).min(moment);
+        gone
     }
 
     /// Takes a packet into the table at this place.
@@ -113,14 +145,15 @@ impl Tables {
         self.list[at].table.take(moment, packet)
     }
 
-    /// Writes the slots of the table at this place.
-    fn slots_at(&mut self, at: usize, slots: &mut [u8; SLOTS])
-        requires { at < length self.old.tables }
-        ensures slots { (d : Table) → slots.new ≡ slots_of (rows_kept self.old.moment (slice_index_or self.old.tables at d).rows) }
+    /// Writes slots of the table at this place, from the index `from` on.
+    fn slots_at(&mut self, at: usize, from: usize, part: &mut [u8])
+        requires there { at < length self.old.tables }
+        requires within { from + length part.old ≤ SLOTS }
+        ensures part { (d : Table) → part.new ≡ take (length part.old) (drop from (slots_of (rows_kept self.old.moment (slice_index_or self.old.tables at d).rows))) }
         ensures core { (d : Table) → self.new ≡ record self.old { tables = slice_set self.old.tables at (with_kept self.old.moment (slice_index_or self.old.tables at d)) } }
     {
         let moment = self.moment;
-        self.list[at].table.merged(moment, slots);
+        self.list[at].table.merged_part(moment, from, part);
     }
 
     /// Where the table of a universe is, or where it would go.
@@ -136,6 +169,27 @@ impl Tables {
             { one.universe },
         )
     }
+}
+
+/// The moment of the source of these tables that was renewed the longest ago, and `u64::MAX` where none is held.
+fn oldest_table(tables: &[OneUniverse]) -> u64
+    ensures { result ≡ oldest_by (λ o. oldest_of o.table.table.rows) tables.now }
+{
+    let mut oldest = u64::MAX;
+    for one in tables {
+        oldest = oldest.min(one.table.oldest());
+    }
+    oldest
+}
+
+/// Writes slots of a universe that no table has, from the index `from` on: those of no source.
+fn no_slots(from: usize, part: &mut [u8])
+    requires { from + length part.old ≤ SLOTS }
+    ensures { part.new ≡ take (length part.old) (drop from (slots_of [])) }
+{
+    let mut slots = [0; SLOTS];
+    merge_into(&[], &mut slots);
+    part.copy_from_slice(&slots[from..from + part.len()]);
 }
 
 fn expire_all(tables: &mut [OneUniverse], now: u64) -> usize

@@ -1,10 +1,8 @@
 //! The entries of a table, and the levels that are stored for them.
 
 ghost use Rattle.std.specs.Prelude.{◌≡◌, ◌↔◌, ◌<◌, ◌≤◌, IsTrue, false, not, remove, ℕ, [], length, is_some, slice_index_or, slice_set, max, IfOk, IfErr};
-ghost use Rattle.arrayvec.specs.ArrayVec.{array_vec_len};
-ghost use Rattle.sacn_sources.specs.declared.entry.Entry.{Entry as Stored};
 
-use crate::entry::Entry;
+use crate::entry::{Entry, entry_at, oldest_entry, renew, renumber};
 use crate::fault::TableFault;
 use crate::held::HeldView;
 use crate::kind::{Kind, kind_of};
@@ -53,6 +51,7 @@ impl Store {
     ghost use Rattle.sacn_sources.specs.Packets.{packet_of};
     ghost use Rattle.sacn_sources.specs.Kept.{loses_live, renews};
     ghost use Rattle.sacn_sources.specs.Places.{IsAt, IsGap};
+    ghost use Rattle.sacn_sources.specs.Wakes.{oldest_of};
 
     /// No sources, with the room for the levels of `MAX_SOURCES` taken in one request.
     pub(crate) fn new(alloc: Global) -> Result<Self, TableFault>
@@ -63,6 +62,19 @@ impl Store {
             frames: frames_in(alloc)?,
             moment: 0,
         })
+    }
+
+    pub(crate) fn moment(&self) -> u64
+        ensures { result ≡ self.now.moment }
+    {
+        self.moment
+    }
+
+    /// Moves the clock alone.
+    pub(crate) fn advance(&mut self, now: u64)
+        ensures { self.new ≡ record self.old { moment = max self.old.moment now } }
+    {
+        self.moment = self.moment.max(now);
     }
 
     /// Moves the clock, and drops the sources that are lost.
@@ -97,17 +109,28 @@ impl Store {
     pub(crate) fn merge(&self, slots: &mut [u8; 512])
         ensures { slots.new ≡ slots_of self.now.rows }
     {
-        let entries = self.entries.as_slice();
-        let Some(first) = entries.first() else {
+        let Some(first) = self.entries.as_slice().first() else {
             merge_into(&[], slots);
             return;
         };
-        let mut layers = [Layer {
+        let room = Layer {
             priority: 0,
             levels: &self.frames[first.key],
-        }; MAX_SOURCES];
+        };
+        match self.count() {
+            0..=1 => self.merge_few(&mut [room], slots),
+            2..=4 => self.merge_few(&mut [room; 4], slots),
+            _ => self.merge_few(&mut [room; MAX_SOURCES], slots),
+        }
+    }
+
+    // Writes the merge of the live sources, with room for a layer of each.
+    fn merge_few<'a>(&'a self, layers: &mut [Layer<'a>], slots: &mut [u8; 512])
+        requires { length self.now.rows ≤ length layers.old }
+        ensures { slots.new ≡ slots_of self.now.rows }
+    {
         let mut count = 0;
-        for entry in entries {
+        for entry in self.entries.as_slice() {
             if let Some(priority) = entry.priority {
                 layers[count] = Layer {
                     priority,
@@ -140,6 +163,13 @@ impl Store {
             shown,
             moment: entry.moment,
         })
+    }
+
+    /// The moment of the source that was renewed the longest ago, and `u64::MAX` where none is held.
+    pub(crate) fn oldest(&self) -> u64
+        ensures { result ≡ oldest_of self.now.rows }
+    {
+        oldest_entry(self.entries.as_slice())
     }
 
     // A packet of the source at this place.
@@ -330,39 +360,4 @@ pub(crate) fn frames_in<A: Allocator>(alloc: A) -> Result<Slab<Levels, A>, Table
         Ok(frames) => Ok(frames),
         Err(_) => Err(TableFault::OutOfMemory),
     }
-}
-
-// The entry at this place.
-fn entry_at(entries: &ArrayVec<Entry, MAX_SOURCES>, at: usize) -> &Entry
-    requires { at < array_vec_len entries.now }
-    ensures { (d : Stored) → result.now ≡ slice_index_or entries.now.items at d }
-{
-    &entries[at]
-}
-
-// Writes the number of the entry at this place, and nothing else.
-fn renumber(entries: &mut ArrayVec<Entry, MAX_SOURCES>, at: usize, number: u8)
-    requires { at < array_vec_len entries.old }
-    ensures { (d : Stored) → entries.new.items ≡ slice_set entries.old.items at (record (slice_index_or entries.old.items at d) { number = number }) }
-{
-    entries[at].number = number;
-}
-
-// Writes all of the entry at this place but its CID and key. Answers its key.
-fn renew(
-    entries: &mut ArrayVec<Entry, MAX_SOURCES>,
-    at: usize,
-    number: u8,
-    priority: Option<u8>,
-    moment: u64,
-) -> usize
-    requires { at < array_vec_len entries.old }
-    ensures key { (d : Stored) → result ≡ (slice_index_or entries.old.items at d).key }
-    ensures entries { (d : Stored) → entries.new.items ≡ slice_set entries.old.items at (record (slice_index_or entries.old.items at d) { number = number; priority = priority; moment = moment }) }
-{
-    let entry = &mut entries[at];
-    entry.number = number;
-    entry.priority = priority;
-    entry.moment = moment;
-    entry.key
 }

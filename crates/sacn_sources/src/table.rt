@@ -1,10 +1,10 @@
 //! The table of sources, with its latest merge.
 
-ghost use Rattle.std.specs.Prelude.{◌≡◌, ◌≤◌, max, IfOk};
+ghost use Rattle.std.specs.Prelude.{◌≡◌, ◌+◌, ◌<◌, ◌≤◌, ◌^◌, ℕ, length, take, drop, max, IfOk, IfSome, IfNone};
 
 use crate::fault::TableFault;
 use crate::held::HeldView;
-use crate::limits::MAX_SOURCES;
+use crate::limits::{MAX_SOURCES, NETWORK_DATA_LOSS};
 use crate::store::Store;
 use crate::taken::Taken;
 use sacn_framing::DataView;
@@ -28,10 +28,13 @@ pub struct SourceTable {
     slots: [u8; 512],
     renewals: u64,
     due: bool,
+    /// No source that is held was renewed before this moment, and one that was renewed at it isn't lost yet.
+    earliest: u64,
 }
 
 impl Model for SourceTable {
     ghost use Rattle.sacn_sources.specs.Kept.{Kept, kept_code, KeepsMerge};
+    ghost use Rattle.sacn_sources.specs.Wakes.{IsFresh};
 
     ghost Value = { Kept };
 
@@ -39,12 +42,13 @@ impl Model for SourceTable {
 
     ghost view = { λ k. record { table = k.store; renewals = k.renewals; due = k.due } };
 
-    ghost invariant = { λ k. KeepsMerge k.due k.slots k.store };
+    ghost invariant = { λ k. KeepsMerge k.due k.slots k.store × IsFresh k.earliest k.store };
 }
 
 impl SourceTable {
     ghost use Rattle.sacn_sources.specs.Packets.{packet_of};
     ghost use Rattle.sacn_sources.specs.Rows.{answer, after_expire, slots_of, rows_lost, row_of};
+    ghost use Rattle.sacn_sources.specs.Wakes.{oldest_of};
     ghost use Rattle.sacn_sources.specs.Kept.{new_kept, kept_after_expire, kept_after_take, kept_after_merged};
 
     /// An empty table at moment 0. All its room is taken here, in one request, and a refusal is `OutOfMemory`.
@@ -56,6 +60,7 @@ impl SourceTable {
             slots: [0; 512],
             renewals: 0,
             due: true,
+            earliest: 0,
         })
     }
 
@@ -65,9 +70,12 @@ impl SourceTable {
         ensures few { result ≤ MAX_SOURCES }
         ensures table { self.new ≡ kept_after_expire now self.old }
     {
-        let lost = self.store.expire(now);
-        self.due |= lost.live;
-        lost.sources
+        let moment = self.store.moment().max(now);
+        if moment.saturating_sub(self.earliest) < NETWORK_DATA_LOSS {
+            self.store.advance(now);
+            return 0;
+        }
+        self.sweep(now)
     }
 
     /// Takes a data packet, whatever universe it names. It takes no memory, and copies the levels once.
@@ -75,9 +83,9 @@ impl SourceTable {
         ensures answer { result ≡ answer now (packet_of packet.now) self.old.table }
         ensures table { self.new ≡ kept_after_take now (packet_of packet.now) self.old }
     {
-        let lost = self.store.expire(now);
+        self.expire(now);
         let taken = self.store.take(packet);
-        self.due = self.due | lost.live | taken.renews();
+        self.due |= taken.renews();
         taken
     }
 
@@ -88,13 +96,19 @@ impl SourceTable {
         ensures slots { slots.new ≡ slots_of (after_expire now self.old.table).rows }
         ensures table { self.new ≡ kept_after_merged now self.old }
     {
-        let lost = self.store.expire(now);
-        if self.due | lost.live {
-            self.store.merge(&mut self.slots);
-            self.renewals = self.renewals.saturating_add(1);
-            self.due = false;
-        }
+        self.renew(now);
         *slots = self.slots;
+    }
+
+    /// Writes a part of the merge, which is made anew where `merged` makes it anew: the slots from the index `from` on, as
+    /// many as there is room for.
+    pub fn merged_part(&mut self, now: u64, from: usize, part: &mut [u8])
+        requires within { from + length part.old ≤ 512 }
+        ensures part { part.new ≡ take (length part.old) (drop from (slots_of (after_expire now self.old.table).rows)) }
+        ensures table { self.new ≡ kept_after_merged now self.old }
+    {
+        self.renew(now);
+        part.copy_from_slice(&self.slots[from..from + part.len()]);
     }
 
     /// The source of this CID, as the latest call with a moment left it.
@@ -104,10 +118,51 @@ impl SourceTable {
         self.store.held(cid)
     }
 
+    /// The moment of the source that was renewed the longest ago, ended ones too, and `u64::MAX` where none is held.
+    pub fn oldest(&self) -> u64
+        ensures { result ≡ oldest_of self.now.table.rows }
+    {
+        self.store.oldest()
+    }
+
+    /// The first moment at which a source that is held is lost, ended ones too, if no packet comes: `expire` at any earlier
+    /// moment drops nothing, and at it drops some. `None` where none is held, or none is lost at a moment of a `u64`.
+    pub fn wakes(&self) -> Option<u64>
+        ensures never { IfNone result ((t : ℕ) → t < 2 ^ 64 → rows_lost (max self.now.table.moment t) self.now.table.rows ≡ 0) }
+        ensures asleep { IfSome result (λ w. (t : ℕ) → t < w → rows_lost (max self.now.table.moment t) self.now.table.rows ≡ 0) }
+        ensures awake { IfSome result (λ w. 1 ≤ rows_lost (max self.now.table.moment w) self.now.table.rows) }
+    {
+        self.store.oldest().checked_add(NETWORK_DATA_LOSS)
+    }
+
     /// How many calls of `merged` made the merge anew, or `u64::MAX` where there were more.
     pub fn renewals(&self) -> u64
         ensures { result ≡ self.now.renewals }
     {
         self.renewals
+    }
+
+    /// Looks at every source, and drops those that are lost.
+    fn sweep(&mut self, now: u64) -> usize
+        ensures gone { result ≡ rows_lost (max self.old.table.moment now) self.old.table.rows }
+        ensures few { result ≤ MAX_SOURCES }
+        ensures table { self.new ≡ kept_after_expire now self.old }
+    {
+        let lost = self.store.expire(now);
+        self.earliest = self.store.oldest().min(self.store.moment());
+        self.due |= lost.live;
+        lost.sources
+    }
+
+    /// Makes the kept slots the merge, where they aren't yet.
+    fn renew(&mut self, now: u64)
+        ensures { self.new ≡ kept_after_merged now self.old }
+    {
+        self.expire(now);
+        if self.due {
+            self.store.merge(&mut self.slots);
+            self.renewals = self.renewals.saturating_add(1);
+            self.due = false;
+        }
     }
 }

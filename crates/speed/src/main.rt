@@ -19,13 +19,20 @@ use std::io::{self, Write};
 use std::process::ExitCode;
 use std::time::Clock;
 
-const MEASURES: [&str; 9] = [
+const MEASURES: [&str; 16] = [
     codec::READ,
     codec::WRITE,
+    sources::TAKE_ONE,
+    sources::MERGE_ONE,
+    sources::TAKE_FOUR,
+    sources::MERGE_FOUR,
     sources::TAKE,
     sources::MERGE,
     nodes::IGNORE,
     nodes::SHOW,
+    nodes::FULL,
+    nodes::OTHER,
+    nodes::TICK,
     consoles::LOAD,
     consoles::IDLE,
     consoles::CHANGE,

@@ -5,7 +5,7 @@ use Rattle.sacn_node.proofs.Prepared.{tables_new, seen_new}
 use Rattle.sacn_node.proofs.tables.Tables.new.Goals as goal
 
 pub invariant_of-result : goal.invariant_of-result
-invariant_of-result c = subst (AreTables 0) (sym c.in_ok-new_tables.ensures) (tables_new c.args.universes.now c.requires.rising c.requires.few)
+invariant_of-result c = subst (AreTables 0 0) (sym c.in_ok-new_tables.ensures) (tables_new c.args.universes.now c.requires.rising c.requires.few)
 
 pub returns : goal.returns
 returns c =

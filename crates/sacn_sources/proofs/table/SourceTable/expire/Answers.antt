@@ -1,9 +1,24 @@
-use Rattle.std.proofs.Common.{ap, sym, ◌∙◌}
-use Rattle.sacn_sources.specs.Rows.{Table, slots_of}
-use Rattle.sacn_sources.proofs.Keeps.{keeps_expire}
+use Rattle.std.proofs.Common.{◌≡◌, ◌-◌, ◌<◌, ◌||◌, ℕ, Bool, true, false, max, refl, ap, sym, subst, ◌∙◌, arith}
+use Rattle.sacn_sources.specs.Rows.{Table, rows_lost}
+use Rattle.sacn_sources.specs.Kept.{Kept, kept_after_expire}
+use Rattle.sacn_sources.proofs.Wakes.{expires_none, loses_none, loses_no_live}
 use Rattle.sacn_sources.proofs.table.SourceTable.expire.Goals as goal
 
-pub invariant_of-self : goal.invariant_of-self
-invariant_of-self c quiet =
-    keeps_expire c.self.inside.due c.expire-lost.result.live c.self.inside.slots c.args.now c.self.inside.store c.self.invariant c.expire-lost.ensures.live quiet
-    ∙ ap (λ (t : Table). slots_of t.rows) (sym c.expire-lost.ensures.table)
+pub returns-then-saturating_sub-lt-NETWORK_DATA_LOSS-clause-gone : goal.returns-then-saturating_sub-lt-NETWORK_DATA_LOSS-clause-gone
+returns-then-saturating_sub-lt-NETWORK_DATA_LOSS-clause-gone c =
+    let young : max c.self.inside.store.moment c.args.now - c.self.inside.earliest < 2500 = omega (arith, c.moment.ensures, c.max-moment.ensures, c.saturating_sub.ensures, c.if-saturating_sub-lt-NETWORK_DATA_LOSS.true) in
+    sym (ap (λ (k : Kept). rows_lost (max k.table.moment c.args.now) k.table.rows) (sym c.self.view_is)
+    ∙ loses_none c.self.inside.earliest c.args.now c.self.inside.store c.self.invariant.1 young)
+
+unless : (b : Bool) → b ≡ (b || false)
+unless true = refl
+unless false = refl
+
+pub returns-then-saturating_sub-lt-NETWORK_DATA_LOSS-clause-table : goal.returns-then-saturating_sub-lt-NETWORK_DATA_LOSS-clause-table
+returns-then-saturating_sub-lt-NETWORK_DATA_LOSS-clause-table c =
+    let i = c.self.inside in
+    let young : max i.store.moment c.args.now - i.earliest < 2500 = omega (arith, c.moment.ensures, c.max-moment.ensures, c.saturating_sub.ensures, c.if-saturating_sub-lt-NETWORK_DATA_LOSS.true) in
+    let kept : Table → Bool → Kept = λ table due. record { table = table; renewals = i.renewals; due = due } in
+    ap (λ table. kept table i.due) (c.advance.ensures ∙ expires_none i.earliest c.args.now i.store c.self.invariant.1 young)
+    ∙ ap (kept (Rattle.sacn_sources.specs.Rows.after_expire c.args.now i.store)) (unless i.due ∙ ap (λ b. i.due || b) (sym (loses_no_live i.earliest c.args.now i.store c.self.invariant.1 young)))
+    ∙ ap (kept_after_expire c.args.now) c.self.view_is
