@@ -16,7 +16,7 @@ use Rattle.sacn_console.specs.declared.line.Line.{Line}
 use Rattle.sacn_console.specs.declared.line.Look.TheVariants.{Due, Asleep}
 use Rattle.sacn_console.specs.declared.line.State.{State}
 use Rattle.sacn_console.specs.declared.line.State.TheVariants.{Running, Ending, Stopped}
-use Rattle.sacn_console.proofs.Frames.{now_is, frame_later, frame_stays}
+use Rattle.sacn_console.proofs.Frames.{same_self, now_is, frame_later, frame_stays}
 
 -- ---- moments
 
@@ -198,11 +198,6 @@ look_awake p t l f w b tells not_still m fe e is =
     )
 
 -- ---- after a packet
-
-same_self : (f : List ℕ) → same f f ≡ true
-unfolding same
-same_self [] = refl
-same_self (x ∷ xs) = grind (arith, same_self xs)
 
 -- the frame of a run's latest packet
 abbrev pub ShowsFrame : List ℕ → State → Type 0

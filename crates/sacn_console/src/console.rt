@@ -483,7 +483,6 @@ fn write_packet(
     ensures len { result ≡ 638 }
     ensures octets { out.new ≡ packet_text (packet_with sender.now line.now slots.now) ++ drop 638 out.old }
 {
-    let mut packet = [0; 638];
     let cid = sender.cid;
     let name = sender.name;
     let fields = DataFields {
@@ -497,7 +496,8 @@ fn write_packet(
         start: 0,
         slots: &slots[..],
     };
-    let len = write_data(&fields, &mut packet);
-    out[..638].copy_from_slice(&packet);
-    len
+    match out.first_chunk_mut::<638>() {
+        Some(front) => write_data(&fields, front),
+        None => 638,
+    }
 }

@@ -205,48 +205,51 @@ impl Line {
     pub(crate) fn sent(&mut self, moment: u64, slots: &[u8; SLOTS])
         ensures { self.new ≡ line_sent moment slots.now self.old }
     {
-        let state = sent_state(&self.state, slots);
-        self.state = state;
+        note_sent(&mut self.state, slots);
         self.number = self.number.wrapping_add(1);
         self.last = Some(moment);
     }
 }
 
+// A packet with these slots was sent in this state. A frame is copied only where it changed.
 #[tactic(auto, unfolding(crate::specs::Lines::state_sent))]
-fn sent_state(state: &State, slots: &[u8; SLOTS]) -> State
-    ensures { result ≡ state_sent slots.now state.now }
+fn note_sent(state: &mut State, slots: &[u8; SLOTS])
+    ensures { state.new ≡ state_sent slots.now state.old }
 {
     match state {
-        State::Running(None) => fresh(slots),
-        State::Running(Some(run)) => {
-            if same(&run.frame, slots) {
-                repeated(slots, run.owed.saturating_sub(1))
-            } else {
-                fresh(slots)
-            }
-        }
+        State::Running(None) => *state = fresh(slots),
+        State::Running(Some(run)) => note_run(run, slots),
         State::Ending(left) => {
             if *left < 2 {
-                State::Stopped
+                *state = State::Stopped;
             } else {
-                State::Ending(*left - 1)
+                *left -= 1;
             }
         }
-        State::Stopped => State::Stopped,
+        State::Stopped => {}
+    }
+}
+
+#[tactic(auto, unfolding(crate::specs::Lines::state_sent))]
+fn note_run(run: &mut Run, slots: &[u8; SLOTS])
+    ensures { State.Running (Some run.new) ≡ state_sent slots.now (State.Running (Some run.old)) }
+{
+    if same(&run.frame, slots) {
+        run.owed = run.owed.saturating_sub(1);
+    } else {
+        run.frame = *slots;
+        run.owed = REPEATS;
     }
 }
 
 fn fresh(slots: &[u8; SLOTS]) -> State
     ensures { result ≡ State.Running (Some (record { frame = slots.now; owed = REPEATS })) }
 {
-    repeated(slots, REPEATS)
-}
-
-fn repeated(slots: &[u8; SLOTS], owed: u8) -> State
-    ensures { result ≡ State.Running (Some (record { frame = slots.now; owed = owed })) }
-{
     let frame = *slots;
-    State::Running(Some(Run { frame, owed }))
+    State::Running(Some(Run {
+        frame,
+        owed: REPEATS,
+    }))
 }
 
 /// Whether a universe in this state can be ended.
