@@ -17,7 +17,7 @@ use arrayvec::ArrayVec;
 use sacn_cues::{CueFault, PlayFault, Player};
 use sacn_discovery::{page_count, write_page};
 use sacn_framing::{DataFields, write_data};
-use sacn_patch::{Patch, SLOTS};
+use sacn_patch::{FlatPatch, SLOTS};
 use std::alloc::Global;
 use std::marker::Model;
 
@@ -32,7 +32,7 @@ pub struct ConsoleCore {
     wakes: Wakes,
     cycle: Option<Begun>,
     listed: ArrayVec<u16, CONSOLE_UNIVERSES>,
-    patch: Patch,
+    patch: FlatPatch,
     player: Player,
     moment: u64,
 }
@@ -81,7 +81,7 @@ impl ConsoleCore {
         let Ok(wakes) = Wakes::new(alloc, show.universes.as_slice()) else {
             return Err(ShowFault::OutOfMemory);
         };
-        let Ok(patch) = show.patch.try_copy() else {
+        let Ok(patch) = show.patch.flat(alloc) else {
             return Err(ShowFault::OutOfMemory);
         };
         let Ok(player) = new_player(alloc, show) else {

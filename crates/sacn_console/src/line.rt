@@ -11,7 +11,7 @@ ghost use Rattle.sacn_console.specs.declared.limits.TheConstants as limits;
 use crate::command::ConsoleFault;
 use crate::limits::{KEEP_ALIVE, LEAST_GAP, REPEATS};
 use sacn_cues::PlayerAt;
-use sacn_patch::{Patch, SLOTS};
+use sacn_patch::{FlatPatch, SLOTS};
 
 /// The frame of the latest packet, and how many repeats of it are owed.
 #[derive(Clone, Copy)]
@@ -79,7 +79,7 @@ fn same(a: &[u8; SLOTS], b: &[u8; SLOTS]) -> bool
 }
 
 #[tactic(auto, unfolding(crate::specs::Lights::frame_now))]
-fn fill(patch: &Patch, player: &PlayerAt<'_>, universe: u16, slots: &mut [u8; SLOTS])
+fn fill(patch: &FlatPatch, player: &PlayerAt<'_>, universe: u16, slots: &mut [u8; SLOTS])
     ensures { slots.new ≡ frame_now (record { patch = patch.now; player = player.now.player.now }) universe }
 {
     patch.fill(universe, player, slots);
@@ -109,7 +109,7 @@ impl Line {
     /// timers don't decide.
     pub(crate) fn look(
         &self,
-        patch: &Patch,
+        patch: &FlatPatch,
         player: &PlayerAt<'_>,
         is_still: bool,
         moment: u64,
@@ -140,7 +140,7 @@ impl Line {
     // change that waits from a keep-alive packet.
     fn look_early(
         &self,
-        patch: &Patch,
+        patch: &FlatPatch,
         player: &PlayerAt<'_>,
         is_still: bool,
         moment: u64,

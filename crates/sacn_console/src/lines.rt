@@ -14,7 +14,7 @@ use crate::line::{Line, Look, State};
 use crate::waking::Wakes;
 use arrayvec::ArrayVec;
 use sacn_cues::PlayerAt;
-use sacn_patch::{Patch, SLOTS};
+use sacn_patch::{FlatPatch, SLOTS};
 use std::alloc::{AllocError, Global};
 
 /// Where the first due universe stands; its frame is then in `slots`. A universe is looked at only
@@ -22,7 +22,7 @@ use std::alloc::{AllocError, Global};
 pub(crate) fn first_due(
     lines: &[Line],
     wakes: &mut Wakes,
-    patch: &Patch,
+    patch: &FlatPatch,
     player: &PlayerAt<'_>,
     is_still: bool,
     moment: u64,

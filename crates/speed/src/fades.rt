@@ -39,7 +39,9 @@ fn show_text(alloc: Global, universes: u16, slots: u16, fading: u16) -> Result<S
         let universe = below + 1;
         text.push_str(&format!(in alloc; "{universe}, ")?)?;
     }
-    text.push_str(&format!(in alloc; "]\n[[cue]]\nnumber = 1\nfade = {TIME}\nlevels = [")?)?;
+    text.push_str(&format!(in alloc;
+        "]\n[[cue]]\nnumber = 1\nup = {TIME}\ndown = {TIME}\nlevels = ["
+    )?)?;
     for below in 0..fading {
         let channel = below + 1;
         text.push_str(&format!(in alloc; "[{channel}, 65535], ")?)?;

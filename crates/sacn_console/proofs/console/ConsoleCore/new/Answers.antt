@@ -16,4 +16,4 @@ invariant_of-result c =
 
 pub returns-clause-made : goal.returns-clause-made
 returns-clause-made c =
-    rw (← c.show.view_is) (begun_core (record { cid = c.show.inside.sender.cid; name = string_bytes c.show.inside.name; priority = c.show.inside.sender.priority; universes = c.show.inside.universes.items; send_to = c.show.inside.send_to.items; cues = c.show.inside.cues; patch = c.show.inside.patch }) c.args.first _ _ _ _ _ (ap (named c.show.inside.sender) c.show.invariant.0) (c.in-Ok.ensures ∙ ap (map (line_by c.args.first [])) c.as_slice.ensures.value) c.new-2.ensures c.in-Ok-try_copy.ensures.copied (c.in-Ok-new_player.ensures ∙ ap (λ (s : ShowContent). new_player s.cues) (sym c.show.view_is)))
+    rw (← c.show.view_is) (begun_core (record { cid = c.show.inside.sender.cid; name = string_bytes c.show.inside.name; priority = c.show.inside.sender.priority; universes = c.show.inside.universes.items; send_to = c.show.inside.send_to.items; cues = c.show.inside.cues; patch = c.show.inside.patch }) c.args.first _ _ _ _ _ (ap (named c.show.inside.sender) c.show.invariant.0) (c.in-Ok.ensures ∙ ap (map (line_by c.args.first [])) c.as_slice.ensures.value) c.new-2.ensures c.in-Ok-flat.ensures.flat (c.in-Ok-new_player.ensures ∙ ap (λ (s : ShowContent). new_player s.cues) (sym c.show.view_is)))
