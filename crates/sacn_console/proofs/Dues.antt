@@ -130,3 +130,9 @@ pub pages_rest : (v c : Core) (t w : ℕ) (b : Begun) (len count : ℕ) → v �
 pages_rest v c t w b len count e is le ce done lt we before =
     let f : count ≡ page_count (length v.listed) = rw (← le) ce in
     rw (← e) (rests_at v t b is (rw f at done) (waits_at v.moment t b.moment last_moment lt (rw we at before)))
+
+comes_later : (m b w last : ℕ) → m - b < DISCOVERY_INTERVAL → w ≡ min (b + DISCOVERY_INTERVAL) last → min (m + 1) last ≤ w
+comes_later m b w last lt e = omega (arith, lt, e)
+
+pub pages_ahead : (v c : Core) (w : ℕ) (b : Begun) → v ≡ c → v.moment - b.moment < DISCOVERY_INTERVAL → w ≡ min (b.moment + DISCOVERY_INTERVAL) last_moment → min (c.moment + 1) last_moment ≤ w
+pages_ahead v c w b e lt we = rw (← e) (comes_later v.moment b.moment w last_moment lt we)

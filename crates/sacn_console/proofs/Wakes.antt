@@ -605,3 +605,16 @@ pub rests_as : (a b x y : Bool) → not (beq a b) ≡ false → a ≡ x → b �
 rests_as true true x y same e f is = sym f
 rests_as true false x y same e f is = absurd (cc)
 rests_as false b x y same e f is = absurd (both_ways x is (sym e))
+
+reaches_by : (each : List ℕ) (first m last : ℕ) → IsLeast each m → m ≤ last → (first < last → (i : ℕ) × (i < length each) × (slice_index_or each i 0 ≡ first)) → (b : Bool) → nat_le last first ≡ b → m ≤ first
+reaches_by each first m last below le attained true is = omega (arith, le, is_le last first is)
+reaches_by each first m last below le attained false is = one (attained (is_above last first is)) where
+  one : (i : ℕ) × (i < length each) × (slice_index_or each i 0 ≡ first) → m ≤ first
+  one (i, within, e) = rw e at (below i within)
+
+no_further : (t last : ℕ) → min (t + 1) last ≤ last
+no_further t last = omega arith
+
+-- the first of the wakes lies ahead where all of them do: v is what c is seen to be
+pub lies_ahead : (v c : Core) (w : Waking) (first : ℕ) → v ≡ c → IsLeast w.each (min (v.moment + 1) last_moment) → (first < last_moment → (i : ℕ) × (i < length w.each) × (slice_index_or w.each i 0 ≡ first)) → min (c.moment + 1) last_moment ≤ first
+lies_ahead v c w first e below attained = rw (← e) (reaches_by w.each first (min (v.moment + 1) last_moment) last_moment below (no_further v.moment last_moment) attained (nat_le last_moment first) refl)

@@ -54,7 +54,7 @@ impl Model for ConsoleCore {
 }
 
 impl ConsoleCore {
-    ghost use Rattle.std.specs.Prelude.{IfErr, [], find, slice_set, Some, None, slice_index_or, MatchOption, List, ℕ, is_ok, is_some, true, ◌<◌};
+    ghost use Rattle.std.specs.Prelude.{IfErr, [], find, slice_set, Some, None, slice_index_or, MatchOption, List, ℕ, is_ok, is_some, true, ◌<◌, ◌+◌, min};
     ghost use Rattle.sacn_cues.specs.Playing.{is_still};
     ghost use Rattle.sacn_console.specs.Wakes.{last_moment};
     ghost use Rattle.std.specs.Option.{option_map};
@@ -249,13 +249,14 @@ impl ConsoleCore {
     }
 
     /// The first moment at which something can be due as long as no command comes: 0 where something
-    /// is due at the clock's moment.
+    /// is due at the clock's moment, else a later one.
     ///
     /// While no fade runs it is that of the next repeat, termination, keep-alive packet or discovery
-    /// page. While one runs it may be as early as the next moment.
+    /// page. While one runs it may be as early as the next moment. No earlier poll gives anything.
     pub fn wakes(&mut self) -> u64
         ensures core { self.new ≡ self.old }
         ensures quiet { (t : ℕ) → t < result → due (at t self.old) ≡ None }
+        ensures ahead { 0 < result → min (self.old.moment + 1) last_moment ≤ result }
         ensures exact { is_still self.old.lights.player ≡ true → result < last_moment → is_some (due (at result self.old)) ≡ true }
     {
         let line = self.line_wake();
@@ -266,6 +267,7 @@ impl ConsoleCore {
     fn line_wake(&mut self) -> u64
         ensures core { self.new ≡ self.old }
         ensures quiet { (t : ℕ) → t < result → line_found (at t self.old) ≡ None }
+        ensures ahead { 0 < result → min (self.old.moment + 1) last_moment ≤ result }
         ensures exact { is_still self.old.lights.player ≡ true → result < last_moment → is_some (line_found (at result self.old)) ≡ true }
     {
         let mut slots = [0; SLOTS];
@@ -290,6 +292,7 @@ impl ConsoleCore {
     // The same of discovery pages alone.
     fn page_wake(&self) -> u64
         ensures quiet { (t : ℕ) → t < result → page_due (at t self.now) ≡ None }
+        ensures ahead { 0 < result → min (self.now.moment + 1) last_moment ≤ result }
         ensures exact { result < last_moment → is_some (page_due (at result self.now)) ≡ true }
     {
         match self.cycle {
