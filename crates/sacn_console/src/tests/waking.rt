@@ -84,13 +84,8 @@ fn wakes_while_a_fade_runs(rt: HostRuntime) -> Result<(), Fail> {
     let fade: [(u64, u64); 5] = [(0, 25), (25, 50), (50, 75), (75, 100), (100, 101)];
     assert_eq!(rt; wrong_wake(&mut core, fade.as_slice()), None);
     assert_eq!(rt; wakes_after(&mut core, 999), 1024);
-    let over: [(u64, u64); 5] = [
-        (1024, 1049),
-        (1049, 1074),
-        (1074, 1099),
-        (1099, 1899),
-        (1899, 1999),
-    ];
+    // At 999 slot 1 was 255 already, so three repeats of it follow.
+    let over: [(u64, u64); 4] = [(1024, 1049), (1049, 1074), (1074, 1899), (1899, 1974)];
     assert_eq!(rt; wrong_wake(&mut core, over.as_slice()), None);
     Ok(())
 }
