@@ -1,3 +1,4 @@
 pub mod FaultNumbers
+pub mod Flat
 pub mod Parts
 pub mod Patch

@@ -5,6 +5,7 @@
 #![tactic(auto)]
 
 mod fault;
+mod flat;
 mod level;
 pub mod limits;
 mod part;
@@ -13,6 +14,7 @@ mod patch;
 mod tests;
 
 pub use fault::PatchFault;
+pub use flat::FlatPatch;
 pub use level::LevelOf;
 pub use limits::{MAX_CHANNELS, MAX_UNIVERSE, SLOTS};
 pub use patch::Patch;

@@ -5,6 +5,7 @@ ghost use Rattle.std.specs.FinMap as map;
 ghost use Rattle.sacn_patch.specs.Patch.{has_bad_place};
 
 use crate::fault::PatchFault;
+use crate::flat::FlatPatch;
 use crate::level::LevelOf;
 use crate::limits::{MAX_CHANNELS, MAX_UNIVERSE, SLOTS};
 use crate::part::{Part, byte_of, high_part, low_part};
@@ -91,6 +92,21 @@ impl Patch {
         }
     }
 
+    /// The same patch in one row, from which frames are made faster. The only fault is `OutOfMemory`.
+    pub fn flat(&self, alloc: Global) -> Result<FlatPatch, PatchFault>
+        ensures flat { IfOk result (λ flat. flat ≡ self.now) }
+        ensures refused { IfErr result (λ fault. fault ≡ OutOfMemory) }
+    {
+        let mut row = Vec::new(alloc);
+        for (place, part) in self.parts.iter() {
+            match row.push((*place, *part)) {
+                Ok(()) => {}
+                Err(_) => return Err(PatchFault::OutOfMemory),
+            }
+        }
+        Ok(FlatPatch { row })
+    }
+
     /// Writes the slots of a universe, each in its place: slot `s` at index `s - 1`. A slot that
     /// isn't patched is 0, and so are all slots of a universe that has none.
     ///
@@ -165,7 +181,7 @@ impl Patch {
 }
 
 // The level of a channel. It is asked for only where another channel was asked for just before.
-fn level_once<L: LevelOf>(asked: Option<(u16, u16)>, channel: u16, levels: &L) -> u16
+pub(crate) fn level_once<L: LevelOf>(asked: Option<(u16, u16)>, channel: u16, levels: &L) -> u16
     requires { ForSome asked (λ p. p.1 ≡ L.level levels.now p.0) }
     ensures { result ≡ L.level levels.now channel }
 {
