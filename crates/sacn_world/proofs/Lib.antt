@@ -26,3 +26,4 @@ pub mod Posting
 pub mod Readers
 pub mod Ran
 pub mod Beginning
+pub mod Reaching

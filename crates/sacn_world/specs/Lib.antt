@@ -19,3 +19,7 @@ pub mod Watches
 pub mod Wire
 pub mod Kept
 pub mod Running
+pub mod RunLaws
+pub mod Origins
+pub mod Lasting
+pub mod Newest

@@ -4,6 +4,7 @@
 //! A refused event leaves a world as it was, so each law holds of the lists that a world accepts.
 
 ghost use Rattle.sacn_world.specs.Laws.{NumbersAnswerAsPlacesDo, HeldPlacesAreLater, PlacesNeverGoBack, RowsAreOfPlaces, TwentyOneInARowAreShown, SamePlacesGiveTheSameSlots, SamePlacesGiveTheSameLevels, RunsLeaveTheWorldAfter};
+ghost use Rattle.sacn_world.specs.RunLaws.{OwnCidsKeepConsolesApart, ReachedWorldsKeepTheirInvariant, RunsAnswerStepByStep, ListsOfEventsJoin, TwentyOneInARowAreHeld};
 
 use sacn_slots::laws::merge_is_of_a_set;
 
@@ -38,4 +39,28 @@ pub fn same_places_same_slots()
 /// A run that is answered leaves the world after its events, of which the other laws speak.
 pub fn runs_leave_the_world_after()
     ensures { RunsLeaveTheWorldAfter }
+{}
+
+/// Shows with CIDs of their own make consoles with CIDs of their own, as the other laws ask, and no others do.
+pub fn own_cids_keep_consoles_apart()
+    ensures { OwnCidsKeepConsolesApart }
+{}
+
+/// What is kept of every world that a list of events comes to: each console has its own CID; lives go forward along a stream;
+/// each packet has the number of its place; each place held is one of its stream, and at most the newest delivered.
+pub fn reached_worlds_keep_their_invariant()
+    ensures { ReachedWorldsKeepTheirInvariant }
+{}
+
+/// Each event of an accepted run has one answer: that of the step at the world after the events before it. The world after
+/// joined lists is the world after one and then the other. So each law about a step is one about a run.
+pub fn runs_answer_step_by_step()
+    ensures answers { RunsAnswerStepByStep }
+    ensures joined { ListsOfEventsJoin }
+{}
+
+/// Catch-up from any world of a run on: where a delivery makes twenty-one live packets of one life come one after another, or
+/// more, `place` then answers its place, and `held` its priority and levels.
+pub fn twenty_one_in_a_row_are_held()
+    ensures { TwentyOneInARowAreHeld }
 {}
