@@ -27,3 +27,4 @@ pub mod Readers
 pub mod Ran
 pub mod Beginning
 pub mod Reaching
+pub mod Origin

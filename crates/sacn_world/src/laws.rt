@@ -5,6 +5,7 @@
 
 ghost use Rattle.sacn_world.specs.Laws.{NumbersAnswerAsPlacesDo, HeldPlacesAreLater, PlacesNeverGoBack, RowsAreOfPlaces, TwentyOneInARowAreShown, SamePlacesGiveTheSameSlots, SamePlacesGiveTheSameLevels, RunsLeaveTheWorldAfter};
 ghost use Rattle.sacn_world.specs.RunLaws.{OwnCidsKeepConsolesApart, ReachedWorldsKeepTheirInvariant, RunsAnswerStepByStep, ListsOfEventsJoin, TwentyOneInARowAreHeld};
+ghost use Rattle.sacn_world.specs.Origins.{HeldPlacesWereSent, NodesKeepTheirPorts};
 
 use sacn_slots::laws::merge_is_of_a_set;
 
@@ -63,4 +64,11 @@ pub fn runs_answer_step_by_step()
 /// more, `place` then answers its place, and `held` its priority and levels.
 pub fn twenty_one_in_a_row_are_held()
     ensures { TwentyOneInARowAreHeld }
+{}
+
+/// Each place that a node holds is that of a packet that was really sent, by the console with that CID, and each node keeps the
+/// ports of its setup.
+pub fn held_places_were_sent()
+    ensures sent { HeldPlacesWereSent }
+    ensures ports { NodesKeepTheirPorts }
 {}

@@ -1,12 +1,12 @@
 //! The world.
 
-ghost use Rattle.std.specs.Prelude.{◌≡◌, ◌≤◌, [], take, vec_capacity, Some, IfOk, IfErr, map, true, false, ◌⊎◌};
+ghost use Rattle.std.specs.Prelude.{◌≡◌, ◌≤◌, [], take, vec_capacity, Some, OnOk, IfOk, IfErr, map, true, false, ◌⊎◌};
 ghost use Rattle.sacn_world.specs.Kept.{Stepped, SteppedWithRoom, SteppedBy};
 ghost use Rattle.sacn_world.specs.Watches.{new_watch};
 ghost use Rattle.sacn_world.specs.declared.fault.NewFault.TheVariants.{SameCid, OutOfMemory};
 ghost use Rattle.sacn_world.specs.Running.{ran, Stopped};
 ghost use Rattle.sacn_world.specs.Cids.{has_same_cid};
-ghost use Rattle.sacn_world.specs.Worlds.{step, new_world, new_console, shown, place_at, row_at};
+ghost use Rattle.sacn_world.specs.Worlds.{step, new_world, new_console, Apart, shown, place_at, row_at};
 
 use crate::answer::Answer;
 use crate::cids::has_same_cid;
@@ -53,7 +53,8 @@ impl Model for World {
 
 impl World {
     /// A world of these shows, each with the first number of its console's first life, and of nodes of these setups. Nothing was
-    /// sent yet. The two lists are consumed, also by a refusal.
+    /// sent yet. No two of its consoles have one CID, in the form in which `laws` ask it. The two lists are consumed, also by a
+    /// refusal.
     ///
     /// `SameCid` where two shows have one CID, and then `OutOfMemory`.
     pub fn new(
@@ -62,6 +63,7 @@ impl World {
         nodes: Vec<NodeSetup>,
     ) -> Result<Self, NewFault>
         ensures made { IfOk result (λ world. (world ≡ new_world consoles.items (map (λ n. n.ports) nodes.items)) × (has_same_cid consoles.items ≡ false)) }
+        ensures apart { OnOk result (Apart (map new_console consoles.items)) }
         ensures refused { IfErr result (λ fault. ((fault ≡ SameCid) × (has_same_cid consoles.items ≡ true)) ⊎ ((fault ≡ OutOfMemory) × (has_same_cid consoles.items ≡ false))) }
     {
         universes_are_those_of_ranges();
