@@ -28,3 +28,5 @@ pub mod Ran
 pub mod Beginning
 pub mod Reaching
 pub mod Origin
+pub mod Lasting
+pub mod NewestPlaces

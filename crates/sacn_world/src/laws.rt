@@ -6,6 +6,8 @@
 ghost use Rattle.sacn_world.specs.Laws.{NumbersAnswerAsPlacesDo, HeldPlacesAreLater, PlacesNeverGoBack, RowsAreOfPlaces, TwentyOneInARowAreShown, SamePlacesGiveTheSameSlots, SamePlacesGiveTheSameLevels, RunsLeaveTheWorldAfter};
 ghost use Rattle.sacn_world.specs.RunLaws.{OwnCidsKeepConsolesApart, ReachedWorldsKeepTheirInvariant, RunsAnswerStepByStep, ListsOfEventsJoin, TwentyOneInARowAreHeld};
 ghost use Rattle.sacn_world.specs.Origins.{HeldPlacesWereSent, NodesKeepTheirPorts};
+ghost use Rattle.sacn_world.specs.Lasting.{NoHeldPacketGivesWay};
+ghost use Rattle.sacn_world.specs.Newest.{NewestIsTheGreatestDelivered};
 
 use sacn_slots::laws::merge_is_of_a_set;
 
@@ -71,4 +73,17 @@ pub fn twenty_one_in_a_row_are_held()
 pub fn held_places_were_sent()
     ensures sent { HeldPlacesWereSent }
     ensures ports { NodesKeepTheirPorts }
+{}
+
+/// No held packet gives way: through events at none of which its entry has expired, and none of which starts the node anew, a
+/// source stays held, at no earlier place; and a delivery that is answered Held or EndedNow takes it to the later place of its
+/// packet. (Where an entry expired and the source comes anew, its place may be an earlier one.)
+pub fn no_held_packet_gives_way()
+    ensures { NoHeldPacketGivesWay }
+{}
+
+/// The newest delivered packet of a stream, by which later deliveries are judged, is the greatest place of it that was delivered
+/// since the node started, whatever was answered.
+pub fn newest_is_the_greatest_delivered()
+    ensures { NewestIsTheGreatestDelivered }
 {}
