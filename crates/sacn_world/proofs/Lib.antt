@@ -30,3 +30,5 @@ pub mod Reaching
 pub mod Origin
 pub mod Lasting
 pub mod NewestPlaces
+pub mod Frames
+pub mod Headlines

@@ -23,3 +23,5 @@ pub mod RunLaws
 pub mod Origins
 pub mod Lasting
 pub mod Newest
+pub mod Looks
+pub mod Headline

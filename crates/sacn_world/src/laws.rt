@@ -8,6 +8,8 @@ ghost use Rattle.sacn_world.specs.RunLaws.{OwnCidsKeepConsolesApart, ReachedWorl
 ghost use Rattle.sacn_world.specs.Origins.{HeldPlacesWereSent, NodesKeepTheirPorts};
 ghost use Rattle.sacn_world.specs.Lasting.{NoHeldPacketGivesWay};
 ghost use Rattle.sacn_world.specs.Newest.{NewestIsTheGreatestDelivered};
+ghost use Rattle.sacn_world.specs.Looks.{FramesAreMergesOfWhatWasSent, EqualHoldingsGiveEqualSlots};
+ghost use Rattle.sacn_world.specs.Headline.{Headline};
 
 use sacn_slots::laws::merge_is_of_a_set;
 
@@ -87,3 +89,29 @@ pub fn no_held_packet_gives_way()
 pub fn newest_is_the_greatest_delivered()
     ensures { NewestIsTheGreatestDelivered }
 {}
+
+/// Each frame that a run answered to a look has start code 0, and each of its slots is, by the ranges of the port, that of the
+/// merge of exactly the live packets that the node held there after expiry, each really sent by the console with that CID; a
+/// slot that no range fills is 0.
+pub fn frames_are_merges_of_what_was_sent()
+    ensures { FramesAreMergesOfWhatWasSent }
+{}
+
+/// Equal holdings give equal slots: of two looks of one run at which the same places of the same sources are shown, or of two
+/// runs at which live packets of the same priorities and levels are held, the frames agree wherever ranges fill two port slots
+/// from the same slot of that universe.
+pub fn equal_holdings_give_equal_slots()
+    ensures { EqualHoldingsGiveEqualSlots }
+{
+    merge_is_of_a_set();
+}
+
+/// The headline: of every world that `World::new` makes, and every list of events that its `run` answers, whatever was
+/// commanded, sent, delivered, lost, repeated, delayed and restarted, and whatever the clocks read: every frame is the merge of
+/// packets that its live sources really sent; no held packet gives way to an earlier one while its entry lasts; equal holdings
+/// give equal slots; and the twenty-first live packet in a row is held.
+pub fn headline()
+    ensures { Headline }
+{
+    merge_is_of_a_set();
+}
