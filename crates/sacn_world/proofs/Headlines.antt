@@ -17,6 +17,7 @@ use Rattle.sacn_world.specs.RunLaws.{HoldsLive}
 use Rattle.sacn_world.specs.Headline.{world_at, since, EveryFrameIsTheMergeOfWhatWasSent, NoneGivesWayToAnEarlierOne, ALaterOneTakesOver, EqualHoldingsShowEqualSlots, TheTwentyFirstInARowIsHeld, HoldsOfARun, Headline}
 use Rattle.sacn_world.proofs.Reaching.{each_answered, joined, held_at_twenty_one}
 use Rattle.sacn_world.proofs.Lasting.{no_way_given}
+use Rattle.sacn_world.proofs.Admitted.{admissible_runs}
 use Rattle.sacn_world.proofs.Frames.{frames_merge, equal_slots}
 
 take_since : {X : Type 0} (j c : ℕ) (xs : List X) → take (j + c) xs ≡ take j xs ++ take c (drop j xs)
@@ -74,10 +75,13 @@ module _ (shows : List Desk) (setups : List (List Port)) (events : List Event) w
         (subst (λ (z : Count). 21 ≤ z.count) counted big))
 
 pub the_headline : MergesTheSet → Headline
-the_headline merges shows setups events run apart is = record {
-  merged = frames_merge shows setups events run apart is;
-  forward = goes_forward shows setups events run is;
-  later = takes_over shows setups events run is;
-  equal = (equal_slots merges).one shows setups events run apart is;
-  caught_up = catches_up shows setups events run is apart;
+the_headline merges = record {
+  accepted = admissible_runs;
+  holds = λ shows setups events run apart is. record {
+    merged = frames_merge shows setups events run apart is;
+    forward = goes_forward shows setups events run is;
+    later = takes_over shows setups events run is;
+    equal = (equal_slots merges).one shows setups events run apart is;
+    caught_up = catches_up shows setups events run is apart;
+  };
 }

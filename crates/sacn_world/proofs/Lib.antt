@@ -32,3 +32,4 @@ pub mod Lasting
 pub mod NewestPlaces
 pub mod Frames
 pub mod Headlines
+pub mod Admitted

@@ -1,6 +1,6 @@
 -- The headline: what holds of every run of a world of consoles and nodes, whatever was commanded, sent, delivered, lost, repeated
 -- and delayed, whatever the clocks read, and whoever started anew.
-use Rattle.std.specs.Prelude.{◌≡◌, ℕ, ◌+◌, ◌≤◌, List, take, drop, map, slice_get, Some}
+use Rattle.std.specs.Prelude.{◌≡◌, ◌↔◌, ℕ, ◌+◌, ◌≤◌, List, take, drop, map, slice_get, Some}
 use Rattle.sacn_framing.specs.Data.{Data}
 use Rattle.sacn_framing.specs.declared.packet.Packet.TheVariants.{DataPacket}
 use Rattle.sacn_node.specs.Setup.{Port}
@@ -19,6 +19,7 @@ use Rattle.sacn_world.specs.Origins.{IsMergedFrame, Looked}
 use Rattle.sacn_world.specs.Lasting.{Lasts, HoldsFrom, TakesItsPlace, MovesForward}
 use Rattle.sacn_world.specs.Looks.{LookOf, sent_at, held_at_look, AgreeOn}
 use Rattle.sacn_world.specs.RunLaws.{HoldsLive}
+use Rattle.sacn_world.specs.Admissible.{AreAdmissible}
 
 module _ (shows : List Desk) (setups : List (List Port)) (events : List Event) (answers : List Answer) where
   -- the world after the first j events, and the c events from there on
@@ -62,6 +63,10 @@ module _ (shows : List Desk) (setups : List (List Port)) (events : List Event) (
     pub equal : EqualHoldingsShowEqualSlots
     pub caught_up : TheTwentyFirstInARowIsHeld
 
--- Of every world of consoles with CIDs of their own, as `World::new` makes them, and every list of events that `run` answers
-abbrev pub Headline : Type 0
-Headline = (shows : List Desk) (setups : List (List Port)) (events : List Event) (run : Ran) → Apart (map new_console shows) → ran (new_world shows setups) events ≡ Some run → HoldsOfARun shows setups events run.answers
+-- Of every world of consoles with CIDs of their own, as `World::new` makes them, and every list of events
+pub record Headline : Type 0 where
+  -- a world accepts the list exactly where each event names what is there, no packet comes twenty or more sends behind the newest
+  -- of its stream and life that was delivered or after one of a later life, and no noise is a packet
+  pub accepted : (shows : List Desk) (setups : List (List Port)) (events : List Event) → AreAdmissible (new_world shows setups) events ↔ ((run : Ran) × (ran (new_world shows setups) events ≡ Some run))
+  -- and then, with the answers that `run` gives
+  pub holds : (shows : List Desk) (setups : List (List Port)) (events : List Event) (run : Ran) → Apart (map new_console shows) → ran (new_world shows setups) events ≡ Some run → HoldsOfARun shows setups events run.answers

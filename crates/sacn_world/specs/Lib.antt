@@ -25,3 +25,4 @@ pub mod Lasting
 pub mod Newest
 pub mod Looks
 pub mod Headline
+pub mod Admissible
