@@ -33,3 +33,4 @@ pub mod NewestPlaces
 pub mod Frames
 pub mod Headlines
 pub mod Admitted
+pub mod PresentLives

@@ -26,3 +26,4 @@ pub mod Newest
 pub mod Looks
 pub mod Headline
 pub mod Admissible
+pub mod Lives

@@ -10,7 +10,9 @@ ghost use Rattle.sacn_world.specs.Lasting.{NoHeldPacketGivesWay};
 ghost use Rattle.sacn_world.specs.Newest.{NewestIsTheGreatestDelivered};
 ghost use Rattle.sacn_world.specs.Looks.{FramesAreMergesOfWhatWasSent, EqualHoldingsGiveEqualSlots};
 ghost use Rattle.sacn_world.specs.Headline.{Headline};
+ghost use Rattle.sacn_world.specs.Lives.{ConsolesDoWhatIsDue};
 
+use sacn_console::laws::steps_are_the_list;
 use sacn_slots::laws::merge_is_of_a_set;
 
 /// World follows the model: at each delivery that a world accepts, a node core, which reads octets and knows eight-bit numbers
@@ -104,6 +106,14 @@ pub fn equal_holdings_give_equal_slots()
     ensures { EqualHoldingsGiveEqualSlots }
 {
     merge_is_of_a_set();
+}
+
+/// What a console does in a world, over any list of events and any restarts, is what is due by the list of its present life's
+/// accepted commands and of the datagrams that it gave in it.
+pub fn consoles_do_what_is_due()
+    ensures { ConsolesDoWhatIsDue }
+{
+    steps_are_the_list();
 }
 
 /// The headline: of every world that `World::new` makes, and every list of events that its `run` answers, whatever was
