@@ -1,16 +1,14 @@
 -- A world accepts exactly the lists of admissible events.
-use Rattle.std.proofs.Common.{◌↔◌, ◌≡◌, ℕ, zero, suc, ◌+◌, ◌<◌, ◌≤◌, Bool, true, false, List, [], ◌∷◌, map, take, length, Option, Some, None, Ok, Err, refl, sym, ap, subst, ◌∙◌, inl, inr, arith, slice_get}
-use Rattle.std.specs.Prelude.{◌==◌, ◌&&◌, nat_lt, nat_le, if◌then◌else◌}
+use Rattle.std.proofs.Common.{◌↔◌, ◌≡◌, ℕ, zero, suc, ◌+◌, ◌<◌, ◌≤◌, true, false, List, [], ◌∷◌, take, length, Option, Some, None, Ok, Err, refl, sym, ap, subst, ◌∙◌, inl, inr, arith, slice_get}
+use Rattle.std.specs.Prelude.{nat_le, if◌then◌else◌}
 use Rattle.std.proofs.lemmas.Bool.{cases_Bool, and_parts, and_from, eqb-true, eq-eqb, ltb-true, leb-true, leb-false, ltb-false, cases_lt}
 use Rattle.std.proofs.lemmas.Option.{same_Some, slice_get_within, none-some as none_some}
 use Rattle.sacn_framing.specs.Data.{Data}
 use Rattle.sacn_framing.specs.declared.packet.Packet.{Packet}
 use Rattle.sacn_framing.specs.declared.packet.Packet.TheVariants.{DataPacket, PagePacket, SyncPacket}
 use Rattle.sacn_framing.specs.PacketReading.{reading_packet}
-use Rattle.sacn_console.specs.declared.command.Command.{Command}
 use Rattle.sacn_node.specs.Readings.{Reading}
 use Rattle.sacn_node.specs.Setup.{Port}
-use Rattle.sacn_world.specs.declared.console.Console.{Console}
 use Rattle.sacn_world.specs.declared.event.Event.{Event}
 use Rattle.sacn_world.specs.declared.event.Event.TheVariants.{Order, Poll, Deliver, Look, RestartConsole, RestartNode, Noise}
 use Rattle.sacn_world.specs.declared.fault.WorldFault.{WorldFault}
@@ -20,7 +18,7 @@ use Rattle.sacn_world.specs.Holdings.{newest, is_old_life, is_too_far_behind, re
 use Rattle.sacn_world.specs.Nodes.{Node}
 use Rattle.sacn_world.specs.Cids.{Desk}
 use Rattle.sacn_world.specs.Kept.{IsAccepted}
-use Rattle.sacn_world.specs.Worlds.{World, Outcome, Step, order_step, poll_step, restart_console, come, arrive, deliver_step, look_step, heard, noise_step, restart_node, step, left_by, after, new_world}
+use Rattle.sacn_world.specs.Worlds.{World, Step, order_step, poll_step, restart_console, come, arrive, deliver_step, look_step, heard, noise_step, restart_node, step, left_by, after, new_world}
 use Rattle.sacn_world.specs.Running.{Ran, answered_first, first_then, ran}
 use Rattle.sacn_world.specs.Laws.{reached}
 use Rattle.sacn_world.specs.Newest.{greatest, delivered_in}

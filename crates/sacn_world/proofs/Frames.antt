@@ -1,12 +1,12 @@
 -- The frames that a run answered: merges of what was sent, and equal where the holdings are.
-use Rattle.std.proofs.Common.{get_or, ◌↔◌, ◌≡◌, ℕ, zero, suc, ◌+◌, ◌-◌, ◌<◌, ◌≤◌, max, Bool, true, false, List, [], ◌∷◌, ◌++◌, map, take, drop, length, Option, Some, None, Ok, Err, refl, sym, ap, subst, ◌∙◌, arith, slice_get}
-use Rattle.std.specs.Prelude.{find, ◌==◌, if◌then◌else◌, Contains}
-use Rattle.std.specs.List.{AllByRecursion, filter_map}
+use Rattle.std.proofs.Common.{get_or, ◌≡◌, ℕ, ◌+◌, ◌-◌, ◌<◌, ◌≤◌, max, List, map, take, drop, length, Option, Some, None, Ok, Err, refl, sym, ap, subst, ◌∙◌, arith, slice_get}
+use Rattle.std.specs.Prelude.{find, ◌==◌, if◌then◌else◌}
+use Rattle.std.specs.List.{AllByRecursion}
 use Rattle.std.proofs.lemmas.Bool.{eqb-true, ne_eqb}
-use Rattle.std.proofs.lemmas.Option.{same_Some, none-some as none_some}
+use Rattle.std.proofs.lemmas.Option.{same_Some}
 use Rattle.std.proofs.lemmas.List.{take-append-drop}
 use Rattle.std.proofs.lemmas.List.FromFn.{get_or-map-range_with_len, length-map-range_with_len}
-use Rattle.sacn_slots.specs.Merge.{Shown, merge, MergesTheSet}
+use Rattle.sacn_slots.specs.Merge.{MergesTheSet}
 use Rattle.sacn_node.specs.declared.setup.SlotRange.{SlotRange}
 use Rattle.sacn_node.specs.Setup.{Port}
 use Rattle.sacn_node.specs.Ports.{port_of, covers, octet_at, level_in, level_by, port_frame, frame_on}
@@ -14,20 +14,19 @@ use Rattle.sacn_world.specs.declared.answer.Answer.{Answer}
 use Rattle.sacn_world.specs.declared.answer.Answer.TheVariants as answered
 use Rattle.sacn_world.specs.declared.event.Event.{Event}
 use Rattle.sacn_world.specs.declared.event.Event.TheVariants.{Look}
-use Rattle.sacn_world.specs.Streams.{Sent, nothing, at, stream_of}
-use Rattle.sacn_world.specs.Holdings.{Hold, unexpired}
-use Rattle.sacn_world.specs.Nodes.{Holding, Node, node_at, holding_of, unexpired_all, shown_of, slots, slots_on, node_slots, frame_of, HoldOk}
-use Rattle.sacn_world.specs.Members.{IsShown, SameShown}
+use Rattle.sacn_world.specs.Streams.{Sent, at, stream_of}
+use Rattle.sacn_world.specs.Holdings.{Hold}
+use Rattle.sacn_world.specs.Nodes.{Holding, Node, node_at, holding_of, unexpired_all, slots, slots_on, node_slots, frame_of, HoldOk}
+use Rattle.sacn_world.specs.Members.{IsShown}
 use Rattle.sacn_world.specs.Cids.{Desk}
-use Rattle.sacn_world.specs.Worlds.{World, Outcome, Step, step, left_by, after, look_step, shown, new_console, new_world, Apart, NodeOk, WorldOk}
+use Rattle.sacn_world.specs.Worlds.{World, Step, step, after, look_step, shown, new_console, new_world, Apart, NodeOk, WorldOk}
 use Rattle.sacn_world.specs.Running.{Ran, ran}
-use Rattle.sacn_world.specs.Laws.{reached, ShowTheSame}
-use Rattle.sacn_world.specs.Origins.{IsHeldLayer, IsMergeOfHeld, held_in, held_after_expiry, slot_by, IsMergedFrame, Looked}
+use Rattle.sacn_world.specs.Laws.{reached}
+use Rattle.sacn_world.specs.Origins.{IsMergeOfHeld, held_in, held_after_expiry, slot_by, IsMergedFrame, Looked}
 use Rattle.sacn_world.specs.Looks.{LookOf, FramesAreMergesOfWhatWasSent, sent_at, held_at_look, AgreeOn, EqualHoldingsGiveEqualSlots}
 use Rattle.sacn_world.proofs.All.{all_get}
 use Rattle.sacn_world.proofs.NodeSteps.{all_kept}
-use Rattle.sacn_world.proofs.Runs.{after_ok, start_ok}
-use Rattle.sacn_world.proofs.Looks.{Longer, run_longer, found_passes, slots_same, in_all, in_contains}
+use Rattle.sacn_world.proofs.Looks.{run_longer, found_passes, slots_same, in_all, in_contains}
 use Rattle.sacn_world.proofs.Reaching.{reached_ok, each_answered, joined}
 use Rattle.sacn_world.proofs.Origin.{held_within, merge_of_held}
 

@@ -1,5 +1,5 @@
 -- The headline, from the laws of its parts.
-use Rattle.std.proofs.Common.{◌≡◌, ℕ, zero, suc, ◌+◌, ◌≤◌, List, [], ◌∷◌, ◌++◌, map, take, drop, Some, Ok, refl, sym, ap, subst, ◌∙◌, arith, slice_get}
+use Rattle.std.proofs.Common.{◌≡◌, ℕ, zero, suc, ◌+◌, ◌≤◌, List, [], ◌∷◌, ◌++◌, map, take, drop, Some, refl, sym, ap, subst, ◌∙◌, arith, slice_get}
 use Rattle.std.proofs.lemmas.Option.{same_Some}
 use Rattle.std.proofs.lemmas.List.{take-append-drop, take-take, drop-take}
 use Rattle.sacn_slots.specs.Merge.{MergesTheSet}
@@ -12,9 +12,9 @@ use Rattle.sacn_world.specs.Worlds.{World, step, left_by, after, new_console, ne
 use Rattle.sacn_world.specs.Running.{Ran, ran}
 use Rattle.sacn_world.specs.Counts.{Count, count_step, count_run, no_count}
 use Rattle.sacn_world.specs.Laws.{reached}
-use Rattle.sacn_world.specs.Lasting.{HoldsFrom, TakesItsPlace, MovesForward}
+use Rattle.sacn_world.specs.Lasting.{HoldsFrom, TakesItsPlace}
 use Rattle.sacn_world.specs.RunLaws.{HoldsLive}
-use Rattle.sacn_world.specs.Headline.{world_at, since, EveryFrameIsTheMergeOfWhatWasSent, NoneGivesWayToAnEarlierOne, ALaterOneTakesOver, EqualHoldingsShowEqualSlots, TheTwentyFirstInARowIsHeld, HoldsOfARun, Headline}
+use Rattle.sacn_world.specs.Headline.{NoneGivesWayToAnEarlierOne, ALaterOneTakesOver, TheTwentyFirstInARowIsHeld, Headline}
 use Rattle.sacn_world.proofs.Reaching.{each_answered, joined, held_at_twenty_one}
 use Rattle.sacn_world.proofs.Lasting.{no_way_given}
 use Rattle.sacn_world.proofs.Admitted.{admissible_runs}

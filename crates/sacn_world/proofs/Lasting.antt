@@ -1,7 +1,7 @@
 -- No held packet gives way: what each event leaves of a place that a node holds.
-use Rattle.std.proofs.Common.{◌≡◌, ℕ, ◌<◌, ◌≤◌, max, Bool, true, false, cond, List, [], ◌∷◌, ◌++◌, map, Option, Some, None, Ok, Err, refl, sym, ap, subst, ◌∙◌, inl, inr, ◌⊎◌, arith, slice_get}
-use Rattle.std.specs.Prelude.{option_map, slice_set, filter, find, ◌==◌, ◌&&◌, if◌then◌else◌, nat_lt}
-use Rattle.std.proofs.lemmas.Bool.{cases_Bool, eqb-true, eqb-false, eq-eqb, cases_eq}
+use Rattle.std.proofs.Common.{◌≡◌, ℕ, ◌≤◌, max, Bool, true, false, cond, List, [], ◌∷◌, Option, Some, None, Ok, Err, refl, sym, ap, subst, ◌∙◌, inl, inr, ◌⊎◌, arith, slice_get}
+use Rattle.std.specs.Prelude.{option_map, filter, find, ◌==◌, if◌then◌else◌}
+use Rattle.std.proofs.lemmas.Bool.{eq-eqb, cases_eq}
 use Rattle.std.proofs.lemmas.Option.{same_Some, none-some as none_some}
 use Rattle.sacn_framing.specs.Data.{Data}
 use Rattle.sacn_framing.specs.declared.packet.Packet.{Packet}
@@ -11,11 +11,10 @@ use Rattle.sacn_console.specs.Lines as line
 use Rattle.sacn_console.specs.declared.command.Command.{Command}
 use Rattle.sacn_node.specs.Readings.{Reading}
 use Rattle.sacn_node.specs.declared.taken.NodeTaken.{NodeTaken}
-use Rattle.sacn_node.specs.declared.taken.NodeTaken.TheVariants.{FromTable, OtherUniverse}
-use Rattle.sacn_sources.specs.declared.limits.TheConstants.{MAX_SOURCES}
+use Rattle.sacn_node.specs.declared.taken.NodeTaken.TheVariants.{FromTable}
 use Rattle.sacn_sources.specs.Order.{same}
 use Rattle.sacn_sources.specs.declared.taken.Taken.{Taken}
-use Rattle.sacn_sources.specs.declared.taken.Taken.TheVariants.{UnknownIgnored, Held, EndedNow, Observed, OutOfSequence, SourcesExceeded}
+use Rattle.sacn_sources.specs.declared.taken.Taken.TheVariants.{Held, EndedNow}
 use Rattle.sacn_world.specs.declared.answer.Answer.{Answer}
 use Rattle.sacn_world.specs.declared.answer.Answer.TheVariants as answered
 use Rattle.sacn_world.specs.declared.console.Console.{Console}
@@ -23,14 +22,14 @@ use Rattle.sacn_world.specs.declared.event.Event.{Event}
 use Rattle.sacn_world.specs.declared.event.Event.TheVariants.{Order, Poll, Deliver, Look, RestartConsole, RestartNode, Noise}
 use Rattle.sacn_world.specs.declared.fault.WorldFault.{WorldFault}
 use Rattle.sacn_world.specs.Streams.{Sent, stream_of, place_of}
-use Rattle.sacn_world.specs.Holdings.{Hold, is_renewed, unexpired, hold_of, put, answer, holding_after, delivered, newest, refusal}
+use Rattle.sacn_world.specs.Holdings.{Hold, is_renewed, unexpired, hold_of, answer, holding_after, delivered}
 use Rattle.sacn_world.specs.Nodes.{Holding, Node, node_of, unexpired_all, holding_of, reply_on, change, node_reply, node_after, node_at}
 use Rattle.sacn_world.specs.Worlds.{World, Outcome, Step, with_node, order_step, poll_by, poll_step, restart_console, come, arrive, deliver_step, look_step, heard, noise_step, restart_node, step, left_by, after, place_on, hold_in, held_at, place_at}
-use Rattle.sacn_world.specs.Lasting.{moment_for, LastsThrough, Lasts, HoldsFrom, TakesItsPlace, MovesForward, NoHeldPacketGivesWay}
+use Rattle.sacn_world.specs.Lasting.{LastsThrough, Lasts, HoldsFrom, TakesItsPlace, MovesForward, NoHeldPacketGivesWay}
 use Rattle.sacn_world.proofs.Forward.{never_back, later_than_held}
 use Rattle.sacn_world.proofs.Maps.{hold_of-put}
 use Rattle.sacn_world.proofs.Runs.{mapped}
-use Rattle.sacn_world.proofs.Counts.{on, find_kept, find_change, find_change_other, set_there, set_other}
+use Rattle.sacn_world.proofs.Counts.{find_kept, find_change, find_change_other, set_there, set_other}
 
 -- ---- expiry leaves what is renewed
 

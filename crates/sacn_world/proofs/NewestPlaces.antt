@@ -1,8 +1,8 @@
 -- The record of the newest delivered packet is the greatest place delivered since the node started.
-use Rattle.std.proofs.Common.{◌≡◌, ℕ, max, Bool, true, false, List, [], ◌∷◌, map, Option, Some, None, Ok, Err, refl, sym, ap, subst, ◌∙◌, inl, inr, slice_get}
-use Rattle.std.specs.Prelude.{slice_set, ◌==◌, ◌&&◌, if◌then◌else◌}
-use Rattle.std.proofs.lemmas.Bool.{cases_eq, eqb-true, eqb-false, eq-eqb, and_parts}
-use Rattle.std.proofs.lemmas.Option.{same_Some, slice_get-map, none-some as none_some}
+use Rattle.std.proofs.Common.{◌≡◌, ℕ, max, true, false, List, [], ◌∷◌, Option, Some, None, Ok, Err, refl, sym, ap, subst, ◌∙◌, inl, inr, slice_get}
+use Rattle.std.specs.Prelude.{◌==◌, ◌&&◌, if◌then◌else◌}
+use Rattle.std.proofs.lemmas.Bool.{cases_eq, eqb-true, eqb-false, and_parts}
+use Rattle.std.proofs.lemmas.Option.{slice_get-map, none-some as none_some}
 use Rattle.sacn_framing.specs.declared.packet.Packet.{Packet}
 use Rattle.sacn_framing.specs.declared.packet.Packet.TheVariants.{DataPacket, PagePacket, SyncPacket}
 use Rattle.sacn_framing.specs.PacketReading.{reading_packet}
@@ -15,8 +15,8 @@ use Rattle.sacn_world.specs.declared.console.Console.{Console}
 use Rattle.sacn_world.specs.declared.event.Event.{Event}
 use Rattle.sacn_world.specs.declared.event.Event.TheVariants.{Order, Poll, Deliver, Look, RestartConsole, RestartNode, Noise}
 use Rattle.sacn_world.specs.declared.fault.WorldFault.{WorldFault}
-use Rattle.sacn_world.specs.Streams.{Sent, stream_of, place_of}
-use Rattle.sacn_world.specs.Holdings.{Delivery, newest, noted, refusal}
+use Rattle.sacn_world.specs.Streams.{Sent}
+use Rattle.sacn_world.specs.Holdings.{Delivery, newest, noted}
 use Rattle.sacn_world.specs.Nodes.{Node, node_of, node_after, node_at}
 use Rattle.sacn_world.specs.Worlds.{World, with_node, order_step, poll_by, poll_step, restart_console, come, arrive, deliver_step, look_step, heard, noise_step, restart_node, step, left_by, after, new_world}
 use Rattle.sacn_world.specs.Newest.{greater, greatest, with_place, with_packet, with_delivery, delivered_by, delivered_in, NewestIsTheGreatestDelivered}

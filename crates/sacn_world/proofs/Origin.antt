@@ -1,9 +1,9 @@
 -- Whose packets a world has, which ports its nodes have, and so where what a node shows comes from.
-use Rattle.std.proofs.Common.{get_or, ◌↔◌, ◌≡◌, ℕ, zero, suc, ◌+◌, ◌-◌, ◌<◌, ◌≤◌, Bool, true, false, not, cond, List, [], ◌∷◌, ◌++◌, map, take, length, Option, Some, None, Ok, Err, refl, sym, ap, subst, ◌∙◌, inl, inr, arith, slice_get}
-use Rattle.std.specs.Prelude.{option_map, slice_set, filter, find, count_by, ◌==◌, ◌&&◌, if◌then◌else◌, Contains}
-use Rattle.std.specs.List.{AllByRecursion, filter_map, range_with_len}
+use Rattle.std.proofs.Common.{◌≡◌, ℕ, zero, suc, ◌<◌, Bool, true, false, not, cond, List, [], ◌∷◌, ◌++◌, map, take, length, Option, Some, None, Ok, Err, refl, sym, ap, subst, ◌∙◌, arith, slice_get}
+use Rattle.std.specs.Prelude.{option_map, slice_set, filter, count_by, ◌==◌, Contains}
+use Rattle.std.specs.List.{AllByRecursion, filter_map}
 use Rattle.std.proofs.lemmas.Option.{same_Some, slice_get-map}
-use Rattle.std.proofs.lemmas.Bool.{and_parts, eqb-true, ne_eqb}
+use Rattle.std.proofs.lemmas.Bool.{and_parts, eqb-true}
 use Rattle.sacn_framing.specs.Data.{Data}
 use Rattle.sacn_framing.specs.declared.packet.Packet.{Packet}
 use Rattle.sacn_framing.specs.declared.packet.Packet.TheVariants.{DataPacket, PagePacket, SyncPacket}
@@ -11,7 +11,6 @@ use Rattle.sacn_framing.specs.PacketReading.{reading_packet}
 use Rattle.sacn_slots.specs.Merge.{Shown, merge}
 use Rattle.sacn_console.specs.Shows.{ShowContent}
 use Rattle.sacn_console.specs.Lines as line
-use Rattle.sacn_console.specs.Core as console
 use Rattle.sacn_console.specs.declared.command.Command.{Command}
 use Rattle.sacn_node.specs.Readings.{Reading}
 use Rattle.sacn_node.specs.Setup.{Port}
@@ -22,19 +21,18 @@ use Rattle.sacn_world.specs.declared.fault.WorldFault.{WorldFault}
 use Rattle.sacn_world.specs.Streams.{Sent, nothing, at, is_on, is_of, stream_of, place_of, is_live, priority, levels, live_in}
 use Rattle.sacn_world.specs.Holdings.{Hold}
 use Rattle.sacn_world.specs.Seen.{shown_by}
-use Rattle.sacn_world.specs.Nodes.{Holding, Node, node_of, node_at, holding_of, shown_of, HoldOk}
+use Rattle.sacn_world.specs.Nodes.{Holding, Node, node_of, holding_of, shown_of, HoldOk}
 use Rattle.sacn_world.specs.Cids.{Desk}
-use Rattle.sacn_world.specs.Worlds.{World, with_console, with_node, sent_by, with_sent, polled, order_step, poll_by, poll_step, restart_console, come, arrive, deliver_step, look_step, heard, noise_step, restart_node, step, left_by, after, new_console, new_world, Apart, NodeOk, WorldOk}
+use Rattle.sacn_world.specs.Worlds.{World, with_console, with_node, sent_by, with_sent, polled, order_step, poll_by, poll_step, restart_console, come, arrive, deliver_step, look_step, heard, noise_step, restart_node, step, left_by, after, new_console, new_world, NodeOk, WorldOk}
 use Rattle.sacn_world.specs.Laws.{reached}
-use Rattle.sacn_world.specs.Members.{HeldOn}
 use Rattle.sacn_world.specs.Origins.{ReallySent, IsHeldLayer, IsMergeOfHeld, HeldPlacesWereSent, NodesKeepTheirPorts}
 use Rattle.sacn_world.proofs.All.{all_get}
-use Rattle.sacn_world.proofs.Sources.{same_source, same-itself}
+use Rattle.sacn_world.proofs.Sources.{same_source}
 use Rattle.sacn_world.proofs.Lists.{found}
 use Rattle.sacn_world.proofs.Growth.{holds_within}
 use Rattle.sacn_world.proofs.Runs.{mapped}
 use Rattle.sacn_world.proofs.Sending.{count_here, place_is}
-use Rattle.sacn_world.proofs.Looks.{In, contains_in, in_contains, in_filter_map, filter_map_in, in_all, shown_live}
+use Rattle.sacn_world.proofs.Looks.{contains_in, in_contains, in_filter_map, filter_map_in, in_all, shown_live}
 use Rattle.sacn_world.proofs.Counts.{own_stream}
 use Rattle.sacn_world.proofs.Reaching.{reached_ok, live_layer}
 

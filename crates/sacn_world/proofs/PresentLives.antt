@@ -1,6 +1,6 @@
 -- What a console does in a world is what is due by the list of its present life.
-use Rattle.std.proofs.Common.{get_or, ◌≡◌, ℕ, zero, suc, max, Bool, true, false, List, [], ◌∷◌, ◌++◌, map, length, Option, Some, None, Result, Ok, Err, refl, sym, ap, subst, ◌∙◌, inl, inr, slice_get}
-use Rattle.std.specs.Prelude.{option_map, slice_set, ◌==◌, if◌then◌else◌}
+use Rattle.std.proofs.Common.{get_or, ◌≡◌, ℕ, max, true, false, List, [], ◌∷◌, ◌++◌, length, Option, Some, None, Result, Ok, Err, refl, sym, ap, subst, ◌∙◌, slice_get}
+use Rattle.std.specs.Prelude.{slice_set, ◌==◌, if◌then◌else◌}
 use Rattle.std.proofs.lemmas.Bool.{eqb-true, eqb-false}
 use Rattle.std.proofs.lemmas.Option.{same_Some, slice_get-map, none-some as none_some}
 use Rattle.std.proofs.lemmas.List.{get_or_push}
@@ -23,9 +23,9 @@ use Rattle.sacn_world.specs.declared.fault.WorldFault.{WorldFault}
 use Rattle.sacn_world.specs.Streams.{Sent}
 use Rattle.sacn_world.specs.Nodes.{Node}
 use Rattle.sacn_world.specs.Cids.{Desk}
-use Rattle.sacn_world.specs.Worlds.{World, Console, Outcome, Step, with_core, with_console, polled, order_step, poll_by, poll_step, begun, restart_console, come, arrive, deliver_step, look_step, heard, noise_step, restart_node, step, left_by, after, new_console, new_world}
+use Rattle.sacn_world.specs.Worlds.{World, Console, Outcome, with_core, polled, order_step, poll_by, poll_step, begun, restart_console, come, arrive, deliver_step, look_step, heard, noise_step, restart_node, step, left_by, after, new_console, new_world}
 use Rattle.sacn_world.specs.Laws.{reached}
-use Rattle.sacn_world.specs.Lives.{calls_with, calls_in, first_with, first_in, moment_of, DoesWhatIsDue, ConsolesDoWhatIsDue}
+use Rattle.sacn_world.specs.Lives.{calls_with, calls_in, first_with, first_in, moment_of, ConsolesDoWhatIsDue}
 use Rattle.sacn_world.proofs.Runs.{mapped}
 use Rattle.sacn_world.proofs.Counts.{set_same, set_other}
 

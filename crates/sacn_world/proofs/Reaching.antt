@@ -1,23 +1,21 @@
 -- Worlds that runs come to, and the answers of a run, event by event.
-use Rattle.std.proofs.Common.{get_or, ◌↔◌, ◌≡◌, ℕ, zero, suc, ◌+◌, ◌<◌, ◌≤◌, true, List, [], ◌∷◌, ◌++◌, map, take, length, Option, Some, None, Ok, Err, refl, sym, ap, subst, ◌∙◌, inl, arith, slice_get}
+use Rattle.std.proofs.Common.{get_or, ◌≡◌, ℕ, zero, suc, ◌+◌, ◌<◌, true, List, [], ◌∷◌, map, take, length, Option, Some, None, Ok, Err, refl, sym, ap, subst, ◌∙◌, inl, arith, slice_get}
 use Rattle.std.specs.Prelude.{option_map}
 use Rattle.std.proofs.lemmas.Option.{same_Some, slice_get-map}
 use Rattle.sacn_framing.specs.Data.{Data}
 use Rattle.sacn_framing.specs.declared.packet.Packet.{Packet}
 use Rattle.sacn_framing.specs.declared.packet.Packet.TheVariants.{DataPacket, PagePacket, SyncPacket}
-use Rattle.sacn_node.specs.Setup.{Port}
-use Rattle.sacn_world.specs.declared.answer.Answer.{Answer}
 use Rattle.sacn_world.specs.declared.event.Event.{Event}
 use Rattle.sacn_world.specs.declared.event.Event.TheVariants.{Deliver}
 use Rattle.sacn_world.specs.declared.fault.WorldFault.{WorldFault}
 use Rattle.sacn_world.specs.Streams.{Sent, at, stream_of, place_of, is_live, priority, levels, priority_in, levels_in}
-use Rattle.sacn_world.specs.Holdings.{Hold, hold_of, newest, refusal}
+use Rattle.sacn_world.specs.Holdings.{Hold}
 use Rattle.sacn_world.specs.Seen.{shown_by, seen}
-use Rattle.sacn_world.specs.Nodes.{Node, Holding, holding_of}
+use Rattle.sacn_world.specs.Nodes.{Node}
 use Rattle.sacn_world.specs.Cids.{Desk, HaveOwnCids}
-use Rattle.sacn_world.specs.Worlds.{World, Outcome, Step, step, left_by, after, come, arrive, deliver_step, new_console, new_world, Apart, WorldOk, place_on, hold_in, held_at}
+use Rattle.sacn_world.specs.Worlds.{World, Outcome, Step, step, left_by, after, come, arrive, deliver_step, new_console, new_world, Apart, place_on, hold_in, held_at}
 use Rattle.sacn_world.specs.Running.{Ran, answered_first, first_then, ran}
-use Rattle.sacn_world.specs.Counts.{Count, count_step, count_run, no_count, Shows}
+use Rattle.sacn_world.specs.Counts.{Count, count_run, no_count, Shows}
 use Rattle.sacn_sources.specs.Order.{same}
 use Rattle.sacn_world.specs.Laws.{reached}
 use Rattle.sacn_world.specs.RunLaws.{OwnCidsKeepConsolesApart, ReachedWorldsKeepTheirInvariant, AnsweredAt, RunsAnswerStepByStep, ListsOfEventsJoin, HoldsLive, TwentyOneInARowAreHeld}

@@ -1,5 +1,5 @@
 -- What a console does in a world, by the commands and datagrams of its present life.
-use Rattle.std.specs.Prelude.{◌≡◌, ℕ, max, ◌==◌, if◌then◌else◌, List, [], ◌∷◌, ◌++◌, map, slice_get, Some, Ok}
+use Rattle.std.specs.Prelude.{◌≡◌, ℕ, max, ◌==◌, if◌then◌else◌, List, [], ◌∷◌, ◌++◌, slice_get, Some, Ok}
 use Rattle.sacn_console.specs.declared.command.Command.{Command}
 use Rattle.sacn_console.specs.Due.{Life, life_of, due_by_list, answer_by_list}
 use Rattle.sacn_console.specs.Lines.{Deed}

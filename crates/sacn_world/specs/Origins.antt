@@ -1,5 +1,5 @@
 -- Where what a node shows comes from: packets that consoles of the world really sent.
-use Rattle.std.specs.Prelude.{◌≡◌, ◌↔◌, ℕ, ◌+◌, ◌-◌, ◌<◌, ◌≤◌, false, List, [], take, map, find, length, get_or, slice_get, Option, Some, None, Contains}
+use Rattle.std.specs.Prelude.{◌≡◌, ◌↔◌, ℕ, ◌+◌, ◌-◌, ◌<◌, ◌≤◌, false, List, [], map, find, length, get_or, slice_get, Option, Some, None, Contains}
 use Rattle.sacn_framing.specs.Data.{Data}
 use Rattle.sacn_framing.specs.declared.packet.Packet.TheVariants.{DataPacket}
 use Rattle.sacn_slots.specs.Merge.{Shown, merge}
@@ -11,7 +11,7 @@ use Rattle.sacn_world.specs.declared.answer.Answer.{Answer}
 use Rattle.sacn_world.specs.declared.answer.Answer.TheVariants.{Shown as Framed}
 use Rattle.sacn_world.specs.declared.event.Event.{Event}
 use Rattle.sacn_world.specs.declared.event.Event.TheVariants.{Look}
-use Rattle.sacn_world.specs.Streams.{Sent, stream_of, place_of}
+use Rattle.sacn_world.specs.Streams.{Sent, place_of}
 use Rattle.sacn_world.specs.Holdings.{Hold}
 use Rattle.sacn_world.specs.Nodes.{Holding, Node, node_at, holding_of}
 use Rattle.sacn_world.specs.Cids.{Desk}
