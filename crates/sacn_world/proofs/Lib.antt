@@ -34,3 +34,4 @@ pub mod Frames
 pub mod Headlines
 pub mod Admitted
 pub mod PresentLives
+pub mod Filing

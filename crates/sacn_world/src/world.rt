@@ -164,7 +164,7 @@ impl World {
         if console >= self.consoles.len() {
             return Err(WorldFault::NoConsole);
         }
-        let Ok(mut octets) = Vec::with_capacity(self.alloc, MOST_OCTETS) else {
+        let Ok(room) = Vec::with_capacity(self.alloc, MOST_OCTETS) else {
             return Err(WorldFault::OutOfMemory);
         };
         let Ok(()) = self.sent.reserve(1) else {
@@ -174,7 +174,7 @@ impl World {
         let Some(len) = self.consoles[console].core.poll(now, &mut out) else {
             return Ok(Answer::Idle);
         };
-        copy_into(&mut octets, &out, len);
+        let octets = in_own_length(self.alloc, room, &out, len);
         let number = self.sent.len();
         let datagram = self.consoles[console].posted(self.sent.as_slice(), octets);
         self.sent.push_reserved(datagram);
@@ -250,14 +250,21 @@ impl World {
     }
 }
 
-/// The first octets of a datagram, where there is room for them.
-fn copy_into(octets: &mut Vec<u8>, out: &[u8; MOST_OCTETS], len: usize)
-    requires empty { octets.old.items ≡ [] }
-    requires room { MOST_OCTETS ≤ vec_capacity octets.old }
+/// The first octets of a datagram, in a vector of their own length; in the room that there is, where memory for one is refused.
+fn in_own_length(alloc: Global, room: Vec<u8>, out: &[u8; MOST_OCTETS], len: usize) -> Vec<u8>
+    requires empty { room.items ≡ [] }
+    requires room { MOST_OCTETS ≤ vec_capacity room }
     requires len { len ≤ MOST_OCTETS }
-    ensures { octets.new.items ≡ take len out.now }
+    ensures { result.items ≡ take len out.now }
 {
-    let _ = octets.extend_from_slice(&out[..len]);
+    match Vec::from_slice(alloc, &out[..len]) {
+        Ok(octets) => octets,
+        Err(_) => {
+            let mut octets = room;
+            let _ = octets.extend_from_slice(&out[..len]);
+            octets
+        }
+    }
 }
 
 /// The answer to a look: a frame, where the node has the port.
