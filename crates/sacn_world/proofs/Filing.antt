@@ -1,13 +1,13 @@
 -- How many packets of a stream were sent is known from the latest of them.
-use Rattle.std.proofs.Common.{get_or, ◌≡◌, ℕ, zero, suc, ◌+◌, ◌-◌, ◌<◌, ◌≤◌, Bool, true, false, cond, List, [], ◌∷◌, ◌++◌, map, take, length, Option, Some, None, refl, sym, ap, subst, ◌∙◌, arith, slice_get}
-use Rattle.std.specs.Prelude.{option_map, count_by, ◌==◌, ◌&&◌, if◌then◌else◌}
+use Rattle.std.proofs.Common.{◌≡◌, ℕ, zero, suc, ◌+◌, Bool, true, false, cond, List, [], ◌∷◌, map, take, Option, Some, None, refl, sym, ap, ◌∙◌, arith, slice_get}
+use Rattle.std.specs.Prelude.{option_map, count_by, if◌then◌else◌}
 use Rattle.std.proofs.lemmas.Bool.{and_parts, eqb-true}
 use Rattle.std.proofs.lemmas.List.{take-map}
 use Rattle.std.proofs.lemmas.Option.{same_Some, none-some as none_some}
 use Rattle.sacn_framing.specs.declared.packet.Packet.{Packet}
 use Rattle.sacn_framing.specs.declared.packet.Packet.TheVariants.{DataPacket, PagePacket, SyncPacket}
 use Rattle.sacn_world.specs.declared.console.Console.{Console}
-use Rattle.sacn_world.specs.Streams.{Sent, is_of, place_of}
+use Rattle.sacn_world.specs.Streams.{is_of, place_of}
 use Rattle.sacn_world.specs.Watches.{Watch}
 use Rattle.sacn_world.specs.Wire.{SentDatagram, InStream, seen_sent, stream_in, is_in, is_filed, place_in, AreFiled}
 use Rattle.sacn_world.specs.Kept.{Kept}
