@@ -43,7 +43,7 @@ shows_apart : (ss : List Desk) → has_same_cid ss ≡ false → OwnCids ss
 shows_apart [] none = λ i j s t es et is. absurd (none_some s es)
 shows_apart (x ∷ ss) none = let parts = or_parts (list_any (λ e. same_cid x e) ss) (has_same_cid ss) none in own_by x ss (not_there x ss parts.0) (shows_apart ss parts.1)
 
-consoles_apart : (ss : List (Desk)) → has_same_cid ss ≡ false → Apart (map new_console ss)
+pub consoles_apart : (ss : List (Desk)) → has_same_cid ss ≡ false → Apart (map new_console ss)
 consoles_apart ss none i j c d ec ed is =
     let s = mapped new_console (slice_get ss i) c (sym (slice_get-map new_console ss i) ∙ ec) in
     let t = mapped new_console (slice_get ss j) d (sym (slice_get-map new_console ss j) ∙ ed) in

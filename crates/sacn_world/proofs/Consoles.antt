@@ -66,7 +66,7 @@ idle_ok sent c m e ok =
     let f : console.after_poll m c.core ≡ console.at m c.core = ap (λ o. console.given o (console.at m c.core)) e in
     subst (λ (core : console.Core). ConsoleOk sent (with_core c core)) (sym f) (recored sent c (console.at m c.core) ok ok.sender ok.lines)
 
-count_push : {X : Type 0} (p : X → Bool) (xs : List X) (x : X) (b : Bool) → p x ≡ b → count_by p (xs ++ x ∷ []) ≡ count_by p xs + cond b 1 0
+pub count_push : {X : Type 0} (p : X → Bool) (xs : List X) (x : X) (b : Bool) → p x ≡ b → count_by p (xs ++ x ∷ []) ≡ count_by p xs + cond b 1 0
 count_push p [] x b e = count_here p x [] b e ∙ omega arith
 count_push p (y ∷ ys) x b e =
     let a = count_here p y (ys ++ x ∷ []) (p y) refl in

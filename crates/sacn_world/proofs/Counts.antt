@@ -45,10 +45,10 @@ on u g = g.universe == u
 
 -- ---- the holding of a universe, after expiry and after a change
 
-find_kept : (u t : ℕ) (gs : List Holding) → find (on u) (unexpired_all t gs) ≡ option_map (λ (g : Holding). record { universe = g.universe; held = unexpired t g.held }) (find (on u) gs)
+pub find_kept : (u t : ℕ) (gs : List Holding) → find (on u) (unexpired_all t gs) ≡ option_map (λ (g : Holding). record { universe = g.universe; held = unexpired t g.held }) (find (on u) gs)
 find_kept u t gs = find-map (λ (g : Holding). record { universe = g.universe; held = unexpired t g.held }) (on u) (on u) (λ x. refl) gs
 
-find_change : (u : ℕ) (f : List Hold → List Hold) (gs : List Holding) → find (on u) (change u f gs) ≡ option_map (λ (g : Holding). record { universe = g.universe; held = f g.held }) (find (on u) gs)
+pub find_change : (u : ℕ) (f : List Hold → List Hold) (gs : List Holding) → find (on u) (change u f gs) ≡ option_map (λ (g : Holding). record { universe = g.universe; held = f g.held }) (find (on u) gs)
 find_change u f [] = refl
 find_change u f (g ∷ gs) =
     elim (g.universe == u) as (λ b. (g.universe == u) ≡ b → find (on u) (if b then record { universe = g.universe; held = f g.held } ∷ gs else g ∷ change u f gs) ≡ option_map (λ (h : Holding). record { universe = h.universe; held = f h.held }) (cond b (Some g) (find (on u) gs))) [
@@ -56,7 +56,7 @@ find_change u f (g ∷ gs) =
       | false ↦ λ e. ap (λ b. cond b (Some g) (find (on u) (change u f gs))) e ∙ find_change u f gs
     ] refl
 
-find_change_other : (u v : ℕ) (f : List Hold → List Hold) (gs : List Holding) → (v ≡ u → ⊥) → find (on u) (change v f gs) ≡ find (on u) gs
+pub find_change_other : (u v : ℕ) (f : List Hold → List Hold) (gs : List Holding) → (v ≡ u → ⊥) → find (on u) (change v f gs) ≡ find (on u) gs
 find_change_other u v f [] ne = refl
 find_change_other u v f (g ∷ gs) ne =
     elim (g.universe == v) as (λ b. (g.universe == v) ≡ b → find (on u) (if b then record { universe = g.universe; held = f g.held } ∷ gs else g ∷ change v f gs) ≡ cond (g.universe == u) (Some g) (find (on u) gs)) [
@@ -202,19 +202,19 @@ set_same [] i y n e = cc
 set_same (x ∷ xs) zero y n e = same_Some y n e
 set_same (x ∷ xs) (suc i) y n e = set_same xs i y n e
 
-set_other : {X : Type 0} (xs : List X) (i j : ℕ) (y : X) → (j ≡ i → ⊥) → slice_get (slice_set xs j y) i ≡ slice_get xs i
+pub set_other : {X : Type 0} (xs : List X) (i j : ℕ) (y : X) → (j ≡ i → ⊥) → slice_get (slice_set xs j y) i ≡ slice_get xs i
 set_other [] i j y ne = refl
 set_other (x ∷ xs) zero zero y ne = absurd (ne refl)
 set_other (x ∷ xs) zero (suc j) y ne = refl
 set_other (x ∷ xs) (suc i) zero y ne = refl
 set_other (x ∷ xs) (suc i) (suc j) y ne = set_other xs i j y (λ e. ne (ap suc e))
 
-set_there : {X : Type 0} (xs : List X) (i : ℕ) (x y : X) → slice_get xs i ≡ Some x → slice_get (slice_set xs i y) i ≡ Some y
+pub set_there : {X : Type 0} (xs : List X) (i : ℕ) (x y : X) → slice_get xs i ≡ Some x → slice_get (slice_set xs i y) i ≡ Some y
 set_there [] i x y e = absurd (none_some x e)
 set_there (z ∷ zs) zero x y e = refl
 set_there (z ∷ zs) (suc i) x y e = set_there zs i x y e
 
-own_stream : (x : Sent) (y : Data) → x.packet ≡ DataPacket y → is_of x.source y.universe x ≡ true
+pub own_stream : (x : Sent) (y : Data) → x.packet ≡ DataPacket y → is_of x.source y.universe x ≡ true
 own_stream x y e = and_from _ _ (same-itself x.source) (ap (is_on y.universe) e ∙ eq-eqb y.universe y.universe refl)
 
 abbrev world_of : World → Step → World
@@ -351,7 +351,7 @@ counts_ok w i s u c [] ok k = k
 counts_ok w i s u c (e ∷ es) ok k =
     counts_ok (left_by w (step w e)) i s u (count_step w i s u e c) es (step_ok w ok e) (count_ok w ok i s u c k e)
 
-start_count : (shows : List (ShowContent × ℕ)) (setups : List (List Port)) (i : ℕ) (s : List ℕ) (u : ℕ) → CountWorld (new_world shows setups) i s u no_count
+pub start_count : (shows : List (ShowContent × ℕ)) (setups : List (List Port)) (i : ℕ) (s : List ℕ) (u : ℕ) → CountWorld (new_world shows setups) i s u no_count
 start_count shows setups i s u n e =
     let a = mapped node_of (slice_get setups i) n (sym (slice_get-map node_of setups i) ∙ e) in
     subst (CountNode [] s u no_count) a.2 (started [] s u (node_of a.0) (empty_held (universes a.0) u))
@@ -363,7 +363,7 @@ pub admitted : (w : World) (i m : ℕ) (n : Node) (s : List ℕ) (u q : ℕ) (f 
 admitted w i m n s u q (Some f) o e = cc
 admitted w i m n s u q None o e = (refl, sym (ap (world_of w) e))
 
-at_twenty_one : (w : World) → WorldOk w → (i d m : ℕ) (c : Count) (n : Node) (g : Holding) (x : Sent) (y : Data) (o : Outcome) → CountWorld w i x.source y.universe c → slice_get w.nodes i ≡ Some n → slice_get w.sent d ≡ Some x → x.packet ≡ DataPacket y → find (on y.universe) n.holdings ≡ Some g → step w (Deliver d i m) ≡ Ok o → 21 ≤ (count_step w i x.source y.universe (Deliver d i m) c).count → Shows o.world i x.source y.universe (place_of x.source y.universe d w.sent)
+pub at_twenty_one : (w : World) → WorldOk w → (i d m : ℕ) (c : Count) (n : Node) (g : Holding) (x : Sent) (y : Data) (o : Outcome) → CountWorld w i x.source y.universe c → slice_get w.nodes i ≡ Some n → slice_get w.sent d ≡ Some x → x.packet ≡ DataPacket y → find (on y.universe) n.holdings ≡ Some g → step w (Deliver d i m) ≡ Ok o → 21 ≤ (count_step w i x.source y.universe (Deliver d i m) c).count → Shows o.world i x.source y.universe (place_of x.source y.universe d w.sent)
 unfolding step count_step
 at_twenty_one w ok i d m c n g x y o k en ex ey eg eo big =
     let s = x.source in

@@ -26,3 +26,12 @@ pub mod Posting
 pub mod Readers
 pub mod Ran
 pub mod Beginning
+pub mod Reaching
+pub mod Origin
+pub mod Lasting
+pub mod NewestPlaces
+pub mod Frames
+pub mod Headlines
+pub mod Admitted
+pub mod PresentLives
+pub mod Filing

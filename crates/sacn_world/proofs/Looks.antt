@@ -45,14 +45,14 @@ found_passes test (y ∷ ys) x e =
 
 -- ---- elements
 
-abbrev In : {X : Type 0} → X → List X → Type 0
+abbrev pub In : {X : Type 0} → X → List X → Type 0
 In x [] = ⊥
 In x (y ∷ ys) = (y ≡ x) ⊎ In x ys
 
 contains_more : {X : Type 0} (x y : X) (ys : List X) → Contains ys x → Contains (y ∷ ys) x
 contains_more x y ys c = (suc c.0, omega (arith, c.1), c.2)
 
-contains_in : {X : Type 0} (x : X) (xs : List X) → In x xs → Contains xs x
+pub contains_in : {X : Type 0} (x : X) (xs : List X) → In x xs → Contains xs x
 contains_in x [] i = absurd i
 contains_in x (y ∷ ys) (inl e) = (0, omega arith, e)
 contains_in x (y ∷ ys) (inr i) = contains_more x y ys (contains_in x ys i)
@@ -62,11 +62,11 @@ in_at x [] k lt e = absurd (omega (arith, lt))
 in_at x (y ∷ ys) zero lt e = inl e
 in_at x (y ∷ ys) (suc k) lt e = inr (in_at x ys k (omega (arith, lt)) e)
 
-in_contains : {X : Type 0} (x : X) (xs : List X) → Contains xs x → In x xs
+pub in_contains : {X : Type 0} (x : X) (xs : List X) → Contains xs x → In x xs
 in_contains x xs c = in_at x xs c.0 c.1 c.2
 
 module _ {X Y : Type 0} (f : X → Option Y) where
-  in_filter_map : (y : Y) (xs : List X) → In y (filter_map f xs) → (x : X) × In x xs × (f x ≡ Some y)
+  pub in_filter_map : (y : Y) (xs : List X) → In y (filter_map f xs) → (x : X) × In x xs × (f x ≡ Some y)
   in_filter_map y [] i = absurd i
   in_filter_map y (z ∷ zs) i =
       elim (f z) as (λ o. f z ≡ o → In y (cons_option o (filter_map f zs)) → (x : X) × In x (z ∷ zs) × (f x ≡ Some y)) [
@@ -77,7 +77,7 @@ module _ {X Y : Type 0} (f : X → Option Y) where
         | None ↦ λ e j. let r = in_filter_map y zs j in (r.0, inr r.1, r.2)
       ] refl i
 
-  filter_map_in : (x : X) (y : Y) (xs : List X) → In x xs → f x ≡ Some y → In y (filter_map f xs)
+  pub filter_map_in : (x : X) (y : Y) (xs : List X) → In x xs → f x ≡ Some y → In y (filter_map f xs)
   filter_map_in x y [] i e = absurd i
   filter_map_in x y (z ∷ zs) (inl k) e =
       let g : f z ≡ Some y = ap f k ∙ e in
@@ -86,14 +86,14 @@ module _ {X Y : Type 0} (f : X → Option Y) where
       let r = filter_map_in x y zs k e in
       elim (f z) as (λ o. In y (cons_option o (filter_map f zs))) [ Some w ↦ inr r | None ↦ r ]
 
-in_all : {X : Type 0} (P : X → Type 0) (xs : List X) (x : X) → AllByRecursion P xs → In x xs → P x
+pub in_all : {X : Type 0} (P : X → Type 0) (xs : List X) (x : X) → AllByRecursion P xs → In x xs → P x
 in_all P [] x all i = absurd i
 in_all P (y ∷ ys) x all (inl e) = subst P e all.0
 in_all P (y ∷ ys) x all (inr i) = in_all P ys x all.1 i
 
 -- ---- what is shown on the one side is shown on the other, with its priority and levels
 
-shown_live : (b : Bool) (p : ℕ) (l : List ℕ) (y : Shown) → shown_by b p l ≡ Some y → b ≡ true
+pub shown_live : (b : Bool) (p : ℕ) (l : List ℕ) (y : Shown) → shown_by b p l ≡ Some y → b ≡ true
 shown_live true p l y e = refl
 shown_live false p l y e = cc
 
@@ -108,13 +108,13 @@ half u sent later hs gs to alike y c =
     ∙ ap (λ (x : Sent). shown_by (is_live x) (priority x) (levels x)) (alike a.0.source a.0.place here) in
     contains_in y _ (filter_map_in (shown_of u later) b.hold y gs (in_contains b.hold gs b.held) (e ∙ a.2))
 
-slots_same : MergesTheSet → (u : ℕ) (sent later : List Sent) (hs gs : List Hold) → SameShown u sent hs later gs → ((s : List ℕ) (q : ℕ) → IsShown u sent hs s q → at (stream_of s u later) q ≡ at (stream_of s u sent) q) → slots u sent hs ≡ slots u later gs
+pub slots_same : MergesTheSet → (u : ℕ) (sent later : List Sent) (hs gs : List Hold) → SameShown u sent hs later gs → ((s : List ℕ) (q : ℕ) → IsShown u sent hs s q → at (stream_of s u later) q ≡ at (stream_of s u sent) q) → slots u sent hs ≡ slots u later gs
 slots_same merges u sent later hs gs same' alike =
     merges _ _ (λ y. (half u sent later hs gs (λ s q. (same' s q).0) alike y, half u later sent gs hs (λ s q. (same' s q).1) (λ s q i. sym (alike s q ((same' s q).1 i))) y))
 
 -- ---- the second history has all that the first has
 
-record Longer (a b : List Sent) : Type 0 where
+pub record Longer (a b : List Sent) : Type 0 where
   pub there : (s : List ℕ) (u p : ℕ) → p < length (stream_of s u a) → p < length (stream_of s u b)
   pub alike : (s : List ℕ) (u p : ℕ) → p < length (stream_of s u a) → at (stream_of s u b) p ≡ at (stream_of s u a) p
 
@@ -183,12 +183,12 @@ step_longer w (RestartConsole i first) = console_longer w i first _
 step_longer w (RestartNode i) = node_longer w i _
 step_longer w (Noise i m octets) = noise_longer w i m (reading_packet octets.items) _
 
-run_longer : (w : World) (es : List Event) → Longer w.sent (after w es).sent
+pub run_longer : (w : World) (es : List Event) → Longer w.sent (after w es).sent
 run_longer w [] = itself w.sent
 run_longer w (e ∷ es) = further w.sent (left_by w (step w e)).sent (after (left_by w (step w e)) es).sent (step_longer w e) (run_longer (left_by w (step w e)) es)
 
 -- a place that is shown was sent
-shown_within : (w : World) → WorldOk w → (i u : ℕ) (hs : List Hold) → HeldOn w i u hs → (s : List ℕ) (q : ℕ) → IsShown u w.sent hs s q → q < length (stream_of s u w.sent)
+pub shown_within : (w : World) → WorldOk w → (i u : ℕ) (hs : List Hold) → HeldOn w i u hs → (s : List ℕ) (q : ℕ) → IsShown u w.sent hs s q → q < length (stream_of s u w.sent)
 shown_within w ok i u hs on s q k =
     let nok = all_get (NodeOk w.sent) w.nodes i on.node ok.nodes on.is_node in
     let f = found (λ (y : Holding). AllByRecursion (HoldOk y.universe on.node.delivered) y.held) (λ y. y.universe == u) on.node.holdings on.holding nok.below on.is_holding in

@@ -68,12 +68,12 @@ poll_read data' page' sender d out old ok lo ll e =
 
 -- ---- what a world keeps, with a datagram more
 
-filed_is : (s : List ℕ) (u : ℕ) (f : SentDatagram) (sent : List Sent) (k : ℕ) → (p : Packet) → (seen_sent f).packet ≡ p → f.stream ≡ stream_in sent k f.source p → is_filed s u f ≡ is_of s u (seen_sent f)
+pub filed_is : (s : List ℕ) (u : ℕ) (f : SentDatagram) (sent : List Sent) (k : ℕ) → (p : Packet) → (seen_sent f).packet ≡ p → f.stream ≡ stream_in sent k f.source p → is_filed s u f ≡ is_of s u (seen_sent f)
 filed_is s u f sent k (DataPacket d) ep es = ap (λ o. same s f.source && is_in u o) es ∙ ap (λ q. same s f.source && is_on u q) (sym ep)
 filed_is s u f sent k (PagePacket p) ep es = ap (λ o. same s f.source && is_in u o) es ∙ ap (λ q. same s f.source && is_on u q) (sym ep)
 filed_is s u f sent k SyncPacket ep es = ap (λ o. same s f.source && is_in u o) es ∙ ap (λ q. same s f.source && is_on u q) (sym ep)
 
-count_filed : (s : List ℕ) (u : ℕ) (fs : List SentDatagram) → ((k : ℕ) (f : SentDatagram) → slice_get fs k ≡ Some f → is_filed s u f ≡ is_of s u (seen_sent f)) → count_by (is_filed s u) fs ≡ count_by (is_of s u) (map seen_sent fs)
+pub count_filed : (s : List ℕ) (u : ℕ) (fs : List SentDatagram) → ((k : ℕ) (f : SentDatagram) → slice_get fs k ≡ Some f → is_filed s u f ≡ is_of s u (seen_sent f)) → count_by (is_filed s u) fs ≡ count_by (is_of s u) (map seen_sent fs)
 count_filed s u [] all = refl
 count_filed s u (f ∷ fs) all =
     let a = count_here (is_filed s u) f fs (is_filed s u f) refl in

@@ -9,7 +9,7 @@ use Rattle.sacn_world.specs.Worlds.{World, Step, step, takes_memory, after, left
 use Rattle.sacn_world.specs.Kept.{IsAccepted, SteppedBy}
 use Rattle.sacn_world.specs.Running.{Ran, answered_first, first_then, ran, Stopped}
 
-take_more : {X : Type 0} (xs : List X) (i : ℕ) (x : X) → slice_get xs i ≡ Some x → take (i + 1) xs ≡ take i xs ++ x ∷ []
+pub take_more : {X : Type 0} (xs : List X) (i : ℕ) (x : X) → slice_get xs i ≡ Some x → take (i + 1) xs ≡ take i xs ++ x ∷ []
 take_more [] i x e = absurd (cc)
 take_more (y ∷ ys) zero x e = ap (λ z. z ∷ []) (same_Some y x e)
 take_more (y ∷ ys) (suc i) x e =

@@ -19,3 +19,11 @@ pub mod Watches
 pub mod Wire
 pub mod Kept
 pub mod Running
+pub mod RunLaws
+pub mod Origins
+pub mod Lasting
+pub mod Newest
+pub mod Looks
+pub mod Headline
+pub mod Admissible
+pub mod Lives

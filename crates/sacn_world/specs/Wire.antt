@@ -1,5 +1,5 @@
 -- A datagram as a world keeps it: its octets, and where it stands in its stream.
-use Rattle.std.specs.Prelude.{◌≡◌, ◌==◌, ◌&&◌, Bool, false, ℕ, List, count_by, Option, Some, None, Ok, Err}
+use Rattle.std.specs.Prelude.{◌≡◌, ◌==◌, ◌&&◌, Bool, false, ℕ, List, take, count_by, slice_get, if◌then◌else◌, Option, Some, None, Ok, Err}
 use Rattle.sacn_framing.specs.declared.packet.Packet.{Packet}
 use Rattle.sacn_framing.specs.declared.packet.Packet.TheVariants.{DataPacket, PagePacket, SyncPacket}
 use Rattle.sacn_framing.specs.PacketReading.{reading_packet}
@@ -8,6 +8,7 @@ use Rattle.sacn_node.specs.Readings.{Reading}
 pub use Rattle.sacn_world.specs.declared.sent.SentDatagram.{SentDatagram}
 pub use Rattle.sacn_world.specs.declared.sent.InStream.{InStream}
 use Rattle.std.specs.Prelude.{Vec}
+use Rattle.std.specs.Option.{option_map}
 use Rattle.std.specs.declared.alloc.Global.{Global}
 use Rattle.sacn_world.specs.declared.console.Console.{Console}
 use Rattle.sacn_world.specs.declared.fault.WorldFault.{WorldFault}
@@ -54,6 +55,13 @@ is_in u (Some i) = i.universe == u
 
 abbrev pub is_filed : List ℕ → ℕ → SentDatagram → Bool
 is_filed s u f = same s f.source && is_in u f.stream
+
+abbrev pub place_in : List ℕ → ℕ → SentDatagram → Option ℕ
+place_in s u f = if is_filed s u f then option_map (λ i. i.place) f.stream else None
+
+-- each datagram's place is how many of its stream stand before it
+abbrev pub AreFiled : List SentDatagram → Type 0
+AreFiled fs = (k : ℕ) (f : SentDatagram) (i : InStream) → slice_get fs k ≡ Some f → f.stream ≡ Some i → i.place ≡ count_by (is_filed f.source i.universe) (take k fs)
 
 -- where octets of the source s that are sent next stand
 abbrev pub stream_next : List SentDatagram → List ℕ → Packet → Option InStream

@@ -1,7 +1,7 @@
 //! A console of a world.
 
 ghost use Rattle.std.specs.Prelude.{◌≡◌, ◌+◌, OnOk, OnErr, IfOk};
-ghost use Rattle.sacn_world.specs.Wire.{posted};
+ghost use Rattle.sacn_world.specs.Wire.{AreFiled, posted};
 ghost use Rattle.sacn_world.specs.Worlds.{begun};
 
 use crate::sent::{SentDatagram, stream_next};
@@ -52,6 +52,7 @@ impl Console {
 
     /// These octets as a datagram of this console, which is sent next.
     pub(crate) fn posted(&self, sent: &[SentDatagram], octets: Vec<u8>) -> SentDatagram
+        requires filed { AreFiled sent.now }
         ensures { result ≡ posted self.now sent.now octets }
     {
         let source = self.show.cid();

@@ -3,7 +3,7 @@
 //! A [`World`] is made of shows and of node setups, and takes [`Event`]s: orders and polls of a console, deliveries of sent
 //! datagrams to a node in any order, repeated or late, looks at a port, restarts, and noise. Its value knows places, the indices
 //! of packets in unbounded streams; its nodes read octets and know eight-bit numbers alone. Each call's contract is the world's
-//! rule by places, and `laws` says what holds of every list of events.
+//! rule by places, and `laws` says what holds of every list of events: `laws::headline` says the whole, and the others its parts.
 //!
 //! `read_world` reads a world's consoles and nodes from a TOML document, and `read_schedule` the events of a schedule, a line
 //! each.

@@ -2,7 +2,7 @@
 
 ghost use Rattle.std.specs.Prelude.{◌≡◌, ◌≤◌, ◌<◌, Some, None, count_by};
 ghost use Rattle.sacn_framing.specs.PacketReading.{reading_packet};
-ghost use Rattle.sacn_world.specs.Wire.{came_of, refusal_by, said, is_filed, stream_next};
+ghost use Rattle.sacn_world.specs.Wire.{came_of, refusal_by, said, is_filed, place_in, AreFiled, stream_next};
 ghost use Rattle.sacn_world.specs.Watches.{Watch};
 
 use crate::fault::WorldFault;
@@ -60,13 +60,19 @@ impl SentDatagram {
 }
 
 impl SentDatagram {
-    /// Whether it stands in this stream.
-    fn is_filed(&self, source: &[u8; 16], universe: u16) -> bool
-        ensures { result ≡ is_filed source.now universe self.now }
+    /// Its place, where it stands in this stream.
+    fn place_in(&self, source: &[u8; 16], universe: u16) -> Option<usize>
+        ensures { result ≡ place_in source.now universe self.now }
     {
         match self.stream {
-            None => false,
-            Some(stream) => stream.universe == universe && is_same(source, &self.source),
+            None => None,
+            Some(stream) => {
+                if is_same(source, &self.source) && stream.universe == universe {
+                    Some(stream.place)
+                } else {
+                    None
+                }
+            }
         }
     }
 }
@@ -77,6 +83,7 @@ pub(crate) fn stream_next(
     source: &[u8; 16],
     octets: &[u8],
 ) -> Option<InStream>
+    requires filed { AreFiled sent.now }
     ensures { result ≡ stream_next sent.now source.now (said (reading_packet octets.now)) }
 {
     match read_packet(octets) {
@@ -90,15 +97,16 @@ pub(crate) fn stream_next(
     }
 }
 
-/// How many packets were sent in this stream.
+/// How many packets were sent in this stream: one more than the place of the latest of them, which is looked for from the end.
 fn count_filed(sent: &[SentDatagram], source: &[u8; 16], universe: u16) -> usize
+    requires filed { AreFiled sent.now }
     ensures { result ≡ count_by (is_filed source.now universe) sent.now }
 {
-    let mut count = 0;
-    for datagram in sent {
-        if datagram.is_filed(source, universe) {
-            count += 1;
+    for later in 0..sent.len() {
+        let datagram = &sent[sent.len() - 1 - later];
+        if let Some(place) = datagram.place_in(source, universe) {
+            return place + 1;
         }
     }
-    count
+    0
 }

@@ -1,5 +1,6 @@
 //! Worked rows of world files, schedules and worlds.
 mod refusals;
+mod runs;
 mod schedules;
 mod world_files;
 mod worlds;

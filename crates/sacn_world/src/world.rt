@@ -1,12 +1,12 @@
 //! The world.
 
-ghost use Rattle.std.specs.Prelude.{◌≡◌, ◌≤◌, [], take, vec_capacity, Some, IfOk, IfErr, map, true, false, ◌⊎◌};
+ghost use Rattle.std.specs.Prelude.{◌≡◌, ◌≤◌, [], take, vec_capacity, Some, OnOk, IfOk, IfErr, map, true, false, ◌⊎◌};
 ghost use Rattle.sacn_world.specs.Kept.{Stepped, SteppedWithRoom, SteppedBy};
 ghost use Rattle.sacn_world.specs.Watches.{new_watch};
 ghost use Rattle.sacn_world.specs.declared.fault.NewFault.TheVariants.{SameCid, OutOfMemory};
 ghost use Rattle.sacn_world.specs.Running.{ran, Stopped};
 ghost use Rattle.sacn_world.specs.Cids.{has_same_cid};
-ghost use Rattle.sacn_world.specs.Worlds.{step, new_world, new_console, shown, place_at, row_at};
+ghost use Rattle.sacn_world.specs.Worlds.{step, new_world, new_console, Apart, shown, place_at, row_at};
 
 use crate::answer::Answer;
 use crate::cids::has_same_cid;
@@ -53,7 +53,8 @@ impl Model for World {
 
 impl World {
     /// A world of these shows, each with the first number of its console's first life, and of nodes of these setups. Nothing was
-    /// sent yet. The two lists are consumed, also by a refusal.
+    /// sent yet. No two of its consoles have one CID, in the form in which `laws` ask it. The two lists are consumed, also by a
+    /// refusal.
     ///
     /// `SameCid` where two shows have one CID, and then `OutOfMemory`.
     pub fn new(
@@ -62,6 +63,7 @@ impl World {
         nodes: Vec<NodeSetup>,
     ) -> Result<Self, NewFault>
         ensures made { IfOk result (λ world. (world ≡ new_world consoles.items (map (λ n. n.ports) nodes.items)) × (has_same_cid consoles.items ≡ false)) }
+        ensures apart { OnOk result (Apart (map new_console consoles.items)) }
         ensures refused { IfErr result (λ fault. ((fault ≡ SameCid) × (has_same_cid consoles.items ≡ true)) ⊎ ((fault ≡ OutOfMemory) × (has_same_cid consoles.items ≡ false))) }
     {
         universes_are_those_of_ranges();
@@ -162,7 +164,7 @@ impl World {
         if console >= self.consoles.len() {
             return Err(WorldFault::NoConsole);
         }
-        let Ok(mut octets) = Vec::with_capacity(self.alloc, MOST_OCTETS) else {
+        let Ok(room) = Vec::with_capacity(self.alloc, MOST_OCTETS) else {
             return Err(WorldFault::OutOfMemory);
         };
         let Ok(()) = self.sent.reserve(1) else {
@@ -172,7 +174,7 @@ impl World {
         let Some(len) = self.consoles[console].core.poll(now, &mut out) else {
             return Ok(Answer::Idle);
         };
-        copy_into(&mut octets, &out, len);
+        let octets = in_own_length(self.alloc, room, &out, len);
         let number = self.sent.len();
         let datagram = self.consoles[console].posted(self.sent.as_slice(), octets);
         self.sent.push_reserved(datagram);
@@ -248,14 +250,21 @@ impl World {
     }
 }
 
-/// The first octets of a datagram, where there is room for them.
-fn copy_into(octets: &mut Vec<u8>, out: &[u8; MOST_OCTETS], len: usize)
-    requires empty { octets.old.items ≡ [] }
-    requires room { MOST_OCTETS ≤ vec_capacity octets.old }
+/// The first octets of a datagram, in a vector of their own length; in the room that there is, where memory for one is refused.
+fn in_own_length(alloc: Global, room: Vec<u8>, out: &[u8; MOST_OCTETS], len: usize) -> Vec<u8>
+    requires empty { room.items ≡ [] }
+    requires room { MOST_OCTETS ≤ vec_capacity room }
     requires len { len ≤ MOST_OCTETS }
-    ensures { octets.new.items ≡ take len out.now }
+    ensures { result.items ≡ take len out.now }
 {
-    let _ = octets.extend_from_slice(&out[..len]);
+    match Vec::from_slice(alloc, &out[..len]) {
+        Ok(octets) => octets,
+        Err(_) => {
+            let mut octets = room;
+            let _ = octets.extend_from_slice(&out[..len]);
+            octets
+        }
+    }
 }
 
 /// The answer to a look: a frame, where the node has the port.

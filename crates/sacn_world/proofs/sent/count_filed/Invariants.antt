@@ -1,7 +1,8 @@
-use Rattle.std.proofs.Common.{◌≡◌, ◌≤◌, ◌+◌, drop}
+use Rattle.std.proofs.Common.{◌≡◌, ◌-◌, take, length}
 use Rattle.std.specs.Prelude.{count_by}
 use Rattle.sacn_world.specs.Wire.{is_filed}
 use Rattle.sacn_world.proofs.sent.count_filed.Given as goal
 
-abbrev pub invariant-loop-datagram : goal.invariant-loop-datagram
-invariant-loop-datagram l = (l.count + count_by (is_filed l.source l.universe) (drop l.datagram-index l.sent) ≡ count_by (is_filed l.source l.universe) l.sent) × (l.count ≤ l.datagram-index)
+-- none of the later ones stands in the stream
+abbrev pub invariant-loop-later : goal.invariant-loop-later
+invariant-loop-later l = count_by (is_filed l.source l.universe) (take (length l.sent - l.later) l.sent) ≡ count_by (is_filed l.source l.universe) l.sent

@@ -1,9 +1,11 @@
-use Rattle.std.proofs.Common.{rules, refl, sym, ap, ◌∙◌, ◌++◌, ◌∷◌, [], arith, inl, inr}
+use Rattle.std.proofs.Common.{rules, refl, sym, ap, subst, ◌∙◌, ◌++◌, ◌∷◌, [], arith, inl, inr}
 use Rattle.std.proofs.lemmas.Option.{slice_get_read}
 use Rattle.sacn_world.specs.declared.console.Console.{Console}
 use Rattle.sacn_world.specs.declared.sent.SentDatagram.{SentDatagram}
 use Rattle.sacn_world.specs.Kept.{seen_world}
+use Rattle.sacn_world.specs.Wire.{AreFiled}
 use Rattle.sacn_world.proofs.Keeping.{no_console_poll, there_is}
+use Rattle.sacn_world.proofs.Filing.{are_filed}
 use Rattle.sacn_world.proofs.Posting.{poll_is, idle_done, idle_as, none_due, due_fits, posted_done, done_as}
 use Rattle.sacn_world.proofs.world.World.poll.Goals as goal
 
@@ -42,8 +44,8 @@ returns-in_default-poll c =
     let none = none_due _ (sym c.in_default-poll.ensures.answer) in
     (idle_as (idle_done s.consoles.items s.sent.items s.nodes.items c.self.invariant c.args.self.now c.self.view_is c.args.console c.args.now y ey none c.poll.new.self c.in_default-poll.ensures.core) (sym c.in-Ok-reserve.ensures.items)).step
 
-pub copy_into-requires-clause-len : goal.copy_into-requires-clause-len
-copy_into-requires-clause-len c =
+pub in_own_length-octets-requires-clause-len : goal.in_own_length-octets-requires-clause-len
+in_own_length-octets-requires-clause-len c =
     due_fits c.index_mut.result.now.core.sender _ c.in-Some.len (sym c.in-Some.ensures.answer) c.in-Some.ensures.lawful
 
 pub invariant_of-self-2 : goal.invariant_of-self-2
@@ -54,8 +56,8 @@ invariant_of-self-2 c =
     let z : Console = c.index.result.now in
     let ez = slice_get_read _ s.consoles.len c.args.console z (search rules) (omega arith) c.index.ensures in
     let f : SentDatagram = c.posted-datagram.result in
-    let ef = c.posted-datagram.ensures ∙ ap (λ fs. Rattle.sacn_world.specs.Wire.posted z fs c.copy_into.new.octets) (c.as_slice.ensures.value ∙ c.in-Ok-reserve.ensures.items) in
-    let d = posted_done c.written_is_read.ensures c.written_page_is_read.ensures s.consoles.items s.sent.items s.nodes.items c.self.invariant c.args.self.now c.self.view_is c.args.console c.args.now y ey c.in-Some.len c.poll.new.out _ c.poll.new.self z c.copy_into.new.octets f (sym c.in-Some.ensures.answer) c.in-Some.ensures.octets c.in-Some.ensures.lawful (omega arith) refl c.in-Some.ensures.core c.copy_into.ensures ez ef in
+    let ef = c.posted-datagram.ensures ∙ ap (λ fs. Rattle.sacn_world.specs.Wire.posted z fs c.in_own_length-octets.result) (c.as_slice.ensures.value ∙ c.in-Ok-reserve.ensures.items) in
+    let d = posted_done c.written_is_read.ensures c.written_page_is_read.ensures s.consoles.items s.sent.items s.nodes.items c.self.invariant c.args.self.now c.self.view_is c.args.console c.args.now y ey c.in-Some.len c.poll.new.out _ c.poll.new.self z c.in_own_length-octets.result f (sym c.in-Some.ensures.answer) c.in-Some.ensures.octets c.in-Some.ensures.lawful (omega arith) refl c.in-Some.ensures.core c.in_own_length-octets.ensures ez ef in
     (done_as d (sym (c.push_reserved.ensures.items ∙ ap (λ fs. fs ++ f ∷ []) c.in-Ok-reserve.ensures.items)) refl).kept
 
 pub returns : goal.returns
@@ -66,6 +68,11 @@ returns c =
     let z : Console = c.index.result.now in
     let ez = slice_get_read _ s.consoles.len c.args.console z (search rules) (omega arith) c.index.ensures in
     let f : SentDatagram = c.posted-datagram.result in
-    let ef = c.posted-datagram.ensures ∙ ap (λ fs. Rattle.sacn_world.specs.Wire.posted z fs c.copy_into.new.octets) (c.as_slice.ensures.value ∙ c.in-Ok-reserve.ensures.items) in
-    let d = posted_done c.written_is_read.ensures c.written_page_is_read.ensures s.consoles.items s.sent.items s.nodes.items c.self.invariant c.args.self.now c.self.view_is c.args.console c.args.now y ey c.in-Some.len c.poll.new.out _ c.poll.new.self z c.copy_into.new.octets f (sym c.in-Some.ensures.answer) c.in-Some.ensures.octets c.in-Some.ensures.lawful (omega arith) refl c.in-Some.ensures.core c.copy_into.ensures ez ef in
+    let ef = c.posted-datagram.ensures ∙ ap (λ fs. Rattle.sacn_world.specs.Wire.posted z fs c.in_own_length-octets.result) (c.as_slice.ensures.value ∙ c.in-Ok-reserve.ensures.items) in
+    let d = posted_done c.written_is_read.ensures c.written_page_is_read.ensures s.consoles.items s.sent.items s.nodes.items c.self.invariant c.args.self.now c.self.view_is c.args.console c.args.now y ey c.in-Some.len c.poll.new.out _ c.poll.new.self z c.in_own_length-octets.result f (sym c.in-Some.ensures.answer) c.in-Some.ensures.octets c.in-Some.ensures.lawful (omega arith) refl c.in-Some.ensures.core c.in_own_length-octets.ensures ez ef in
     (done_as d (sym (c.push_reserved.ensures.items ∙ ap (λ fs. fs ++ f ∷ []) c.in-Ok-reserve.ensures.items)) (omega (arith, c.len-number.ensures, c.in-Ok-reserve.ensures.len))).step
+
+pub posted-datagram-requires : goal.posted-datagram-requires
+posted-datagram-requires c =
+    let s = c.self.inside in
+    record { filed = subst AreFiled (sym (c.as_slice.ensures.value ∙ c.in-Ok-reserve.ensures.items)) (are_filed s.consoles.items s.sent.items s.nodes.items c.self.invariant) }
