@@ -2,5 +2,6 @@
 mod datagrams;
 mod decoding;
 mod network;
+mod rows;
 mod running;
 mod simulating;
