@@ -4,7 +4,6 @@
 mod command;
 mod ending;
 mod files;
-mod marked;
 mod network;
 mod program;
 #[cfg(test)]

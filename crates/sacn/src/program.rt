@@ -2,10 +2,9 @@
 use crate::command::{Asked, parse};
 use crate::ending::{DONE, Ending, ended};
 use crate::files::{octets_of_files, text_of_file};
-use crate::marked::Marked;
 use crate::network;
 use sacn_edge::WriterOut;
-use sacn_text::{MOST_OCTETS, decode_text, octets_of_digits, read_limited, sim_text};
+use sacn_text::{MOST_OCTETS, Marked, decode_text, octets_of_digits, read_limited, sim_text};
 use std::alloc::Global;
 use std::io::{Read, Write};
 use std::net::Net;

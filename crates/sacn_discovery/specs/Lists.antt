@@ -1,10 +1,10 @@
 -- The list that is known of a CID, by the pages accepted from it.
-use Rattle.std.specs.Prelude.{◌≡◌, ℕ, zero, suc, ◌+◌, ◌-◌, nat_lt, ◌≤◌, ⊤, max, Bool, true, List, [], ◌∷◌, ◌++◌, ◌&&◌, ◌==◌, Option, Some, None, if◌then◌else◌}
-use Rattle.std.specs.List.{list_all, AllByRecursion}
+use Rattle.std.specs.Prelude.{◌≡◌, ℕ, zero, suc, ◌+◌, ◌-◌, nat_lt, ◌≤◌, ⊤, max, Bool, true, false, not, List, [], ◌∷◌, ◌++◌, ◌&&◌, ◌==◌, Option, Some, None, if◌then◌else◌}
+use Rattle.std.specs.List.{list_all, list_any, count_by, AllByRecursion}
 use Rattle.std.specs.Option.{option_map}
 use Rattle.std.specs.Ordering.{nat_cmp, eq_by_cmp}
 use Rattle.std.specs.Cmp.Lexicographic.{slice_cmp}
-use Rattle.std.specs.FinMap.{get}
+use Rattle.std.specs.FinMap.{get, len}
 use Rattle.sacn_framing.specs.Page.{Page}
 use Rattle.sacn_discovery.specs.declared.limits.TheConstants.{FORGOTTEN_AFTER}
 use Rattle.sacn_discovery.specs.Known.{State, nothing_known, after_expire, after_take, ascending, joined, known_list}
@@ -135,3 +135,39 @@ abbrev pub SourcesAreTheFreshOnes : Type 0
 SourcesAreTheFreshOnes =
     (calls : List Call) (now : ℕ) (cid : List ℕ) → ArePages calls
     → kept_moment (after_expire now (after_all calls nothing_known)) cid ≡ fresh_moment (max (moment_after 0 calls) now) (copies_in cid 0 calls)
+
+-- ---- the sources that a call forgets
+
+-- whether a CID is among some
+abbrev pub has_cid : List (List ℕ) → List ℕ → Bool
+has_cid cids cid = list_any (λ other. eq_by_cmp (slice_cmp nat_cmp) other cid) cids
+
+abbrev pub with_sender : Call → List (List ℕ) → List (List ℕ)
+with_sender (Accepted now p) cids = if has_cid cids p.cid then cids else p.cid ∷ cids
+with_sender (Refused now p) cids = cids
+with_sender (Expire now) cids = cids
+with_sender (ListOf now cid) cids = cids
+
+-- the CIDs from which pages were accepted, each once
+abbrev pub senders : List Call → List (List ℕ)
+senders [] = []
+senders (call ∷ calls) = with_sender call (senders calls)
+
+abbrev pub is_there : Option ℕ → Bool
+is_there None = false
+is_there (Some moment) = true
+
+-- the latest page is 25,000 ms or more before u, and was less than that before t
+abbrev pub gets_old : ℕ → ℕ → List Copy → Bool
+gets_old t u copies = is_there (fresh_moment t copies) && not (is_there (fresh_moment u copies))
+
+-- what `expire` answers: how many sources it forgets
+abbrev pub forgotten : ℕ → State → ℕ
+forgotten now s = len s.sources - len (after_expire now s).sources
+
+-- after any calls, `expire` answers how many CIDs there are whose latest accepted page is now 25,000 ms old or older, and was not so at the call before
+abbrev pub ExpiryCountsThoseThatGetOld : Type 0
+ExpiryCountsThoseThatGetOld =
+    (calls : List Call) (now : ℕ) → ArePages calls
+    → forgotten now (after_all calls nothing_known)
+    ≡ count_by (λ cid. gets_old (moment_after 0 calls) (max (moment_after 0 calls) now) (copies_in cid 0 calls)) (senders calls)

@@ -38,6 +38,7 @@ impl Model for Collector {
 }
 
 impl Collector {
+    ghost use Rattle.sacn_discovery.specs.Lists.{forgotten};
     ghost use Rattle.sacn_discovery.specs.Known.{nothing_known, is_fresh, after_expire, after_take, accepted, goes_on, known_list, with_source, with_page};
 
     /// A collector that knows nothing.
@@ -83,6 +84,7 @@ impl Collector {
     /// Moves the clock, forgets the sources whose latest page is too old, and answers how many those were.
     pub fn expire(&mut self, now: u64) -> usize
         ensures gone { result + map.len self.new.sources ≡ map.len self.old.sources }
+        ensures forgotten { result ≡ forgotten now self.old }
         ensures state { self.new ≡ after_expire now self.old }
     {
         let before = self.count();

@@ -1,4 +1,5 @@
 //! Why a page isn't kept.
+ghost use Rattle.std.specs.Prelude.{◌≡◌};
 
 use thiserror::Error;
 
@@ -8,4 +9,15 @@ pub enum DiscoveryFault {
     /// No memory is left. The collector moved its clock and forgot old sources, and no more.
     #[error("out of memory")]
     OutOfMemory = 1,
+}
+
+impl DiscoveryFault {
+    ghost use Rattle.sacn_discovery.specs.FaultNumbers.{discovery_fault_number};
+
+    /// The fault's number, 1.
+    pub fn number(self) -> u8
+        ensures { result ≡ discovery_fault_number self }
+    {
+        self as u8
+    }
 }

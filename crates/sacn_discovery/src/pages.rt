@@ -1,8 +1,10 @@
 //! The pages of a list of universes (E1.31 sections 6.4 and 8).
 
-ghost use Rattle.std.specs.Prelude.{◌≡◌, ◌+◌, ◌*◌, ◌-◌, ◌<◌, ◌≤◌, ◌++◌, length, drop, take};
+ghost use Rattle.std.specs.Prelude.{◌≡◌, ℕ, ◌+◌, ◌*◌, ◌-◌, ◌<◌, ◌≤◌, List, ◌++◌, length, drop, take, Ok};
+ghost use Rattle.sacn_framing.specs.PacketReading.{reading_packet};
 ghost use Rattle.sacn_framing.specs.PageText.{numbers_text};
 ghost use Rattle.sacn_framing.specs.PacketText.{page_text, unused};
+ghost use Rattle.sacn_framing.specs.declared.packet.Packet.TheVariants.{PagePacket};
 ghost use Rattle.sacn_discovery.specs.Pages.{page_count, numbers_on, page_of_list, page_head};
 ghost use Rattle.std.specs.List.Sorted.{IsStrictlyIncreasing};
 
@@ -47,6 +49,8 @@ pub fn write_page(
     requires there { k < page_count (length list.now) }
     ensures text { out.new ≡ page_text (page_of_list list.now k cid.now name.now) unused ++ drop result out.old }
     ensures len { result ≡ 120 + 2 * length (numbers_on list.now k) }
+    // What was written, followed by anything, is read as this page.
+    ensures reading { (rest : List ℕ) → reading_packet (take result out.new ++ rest) ≡ Ok (PagePacket (page_of_list list.now k cid.now name.now)) }
 {
     let start = PAGE_NUMBERS * k;
     let count = (list.len() - start).min(PAGE_NUMBERS);

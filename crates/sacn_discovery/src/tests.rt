@@ -73,8 +73,13 @@ fn keeps(collector: &mut Collector, now: u64, octets: &Vec<u8>) -> bool {
 
 /// The universes from 1 to `count`.
 fn universes(alloc: Global, count: u16) -> Result<Vec<u16>, Fail> {
+    universes_from(alloc, 1, count)
+}
+
+/// The universes from a first to a last one.
+fn universes_from(alloc: Global, first: u16, last: u16) -> Result<Vec<u16>, Fail> {
     let mut list = Vec::new(alloc);
-    for universe in 1..=count {
+    for universe in first..=last {
         list.push(universe)?;
     }
     Ok(list)
@@ -138,6 +143,28 @@ fn pages_of_two_are_laid_out(rt: HostRuntime) -> Result<(), Fail> {
     )?;
     assert_eq!(rt; written(&rt, list.as_slice(), 1, &CID)?, second);
     Ok(())
+}
+
+#[test]
+fn pages_of_1024_universes_are_two_and_full(rt: HostRuntime) -> Result<(), Fail> {
+    let alloc = rt.alloc();
+    let list = universes(alloc, 1024)?;
+    for (k, first, last) in [(0u8, 1, 512), (1, 513, 1024)] {
+        let numbers = numbers_of(alloc, universes_from(alloc, first, last)?.as_slice())?;
+        let page = laid_out(
+            alloc,
+            [[0x74, 0x68], [0x74, 0x52], [0x74, 0x08]],
+            [k, 1],
+            numbers.as_slice(),
+        )?;
+        assert_eq!(rt; written(&rt, list.as_slice(), k as usize, &CID)?, page);
+    }
+    Ok(())
+}
+
+#[test]
+fn a_collectors_fault_has_a_number(rt: HostRuntime) {
+    assert_eq!(rt; DiscoveryFault::OutOfMemory.number(), 1);
 }
 
 #[test]

@@ -1,12 +1,13 @@
 -- A node's lines are those of the plain rule.
-use Rattle.std.proofs.Common.{◌≡◌, ℕ, List, [], ◌∷◌, refl, sym, ap, ◌∙◌}
+use Rattle.std.proofs.Common.{◌≡◌, ℕ, ◌<◌, List, [], ◌∷◌, ◌++◌, length, take, refl, sym, ap, subst, ◌∙◌}
 use Rattle.sacn_node.specs.Setup.{Port, port_numbers}
 use Rattle.sacn_node.specs.Cores.{Node, Core, core_at, node_frame}
 use Rattle.sacn_node.specs.Calls.{Call, Frame, step, after_calls, moment_in_use}
 use Rattle.sacn_node.specs.PlainRule.{plain_rule}
 use Rattle.sacn_node.specs.Laws.{AnswersByThePlainRule, KeepsItsPorts, UsesTheGreatestMoment}
-use Rattle.sacn_edge.specs.NodeText.{Turn, Line, call_at, node_after, with_frame, with_ports, lines_after, text_of}
-use Rattle.sacn_edge.specs.PlainText.{asked, calls_of, frame_told, plain_ports, plain_lines, TextIsByThePlainRule}
+use Rattle.sacn_edge.specs.NodeText.{Turn, Line, call_at, node_after, with_frame, with_ports, line_text, lines_after, text_of}
+use Rattle.sacn_edge.specs.Told.{Adds}
+use Rattle.sacn_edge.specs.PlainText.{asked, calls_of, frame_told, plain_ports, plain_lines, LinesAreByThePlainRule, StopsByThePlainRule, TextIsByThePlainRule}
 use Rattle.sacn_edge.proofs.Settled.{turn_settled}
 
 -- asking for a frame leaves a node as it is, where all that is lost is dropped
@@ -23,6 +24,14 @@ after_turns ports ps before (t ∷ ts) =
     let n = node_after (after_calls ports before) ts in
     asked_stays ports t.now ps (call_at t.now t.heard ∷ calls_of ps before ts) (step (call_at t.now t.heard) n) (turn_settled t.now t.heard n.core) (ap (step (call_at t.now t.heard)) (after_turns ports ps before ts))
 
+-- of all lines, one after the earlier ones was not written whole
+abbrev StopsAmong : (List ℕ → Type 0) → (List ℕ → Type 0) → List Line → List Line → Type 0
+StopsAmong old new all earlier =
+    (unwritten : List Line) × (l : Line) × (written : List Line) × (k : ℕ)
+    × (all ≡ unwritten ++ l ∷ (written ++ earlier))
+    × (k < length (line_text l))
+    × Adds old new (text_of (written ++ earlier) ++ take k (line_text l))
+
 module _ (answers : AnswersByThePlainRule) (keeps : KeepsItsPorts) (greatest : UsesTheGreatestMoment) where
   ports_same : (ports : List Port) (now : ℕ) (ps : List ℕ) (earlier : List Call) (n : Node) (ls : List Line) → core_at now n.core ≡ n.core → after_calls ports earlier ≡ n → plain_ports ports now ps earlier ls ≡ with_ports n ps ls
   ports_same ports now [] earlier n ls settled is = refl
@@ -34,7 +43,7 @@ module _ (answers : AnswersByThePlainRule) (keeps : KeepsItsPorts) (greatest : U
       ∙ ap (λ f. plain_ports ports now ps (Frame now p ∷ earlier) (with_frame p n.core.moment f ls)) frame
       ∙ ports_same ports now ps (Frame now p ∷ earlier) n (with_frame p n.core.moment (node_frame p n) ls) settled stays
 
-  lines_same : (ports : List Port) (before : List Call) (ts : List Turn) → lines_after (after_calls ports before) ts ≡ plain_lines ports before ts
+  pub lines_same : LinesAreByThePlainRule
   lines_same ports before [] = refl
   lines_same ports before (t ∷ ts) =
       let first = after_calls ports before in
@@ -46,3 +55,10 @@ module _ (answers : AnswersByThePlainRule) (keeps : KeepsItsPorts) (greatest : U
 
   pub text_same : TextIsByThePlainRule
   text_same ports before ts = ap text_of (lines_same ports before ts)
+
+  pub stops_same : StopsByThePlainRule
+  stops_same ports before t ts old new stops =
+      let earlier : List Line = lines_after (after_calls ports before) ts in
+      let P : List Line → Type 0 = λ all. StopsAmong (λ xs. xs ≡ old) (λ ys. ys ≡ new) all earlier in
+      let Q : List Line → Type 0 = λ ls. StopsAmong (λ xs. xs ≡ old) (λ ys. ys ≡ new) (plain_lines ports before (t ∷ ts)) ls in
+      subst Q (lines_same ports before ts) (subst P (lines_same ports before (t ∷ ts)) stops)

@@ -1,5 +1,7 @@
 //! Laws of the sequence rule: functions that do nothing, each of which has a law of the definitions as its contract.
 ghost use Rattle.sacn_sequence.specs.Sequence.{OneStep, LateAgrees, TakesUpTo236Ahead, DiscardsUpTo19Behind};
+ghost use Rattle.std.specs.Prelude.{◌≡◌, negsuc};
+ghost use Rattle.sacn_sequence.specs.declared.rule.TheConstants.{LATE_ABOVE};
 
 /// Between two numbers there is one step: no other number from -128 to 127 is congruent to their difference.
 pub fn one_step()
@@ -21,4 +23,9 @@ pub fn takes_up_to_236_ahead()
 /// a packet that comes late by fewer than twenty sends, or comes again, never takes the place of a newer one.
 pub fn discards_up_to_19_behind()
     ensures { DiscardsUpTo19Behind }
+{}
+
+/// What the number of the rule is: a step above -20, up to 0, is out of sequence.
+pub fn numbers()
+    ensures late_above { LATE_ABOVE ≡ negsuc 19 }
 {}

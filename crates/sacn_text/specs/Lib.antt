@@ -2,5 +2,6 @@ pub mod Words
 pub mod Blocks
 pub mod Decoding
 pub mod Digits
+pub mod FaultNumbers
 pub mod Looks
 pub mod Simulating

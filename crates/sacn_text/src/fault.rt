@@ -1,4 +1,5 @@
 //! Why datagrams aren't all decoded, and why a simulation ends early.
+ghost use Rattle.std.specs.Prelude.{◌≡◌};
 
 use sacn_root::PacketFault;
 use sacn_world::{TextFault, WorldFault, WorldTextFault};
@@ -16,6 +17,21 @@ pub enum DecodeFault {
     /// The sink failed. A prefix of the text is written.
     #[error("the device failed")]
     WriteFailed,
+}
+
+impl DecodeFault {
+    ghost use Rattle.sacn_text.specs.FaultNumbers.{decode_fault_number};
+
+    /// The fault's number, from 1 to 3.
+    pub fn number(self) -> u8
+        ensures { result ≡ decode_fault_number self }
+    {
+        match self {
+            DecodeFault::OutOfMemory => 1,
+            DecodeFault::Refused(_, _) => 2,
+            DecodeFault::WriteFailed => 3,
+        }
+    }
 }
 
 /// Why `sim_text` ends before the last event.
@@ -36,4 +52,21 @@ pub enum SimFault {
     /// The sink failed. A prefix of the lines is written.
     #[error("the device failed")]
     WriteFailed,
+}
+
+impl SimFault {
+    ghost use Rattle.sacn_text.specs.FaultNumbers.{sim_fault_number};
+
+    /// The fault's number, from 1 to 5.
+    pub fn number(self) -> u8
+        ensures { result ≡ sim_fault_number self }
+    {
+        match self {
+            SimFault::OutOfMemory => 1,
+            SimFault::World(_) => 2,
+            SimFault::Schedule(_) => 3,
+            SimFault::Event(_, _) => 4,
+            SimFault::WriteFailed => 5,
+        }
+    }
 }

@@ -10,6 +10,7 @@ mod digits;
 mod fault;
 mod input;
 mod look;
+mod marked;
 mod simulate;
 mod words;
 
@@ -17,6 +18,7 @@ pub use decode::decode_text;
 pub use digits::octets_of_digits;
 pub use fault::{DecodeFault, SimFault};
 pub use input::{MOST_OCTETS, ReadFault, read_limited};
+pub use marked::Marked;
 pub use simulate::sim_text;
 
 #[cfg(test)]

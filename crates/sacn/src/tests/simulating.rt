@@ -6,7 +6,7 @@ use std::rt::{Clock, Env, Files};
 use std::test::*;
 
 /// One console of universe 1, whose cue takes channel 1 on slot 1 to full at once, and one node.
-const WORLD: &str = "version = 1
+pub const WORLD: &str = "version = 1
 [[console]]
 [console.show]
 version = 1
@@ -29,7 +29,7 @@ number = 1
 universe = 1
 ";
 
-const SCHEDULE: &str = "look 0 1 0
+pub const SCHEDULE: &str = "look 0 1 0
 order 0 0 go
 poll 0 0
 deliver 0 0 1000
@@ -39,7 +39,7 @@ look 0 1 3500
 look 0 2 3500
 ";
 
-const LINES: &str = "0 1 0 dark
+pub const LINES: &str = "0 1 0 dark
 0 1 3499 1@255
 0 1 900 1@255
 0 1 3500 dark

@@ -1,7 +1,9 @@
 //! A writer that knows whether anything was written to it.
+ghost use Rattle.std.specs.Prelude.{◌≡◌, false};
+
 use std::io::{self, Write};
 
-/// A writer that knows whether anything was written to it.
+/// A writer that knows whether anything was written to it. It tells the octets that the writer below tells.
 #[derive(Drop)]
 pub struct Marked<'a, W> {
     writer: &'a mut W,
@@ -10,7 +12,10 @@ pub struct Marked<'a, W> {
 
 impl<'a, W: Write> Marked<'a, W> {
     /// A writer to which nothing was written yet.
-    pub fn new(writer: &'a mut W) -> Marked<'a, W> {
+    pub fn new(writer: &'a mut W) -> Marked<'a, W>
+        ensures writer { result.writer.now ≡ writer.old }
+        ensures unmarked { result.is_marked ≡ false }
+    {
         Marked {
             writer,
             is_marked: false,
@@ -18,12 +23,16 @@ impl<'a, W: Write> Marked<'a, W> {
     }
 
     /// Whether a write was tried.
-    pub fn is_marked(&self) -> bool {
+    pub fn is_marked(&self) -> bool
+        ensures { result ≡ self.now.is_marked }
+    {
         self.is_marked
     }
 }
 
 impl<'a, W: Write> Write for Marked<'a, W> {
+    ghost contents = { λ m. W.contents m.writer.now };
+
     fn write(&mut self, buf: &[u8]) -> io::Result<usize> {
         self.is_marked = true;
         self.writer.write(buf)

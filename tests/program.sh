@@ -1,0 +1,83 @@
+#!/usr/bin/env bash
+# Runs the built program on files of the greatest length and of one octet more, on words and files that are none, and on faulty texts where the
+# socket is taken. Prints 'ok NAME', 'not ok NAME: why' or 'skipped NAME: why' for each run, as ./test counts them.
+set -u
+top=$(cd "$(dirname "$(readlink -f "$0")")/.." && pwd)
+sacn=${SACN:-$top/crates/sacn/out/sacn}
+examples=$top/examples
+MOST=1048576
+if [ ! -x "$sacn" ]; then
+  echo "skipped program: sacn isn't built"
+  exit 0
+fi
+room=$(mktemp -d)
+holder=
+trap '[ -z "$holder" ] || kill "$holder" 2>/dev/null; rm -rf "$room"' EXIT
+
+# ends NAME WANTED-STATUS WANTED-ERRORS WANTED-OUTPUT INPUT [WORD..]: a run ends so
+ends() {
+  local name=$1 wanted=$2 said=$3 output=$4 input=$5 status=0
+  shift 5
+  "$sacn" "$@" <"$input" >"$room/out" 2>"$room/err" || status=$?
+  if [ "$status" != "$wanted" ]; then
+    echo "not ok program: $name: status $status"
+  elif [ "$(head -n 1 "$room/err")" != "$said" ]; then
+    echo "not ok program: $name: '$(head -n 1 "$room/err")'"
+  elif ! cmp -s "$output" "$room/out"; then
+    echo "not ok program: $name: it prints something else"
+  else
+    echo "ok program: $name"
+  fi
+}
+
+# padded FILE OCTET: the file, and the octet again and again up to the greatest length; and the same with one more
+padded() {
+  { cat "$1"; head -c "$((MOST - $(stat -c %s "$1")))" /dev/zero | tr '\0' "$2"; } >"$room/most"
+  { cat "$room/most"; printf %s "$2"; } >"$room/over"
+}
+
+# up_to NAME FILE OCTET INPUT-OR-WORDS..: the words, where MOST and OVER stand for the two files, end as with the file, and are refused
+up_to() {
+  local name=$1 file=$2 octet=$3
+  shift 3
+  padded "$file" "$octet"
+  "$sacn" "${@//FILE/$file}" </dev/null >"$room/plain" 2>/dev/null
+  ends "$name of $MOST octets" 0 "" "$room/plain" /dev/null "${@//FILE/$room/most}"
+  ends "$name of one octet more" 3 "refused TooLarge" /dev/null /dev/null "${@//FILE/$room/over}"
+}
+
+"$sacn" <"$examples/desk.hex" >"$room/desk" 2>/dev/null
+padded "$examples/desk.hex" ' '
+ends "standard input of $MOST octets" 0 "" "$room/desk" "$room/most"
+ends "standard input of one octet more" 3 "refused TooLarge" /dev/null "$room/over"
+up_to "a datagram's file" "$examples/levels.sacn" x decode FILE
+up_to "a world" "$examples/world.toml" $'\n' sim FILE "$examples/schedule.txt"
+up_to "a schedule" "$examples/schedule.txt" $'\n' sim "$examples/world.toml" FILE
+up_to "a show" "$examples/show.toml" $'\n' console FILE "$examples/script.txt" --turns 1
+up_to "a script" "$examples/script.txt" $'\n' console "$examples/show.toml" FILE --turns 1
+
+ends "a word that is no text" 2 "error: a word of the command line is no text" /dev/null /dev/null decode $'\xff'
+ends "a folder as a file" 4 "device read" /dev/null /dev/null decode "$examples"
+ends "a folder as a world" 4 "device read" /dev/null /dev/null sim "$examples" "$examples/schedule.txt"
+
+# A setup with a port of its own. What a node prints has the moment of its clock, so only the status and the refusal are looked at.
+port=$((20000 + $$ % 40000))
+{ printf 'udp_port = %s\n' "$port"; cat "$examples/node.toml"; } >"$room/node.toml"
+padded "$room/node.toml" $'\n'
+if "$sacn" node "$room/most" --turns 1 >"$room/out" 2>/dev/null && [ "$(cut -d ' ' -f 1 "$room/out")" = 1 ]; then
+  echo "ok program: a setup of $MOST octets"
+  ends "a setup of one octet more" 3 "refused TooLarge" /dev/null /dev/null node "$room/over" --turns 1
+else
+  echo "not ok program: a setup of $MOST octets: '$(head -c 80 "$room/out")'"
+fi
+
+# Where another node has taken the port, a faulty text is refused as it is elsewhere, and a good one meets the socket.
+"$sacn" node "$room/node.toml" --turns 1000000000 >"$room/held" 2>/dev/null &
+holder=$!
+for _ in $(seq 100); do [ -s "$room/held" ] && break; sleep 0.05; done
+{ printf 'udp_port = %s\nodd = 1\n' "$port"; cat "$examples/node.toml"; } >"$room/odd.toml"
+ends "a good setup meets a taken socket" 4 "device socket" /dev/null /dev/null node "$room/node.toml" --turns 1
+ends "a faulty setup is refused before the socket" 3 "refused UnknownKey" /dev/null /dev/null node "$room/odd.toml" --turns 1
+kill "$holder"
+wait "$holder" 2>/dev/null
+holder=
