@@ -1,6 +1,6 @@
 //! The node core.
 
-ghost use Rattle.std.specs.Prelude.{◌≡◌, ◌≤◌, Some, None, length, is_ok, IfOk, OnErr, if◌then◌else◌};
+ghost use Rattle.std.specs.Prelude.{◌≡◌, ◌<◌, ◌≤◌, ◌^◌, ℕ, Some, None, length, is_ok, IfOk, IfSome, IfNone, OnErr, if◌then◌else◌};
 ghost use Rattle.std.specs.List.Sorted.{IsStrictlyIncreasing};
 
 use crate::limits::MAX_PORTS;
@@ -93,6 +93,17 @@ impl NodeCore {
         ensures core { self.new ≡ record self.old { core = core_at now self.old.core } }
     {
         self.tables.expire(now)
+    }
+
+    /// The first moment at which a source that is held is lost, ended ones too, if no datagram comes: a tick at any earlier
+    /// moment drops nothing, and one at it does. `None` where no tick drops anything: no source is held, or none is lost at a
+    /// moment of a `u64`.
+    pub fn wakes(&self) -> Option<u64>
+        ensures never { IfNone result ((t : ℕ) → t < 2 ^ 64 → core_lost t self.now.core ≡ 0) }
+        ensures asleep { IfSome result (λ w. (t : ℕ) → t < w → core_lost t self.now.core ≡ 0) }
+        ensures awake { IfSome result (λ w. 1 ≤ core_lost w self.now.core) }
+    {
+        self.tables.wakes()
     }
 
     /// Writes the frame of a port: start code 0, then its 512 slots, each from the range that has it, and 0 where none has.

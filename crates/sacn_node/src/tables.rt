@@ -1,14 +1,15 @@
 //! The tables of a node, one for each of its universes.
-ghost use Rattle.std.specs.Prelude.{◌≡◌, ◌<◌, ◌≤◌, ℕ, List, map, length, slice_index_or, slice_set, IfOk, IfErr, AllPairs};
+ghost use Rattle.std.specs.Prelude.{◌≡◌, ◌<◌, ◌≤◌, ◌^◌, ℕ, List, map, length, slice_index_or, slice_set, IfOk, IfErr, IfSome, IfNone, AllPairs};
 ghost use Rattle.sacn_sources.specs.Packets.{packet_of};
 ghost use Rattle.sacn_node.specs.declared.limits.TheConstants.{MAX_UNIVERSES};
 ghost use Rattle.sacn_node.specs.Seen.{one_expired, lost_in, new_one, Rise};
+ghost use Rattle.sacn_sources.specs.Wakes.{oldest_by, oldest_of};
 
 use crate::limits::MAX_UNIVERSES;
 use crate::taken::NodeTaken;
 use sacn_framing::DataView;
 use sacn_slots::{SLOTS, merge_into};
-use sacn_sources::{HeldView, SourceTable, TableFault, Taken};
+use sacn_sources::{HeldView, NETWORK_DATA_LOSS, SourceTable, TableFault, Taken};
 use std::alloc::Global;
 use std::marker::Model;
 
@@ -40,6 +41,7 @@ impl Model for Tables {
 
 impl Tables {
     ghost use Rattle.sacn_node.specs.Cores.{Table, core_at, core_lost, core_reply, core_after, core_row, core_slots, with_taken, with_kept, new_core};
+    ghost use Rattle.sacn_node.specs.Wakes.{oldest_in};
     ghost use Rattle.sacn_sources.specs.Rows.{taken, rows_kept, slots_of};
 
     /// An empty table for each of these universes.
@@ -79,6 +81,29 @@ impl Tables {
             Ok(at) => NodeTaken::FromTable(self.take_at(at, packet)),
             Err(_) => NodeTaken::OtherUniverse,
         }
+    }
+
+    /// The moment of the source that was renewed the longest ago, on any universe, and `u64::MAX` where none is held.
+    fn oldest(&self) -> u64
+        ensures { result ≡ oldest_in self.now.tables }
+    {
+        oldest_table(&self.list)
+    }
+
+    /// The first moment at which a source that is held is lost, if no packet comes, and `None` where there is none.
+    pub(crate) fn wakes(&self) -> Option<u64>
+        ensures never { IfNone result ((t : ℕ) → t < 2 ^ 64 → core_lost t self.now ≡ 0) }
+        ensures asleep { IfSome result (λ w. (t : ℕ) → t < w → core_lost t self.now ≡ 0) }
+        ensures awake { IfSome result (λ w. 1 ≤ core_lost w self.now) }
+    {
+        let moment = self.moment();
+        let Some(wake) = self.oldest().checked_add(NETWORK_DATA_LOSS) else {
+            return None;
+        };
+        if wake <= moment {
+            return Some(0);
+        }
+        Some(wake)
     }
 
     /// The source of this CID on a universe.
@@ -136,6 +161,17 @@ impl Tables {
             { one.universe },
         )
     }
+}
+
+/// The moment of the source of these tables that was renewed the longest ago, and `u64::MAX` where none is held.
+fn oldest_table(tables: &[OneUniverse]) -> u64
+    ensures { result ≡ oldest_by (λ o. oldest_of o.table.table.rows) tables.now }
+{
+    let mut oldest = u64::MAX;
+    for one in tables {
+        oldest = oldest.min(one.table.oldest());
+    }
+    oldest
 }
 
 fn expire_all(tables: &mut [OneUniverse], now: u64) -> usize

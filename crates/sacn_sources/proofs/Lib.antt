@@ -12,3 +12,4 @@ mod Histories
 mod Bounds
 mod PlainEdits
 mod PlainLayers
+pub mod Wakes

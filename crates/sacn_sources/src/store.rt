@@ -3,6 +3,7 @@
 ghost use Rattle.std.specs.Prelude.{◌≡◌, ◌↔◌, ◌<◌, ◌≤◌, IsTrue, false, not, remove, ℕ, [], length, is_some, slice_index_or, slice_set, max, IfOk, IfErr};
 ghost use Rattle.arrayvec.specs.ArrayVec.{array_vec_len};
 ghost use Rattle.sacn_sources.specs.declared.entry.Entry.{Entry as Stored};
+ghost use Rattle.sacn_sources.specs.Wakes.{oldest_by};
 
 use crate::entry::Entry;
 use crate::fault::TableFault;
@@ -53,6 +54,7 @@ impl Store {
     ghost use Rattle.sacn_sources.specs.Packets.{packet_of};
     ghost use Rattle.sacn_sources.specs.Kept.{loses_live, renews};
     ghost use Rattle.sacn_sources.specs.Places.{IsAt, IsGap};
+    ghost use Rattle.sacn_sources.specs.Wakes.{oldest_of};
 
     /// No sources, with the room for the levels of `MAX_SOURCES` taken in one request.
     pub(crate) fn new(alloc: Global) -> Result<Self, TableFault>
@@ -140,6 +142,13 @@ impl Store {
             shown,
             moment: entry.moment,
         })
+    }
+
+    /// The moment of the source that was renewed the longest ago, and `u64::MAX` where none is held.
+    pub(crate) fn oldest(&self) -> u64
+        ensures { result ≡ oldest_of self.now.rows }
+    {
+        oldest_entry(self.entries.as_slice())
     }
 
     // A packet of the source at this place.
@@ -330,6 +339,17 @@ pub(crate) fn frames_in<A: Allocator>(alloc: A) -> Result<Slab<Levels, A>, Table
         Ok(frames) => Ok(frames),
         Err(_) => Err(TableFault::OutOfMemory),
     }
+}
+
+// The least moment of these entries, and `u64::MAX` where there is none.
+fn oldest_entry(entries: &[Entry]) -> u64
+    ensures { result ≡ oldest_by (λ e. e.moment) entries.now }
+{
+    let mut oldest = u64::MAX;
+    for entry in entries {
+        oldest = oldest.min(entry.moment);
+    }
+    oldest
 }
 
 // The entry at this place.

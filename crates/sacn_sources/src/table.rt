@@ -45,6 +45,7 @@ impl Model for SourceTable {
 impl SourceTable {
     ghost use Rattle.sacn_sources.specs.Packets.{packet_of};
     ghost use Rattle.sacn_sources.specs.Rows.{answer, after_expire, slots_of, rows_lost, row_of};
+    ghost use Rattle.sacn_sources.specs.Wakes.{oldest_of};
     ghost use Rattle.sacn_sources.specs.Kept.{new_kept, kept_after_expire, kept_after_take, kept_after_merged};
 
     /// An empty table at moment 0. All its room is taken here, in one request, and a refusal is `OutOfMemory`.
@@ -102,6 +103,13 @@ impl SourceTable {
         ensures { result ≡ row_of cid.now self.now.table.rows }
     {
         self.store.held(cid)
+    }
+
+    /// The moment of the source that was renewed the longest ago, ended ones too, and `u64::MAX` where none is held.
+    pub fn oldest(&self) -> u64
+        ensures { result ≡ oldest_of self.now.table.rows }
+    {
+        self.store.oldest()
     }
 
     /// How many calls of `merged` made the merge anew, or `u64::MAX` where there were more.
