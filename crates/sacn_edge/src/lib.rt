@@ -22,7 +22,7 @@ mod udp;
 mod writer;
 
 pub use clock::Clock;
-pub use console_loop::run_console;
+pub use console_loop::{count as count_send, run_console, send};
 pub use line::FRAME_OCTETS;
 pub use link::{BUFFER_OCTETS, Link, Received};
 pub use node_loop::{ports_of, run_node};

@@ -1,2 +1,3 @@
 mod Draining
 mod Turning
+mod Rounding

@@ -1,3 +1,4 @@
 pub mod Hearings
 pub mod GatewayText
 pub mod GatewayRun
+pub mod DeskSends

@@ -1,6 +1,6 @@
 //! The gateway's loop.
-ghost use Rattle.std.specs.Prelude.{◌≡◌, ◌≤◌, ◌<◌, ◌+◌, ◌∷◌, [], List, length, false, true, OnOk, OnErr};
-ghost use Rattle.sacn_node.specs.Cores.{core_at};
+ghost use Rattle.std.specs.Prelude.{◌≡◌, ℕ, ◌≤◌, ◌<◌, ◌+◌, ◌∷◌, [], List, length, false, true, OnOk, OnErr};
+ghost use Rattle.sacn_node.specs.Cores.{core_at, core_lost};
 ghost use Rattle.sacn_edge.specs.Told.{Adds, Extends};
 ghost use Rattle.sacn_edge.specs.NodeText.{node_after};
 ghost use Rattle.sacn_live.specs.Hearings.{Hearing, turns_of, emptied_after, in_order};
@@ -67,13 +67,18 @@ fn drain<G: Receiver, N: Notes>(
     }
 }
 
-/// The moment up to which a gateway may wait after a turn: not past the end of its run, and no longer than a
-/// second, so that a stop of the process is seen.
-fn next_wait(now: u64, until: u64) -> u64
+/// The moment up to which a gateway may wait after a turn: not past that at which its node loses a source, nor past the
+/// end of its run, and no longer than a second, so that a stop of the process is seen.
+fn next_wait(core: &NodeCore, now: u64, until: u64) -> u64
     ensures long { result ≤ now + LONGEST_WAIT }
     ensures end { result ≤ until }
+    ensures lost { (t : ℕ) → t < result → core_lost t core.now.core ≡ 0 }
 {
-    now.saturating_add(LONGEST_WAIT).min(until)
+    let latest = now.saturating_add(LONGEST_WAIT).min(until);
+    match core.wakes() {
+        Some(wakes) => wakes.min(latest),
+        None => latest,
+    }
 }
 
 /// Runs a gateway. In each turn it waits until a datagram is there or something is to be done, then receives until
@@ -128,7 +133,7 @@ pub fn run_gateway<G: Receiver, N: Notes, O: Out>(
         if now >= span.until {
             return Ok(());
         }
-        wake = next_wait(now, span.until);
+        wake = next_wait(core, now, span.until);
     }
     Ok(())
 }

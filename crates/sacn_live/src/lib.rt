@@ -4,11 +4,15 @@
 //! sockets, clock and standard input tell nothing: what they bring is tested.
 #![tactic(auto)]
 
+mod desk;
 mod gateway;
 mod hearing;
 pub mod limits;
+mod orders;
 mod receiver;
 
+pub use desk::run_desk;
 pub use gateway::{Span, run_gateway};
 pub use hearing::{Notes, PassedOver};
+pub use orders::Orders;
 pub use receiver::{Arrival, Octets4, Receipt, Receiver};

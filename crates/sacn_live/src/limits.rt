@@ -9,3 +9,15 @@ pub const MOST_BURST: usize = 4096;
 
 /// The longest wait of a turn.
 pub const LONGEST_WAIT: u64 = 1000;
+
+/// The most orders that a desk takes in one round; what is left waits for the next one.
+pub const MOST_ORDERS: usize = 256;
+
+/// The most polls of one round of a desk. A console of 1024 universes has at most 1026 datagrams due at one reading.
+pub const MOST_POLLS: u64 = 1 << 20;
+
+/// The most rounds of a desk: more than it makes in ten thousand years.
+pub const MOST_ROUNDS: u64 = 1 << 43;
+
+/// The longest wait of a desk's round.
+pub const IDLE_WAIT: u64 = 20;
