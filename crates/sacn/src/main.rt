@@ -9,6 +9,8 @@ mod ending;
 mod fault;
 mod files;
 mod input;
+mod live;
+mod live_words;
 mod look;
 mod marked;
 mod network;

@@ -5,6 +5,7 @@ use crate::digits::octets_of_digits;
 use crate::ending::{DONE, Ending, ended};
 use crate::files::{octets_of_files, text_of_file};
 use crate::input::{MOST_OCTETS, read_limited};
+use crate::live;
 use crate::marked::Marked;
 use crate::network;
 use crate::simulate::sim_text;
@@ -22,17 +23,18 @@ pub fn run_program<
     O: Write + Drop,
     E: Write + Drop,
 >(rt: &R, words: &[String], input: I, mut out: O, mut err: E) -> u8 {
-    match run(rt, words, input, &mut out) {
+    match run(rt, words, input, &mut out, &mut err) {
         Ok(()) => DONE,
         Err(ending) => ended(rt.alloc(), ending, &mut out, &mut err),
     }
 }
 
-fn run<R: AllocGlobal + Files + Net + Clock, I: Read + Drop, O: Write>(
+fn run<R: AllocGlobal + Files + Net + Clock, I: Read + Drop, O: Write, E: Write>(
     rt: &R,
     words: &[String],
     input: I,
     out: &mut O,
+    err: &mut E,
 ) -> Result<(), Ending> {
     let alloc = rt.alloc();
     let asked = match parse(alloc, words) {
@@ -67,6 +69,9 @@ fn run<R: AllocGlobal + Files + Net + Clock, I: Read + Drop, O: Write>(
             let setup = text_of_file(rt, setup)?;
             network::node(rt, setup.as_str(), turns, out)
         }
+        Asked::Gateway(asked) => live::gateway(rt, &asked, out, err),
+        Asked::Desk(asked) => live::desk(rt, &asked, out, err),
+        Asked::Groups { file, device } => live::groups(rt, file, device, out, err),
     }
 }
 

@@ -112,6 +112,7 @@ pub fn run_desk<L: Link, C: Clock, O: Orders>(
         let now = clock.now();
         report.refused += order(orders, core, now);
         send_due(link, core, now, &mut octets, &mut report);
+        orders.look(core, &report);
         if orders.has_ended() {
             return report;
         }

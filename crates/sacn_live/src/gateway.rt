@@ -68,7 +68,7 @@ fn drain<G: Receiver, N: Notes>(
 }
 
 /// The moment up to which a gateway may wait after a turn: not past that at which its node loses a source, nor past the
-/// end of its run, and no longer than a second, so that a stop of the process is seen.
+/// end of its run, and no longer than half a second, so that a stop of the process is seen.
 fn next_wait(core: &NodeCore, now: u64, until: u64) -> u64
     ensures long { result ≤ now + LONGEST_WAIT }
     ensures end { result ≤ until }

@@ -7,8 +7,8 @@ pub const LATE_AFTER: u64 = 2500;
 /// The most receives of one turn of a gateway.
 pub const MOST_BURST: usize = 4096;
 
-/// The longest wait of a turn.
-pub const LONGEST_WAIT: u64 = 1000;
+/// The longest wait of a turn: a stop of the process is then seen, and interfaces get their frame twice a second.
+pub const LONGEST_WAIT: u64 = 500;
 
 /// The most orders that a desk takes in one round; what is left waits for the next one.
 pub const MOST_ORDERS: usize = 256;
@@ -21,3 +21,15 @@ pub const MOST_ROUNDS: u64 = 1 << 43;
 
 /// The longest wait of a desk's round.
 pub const IDLE_WAIT: u64 = 20;
+
+/// The room for datagrams that wait in a gateway's socket, in octets, that the machine is asked for.
+pub const RECEIVE_ROOM: i32 = 4_194_304;
+
+/// The longest wait after a receive that failed.
+pub const FAILED_WAIT: i32 = 100;
+
+/// How long a message that could come often is held back after the one before.
+pub const SAID_EACH: u64 = 1000;
+
+/// How long an interface shows a frame before it gets it again.
+pub const REFRESH: u64 = 500;

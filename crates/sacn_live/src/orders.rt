@@ -3,7 +3,8 @@ ghost use Rattle.std.specs.Prelude.{◌≡◌, List, [], ◌∷◌, None, Option
 ghost use Rattle.sacn_edge.specs.Told.{Extends};
 ghost use Rattle.sacn_live.specs.DeskSends.{Talk, Asked, Answered};
 
-use sacn_console::{Command, ConsoleFault};
+use sacn_console::{Command, ConsoleCore, ConsoleFault};
+use sacn_edge::ConsoleReport;
 
 /// A device that gives orders and takes their answers, and can wait for them.
 pub trait Orders {
@@ -22,6 +23,10 @@ pub trait Orders {
     /// The console's answer to the latest order.
     fn answered(&mut self, answer: Result<(), ConsoleFault>)
         ensures told { Extends (told self.old) (told self.new) (Answered answer ∷ []) };
+
+    /// Looks at the core once a round has sent what was due, and at what was sent so far.
+    fn look(&mut self, core: &ConsoleCore, report: &ConsoleReport)
+        ensures told { told self.new ≡ told self.old };
 
     /// Whether no order will come any more, so that the desk ends.
     fn has_ended(&self) -> bool;

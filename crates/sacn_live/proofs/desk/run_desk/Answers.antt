@@ -36,7 +36,8 @@ returns-then-has_ended g c =
     let n = s.0 in
     let mid = c.order.new.core in
     let new = c.send_due.new.core in
-    let told = subst (λ t. Extends t (g.O.Orders.told c.order.new.orders) (given now ks core ++ asked_last now ks)) c.wait.ensures.told o.2 in
+    let waited = subst (λ t. Extends t (g.O.Orders.told c.order.new.orders) (given now ks core ++ asked_last now ks)) c.wait.ensures.told o.2 in
+    let told = subst (λ t. Extends (g.O.Orders.told c.loop-round.orders) t (given now ks core ++ asked_last now ks)) (sym c.look.ensures.told) waited in
     let refused = c.loop-round.report.refused + c.order.result in
     let before : record { sent = c.loop-round.report.sent; failed = c.loop-round.report.failed; refused = refused } ≡ sends_report handed (desk_refusals first rs + c.order.result) =
     ap (λ (r : ConsoleReport). let s : ConsoleReport = record { sent = r.sent; failed = r.failed; refused = r.refused + c.order.result } in s) run.9 in
@@ -67,7 +68,8 @@ loop-round-preserved g c =
     let n = s.0 in
     let mid = c.order.new.core in
     let new = c.send_due.new.core in
-    let told = subst (λ t. Extends t (g.O.Orders.told c.order.new.orders) (given now ks core ++ asked_last now ks)) c.wait.ensures.told o.2 in
+    let waited = subst (λ t. Extends t (g.O.Orders.told c.order.new.orders) (given now ks core ++ asked_last now ks)) c.wait.ensures.told o.2 in
+    let told = subst (λ t. Extends (g.O.Orders.told c.loop-round.orders) t (given now ks core ++ asked_last now ks)) (sym c.look.ensures.told) waited in
     let refused = c.loop-round.report.refused + c.order.result in
     let before : record { sent = c.loop-round.report.sent; failed = c.loop-round.report.failed; refused = refused } ≡ sends_report handed (desk_refusals first rs + c.order.result) =
     ap (λ (r : ConsoleReport). let s : ConsoleReport = record { sent = r.sent; failed = r.failed; refused = r.refused + c.order.result } in s) run.9 in
