@@ -3,7 +3,6 @@ use crate::live_words::{self, DeskAsked, GatewayAsked};
 use clap::error::ErrorKind;
 use clap::{Arg, ArgAction, ArgMatches, Command, Error, value_parser};
 use std::alloc::{AllocError, Global};
-use std::fmt::Debug;
 
 const ABOUT: &str =
     "Streaming ACN (ANSI E1.31-2018): datagrams read and checked, consoles and nodes run.
@@ -163,8 +162,8 @@ fn wrong_number(alloc: Global, name: &str) -> Error {
 }
 
 /// The error of a word that names nothing of its kind.
-pub fn refused_words(alloc: Global, word: &str, fault: impl Debug + Drop) -> Error {
-    let Ok(message) = format!(in alloc; "{word}: {fault:?}") else {
+pub fn refused_words(alloc: Global, word: &str, fault: &str) -> Error {
+    let Ok(message) = format!(in alloc; "{word}: {fault}") else {
         return Error::from(AllocError);
     };
     let mut command = match command(alloc) {

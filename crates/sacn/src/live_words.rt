@@ -1,7 +1,7 @@
 //! The words of the commands that run a rig.
 use crate::command::{Asked, file, first, number, refused_words, text};
 use clap::{Arg, ArgAction, ArgMatches, Command, Error, value_parser};
-use sacn_live::{MOST_DESTINATIONS, Octets4, SACN_PORT, destination_of, host_of};
+use sacn_live::{AddressFault, MOST_DESTINATIONS, Octets4, SACN_PORT, destination_of, host_of};
 use std::alloc::Global;
 use std::net::{Ipv4Addr, SocketAddrV4};
 
@@ -17,6 +17,7 @@ const GROUPS_ABOUT: &str =
 const MOST_SECONDS: i64 = 1_000_000_000;
 
 /// What a gateway is asked.
+#[derive(Drop)]
 pub struct GatewayAsked<'a> {
     pub setup: &'a str,
     pub listen: Ipv4Addr,
@@ -27,6 +28,7 @@ pub struct GatewayAsked<'a> {
 }
 
 /// What a desk is asked.
+#[derive(Drop)]
 pub struct DeskAsked<'a> {
     pub show: &'a str,
     /// Empty where nothing says otherwise than the show.
@@ -58,12 +60,22 @@ fn flag<'a>(alloc: Global, name: &'a str, help: &'a str) -> Arg<'a> {
 }
 
 pub fn gateway<'a>(alloc: Global) -> Result<Command<'a>, Error> {
-    let seconds = word(alloc, "seconds", "S", "How many seconds it runs, 1 to 1000000000")
-        .value_parser(value_parser!(u64).range(1..=MOST_SECONDS));
+    let seconds = word(
+        alloc,
+        "seconds",
+        "S",
+        "How many seconds it runs, 1 to 1000000000",
+    )
+    .value_parser(value_parser!(u64).range(1..=MOST_SECONDS));
     let command = Command::new(alloc, "gateway")
         .about(GATEWAY_ABOUT)
         .arg(file(alloc, "SETUP"))?
-        .arg(word(alloc, "listen", "ADDRESS", "The address that it hears at; else all"))?
+        .arg(word(
+            alloc,
+            "listen",
+            "ADDRESS",
+            "The address that it hears at; else all",
+        ))?
         .arg(words(alloc, "from", "ADDRESS", "A sender that it hears; else all"))?
         .arg(words(
             alloc,
@@ -76,9 +88,14 @@ pub fn gateway<'a>(alloc: Global) -> Result<Command<'a>, Error> {
 }
 
 pub fn desk<'a>(alloc: Global) -> Result<Command<'a>, Error> {
-    let ttl = word(alloc, "ttl", "N", "How many routers a group's packets pass, 1 to 255")
-        .default_value("1")
-        .value_parser(value_parser!(u8).range(1..=255));
+    let ttl = word(
+        alloc,
+        "ttl",
+        "N",
+        "How many routers a group's packets pass, 1 to 255",
+    )
+    .default_value("1")
+    .value_parser(value_parser!(u8).range(1..=255));
     let command = Command::new(alloc, "desk")
         .about(DESK_ABOUT)
         .arg(file(alloc, "SHOW"))?
@@ -106,6 +123,13 @@ pub fn groups<'a>(alloc: Global) -> Result<Command<'a>, Error> {
     Ok(command)
 }
 
+fn fault_name(fault: AddressFault) -> &'static str {
+    match fault {
+        AddressFault::Address => "Address",
+        AddressFault::Port => "Port",
+    }
+}
+
 // The address of an option, or this one where it isn't given.
 fn host<'a>(
     alloc: Global,
@@ -117,7 +141,7 @@ fn host<'a>(
         None => Ok(otherwise),
         Some(word) => match host_of(word) {
             Ok(host) => Ok(host),
-            Err(fault) => Err(refused_words(alloc, word, fault)),
+            Err(fault) => Err(refused_words(alloc, word, fault_name(fault))),
         },
     }
 }
@@ -128,7 +152,7 @@ fn senders<'a>(alloc: Global, matches: &ArgMatches<'a>) -> Result<Vec<Octets4>, 
         for word in words {
             match host_of(word) {
                 Ok(host) => senders.push(host.octets())?,
-                Err(fault) => return Err(refused_words(alloc, word, fault)),
+                Err(fault) => return Err(refused_words(alloc, word, fault_name(fault))),
             }
         }
     }
@@ -139,7 +163,11 @@ fn senders<'a>(alloc: Global, matches: &ArgMatches<'a>) -> Result<Vec<Octets4>, 
 fn widget_of<'a>(word: &'a str) -> Option<(u8, &'a str)> {
     let (port, path) = word.split_once('=')?;
     let port = sacn_files::words::byte_in(port)?;
-    if port == 0 || path.is_empty() { None } else { Some((port, path)) }
+    if port == 0 || path.is_empty() {
+        None
+    } else {
+        Some((port, path))
+    }
 }
 
 fn widgets<'a>(alloc: Global, matches: &ArgMatches<'a>) -> Result<Vec<(u8, &'a str)>, Error> {
@@ -175,7 +203,7 @@ fn hosts<'a>(alloc: Global, matches: &ArgMatches<'a>) -> Result<Vec<SocketAddrV4
         for word in words {
             match destination_of(word, SACN_PORT) {
                 Ok(host) => hosts.push(host)?,
-                Err(fault) => return Err(refused_words(alloc, word, fault)),
+                Err(fault) => return Err(refused_words(alloc, word, fault_name(fault))),
             }
         }
     }

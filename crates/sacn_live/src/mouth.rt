@@ -6,7 +6,6 @@ ghost use Rattle.sacn_live.specs.Groups.{destination_by};
 use crate::address::SACN_PORT;
 use crate::clock::RigClock;
 use crate::limits::SAID_EACH;
-use arrayvec::ArrayVec;
 use sacn_edge::{BUFFER_OCTETS, Clock, Link, Received};
 use sacn_framing::{Packet, multicast_group, read_packet};
 use std::io::{ErrorKind, Write};
@@ -36,7 +35,7 @@ pub fn group_for(datagram: &[u8]) -> Option<[u8; 4]>
 #[derive(Drop)]
 pub enum Destinations {
     /// Each datagram to each of these.
-    Hosts(ArrayVec<SocketAddrV4, MOST_DESTINATIONS>),
+    Hosts(Vec<SocketAddrV4>),
     /// Each datagram to its universe's group.
     Groups,
 }
