@@ -1,10 +1,11 @@
 -- Which datagram is due, by cases.
-use Rattle.std.proofs.Common.{◌≡◌, ℕ, ◌+◌, ◌-◌, ◌/◌, ◌<◌, ◌≤◌, true, false, ◌==◌, List, length, slice_index_or, find, Option, Some, None, MatchOption, suc, zero, refl, arith, nat_lt, nat_le}
+use Rattle.std.proofs.Common.{◌≡◌, ℕ, ◌+◌, ◌-◌, ◌/◌, ◌<◌, ◌≤◌, true, false, ◌==◌, List, length, slice_index_or, find, Option, Some, None, MatchOption, is_some, min, max, suc, zero, refl, arith, nat_lt, nat_le}
 use Rattle.std.specs.Option.{option_map}
 use Rattle.sacn_console.specs.Lines.{Packet, Paged, line_due}
-use Rattle.sacn_console.specs.Core.{Core, is_of, packet_at, line_at, no_line, line_found, page_due, standing, due}
+use Rattle.sacn_console.specs.Core.{Core, at, is_of, packet_at, line_at, no_line, line_found, page_due, standing, due}
 use Rattle.sacn_console.specs.Lights.{Lights, frame}
 use Rattle.sacn_discovery.specs.Pages.{page_count}
+use Rattle.sacn_console.specs.Wakes.{last_moment}
 use Rattle.sacn_console.specs.declared.limits.TheConstants.{DISCOVERY_INTERVAL}
 use Rattle.sacn_console.specs.declared.line.Line.{Line}
 use Rattle.sacn_console.specs.declared.line.Begun.{Begun}
@@ -85,3 +86,47 @@ pub universe_found : (v c : Core) (ls : List Line) (u : ℕ) (r : Option ℕ) �
     MatchOption r (find (is_of u) c.lines ≡ None) (λ i. (i < length c.lines) × (find (is_of u) c.lines ≡ Some (line_at c i)) × ((line_at c i).universe ≡ u))
 universe_found v c ls u None e le h = rw (← e, ← le) h
 universe_found v c ls u (Some i) e le h = rw (← e, ← le) (h.0, (h.1 no_line).0, (h.1 no_line).1)
+
+-- ---- when a page comes
+
+pub pages_begin : (v c : Core) (t : ℕ) → v ≡ c → v.cycle ≡ None → is_some (page_due (at t c)) ≡ true
+unfolding page_due
+pages_begin v c t e is = rw (← e, is) refl
+
+pub pages_go_on : (v c : Core) (t : ℕ) (b : Begun) (len count : ℕ) → v ≡ c → v.cycle ≡ Some b → len ≡ length v.listed → count ≡ page_count len → b.next < count → is_some (page_due (at t c)) ≡ true
+unfolding page_due
+pages_go_on v c t b len count e is le ce lt =
+    let f : count ≡ page_count (length v.listed) = rw (← le) ce in
+    rw (← e, is, lt_true b.next (page_count (length v.listed)) (rw f at lt)) refl
+
+over_at : (m t b : ℕ) → DISCOVERY_INTERVAL ≤ m - b → DISCOVERY_INTERVAL ≤ max m t - b
+over_at m t b le = omega (arith, le)
+
+waits_at : (m t b last : ℕ) → m - b < DISCOVERY_INTERVAL → t < min (b + DISCOVERY_INTERVAL) last → max m t - b < DISCOVERY_INTERVAL
+waits_at m t b last lt before = omega (arith, lt, before)
+
+comes_at : (m w b last : ℕ) → w ≡ min (b + DISCOVERY_INTERVAL) last → w < last → DISCOVERY_INTERVAL ≤ max m w - b
+comes_at m w b last e lt = omega (arith, e, lt)
+
+again_at : (v : Core) (t : ℕ) (b : Begun) → v.cycle ≡ Some b → page_count (length v.listed) ≤ b.next → DISCOVERY_INTERVAL ≤ max v.moment t - b.moment → is_some (page_due (at t v)) ≡ true
+unfolding page_due
+again_at v t b is done le = rw (is, lt_false b.next (page_count (length v.listed)) done, le_true DISCOVERY_INTERVAL (max v.moment t - b.moment) le) refl
+
+pub pages_over : (v c : Core) (t : ℕ) (b : Begun) (len count : ℕ) → v ≡ c → v.cycle ≡ Some b → len ≡ length v.listed → count ≡ page_count len → count ≤ b.next → DISCOVERY_INTERVAL ≤ v.moment - b.moment → is_some (page_due (at t c)) ≡ true
+pages_over v c t b len count e is le ce done lt =
+    let f : count ≡ page_count (length v.listed) = rw (← le) ce in
+    rw (← e) (again_at v t b is (rw f at done) (over_at v.moment t b.moment lt))
+
+pub pages_again : (v c : Core) (w : ℕ) (b : Begun) (len count : ℕ) → v ≡ c → v.cycle ≡ Some b → len ≡ length v.listed → count ≡ page_count len → count ≤ b.next → w ≡ min (b.moment + DISCOVERY_INTERVAL) last_moment → w < last_moment → is_some (page_due (at w c)) ≡ true
+pages_again v c w b len count e is le ce done we lt =
+    let f : count ≡ page_count (length v.listed) = rw (← le) ce in
+    rw (← e) (again_at v w b is (rw f at done) (comes_at v.moment w b.moment last_moment we lt))
+
+rests_at : (v : Core) (t : ℕ) (b : Begun) → v.cycle ≡ Some b → page_count (length v.listed) ≤ b.next → max v.moment t - b.moment < DISCOVERY_INTERVAL → page_due (at t v) ≡ None
+unfolding page_due
+rests_at v t b is done lt = rw (is, lt_false b.next (page_count (length v.listed)) done, le_false DISCOVERY_INTERVAL (max v.moment t - b.moment) lt) refl
+
+pub pages_rest : (v c : Core) (t w : ℕ) (b : Begun) (len count : ℕ) → v ≡ c → v.cycle ≡ Some b → len ≡ length v.listed → count ≡ page_count len → count ≤ b.next → v.moment - b.moment < DISCOVERY_INTERVAL → w ≡ min (b.moment + DISCOVERY_INTERVAL) last_moment → t < w → page_due (at t c) ≡ None
+pages_rest v c t w b len count e is le ce done lt we before =
+    let f : count ≡ page_count (length v.listed) = rw (← le) ce in
+    rw (← e) (rests_at v t b is (rw f at done) (waits_at v.moment t b.moment last_moment lt (rw we at before)))

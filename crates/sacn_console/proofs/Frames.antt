@@ -1,10 +1,14 @@
 -- Frames of a player at its own moment, at later ones, and after its commands.
-use Rattle.std.proofs.Common.{◌≡◌, ℕ, ◌*◌, ◌/◌, ◌≤◌, max, arith, ap}
+use Rattle.std.proofs.Common.{◌≡◌, ℕ, ◌*◌, ◌/◌, ◌-◌, ◌≤◌, ◌&&◌, max, Bool, true, false, nat_eq, List, [], ◌∷◌, Some, arith, ap, sym, refl, ◌∙◌}
+use Rattle.std.specs.Cmp.Lexicographic.{pointwise}
 use Rattle.sacn_patch.specs.Patch.{universe_frame}
 use Rattle.sacn_cues.specs.declared.limits.TheConstants.{FULL}
 use Rattle.sacn_cues.specs.Levels.{all_begun}
 use Rattle.sacn_cues.specs.Playing.{Played, moved, after, gives, master_by, current_by, rest_by, level_mastered, StaysAsItIs}
 use Rattle.sacn_cues.specs.Playing as play
+use Rattle.sacn_console.specs.Lines.{same, state_sent}
+use Rattle.sacn_console.specs.declared.line.Run.{Run}
+use Rattle.sacn_console.specs.declared.line.State.TheVariants.{Running}
 use Rattle.sacn_console.specs.Lights.{Lights, lights_at, frame, frame_now}
 
 abbrev pub with_moment : Played → ℕ → Played
@@ -61,3 +65,34 @@ frame_later l u t s le = ap (λ (p : Played). frame_now (record { patch = l.patc
 pub frame_stays : (l : Lights) (u s : ℕ) → StaysAsItIs l.player → frame l u s ≡ frame_now l u
 unfolding frame frame_now
 frame_stays l u s still = ap (λ (f : ℕ → ℕ). universe_frame (λ c. f c * l.player.master / FULL) l.patch u) (λ i c. still s c i)
+
+-- ---- frames that are the same
+
+pub same_self : (f : List ℕ) → same f f ≡ true
+unfolding same
+same_self [] = refl
+same_self (x ∷ xs) = grind (arith, same_self xs)
+
+parts : (a b : Bool) → (a && b) ≡ true → (a ≡ true) × (b ≡ true)
+parts true b e = (refl, e)
+parts false b e = absurd (cc)
+
+equal_numbers : (a b : ℕ) → nat_eq a b ≡ true → a ≡ b
+equal_numbers a b e = grind arith
+
+equal_lists : (a b : List ℕ) → pointwise nat_eq a b ≡ true → a ≡ b
+equal_lists [] [] e = refl
+equal_lists [] (y ∷ ys) e = absurd (cc)
+equal_lists (x ∷ xs) [] e = absurd (cc)
+equal_lists (x ∷ xs) (y ∷ ys) e =
+    let p = parts (nat_eq x y) (pointwise nat_eq xs ys) e in
+    rw (equal_numbers x y p.0, equal_lists xs ys p.1) refl
+
+pub same_is : (a b : List ℕ) → same a b ≡ true → a ≡ b
+unfolding same
+same_is a b e = equal_lists a b e
+
+-- a run after a packet with its frame
+pub run_repeated : (f : List ℕ) (r : Run) (owed : ℕ) → same r.frame f ≡ true → owed ≡ r.owed - 1 → Running (Some (record { frame = r.frame; owed = owed })) ≡ state_sent f (Running (Some r))
+unfolding state_sent
+run_repeated f r owed e is = rw (is, same_is r.frame f e, same_self f) refl

@@ -1,5 +1,5 @@
 -- The octets of a packet in the datagram's buffer.
-use Rattle.std.proofs.Common.{◌≡◌, ℕ, ◌≤◌, Bool, false, List, [], ◌∷◌, ◌++◌, length, drop, refl, suc, zero, append-nil, arith, ap, ◌∙◌}
+use Rattle.std.proofs.Common.{◌≡◌, ℕ, ◌≤◌, Bool, false, List, [], ◌∷◌, ◌++◌, length, take, drop, refl, suc, zero, append-nil, arith, ap, ◌∙◌}
 use Rattle.sacn_framing.specs.Data.{Data}
 use Rattle.sacn_framing.specs.FramingText.{nothing}
 use Rattle.sacn_framing.specs.PacketText.{data_text}
@@ -36,3 +36,12 @@ pub filled_packet : (sender : Sender) (l : Line) (slots : List ℕ) (ending : Bo
 unfolding packet_text packet_with
 filled_packet sender l slots ending rest a p old n b e f le =
     joined a p (data_text (said sender l slots (is_ending l.state)) nothing) old rest n e (rw b at f) le
+
+taken_len : (n : ℕ) (xs : List ℕ) → length (take n xs) ≤ n
+taken_len zero xs = omega arith
+taken_len (suc n) [] = omega arith
+taken_len (suc n) (x ∷ xs) = omega (arith, taken_len n xs)
+
+-- the front of a list is no longer than its length says
+pub front_len : (n : ℕ) (front xs : List ℕ) → front ≡ take n xs → length front ≤ n
+front_len n front xs e = rw e (taken_len n xs)

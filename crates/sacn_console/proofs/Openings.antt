@@ -4,7 +4,7 @@ use Rattle.std.proofs.lemmas.List.{length-map}
 use Rattle.std.specs.List.{AllByRecursion, AllPairs}
 use Rattle.std.proofs.lemmas.List.Kept.{AllPairs-from_increasing}
 use Rattle.sacn_console.specs.Core.{Rising, universes_of}
-use Rattle.sacn_console.specs.Wakes.{Sound, awake}
+use Rattle.sacn_console.specs.Wakes.{Sound, Waking, awake}
 use Rattle.sacn_console.specs.Shows.{ShowContent, ShowOk}
 use Rattle.sacn_patch.specs.Patch.{Patched}
 use Rattle.sacn_cues.specs.Playing.{Played, new_player}
@@ -77,8 +77,8 @@ pub rises : (xs : List ℕ) → AllPairs (λ x y. x < y) xs → Rising xs
 rises [] h = tt
 rises (x ∷ xs) h = (below_all x xs (λ j lt. h 0 (suc j) 0 (omega arith) (omega (arith, lt))), rises xs (λ i j d lt within. h (suc i) (suc j) d (omega (arith, lt)) (omega (arith, within))))
 
-pub begun_sound : (s : ShowContent) (first : ℕ) (sender : Sender) (lines : List Line) (wakes listed : List ℕ) (patch : Patched) (player : Played) → ShowOk s → sender ≡ (life_of s first).sender →
-    lines ≡ map (line_by first []) s.universes → wakes ≡ map awake s.universes → listed ≡ [] → player ≡ new_player s.cues →
+pub begun_sound : (s : ShowContent) (first : ℕ) (sender : Sender) (lines : List Line) (wakes : Waking) (listed : List ℕ) (patch : Patched) (player : Played) → ShowOk s → sender ≡ (life_of s first).sender →
+    lines ≡ map (line_by first []) s.universes → wakes ≡ record { each = map awake s.universes; least = 0; from = 0 } → listed ≡ [] → player ≡ new_player s.cues →
     Sound wakes (record { sender = sender; lines = lines; cycle = None; listed = listed; lights = record { patch = patch; player = player }; moment = 0 })
 begun_sound s first sender lines wakes listed patch player ok se le we ne pe = record {
   core = record {
@@ -90,10 +90,14 @@ begun_sound s first sender lines wakes listed patch player ok se le we ne pe = r
     clock = rw pe refl;
     later = λ b e. absurd (no_cycle b e);
   };
-  wakes_ok = record {
-    counted = rw (le, we) (same_length first s.universes);
-    asleep = λ j d lt r rle rlt. absurd (not_before r (get_or wakes j 0) (rw we (all_awake s.universes j)) rlt);
-  };
+  wakes_ok = rw we (record {
+    counted = rw le (same_length first s.universes);
+    woken = λ j d lt. (
+      λ r rle rlt. absurd (not_before r (get_or {A = ℕ} (map awake s.universes) j 0) (all_awake s.universes j) rlt),
+      λ still rlt last. absurd (not_before 0 (get_or {A = ℕ} (map awake s.universes) j 0) (all_awake s.universes j) rlt),
+    );
+    quiet = λ j d before jlt. absurd (omega (arith, before));
+  });
 }
 
 pub begun_core : (s : ShowContent) (first : ℕ) (sender : Sender) (lines : List Line) (listed : List ℕ) (patch : Patched) (player : Played) → sender ≡ (life_of s first).sender →

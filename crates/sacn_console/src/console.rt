@@ -7,11 +7,12 @@ ghost use Rattle.sacn_console.specs.Lights.{told};
 ghost use Rattle.sacn_console.specs.Core.{packet_text, packet_with};
 
 use crate::command::{Command, ConsoleFault};
-use crate::limits::{CONSOLE_UNIVERSES, DISCOVERY_INTERVAL, LEAST_GAP, MOST_OCTETS, TERMINATIONS};
-use crate::line::{Begun, Line, State, can_end, can_start, when_passed};
-use crate::lines::{first_due, first_lines, first_wakes, list_standing, place_of};
+use crate::limits::{CONSOLE_UNIVERSES, DISCOVERY_INTERVAL, MOST_OCTETS, TERMINATIONS};
+use crate::line::{Begun, Line, State, can_end, can_start};
+use crate::lines::{first_due, first_lines, list_standing, place_of};
 use crate::sender::Sender;
 use crate::show::{Show, ShowFault};
+use crate::waking::Wakes;
 use arrayvec::ArrayVec;
 use sacn_cues::{CueFault, PlayFault, Player};
 use sacn_discovery::{page_count, write_page};
@@ -28,8 +29,7 @@ use std::marker::Model;
 pub struct ConsoleCore {
     sender: Sender,
     lines: Vec<Line>,
-    // For each line the moment before which it isn't due; a command sets them back.
-    wakes: Vec<u64>,
+    wakes: Wakes,
     cycle: Option<Begun>,
     listed: ArrayVec<u16, CONSOLE_UNIVERSES>,
     patch: Patch,
@@ -50,11 +50,13 @@ impl Model for ConsoleCore {
 
     ghost view = { λ c. record { sender = c.sender; lines = c.lines.items; cycle = c.cycle; listed = c.listed.items; lights = record { patch = c.patch; player = c.player }; moment = c.moment } };
 
-    ghost invariant = { λ c. Sound c.wakes.items (record { sender = c.sender; lines = c.lines.items; cycle = c.cycle; listed = c.listed.items; lights = record { patch = c.patch; player = c.player }; moment = c.moment }) };
+    ghost invariant = { λ c. Sound c.wakes (record { sender = c.sender; lines = c.lines.items; cycle = c.cycle; listed = c.listed.items; lights = record { patch = c.patch; player = c.player }; moment = c.moment }) };
 }
 
 impl ConsoleCore {
-    ghost use Rattle.std.specs.Prelude.{IfErr, [], find, slice_set, Some, None, slice_index_or, MatchOption, List, ℕ, is_ok};
+    ghost use Rattle.std.specs.Prelude.{IfErr, [], find, slice_set, Some, None, slice_index_or, MatchOption, List, ℕ, is_ok, is_some, true, ◌<◌};
+    ghost use Rattle.sacn_cues.specs.Playing.{is_still};
+    ghost use Rattle.sacn_console.specs.Wakes.{last_moment};
     ghost use Rattle.std.specs.Option.{option_map};
     ghost use Rattle.sacn_discovery.specs.Pages.{page_count as pages_of};
     ghost use Rattle.sacn_console.specs.Lights.{frame};
@@ -76,7 +78,7 @@ impl ConsoleCore {
         let Ok(lines) = first_lines(alloc, show.universes.as_slice(), first) else {
             return Err(ShowFault::OutOfMemory);
         };
-        let Ok(wakes) = first_wakes(alloc, show.universes.as_slice()) else {
+        let Ok(wakes) = Wakes::new(alloc, show.universes.as_slice()) else {
             return Err(ShowFault::OutOfMemory);
         };
         let Ok(patch) = show.patch.try_copy() else {
@@ -138,15 +140,23 @@ impl ConsoleCore {
     fn move_clock(&mut self, now: u64)
         ensures { self.new ≡ at now self.old }
     {
+        let was_still = self.player.is_still();
+        let is_later = self.moment < now;
         self.moment = self.moment.max(now);
         move_player(&mut self.player, now);
+        let rests = self.player.is_still();
+        if rests != was_still {
+            self.wakes.clear();
+        } else if is_later {
+            self.wakes.start_at(0);
+        }
     }
 
     fn go(&mut self) -> Result<(), ConsoleFault>
         ensures answer { result ≡ answer Command.Go self.old }
         ensures core { self.new ≡ taken Command.Go (answer Command.Go self.old) self.old }
     {
-        self.wakes.fill(0);
+        self.wakes.clear();
         told(self.player.go(self.moment))
     }
 
@@ -154,7 +164,7 @@ impl ConsoleCore {
         ensures answer { result ≡ answer (Command.GoTo number) self.old }
         ensures core { self.new ≡ taken (Command.GoTo number) (answer (Command.GoTo number) self.old) self.old }
     {
-        self.wakes.fill(0);
+        self.wakes.clear();
         told(self.player.go_to(self.moment, number))
     }
 
@@ -162,7 +172,7 @@ impl ConsoleCore {
         ensures answer { result ≡ answer (Command.SetLevel channel level) self.old }
         ensures core { self.new ≡ taken (Command.SetLevel channel level) (answer (Command.SetLevel channel level) self.old) self.old }
     {
-        self.wakes.fill(0);
+        self.wakes.clear();
         told(self.player.set(self.moment, channel, level))
     }
 
@@ -170,7 +180,7 @@ impl ConsoleCore {
         ensures answer { result ≡ answer (Command.Master master) self.old }
         ensures core { self.new ≡ taken (Command.Master master) (answer (Command.Master master) self.old) self.old }
     {
-        self.wakes.fill(0);
+        self.wakes.clear();
         self.player.master(self.moment, master);
         Ok(())
     }
@@ -234,7 +244,66 @@ impl ConsoleCore {
     {
         let line = &mut self.lines[place];
         line.state = state;
-        self.wakes[place] = 0;
+        self.wakes.put(place, 0);
+        self.wakes.start_at(0);
+    }
+
+    /// The first moment at which something can be due as long as no command comes: 0 where something
+    /// is due at the clock's moment.
+    ///
+    /// While no fade runs it is that of the next repeat, termination, keep-alive packet or discovery
+    /// page. While one runs it may be as early as the next moment.
+    pub fn wakes(&mut self) -> u64
+        ensures core { self.new ≡ self.old }
+        ensures quiet { (t : ℕ) → t < result → due (at t self.old) ≡ None }
+        ensures exact { is_still self.old.lights.player ≡ true → result < last_moment → is_some (due (at result self.old)) ≡ true }
+    {
+        let line = self.line_wake();
+        line.min(self.page_wake())
+    }
+
+    // The same of data packets alone.
+    fn line_wake(&mut self) -> u64
+        ensures core { self.new ≡ self.old }
+        ensures quiet { (t : ℕ) → t < result → line_found (at t self.old) ≡ None }
+        ensures exact { is_still self.old.lights.player ≡ true → result < last_moment → is_some (line_found (at result self.old)) ≡ true }
+    {
+        let mut slots = [0; SLOTS];
+        let moment = self.moment;
+        let still = self.player.is_still();
+        let player = self.player.at(moment);
+        let found = first_due(
+            &self.lines,
+            &mut self.wakes,
+            &self.patch,
+            &player,
+            still,
+            moment,
+            &mut slots,
+        );
+        match found {
+            Some(_) => 0,
+            None => self.wakes.first(),
+        }
+    }
+
+    // The same of discovery pages alone.
+    fn page_wake(&self) -> u64
+        ensures quiet { (t : ℕ) → t < result → page_due (at t self.now) ≡ None }
+        ensures exact { result < last_moment → is_some (page_due (at result self.now)) ≡ true }
+    {
+        match self.cycle {
+            None => 0,
+            Some(begun) => {
+                if begun.next < page_count(self.listed.len()) {
+                    return 0;
+                }
+                if self.moment.saturating_sub(begun.moment) >= DISCOVERY_INTERVAL {
+                    return 0;
+                }
+                begun.moment.saturating_add(DISCOVERY_INTERVAL)
+            }
+        }
     }
 
     // Gives the datagram that is due at the moment in use.
@@ -243,6 +312,9 @@ impl ConsoleCore {
         ensures octets { out.new ≡ over self.old.sender (due self.old) out.old }
         ensures core { self.new ≡ given (due self.old) self.old }
     {
+        if self.moment < self.wakes.least() {
+            return self.give_page(out);
+        }
         let mut slots = [0; SLOTS];
         match self.due_place(&mut slots) {
             Some(place) => Some(self.give_packet(place, &slots, out)),
@@ -286,7 +358,9 @@ impl ConsoleCore {
         let line = &mut self.lines[place];
         let len = write_packet(&self.sender, line, slots, out);
         line.sent(moment, slots);
-        self.wakes[place] = when_passed(LEAST_GAP, Some(moment));
+        let wake = line.wake_sent(self.player.is_still());
+        self.wakes.put(place, wake);
+        self.wakes.pass(place);
         len
     }
 
@@ -409,7 +483,6 @@ fn write_packet(
     ensures len { result ≡ 638 }
     ensures octets { out.new ≡ packet_text (packet_with sender.now line.now slots.now) ++ drop 638 out.old }
 {
-    let mut packet = [0; 638];
     let cid = sender.cid;
     let name = sender.name;
     let fields = DataFields {
@@ -423,7 +496,8 @@ fn write_packet(
         start: 0,
         slots: &slots[..],
     };
-    let len = write_data(&fields, &mut packet);
-    out[..638].copy_from_slice(&packet);
-    len
+    match out.first_chunk_mut::<638>() {
+        Some(front) => write_data(&fields, front),
+        None => 638,
+    }
 }

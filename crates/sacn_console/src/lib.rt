@@ -10,6 +10,7 @@ mod lines;
 mod script;
 mod sender;
 mod show;
+mod waking;
 
 pub use command::{Command, ConsoleFault};
 pub use console::ConsoleCore;

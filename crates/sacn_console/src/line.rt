@@ -1,10 +1,12 @@
 //! What a console keeps of one universe.
-ghost use Rattle.std.specs.Prelude.{◌≡◌, ◌<◌, ℕ, true, false};
+ghost use Rattle.std.specs.Prelude.{◌≡◌, true, false};
 ghost use Rattle.sacn_cues.specs.Playing.{StaysAsItIs};
+ghost use Rattle.sacn_cues.specs.Playing as play;
 ghost use Rattle.sacn_console.specs.Lights.{frame_now};
 ghost use Rattle.sacn_console.specs.Lines.{same, passed, asks, is_stopped, is_ending, state_sent, line_sent};
-ghost use Rattle.sacn_console.specs.Wakes.{Finds};
+ghost use Rattle.sacn_console.specs.Wakes.{Finds, when_passed, wake_sent};
 ghost use Rattle.sacn_console.specs.Core.{end_answer, start_answer};
+ghost use Rattle.sacn_console.specs.declared.limits.TheConstants as limits;
 
 use crate::command::ConsoleFault;
 use crate::limits::{KEEP_ALIVE, LEAST_GAP, REPEATS};
@@ -59,10 +61,9 @@ fn passed(wait: u64, moment: u64, last: Option<u64>) -> bool
     }
 }
 
-/// The first moment at which so many milliseconds have passed.
-pub(crate) fn when_passed(wait: u64, last: Option<u64>) -> u64
-    requires { 0 < wait }
-    ensures { (s : ℕ) → s < result → passed wait s last ≡ false }
+// The first moment at which so many milliseconds have passed.
+fn when_passed(wait: u64, last: Option<u64>) -> u64
+    ensures { result ≡ when_passed wait last }
 {
     match last {
         None => 0,
@@ -115,6 +116,7 @@ impl Line {
         slots: &mut [u8; SLOTS],
     ) -> Look
         requires clock { player.now.player.now.moment ≡ moment }
+        requires tells { is_still ≡ play.is_still player.now.player.now }
         requires still { is_still ≡ true → StaysAsItIs player.now.player.now }
         ensures { Finds (record { patch = patch.now; player = player.now.player.now }) moment self.now slots.new result }
     {
@@ -122,7 +124,7 @@ impl Line {
             return Look::Asleep(u64::MAX);
         }
         if !passed(LEAST_GAP, moment, self.last) {
-            return Look::Asleep(when_passed(LEAST_GAP, self.last));
+            return self.look_early(patch, player, is_still, moment, slots);
         }
         fill(patch, player, self.universe, slots);
         if asks(&self.state, moment, self.last, slots) {
@@ -131,7 +133,53 @@ impl Line {
         if is_still {
             return Look::Asleep(when_passed(KEEP_ALIVE, self.last));
         }
-        Look::Asleep(0)
+        Look::Asleep(moment.saturating_add(1))
+    }
+
+    // A look before the least gap has passed. A frame is made only while no fade runs, to tell a
+    // change that waits from a keep-alive packet.
+    fn look_early(
+        &self,
+        patch: &Patch,
+        player: &PlayerAt<'_>,
+        is_still: bool,
+        moment: u64,
+        slots: &mut [u8; SLOTS],
+    ) -> Look
+        requires clock { player.now.player.now.moment ≡ moment }
+        requires tells { is_still ≡ play.is_still player.now.player.now }
+        requires still { is_still ≡ true → StaysAsItIs player.now.player.now }
+        requires early { passed limits.LEAST_GAP moment self.now.last ≡ false }
+        requires goes { is_stopped self.now.state ≡ false }
+        ensures { Finds (record { patch = patch.now; player = player.now.player.now }) moment self.now slots.new result }
+    {
+        let gap = when_passed(LEAST_GAP, self.last);
+        if !is_still {
+            return Look::Asleep(gap);
+        }
+        fill(patch, player, self.universe, slots);
+        if asks(&self.state, moment, self.last, slots) {
+            return Look::Asleep(gap);
+        }
+        Look::Asleep(when_passed(KEEP_ALIVE, self.last))
+    }
+
+    /// When it has to be looked at again, right after its packet.
+    pub(crate) fn wake_sent(&self, is_still: bool) -> u64
+        ensures { result ≡ wake_sent is_still self.now.last self.now.state }
+    {
+        match &self.state {
+            State::Running(None) => when_passed(LEAST_GAP, self.last),
+            State::Running(Some(run)) => {
+                if is_still && run.owed == 0 {
+                    when_passed(KEEP_ALIVE, self.last)
+                } else {
+                    when_passed(LEAST_GAP, self.last)
+                }
+            }
+            State::Ending(_) => when_passed(LEAST_GAP, self.last),
+            State::Stopped => u64::MAX,
+        }
     }
 
     pub(crate) fn is_stopped(&self) -> bool
@@ -157,48 +205,51 @@ impl Line {
     pub(crate) fn sent(&mut self, moment: u64, slots: &[u8; SLOTS])
         ensures { self.new ≡ line_sent moment slots.now self.old }
     {
-        let state = sent_state(&self.state, slots);
-        self.state = state;
+        note_sent(&mut self.state, slots);
         self.number = self.number.wrapping_add(1);
         self.last = Some(moment);
     }
 }
 
+// A packet with these slots was sent in this state. A frame is copied only where it changed.
 #[tactic(auto, unfolding(crate::specs::Lines::state_sent))]
-fn sent_state(state: &State, slots: &[u8; SLOTS]) -> State
-    ensures { result ≡ state_sent slots.now state.now }
+fn note_sent(state: &mut State, slots: &[u8; SLOTS])
+    ensures { state.new ≡ state_sent slots.now state.old }
 {
     match state {
-        State::Running(None) => fresh(slots),
-        State::Running(Some(run)) => {
-            if same(&run.frame, slots) {
-                repeated(slots, run.owed.saturating_sub(1))
-            } else {
-                fresh(slots)
-            }
-        }
+        State::Running(None) => *state = fresh(slots),
+        State::Running(Some(run)) => note_run(run, slots),
         State::Ending(left) => {
             if *left < 2 {
-                State::Stopped
+                *state = State::Stopped;
             } else {
-                State::Ending(*left - 1)
+                *left -= 1;
             }
         }
-        State::Stopped => State::Stopped,
+        State::Stopped => {}
+    }
+}
+
+#[tactic(auto, unfolding(crate::specs::Lines::state_sent))]
+fn note_run(run: &mut Run, slots: &[u8; SLOTS])
+    ensures { State.Running (Some run.new) ≡ state_sent slots.now (State.Running (Some run.old)) }
+{
+    if same(&run.frame, slots) {
+        run.owed = run.owed.saturating_sub(1);
+    } else {
+        run.frame = *slots;
+        run.owed = REPEATS;
     }
 }
 
 fn fresh(slots: &[u8; SLOTS]) -> State
     ensures { result ≡ State.Running (Some (record { frame = slots.now; owed = REPEATS })) }
 {
-    repeated(slots, REPEATS)
-}
-
-fn repeated(slots: &[u8; SLOTS], owed: u8) -> State
-    ensures { result ≡ State.Running (Some (record { frame = slots.now; owed = owed })) }
-{
     let frame = *slots;
-    State::Running(Some(Run { frame, owed }))
+    State::Running(Some(Run {
+        frame,
+        owed: REPEATS,
+    }))
 }
 
 /// Whether a universe in this state can be ended.

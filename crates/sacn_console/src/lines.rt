@@ -1,15 +1,17 @@
 //! The universes of a console, by rising number.
-ghost use Rattle.std.specs.Prelude.{◌≡◌, ◌<◌, ◌≤◌, true, length, find, Some, None, MatchOption, slice_index_or, map, [], IfOk};
+ghost use Rattle.std.specs.Prelude.{◌≡◌, ◌<◌, ◌≤◌, true, length, find, Some, None, MatchOption, slice_index_or, map, [], IfOk, min, ◌+◌};
 ghost use Rattle.sacn_cues.specs.Playing.{StaysAsItIs};
+ghost use Rattle.sacn_cues.specs.Playing as play;
 ghost use Rattle.sacn_console.specs.Lights.{frame};
 ghost use Rattle.sacn_console.specs.Lines.{line_due};
 ghost use Rattle.sacn_console.specs.Core.{standing, is_of};
-ghost use Rattle.sacn_console.specs.Wakes.{WakesOk, awake};
+ghost use Rattle.sacn_console.specs.Wakes.{WakesOk, IsLeast, last_moment, QuietBefore};
 ghost use Rattle.sacn_console.specs.Runs.{line_by};
 ghost use Rattle.sacn_console.specs.declared.line.Line.{Line as KeptLine};
 
 use crate::limits::CONSOLE_UNIVERSES;
 use crate::line::{Line, Look, State};
+use crate::waking::Wakes;
 use arrayvec::ArrayVec;
 use sacn_cues::PlayerAt;
 use sacn_patch::{Patch, SLOTS};
@@ -19,7 +21,7 @@ use std::alloc::{AllocError, Global};
 /// from its wake on, and one that isn't due gets a new wake.
 pub(crate) fn first_due(
     lines: &[Line],
-    wakes: &mut [u64],
+    wakes: &mut Wakes,
     patch: &Patch,
     player: &PlayerAt<'_>,
     is_still: bool,
@@ -27,23 +29,27 @@ pub(crate) fn first_due(
     slots: &mut [u8; SLOTS],
 ) -> Option<usize>
     requires clock { player.now.player.now.moment ≡ moment }
+    requires tells { is_still ≡ play.is_still player.now.player.now }
     requires still { is_still ≡ true → StaysAsItIs player.now.player.now }
     requires wakes { WakesOk wakes.old (record { patch = patch.now; player = player.now.player.now }) moment lines.now }
     ensures wakes { WakesOk wakes.new (record { patch = patch.now; player = player.now.player.now }) moment lines.now }
     ensures found { MatchOption result (find (line_due (record { patch = patch.now; player = player.now.player.now }) moment) lines.now ≡ None) (λ i. (i < length lines.now) × ((d : KeptLine) → (find (line_due (record { patch = patch.now; player = player.now.player.now }) moment) lines.now ≡ Some (slice_index_or lines.now i d)) × (slots.new ≡ frame (record { patch = patch.now; player = player.now.player.now }) (slice_index_or lines.now i d).universe moment))) }
+    ensures ahead { MatchOption result (IsLeast wakes.new.each (min (moment + 1) last_moment)) (λ i. wakes.new.from ≡ i) }
 {
-    for place in 0..lines.len() {
-        if moment < wakes[place] {
+    for place in wakes.from()..lines.len() {
+        if moment < wakes.at(place) {
             continue;
         }
         let line = &lines[place];
         match line.look(patch, player, is_still, moment, slots) {
-            Look::Due => return Some(place),
-            Look::Asleep(wake) => {
-                wakes[place] = wake;
+            Look::Due => {
+                wakes.start_at(place);
+                return Some(place);
             }
+            Look::Asleep(wake) => wakes.put(place, wake),
         }
     }
+    wakes.note_least();
     None
 }
 
@@ -95,15 +101,4 @@ pub(crate) fn first_lines(
         })?;
     }
     Ok(lines)
-}
-
-/// Every universe has to be looked at.
-pub(crate) fn first_wakes(alloc: Global, universes: &[u16]) -> Result<Vec<u64>, AllocError>
-    ensures { IfOk result (λ v. v.items ≡ map awake universes.now) }
-{
-    let mut wakes = Vec::new(alloc);
-    for _place in 0..universes.len() {
-        wakes.push(0)?;
-    }
-    Ok(wakes)
 }

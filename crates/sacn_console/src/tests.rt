@@ -5,6 +5,7 @@ mod refusals;
 mod scripts;
 mod sending;
 mod shows;
+mod waking;
 
 use crate::{ConsoleCore, Show, read_show};
 use std::alloc::Global;

@@ -7,6 +7,7 @@
 
 mod codec;
 mod consoles;
+mod fades;
 mod fault;
 mod nodes;
 mod sources;
@@ -19,7 +20,7 @@ use std::io::{self, Write};
 use std::process::ExitCode;
 use std::time::Clock;
 
-const MEASURES: [&str; 9] = [
+const MEASURES: [&str; 15] = [
     codec::READ,
     codec::WRITE,
     sources::TAKE,
@@ -29,6 +30,12 @@ const MEASURES: [&str; 9] = [
     consoles::LOAD,
     consoles::IDLE,
     consoles::CHANGE,
+    fades::FOUR,
+    fades::IDLE,
+    fades::MANY,
+    fades::MOST,
+    fades::HALF,
+    fades::SLEEP,
 ];
 
 // The first word after the program's name.
@@ -54,7 +61,8 @@ fn all_measured<R: AllocGlobal + Clock, O: Write>(
     codec::measured(rt, out, calls)?;
     sources::measured(rt, out, calls)?;
     nodes::measured(rt, out, calls)?;
-    consoles::measured(rt, out)
+    consoles::measured(rt, out)?;
+    fades::measured(rt, out)
 }
 
 fn run<R: AllocGlobal + Clock + Env, O: Write>(rt: &R, out: &mut O) -> Result<(), SpeedFault> {

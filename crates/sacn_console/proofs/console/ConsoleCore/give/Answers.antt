@@ -1,5 +1,6 @@
 use Rattle.std.proofs.Common.{Some, ap}
 use Rattle.sacn_console.proofs.Dues.{due_packet, due_page}
+use Rattle.sacn_console.proofs.Wakes.{none_due}
 use Rattle.sacn_console.proofs.console.ConsoleCore.give.Goals as goal
 
 pub returns-in-Some-clause-answer : goal.returns-in-Some-clause-answer
@@ -12,10 +13,19 @@ pub returns-in-Some-clause-core : goal.returns-in-Some-clause-core
 returns-in-Some-clause-core c = rw (due_packet c.args.self.now c.in-Some.place c.in-Some.ensures.found.1) (rw c.in-Some.ensures.core at (c.give_packet.ensures.core))
 
 pub returns-in-None-clause-answer : goal.returns-in-None-clause-answer
-returns-in-None-clause-answer c = rw (due_page c.args.self.now c.in-None.ensures.found) (rw c.in-None.ensures.core at c.give_page.ensures.answer)
+returns-in-None-clause-answer c = rw (due_page c.args.self.now c.in-None.ensures.found) (rw c.in-None.ensures.core at c.give_page-in-None.ensures.answer)
 
 pub returns-in-None-clause-octets : goal.returns-in-None-clause-octets
-returns-in-None-clause-octets c = rw (due_page c.args.self.now c.in-None.ensures.found) (rw c.in-None.ensures.core at c.give_page.ensures.octets)
+returns-in-None-clause-octets c = rw (due_page c.args.self.now c.in-None.ensures.found) (rw c.in-None.ensures.core at c.give_page-in-None.ensures.octets)
 
 pub returns-in-None-clause-core : goal.returns-in-None-clause-core
-returns-in-None-clause-core c = rw (due_page c.args.self.now c.in-None.ensures.found) (rw c.in-None.ensures.core at c.give_page.ensures.core)
+returns-in-None-clause-core c = rw (due_page c.args.self.now c.in-None.ensures.found) (rw c.in-None.ensures.core at c.give_page-in-None.ensures.core)
+
+pub returns-then-self-least-clause-answer : goal.returns-then-self-least-clause-answer
+returns-then-self-least-clause-answer c = rw (due_page c.args.self.now (none_due _ c.args.self.now _ _ c.self.view_is c.self.invariant.wakes_ok c.least.ensures c.if-self-least.true)) c.give_page.ensures.answer
+
+pub returns-then-self-least-clause-octets : goal.returns-then-self-least-clause-octets
+returns-then-self-least-clause-octets c = rw (due_page c.args.self.now (none_due _ c.args.self.now _ _ c.self.view_is c.self.invariant.wakes_ok c.least.ensures c.if-self-least.true)) c.give_page.ensures.octets
+
+pub returns-then-self-least-clause-core : goal.returns-then-self-least-clause-core
+returns-then-self-least-clause-core c = rw (due_page c.args.self.now (none_due _ c.args.self.now _ _ c.self.view_is c.self.invariant.wakes_ok c.least.ensures c.if-self-least.true)) c.give_page.ensures.core

@@ -1,6 +1,6 @@
 use Rattle.std.proofs.Common.{sym, ◌∙◌}
 use Rattle.sacn_console.specs.Core.{line_at}
-use Rattle.sacn_console.proofs.Wakes.{wakes_set, sent_sleeps, place_in}
+use Rattle.sacn_console.proofs.Wakes.{wakes_sent, sent_wakes, place_in}
 use Rattle.sacn_console.proofs.Changes.{core_given, ok_given, universe_ok, packet_len, packet_over, frame_read}
 use Rattle.sacn_console.proofs.console.ConsoleCore.give_packet.Goals as goal
 
@@ -13,7 +13,8 @@ write_packet-len-requires-clause-most c = (universe_ok _ _ c.args.place _ c.self
 pub invariant_of-self : goal.invariant_of-self
 invariant_of-self c = record {
   core = ok_given _ c.args.place _ _ _ _ c.self.invariant.core c.index_mut-line.ensures.value c.sent.ensures;
-  wakes_ok = wakes_set _ _ _ _ c.args.place _ _ c.self.invariant.wakes_ok (place_in _ _ c.args.place c.self.view_is c.requires.there) (sent_sleeps _ _ _ _ _ _ c.sent.ensures c.when_passed.ensures);
+  wakes_ok = rw (c.pass.ensures, c.put.ensures, c.wake_sent-wake.ensures) (wakes_sent _ _ _ _ c.args.place _ _ _ c.self.invariant.wakes_ok (place_in _ _ c.args.place c.self.view_is c.requires.there)
+      (sent_wakes _ _ _ _ _ _ c.sent.ensures (frame_read _ _ c.args.place _ _ c.self.view_is c.requires.there c.index_mut-line.ensures.value c.requires.frame) c.self.invariant.core.clock c.is_still.ensures.still c.is_still.ensures.stays));
 }
 
 pub returns-clause-answer : goal.returns-clause-answer

@@ -8,7 +8,7 @@ use Rattle.sacn_console.proofs.console.ConsoleCore.go_to.Goals as goal
 pub invariant_of-self : goal.invariant_of-self
 invariant_of-self c = record {
   core = ok_played _ (play.GoTo c.args.number) _ c.self.invariant.core c.go_to.ensures.player;
-  wakes_ok = wakes_cleared _ _ _ _ _ _ _ _ c.self.invariant.wakes_ok (omega (arith, c.self.inside.wakes.ok)) (c.fill.ensures.items (λ y same. same));
+  wakes_ok = wakes_cleared _ _ _ _ _ _ _ c.self.invariant.wakes_ok c.clear.ensures;
 }
 
 pub returns-clause-answer : goal.returns-clause-answer
