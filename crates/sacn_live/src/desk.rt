@@ -5,7 +5,7 @@ ghost use Rattle.sacn_console.specs.declared.command.Command.{Command as Order};
 ghost use Rattle.sacn_edge.specs.Told.{Extends};
 ghost use Rattle.sacn_edge.specs.Heard.{Hands};
 ghost use Rattle.sacn_edge.specs.ConsoleSends.{Handed, datagrams, sends_report};
-ghost use Rattle.sacn_live.specs.declared.limits.TheConstants.{MOST_POLLS, MOST_ROUNDS, MOST_ORDERS};
+ghost use Rattle.sacn_live.specs.declared.limits.TheConstants.{IDLE_WAIT, MOST_POLLS, MOST_ROUNDS, MOST_ORDERS};
 ghost use Rattle.sacn_live.specs.DeskSends.{Round, Answered, ordered, polled, sends, given, asked_last, refusals, desk_after, desk_sends, desk_refusals, talk, readings, AreQuiet};
 
 use crate::limits::{IDLE_WAIT, MOST_ORDERS, MOST_POLLS};
@@ -71,9 +71,13 @@ fn send_due<L: Link>(
     }
 }
 
-/// The moment up to which a desk may wait after a round.
-fn next_wait(now: u64) -> u64 {
-    now.saturating_add(IDLE_WAIT)
+/// The moment up to which a desk may wait after a round: before it nothing is due.
+fn next_wait(core: &mut ConsoleCore, now: u64) -> u64
+    ensures core { core.new ≡ core.old }
+    ensures quiet { (t : ℕ) → t < result → due (at t core.old) ≡ None }
+    ensures long { result ≤ now + IDLE_WAIT }
+{
+    core.wakes().min(now.saturating_add(IDLE_WAIT))
 }
 
 /// Runs a desk. In each round it waits until an order may be there or something may be due, reads the clock once, gives
@@ -116,7 +120,7 @@ pub fn run_desk<L: Link, C: Clock, O: Orders>(
         if orders.has_ended() {
             return report;
         }
-        wake = next_wait(now);
+        wake = next_wait(core, now);
     }
     report
 }

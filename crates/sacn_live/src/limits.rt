@@ -20,7 +20,7 @@ pub const MOST_POLLS: u64 = 1 << 20;
 pub const MOST_ROUNDS: u64 = 1 << 43;
 
 /// The longest wait of a desk's round.
-pub const IDLE_WAIT: u64 = 20;
+pub const IDLE_WAIT: u64 = 1000;
 
 /// The room for datagrams that wait in a gateway's socket, in octets, that the machine is asked for.
 pub const RECEIVE_ROOM: i32 = 4_194_304;

@@ -6,11 +6,11 @@ use crate::clock::RigClock;
 use crate::lines::{Gathered, LineBuffer};
 use crate::orders::Orders;
 use crate::sys::{NO_DESCRIPTOR, STDIN, read_input, wait_readable};
-use sacn_console::{Command, ConsoleCore, ConsoleFault, TextFault, command_of};
+use sacn_console::{Command, ConsoleCore, ConsoleFault, State, TextFault, command_of};
 use sacn_edge::{Clock, ConsoleReport};
 use sacn_files::words::words;
 use std::alloc::{AllocError, Global};
-use std::io::Write;
+use std::io::{self, Write};
 use std::rt::Clock as MachineClock;
 
 const PIECE_OCTETS: usize = 4096;
@@ -149,6 +149,14 @@ fn line_said(alloc: Global, line: Option<&[u8]>, number: usize) -> Said {
     }
 }
 
+fn state_name(state: &State) -> &'static str {
+    match state {
+        State::Running(_) => "running",
+        State::Ending(_) => "ending",
+        State::Stopped => "stopped",
+    }
+}
+
 /// Gathers a part of a piece.
 fn gather_part(
     line: &mut LineBuffer,
@@ -222,10 +230,23 @@ impl<'a, R: MachineClock, O: Write> DeskOrders<'a, R, O> {
         }
     }
 
-    fn say_status(&mut self, _core: &ConsoleCore, report: &ConsoleReport) {
-        if writeln!(self.out, "sent {} failed {}", report.sent, report.failed).is_err()
-            || self.out.flush().is_err()
-        {
+    fn write_status(&mut self, core: &ConsoleCore, report: &ConsoleReport) -> io::Result<()> {
+        write!(self.out, "cue ")?;
+        match core.cue() {
+            Some(cue) => write!(self.out, "{cue}")?,
+            None => write!(self.out, "none")?,
+        }
+        write!(self.out, " master {}", core.grand_master())?;
+        write!(self.out, " sent {} failed {}", report.sent, report.failed)?;
+        for line in core.lines() {
+            write!(self.out, " {} {}", line.universe, state_name(&line.state))?;
+        }
+        self.out.write_all(b"\n")?;
+        self.out.flush()
+    }
+
+    fn say_status(&mut self, core: &ConsoleCore, report: &ConsoleReport) {
+        if self.write_status(core, report).is_err() {
             self.write_failed = true;
             self.close();
         }

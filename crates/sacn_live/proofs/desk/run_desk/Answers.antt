@@ -85,7 +85,7 @@ loop-round-preserved g c =
         talk_round first core mid new rs now n ks run.7 o.3 s.5 _ _ _ run.4 told,
         Hands-append _ _ _ handed s.1 run.5 s.3,
         sends_round first core mid new rs now n ks run.7 o.3 s.5 handed s.1 run.6 s.4,
-        core_round first core mid new rs now n ks run.7 o.3 s.5,
+        c.next_wait-wake.ensures.core ∙ core_round first core mid new rs now n ks run.7 o.3 s.5,
         quiet_round first core mid new rs now n ks run.7 o.3 s.5 run.8 s.6,
         s.7 handed (desk_refusals first rs + c.order.result) before ∙ ap (sends_report (handed ++ s.1)) (refused_round first core mid new rs now n ks run.7 o.3 s.5 (desk_refusals first rs) c.order.result refl o.4),
       );
