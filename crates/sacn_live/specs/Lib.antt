@@ -6,3 +6,5 @@ pub mod Addresses
 pub mod Gathering
 pub mod Groups
 pub mod Widgets
+pub mod MemoryHearings
+pub mod MemoryTold

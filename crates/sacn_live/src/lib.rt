@@ -13,6 +13,7 @@ mod gateway;
 mod hearing;
 pub mod limits;
 mod lines;
+pub mod memory;
 mod mouth;
 mod orders;
 mod receiver;
