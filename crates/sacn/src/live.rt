@@ -3,7 +3,7 @@ use crate::ending::{DEVICE_FAILED, Ending, REFUSED};
 use crate::files::text_of_file;
 use crate::live_words::{DeskAsked, GatewayAsked};
 use sacn_console::{Command, ConsoleCore, Show, TextFault, read_script, read_show};
-use sacn_edge::{ConsoleReport, WriterOut};
+use sacn_edge::{ConsoleReport, Link, WriterOut};
 use sacn_framing::multicast_group;
 use sacn_live::limits::{MOST_ROUNDS, RECEIVE_ROOM};
 use sacn_live::{
@@ -11,6 +11,7 @@ use sacn_live::{
     Watch, Widget, guard_standard_descriptors, run_desk, run_gateway,
 };
 use sacn_node::{NodeCore, NodeSetup, read_node};
+use std::alloc::Global;
 use std::io::{ErrorKind, Write};
 use std::net::{Ipv4Addr, Net, SocketAddrV4};
 use std::rt::{Clock, Files};
@@ -230,20 +231,38 @@ pub fn desk<R: AllocGlobal + Files + Net + Clock, O: Write, E: Write>(
         script: script.as_ref().map(|script| script.as_slice()),
         stays: asked.stays,
     };
-    let mut orders = DeskOrders::new(rt.alloc(), plan, clock.twin(), &mut *out);
-    let report = run_desk(&mut link, &mut clock, &mut orders, &mut core, MOST_ROUNDS);
-    let write_failed = orders.write_failed();
-    closing_line(&report, write_failed, out)
+    let twin = clock.twin();
+    let report = run_orders(
+        rt.alloc(),
+        plan,
+        twin,
+        &mut link,
+        &mut clock,
+        &mut core,
+        out,
+    )?;
+    closing_line(&report, out)
 }
 
-fn closing_line<O: Write>(
-    report: &ConsoleReport,
-    write_failed: bool,
+// Runs a desk by this plan and standard input.
+fn run_orders<R: Clock, L: Link, C: sacn_edge::Clock, O: Write>(
+    alloc: Global,
+    plan: Plan<'_>,
+    twin: RigClock<'_, R>,
+    link: &mut L,
+    clock: &mut C,
+    core: &mut ConsoleCore,
     out: &mut O,
-) -> Result<(), Ending> {
-    if write_failed {
+) -> Result<ConsoleReport, Ending> {
+    let mut orders = DeskOrders::new(alloc, plan, twin, out);
+    let report = run_desk(link, clock, &mut orders, core, MOST_ROUNDS);
+    if orders.write_failed() {
         return Err(Ending::DeviceWrite);
     }
+    Ok(report)
+}
+
+fn closing_line<O: Write>(report: &ConsoleReport, out: &mut O) -> Result<(), Ending> {
     let line = writeln!(
         out,
         "sent {} failed {} refused {}",
