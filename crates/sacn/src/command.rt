@@ -1,7 +1,8 @@
 //! The command line.
+use crate::live_words::{self, DeskAsked, GatewayAsked};
 use clap::error::ErrorKind;
 use clap::{Arg, ArgAction, ArgMatches, Command, Error, value_parser};
-use std::alloc::Global;
+use std::alloc::{AllocError, Global};
 
 const ABOUT: &str =
     "Streaming ACN (ANSI E1.31-2018): datagrams read and checked, consoles and nodes run.
@@ -56,6 +57,13 @@ pub enum Asked<'a> {
         setup: &'a str,
         turns: u64,
     },
+    Gateway(GatewayAsked<'a>),
+    Desk(DeskAsked<'a>),
+    /// The groups of a setup or a show, for a network device.
+    Groups {
+        file: &'a str,
+        device: &'a str,
+    },
 }
 
 fn files<'a>(alloc: Global) -> Arg<'a> {
@@ -65,7 +73,7 @@ fn files<'a>(alloc: Global) -> Arg<'a> {
         .action(ArgAction::Append)
 }
 
-fn file<'a>(alloc: Global, name: &'a str) -> Arg<'a> {
+pub fn file<'a>(alloc: Global, name: &'a str) -> Arg<'a> {
     Arg::new(alloc, name).required(true)
 }
 
@@ -78,7 +86,7 @@ fn turns<'a>(alloc: Global) -> Arg<'a> {
         .value_parser(value_parser!(u64).range(1..=MOST_TURNS))
 }
 
-fn first<'a>(alloc: Global) -> Arg<'a> {
+pub fn first<'a>(alloc: Global) -> Arg<'a> {
     Arg::new(alloc, "first")
         .long("first")
         .value_name("F")
@@ -124,7 +132,10 @@ fn command<'a>(alloc: Global) -> Result<Command<'a>, Error> {
         .subcommand(decode)?
         .subcommand(sim(alloc)?)?
         .subcommand(console(alloc)?)?
-        .subcommand(node(alloc)?)?;
+        .subcommand(node(alloc)?)?
+        .subcommand(live_words::gateway(alloc)?)?
+        .subcommand(live_words::desk(alloc)?)?
+        .subcommand(live_words::groups(alloc)?)?;
     Ok(command)
 }
 
@@ -136,6 +147,8 @@ fn matches<'a>(alloc: Global, words: &'a [String]) -> Result<ArgMatches<'a>, Err
 fn wrong_number(alloc: Global, name: &str) -> Error {
     let message = match name {
         "turns" => "--turns takes a number of 1 to 1000000000, in decimal digits",
+        "seconds" => "--seconds takes a number of 1 to 1000000000, in decimal digits",
+        "ttl" => "--ttl takes a number of 1 to 255, in decimal digits",
         _ => "--first takes a number of 0 to 255, in decimal digits",
     };
     let mut command = match command(alloc) {
@@ -148,15 +161,30 @@ fn wrong_number(alloc: Global, name: &str) -> Error {
     }
 }
 
+/// The error of a word that names nothing of its kind.
+pub fn refused_words(alloc: Global, word: &str, fault: &str) -> Error {
+    let Ok(message) = format!(in alloc; "{word}: {fault}") else {
+        return Error::from(AllocError);
+    };
+    let mut command = match command(alloc) {
+        Ok(command) => command,
+        Err(error) => return error,
+    };
+    match command.error(ErrorKind::ValueValidation, message.as_str()) {
+        Ok(error) => error,
+        Err(error) => Error::from(error),
+    }
+}
+
 // A number that is spelled by digits alone: clap takes a sign before them.
-fn number<'a>(alloc: Global, matches: &ArgMatches<'a>, name: &str) -> Result<u64, Error> {
+pub fn number<'a>(alloc: Global, matches: &ArgMatches<'a>, name: &str) -> Result<u64, Error> {
     match (matches.get_str(name), matches.get_one::<u64>(name)) {
         (Some(text), Some(number)) if !text.starts_with('+') => Ok(number),
         _ => Err(wrong_number(alloc, name)),
     }
 }
 
-fn text<'a>(matches: &ArgMatches<'a>, name: &str) -> &'a str {
+pub fn text<'a>(matches: &ArgMatches<'a>, name: &str) -> &'a str {
     // clap saw to it that each file is named.
     matches.get_str(name).unwrap_or("")
 }
@@ -203,6 +231,9 @@ fn asked_of<'a>(alloc: Global, matches: &ArgMatches<'a>) -> Result<Asked<'a>, Er
         Some(("sim", sim)) => Ok(sim_asked(sim)),
         Some(("console", console)) => console_asked(alloc, console),
         Some(("node", node)) => node_asked(alloc, node),
+        Some(("gateway", gateway)) => live_words::gateway_asked(alloc, gateway),
+        Some(("desk", desk)) => live_words::desk_asked(alloc, desk),
+        Some(("groups", groups)) => Ok(live_words::groups_asked(groups)),
         Some((_, decode)) => decode_asked(alloc, decode),
     }
 }

@@ -16,9 +16,9 @@ pub const DONE: u8 = 0;
 
 const BAD_WORDS: u8 = 2;
 
-const REFUSED: u8 = 3;
+pub const REFUSED: u8 = 3;
 
-const DEVICE_FAILED: u8 = 4;
+pub const DEVICE_FAILED: u8 = 4;
 
 /// Why a run ends before its work is done.
 #[derive(Drop)]
@@ -42,6 +42,8 @@ pub enum Ending {
     DeviceRead,
     DeviceWrite,
     DeviceSocket,
+    /// It was said already; this is its status.
+    Said(u8),
 }
 
 impl From<AllocError> for Ending {
@@ -156,6 +158,7 @@ pub fn ended<O: Write, E: Write>(alloc: Global, ending: Ending, out: &mut O, err
         Ending::DeviceRead => failed(err, "read"),
         Ending::DeviceWrite => failed(err, "write"),
         Ending::DeviceSocket => failed(err, "socket"),
+        Ending::Said(status) => status,
     }
 }
 

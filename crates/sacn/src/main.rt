@@ -4,6 +4,8 @@
 mod command;
 mod ending;
 mod files;
+mod live;
+mod live_words;
 mod network;
 mod program;
 #[cfg(test)]

@@ -2,7 +2,7 @@
 use crate::command::{Asked, parse};
 use crate::ending::{DONE, Ending, ended};
 use crate::files::{octets_of_files, text_of_file};
-use crate::network;
+use crate::{live, network};
 use sacn_edge::WriterOut;
 use sacn_text::{MOST_OCTETS, Marked, decode_text, octets_of_digits, read_limited, sim_text};
 use std::alloc::Global;
@@ -18,17 +18,18 @@ pub fn run_program<
     O: Write + Drop,
     E: Write + Drop,
 >(rt: &R, words: &[String], input: I, mut out: O, mut err: E) -> u8 {
-    match run(rt, words, input, &mut out) {
+    match run(rt, words, input, &mut out, &mut err) {
         Ok(()) => DONE,
         Err(ending) => ended(rt.alloc(), ending, &mut out, &mut err),
     }
 }
 
-fn run<R: AllocGlobal + Files + Net + Clock, I: Read + Drop, O: Write>(
+fn run<R: AllocGlobal + Files + Net + Clock, I: Read + Drop, O: Write, E: Write>(
     rt: &R,
     words: &[String],
     input: I,
     out: &mut O,
+    err: &mut E,
 ) -> Result<(), Ending> {
     let alloc = rt.alloc();
     let asked = match parse(alloc, words) {
@@ -63,6 +64,9 @@ fn run<R: AllocGlobal + Files + Net + Clock, I: Read + Drop, O: Write>(
             let setup = text_of_file(rt, setup)?;
             network::node(rt, setup.as_str(), turns, out)
         }
+        Asked::Gateway(asked) => live::gateway(rt, &asked, out, err),
+        Asked::Desk(asked) => live::desk(rt, &asked, out, err),
+        Asked::Groups { file, device } => live::groups(rt, file, device, out, err),
     }
 }
 

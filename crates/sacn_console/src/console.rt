@@ -137,6 +137,28 @@ impl ConsoleCore {
         }
     }
 
+    /// The number of the cue that was gone to last; None before the first.
+    pub fn cue(&self) -> Option<u16>
+        ensures { result ≡ self.now.lights.player.current }
+    {
+        self.player.current()
+    }
+
+    /// The grand master, 0 to 65535.
+    pub fn grand_master(&self) -> u16
+        ensures { result ≡ self.now.lights.player.master }
+    {
+        self.player.grand_master()
+    }
+
+    /// What is kept of each universe, in ascending order of number: its state, the number of its next packet, and the moment of
+    /// its latest one.
+    pub fn lines(&self) -> &[Line]
+        ensures { result.now ≡ self.now.lines }
+    {
+        self.lines.as_slice()
+    }
+
     fn move_clock(&mut self, now: u64)
         ensures { self.new ≡ at now self.old }
     {

@@ -51,7 +51,7 @@ fn hand<L: Link>(link: &mut L, octets: &[u8; MOST_OCTETS], len: usize) -> bool
 }
 
 /// Sends what is due, and answers whether the send succeeded; None where nothing is due.
-fn send<L: Link>(
+pub fn send<L: Link>(
     link: &mut L,
     core: &mut ConsoleCore,
     now: u64,
@@ -68,7 +68,7 @@ fn send<L: Link>(
 }
 
 /// Counts what a send answered, if one was made.
-fn count(report: &mut ConsoleReport, sent: Option<bool>)
+pub fn count(report: &mut ConsoleReport, sent: Option<bool>)
     requires { report.old.sent + report.old.failed < 2 ^ 64 - 1 }
     ensures report { report.new ≡ counted_send sent report.old }
     ensures few { report.new.sent + report.new.failed ≤ report.old.sent + report.old.failed + 1 }

@@ -22,11 +22,13 @@ mod udp;
 mod writer;
 
 pub use clock::Clock;
-pub use console_loop::run_console;
+pub use console_loop::{count as count_send, run_console, send};
+pub use line::FRAME_OCTETS;
 pub use link::{BUFFER_OCTETS, Link, Received};
-pub use node_loop::run_node;
+pub use node_loop::{ports_of, run_node};
 pub use out::Out;
 pub use report::{ConsoleReport, NodeReport};
+pub use shown::{PortShown, show};
 pub use system::SystemClock;
 pub use text::{WriteFailed, write_text};
 pub use udp::{SocketFailed, UdpLink};

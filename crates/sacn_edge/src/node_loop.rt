@@ -90,7 +90,7 @@ fn count(report: &mut NodeReport, received: Received)
 }
 
 /// The ports of a node, for none of which a line was written.
-fn ports_of(core: &NodeCore) -> ArrayVec<PortShown, MAX_PORTS>
+pub fn ports_of(core: &NodeCore) -> ArrayVec<PortShown, MAX_PORTS>
     ensures ports { result.items ≡ map unshown (port_numbers core.now.ports) }
     ensures rising { IsStrictlyIncreasing (port_numbers core.now.ports) }
 {

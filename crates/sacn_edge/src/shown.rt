@@ -12,9 +12,11 @@ use sacn_node::{NoPort, NodeCore};
 
 /// A port of a node, and the frame of the latest line written for it.
 #[derive(Clone, Copy, Default)]
-pub(crate) struct PortShown {
-    pub(crate) number: u8,
-    pub(crate) last: Option<[u8; FRAME_OCTETS]>,
+pub struct PortShown {
+    /// The port's number.
+    pub number: u8,
+    /// The frame of its latest line; None where none was written.
+    pub last: Option<[u8; FRAME_OCTETS]>,
 }
 
 /// Whether this is the frame of the port's latest line.
@@ -70,7 +72,7 @@ fn show_port<O: Out>(
 
 /// Writes the lines of a turn: of each port whose frame isn't that of its latest line. No frame is made
 /// where it is known that none changed.
-pub(crate) fn show<O: Out>(
+pub fn show<O: Out>(
     out: &mut O,
     core: &mut NodeCore,
     now: u64,

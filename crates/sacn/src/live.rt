@@ -1,0 +1,322 @@
+//! Gateways and desks that run a rig.
+use crate::ending::{DEVICE_FAILED, Ending, REFUSED};
+use crate::files::text_of_file;
+use crate::live_words::{DeskAsked, GatewayAsked};
+use sacn_console::{Command, ConsoleCore, Show, TextFault, read_script, read_show};
+use sacn_edge::{ConsoleReport, Link, WriterOut};
+use sacn_framing::multicast_group;
+use sacn_live::limits::{MOST_ROUNDS, RECEIVE_ROOM};
+use sacn_live::{
+    DISCOVERY_UNIVERSE, DeskOrders, Destinations, Plan, RigClock, Span, UdpReceiver, UdpSender,
+    Watch, Widget, guard_standard_descriptors, run_desk, run_gateway,
+};
+use sacn_node::{NodeCore, NodeSetup, read_node};
+use std::alloc::Global;
+use std::io::{ErrorKind, Write};
+use std::net::{Ipv4Addr, Net, SocketAddrV4};
+use std::rt::{Clock, Files};
+
+// Says the fault of a file with its name.
+fn said_of_file<E: Write>(path: &str, ending: Ending, err: &mut E) -> Ending {
+    let (line, status) = match ending {
+        Ending::DeviceRead => (writeln!(err, "device read {path}"), DEVICE_FAILED),
+        Ending::TooLarge => (writeln!(err, "refused {path} TooLarge"), REFUSED),
+        Ending::NotText => (writeln!(err, "refused {path} NotText"), REFUSED),
+        Ending::Show(fault) => (writeln!(err, "refused {path} {fault:?}"), REFUSED),
+        Ending::Setup(fault) => (writeln!(err, "refused {path} {fault:?}"), REFUSED),
+        Ending::Line(fault) => (said_of_line(path, fault, err), REFUSED),
+        other => return other,
+    };
+    let _ = line;
+    Ending::Said(status)
+}
+
+fn said_of_line<E: Write>(path: &str, fault: TextFault, err: &mut E) -> std::io::Result<()> {
+    match fault {
+        TextFault::OutOfMemory => writeln!(err, "refused {path} OutOfMemory"),
+        TextFault::UnknownWord(line) => writeln!(err, "refused {path} line {line} UnknownWord"),
+        TextFault::WordCount(line) => writeln!(err, "refused {path} line {line} WordCount"),
+        TextFault::Number(line) => writeln!(err, "refused {path} line {line} Number"),
+        TextFault::Hex(line) => writeln!(err, "refused {path} line {line} Hex"),
+    }
+}
+
+// Says why the machine refused a socket.
+fn said_of_socket<E: Write>(address: SocketAddrV4, kind: ErrorKind, err: &mut E) -> Ending {
+    let [a, b, c, d] = address.ip().octets();
+    let _ = writeln!(
+        err,
+        "device socket {a}.{b}.{c}.{d}:{} {kind:?}",
+        address.port()
+    );
+    Ending::Said(DEVICE_FAILED)
+}
+
+fn setup_of_file<R: AllocGlobal + Files>(rt: &R, path: &str) -> Result<NodeSetup, Ending> {
+    let text = text_of_file(rt, path)?;
+    Ok(read_node(rt.alloc(), text.as_str())?)
+}
+
+fn show_of_file<R: AllocGlobal + Files>(rt: &R, path: &str) -> Result<Show, Ending> {
+    let text = text_of_file(rt, path)?;
+    Ok(read_show(rt.alloc(), text.as_str())?)
+}
+
+fn script_of_file<R: AllocGlobal + Files>(
+    rt: &R,
+    path: &str,
+) -> Result<Vec<(u64, Command)>, Ending> {
+    let text = text_of_file(rt, path)?;
+    Ok(read_script(rt.alloc(), text.as_str())?)
+}
+
+fn clock_of<'a, R: Clock>(rt: &'a R) -> Result<RigClock<'a, R>, Ending> {
+    match RigClock::start(rt) {
+        Ok(clock) => Ok(clock),
+        Err(_) => Err(Ending::DeviceRead),
+    }
+}
+
+// The universes of a setup, ascending.
+fn universes_of_setup<R: AllocGlobal>(rt: &R, setup: &NodeSetup) -> Result<Vec<u16>, Ending> {
+    let mut universes = Vec::new(rt.alloc());
+    for port in setup.ports() {
+        for range in port.ranges() {
+            if universes.push(range.universe).is_err() {
+                return Err(Ending::OutOfMemory);
+            }
+        }
+    }
+    if universes.sort().is_err() {
+        return Err(Ending::OutOfMemory);
+    }
+    universes.dedup();
+    Ok(universes)
+}
+
+// Where a gateway hears, and the groups that it should hear.
+fn say_gateway<E: Write>(address: SocketAddrV4, room: Option<u32>, universes: &[u16], err: &mut E) {
+    let [a, b, c, d] = address.ip().octets();
+    let _ = writeln!(err, "hears {a}.{b}.{c}.{d}:{}", address.port());
+    if let Some(room) = room {
+        if room / 2 < RECEIVE_ROOM as u32 {
+            let _ = writeln!(err, "receive buffer {} of {RECEIVE_ROOM}", room / 2);
+        }
+    }
+    for universe in universes {
+        let [a, b, c, d] = multicast_group(*universe);
+        let _ = writeln!(err, "group {a}.{b}.{c}.{d} universe {universe}");
+    }
+}
+
+fn widgets_of<'a, R: AllocGlobal>(
+    rt: &R,
+    asked: &[(u8, &'a str)],
+) -> Result<Vec<Widget<'a>>, Ending> {
+    let mut widgets = Vec::new(rt.alloc());
+    for (port, path) in asked {
+        if widgets.push(Widget::new(*port, path)).is_err() {
+            return Err(Ending::OutOfMemory);
+        }
+    }
+    Ok(widgets)
+}
+
+/// Runs a gateway, which prints its frames as they change.
+pub fn gateway<R: AllocGlobal + Files + Net + Clock, O: Write, E: Write>(
+    rt: &R,
+    asked: &GatewayAsked<'_>,
+    out: &mut O,
+    err: &mut E,
+) -> Result<(), Ending> {
+    guard_standard_descriptors();
+    let setup = match setup_of_file(rt, asked.setup) {
+        Ok(setup) => setup,
+        Err(ending) => return Err(said_of_file(asked.setup, ending, err)),
+    };
+    let universes = universes_of_setup(rt, &setup)?;
+    let widgets = widgets_of(rt, asked.widgets.as_slice())?;
+    let mut core = NodeCore::new(rt.alloc(), &setup)?;
+    let address = SocketAddrV4::new(asked.listen, setup.udp_port());
+    let mut receiver = match UdpReceiver::bind(rt, address, clock_of(rt)?) {
+        Ok(receiver) => receiver,
+        Err(kind) => return Err(said_of_socket(address, kind, err)),
+    };
+    say_gateway(address, receiver.room(), universes.as_slice(), err);
+    let span = Span {
+        turns: u64::MAX,
+        until: match asked.seconds {
+            Some(seconds) => seconds.saturating_mul(1000),
+            None => u64::MAX,
+        },
+    };
+    let mut watch = Watch::new(&mut *err, widgets);
+    let mut lines = WriterOut::new(&mut *out);
+    run_gateway(
+        &mut receiver,
+        &mut watch,
+        &mut lines,
+        &mut core,
+        asked.from.as_slice(),
+        span,
+    )?;
+    if out.flush().is_err() {
+        return Err(Ending::DeviceWrite);
+    }
+    Ok(())
+}
+
+// Where a desk sends.
+fn destinations_of<R: AllocGlobal>(
+    rt: &R,
+    asked: &DeskAsked<'_>,
+    show: &Show,
+) -> Result<Destinations, Ending> {
+    if asked.is_multicast {
+        return Ok(Destinations::Groups);
+    }
+    let mut hosts = Vec::new(rt.alloc());
+    if hosts.extend_from_slice(asked.to.as_slice()).is_err() {
+        return Err(Ending::OutOfMemory);
+    }
+    if hosts.is_empty() {
+        for port in show.send_to() {
+            if hosts
+                .push(SocketAddrV4::new(Ipv4Addr::LOCALHOST, *port))
+                .is_err()
+            {
+                return Err(Ending::OutOfMemory);
+            }
+        }
+    }
+    Ok(Destinations::Hosts(hosts))
+}
+
+/// Runs a desk, and prints what came of it.
+pub fn desk<R: AllocGlobal + Files + Net + Clock, O: Write, E: Write>(
+    rt: &R,
+    asked: &DeskAsked<'_>,
+    out: &mut O,
+    err: &mut E,
+) -> Result<(), Ending> {
+    guard_standard_descriptors();
+    let show = match show_of_file(rt, asked.show) {
+        Ok(show) => show,
+        Err(ending) => return Err(said_of_file(asked.show, ending, err)),
+    };
+    let script = match asked.script {
+        Some(path) => match script_of_file(rt, path) {
+            Ok(script) => Some(script),
+            Err(ending) => return Err(said_of_file(path, ending, err)),
+        },
+        None => None,
+    };
+    let mut core = ConsoleCore::new(rt.alloc(), &show, asked.first)?;
+    let mut clock = clock_of(rt)?;
+    let destinations = destinations_of(rt, asked, &show)?;
+    let from = SocketAddrV4::new(asked.bind, 0);
+    let mut link = match UdpSender::bind(
+        rt,
+        asked.bind,
+        asked.ttl,
+        destinations,
+        clock.twin(),
+        &mut *err,
+    ) {
+        Ok(link) => link,
+        Err(kind) => return Err(said_of_socket(from, kind, err)),
+    };
+    let plan = Plan {
+        universes: show.universes(),
+        script: script.as_ref().map(|script| script.as_slice()),
+        stays: asked.stays,
+    };
+    let twin = clock.twin();
+    let report = run_orders(
+        rt.alloc(),
+        plan,
+        twin,
+        &mut link,
+        &mut clock,
+        &mut core,
+        out,
+    )?;
+    closing_line(&report, out)
+}
+
+// Runs a desk by this plan and standard input.
+fn run_orders<R: Clock, L: Link, C: sacn_edge::Clock, O: Write>(
+    alloc: Global,
+    plan: Plan<'_>,
+    twin: RigClock<'_, R>,
+    link: &mut L,
+    clock: &mut C,
+    core: &mut ConsoleCore,
+    out: &mut O,
+) -> Result<ConsoleReport, Ending> {
+    let mut orders = DeskOrders::new(alloc, plan, twin, out);
+    let report = run_desk(link, clock, &mut orders, core, MOST_ROUNDS);
+    if orders.write_failed() {
+        return Err(Ending::DeviceWrite);
+    }
+    Ok(report)
+}
+
+fn closing_line<O: Write>(report: &ConsoleReport, out: &mut O) -> Result<(), Ending> {
+    let line = writeln!(
+        out,
+        "sent {} failed {} refused {}",
+        report.sent, report.failed, report.refused
+    );
+    if line.is_err() || out.flush().is_err() {
+        return Err(Ending::DeviceWrite);
+    }
+    Ok(())
+}
+
+// The universes of a setup or of a show.
+fn universes_of_file<R: AllocGlobal + Files>(rt: &R, path: &str) -> Result<Vec<u16>, Ending> {
+    let text = text_of_file(rt, path)?;
+    match read_node(rt.alloc(), text.as_str()) {
+        Ok(setup) => universes_of_setup(rt, &setup),
+        Err(fault) => match read_show(rt.alloc(), text.as_str()) {
+            Ok(show) => match show.universes().to_vec(rt.alloc()) {
+                Ok(universes) => Ok(universes),
+                Err(_) => Err(Ending::OutOfMemory),
+            },
+            Err(_) => Err(Ending::Setup(fault)),
+        },
+    }
+}
+
+/// Prints the commands by which a device joins the groups of a file's universes, and that of discovery.
+pub fn groups<R: AllocGlobal + Files, O: Write, E: Write>(
+    rt: &R,
+    path: &str,
+    device: &str,
+    out: &mut O,
+    err: &mut E,
+) -> Result<(), Ending> {
+    let mut universes = match universes_of_file(rt, path) {
+        Ok(universes) => universes,
+        Err(ending) => return Err(said_of_file(path, ending, err)),
+    };
+    if universes.push(DISCOVERY_UNIVERSE).is_err() {
+        return Err(Ending::OutOfMemory);
+    }
+    for universe in universes.as_slice() {
+        let [a, b, c, d] = multicast_group(*universe);
+        if writeln!(
+            out,
+            "ip address add {a}.{b}.{c}.{d}/32 dev {device} autojoin"
+        )
+        .is_err()
+        {
+            return Err(Ending::DeviceWrite);
+        }
+    }
+    if out.flush().is_err() {
+        return Err(Ending::DeviceWrite);
+    }
+    Ok(())
+}

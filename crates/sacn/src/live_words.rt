@@ -1,0 +1,241 @@
+//! The words of the commands that run a rig.
+use crate::command::{Asked, file, first, number, refused_words, text};
+use clap::{Arg, ArgAction, ArgMatches, Command, Error, value_parser};
+use sacn_live::{AddressFault, MOST_DESTINATIONS, Octets4, SACN_PORT, destination_of, host_of};
+use std::alloc::Global;
+use std::net::{Ipv4Addr, SocketAddrV4};
+
+const GATEWAY_ABOUT: &str =
+    "Hears a rig until it is stopped, and prints each port's frame whenever it is another";
+
+const DESK_ABOUT: &str =
+    "Sends a show's universes to a rig as a script and standard input order, until these end";
+
+const GROUPS_ABOUT: &str =
+    "Prints the commands by which a device joins the groups of a setup's or a show's universes";
+
+const MOST_SECONDS: i64 = 1_000_000_000;
+
+/// What a gateway is asked.
+#[derive(Drop)]
+pub struct GatewayAsked<'a> {
+    pub setup: &'a str,
+    pub listen: Ipv4Addr,
+    pub from: Vec<Octets4>,
+    /// Ports and the device files of their interfaces.
+    pub widgets: Vec<(u8, &'a str)>,
+    pub seconds: Option<u64>,
+}
+
+/// What a desk is asked.
+#[derive(Drop)]
+pub struct DeskAsked<'a> {
+    pub show: &'a str,
+    /// Empty where nothing says otherwise than the show.
+    pub to: Vec<SocketAddrV4>,
+    pub is_multicast: bool,
+    pub ttl: u8,
+    pub bind: Ipv4Addr,
+    pub script: Option<&'a str>,
+    pub first: u8,
+    pub stays: bool,
+}
+
+fn word<'a>(alloc: Global, name: &'a str, value: &'a str, help: &'a str) -> Arg<'a> {
+    Arg::new(alloc, name)
+        .long(name)
+        .value_name(value)
+        .help(help)
+}
+
+fn words<'a>(alloc: Global, name: &'a str, value: &'a str, help: &'a str) -> Arg<'a> {
+    word(alloc, name, value, help).action(ArgAction::Append)
+}
+
+fn flag<'a>(alloc: Global, name: &'a str, help: &'a str) -> Arg<'a> {
+    Arg::new(alloc, name)
+        .long(name)
+        .help(help)
+        .action(ArgAction::SetTrue)
+}
+
+pub fn gateway<'a>(alloc: Global) -> Result<Command<'a>, Error> {
+    let seconds = word(
+        alloc,
+        "seconds",
+        "S",
+        "How many seconds it runs, 1 to 1000000000",
+    )
+    .value_parser(value_parser!(u64).range(1..=MOST_SECONDS));
+    let command = Command::new(alloc, "gateway")
+        .about(GATEWAY_ABOUT)
+        .arg(file(alloc, "SETUP"))?
+        .arg(word(
+            alloc,
+            "listen",
+            "ADDRESS",
+            "The address that it hears at; else all",
+        ))?
+        .arg(words(alloc, "from", "ADDRESS", "A sender that it hears; else all"))?
+        .arg(words(
+            alloc,
+            "widget",
+            "PORT=DEVICE",
+            "An interface with the protocol of the DMX USB Pro",
+        ))?
+        .arg(seconds)?;
+    Ok(command)
+}
+
+pub fn desk<'a>(alloc: Global) -> Result<Command<'a>, Error> {
+    let ttl = word(
+        alloc,
+        "ttl",
+        "N",
+        "How many routers a group's packets pass, 1 to 255",
+    )
+    .default_value("1")
+    .value_parser(value_parser!(u8).range(1..=255));
+    let command = Command::new(alloc, "desk")
+        .about(DESK_ABOUT)
+        .arg(file(alloc, "SHOW"))?
+        .arg(words(
+            alloc,
+            "to",
+            "ADDRESS[:PORT]",
+            "A host that it sends to, at most 64; else the show's ports on 127.0.0.1",
+        ))?
+        .arg(flag(alloc, "multicast", "Sends each universe to its group"))?
+        .arg(ttl)?
+        .arg(word(alloc, "bind", "ADDRESS", "The address that it sends from"))?
+        .arg(word(alloc, "script", "SCRIPT", "Orders with their moments"))?
+        .arg(first(alloc))?
+        .arg(flag(alloc, "stay", "Goes on after the script"))?;
+    Ok(command)
+}
+
+pub fn groups<'a>(alloc: Global) -> Result<Command<'a>, Error> {
+    let device = word(alloc, "device", "DEV", "The network device that joins").required(true);
+    let command = Command::new(alloc, "groups")
+        .about(GROUPS_ABOUT)
+        .arg(file(alloc, "FILE"))?
+        .arg(device)?;
+    Ok(command)
+}
+
+fn fault_name(fault: AddressFault) -> &'static str {
+    match fault {
+        AddressFault::Address => "Address",
+        AddressFault::Port => "Port",
+    }
+}
+
+// The address of an option, or this one where it isn't given.
+fn host<'a>(
+    alloc: Global,
+    matches: &ArgMatches<'a>,
+    name: &str,
+    otherwise: Ipv4Addr,
+) -> Result<Ipv4Addr, Error> {
+    match matches.get_str(name) {
+        None => Ok(otherwise),
+        Some(word) => match host_of(word) {
+            Ok(host) => Ok(host),
+            Err(fault) => Err(refused_words(alloc, word, fault_name(fault))),
+        },
+    }
+}
+
+fn senders<'a>(alloc: Global, matches: &ArgMatches<'a>) -> Result<Vec<Octets4>, Error> {
+    let mut senders = Vec::new(alloc);
+    if let Some(words) = matches.get_strs("from") {
+        for word in words {
+            match host_of(word) {
+                Ok(host) => senders.push(host.octets())?,
+                Err(fault) => return Err(refused_words(alloc, word, fault_name(fault))),
+            }
+        }
+    }
+    Ok(senders)
+}
+
+// A port's number, an equals sign and a path.
+fn widget_of<'a>(word: &'a str) -> Option<(u8, &'a str)> {
+    let (port, path) = word.split_once('=')?;
+    let port = sacn_files::words::byte_in(port)?;
+    if port == 0 || path.is_empty() {
+        None
+    } else {
+        Some((port, path))
+    }
+}
+
+fn widgets<'a>(alloc: Global, matches: &ArgMatches<'a>) -> Result<Vec<(u8, &'a str)>, Error> {
+    let mut widgets = Vec::new(alloc);
+    if let Some(words) = matches.get_strs("widget") {
+        for word in words {
+            match widget_of(word) {
+                Some(widget) => widgets.push(widget)?,
+                None => return Err(refused_words(alloc, word, "Widget")),
+            }
+        }
+    }
+    Ok(widgets)
+}
+
+pub fn gateway_asked<'a>(alloc: Global, matches: &ArgMatches<'a>) -> Result<Asked<'a>, Error> {
+    let seconds = match matches.get_str("seconds") {
+        Some(_) => Some(number(alloc, matches, "seconds")?),
+        None => None,
+    };
+    Ok(Asked::Gateway(GatewayAsked {
+        setup: text(matches, "SETUP"),
+        listen: host(alloc, matches, "listen", Ipv4Addr::UNSPECIFIED)?,
+        from: senders(alloc, matches)?,
+        widgets: widgets(alloc, matches)?,
+        seconds,
+    }))
+}
+
+fn hosts<'a>(alloc: Global, matches: &ArgMatches<'a>) -> Result<Vec<SocketAddrV4>, Error> {
+    let mut hosts = Vec::new(alloc);
+    if let Some(words) = matches.get_strs("to") {
+        for word in words {
+            match destination_of(word, SACN_PORT) {
+                Ok(host) => hosts.push(host)?,
+                Err(fault) => return Err(refused_words(alloc, word, fault_name(fault))),
+            }
+        }
+    }
+    if hosts.len() > MOST_DESTINATIONS {
+        return Err(refused_words(alloc, "--to", "TooManyDestinations"));
+    }
+    Ok(hosts)
+}
+
+pub fn desk_asked<'a>(alloc: Global, matches: &ArgMatches<'a>) -> Result<Asked<'a>, Error> {
+    let first = number(alloc, matches, "first")?;
+    let ttl = number(alloc, matches, "ttl")?;
+    let to = hosts(alloc, matches)?;
+    let is_multicast = matches.get_flag("multicast");
+    if is_multicast && !to.is_empty() {
+        return Err(refused_words(alloc, "--to", "beside --multicast"));
+    }
+    Ok(Asked::Desk(DeskAsked {
+        show: text(matches, "SHOW"),
+        to,
+        is_multicast,
+        ttl: u8::try_from(ttl).unwrap_or(1),
+        bind: host(alloc, matches, "bind", Ipv4Addr::UNSPECIFIED)?,
+        script: matches.get_str("script"),
+        first: u8::try_from(first).unwrap_or(0),
+        stays: matches.get_flag("stay"),
+    }))
+}
+
+pub fn groups_asked<'a>(matches: &ArgMatches<'a>) -> Asked<'a> {
+    Asked::Groups {
+        file: text(matches, "FILE"),
+        device: text(matches, "device"),
+    }
+}

@@ -1,0 +1,3 @@
+mod Draining
+mod Turning
+mod Rounding

@@ -1,0 +1,68 @@
+-- One turn after another of a gateway.
+use Rattle.std.proofs.Common.{◌≡◌, ℕ, ◌+◌, ◌<◌, ◌≤◌, List, [], ◌∷◌, ◌++◌, length, map, take, sym, ap, subst, ◌∙◌, refl, arith, Option, Some, None}
+use Rattle.sacn_node.specs.Setup.{port_numbers}
+use Rattle.sacn_node.specs.Cores.{Node}
+use Rattle.sacn_edge.specs.declared.shown.PortShown.{PortShown}
+use Rattle.sacn_edge.specs.Told.{Adds, Extends}
+use Rattle.sacn_edge.specs.NodeText.{with_ports, node_after, text_of}
+use Rattle.sacn_edge.specs.Shown.{port_after, ports_text, FailsAmong}
+use Rattle.sacn_edge.proofs.ToldLemmas.{Adds-append}
+use Rattle.sacn_edge.proofs.NodeLemmas.{Distinct, numbers, Remembers, turn_text, turn_remembered, numbers_after, stops, Extends-append}
+use Rattle.sacn_live.specs.Hearings.{Hearing, turns_of, in_order, emptied_after}
+use Rattle.sacn_live.specs.GatewayText.{gateway_after, gateway_lines}
+use Rattle.sacn_live.specs.GatewayRun.{all_heard, AllBefore, IsRun, StopsIn}
+
+-- a run that made all its turns
+pub run_ends : (most until : ℕ) (turns : List (List Hearing)) → AllBefore until turns → length turns ≡ most → IsRun most until turns
+run_ends most until [] before all = sym all
+run_ends most until (hs ∷ turns) before all = (before.1, omega (arith, all), λ _. all)
+
+pub Extends-none : {X : Type 0} (a : Option (List X)) → Extends a a []
+Extends-none None = tt
+Extends-none (Some xs) = sym (append_nil xs)
+  where
+    append_nil : {X : Type 0} (xs : List X) → xs ++ [] ≡ xs
+    append_nil [] = refl
+    append_nil (x ∷ xs) = ap (λ t. x ∷ t) (append_nil xs)
+
+-- what is heard in one turn more
+pub heard_more : (a b c : Option (List Hearing)) (hs : List Hearing) (turns : List (List Hearing)) → Extends a b (all_heard turns) → Extends b c (in_order hs) → Extends a c (all_heard (hs ∷ turns))
+heard_more a b c hs turns sofar more = Extends-append a b c (all_heard turns) (in_order hs) sofar more
+
+-- the node after one turn more
+pub gate_more : (first : Node) (senders : List (List ℕ)) (hs : List Hearing) (turns : List (List Hearing)) (old new : Node) (emptied : ℕ)
+    → old ≡ (gateway_after first senders turns).node → emptied ≡ (gateway_after first senders turns).emptied
+    → new ≡ node_after old (turns_of senders emptied hs) → new ≡ (gateway_after first senders (hs ∷ turns)).node
+gate_more first senders hs turns old new emptied was at is =
+    is ∙ ap (λ e. node_after old (turns_of senders e hs)) at
+    ∙ ap (λ n. node_after n (turns_of senders (gateway_after first senders turns).emptied hs)) was
+
+pub emptied_later : (first : Node) (senders : List (List ℕ)) (hs : List Hearing) (turns : List (List Hearing)) (emptied new : ℕ)
+    → emptied ≡ (gateway_after first senders turns).emptied → new ≡ emptied_after emptied hs → new ≡ (gateway_after first senders (hs ∷ turns)).emptied
+emptied_later first senders hs turns emptied new at is = is ∙ ap (λ e. emptied_after e hs) at
+
+-- the lines of one turn more, where ss is what is kept of the ports before it
+module _ (first n : Node) (senders : List (List ℕ)) (ss : List PortShown) (hs : List Hearing) (turns : List (List Hearing)) (is : n ≡ (gateway_after first senders (hs ∷ turns)).node) (own : numbers ss ≡ port_numbers first.ports) (distinct : Distinct (port_numbers first.ports)) (all : Remembers (gateway_lines first senders turns) ss) where
+  lines_are : with_ports n (numbers ss) (gateway_lines first senders turns) ≡ gateway_lines first senders (hs ∷ turns)
+  lines_are =
+      ap (λ m. with_ports m (numbers ss) (gateway_lines first senders turns)) is
+      ∙ ap (λ ps. with_ports (gateway_after first senders (hs ∷ turns)).node ps (gateway_lines first senders turns)) own
+
+  apart : Distinct (numbers ss)
+  apart = subst Distinct (sym own) distinct
+
+  pub more_text : (a b c : List ℕ → Type 0) → Adds a b (text_of (gateway_lines first senders turns)) → Adds b c (ports_text n ss) → Adds a c (text_of (gateway_lines first senders (hs ∷ turns)))
+  more_text a b c sofar adds =
+      subst (Adds a c) (sym (turn_text n ss (gateway_lines first senders turns) apart all) ∙ ap text_of lines_are)
+      (Adds-append (text_of (gateway_lines first senders turns)) (ports_text n ss) sofar adds)
+
+  pub more_remembered : Remembers (gateway_lines first senders (hs ∷ turns)) (map (port_after n) ss)
+  more_remembered = subst (λ ls. Remembers ls (map (port_after n) ss)) lines_are (turn_remembered n ss (gateway_lines first senders turns) apart all)
+
+  pub more_numbers : numbers (map (port_after n) ss) ≡ port_numbers first.ports
+  more_numbers = numbers_after n ss ∙ own
+
+  pub stops_in : (a b c : List ℕ → Type 0) → Adds a b (text_of (gateway_lines first senders turns)) → FailsAmong n ss b c → StopsIn first senders hs turns a c
+  stops_in a b c sofar fails =
+      let s = stops n ss (gateway_lines first senders turns) a b c apart all sofar fails in
+      (s.0, s.1, s.2, s.3, sym lines_are ∙ s.4, s.5, s.6)

@@ -1,0 +1,28 @@
+use Rattle.std.proofs.Common.{◌≡◌, ◌<◌, List, length, false}
+use Rattle.sacn_node.specs.Setup.{port_numbers}
+use Rattle.sacn_edge.specs.Told.{Adds, Extends}
+use Rattle.sacn_edge.specs.Shown.{AreCurrent}
+use Rattle.sacn_edge.proofs.NodeLemmas.{Distinct, numbers, Remembers}
+use Rattle.sacn_live.specs.Hearings.{Hearing}
+use Rattle.sacn_live.specs.GatewayText.{gateway_after, gateway_text, gateway_lines}
+use Rattle.sacn_live.specs.GatewayRun.{all_heard, AreWhole, AllBefore}
+use Rattle.sacn_live.proofs.gateway.run_gateway.Given as goal
+
+-- the turns so far
+abbrev pub invariant-loop-turn : goal.invariant-loop-turn
+invariant-loop-turn g l = record {
+  works : g.O.Out.failed l.out ≡ false;
+  distinct : Distinct (port_numbers l.fn.core.ports);
+  current : 0 < l.turn → AreCurrent l.core l.ports.items;
+  run :
+      (turns : List (List Hearing))
+      × (length turns ≡ l.turn)
+      × AllBefore l.span.until turns
+      × AreWhole turns
+      × Extends (g.G.Receiver.told l.fn.receiver) (g.G.Receiver.told l.receiver) (all_heard turns)
+      × Adds (g.O.Out.Tells l.fn.out) (g.O.Out.Tells l.out) (gateway_text l.fn.core l.senders turns)
+      × (l.core ≡ (gateway_after l.fn.core l.senders turns).node)
+      × (l.emptied ≡ (gateway_after l.fn.core l.senders turns).emptied)
+      × (numbers l.ports.items ≡ port_numbers l.fn.core.ports)
+      × Remembers (gateway_lines l.fn.core l.senders turns) l.ports.items;
+}

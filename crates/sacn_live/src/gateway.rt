@@ -1,0 +1,139 @@
+//! The gateway's loop.
+ghost use Rattle.std.specs.Prelude.{◌≡◌, ℕ, ◌≤◌, ◌<◌, ◌+◌, ◌∷◌, [], List, length, false, true, OnOk, OnErr};
+ghost use Rattle.sacn_node.specs.Cores.{core_at, core_lost};
+ghost use Rattle.sacn_edge.specs.Told.{Adds, Extends};
+ghost use Rattle.sacn_edge.specs.NodeText.{node_after};
+ghost use Rattle.sacn_live.specs.Hearings.{Hearing, turns_of, emptied_after, in_order};
+ghost use Rattle.sacn_live.specs.GatewayText.{gateway_after, gateway_text};
+ghost use Rattle.sacn_live.specs.declared.limits.TheConstants.{LONGEST_WAIT};
+ghost use Rattle.sacn_live.specs.GatewayRun.{all_heard, IsWhole, AreWhole, latest_reading, AllBefore, IsRun, StopsIn};
+
+use crate::hearing::{Notes, hear};
+use crate::limits::{LONGEST_WAIT, MOST_BURST};
+use crate::receiver::{Octets4, Receiver};
+use sacn_edge::{BUFFER_OCTETS, Out, WriteFailed, ports_of, show};
+use sacn_node::NodeCore;
+
+/// How long a gateway runs: at most so many turns, and no turn after the first that ends at the moment or later.
+#[derive(Clone, Copy, Debug, PartialEq, Eq)]
+pub struct Span {
+    pub turns: u64,
+    /// Milliseconds of the receiver's clock.
+    pub until: u64,
+}
+
+/// What is known after all that waited was taken.
+#[derive(Clone, Copy)]
+struct Drained {
+    now: u64,
+    emptied: u64,
+    is_still: bool,
+}
+
+/// Takes all that waits, or as much as a turn may.
+fn drain<G: Receiver, N: Notes>(
+    receiver: &mut G,
+    core: &mut NodeCore,
+    notes: &mut N,
+    senders: &[Octets4],
+    emptied: u64,
+    buffer: &mut [u8; BUFFER_OCTETS],
+) -> Drained
+    ensures heard { (hs : List Hearing) × IsWhole hs
+        × Extends (G.told receiver.old) (G.told receiver.new) (in_order hs)
+        × (core.new ≡ node_after core.old (turns_of senders.now emptied hs))
+        × (result.emptied ≡ emptied_after emptied hs)
+        × (result.now ≡ latest_reading hs) }
+    ensures settled { core_at result.now core.new.core ≡ core.new.core }
+    ensures still { result.is_still ≡ true → core.new.core.tables ≡ core.old.core.tables }
+{
+    let mut step = hear(receiver, core, notes, senders, emptied, buffer);
+    let mut is_still = step.is_still;
+    for _count in 1..MOST_BURST {
+        if !step.is_more {
+            return Drained {
+                now: step.now,
+                emptied: step.emptied,
+                is_still,
+            };
+        }
+        step = hear(receiver, core, notes, senders, step.emptied, buffer);
+        is_still &= step.is_still;
+    }
+    Drained {
+        now: step.now,
+        emptied: step.emptied,
+        is_still,
+    }
+}
+
+/// The moment up to which a gateway may wait after a turn: not past that at which its node loses a source, nor past the
+/// end of its run, and no longer than half a second, so that a stop of the process is seen.
+fn next_wait(core: &NodeCore, now: u64, until: u64) -> u64
+    ensures long { result ≤ now + LONGEST_WAIT }
+    ensures end { result ≤ until }
+    ensures lost { (t : ℕ) → t < result → core_lost t core.now.core ≡ 0 }
+{
+    let latest = now.saturating_add(LONGEST_WAIT).min(until);
+    match core.wakes() {
+        Some(wakes) => wakes.min(latest),
+        None => latest,
+    }
+}
+
+/// Runs a gateway. In each turn it waits until a datagram is there or something is to be done, then receives until
+/// nothing is there any more, at most `MOST_BURST` times, each time reading the clock before. A datagram goes to the
+/// node at its reading, unless it comes from another sender than these (an empty list admits all), or nothing was found
+/// waiting for more than 2500 ms, so that it may be older than the network data loss time. Then for each
+/// port in ascending number it writes a line, where the port's frame isn't that of the last line written for it, or
+/// none was.
+///
+/// `WriteFailed` where `out` has failed; the run then ends, and nothing further is heard or written.
+pub fn run_gateway<G: Receiver, N: Notes, O: Out>(
+    receiver: &mut G,
+    notes: &mut N,
+    out: &mut O,
+    core: &mut NodeCore,
+    senders: &[Octets4],
+    span: Span,
+) -> Result<(), WriteFailed>
+    requires { O.failed out.old ≡ false }
+
+    // What is written is the gateway's text over what it heard.
+    ensures ok { OnOk result ((turns : List (List Hearing))
+        × IsRun span.turns span.until turns
+        × AreWhole turns
+        × Extends (G.told receiver.old) (G.told receiver.new) (all_heard turns)
+        × Adds (O.Tells out.old) (O.Tells out.new) (gateway_text core.old senders.now turns)
+        × (core.new ≡ (gateway_after core.old senders.now turns).node)) }
+    ensures works { OnOk result (O.failed out.new ≡ false) }
+
+    // What is written is the gateway's text up to a line of the last turn, of which a part is.
+    ensures err { OnErr result ((hs : List Hearing) × (turns : List (List Hearing))
+        × AllBefore span.until turns
+        × (length turns < span.turns)
+        × AreWhole (hs ∷ turns)
+        × Extends (G.told receiver.old) (G.told receiver.new) (all_heard (hs ∷ turns))
+        × StopsIn core.old senders.now hs turns (O.Tells out.old) (O.Tells out.new)
+        × (core.new ≡ (gateway_after core.old senders.now (hs ∷ turns)).node)) }
+    ensures failed { OnErr result (O.failed out.new ≡ true) }
+{
+    let mut ports = ports_of(core);
+    let mut buffer = [0; BUFFER_OCTETS];
+    let mut emptied = 0;
+    let mut wake = 0;
+    for turn in 0..span.turns {
+        receiver.wait(wake);
+        let drained = drain(receiver, core, notes, senders, emptied, &mut buffer);
+        emptied = drained.emptied;
+        let now = drained.now;
+        let is_still = drained.is_still & (turn > 0);
+        show(out, core, now, is_still, ports.as_mut_slice())?;
+        notes.shown(now, ports.as_slice());
+        if now >= span.until {
+            return Ok(());
+        }
+        wake = next_wait(core, now, span.until);
+    }
+    Ok(())
+}

@@ -1,0 +1,185 @@
+//! One receive of a gateway, and what of it goes to the node.
+ghost use Rattle.std.specs.Prelude.{◌≡◌, ◌≤◌, ◌||◌, not, [], ◌∷◌, true, false, map, is_some};
+ghost use Rattle.std.specs.List.{list_any};
+ghost use Rattle.sacn_node.specs.Calls.{step, Take, Tick};
+ghost use Rattle.sacn_edge.specs.Told.{Extends};
+ghost use Rattle.sacn_edge.specs.NodeText.{call_at, same};
+ghost use Rattle.sacn_live.specs.Hearings.{hearing_in, From, came_of, is_admitted, is_late, is_datagram, heard_of, emptied_with};
+
+use crate::limits::LATE_AFTER;
+use crate::receiver::{Arrival, Octets4, Receiver};
+use sacn_edge::{BUFFER_OCTETS, PortShown};
+use sacn_node::{NodeCore, NodeTaken};
+
+/// Why a datagram doesn't go to the node.
+#[derive(Clone, Copy, Debug, PartialEq, Eq)]
+pub enum PassedOver {
+    /// It may have waited longer than the network data loss time, while the process was stopped or blocked.
+    Late,
+    /// It comes from an address that isn't listened to.
+    OtherSender,
+}
+
+/// What looks on while a gateway runs: for diagnosis, and for interfaces that show the frames. Nothing that it
+/// does changes the gateway's text.
+pub trait Notes {
+    /// A datagram went to the node.
+    fn taken(&mut self, now: u64, sender: Octets4, octets: &[u8], taken: NodeTaken);
+
+    /// A datagram didn't.
+    fn passed_over(&mut self, now: u64, sender: Octets4, why: PassedOver);
+
+    /// The device failed in a receive.
+    fn failed(&mut self, now: u64);
+
+    /// A turn's lines are written: these are the frames of the ports.
+    fn shown(&mut self, now: u64, ports: &[PortShown]);
+}
+
+/// What a receive brought, and what is known after it.
+#[derive(Clone, Copy)]
+pub(crate) struct Step {
+    pub(crate) now: u64,
+    pub(crate) arrival: Arrival,
+    /// The latest reading at which nothing was there.
+    pub(crate) emptied: u64,
+    /// It is known that no frame changed.
+    pub(crate) is_still: bool,
+    /// A datagram was there, so that there may be another.
+    pub(crate) is_more: bool,
+}
+
+#[tactic(auto, unfolding(sacn_edge::specs::NodeText::same))]
+fn is_same(a: &Octets4, b: &Octets4) -> bool
+    ensures { result ≡ same a.now b.now }
+{
+    a == b
+}
+
+/// Whether a sender is one of these.
+fn is_among(senders: &[Octets4], sender: &Octets4) -> bool
+    ensures { result ≡ list_any (λ s. same s sender.now) senders.now }
+{
+    senders.iter().any(|known| is_same(known, sender))
+}
+
+/// Whether a sender is listened to; where the list is empty, each is.
+fn admits(senders: &[Octets4], sender: &Octets4) -> bool
+    ensures { result ≡ is_admitted senders.now sender.now }
+{
+    senders.len() == 0 || is_among(senders, sender)
+}
+
+/// Why a datagram that came at a reading doesn't go to the node.
+fn why_passed(senders: &[Octets4], emptied: u64, now: u64, sender: &Octets4) -> Option<PassedOver>
+    ensures { is_some result ≡ (is_late emptied now || not (is_admitted senders.now sender.now)) }
+{
+    if now.saturating_sub(emptied) > LATE_AFTER {
+        return Some(PassedOver::Late);
+    }
+    if admits(senders, sender) {
+        None
+    } else {
+        Some(PassedOver::OtherSender)
+    }
+}
+
+/// Gives the node a datagram. What it changed isn't known.
+fn take<N: Notes>(
+    core: &mut NodeCore,
+    notes: &mut N,
+    now: u64,
+    sender: Octets4,
+    octets: &[u8],
+) -> bool
+    ensures still { result ≡ false }
+    ensures core { core.new ≡ step (Take now octets.now) core.old }
+{
+    let taken = core.take(now, octets);
+    notes.taken(now, sender, octets, taken);
+    false
+}
+
+/// Moves the node's clock. Where no source was lost, no frame changed.
+fn tick(core: &mut NodeCore, now: u64) -> bool
+    ensures still { result ≡ true → core.new.core.tables ≡ core.old.core.tables }
+    ensures core { core.new ≡ step (Tick now) core.old }
+{
+    core.tick(now) == 0
+}
+
+/// Gives the node what came at a reading, where it goes there.
+fn give<N: Notes>(
+    core: &mut NodeCore,
+    notes: &mut N,
+    senders: &[Octets4],
+    emptied: u64,
+    now: u64,
+    sender: Octets4,
+    octets: &[u8],
+) -> bool
+    ensures still { result ≡ true → core.new.core.tables ≡ core.old.core.tables }
+    ensures core { core.new ≡ step (call_at now (heard_of senders.now emptied now (From sender octets.now))) core.old }
+{
+    match why_passed(senders, emptied, now, &sender) {
+        None => take(core, notes, now, sender, octets),
+        Some(why) => {
+            notes.passed_over(now, sender, why);
+            tick(core, now)
+        }
+    }
+}
+
+/// Receives once, and gives the node what came, where it goes there; where nothing does, its clock is moved.
+pub(crate) fn hear<G: Receiver, N: Notes>(
+    receiver: &mut G,
+    core: &mut NodeCore,
+    notes: &mut N,
+    senders: &[Octets4],
+    emptied: u64,
+    buffer: &mut [u8; BUFFER_OCTETS],
+) -> Step
+    ensures told { Extends (G.told receiver.old) (G.told receiver.new) (hearing_in result.now result.arrival buffer.new ∷ []) }
+    ensures core { core.new ≡ step (call_at result.now (heard_of senders.now emptied result.now (came_of result.arrival buffer.new))) core.old }
+    ensures emptied { result.emptied ≡ emptied_with emptied result.now (came_of result.arrival buffer.new) }
+    ensures still { result.is_still ≡ true → core.new.core.tables ≡ core.old.core.tables }
+    ensures more { result.is_more ≡ is_datagram (came_of result.arrival buffer.new) }
+{
+    let receipt = receiver.receive(buffer);
+    let now = receipt.now;
+    let arrival = receipt.arrival;
+    match arrival {
+        Arrival::Datagram { octets, sender } => Step {
+            now,
+            arrival,
+            emptied,
+            is_still: give(
+                core,
+                notes,
+                senders,
+                emptied,
+                now,
+                sender,
+                &buffer[..octets],
+            ),
+            is_more: true,
+        },
+        Arrival::Nothing => Step {
+            now,
+            arrival,
+            emptied: now,
+            is_still: tick(core, now),
+            is_more: false,
+        },
+        Arrival::Failed => {
+            notes.failed(now);
+            Step {
+                now,
+                arrival,
+                emptied,
+                is_still: tick(core, now),
+                is_more: false,
+            }
+        }
+    }
+}

@@ -1,0 +1,42 @@
+//! A gateway and a desk that run a rig: devices of the machine that wait, and the loops over them.
+//!
+//! What the loops do is stated over devices that tell what was asked of them, as in `sacn_edge`. The machine's
+//! sockets, clock and standard input tell nothing: what they bring is tested.
+#![tactic(auto)]
+
+mod address;
+mod clock;
+mod counts;
+mod desk;
+mod ear;
+mod gateway;
+mod hearing;
+pub mod limits;
+mod lines;
+pub mod memory;
+mod mouth;
+mod orders;
+mod receiver;
+mod sources;
+mod sys;
+mod typed;
+mod watch;
+mod widget;
+
+pub use address::{AddressFault, SACN_PORT, destination_of, host_of};
+pub use clock::RigClock;
+pub use desk::run_desk;
+pub use ear::UdpReceiver;
+pub use gateway::{Span, run_gateway};
+pub use hearing::{Notes, PassedOver};
+pub use lines::{Gathered, LONGEST_LINE, LineBuffer};
+pub use mouth::{DISCOVERY_UNIVERSE, Destinations, MOST_DESTINATIONS, UdpSender, group_for};
+pub use orders::Orders;
+pub use receiver::{Arrival, Octets4, Receipt, Receiver};
+pub use sys::guard_standard_descriptors;
+pub use typed::{DeskOrders, Plan};
+pub use watch::Watch;
+pub use widget::{WIDGET_OCTETS, Widget, widget_packet};
+
+#[cfg(test)]
+mod tests;

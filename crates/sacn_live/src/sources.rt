@@ -1,0 +1,119 @@
+//! The sources that a gateway knows of.
+use crate::limits::LATE_AFTER;
+use crate::receiver::Octets4;
+use arrayvec::ArrayVec;
+use std::io::Write;
+
+/// The most sources of which the watch knows: those of sixteen universes.
+const MOST_WATCHED: usize = 256;
+
+/// A source on a universe, and its latest packet that renewed it.
+#[derive(Clone, Copy, Default)]
+struct Watched {
+    cid: [u8; 16],
+    universe: u16,
+    moment: u64,
+}
+
+/// The sources that are there.
+#[derive(Drop)]
+pub struct Sources {
+    watched: ArrayVec<Watched, MOST_WATCHED>,
+    // The earliest moment at which one may be lost.
+    next_check: u64,
+}
+
+fn is_same(a: &[u8; 16], b: &[u8; 16]) -> bool {
+    a == b
+}
+
+fn say<E: Write>(err: &mut E, cid: &[u8; 16], universe: u16, what: &str) {
+    let mut digits = [0; 32];
+    let _ = hex::encode_to_slice(cid, &mut digits);
+    if let Ok(cid) = std::str::from_utf8(&digits) {
+        let _ = writeln!(err, "source {cid} universe {universe} {what}");
+    }
+}
+
+fn say_came<E: Write>(err: &mut E, cid: &[u8; 16], universe: u16, sender: Octets4) {
+    let mut digits = [0; 32];
+    let _ = hex::encode_to_slice(cid, &mut digits);
+    let [a, b, c, d] = sender;
+    if let Ok(cid) = std::str::from_utf8(&digits) {
+        let _ = write!(err, "source {cid} universe {universe} ");
+        let _ = writeln!(err, "came {a}.{b}.{c}.{d}");
+    }
+}
+
+impl Sources {
+    /// None is there.
+    pub fn new() -> Sources {
+        Sources {
+            watched: ArrayVec::new(),
+            next_check: 0,
+        }
+    }
+
+    fn place_of(&self, cid: &[u8; 16], universe: u16) -> Option<usize> {
+        for (place, watched) in self.watched.as_slice().iter().enumerate() {
+            if watched.universe == universe && is_same(&watched.cid, cid) {
+                return Some(place);
+            }
+        }
+        None
+    }
+
+    /// A source's packet that is shown. Says so where the source wasn't there.
+    pub fn held<E: Write>(
+        &mut self,
+        now: u64,
+        cid: &[u8; 16],
+        universe: u16,
+        sender: Octets4,
+        err: &mut E,
+    ) {
+        if let Some(place) = self.place_of(cid, universe) {
+            if let Some(watched) = self.watched.get_mut(place) {
+                watched.moment = now;
+            }
+            return;
+        }
+        say_came(err, cid, universe, sender);
+        let cid = *cid;
+        let _ = self.watched.try_push(Watched {
+            cid,
+            universe,
+            moment: now,
+        });
+    }
+
+    /// A source's termination.
+    pub fn ended<E: Write>(&mut self, _now: u64, cid: &[u8; 16], universe: u16, err: &mut E) {
+        if let Some(place) = self.place_of(cid, universe) {
+            let _ = self.watched.swap_pop(place);
+            say(err, cid, universe, "ended");
+        }
+    }
+
+    /// Says which sources are lost at a moment.
+    pub fn check<E: Write>(&mut self, now: u64, err: &mut E) {
+        if now < self.next_check {
+            return;
+        }
+        let mut oldest = now;
+        for watched in self.watched.as_slice() {
+            if is_lost(watched, now) {
+                say(err, &watched.cid, watched.universe, "lost");
+            } else {
+                oldest = oldest.min(watched.moment);
+            }
+        }
+        self.watched.retain(|watched| !is_lost(watched, now));
+        self.next_check = oldest.saturating_add(LATE_AFTER);
+    }
+}
+
+/// Whether the network data loss time has passed since a source's latest packet.
+fn is_lost(watched: &Watched, now: u64) -> bool {
+    now.saturating_sub(watched.moment) >= LATE_AFTER
+}

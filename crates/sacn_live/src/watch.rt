@@ -1,0 +1,109 @@
+//! What a gateway says of what it hears.
+use crate::counts::Counts;
+use crate::hearing::{Notes, PassedOver};
+use crate::receiver::Octets4;
+use crate::sources::Sources;
+use crate::widget::Widget;
+use sacn_edge::PortShown;
+use sacn_framing::{DataView, Packet, read_packet};
+use sacn_node::NodeTaken;
+use sacn_root::PacketFault;
+use sacn_sources::Taken;
+use std::io::Write;
+
+/// Looks on while a gateway runs, and says on an output what it sees: sources that come, end, are lost or find no room,
+/// and what isn't taken, each name at most once a second with how often. It hands the frames to interfaces.
+#[derive(Drop)]
+pub struct Watch<'a, E> {
+    err: E,
+    sources: Sources,
+    counts: Counts,
+    widgets: Vec<Widget<'a>>,
+}
+
+/// The name of a fault of a packet.
+fn fault_name(fault: PacketFault) -> &'static str {
+    match fault {
+        PacketFault::TooShort => "refused TooShort",
+        PacketFault::Preamble => "refused Preamble",
+        PacketFault::Postamble => "refused Postamble",
+        PacketFault::Identifier => "refused Identifier",
+        PacketFault::Flags => "refused Flags",
+        PacketFault::Length => "refused Length",
+        PacketFault::RootVector => "refused RootVector",
+        PacketFault::FramingVector => "refused FramingVector",
+        PacketFault::DmpVector => "refused DmpVector",
+        PacketFault::AddressType => "refused AddressType",
+        PacketFault::FirstAddress => "refused FirstAddress",
+        PacketFault::Increment => "refused Increment",
+        PacketFault::ValueCount => "refused ValueCount",
+        PacketFault::Priority => "refused Priority",
+        PacketFault::Universe => "refused Universe",
+        PacketFault::DiscoveryVector => "refused DiscoveryVector",
+        PacketFault::PageRange => "refused PageRange",
+        PacketFault::TooManyUniverses => "refused TooManyUniverses",
+    }
+}
+
+impl<'a, E: Write> Watch<'a, E> {
+    /// A watch that has seen nothing, and hands frames to these interfaces.
+    pub fn new(err: E, widgets: Vec<Widget<'a>>) -> Watch<'a, E> {
+        Watch {
+            err,
+            sources: Sources::new(),
+            counts: Counts::new(),
+            widgets,
+        }
+    }
+
+    /// A data packet of one of the node's universes.
+    fn taken_by_table(&mut self, now: u64, sender: Octets4, packet: &DataView<'_>, taken: Taken) {
+        let cid = packet.cid();
+        let universe = packet.universe();
+        match taken {
+            Taken::Held => self
+                .sources
+                .held(now, &cid, universe, sender, &mut self.err),
+            Taken::EndedNow => self.sources.ended(now, &cid, universe, &mut self.err),
+            Taken::OutOfSequence => self.counts.count("discarded OutOfSequence"),
+            Taken::SourcesExceeded => self.counts.count("discarded SourcesExceeded"),
+            Taken::Observed => {}
+            Taken::UnknownIgnored => {}
+        }
+    }
+}
+
+impl<'a, E: Write> Notes for Watch<'a, E> {
+    fn taken(&mut self, now: u64, sender: Octets4, octets: &[u8], taken: NodeTaken) {
+        match taken {
+            NodeTaken::FromTable(taken) => {
+                if let Ok(Packet::DataPacket(packet)) = read_packet(octets) {
+                    self.taken_by_table(now, sender, &packet, taken);
+                }
+            }
+            NodeTaken::Refused(fault) => self.counts.count(fault_name(fault)),
+            NodeTaken::OtherUniverse => {}
+            NodeTaken::Discovery => {}
+            NodeTaken::Sync => {}
+        }
+    }
+
+    fn passed_over(&mut self, _now: u64, _sender: Octets4, why: PassedOver) {
+        match why {
+            PassedOver::Late => self.counts.count("dropped Late"),
+            PassedOver::OtherSender => self.counts.count("dropped OtherSender"),
+        }
+    }
+
+    fn failed(&mut self, _now: u64) {
+        self.counts.count("device receive");
+    }
+
+    fn shown(&mut self, now: u64, ports: &[PortShown]) {
+        self.counts.say(now, &mut self.err);
+        self.sources.check(now, &mut self.err);
+        for widget in self.widgets.iter_mut() {
+            widget.show(now, ports, &mut self.err);
+        }
+    }
+}

@@ -1,0 +1,294 @@
+#!/usr/bin/env bash
+# Runs gateways and desks as their users do, on loopback and in network namespaces of its own, and looks at what comes of it.
+# Prints a line 'ok NAME', 'not ok NAME' or 'skipped NAME: why' for each, and 'N passed, M failed' at the end.
+# It takes the built program: crates/sacn/out/sacn, or the path in SACN.
+set -u
+top=$(cd "$(dirname "$(readlink -f "$0")")/.." && pwd)
+sacn=${SACN:-$top/crates/sacn/out/sacn}
+work=$(mktemp -d)
+passed=0
+failed=0
+started=()
+
+cleanup() {
+  for pid in "${started[@]:-}"; do [ -n "$pid" ] && kill "$pid" 2>/dev/null; done
+  rm -rf "$work"
+}
+trap cleanup EXIT
+
+verdict() { # NAME STATUS
+  if [ "$2" -eq 0 ]; then
+    echo "ok $1"
+    passed=$((passed + 1))
+  else
+    echo "not ok $1"
+    failed=$((failed + 1))
+  fi
+}
+
+show() { # PORT UNIVERSES..
+  local port=$1 list
+  shift
+  list=$(IFS=,; echo "$*")
+  printf 'version = 1\ncid = "00010203-0405-0607-0809-0a0b0c0d0e0f"\nname = "Desk"\nuniverses = [%s]\nsend_to = [%s]\n' "$list" "$port"
+  printf '[[cue]]\nnumber = 1\nfade = 0\nlevels = [[1, 65535]]\n[[cue]]\nnumber = 2\nfade = 0\nlevels = [[1, 0]]\n'
+  for universe in "$@"; do
+    printf '[[patch]]\nchannel = 1\nuniverse = %s\nslot = 1\n' "$universe"
+  done
+}
+
+setup() { # PORT UNIVERSE
+  printf 'version = 1\nudp_port = %s\n[[port]]\nnumber = 1\nuniverse = %s\n' "$1" "$2"
+}
+
+# The first slot of each line that a gateway wrote.
+levels() { # FILE
+  cut -d ' ' -f 3 "$1" | cut -c 3-4 | tr '\n' ' '
+}
+
+a_desk_lights_a_gateway() {
+  setup 25801 1 >"$work/node.toml"
+  show 25801 1 >"$work/show.toml"
+  "$sacn" gateway "$work/node.toml" --seconds 2 >"$work/lines" 2>"$work/said" &
+  local pid=$!
+  sleep 0.3
+  (echo go; sleep 0.3; echo status; echo "goto 9"; echo jump; sleep 0.3) | "$sacn" desk "$work/show.toml" >"$work/answers" 2>"$work/desk" || return 1
+  wait "$pid" || return 1
+  [ "$(levels "$work/lines")" = "00 ff 00 " ] || return 1
+  grep -q '^source 000102030405060708090a0b0c0d0e0f universe 1 came 127.0.0.1$' "$work/said" || return 1
+  grep -q '^source 000102030405060708090a0b0c0d0e0f universe 1 ended$' "$work/said" || return 1
+  [ "$(sed -n 1p "$work/answers")" = ok ] || return 1
+  sed -n 2p "$work/answers" | grep -q '^cue 1 master 65535 sent [0-9]* failed 0 1 running$' || return 1
+  [ "$(sed -n 3p "$work/answers")" = "refused NoCue" ] || return 1
+  [ "$(sed -n 4p "$work/answers")" = "line 4 UnknownWord" ] || return 1
+  sed -n 5p "$work/answers" | grep -q '^sent [0-9]* failed 0 refused '
+}
+
+a_script_ends_the_desk() {
+  show 25802 1 >"$work/show.toml"
+  printf '0 go\n200 go\n' >"$work/script.txt"
+  "$sacn" desk "$work/show.toml" --script "$work/script.txt" </dev/null >"$work/answers" || return 1
+  grep -q '^sent [0-9]* failed 0 refused ' "$work/answers"
+}
+
+a_port_is_shared() {
+  setup 25803 1 >"$work/node.toml"
+  python3 - "$sacn" "$work/node.toml" <<'P'
+import socket, subprocess, sys
+def shared():
+    s = socket.socket(socket.AF_INET, socket.SOCK_DGRAM)
+    s.setsockopt(socket.SOL_SOCKET, socket.SO_REUSEADDR, 1)
+    s.setsockopt(socket.SOL_SOCKET, socket.SO_REUSEPORT, 1)
+    s.bind(("0.0.0.0", 25803))
+    return s
+first = shared()
+after = subprocess.run([sys.argv[1], "gateway", sys.argv[2], "--seconds", "1"], capture_output=True).returncode
+first.close()
+running = subprocess.Popen([sys.argv[1], "gateway", sys.argv[2], "--seconds", "2"], stdout=subprocess.PIPE, stderr=subprocess.PIPE)
+running.stderr.readline()
+shared().close()
+running.communicate()
+sys.exit(after or running.returncode)
+P
+}
+
+bursts_lose_nothing() {
+  {
+    printf 'version = 1\nudp_port = 25804\n'
+    for n in $(seq 1 16); do printf '[[port]]\nnumber = %s\nuniverse = %s\n' "$n" "$n"; done
+  } >"$work/node.toml"
+  python3 - "$sacn" "$work/node.toml" "$top" <<'P'
+import collections, socket, subprocess, sys, time
+def packet(universe, number, level):
+    slots = bytes([0, level]) + bytes(511)
+    dmp = (0x7000 + 10 + len(slots)).to_bytes(2, "big") + bytes([2, 0xa1, 0, 0, 0, 1]) + len(slots).to_bytes(2, "big") + slots
+    framing = b"\0\0\0\2" + b"burst".ljust(64, b"\0") + bytes([100, 0, 0, number, 0]) + universe.to_bytes(2, "big")
+    framing = (0x7000 + 2 + len(framing) + len(dmp)).to_bytes(2, "big") + framing + dmp
+    root = b"\0\0\0\4" + bytes(range(16))
+    root = (0x7000 + 2 + len(root) + len(framing)).to_bytes(2, "big") + root + framing
+    return b"\0\x10\0\0ASC-E1.17\0\0\0" + root
+run = subprocess.Popen([sys.argv[1], "gateway", sys.argv[2], "--seconds", "4"], stdout=subprocess.PIPE, stderr=subprocess.PIPE, text=True)
+run.stderr.readline()
+out = socket.socket(socket.AF_INET, socket.SOCK_DGRAM)
+bursts = 44 * 2
+start = time.time()
+for burst in range(bursts):
+    for universe in range(1, 201):
+        out.sendto(packet(universe, burst % 256, 1 + burst), ("127.0.0.1", 25804))
+    time.sleep(max(0, start + (burst + 1) / 44 - time.time()))
+text = run.communicate()[0]
+seen = collections.defaultdict(set)
+for line in text.splitlines():
+    port, _, frame = line.split()
+    seen[int(port)].add(int(frame[2:4], 16))
+lost = sum(1 for port in range(1, 17) for burst in range(bursts) if 1 + burst not in seen[port])
+print("bursts", bursts, "of 200, levels of 16 ports that no line shows", lost, file=sys.stderr)
+sys.exit(0 if all(seen[port] and bursts in seen[port] for port in range(1, 17)) and lost <= bursts else 1)
+P
+}
+
+a_stop_drops_the_backlog() {
+  setup 25805 1 >"$work/node.toml"
+  show 25805 1 >"$work/show.toml"
+  "$sacn" gateway "$work/node.toml" --seconds 9 >"$work/lines" 2>"$work/said" &
+  local pid=$!
+  started+=("$pid")
+  sleep 0.3
+  (echo go; sleep 1) | "$sacn" desk "$work/show.toml" >/dev/null &
+  local desk=$!
+  sleep 0.5
+  kill -STOP "$pid"
+  sleep 4
+  kill -CONT "$pid"
+  wait "$desk"
+  wait "$pid"
+  grep -q '^dropped Late [0-9]' "$work/said" || return 1
+  [ "$(levels "$work/lines")" = "00 ff 00 " ]
+}
+
+a_lost_source_goes_dark() {
+  setup 25806 1 >"$work/node.toml"
+  python3 - "$sacn" "$work/node.toml" "$top/examples/levels.sacn" <<'P'
+import socket, subprocess, sys, time
+run = subprocess.Popen([sys.argv[1], "gateway", sys.argv[2], "--seconds", "5"], stdout=subprocess.PIPE, stderr=subprocess.PIPE, text=True)
+run.stderr.readline()
+time.sleep(0.3)
+out = socket.socket(socket.AF_INET, socket.SOCK_DGRAM)
+out.sendto(open(sys.argv[3], "rb").read(), ("127.0.0.1", 25806))
+moments = [int(line.split()[1]) for line in run.communicate()[0].splitlines()]
+print("moments", moments, file=sys.stderr)
+sys.exit(0 if len(moments) == 3 and 2500 <= moments[2] - moments[1] <= 2520 else 1)
+P
+}
+
+an_interface_gets_frames() {
+  setup 25807 1 >"$work/node.toml"
+  show 25807 1 >"$work/show.toml"
+  python3 - "$sacn" "$work" <<'P'
+import os, pty, select, subprocess, sys, time, tty
+sacn, work = sys.argv[1], sys.argv[2]
+link = work + "/widget"
+def terminal():
+    master, slave = pty.openpty()
+    tty.setraw(slave)
+    if os.path.lexists(link): os.unlink(link)
+    os.symlink(os.ttyname(slave), link)
+    return master, slave
+def read(master, seconds):
+    data, end = b"", time.time() + seconds
+    while time.time() < end:
+        ready, _, _ = select.select([master], [], [], 0.1)
+        if ready:
+            try: data += os.read(master, 65536)
+            except OSError: break
+    return data
+def frames(data):
+    found = [data[at:at + 518] for at in range(0, len(data) - 517, 518)]
+    assert all(f[:4] == b"\x7e\x06\x01\x02" and f[-1] == 0xe7 for f in found), data[:20]
+    return [f[5] for f in found]
+master, slave = terminal()
+run = subprocess.Popen([sacn, "gateway", work + "/node.toml", "--widget", "1=" + link, "--seconds", "9"], stdout=subprocess.PIPE, stderr=subprocess.PIPE, text=True)
+run.stderr.readline()
+dark = frames(read(master, 2.2))
+assert len(dark) >= 3 and set(dark) == {0}, dark
+desk = subprocess.Popen([sacn, "desk", work + "/show.toml"], stdin=subprocess.PIPE, stdout=subprocess.DEVNULL, text=True)
+desk.stdin.write("go\n"); desk.stdin.flush()
+lit = frames(read(master, 1))
+assert lit and lit[-1] == 255, lit
+os.unlink(link)
+os.close(slave); os.close(master)
+time.sleep(1.2)
+master, slave = terminal()
+again = frames(read(master, 2))
+assert again and again[0] == 255, again
+desk.stdin.close(); desk.wait()
+said = run.communicate()[1]
+assert "widget 1 " in said and "works again" in said, said
+P
+}
+
+Ctrl_C_ends_each_universe() {
+  show 25808 1 2 >"$work/show.toml"
+  python3 - "$sacn" "$work/show.toml" <<'P'
+import socket, subprocess, sys, time
+heard = socket.socket(socket.AF_INET, socket.SOCK_DGRAM)
+heard.bind(("127.0.0.1", 25808)); heard.settimeout(0.5)
+run = subprocess.Popen([sys.argv[1], "desk", sys.argv[2]], stdin=subprocess.PIPE, stdout=subprocess.PIPE, text=True)
+time.sleep(0.5)
+run.stdin.close()
+ends = {}
+try:
+    while True:
+        octets = heard.recv(2048)
+        if len(octets) == 638 and octets[112] & 0x40:
+            ends[octets[114]] = ends.get(octets[114], 0) + 1
+except TimeoutError: pass
+sys.exit(0 if ends == {1: 3, 2: 3} and run.wait() == 0 else 1)
+P
+}
+
+bad_words_are_named() {
+  setup 25809 1 >"$work/node.toml"
+  show 25809 1 >"$work/show.toml"
+  "$sacn" gateway "$work/node.toml" --listen 300.1.1.1 2>"$work/said"
+  [ $? -eq 2 ] && grep -q '300.1.1.1: Address' "$work/said" || return 1
+  "$sacn" desk "$work/show.toml" --to 10.0.0.1:0 2>"$work/said" </dev/null
+  [ $? -eq 2 ] && grep -q '10.0.0.1:0: Port' "$work/said" || return 1
+  "$sacn" desk "$work/show.toml" --to 10.0.0.1:65536 2>"$work/said" </dev/null
+  [ $? -eq 2 ] && grep -q '10.0.0.1:65536: Port' "$work/said" || return 1
+  "$sacn" gateway "$work/node.toml" --listen 192.0.2.1 2>"$work/said"
+  [ $? -eq 4 ] && grep -q '^device socket 192.0.2.1:25809 AddrNotAvailable$' "$work/said" || return 1
+  "$sacn" gateway "$work/absent.toml" 2>"$work/said"
+  [ $? -eq 4 ] && grep -q "^device read $work/absent.toml$" "$work/said" || return 1
+  "$sacn" desk "$work/show.toml" >"$work/answers" <&- || return 1
+  head -c 1048576 /dev/zero | tr '\0' x >"$work/long"
+  echo >>"$work/long"
+  echo go >>"$work/long"
+  "$sacn" desk "$work/show.toml" <"$work/long" >"$work/answers" || return 1
+  [ "$(sed -n 1p "$work/answers")" = "line 1 TooLong" ] && [ "$(sed -n 2p "$work/answers")" = ok ]
+}
+
+groups_are_printed() {
+  setup 25810 258 >"$work/node.toml"
+  [ "$("$sacn" groups "$work/node.toml" --device eth0)" = "ip address add 239.255.1.2/32 dev eth0 autojoin
+ip address add 239.255.250.214/32 dev eth0 autojoin" ]
+}
+
+multicast_between_namespaces() {
+  local a=sacn-a-$$ b=sacn-b-$$ status=1
+  setup 5568 1 >"$work/node.toml"
+  show 5568 1 >"$work/show.toml"
+  ip netns add "$a" && ip netns add "$b" &&
+    ip link add va netns "$a" type veth peer name vb netns "$b" &&
+    ip -n "$a" address add 10.77.0.1/24 dev va && ip -n "$b" address add 10.77.0.2/24 dev vb &&
+    ip -n "$a" link set va up && ip -n "$b" link set vb up &&
+    ip -n "$a" route add 239.255.0.0/16 dev va &&
+    "$sacn" groups "$work/node.toml" --device vb | while read -r line; do ip -n "$b" ${line#ip }; done && {
+    ip netns exec "$b" "$sacn" gateway "$work/node.toml" --seconds 3 >"$work/lines" 2>"$work/said" &
+    local pid=$!
+    sleep 0.5
+    (echo go; sleep 0.7) | ip netns exec "$a" "$sacn" desk "$work/show.toml" --multicast >/dev/null 2>"$work/desk"
+    wait "$pid"
+    [ "$(levels "$work/lines")" = "00 ff 00 " ] && grep -q 'came 10.77.0.1$' "$work/said" && status=0
+  }
+  ip netns del "$a" 2>/dev/null
+  ip netns del "$b" 2>/dev/null
+  return "$status"
+}
+
+[ -x "$sacn" ] || { echo "not ok the program is built: $sacn isn't there"; exit 1; }
+tests="a_desk_lights_a_gateway a_script_ends_the_desk a_port_is_shared bursts_lose_nothing a_stop_drops_the_backlog
+  a_lost_source_goes_dark an_interface_gets_frames Ctrl_C_ends_each_universe bad_words_are_named groups_are_printed"
+for test in $tests; do
+  "$test"
+  verdict "$test" $?
+done
+if ip netns add "sacn-try-$$" 2>/dev/null; then
+  ip netns del "sacn-try-$$"
+  multicast_between_namespaces
+  verdict multicast_between_namespaces $?
+else
+  echo "skipped multicast_between_namespaces: no network namespaces can be made here"
+fi
+echo "$passed passed, $failed failed"
+[ "$failed" -eq 0 ]
