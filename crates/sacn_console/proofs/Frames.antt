@@ -1,5 +1,5 @@
 -- Frames of a player at its own moment, at later ones, and after its commands.
-use Rattle.std.proofs.Common.{◌≡◌, ℕ, ◌*◌, ◌/◌, ◌-◌, ◌≤◌, ◌&&◌, max, Bool, true, false, nat_eq, List, [], ◌∷◌, Some, arith, ap, sym, refl, ◌∙◌}
+use Rattle.std.proofs.Common.{◌≡◌, ℕ, ◌*◌, ◌/◌, ◌-◌, ◌≤◌, ◌&&◌, max, Bool, true, false, nat_eq, List, [], ◌∷◌, Some, arith, ap, refl}
 use Rattle.std.specs.Cmp.Lexicographic.{pointwise}
 use Rattle.sacn_patch.specs.Patch.{universe_frame}
 use Rattle.sacn_cues.specs.declared.limits.TheConstants.{FULL}

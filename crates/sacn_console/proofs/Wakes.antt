@@ -4,13 +4,13 @@ use mathlib.Core.Bool.{beq}
 use Rattle.std.proofs.lemmas.Bool.Decides.{nat_tests}
 use Rattle.std.proofs.lemmas.List.{length-set, length-replicate, get_or-set_other, get_or_read}
 use Rattle.std.proofs.lemmas.Grind.{get_or-set_at}
-use Rattle.sacn_cues.specs.Playing.{StaysAsItIs, is_still, moved, Played}
+use Rattle.sacn_cues.specs.Playing.{StaysAsItIs, is_still}
 use Rattle.sacn_console.specs.declared.limits.TheConstants.{LEAST_GAP, KEEP_ALIVE}
 use Rattle.sacn_console.specs.Lights.{Lights, lights_at, frame, frame_now}
 use Rattle.sacn_console.specs.Lines.{Page, Paged, same, passed, asks, line_due, line_sent, state_sent, fresh_run, is_stopped}
 use Rattle.std.specs.Option.{option_map}
 use Rattle.sacn_console.specs.Core.{Core, at, line_found, page_due, due, due_by, no_line}
-use Rattle.sacn_console.specs.Wakes.{Finds, IsAsleep, IsTimely, IsWake, IsQuiet, QuietBefore, IsLeast, Waking, WakesOk, last_moment, when_passed, wake_sent, passed_over}
+use Rattle.sacn_console.specs.Wakes.{Finds, IsWake, IsQuiet, QuietBefore, IsLeast, Waking, WakesOk, last_moment, when_passed, wake_sent, passed_over}
 use Rattle.sacn_console.specs.declared.line.Run.{Run}
 use Rattle.sacn_console.specs.declared.line.Line.{Line}
 use Rattle.sacn_console.specs.declared.line.Look.TheVariants.{Due, Asleep}

@@ -1,20 +1,17 @@
 -- A universe's part of a sorted row.
-use Rattle.std.proofs.Common.{◌≡◌, ℕ, suc, zero, ◌+◌, ◌-◌, ◌<◌, ◌≤◌, Bool, true, false, cond, not, ◌&&◌, ◌==◌, nat_le, List, [], ◌∷◌, length, set, get_or, drop, drop-cons, add-one, replicate, refl, sym, ap, ◌∙◌, arith}
-use Rattle.std.specs.List.{filter, AllByRecursion}
+use Rattle.std.proofs.Common.{◌≡◌, ℕ, suc, zero, ◌+◌, ◌<◌, ◌≤◌, true, false, not, ◌&&◌, ◌==◌, nat_le, List, [], ◌∷◌, length, get_or, drop, drop-cons, add-one, replicate, refl, sym, ap, ◌∙◌, arith}
+use Rattle.std.specs.List.{AllByRecursion}
 use Rattle.std.specs.List.Sorted.{IsStrictlySortedBy}
 use Rattle.std.specs.Ordering.{nat_cmp, is_le, is_lt, ordering_then}
 use Rattle.std.specs.declared.cmp.Ordering.{Ordering}
 use Rattle.std.specs.declared.cmp.Ordering.TheVariants.{Less, Equal, Greater}
 use Rattle.std.specs.declared.ops.Bound.TheVariants.{Included}
-use Rattle.std.specs.BTreeMap.{BTreeMap}
-use Rattle.std.specs.BTreeMap as tree
 use Rattle.std.specs.BTreeMap.Range.{range_contains}
 use Rattle.std.specs.Map.{keys_of}
 use Rattle.std.specs.FinMap.{from_entries}
 use Rattle.std.proofs.lemmas.Bool.Decides.{nat_tests}
 use Rattle.std.proofs.lemmas.Cmp.{ranked}
 use Rattle.sacn_patch.specs.declared.part.Part.{Part}
-use Rattle.sacn_patch.specs.Parts.{part_of_level}
 use Rattle.sacn_patch.specs.Patch.{Place, place_cmp, universe_frame}
 use Rattle.sacn_patch.specs.Flat.{Row, Sorted, AllBelow, is_within}
 use Rattle.sacn_patch.proofs.Fills.{written, of_universe, frame_written}

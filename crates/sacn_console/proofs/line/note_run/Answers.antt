@@ -1,4 +1,3 @@
-use Rattle.sacn_console.specs.Lines.{state_sent}
 use Rattle.sacn_console.proofs.Frames.{run_repeated}
 use Rattle.std.proofs.Common.{sym, ◌∙◌}
 use Rattle.sacn_console.proofs.line.note_run.Goals as goal

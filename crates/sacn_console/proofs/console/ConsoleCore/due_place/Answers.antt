@@ -3,7 +3,6 @@ use Rattle.sacn_cues.specs.Playing.{Played}
 use Rattle.sacn_console.specs.Lights.{Lights}
 use Rattle.sacn_console.proofs.Frames.{settled}
 use Rattle.sacn_console.proofs.Dues.{place_found}
-use Rattle.sacn_console.specs.Wakes.{WakesOk}
 use Rattle.sacn_console.proofs.console.ConsoleCore.due_place.Goals as goal
 
 pub returns-clause-found : goal.returns-clause-found

@@ -1,4 +1,4 @@
-use Rattle.std.proofs.Common.{refl, arith, ◌∙◌}
+use Rattle.std.proofs.Common.{refl, ◌∙◌}
 use Rattle.sacn_cues.specs.Playing as play
 use Rattle.sacn_console.specs.declared.command.Command.TheVariants.{GoTo}
 use Rattle.sacn_console.proofs.Wakes.{wakes_cleared}

@@ -1,4 +1,4 @@
-use Rattle.std.proofs.Common.{◌≡◌, arith, ap, ◌∙◌}
+use Rattle.std.proofs.Common.{arith, ap, ◌∙◌}
 use Rattle.sacn_cues.specs.Playing.{Played}
 use Rattle.sacn_console.specs.Lights.{Lights}
 use Rattle.sacn_console.specs.Core.{no_line}

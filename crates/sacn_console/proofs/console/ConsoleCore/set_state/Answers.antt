@@ -1,4 +1,3 @@
-use Rattle.std.proofs.Common.{arith}
 use Rattle.sacn_console.proofs.Wakes.{wakes_ordered, place_in}
 use Rattle.sacn_console.proofs.Changes.{ok_kept, state_set}
 use Rattle.sacn_console.proofs.console.ConsoleCore.set_state.Goals as goal
