@@ -2,7 +2,7 @@
 use Rattle.std.proofs.Common.{Option, Some, None, SomeIff, IfSome, IfNone, max, ◌≡◌, ℕ, zero, suc, ◌+◌, ◌-◌, ◌^◌, ◌<◌, ◌≤◌, min, List, [], ◌∷◌, map, length, get_or, set, refl, ap, ◌∙◌, arith, inl, inr}
 use Rattle.std.proofs.lemmas.Bool.{cases_lt}
 use Rattle.std.proofs.lemmas.List.Sums.{sum_by-cons}
-use Rattle.sacn_sources.specs.Rows.{Row, rows_lost, rows_kept}
+use Rattle.sacn_sources.specs.Rows.{rows_lost}
 use Rattle.sacn_sources.specs.Wakes.{oldest_by, oldest_of}
 use Rattle.sacn_sources.proofs.Wakes.{none_while, some_then, kept_while, kept_young}
 use Rattle.sacn_node.specs.declared.tables.OneUniverse.{OneUniverse}

@@ -1,5 +1,5 @@
 -- How a node stores its ports and its tables.
-use Rattle.std.specs.Prelude.{◌≡◌, ⊤, ℕ, ◌-◌, ◌<◌, ◌≤◌, max, List, [], ◌∷◌, length, map, All, AllPairs}
+use Rattle.std.specs.Prelude.{⊤, ℕ, ◌-◌, ◌<◌, ◌≤◌, max, List, [], ◌∷◌, length, map, All, AllPairs}
 use Rattle.std.specs.List.{sum_by, AllByRecursion}
 use Rattle.std.specs.List.Sorted.{IsStrictlyIncreasing}
 use Rattle.sacn_sources.specs.Rows.{rows_lost}

@@ -1,4 +1,4 @@
-use Rattle.std.proofs.Common.{◌≡◌, ◌-◌, ◌^◌, ℕ, min, length, ap, sym, ◌∙◌, arith}
+use Rattle.std.proofs.Common.{ℕ, ap, arith}
 use Rattle.std.proofs.lemmas.List.{drop_all}
 use Rattle.sacn_sources.specs.Wakes.{oldest_by, oldest_of}
 use Rattle.sacn_sources.proofs.Wakes.{oldest_most}
