@@ -97,7 +97,7 @@ bursts_lose_nothing() {
     printf 'version = 1\nudp_port = 25804\n'
     for n in $(seq 1 16); do printf '[[port]]\nnumber = %s\nuniverse = %s\n' "$n" "$n"; done
   } >"$work/node.toml"
-  python3 - "$sacn" "$work/node.toml" "$top" <<'P'
+  python3 - "$sacn" "$work/node.toml" "$work/lines" <<'P'
 import collections, socket, subprocess, sys, time
 def packet(universe, number, level):
     slots = bytes([0, level]) + bytes(511)
@@ -107,8 +107,8 @@ def packet(universe, number, level):
     root = b"\0\0\0\4" + bytes(range(16))
     root = (0x7000 + 2 + len(root) + len(framing)).to_bytes(2, "big") + root + framing
     return b"\0\x10\0\0ASC-E1.17\0\0\0" + root
-run = subprocess.Popen([sys.argv[1], "gateway", sys.argv[2], "--seconds", "4"], stdout=subprocess.PIPE, stderr=subprocess.PIPE, text=True)
-run.stderr.readline()
+run = subprocess.Popen([sys.argv[1], "gateway", sys.argv[2], "--seconds", "4"], stdout=open(sys.argv[3], "w"), stderr=subprocess.DEVNULL)
+time.sleep(0.5)
 out = socket.socket(socket.AF_INET, socket.SOCK_DGRAM)
 bursts = 44 * 2
 start = time.time()
@@ -116,14 +116,15 @@ for burst in range(bursts):
     for universe in range(1, 201):
         out.sendto(packet(universe, burst % 256, 1 + burst), ("127.0.0.1", 25804))
     time.sleep(max(0, start + (burst + 1) / 44 - time.time()))
-text = run.communicate()[0]
+run.wait()
+text = open(sys.argv[3]).read()
 seen = collections.defaultdict(set)
 for line in text.splitlines():
     port, _, frame = line.split()
     seen[int(port)].add(int(frame[2:4], 16))
 lost = sum(1 for port in range(1, 17) for burst in range(bursts) if 1 + burst not in seen[port])
 print("bursts", bursts, "of 200, levels of 16 ports that no line shows", lost, file=sys.stderr)
-sys.exit(0 if all(seen[port] and bursts in seen[port] for port in range(1, 17)) and lost <= bursts else 1)
+sys.exit(1 if lost else 0)
 P
 }
 

@@ -254,7 +254,7 @@ fn run_orders<R: Clock, L: Link, C: sacn_edge::Clock, O: Write>(
     core: &mut ConsoleCore,
     out: &mut O,
 ) -> Result<ConsoleReport, Ending> {
-    let mut orders = DeskOrders::new(alloc, plan, twin, out);
+    let mut orders = DeskOrders::new(alloc, plan, twin, out)?;
     let report = run_desk(link, clock, &mut orders, core, MOST_ROUNDS);
     if orders.write_failed() {
         return Err(Ending::DeviceWrite);

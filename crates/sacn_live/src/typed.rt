@@ -6,7 +6,7 @@ use crate::clock::RigClock;
 use crate::lines::{Gathered, LineBuffer};
 use crate::orders::Orders;
 use crate::sys::{NO_DESCRIPTOR, STDIN, read_input, wait_readable};
-use sacn_console::{Command, ConsoleCore, ConsoleFault, State, TextFault, command_of};
+use sacn_console::{Command, ConsoleCore, ConsoleFault, Line, State, TextFault, command_of};
 use sacn_edge::{Clock, ConsoleReport};
 use sacn_files::words::words;
 use std::alloc::{AllocError, Global};
@@ -34,11 +34,13 @@ enum Source {
     Closing,
 }
 
-/// The state of the end of a run: in each round every universe is told to end, until all have stopped.
+/// How far the end of a desk is: the universes that run are listed, each is told to end, and all have stopped.
 #[derive(Clone, Copy)]
-struct Closing {
-    next: usize,
-    standing: usize,
+enum Closing {
+    Open,
+    Asked,
+    /// The universes from this place of the list on aren't told yet.
+    Telling(usize),
 }
 
 /// What there is to be ordered.
@@ -58,7 +60,6 @@ pub struct DeskOrders<'a, R, O> {
     alloc: Global,
     clock: RigClock<'a, R>,
     out: &'a mut O,
-    universes: &'a [u16],
     script: &'a [(u64, Command)],
     next_line: usize,
     has_script: bool,
@@ -72,7 +73,9 @@ pub struct DeskOrders<'a, R, O> {
     is_open: bool,
     was_read: bool,
     asks_status: bool,
-    closing: Option<Closing>,
+    closing: Closing,
+    // The universes that ran when the end was asked for.
+    ending: Vec<u16>,
     has_ended: bool,
     write_failed: bool,
     is_absent: bool,
@@ -149,6 +152,13 @@ fn line_said(alloc: Global, line: Option<&[u8]>, number: usize) -> Said {
     }
 }
 
+/// Whether all universes have stopped.
+fn have_stopped(lines: &[Line]) -> bool {
+    lines
+        .iter()
+        .all(|line| matches!(line.state, State::Stopped))
+}
+
 fn state_name(state: &State) -> &'static str {
     match state {
         State::Running(_) => "running",
@@ -178,12 +188,11 @@ impl<'a, R: MachineClock, O: Write> DeskOrders<'a, R, O> {
         plan: Plan<'a>,
         clock: RigClock<'a, R>,
         out: &'a mut O,
-    ) -> DeskOrders<'a, R, O> {
-        DeskOrders {
+    ) -> Result<DeskOrders<'a, R, O>, AllocError> {
+        Ok(DeskOrders {
             alloc,
             clock,
             out,
-            universes: plan.universes,
             script: plan.script.unwrap_or(&[]),
             next_line: 0,
             ends_with_script: plan.script.is_some() && !plan.stays,
@@ -197,11 +206,12 @@ impl<'a, R: MachineClock, O: Write> DeskOrders<'a, R, O> {
             is_open: true,
             was_read: false,
             asks_status: false,
-            closing: None,
+            closing: Closing::Open,
+            ending: Vec::with_capacity(alloc, plan.universes.len())?,
             has_ended: false,
             write_failed: false,
             is_absent: false,
-        }
+        })
     }
 
     /// Whether an answer couldn't be written. The desk then ends as at the end of its input.
@@ -252,21 +262,17 @@ impl<'a, R: MachineClock, O: Write> DeskOrders<'a, R, O> {
         }
     }
 
-    fn count_standing(&mut self) {
-        if let Some(closing) = self.closing {
-            self.closing = Some(Closing {
-                next: closing.next,
-                standing: closing.standing.saturating_add(1),
-            });
+    fn close(&mut self) {
+        if let Closing::Open = self.closing {
+            self.closing = Closing::Asked;
         }
     }
 
-    fn close(&mut self) {
-        if self.closing.is_none() {
-            self.closing = Some(Closing {
-                next: 0,
-                standing: 0,
-            });
+    fn is_closing(&self) -> bool {
+        match self.closing {
+            Closing::Open => false,
+            Closing::Asked => true,
+            Closing::Telling(_) => true,
         }
     }
 
@@ -372,7 +378,7 @@ impl<'a, R: MachineClock, O: Write> DeskOrders<'a, R, O> {
 
     fn next_typed(&mut self, now: u64) -> Option<Command> {
         for _ in 0..MOST_LINES {
-            if self.asks_status || self.closing.is_some() {
+            if self.asks_status || self.is_closing() {
                 return None;
             }
             match self.next_input() {
@@ -393,16 +399,13 @@ impl<'a, R: MachineClock, O: Write> DeskOrders<'a, R, O> {
 
 impl<'a, R: MachineClock, O: Write> DeskOrders<'a, R, O> {
     /// The next universe that is told to end.
-    fn next_end(&mut self, closing: Closing) -> Option<Command> {
-        if closing.next >= self.universes.len() {
+    fn next_end(&mut self) -> Option<Command> {
+        let Closing::Telling(next) = self.closing else {
             return None;
-        }
-        let universe = self.universes[closing.next];
+        };
+        let universe = *self.ending.get(next)?;
         self.source = Source::Closing;
-        self.closing = Some(Closing {
-            next: closing.next + 1,
-            standing: closing.standing,
-        });
+        self.closing = Closing::Telling(next.saturating_add(1));
         Some(Command::EndUniverse(universe))
     }
 
@@ -422,29 +425,36 @@ impl<'a, R: MachineClock, O: Write> DeskOrders<'a, R, O> {
     }
 
     fn next_order(&mut self, now: u64) -> Option<Command> {
-        if let Some(closing) = self.closing {
-            return self.next_end(closing);
+        if self.is_closing() {
+            return self.next_end();
         }
         if let Some(command) = self.next_scripted(now) {
             return Some(command);
         }
         if self.script_is_over() {
             self.close();
-        } else if let Some(command) = self.next_typed(now) {
-            return Some(command);
+            return None;
         }
-        match self.closing {
-            Some(closing) => self.next_end(closing),
-            None => None,
-        }
+        self.next_typed(now)
     }
 
     /// Whether something is to be done without waiting.
     fn is_pressed(&self) -> bool {
         match self.closing {
-            Some(closing) => closing.next < self.universes.len() && closing.next > 0,
-            None => self.begin < self.len,
+            Closing::Open => self.begin < self.len,
+            Closing::Asked => true,
+            Closing::Telling(next) => next < self.ending.len(),
         }
+    }
+
+    /// Lists the universes that run, which are then told to end.
+    fn list_running(&mut self, core: &ConsoleCore) {
+        for line in core.lines() {
+            if let State::Running(_) = &line.state {
+                let _ = self.ending.push(line.universe);
+            }
+        }
+        self.closing = Closing::Telling(0);
     }
 
     fn next_moment(&self, until: u64) -> u64 {
@@ -462,7 +472,7 @@ impl<'a, R: MachineClock, O: Write> Orders for DeskOrders<'a, R, O> {
         }
         let until = self.next_moment(until);
         let millis = self.clock.left(until);
-        let input = if self.is_open && self.closing.is_none() {
+        let input = if self.is_open && !self.is_closing() {
             STDIN
         } else {
             NO_DESCRIPTOR
@@ -481,11 +491,7 @@ impl<'a, R: MachineClock, O: Write> Orders for DeskOrders<'a, R, O> {
                 Ok(()) => self.say(b"ok\n"),
                 Err(fault) => self.say_refusal(fault),
             },
-            Source::Closing => {
-                if answer != Err(ConsoleFault::Stopped) {
-                    self.count_standing();
-                }
-            }
+            Source::Closing => {}
         }
     }
 
@@ -494,17 +500,11 @@ impl<'a, R: MachineClock, O: Write> Orders for DeskOrders<'a, R, O> {
             self.asks_status = false;
             self.say_status(core, report);
         }
-        let Some(closing) = self.closing else {
-            return;
-        };
-        if closing.next < self.universes.len() {
-            return;
+        match self.closing {
+            Closing::Open => {}
+            Closing::Asked => self.list_running(core),
+            Closing::Telling(_) => self.has_ended = have_stopped(core.lines()),
         }
-        self.has_ended = closing.standing == 0;
-        self.closing = Some(Closing {
-            next: 0,
-            standing: 0,
-        });
     }
 
     fn has_ended(&self) -> bool {
