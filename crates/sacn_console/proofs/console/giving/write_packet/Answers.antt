@@ -1,6 +1,6 @@
 use Rattle.std.proofs.Common.{arith, refl}
 use Rattle.sacn_console.proofs.Octets.{filled_packet, front_len}
-use Rattle.sacn_console.proofs.console.write_packet.Goals as goal
+use Rattle.sacn_console.proofs.console.giving.write_packet.Goals as goal
 
 pub returns-in-Some-clause-octets : goal.returns-in-Some-clause-octets
 returns-in-Some-clause-octets c =
