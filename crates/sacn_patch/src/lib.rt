@@ -5,8 +5,8 @@
 #![tactic(auto)]
 
 mod fault;
-pub mod laws;
 mod flat;
+pub mod laws;
 mod level;
 pub mod limits;
 mod part;
