@@ -1,5 +1,7 @@
 //! Laws of the console core over its definitions alone. They cost nothing when they run.
 ghost use Rattle.sacn_console.specs.Runs.{PacketsAreNumbered, StepsAreTheList};
+ghost use Rattle.std.specs.Prelude.{◌≡◌};
+ghost use Rattle.sacn_console.specs.declared.limits.TheConstants.{CONSOLE_UNIVERSES, DEFAULT_PRIORITY, DISCOVERY_INTERVAL, KEEP_ALIVE, LEAST_GAP, MAX_DESTINATIONS, MOST_OCTETS, NEWEST_SHOW, REPEATS, TERMINATIONS};
 
 use sacn_cues::laws::{readings_show_the_levels, steps_follow_the_calls};
 
@@ -15,4 +17,18 @@ pub fn steps_are_the_list()
 /// The packets of a life on a universe are numbered from the first number on, one by one, modulo 256.
 pub fn packets_are_numbered()
     ensures { PacketsAreNumbered }
+{}
+
+/// What the numbers of a console and of its shows are, times in milliseconds.
+pub fn numbers()
+    ensures universes { CONSOLE_UNIVERSES ≡ 1024 }
+    ensures gap { LEAST_GAP ≡ 25 }
+    ensures keep_alive { KEEP_ALIVE ≡ 900 }
+    ensures repeats { REPEATS ≡ 3 }
+    ensures terminations { TERMINATIONS ≡ 3 }
+    ensures discovery { DISCOVERY_INTERVAL ≡ 10000 }
+    ensures destinations { MAX_DESTINATIONS ≡ 8 }
+    ensures priority { DEFAULT_PRIORITY ≡ 100 }
+    ensures octets { MOST_OCTETS ≡ 1144 }
+    ensures version { NEWEST_SHOW ≡ 2 }
 {}

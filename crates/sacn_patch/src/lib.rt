@@ -6,6 +6,7 @@
 
 mod fault;
 mod flat;
+pub mod laws;
 mod level;
 pub mod limits;
 mod part;

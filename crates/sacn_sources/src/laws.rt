@@ -4,6 +4,8 @@
 //! these steps give the plain rule over the list: one finite map from CIDs to numbers, levels and moments.
 
 ghost use Rattle.sacn_sources.specs.Laws.{AnswersByThePlainRule, HoldsByThePlainRule, UsesTheGreatestMoment, ExpiresAlone, RowsRise, CountsRenewals};
+ghost use Rattle.std.specs.Prelude.{◌≡◌};
+ghost use Rattle.sacn_sources.specs.declared.limits.TheConstants.{MAX_SOURCES, NETWORK_DATA_LOSS};
 
 /// After any list of calls, the answer to a further one is that of the plain rule.
 pub fn answers_by_the_plain_rule()
@@ -33,4 +35,10 @@ pub fn rows_rise()
 /// The renewals are the merges that were made anew.
 pub fn renewals_are_counted()
     ensures { CountsRenewals }
+{}
+
+/// What the numbers of a table are: its sources, and the milliseconds after which one is lost.
+pub fn numbers()
+    ensures sources { MAX_SOURCES ≡ 16 }
+    ensures loss { NETWORK_DATA_LOSS ≡ 2500 }
 {}

@@ -11,6 +11,8 @@ ghost use Rattle.sacn_world.specs.Newest.{NewestIsTheGreatestDelivered};
 ghost use Rattle.sacn_world.specs.Looks.{FramesAreMergesOfWhatWasSent, EqualHoldingsGiveEqualSlots};
 ghost use Rattle.sacn_world.specs.Headline.{Headline};
 ghost use Rattle.sacn_world.specs.Lives.{ConsolesDoWhatIsDue};
+ghost use Rattle.std.specs.Prelude.{◌≡◌};
+ghost use Rattle.sacn_world.specs.declared.limits.TheConstants.{TOO_FAR_BEHIND};
 
 use sacn_console::laws::steps_are_the_list;
 use sacn_slots::laws::merge_is_of_a_set;
@@ -125,3 +127,8 @@ pub fn headline()
 {
     merge_is_of_a_set();
 }
+
+/// What the number of a world is: how many packets sent later a held one is ahead of what comes too far behind.
+pub fn numbers()
+    ensures behind { TOO_FAR_BEHIND ≡ 20 }
+{}
