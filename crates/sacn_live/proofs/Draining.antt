@@ -1,12 +1,11 @@
 -- One receive after another in a turn of a gateway.
-use Rattle.std.proofs.Common.{◌≡◌, ℕ, Bool, true, false, not, ◌&&◌, List, [], ◌∷◌, ◌++◌, refl, sym, ap, subst, ◌∙◌, Option}
-use Rattle.std.proofs.lemmas.Bool.{and_parts}
+use Rattle.std.proofs.Common.{◌≡◌, ℕ, Bool, true, false, not, List, [], ◌∷◌, refl, sym, ap, subst, ◌∙◌}
 use Rattle.sacn_node.specs.Cores.{Node, core_at}
 use Rattle.sacn_node.specs.Calls.{step}
 use Rattle.sacn_edge.specs.Heard.{Heard}
 use Rattle.sacn_edge.specs.NodeText.{call_at, node_after}
 use Rattle.sacn_edge.proofs.Settled.{turn_settled}
-use Rattle.sacn_live.specs.Hearings.{Hearing, Came, turns_of, turn_of, heard_of, emptied_after, emptied_with}
+use Rattle.sacn_live.specs.Hearings.{Hearing, Came, turns_of, heard_of, emptied_after, emptied_with}
 
 -- after a call at a moment nothing more is lost at it
 pub settled_by : (now : ℕ) (h : Heard) (old new : Node) → new ≡ step (call_at now h) old → core_at now new.core ≡ new.core

@@ -1,16 +1,16 @@
 -- The orders and polls of a desk's rounds, one more at a time.
-use Rattle.std.proofs.Common.{◌≡◌, ◌==◌, ℕ, suc, true≢false, ◌+◌, ◌<◌, Bool, true, false, cond, is_some, List, [], ◌∷◌, ◌++◌, length, map, refl, sym, ap, subst, ◌∙◌, arith, append_assoc, Option, Some, None}
+use Rattle.std.proofs.Common.{◌≡◌, ℕ, suc, true≢false, ◌+◌, ◌<◌, Bool, false, cond, is_some, List, [], ◌∷◌, ◌++◌, length, refl, sym, ap, subst, ◌∙◌, arith, append_assoc, Option, Some, None}
 use Rattle.std.proofs.lemmas.Bool.{ne_eqb, eq-eqb}
 use Rattle.std.proofs.lemmas.List.{map-append}
 use Rattle.sacn_console.specs.declared.command.Command.{Command}
 use Rattle.sacn_console.specs.Lines.{Datagram}
-use Rattle.sacn_console.specs.Core.{Core, at, after_command, after_poll, given as given_by, due}
+use Rattle.sacn_console.specs.Core.{Core, at, after_poll, given as given_by, due}
 use Rattle.sacn_edge.specs.declared.report.ConsoleReport.{ConsoleReport}
 use Rattle.sacn_edge.specs.Told.{Extends}
 use Rattle.sacn_edge.specs.ConsoleSends.{Handed, datagrams, sent_at, handed_of, counted_send, sends_report}
 use Rattle.sacn_edge.proofs.NodeLemmas.{Extends-append}
 use Rattle.sacn_edge.proofs.ConsoleLemmas.{datagrams_more, counted_more}
-use Rattle.sacn_live.specs.declared.limits.TheConstants.{MOST_ORDERS, MOST_POLLS}
+use Rattle.sacn_live.specs.declared.limits.TheConstants.{MOST_POLLS}
 use Rattle.sacn_live.specs.DeskSends.{Round, Talk, Asked, ordered, polled, sends, given, asked_last, refusals, desk_after, desk_sends, desk_refusals, talk, AreQuiet}
 
 -- ---- orders

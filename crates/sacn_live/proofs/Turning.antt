@@ -1,5 +1,5 @@
 -- One turn after another of a gateway.
-use Rattle.std.proofs.Common.{◌≡◌, ℕ, ◌+◌, ◌<◌, ◌≤◌, List, [], ◌∷◌, ◌++◌, length, map, take, sym, ap, subst, ◌∙◌, refl, arith, Option, Some, None}
+use Rattle.std.proofs.Common.{◌≡◌, ℕ, List, [], ◌∷◌, ◌++◌, length, map, sym, ap, subst, ◌∙◌, refl, arith, Option, Some, None}
 use Rattle.sacn_node.specs.Setup.{port_numbers}
 use Rattle.sacn_node.specs.Cores.{Node}
 use Rattle.sacn_edge.specs.declared.shown.PortShown.{PortShown}

@@ -1,5 +1,5 @@
 -- What a desk does over what was asked of it. Lists of rounds and of a round's orders have the latest first.
-use Rattle.std.specs.Prelude.{◌≡◌, ◌==◌, ◌<◌, ◌≤◌, ℕ, zero, suc, ◌+◌, ⊤, is_ok, if◌then◌else◌, List, [], ◌∷◌, ◌++◌, length, Option, None, Some, Result}
+use Rattle.std.specs.Prelude.{◌≡◌, ◌==◌, ◌<◌, ℕ, zero, suc, ◌+◌, ⊤, is_ok, if◌then◌else◌, List, [], ◌∷◌, ◌++◌, length, Option, None, Some, Result}
 use Rattle.sacn_console.specs.declared.command.Command.{Command}
 use Rattle.sacn_console.specs.declared.command.ConsoleFault.{ConsoleFault}
 use Rattle.sacn_console.specs.Core.{Core, at, after_command, after_poll, answer, due}

@@ -1,5 +1,5 @@
 -- What a run of a gateway hears, and where it ends. Lists of turns, hearings and lines have the latest first.
-use Rattle.std.specs.Prelude.{◌≡◌, ℕ, ◌<◌, ◌≤◌, ◌⊎◌, ⊤, Bool, true, List, [], ◌∷◌, ◌++◌, length, take}
+use Rattle.std.specs.Prelude.{◌≡◌, ℕ, ◌<◌, ◌≤◌, ⊤, Bool, true, List, [], ◌∷◌, ◌++◌, length, take}
 use Rattle.sacn_node.specs.Cores.{Node}
 use Rattle.sacn_edge.specs.Told.{Adds}
 use Rattle.sacn_edge.specs.NodeText.{Line, line_text, text_of}

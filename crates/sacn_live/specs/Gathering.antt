@@ -1,5 +1,5 @@
 -- Lines out of pieces.
-use Rattle.std.specs.Prelude.{◌≤◌, ◌<◌, ℕ, List, length, ⊤}
+use Rattle.std.specs.Prelude.{◌≤◌, ℕ, List, length, ⊤}
 use Rattle.sacn_live.specs.declared.lines.Gathered.{Gathered}
 use Rattle.sacn_live.specs.declared.lines.Gathered.TheVariants.{Partly, Ended}
 

@@ -1,5 +1,5 @@
 -- What a gateway hears, and what of it goes to its node. Lists of hearings have the latest first.
-use Rattle.std.specs.Prelude.{◌≡◌, ◌≤◌, ◌-◌, ◌||◌, ◌==◌, length, ℕ, Bool, true, false, not, nat_lt, List, [], ◌∷◌, ◌++◌, take, ⊤, if◌then◌else◌}
+use Rattle.std.specs.Prelude.{◌≤◌, ◌-◌, ◌||◌, ◌==◌, length, ℕ, Bool, true, false, not, nat_lt, List, [], ◌∷◌, ◌++◌, take, ⊤, if◌then◌else◌}
 use Rattle.std.specs.List.{list_any}
 use Rattle.sacn_edge.specs.Heard.{Heard, Silence, Octets, Fault}
 use Rattle.sacn_edge.specs.NodeText.{Turn, same}

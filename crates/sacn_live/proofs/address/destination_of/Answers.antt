@@ -1,6 +1,5 @@
-use Rattle.std.proofs.Common.{◌≡◌, ◌∙◌, inl, inr, sym, subst, List, ℕ}
-use Rattle.std.specs.declared.net.socket_addr.SocketAddrV4.{SocketAddrV4}
-use Rattle.std.specs.Net.Socket.{v4_ip, v4_port}
+use Rattle.std.proofs.Common.{◌∙◌, inl, inr, sym, subst}
+use Rattle.std.specs.Net.Socket.{v4_ip}
 use Rattle.std.specs.Net.Grammar.{IsSocketV4Text}
 use Rattle.sacn_live.proofs.address.destination_of.Goals as goal
 

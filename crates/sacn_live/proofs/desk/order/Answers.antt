@@ -1,4 +1,4 @@
-use Rattle.std.proofs.Common.{rules, arith, ◌≡◌, ℕ, ◌∷◌, ◌++◌, [], List, length, ◌+◌, refl, sym, ap, subst, ◌∙◌, Option, Some, None, is_ok, if◌then◌else◌}
+use Rattle.std.proofs.Common.{rules, arith, ◌≡◌, ◌∷◌, [], List, length, ◌+◌, refl, sym, ap, subst, ◌∙◌, Some, is_ok, if◌then◌else◌}
 use Rattle.sacn_console.specs.Core.{Core, at, answer, after_command}
 use Rattle.sacn_edge.specs.Told.{Extends}
 use Rattle.sacn_edge.proofs.NodeLemmas.{Extends-append}

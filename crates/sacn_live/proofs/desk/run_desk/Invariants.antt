@@ -1,4 +1,4 @@
-use Rattle.std.proofs.Common.{◌≡◌, ◌≤◌, ◌+◌, ◌*◌, ℕ, List, length}
+use Rattle.std.proofs.Common.{◌≡◌, ◌≤◌, ◌+◌, ◌*◌, List, length}
 use Rattle.sacn_edge.specs.Told.{Extends}
 use Rattle.sacn_edge.specs.Heard.{Hands}
 use Rattle.sacn_edge.specs.ConsoleSends.{Handed, datagrams, sends_report}

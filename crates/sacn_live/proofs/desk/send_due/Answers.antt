@@ -1,8 +1,7 @@
-use Rattle.std.proofs.Common.{rules, arith, ◌≡◌, ◌+◌, ◌++◌, [], refl, sym, ap, ◌∙◌, not, true, false}
+use Rattle.std.proofs.Common.{rules, arith, ◌+◌, ◌++◌, [], refl, sym, ap, ◌∙◌, not}
 use Rattle.sacn_edge.specs.ConsoleSends.{Handed, sent_at, handed_of, sends_report}
 use Rattle.sacn_edge.specs.declared.report.ConsoleReport.{ConsoleReport}
 use Rattle.sacn_edge.proofs.ConsoleLemmas.{refused_kept, Hands-append, Hands-nil, append_nil}
-use Rattle.sacn_live.specs.DeskSends.{polled}
 use Rattle.sacn_live.proofs.Rounding.{core_polled, sent_polled, report_polled, quiet_polled}
 use Rattle.sacn_live.proofs.desk.send_due.Goals as goal
 

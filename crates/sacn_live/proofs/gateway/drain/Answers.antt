@@ -1,7 +1,7 @@
-use Rattle.std.proofs.Common.{rules, arith, ◌≡◌, ◌∷◌, [], List, length, ◌+◌, ◌∙◌, refl, sym}
+use Rattle.std.proofs.Common.{arith, ◌∷◌, [], ◌∙◌, refl, sym}
 use Rattle.std.proofs.lemmas.Bool.{and_parts}
 use Rattle.sacn_edge.proofs.NodeLemmas.{Extends-append}
-use Rattle.sacn_live.specs.Hearings.{Hearing, hearing_in, came_of, heard_of, in_order}
+use Rattle.sacn_live.specs.Hearings.{hearing_in, came_of, heard_of, in_order}
 use Rattle.sacn_live.proofs.Draining.{settled_by, node_more, emptied_more, no_more}
 use Rattle.sacn_live.proofs.gateway.drain.Goals as goal
 

@@ -1,14 +1,13 @@
-use Rattle.std.proofs.Common.{nat_lt, rules, arith, ◌≡◌, ◌∷◌, [], List, ℕ, length, map, refl, sym, ap, subst, ◌∙◌}
+use Rattle.std.proofs.Common.{nat_lt, arith, ◌≡◌, ◌∷◌, [], length, map, refl, sym, ap, subst, ◌∙◌}
 use Rattle.std.proofs.lemmas.List.{length-map}
 use Rattle.std.proofs.lemmas.Bool.{and_parts, ltb-true}
 use Rattle.std.proofs.lemmas.Result.{err_from_is_err_and}
 use Rattle.sacn_node.specs.Setup.{port_numbers}
-use Rattle.sacn_node.specs.Cores.{Node}
 use Rattle.sacn_edge.specs.Told.{Extends}
 use Rattle.sacn_edge.specs.Shown.{port_after, AreCurrent}
 use Rattle.sacn_edge.proofs.ShownLemmas.{Adds-nil, current_after, still_current}
 use Rattle.sacn_edge.proofs.NodeLemmas.{rising_distinct, numbers, numbers_unshown, nothing_shown, Remembers, put_back}
-use Rattle.sacn_live.specs.Hearings.{Hearing, in_order, turns_of}
+use Rattle.sacn_live.specs.Hearings.{in_order}
 use Rattle.sacn_live.specs.GatewayText.{gateway_lines}
 use Rattle.sacn_live.proofs.Draining.{ports_kept}
 use Rattle.sacn_live.proofs.Turning.{run_ends, Extends-none, heard_more, gate_more, emptied_later, more_text, more_remembered, more_numbers, stops_in}

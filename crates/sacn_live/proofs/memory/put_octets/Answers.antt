@@ -1,4 +1,4 @@
-use Rattle.std.proofs.Common.{rules, ◌∙◌, ap, refl}
+use Rattle.std.proofs.Common.{refl}
 use Rattle.sacn_edge.proofs.MemoryLemmas.{brought}
 use Rattle.sacn_live.proofs.memory.put_octets.Goals as goal
 
