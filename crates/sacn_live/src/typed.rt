@@ -1,23 +1,17 @@
 //! Orders that are typed or piped on standard input, and those of a script.
-ghost use Rattle.std.specs.Prelude.{◌≤◌};
-ghost use Rattle.sacn_live.specs.declared.typed.TheConstants.{PIECE_OCTETS};
-
 use crate::clock::RigClock;
-use crate::lines::{Gathered, LineBuffer};
+use crate::input::{Input, TypedInput};
 use crate::orders::Orders;
-use crate::sys::{NO_DESCRIPTOR, STDIN, read_input, wait_readable};
-use sacn_console::{Command, ConsoleCore, ConsoleFault, Line, State, TextFault, command_of};
+use crate::said::{Said, line_said};
+use crate::status::{have_stopped, write_status};
+use crate::sys::{NO_DESCRIPTOR, STDIN, wait_readable};
+use sacn_console::{Command, ConsoleCore, ConsoleFault, State};
 use sacn_edge::{Clock, ConsoleReport};
-use sacn_files::words::words;
 use std::alloc::{AllocError, Global};
-use std::io::{self, Write};
+use std::io::Write;
 use std::rt::Clock as MachineClock;
 
-const PIECE_OCTETS: usize = 4096;
-
-/// The most pieces that are read for one line, and the most lines that are looked at for one order.
-const MOST_PIECES: usize = 1024;
-
+/// The most lines that are looked at for one order.
 const MOST_LINES: usize = 1024;
 
 /// How long standard input that is at its end from the start counts as none, where there is a script.
@@ -65,13 +59,8 @@ pub struct DeskOrders<'a, R, O> {
     has_script: bool,
     ends_with_script: bool,
     source: Source,
-    piece: [u8; PIECE_OCTETS],
-    begin: usize,
-    len: usize,
-    line: LineBuffer,
+    input: TypedInput,
     number: usize,
-    is_open: bool,
-    was_read: bool,
     asks_status: bool,
     closing: Closing,
     // The universes that ran when the end was asked for.
@@ -79,105 +68,6 @@ pub struct DeskOrders<'a, R, O> {
     has_ended: bool,
     write_failed: bool,
     is_absent: bool,
-}
-
-/// What a line of standard input says.
-enum Said {
-    Nothing,
-    Order(Command),
-    Status,
-    Help,
-    Quit,
-    Fault(&'static str),
-}
-
-/// What standard input has.
-#[derive(Clone, Copy)]
-enum Input {
-    /// No line is there yet.
-    Nothing,
-    Line,
-    End,
-}
-
-fn fault_name(fault: TextFault) -> &'static str {
-    match fault {
-        TextFault::OutOfMemory => "OutOfMemory",
-        TextFault::UnknownWord(_) => "UnknownWord",
-        TextFault::WordCount(_) => "WordCount",
-        TextFault::Number(_) => "Number",
-        TextFault::Hex(_) => "Hex",
-    }
-}
-
-/// The meaning of a line's words, of which there is one at least.
-fn said_by(words: &[&str], number: usize) -> Said {
-    if let [word] = words {
-        if *word == "status" {
-            return Said::Status;
-        }
-        if *word == "help" {
-            return Said::Help;
-        }
-        if *word == "quit" {
-            return Said::Quit;
-        }
-    }
-    match command_of(words, number) {
-        Ok(command) => Said::Order(command),
-        Err(fault) => Said::Fault(fault_name(fault)),
-    }
-}
-
-/// The meaning of a line. One without words, or whose first begins with `#`, says nothing.
-fn line_said(alloc: Global, line: Option<&[u8]>, number: usize) -> Said {
-    let Some(octets) = line else {
-        return Said::Fault("TooLong");
-    };
-    let Ok(text) = std::str::from_utf8(octets) else {
-        return Said::Fault("NotText");
-    };
-    let Ok(words) = words(alloc, text) else {
-        return Said::Fault("OutOfMemory");
-    };
-    match words.as_slice().first() {
-        None => Said::Nothing,
-        Some(word) => {
-            if word.starts_with('#') {
-                Said::Nothing
-            } else {
-                said_by(words.as_slice(), number)
-            }
-        }
-    }
-}
-
-/// Whether all universes have stopped.
-fn have_stopped(lines: &[Line]) -> bool {
-    lines
-        .iter()
-        .all(|line| matches!(line.state, State::Stopped))
-}
-
-fn state_name(state: &State) -> &'static str {
-    match state {
-        State::Running(_) => "running",
-        State::Ending(_) => "ending",
-        State::Stopped => "stopped",
-    }
-}
-
-/// Gathers a part of a piece.
-fn gather_part(
-    line: &mut LineBuffer,
-    piece: &[u8; PIECE_OCTETS],
-    begin: usize,
-    end: usize,
-) -> Result<Gathered, AllocError>
-    requires order { begin ≤ end }
-    requires end { end ≤ PIECE_OCTETS }
-{
-    line.gather(&piece[begin..end])
 }
 
 impl<'a, R: MachineClock, O: Write> DeskOrders<'a, R, O> {
@@ -198,13 +88,8 @@ impl<'a, R: MachineClock, O: Write> DeskOrders<'a, R, O> {
             ends_with_script: plan.script.is_some() && !plan.stays,
             has_script: plan.script.is_some(),
             source: Source::Script,
-            piece: [0; PIECE_OCTETS],
-            begin: 0,
-            len: 0,
-            line: LineBuffer::new(alloc),
+            input: TypedInput::new(alloc),
             number: 0,
-            is_open: true,
-            was_read: false,
             asks_status: false,
             closing: Closing::Open,
             ending: Vec::with_capacity(alloc, plan.universes.len())?,
@@ -240,23 +125,8 @@ impl<'a, R: MachineClock, O: Write> DeskOrders<'a, R, O> {
         }
     }
 
-    fn write_status(&mut self, core: &ConsoleCore, report: &ConsoleReport) -> io::Result<()> {
-        write!(self.out, "cue ")?;
-        match core.cue() {
-            Some(cue) => write!(self.out, "{cue}")?,
-            None => write!(self.out, "none")?,
-        }
-        write!(self.out, " master {}", core.grand_master())?;
-        write!(self.out, " sent {} failed {}", report.sent, report.failed)?;
-        for line in core.lines() {
-            write!(self.out, " {} {}", line.universe, state_name(&line.state))?;
-        }
-        self.out.write_all(b"\n")?;
-        self.out.flush()
-    }
-
     fn say_status(&mut self, core: &ConsoleCore, report: &ConsoleReport) {
-        if self.write_status(core, report).is_err() {
+        if write_status(self.out, core, report).is_err() {
             self.write_failed = true;
             self.close();
         }
@@ -276,71 +146,11 @@ impl<'a, R: MachineClock, O: Write> DeskOrders<'a, R, O> {
         }
     }
 
-    /// Reads a piece of standard input where one is there.
-    fn read_piece(&mut self) -> bool {
-        if !self.is_open || !wait_readable(STDIN, NO_DESCRIPTOR, 0).first {
-            return false;
-        }
-        self.begin = 0;
-        self.len = 0;
-        match read_input(&mut self.piece) {
-            Some(0) => self.is_open = false,
-            None => self.is_open = false,
-            Some(count) => {
-                self.len = count;
-                self.was_read = true;
-            }
-        }
-        true
-    }
-
-    /// Gathers the octets that are there, up to the end of a line.
-    fn gather(&mut self) -> bool {
-        if self.begin >= self.len || self.len > PIECE_OCTETS {
-            return false;
-        }
-        match gather_part(&mut self.line, &self.piece, self.begin, self.len) {
-            Ok(Gathered::Ended(count)) => {
-                self.begin = self.begin.saturating_add(count);
-                true
-            }
-            Ok(Gathered::Partly) => {
-                self.begin = self.len;
-                false
-            }
-            Err(_) => {
-                self.begin = self.len;
-                self.say_fault("OutOfMemory");
-                self.close();
-                false
-            }
-        }
-    }
-
-    fn next_input(&mut self) -> Input {
-        for _ in 0..MOST_PIECES {
-            if self.gather() {
-                return Input::Line;
-            }
-            if !self.is_open {
-                return if self.line.is_empty() {
-                    Input::End
-                } else {
-                    Input::Line
-                };
-            }
-            if !self.read_piece() {
-                return Input::Nothing;
-            }
-        }
-        Input::Nothing
-    }
-
     /// The order of the line that is there; None where it is something else, which is then done.
     fn take_line(&mut self) -> Option<Command> {
         self.number = self.number.saturating_add(1);
-        let said = line_said(self.alloc, self.line.line(), self.number);
-        self.line.clear();
+        let said = line_said(self.alloc, self.input.line.line(), self.number);
+        self.input.line.clear();
         match said {
             Said::Order(command) => {
                 self.source = Source::Typed;
@@ -368,7 +178,7 @@ impl<'a, R: MachineClock, O: Write> DeskOrders<'a, R, O> {
 
     /// The end of standard input ends the desk, unless there was none from the start and a script is there.
     fn end_input(&mut self, now: u64) {
-        if self.has_script && !self.was_read && now < NO_INPUT {
+        if self.has_script && !self.input.was_read && now < NO_INPUT {
             self.is_absent = true;
         }
         if !self.is_absent {
@@ -381,12 +191,17 @@ impl<'a, R: MachineClock, O: Write> DeskOrders<'a, R, O> {
             if self.asks_status || self.is_closing() {
                 return None;
             }
-            match self.next_input() {
+            match self.input.next() {
                 Input::Nothing => return None,
                 Input::Line => match self.take_line() {
                     Some(command) => return Some(command),
                     None => {}
                 },
+                Input::OutOfMemory => {
+                    self.say_fault("OutOfMemory");
+                    self.close();
+                    return None;
+                }
                 Input::End => {
                     self.end_input(now);
                     return None;
@@ -441,7 +256,7 @@ impl<'a, R: MachineClock, O: Write> DeskOrders<'a, R, O> {
     /// Whether something is to be done without waiting.
     fn is_pressed(&self) -> bool {
         match self.closing {
-            Closing::Open => self.begin < self.len,
+            Closing::Open => self.input.has_more(),
             Closing::Asked => true,
             Closing::Telling(next) => next < self.ending.len(),
         }
@@ -472,7 +287,7 @@ impl<'a, R: MachineClock, O: Write> Orders for DeskOrders<'a, R, O> {
         }
         let until = self.next_moment(until);
         let millis = self.clock.left(until);
-        let input = if self.is_open && !self.is_closing() {
+        let input = if self.input.is_open && !self.is_closing() {
             STDIN
         } else {
             NO_DESCRIPTOR

@@ -1,0 +1,125 @@
+//! Lines of standard input.
+ghost use Rattle.std.specs.Prelude.{◌≤◌};
+ghost use Rattle.sacn_live.specs.declared.input.TheConstants.{PIECE_OCTETS};
+
+use crate::lines::{Gathered, LineBuffer};
+use crate::sys::{NO_DESCRIPTOR, STDIN, read_input, wait_readable};
+use std::alloc::{AllocError, Global};
+
+const PIECE_OCTETS: usize = 4096;
+
+/// The most pieces that are read for one line.
+const MOST_PIECES: usize = 1024;
+
+/// What standard input has.
+#[derive(Clone, Copy)]
+pub(crate) enum Input {
+    /// No line is there yet.
+    Nothing,
+    Line,
+    End,
+    /// No memory is left for a line.
+    OutOfMemory,
+}
+
+/// Standard input, read in pieces without waiting, and the line that is gathered from it.
+#[derive(Drop)]
+pub(crate) struct TypedInput {
+    piece: [u8; PIECE_OCTETS],
+    begin: usize,
+    len: usize,
+    pub(crate) line: LineBuffer,
+    /// It hasn't ended.
+    pub(crate) is_open: bool,
+    /// At least one octet was read.
+    pub(crate) was_read: bool,
+}
+
+/// Gathers a part of a piece.
+fn gather_part(
+    line: &mut LineBuffer,
+    piece: &[u8; PIECE_OCTETS],
+    begin: usize,
+    end: usize,
+) -> Result<Gathered, AllocError>
+    requires order { begin ≤ end }
+    requires end { end ≤ PIECE_OCTETS }
+{
+    line.gather(&piece[begin..end])
+}
+
+impl TypedInput {
+    /// Standard input of which nothing was read.
+    pub(crate) fn new(alloc: Global) -> TypedInput {
+        TypedInput {
+            piece: [0; PIECE_OCTETS],
+            begin: 0,
+            len: 0,
+            line: LineBuffer::new(alloc),
+            is_open: true,
+            was_read: false,
+        }
+    }
+
+    /// Whether octets were read that no line has yet.
+    pub(crate) fn has_more(&self) -> bool {
+        self.begin < self.len
+    }
+
+    /// Reads a piece where one is there.
+    fn read_piece(&mut self) -> bool {
+        if !self.is_open || !wait_readable(STDIN, NO_DESCRIPTOR, 0).first {
+            return false;
+        }
+        self.begin = 0;
+        self.len = 0;
+        match read_input(&mut self.piece) {
+            Some(0) => self.is_open = false,
+            None => self.is_open = false,
+            Some(count) => {
+                self.len = count;
+                self.was_read = true;
+            }
+        }
+        true
+    }
+
+    /// Gathers the octets that are there, up to the end of a line.
+    fn gather(&mut self) -> Result<bool, AllocError> {
+        if self.begin >= self.len || self.len > PIECE_OCTETS {
+            return Ok(false);
+        }
+        let begin = self.begin;
+        self.begin = self.len;
+        match gather_part(&mut self.line, &self.piece, begin, self.len) {
+            Ok(Gathered::Ended(count)) => {
+                self.begin = begin.saturating_add(count);
+                Ok(true)
+            }
+            Ok(Gathered::Partly) => Ok(false),
+            Err(error) => Err(error),
+        }
+    }
+
+    /// Reads what is there, up to the end of a line. A line that the end of the input ends is one too.
+    pub(crate) fn next(&mut self) -> Input {
+        for _ in 0..MOST_PIECES {
+            match self.gather() {
+                Ok(true) => return Input::Line,
+                Ok(false) => {}
+                Err(_) => return Input::OutOfMemory,
+            }
+            if !self.is_open {
+                return if self.line.is_empty() {
+                    Input::End
+                } else {
+                    Input::Line
+                };
+            }
+            if !self.read_piece() {
+                return Input::Nothing;
+            }
+        }
+        Input::Nothing
+    }
+}
