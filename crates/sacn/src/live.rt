@@ -130,19 +130,24 @@ pub fn gateway<R: AllocGlobal + Files + Net + Clock, O: Write, E: Write>(
     err: &mut E,
 ) -> Result<(), Ending> {
     guard_standard_descriptors();
-    let setup = match setup_of_file(rt, asked.setup) {
-        Ok(setup) => setup,
-        Err(ending) => return Err(said_of_file(asked.setup, ending, err)),
-    };
-    let universes = universes_of_setup(rt, &setup)?;
+    match setup_of_file(rt, asked.setup) {
+        Ok(setup) => show_setup(rt, asked, &setup, out, err),
+        Err(ending) => Err(said_of_file(asked.setup, ending, err)),
+    }
+}
+
+// Runs a gateway of a setup. (The check of a function takes much longer the more values it has to drop on its ways out.)
+fn show_setup<R: AllocGlobal + Net + Clock, O: Write, E: Write>(
+    rt: &R,
+    asked: &GatewayAsked<'_>,
+    setup: &NodeSetup,
+    out: &mut O,
+    err: &mut E,
+) -> Result<(), Ending> {
+    let mut receiver = receiver_of(rt, asked, setup, err)?;
     let widgets = widgets_of(rt, asked.widgets.as_slice())?;
-    let mut core = NodeCore::new(rt.alloc(), &setup)?;
-    let address = SocketAddrV4::new(asked.listen, setup.udp_port());
-    let mut receiver = match UdpReceiver::bind(rt, address, clock_of(rt)?) {
-        Ok(receiver) => receiver,
-        Err(kind) => return Err(said_of_socket(address, kind, err)),
-    };
-    say_gateway(address, receiver.room(), universes.as_slice(), err);
+    let mut watch = Watch::new(&mut *err, widgets);
+    let mut core = NodeCore::new(rt.alloc(), setup)?;
     let span = Span {
         turns: u64::MAX,
         until: match asked.seconds {
@@ -150,7 +155,6 @@ pub fn gateway<R: AllocGlobal + Files + Net + Clock, O: Write, E: Write>(
             None => u64::MAX,
         },
     };
-    let mut watch = Watch::new(&mut *err, widgets);
     let mut lines = WriterOut::new(&mut *out);
     run_gateway(
         &mut receiver,
@@ -164,6 +168,24 @@ pub fn gateway<R: AllocGlobal + Files + Net + Clock, O: Write, E: Write>(
         return Err(Ending::DeviceWrite);
     }
     Ok(())
+}
+
+// The socket at which a setup is heard; what it hears is said.
+fn receiver_of<'a, R: AllocGlobal + Net + Clock, E: Write>(
+    rt: &'a R,
+    asked: &GatewayAsked<'_>,
+    setup: &NodeSetup,
+    err: &mut E,
+) -> Result<UdpReceiver<'a, R>, Ending> {
+    let universes = universes_of_setup(rt, setup)?;
+    let address = SocketAddrV4::new(asked.listen, setup.udp_port());
+    match UdpReceiver::bind(rt, address, clock_of(rt)?) {
+        Ok(receiver) => {
+            say_gateway(address, receiver.room(), universes.as_slice(), err);
+            Ok(receiver)
+        }
+        Err(kind) => Err(said_of_socket(address, kind, err)),
+    }
 }
 
 // Where a desk sends.
@@ -200,21 +222,59 @@ pub fn desk<R: AllocGlobal + Files + Net + Clock, O: Write, E: Write>(
     err: &mut E,
 ) -> Result<(), Ending> {
     guard_standard_descriptors();
-    let show = match show_of_file(rt, asked.show) {
-        Ok(show) => show,
-        Err(ending) => return Err(said_of_file(asked.show, ending, err)),
-    };
-    let script = match asked.script {
-        Some(path) => match script_of_file(rt, path) {
-            Ok(script) => Some(script),
-            Err(ending) => return Err(said_of_file(path, ending, err)),
+    match show_of_file(rt, asked.show) {
+        Ok(show) => match asked.script {
+            Some(path) => perform_script(rt, asked, &show, path, out, err),
+            None => perform(rt, asked, &show, None, out, err),
         },
-        None => None,
+        Err(ending) => Err(said_of_file(asked.show, ending, err)),
+    }
+}
+
+fn perform_script<R: AllocGlobal + Files + Net + Clock, O: Write, E: Write>(
+    rt: &R,
+    asked: &DeskAsked<'_>,
+    show: &Show,
+    path: &str,
+    out: &mut O,
+    err: &mut E,
+) -> Result<(), Ending> {
+    match script_of_file(rt, path) {
+        Ok(script) => perform(rt, asked, show, Some(script.as_slice()), out, err),
+        Err(ending) => Err(said_of_file(path, ending, err)),
+    }
+}
+
+fn perform<R: AllocGlobal + Net + Clock, O: Write, E: Write>(
+    rt: &R,
+    asked: &DeskAsked<'_>,
+    show: &Show,
+    script: Option<&[(u64, Command)]>,
+    out: &mut O,
+    err: &mut E,
+) -> Result<(), Ending> {
+    let plan = Plan {
+        universes: show.universes(),
+        script,
+        stays: asked.stays,
     };
-    let mut core = ConsoleCore::new(rt.alloc(), &show, asked.first)?;
-    let mut clock = clock_of(rt)?;
-    let destinations = destinations_of(rt, asked, &show)?;
-    let from = SocketAddrV4::new(asked.bind, 0);
+    let destinations = destinations_of(rt, asked, show)?;
+    let mut core = ConsoleCore::new(rt.alloc(), show, asked.first)?;
+    let report = send_show(rt, asked, plan, destinations, &mut core, out, err)?;
+    closing_line(&report, out)
+}
+
+// Sends from a socket of its own.
+fn send_show<R: AllocGlobal + Net + Clock, O: Write, E: Write>(
+    rt: &R,
+    asked: &DeskAsked<'_>,
+    plan: Plan<'_>,
+    destinations: Destinations,
+    core: &mut ConsoleCore,
+    out: &mut O,
+    err: &mut E,
+) -> Result<ConsoleReport, Ending> {
+    let clock = clock_of(rt)?;
     let mut link = match UdpSender::bind(
         rt,
         asked.bind,
@@ -224,38 +284,22 @@ pub fn desk<R: AllocGlobal + Files + Net + Clock, O: Write, E: Write>(
         &mut *err,
     ) {
         Ok(link) => link,
-        Err(kind) => return Err(said_of_socket(from, kind, err)),
+        Err(kind) => return Err(said_of_socket(SocketAddrV4::new(asked.bind, 0), kind, err)),
     };
-    let plan = Plan {
-        universes: show.universes(),
-        script: script.as_ref().map(|script| script.as_slice()),
-        stays: asked.stays,
-    };
-    let twin = clock.twin();
-    let report = run_orders(
-        rt.alloc(),
-        plan,
-        twin,
-        &mut link,
-        &mut clock,
-        &mut core,
-        out,
-    )?;
-    closing_line(&report, out)
+    run_orders(rt.alloc(), plan, clock, &mut link, core, out)
 }
 
 // Runs a desk by this plan and standard input.
-fn run_orders<R: Clock, L: Link, C: sacn_edge::Clock, O: Write>(
+fn run_orders<R: Clock, L: Link, O: Write>(
     alloc: Global,
     plan: Plan<'_>,
-    twin: RigClock<'_, R>,
+    mut clock: RigClock<'_, R>,
     link: &mut L,
-    clock: &mut C,
     core: &mut ConsoleCore,
     out: &mut O,
 ) -> Result<ConsoleReport, Ending> {
-    let mut orders = DeskOrders::new(alloc, plan, twin, out)?;
-    let report = run_desk(link, clock, &mut orders, core, MOST_ROUNDS);
+    let mut orders = DeskOrders::new(alloc, plan, clock.twin(), out)?;
+    let report = run_desk(link, &mut clock, &mut orders, core, MOST_ROUNDS);
     if orders.write_failed() {
         return Err(Ending::DeviceWrite);
     }
