@@ -52,4 +52,6 @@ each_refused "sacn" 3 "refused OutOfMemory" "$examples/desk.hex" "$sacn"
 each_refused "sacn decode" 3 "refused OutOfMemory" /dev/null "$sacn" decode "$examples/levels.sacn" "$examples/universes.sacn"
 each_refused "sacn sim" 3 "refused OutOfMemory" /dev/null "$sacn" sim "$examples/world.toml" "$examples/schedule.txt"
 each_refused "sacn console" 3 "refused OutOfMemory" /dev/null "$sacn" console "$examples/show.toml" "$examples/script.txt" --turns 1
-each_refused "sacn node" 3 "refused OutOfMemory" /dev/null "$sacn" node "$examples/node.toml" --turns 1
+# (on a port of its own, since another receiver may have the usual one)
+{ echo "udp_port = 26968"; cat "$examples/node.toml"; } >"$room/node.toml"
+each_refused "sacn node" 3 "refused OutOfMemory" /dev/null "$sacn" node "$room/node.toml" --turns 1
