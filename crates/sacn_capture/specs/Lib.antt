@@ -1,0 +1,5 @@
+pub mod Check
+pub mod Octets
+pub mod Clocks
+pub mod Links
+pub mod Frames
