@@ -1,6 +1,6 @@
 //! Moments: ticks of a clock to milliseconds.
 
-ghost use Rattle.std.specs.Prelude.{◌≡◌, ◌<◌};
+ghost use Rattle.std.specs.Prelude.{◌≡◌, ◌<◌, ◌^◌, IfOk, IfSome, SomeIff};
 ghost use Rattle.sacn_capture.specs.Clocks.{milliseconds, reading_units};
 
 use crate::faults::FaultKind;
@@ -28,15 +28,25 @@ pub fn milliseconds_of(ticks: u64, units: u64) -> u64
 ///
 /// Errors: Resolution where that is 2^64 or more.
 pub fn units_in(resolution: u8) -> Result<u64, FaultKind>
-    ensures { result ≡ reading_units resolution }
+    ensures units { result ≡ reading_units resolution }
+    ensures some { IfOk result (λ units. 0 < units) }
 {
     let units = if resolution < BINARY {
-        10u64.checked_pow(u32::from(resolution))
+        power(10, u32::from(resolution))
     } else {
-        2u64.checked_pow(u32::from(resolution - BINARY))
+        power(2, u32::from(resolution - BINARY))
     };
     match units {
         Some(units) => Ok(units),
         None => Err(FaultKind::Resolution),
     }
+}
+
+// A power below 2^64.
+fn power(base: u64, exponent: u32) -> Option<u64>
+    requires { 0 < base }
+    ensures value { SomeIff result (base ^ exponent < 2 ^ 64) (base ^ exponent) }
+    ensures some { IfSome result (λ p. 0 < p) }
+{
+    base.checked_pow(exponent)
 }

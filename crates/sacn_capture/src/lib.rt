@@ -6,11 +6,20 @@
 mod clock;
 mod faults;
 mod frame;
+mod interface;
 mod links;
 mod octets;
+mod pcap;
+mod pcapng;
 
 pub use clock::{milliseconds_of, units_in};
 pub use faults::{CaptureFault, FaultKind};
 pub use frame::{Datagram, datagram_in};
+pub use interface::Described;
 pub use links::{LinkType, Passed, link_type, packet_place};
 pub use octets::ByteOrder;
+pub use pcap::{Fraction, PcapHeader, RecordHead, Stamp, pcap_header, pcap_record_head};
+pub use pcapng::{
+    BlockHead, BlockKind, EnhancedHead, Section, enhanced_in, interface_in, is_section,
+    pcapng_block_head, section_in, simple_in,
+};
