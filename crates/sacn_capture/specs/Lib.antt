@@ -2,6 +2,8 @@ pub mod Check
 pub mod Octets
 pub mod Clocks
 pub mod Links
+pub mod Inputs
+pub mod Counting
 pub mod Pcap
 pub mod Pcapng
 pub mod Frames

@@ -4,15 +4,19 @@
 #![tactic(auto)]
 
 mod clock;
+mod counts;
 mod faults;
 mod frame;
+mod input;
 mod interface;
 mod links;
 mod octets;
 mod pcap;
 mod pcapng;
+mod stream;
 
 pub use clock::{milliseconds_of, units_in};
+pub use counts::Counts;
 pub use faults::{CaptureFault, FaultKind};
 pub use frame::{Datagram, datagram_in};
 pub use interface::Described;
@@ -23,3 +27,4 @@ pub use pcapng::{
     BlockHead, BlockKind, EnhancedHead, Section, enhanced_in, interface_in, is_section,
     pcapng_block_head, section_in, simple_in,
 };
+pub use stream::{Capture, Record};

@@ -36,6 +36,10 @@ pub enum Passed {
     Fragment,
     /// The frame ends before what its lengths say, or they say too little.
     Cut,
+    /// The link's frames aren't read here. Of a recording alone, and never of `datagram_in`.
+    OtherLink,
+    /// The frame is longer than 65,535 octets. Of a recording alone, and never of `datagram_in`.
+    TooLong,
 }
 
 /// What a link's header names.

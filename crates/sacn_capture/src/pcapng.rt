@@ -106,7 +106,8 @@ pub fn is_section(octets: &[u8]) -> bool
 ///
 /// Errors, the first that holds: CutShort (fewer than 8 octets), Length (below 12, or not in fours).
 pub fn pcapng_block_head(order: ByteOrder, octets: &[u8]) -> Result<BlockHead, FaultKind>
-    ensures { result ≡ reading_block order octets.now }
+    ensures head { result ≡ reading_block order octets.now }
+    ensures least { IfOk result (λ head. 12 ≤ head.length) }
 {
     if octets.len() < BLOCK_HEAD {
         return Err(FaultKind::CutShort);
@@ -129,7 +130,8 @@ pub fn pcapng_block_head(order: ByteOrder, octets: &[u8]) -> Result<BlockHead, F
 /// Errors, the first that holds: NotACapture (no section header), CutShort (fewer than 16 octets), NotACapture (no
 /// byte order), Version, Length (below 28, or not in fours).
 pub fn section_in(octets: &[u8]) -> Result<Section, FaultKind>
-    ensures { result ≡ reading_section octets.now }
+    ensures section { result ≡ reading_section octets.now }
+    ensures least { IfOk result (λ section. 28 ≤ section.length) }
 {
     if octets.len() < 4 {
         return Err(FaultKind::NotACapture);
@@ -149,7 +151,8 @@ pub fn section_in(octets: &[u8]) -> Result<Section, FaultKind>
 // What is left to check once the order is known.
 fn checked_section(order: ByteOrder, octets: &[u8]) -> Result<Section, FaultKind>
     requires { 16 ≤ length octets.now }
-    ensures { result ≡ section_at order octets.now }
+    ensures section { result ≡ section_at order octets.now }
+    ensures least { IfOk result (λ section. 28 ≤ section.length) }
 {
     if order.u16_at(octets, 12) != MAJOR {
         return Err(FaultKind::Version);
@@ -188,7 +191,8 @@ pub fn interface_in(order: ByteOrder, body: &[u8]) -> Result<Described, FaultKin
 /// Errors, the first that holds: Length (a block too short for the head), CutShort (fewer than 20 octets), Length (a
 /// frame that the block can't hold).
 pub fn enhanced_in(order: ByteOrder, length: u32, octets: &[u8]) -> Result<EnhancedHead, FaultKind>
-    ensures { result ≡ reading_enhanced order length octets.now }
+    ensures head { result ≡ reading_enhanced order length octets.now }
+    ensures fits { IfOk result (λ head. head.captured + 32 ≤ length) }
 {
     if length < 32 {
         return Err(FaultKind::Length);
@@ -220,7 +224,8 @@ pub fn simple_in(
     longest: u32,
     octets: &[u8],
 ) -> Result<u32, FaultKind>
-    ensures { result ≡ reading_simple order length longest octets.now }
+    ensures captured { result ≡ reading_simple order length longest octets.now }
+    ensures fits { IfOk result (λ captured. captured + 16 ≤ length) }
 {
     if length < 16 {
         return Err(FaultKind::Length);
