@@ -3,6 +3,7 @@ pub mod Octets
 pub mod Clocks
 pub mod Links
 pub mod Inputs
+pub mod Streams
 pub mod Counting
 pub mod Pcap
 pub mod Pcapng

@@ -1,6 +1,10 @@
 //! A recording as a stream of frames.
 
-ghost use Rattle.std.specs.Prelude.{◌≤◌, length};
+ghost use Rattle.std.specs.Prelude.{◌≡◌, ◌≤◌, length, IfErr, IfOk, IfSome, Err, None};
+ghost use Rattle.sacn_capture.specs.Check.{map_ok};
+ghost use Rattle.sacn_capture.specs.Counting.{none_counted};
+ghost use Rattle.sacn_capture.specs.Frames.{sent_of};
+ghost use Rattle.sacn_capture.specs.Streams.{content_in, counts_of, place_of_reading, stopped_by};
 
 use crate::clock::milliseconds_of;
 use crate::counts::Counts;
@@ -66,14 +70,19 @@ impl<R: BufRead + Drop> Capture<R> {
     /// A recording, whose first header is read.
     ///
     /// Errors, at octet 0: OutOfMemory, Device, and those of `pcap_header` and `section_in`.
-    pub fn open(alloc: Global, reader: R) -> Result<Self, CaptureFault> {
+    pub fn open(alloc: Global, reader: R) -> Result<Self, CaptureFault>
+        ensures begun { IfOk result (λ capture. (counts_of capture ≡ none_counted) × (stopped_by capture ≡ None)) }
+        ensures place { IfErr result (λ fault. fault.at ≡ 0) }
+    {
         match Capture::begun(alloc, reader) {
             Ok(capture) => Ok(capture),
             Err(kind) => Err(CaptureFault { at: 0, kind }),
         }
     }
 
-    fn begun(alloc: Global, reader: R) -> Result<Self, FaultKind> {
+    fn begun(alloc: Global, reader: R) -> Result<Self, FaultKind>
+        ensures { IfOk result (λ capture. (counts_of capture ≡ none_counted) × (stopped_by capture ≡ None)) }
+    {
         let Ok(buffer) = vec![in alloc; 0; LONGEST_KEPT] else {
             return Err(FaultKind::OutOfMemory);
         };
@@ -100,7 +109,9 @@ impl<R: BufRead> Capture<R> {
     ///
     /// Errors: what is wrong with the file, and where the header, the block or the record begins that is. What was
     /// read before stays valid; each later call gives the same fault.
-    pub fn next(&mut self) -> Result<Option<Record<'_>>, CaptureFault> {
+    pub fn next(&mut self) -> Result<Option<Record<'_>>, CaptureFault>
+        ensures stopped { IfSome (stopped_by self.old) (λ fault. result ≡ Err fault) }
+    {
         if let Some(fault) = self.stopped {
             return Err(fault);
         }
@@ -112,12 +123,16 @@ impl<R: BufRead> Capture<R> {
     }
 
     /// What the frames so far were.
-    pub fn counts(&self) -> Counts {
+    pub fn counts(&self) -> Counts
+        ensures { result ≡ counts_of self.now }
+    {
         self.counts
     }
 
     /// How many octets of the file were read.
-    pub fn offset(&self) -> u64 {
+    pub fn offset(&self) -> u64
+        ensures { result ≡ place_of_reading self.now }
+    {
         self.input.at
     }
 
@@ -328,7 +343,9 @@ fn end_of_block<R: BufRead>(
 }
 
 // What stands in a frame, which is at the buffer's front where it was kept.
-fn content_of(frame: Frame, buffer: &[u8]) -> Result<Datagram<'_>, Passed> {
+fn content_of(frame: Frame, buffer: &[u8]) -> Result<Datagram<'_>, Passed>
+    ensures { map_ok sent_of result ≡ content_in frame buffer.now }
+{
     match frame {
         Frame::Kept(link, len) => {
             if len > buffer.len() {
