@@ -1,3 +1,4 @@
 pub mod Powers
 pub mod Options
 pub mod LeftOut
+pub mod Fronts

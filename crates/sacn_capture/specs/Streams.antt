@@ -1,9 +1,11 @@
 -- What a recording that is read shows of itself.
-use Rattle.std.specs.Prelude.{ℕ, List, length, take, nat_le, Option, Result, Ok, Err, if◌then◌else◌}
+use Rattle.std.specs.Prelude.{◌≡◌, ℕ, ◌<◌, ◌⊎◌, List, length, take, nat_le, Option, None, Some, Result, Ok, Err, if◌then◌else◌}
+use Rattle.std.specs.Io.KnownBytes.{Consumes}
 use Rattle.sacn_capture.specs.declared.counts.Counts.{Counts}
 use Rattle.sacn_capture.specs.declared.faults.CaptureFault.{CaptureFault}
 use Rattle.sacn_capture.specs.declared.links.Passed.{Passed}
-use Rattle.sacn_capture.specs.declared.links.Passed.TheVariants.{TooLong}
+use Rattle.sacn_capture.specs.declared.links.Passed.TheVariants.{OtherLink, TooLong}
+use Rattle.sacn_capture.specs.declared.links.LinkType.{LinkType}
 use Rattle.sacn_capture.specs.declared.stream.Capture.{Capture}
 use Rattle.sacn_capture.specs.declared.stream.Frame.{Frame}
 use Rattle.sacn_capture.specs.declared.stream.Frame.TheVariants.{Kept, LeftOut}
@@ -25,3 +27,12 @@ place_of_reading capture = capture.input.at
 -- the fault that ended the reading
 abbrev pub stopped_by : {R : Type 0} → Capture R → Option CaptureFault
 stopped_by capture = capture.stopped
+
+-- where a frame's octets are: at the buffer's front, or nowhere, where its link isn't read or the buffer has no room
+abbrev pub Holds : Option LinkType → Frame → List ℕ → List ℕ → Type 0
+Holds link (Kept kind len) octets buffer = (link ≡ Some kind) × (len ≡ length octets) × (take len buffer ≡ octets)
+Holds link (LeftOut passed) octets buffer = ((link ≡ None) × (passed ≡ OtherLink)) ⊎ ((length buffer < length octets) × (passed ≡ TooLong))
+
+-- the reader gave so many octets, which are a frame's
+abbrev pub TakesFrame : Option LinkType → ℕ → Frame → Option (List ℕ) → Option (List ℕ) → List ℕ → Type 0
+TakesFrame link count frame old new buffer = (octets : List ℕ) × Consumes old new octets × (length octets ≡ count) × Holds link frame octets buffer

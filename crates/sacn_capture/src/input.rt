@@ -1,7 +1,7 @@
 //! A file as octets: read in full or skipped, with the place in it.
 
-ghost use Rattle.std.specs.Prelude.{◌≡◌, ◌+◌, ◌-◌, ◌^◌, ◌≤◌, length, min, OnOk};
-ghost use Rattle.std.specs.Io.KnownBytes.{Consumes};
+ghost use Rattle.std.specs.Prelude.{◌≡◌, ◌+◌, ◌-◌, ◌^◌, ◌≤◌, length, take, min, IfOk, IfSome, IsTrue, OnOk, []};
+ghost use Rattle.std.specs.Io.KnownBytes.{Consumes, Keeps};
 ghost use Rattle.sacn_capture.specs.Inputs.{LeavesOut};
 
 use crate::faults::FaultKind;
@@ -21,6 +21,8 @@ impl<R: BufRead> Input<R> {
     /// Whether the file has ended. Error: Device.
     pub fn is_ended(&mut self) -> Result<bool, FaultKind>
         ensures place { self.new.at ≡ self.old.at }
+        ensures kept { OnOk result (Keeps (R.Read.remaining self.old.reader) (R.Read.remaining self.new.reader)) }
+        ensures end { IfOk result (λ ended. IsTrue ended → IfSome (R.Read.remaining self.old.reader) (λ octets. octets ≡ [])) }
     {
         match self.reader.fill_buf() {
             Ok(octets) => Ok(octets.is_empty()),
@@ -36,6 +38,15 @@ impl<R: BufRead> Input<R> {
         read_full(&mut self.reader, buffer)?;
         self.at = self.at.saturating_add(buffer.len() as u64);
         Ok(())
+    }
+
+    /// Reads so many octets to the buffer's front. Errors: CutShort where the file ends before, Device.
+    pub fn fill_front(&mut self, buffer: &mut [u8], count: usize) -> Result<(), FaultKind>
+        requires { count ≤ length buffer.old }
+        ensures octets { OnOk result (Consumes (R.Read.remaining self.old.reader) (R.Read.remaining self.new.reader) (take count buffer.new)) }
+        ensures len { length buffer.new ≡ length buffer.old }
+    {
+        self.fill(&mut buffer[..count])
     }
 
     /// Leaves out so many octets. Errors: CutShort where the file ends before, Device.

@@ -1,10 +1,13 @@
 //! A recording as a stream of frames.
 
-ghost use Rattle.std.specs.Prelude.{◌≡◌, ◌≤◌, length, IfErr, IfOk, IfSome, Err, None};
+ghost use Rattle.std.specs.Prelude.{◌≡◌, ◌≤◌, length, take, vec_len, IfErr, IfOk, IfSome, OnOk, Err, None};
 ghost use Rattle.sacn_capture.specs.Check.{map_ok};
+ghost use Rattle.std.specs.Io.KnownBytes.{Consumes};
+ghost use Rattle.sacn_capture.specs.Inputs.{LeavesOut};
+ghost use Rattle.sacn_capture.specs.declared.stream.Frame.TheVariants.{LeftOut};
 ghost use Rattle.sacn_capture.specs.Counting.{none_counted};
 ghost use Rattle.sacn_capture.specs.Frames.{sent_of};
-ghost use Rattle.sacn_capture.specs.Streams.{content_in, counts_of, place_of_reading, stopped_by};
+ghost use Rattle.sacn_capture.specs.Streams.{TakesFrame, content_in, counts_of, place_of_reading, stopped_by};
 
 use crate::clock::milliseconds_of;
 use crate::counts::Counts;
@@ -271,19 +274,46 @@ impl<R: BufRead> Capture<R> {
     }
 
     // A frame of so many octets, read into the buffer where it is kept.
-    fn taken(&mut self, link: Option<LinkType>, captured: u32) -> Result<Frame, FaultKind> {
-        let len = captured as usize;
+    fn taken(&mut self, link: Option<LinkType>, captured: u32) -> Result<Frame, FaultKind>
+        ensures { IfOk result (λ frame. TakesFrame link captured frame (R.Read.remaining self.old.input.reader) (R.Read.remaining self.new.input.reader) self.new.buffer.items) }
+    {
         let Some(link) = link else {
-            self.input.skip(u64::from(captured))?;
-            return Ok(Frame::LeftOut(Passed::OtherLink));
+            return self.left_out(captured, Passed::OtherLink);
         };
+        let len = captured as usize;
         if len > self.buffer.len() {
-            self.input.skip(u64::from(captured))?;
-            return Ok(Frame::LeftOut(Passed::TooLong));
+            return self.left_out(captured, Passed::TooLong);
         }
-        self.input.fill(&mut self.buffer[..len])?;
-        Ok(Frame::Kept(link, len))
+        match read_front(&mut self.input, &mut self.buffer, len) {
+            Ok(()) => Ok(Frame::Kept(link, len)),
+            Err(fault) => Err(fault),
+        }
     }
+
+    // A frame that isn't kept.
+    fn left_out(&mut self, captured: u32, passed: Passed) -> Result<Frame, FaultKind>
+        ensures frame { IfOk result (λ frame. frame ≡ LeftOut passed) }
+        ensures octets { OnOk result (LeavesOut (R.Read.remaining self.old.input.reader) (R.Read.remaining self.new.input.reader) captured) }
+        ensures buffer { self.new.buffer.items ≡ self.old.buffer.items }
+    {
+        match self.input.skip(u64::from(captured)) {
+            Ok(()) => Ok(Frame::LeftOut(passed)),
+            Err(fault) => Err(fault),
+        }
+    }
+}
+
+// So many octets, read to the buffer's front.
+fn read_front<R: BufRead>(
+    input: &mut Input<R>,
+    buffer: &mut Vec<u8>,
+    len: usize,
+) -> Result<(), FaultKind>
+    requires { len ≤ vec_len buffer.old }
+    ensures octets { OnOk result (Consumes (R.Read.remaining input.old.reader) (R.Read.remaining input.new.reader) (take len buffer.new.items)) }
+    ensures len { vec_len buffer.new ≡ vec_len buffer.old }
+{
+    input.fill_front(buffer, len)
 }
 
 // The first header, which says how the file is written.
