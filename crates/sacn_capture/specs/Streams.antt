@@ -6,9 +6,11 @@ use Rattle.sacn_capture.specs.declared.faults.CaptureFault.{CaptureFault}
 use Rattle.sacn_capture.specs.declared.links.Passed.{Passed}
 use Rattle.sacn_capture.specs.declared.links.Passed.TheVariants.{OtherLink, TooLong}
 use Rattle.sacn_capture.specs.declared.links.LinkType.{LinkType}
+use Rattle.sacn_capture.specs.declared.pcap.PcapHeader.{PcapHeader}
 use Rattle.sacn_capture.specs.declared.stream.Capture.{Capture}
 use Rattle.sacn_capture.specs.declared.stream.Frame.{Frame}
 use Rattle.sacn_capture.specs.declared.stream.Frame.TheVariants.{Kept, LeftOut}
+use Rattle.sacn_capture.specs.Pcap.{reading_record}
 use Rattle.sacn_capture.specs.Frames.{Sent, reading_datagram}
 
 -- what stands in a frame, which is at the buffer's front where it was kept
@@ -36,3 +38,16 @@ Holds link (LeftOut passed) octets buffer = ((link ≡ None) × (passed ≡ Othe
 -- the reader gave so many octets, which are a frame's
 abbrev pub TakesFrame : Option LinkType → ℕ → Frame → Option (List ℕ) → Option (List ℕ) → List ℕ → Type 0
 TakesFrame link count frame old new buffer = (octets : List ℕ) × Consumes old new octets × (length octets ≡ count) × Holds link frame octets buffer
+
+-- a frame stands behind a record's head, as the head's layout says
+pub record ReadsFrame (header : PcapHeader) (head : List ℕ) (frame : Frame) (moment : ℕ) (old new : Option (List ℕ)) (buffer : List ℕ) : Type 0 where
+  pub count : ℕ
+  pub says : reading_record header.stamp head ≡ Ok (record { moment = moment; captured = count })
+  pub takes : TakesFrame (Some header.link) count frame old new buffer
+
+-- the reader gave a record: its head, and then as many octets as the head counts
+pub record ReadsRecord (header : PcapHeader) (frame : Frame) (moment : ℕ) (old new : Option (List ℕ)) (buffer : List ℕ) : Type 0 where
+  pub head : List ℕ
+  pub between : Option (List ℕ)
+  pub head_read : Consumes old between head
+  pub frame_read : ReadsFrame header head frame moment between new buffer

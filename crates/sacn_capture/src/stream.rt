@@ -1,13 +1,13 @@
 //! A recording as a stream of frames.
 
-ghost use Rattle.std.specs.Prelude.{◌≡◌, ◌≤◌, length, take, vec_len, IfErr, IfOk, IfSome, OnOk, Err, None};
+ghost use Rattle.std.specs.Prelude.{◌≡◌, ◌≤◌, length, take, vec_len, IfErr, IfNone, IfOk, IfSome, IsSome, OnOk, Err, None, []};
 ghost use Rattle.sacn_capture.specs.Check.{map_ok};
 ghost use Rattle.std.specs.Io.KnownBytes.{Consumes};
 ghost use Rattle.sacn_capture.specs.Inputs.{LeavesOut};
 ghost use Rattle.sacn_capture.specs.declared.stream.Frame.TheVariants.{LeftOut};
 ghost use Rattle.sacn_capture.specs.Counting.{none_counted};
 ghost use Rattle.sacn_capture.specs.Frames.{sent_of};
-ghost use Rattle.sacn_capture.specs.Streams.{TakesFrame, content_in, counts_of, place_of_reading, stopped_by};
+ghost use Rattle.sacn_capture.specs.Streams.{ReadsFrame, ReadsRecord, TakesFrame, content_in, counts_of, place_of_reading, stopped_by};
 
 use crate::clock::milliseconds_of;
 use crate::counts::Counts;
@@ -165,18 +165,46 @@ impl<R: BufRead> Capture<R> {
         }
     }
 
-    // The next record of a pcap file.
-    fn next_record(&mut self, header: PcapHeader) -> Result<Option<Frame>, FaultKind> {
+    // The next record of a pcap file; none where no octet is left.
+    fn next_record(&mut self, header: PcapHeader) -> Result<Option<Frame>, FaultKind>
+        ensures end { IfOk result (λ found. IfNone found (IfSome (R.Read.remaining self.old.input.reader) (λ octets. octets ≡ []))) }
+        ensures record { IfOk result (λ found. IfSome found (λ frame. ReadsRecord header frame self.new.moment (R.Read.remaining self.old.input.reader) (R.Read.remaining self.new.input.reader) self.new.buffer.items)) }
+    {
         self.mark = self.input.at;
-        if self.input.is_ended()? {
-            return Ok(None);
+        match self.input.is_ended() {
+            Ok(true) => Ok(None),
+            Ok(false) => self.record(header),
+            Err(fault) => Err(fault),
         }
+    }
+
+    // A record of a pcap file.
+    fn record(&mut self, header: PcapHeader) -> Result<Option<Frame>, FaultKind>
+        ensures some { IfOk result (λ found. IsSome found) }
+        ensures record { IfOk result (λ found. IfSome found (λ frame. ReadsRecord header frame self.new.moment (R.Read.remaining self.old.input.reader) (R.Read.remaining self.new.input.reader) self.new.buffer.items)) }
+    {
         let mut octets = [0; RECORD_HEAD];
-        self.input.fill(&mut octets)?;
-        let head = pcap_record_head(header.stamp, &octets)?;
-        let frame = self.taken(Some(header.link), head.captured)?;
-        self.moment = head.moment;
-        Ok(Some(frame))
+        match self.input.fill(&mut octets) {
+            Ok(()) => self.framed(header, &octets),
+            Err(fault) => Err(fault),
+        }
+    }
+
+    // The frame behind a record's head.
+    fn framed(&mut self, header: PcapHeader, octets: &[u8]) -> Result<Option<Frame>, FaultKind>
+        ensures some { IfOk result (λ found. IsSome found) }
+        ensures frame { IfOk result (λ found. IfSome found (λ frame. ReadsFrame header octets.now frame self.new.moment (R.Read.remaining self.old.input.reader) (R.Read.remaining self.new.input.reader) self.new.buffer.items)) }
+    {
+        match pcap_record_head(header.stamp, octets) {
+            Ok(head) => match self.taken(Some(header.link), head.captured) {
+                Ok(frame) => {
+                    self.moment = head.moment;
+                    Ok(Some(frame))
+                }
+                Err(fault) => Err(fault),
+            },
+            Err(fault) => Err(fault),
+        }
     }
 
     // The next packet block of a pcapng file.
