@@ -170,7 +170,7 @@ impl<R: BufRead> Capture<R> {
         ensures end { IfOk result (λ found. IfNone found (IfSome (R.Read.remaining self.old.input.reader) (λ octets. octets ≡ []))) }
         ensures record { IfOk result (λ found. IfSome found (λ frame. ReadsRecord header frame self.new.moment (R.Read.remaining self.old.input.reader) (R.Read.remaining self.new.input.reader) self.new.buffer.items)) }
     {
-        self.mark = self.input.at;
+        self.mark = self.offset();
         match self.input.is_ended() {
             Ok(true) => Ok(None),
             Ok(false) => self.record(header),
@@ -210,7 +210,7 @@ impl<R: BufRead> Capture<R> {
     // The next packet block of a pcapng file.
     fn next_packet(&mut self) -> Result<Option<Frame>, FaultKind> {
         for _ in 0..u64::MAX {
-            self.mark = self.input.at;
+            self.mark = self.offset();
             if self.input.is_ended()? {
                 break;
             }
