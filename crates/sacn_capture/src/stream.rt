@@ -149,7 +149,10 @@ impl<R: BufRead> Capture<R> {
     }
 
     // The frame with what stands in it, which is counted.
-    fn shown(&mut self, frame: Frame) -> Record<'_> {
+    fn shown(&mut self, frame: Frame) -> Record<'_>
+        ensures content { map_ok sent_of result.content ≡ content_in frame self.old.buffer.items }
+        ensures moment { result.moment ≡ self.old.moment }
+    {
         let content = content_of(frame, &self.buffer);
         self.counts.add(&content);
         Record {
