@@ -1,5 +1,5 @@
 -- The first answer among options, one option on.
-use Rattle.std.proofs.Common.{◌≡◌, ℕ, ◌<◌, ◌-◌, zero, suc, List, drop, Option, None, Some, Result, Ok, Err, refl, sym, ◌∙◌, ap, arith}
+use Rattle.std.proofs.Common.{◌≡◌, ℕ, ◌<◌, zero, suc, List, drop, Option, None, Some, Result, sym, ◌∙◌, ap, arith}
 use Rattle.sacn_capture.specs.declared.faults.FaultKind.{FaultKind}
 use Rattle.std.specs.Prelude.{unwrap_or}
 use Rattle.sacn_capture.specs.declared.octets.ByteOrder.{ByteOrder}

@@ -1,5 +1,5 @@
 -- Powers are positive.
-use Rattle.std.proofs.Common.{◌≡◌, ℕ, ◌<◌, ◌^◌, Option, None, Some, arith}
+use Rattle.std.proofs.Common.{ℕ, ◌<◌, ◌^◌, Option, None, Some, arith}
 use Rattle.std.specs.Prelude.{IfSome, SomeIff}
 use Rattle.std.proofs.Math.Nat.{one-le-pow}
 

@@ -1,5 +1,5 @@
 -- Moments from a clock's ticks.
-use Rattle.std.specs.Prelude.{ℕ, ◌*◌, ◌/◌, ◌-◌, ◌^◌, List, [], ◌∷◌, Bool, min, nat_lt, Result, if◌then◌else◌}
+use Rattle.std.specs.Prelude.{ℕ, ◌*◌, ◌/◌, ◌-◌, ◌^◌, [], ◌∷◌, min, nat_lt, Result, if◌then◌else◌}
 use Rattle.sacn_capture.specs.declared.faults.FaultKind.{FaultKind}
 use Rattle.sacn_capture.specs.declared.faults.FaultKind.TheVariants.{Resolution}
 use Rattle.sacn_capture.specs.Check.{checked}

@@ -1,5 +1,5 @@
 -- The headers of a pcap file and of its records.
-use Rattle.std.specs.Prelude.{ℕ, ◌+◌, ◌*◌, ◌/◌, ◌%◌, ◌^◌, ◌==◌, List, [], ◌∷◌, Bool, length, nat_le, Option, None, Some, Result, Ok, Err, if◌then◌else◌}
+use Rattle.std.specs.Prelude.{ℕ, ◌+◌, ◌*◌, ◌/◌, ◌%◌, ◌^◌, ◌==◌, List, [], ◌∷◌, length, nat_le, Option, None, Some, Result, Ok, Err, if◌then◌else◌}
 use Rattle.sacn_capture.specs.declared.faults.FaultKind.{FaultKind}
 use Rattle.sacn_capture.specs.declared.faults.FaultKind.TheVariants.{NotACapture, CutShort, Version, LinkType, Length}
 use Rattle.sacn_capture.specs.declared.octets.ByteOrder.{ByteOrder}

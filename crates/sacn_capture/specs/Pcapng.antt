@@ -1,5 +1,5 @@
 -- The blocks of a pcapng file.
-use Rattle.std.specs.Prelude.{ℕ, ◌≤◌, ◌+◌, ◌*◌, ◌/◌, ◌%◌, ◌^◌, ◌==◌, List, [], ◌∷◌, Bool, length, drop, min, nat_le, nat_lt, zero, suc, slice_index, Option, None, Some, Result, Ok, Err, if◌then◌else◌, unwrap_or}
+use Rattle.std.specs.Prelude.{ℕ, ◌≤◌, ◌+◌, ◌*◌, ◌/◌, ◌%◌, ◌^◌, ◌==◌, List, [], ◌∷◌, length, drop, min, nat_le, nat_lt, zero, suc, slice_index, Option, None, Some, Result, Ok, Err, if◌then◌else◌, unwrap_or}
 use Rattle.sacn_capture.specs.declared.faults.FaultKind.{FaultKind}
 use Rattle.sacn_capture.specs.declared.faults.FaultKind.TheVariants.{NotACapture, CutShort, Version, Length}
 use Rattle.sacn_capture.specs.declared.links.LinkType.{LinkType}

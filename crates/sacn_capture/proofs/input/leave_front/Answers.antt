@@ -1,4 +1,4 @@
-use Rattle.std.proofs.Common.{◌≡◌, length, length-take, arith}
+use Rattle.std.proofs.Common.{length-take, arith}
 use Rattle.sacn_capture.proofs.LeftOut.{left_out}
 use Rattle.sacn_capture.proofs.input.leave_front.Goals as goal
 

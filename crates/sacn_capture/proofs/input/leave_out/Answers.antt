@@ -1,4 +1,4 @@
-use Rattle.std.proofs.Common.{◌≡◌, ◌≤◌, ◌-◌, ◌+◌, length, arith}
+use Rattle.std.proofs.Common.{◌≤◌, ◌-◌, arith}
 use Rattle.sacn_capture.proofs.LeftOut.{left_out_more}
 use Rattle.sacn_capture.proofs.input.leave_out.Goals as goal
 

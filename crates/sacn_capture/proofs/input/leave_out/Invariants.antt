@@ -1,4 +1,4 @@
-use Rattle.std.proofs.Common.{◌≡◌, ◌-◌, ◌≤◌}
+use Rattle.std.proofs.Common.{◌-◌, ◌≤◌}
 use Rattle.sacn_capture.specs.Inputs.{LeavesOut}
 use Rattle.sacn_capture.proofs.input.leave_out.Given as goal
 

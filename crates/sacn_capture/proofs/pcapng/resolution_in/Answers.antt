@@ -1,4 +1,4 @@
-use Rattle.std.proofs.Common.{◌≡◌, ℕ, ◌-◌, ◌+◌, suc, length, sym, ◌∙◌, ap, arith}
+use Rattle.std.proofs.Common.{◌-◌, ◌+◌, length, sym, ◌∙◌, ap, arith}
 use Rattle.sacn_capture.specs.Pcapng.{resolution_among}
 use Rattle.sacn_capture.proofs.Options.{answered, asked_on}
 use Rattle.sacn_capture.proofs.pcapng.resolution_in.Goals as goal

@@ -1,4 +1,4 @@
-use Rattle.std.proofs.Common.{◌≡◌, List, ℕ, length, subst, sym, arith}
+use Rattle.std.proofs.Common.{List, ℕ, subst, sym, arith}
 use Rattle.std.specs.Prelude.{OnOk}
 use Rattle.std.specs.Io.KnownBytes.{Consumes}
 use Rattle.sacn_capture.proofs.Fronts.{front_again}
