@@ -7,6 +7,7 @@ mod clock;
 mod counts;
 mod faults;
 mod frame;
+mod headers;
 mod input;
 mod interface;
 mod links;

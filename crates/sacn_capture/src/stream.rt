@@ -13,14 +13,15 @@ use crate::clock::milliseconds_of;
 use crate::counts::Counts;
 use crate::faults::{CaptureFault, FaultKind};
 use crate::frame::{Datagram, datagram_in};
+use crate::headers::{Format, end_of_block, first_header, section};
 use crate::input::Input;
 use crate::interface::Described;
 use crate::links::{LinkType, Passed};
 use crate::octets::ByteOrder;
-use crate::pcap::{HEADER, PcapHeader, RECORD_HEAD, pcap_header, pcap_record_head};
+use crate::pcap::{PcapHeader, RECORD_HEAD, pcap_record_head};
 use crate::pcapng::{
-    BLOCK_FRAME, BLOCK_HEAD, BlockKind, ENHANCED_HEAD, SECTION_HEAD, SIMPLE_HEAD, enhanced_in,
-    interface_in, is_section, pcapng_block_head, section_in, simple_in,
+    BLOCK_FRAME, BLOCK_HEAD, BlockKind, ENHANCED_HEAD, SIMPLE_HEAD, enhanced_in, interface_in,
+    is_section, pcapng_block_head, simple_in,
 };
 use std::alloc::Global;
 use std::io::BufRead;
@@ -39,13 +40,6 @@ pub struct Record<'a> {
     pub moment: u64,
     /// The datagram in it, or why it was passed over.
     pub content: Result<Datagram<'a>, Passed>,
-}
-
-/// How the file is written.
-#[derive(Clone, Copy, Debug)]
-enum Format {
-    Pcap(PcapHeader),
-    Pcapng(ByteOrder),
 }
 
 /// Where a frame is: in the buffer, or left out.
@@ -345,62 +339,6 @@ fn read_front<R: BufRead>(
     ensures len { vec_len buffer.new ≡ vec_len buffer.old }
 {
     input.fill_front(buffer, len)
-}
-
-// The first header, which says how the file is written.
-fn first_header<R: BufRead>(input: &mut Input<R>) -> Result<Format, FaultKind> {
-    let mut front = [0; BLOCK_HEAD];
-    if input.fill(&mut front).is_err() {
-        return Err(FaultKind::NotACapture);
-    }
-    if is_section(&front) {
-        return Ok(Format::Pcapng(section(input, front)?));
-    }
-    if let Err(FaultKind::NotACapture) = pcap_header(&front) {
-        return Err(FaultKind::NotACapture);
-    }
-    let mut octets = [0; HEADER];
-    continued(input, front, &mut octets)?;
-    Ok(Format::Pcap(pcap_header(&octets)?))
-}
-
-// A section header, whose block's head was read; its order.
-fn section<R: BufRead>(
-    input: &mut Input<R>,
-    front: [u8; BLOCK_HEAD],
-) -> Result<ByteOrder, FaultKind> {
-    let mut octets = [0; SECTION_HEAD];
-    continued(input, front, &mut octets)?;
-    let section = section_in(&octets)?;
-    input.skip(u64::from(section.length - 20))?;
-    end_of_block(input, section.order, section.length)?;
-    Ok(section.order)
-}
-
-// A header whose first octets were read, read to its end.
-fn continued<R: BufRead>(
-    input: &mut Input<R>,
-    front: [u8; BLOCK_HEAD],
-    octets: &mut [u8],
-) -> Result<(), FaultKind>
-    requires { 8 ≤ length octets.old }
-{
-    octets[..BLOCK_HEAD].copy_from_slice(&front);
-    input.fill(&mut octets[BLOCK_HEAD..])
-}
-
-// A block's length, which stands again at its end. Error: Length where it doesn't.
-fn end_of_block<R: BufRead>(
-    input: &mut Input<R>,
-    order: ByteOrder,
-    length: u32,
-) -> Result<(), FaultKind> {
-    let mut octets = [0; 4];
-    input.fill(&mut octets)?;
-    if order.u32_at(&octets, 0) != length {
-        return Err(FaultKind::Length);
-    }
-    Ok(())
 }
 
 // What stands in a frame, which is at the buffer's front where it was kept.
