@@ -1,0 +1,4 @@
+pub mod Powers
+pub mod Options
+pub mod LeftOut
+pub mod Fronts

@@ -1,0 +1,15 @@
+use Rattle.std.proofs.Common.{◌-◌, ◌+◌, length, sym, ◌∙◌, ap, arith}
+use Rattle.sacn_capture.specs.Pcapng.{resolution_among}
+use Rattle.sacn_capture.proofs.Options.{answered, asked_on}
+use Rattle.sacn_capture.proofs.pcapng.resolution_in.Goals as goal
+
+pub returns-in-Some : goal.returns-in-Some
+returns-in-Some c =
+    answered (length c.args.options.now - c.loop-turn.turn) c.args.order c.loop-turn.rest.now c.in-Some.found (resolution_among (length c.args.options.now) c.args.order c.args.options.now)
+    (omega (arith, c.loop-turn-test.true)) (sym c.in-Some.ensures.answer) c.loop-turn.invariant
+
+pub loop-turn-preserved : goal.loop-turn-preserved
+loop-turn-preserved c =
+    ap (λ xs. resolution_among (length c.args.options.now - (c.loop-turn.turn + 1)) c.args.order xs) c.after_option-rest.ensures
+    ∙ asked_on (length c.args.options.now - c.loop-turn.turn) (length c.args.options.now - (c.loop-turn.turn + 1)) c.args.order c.loop-turn.rest.now (resolution_among (length c.args.options.now) c.args.order c.args.options.now)
+    (omega (arith, c.loop-turn-test.true)) (sym c.in-None.ensures.answer) c.loop-turn.invariant

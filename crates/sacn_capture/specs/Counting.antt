@@ -1,0 +1,29 @@
+-- How many frames there were of each kind.
+use Rattle.std.specs.Prelude.{ℕ, ◌+◌, ◌-◌, ◌^◌, min, Option, None, Some, Result, Ok, Err}
+use Rattle.sacn_capture.specs.declared.counts.Counts.{Counts}
+use Rattle.sacn_capture.specs.declared.frame.Datagram.{Datagram}
+use Rattle.sacn_capture.specs.declared.links.Passed.{Passed}
+use Rattle.sacn_capture.specs.declared.links.Passed.TheVariants.{NotIp, NotIpv4, NotUdp, Fragment, Cut, OtherLink, TooLong}
+
+abbrev pub none_counted : Counts
+none_counted = record { datagrams = 0; not_ip = 0; not_ipv4 = 0; not_udp = 0; fragments = 0; cut = 0; other_links = 0; too_long = 0 }
+
+-- why a frame was passed over; none where it has a datagram
+abbrev pub passed_of : Result Datagram Passed → Option Passed
+passed_of (Ok datagram) = None
+passed_of (Err passed) = Some passed
+
+-- one more, at most what 64 bits hold
+abbrev pub more : ℕ → ℕ
+more n = min (n + 1) (2 ^ 64 - 1)
+
+-- the counts with one more frame
+abbrev pub counted : Option Passed → Counts → Counts
+counted None counts = record counts { datagrams = more counts.datagrams }
+counted (Some NotIp) counts = record counts { not_ip = more counts.not_ip }
+counted (Some NotIpv4) counts = record counts { not_ipv4 = more counts.not_ipv4 }
+counted (Some NotUdp) counts = record counts { not_udp = more counts.not_udp }
+counted (Some Fragment) counts = record counts { fragments = more counts.fragments }
+counted (Some Cut) counts = record counts { cut = more counts.cut }
+counted (Some OtherLink) counts = record counts { other_links = more counts.other_links }
+counted (Some TooLong) counts = record counts { too_long = more counts.too_long }

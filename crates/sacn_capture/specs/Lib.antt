@@ -1,0 +1,10 @@
+pub mod Check
+pub mod Octets
+pub mod Clocks
+pub mod Links
+pub mod Inputs
+pub mod Streams
+pub mod Counting
+pub mod Pcap
+pub mod Pcapng
+pub mod Frames

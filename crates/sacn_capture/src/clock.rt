@@ -1,0 +1,52 @@
+//! Moments: ticks of a clock to milliseconds.
+
+ghost use Rattle.std.specs.Prelude.{◌≡◌, ◌<◌, ◌^◌, IfOk, IfSome, SomeIff};
+ghost use Rattle.sacn_capture.specs.Clocks.{milliseconds, reading_units};
+
+use crate::faults::FaultKind;
+
+/// Milliseconds in a second.
+const MILLISECONDS: u128 = 1000;
+
+/// The bit of a time resolution that says that it is a power of two.
+const BINARY: u8 = 0x80;
+
+/// So many ticks, of which `units` are a second, in whole milliseconds; at most 2^64 - 1.
+pub fn milliseconds_of(ticks: u64, units: u64) -> u64
+    requires { 0 < units }
+    ensures { result ≡ milliseconds ticks units }
+{
+    let whole = ticks as u128 * MILLISECONDS / units as u128;
+    if whole > u64::MAX as u128 {
+        return u64::MAX;
+    }
+    whole as u64
+}
+
+/// The ticks of a second by the octet of `if_tsresol`: 10^n, or 2^n where the high bit is set, n being the other
+/// seven.
+///
+/// Errors: Resolution where that is 2^64 or more.
+pub fn units_in(resolution: u8) -> Result<u64, FaultKind>
+    ensures units { result ≡ reading_units resolution }
+    ensures some { IfOk result (λ units. 0 < units) }
+{
+    let units = if resolution < BINARY {
+        power(10, u32::from(resolution))
+    } else {
+        power(2, u32::from(resolution - BINARY))
+    };
+    match units {
+        Some(units) => Ok(units),
+        None => Err(FaultKind::Resolution),
+    }
+}
+
+// A power below 2^64.
+fn power(base: u64, exponent: u32) -> Option<u64>
+    requires { 0 < base }
+    ensures value { SomeIff result (base ^ exponent < 2 ^ 64) (base ^ exponent) }
+    ensures some { IfSome result (λ p. 0 < p) }
+{
+    base.checked_pow(exponent)
+}

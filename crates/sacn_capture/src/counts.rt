@@ -1,0 +1,57 @@
+//! What the frames of a recording were.
+
+ghost use Rattle.std.specs.Prelude.{◌≡◌};
+ghost use Rattle.sacn_capture.specs.Counting.{counted, none_counted, passed_of};
+
+use crate::frame::Datagram;
+use crate::links::Passed;
+
+/// How many frames there were of each kind. Each count stops at 2^64 - 1.
+#[derive(Clone, Copy, Debug, PartialEq, Eq)]
+pub struct Counts {
+    /// Frames with a datagram.
+    pub datagrams: u64,
+    pub not_ip: u64,
+    pub not_ipv4: u64,
+    pub not_udp: u64,
+    pub fragments: u64,
+    pub cut: u64,
+    /// Frames of a link that isn't read here.
+    pub other_links: u64,
+    /// Frames longer than 65,535 octets.
+    pub too_long: u64,
+}
+
+impl Counts {
+    /// No frame yet.
+    pub fn new() -> Self
+        ensures { result ≡ none_counted }
+    {
+        Counts {
+            datagrams: 0,
+            not_ip: 0,
+            not_ipv4: 0,
+            not_udp: 0,
+            fragments: 0,
+            cut: 0,
+            other_links: 0,
+            too_long: 0,
+        }
+    }
+
+    /// One more frame.
+    pub fn add(&mut self, content: &Result<Datagram<'_>, Passed>)
+        ensures { self.new ≡ counted (passed_of content.now) self.old }
+    {
+        match content {
+            Ok(_) => self.datagrams = self.datagrams.saturating_add(1),
+            Err(Passed::NotIp) => self.not_ip = self.not_ip.saturating_add(1),
+            Err(Passed::NotIpv4) => self.not_ipv4 = self.not_ipv4.saturating_add(1),
+            Err(Passed::NotUdp) => self.not_udp = self.not_udp.saturating_add(1),
+            Err(Passed::Fragment) => self.fragments = self.fragments.saturating_add(1),
+            Err(Passed::Cut) => self.cut = self.cut.saturating_add(1),
+            Err(Passed::OtherLink) => self.other_links = self.other_links.saturating_add(1),
+            Err(Passed::TooLong) => self.too_long = self.too_long.saturating_add(1),
+        }
+    }
+}

@@ -1,0 +1,44 @@
+//! Why a recording is refused.
+
+use thiserror::Error;
+
+/// What is wrong with a recording.
+#[derive(Clone, Copy, Debug, PartialEq, Eq, Error)]
+pub enum FaultKind {
+    /// A growth was refused.
+    #[error("there isn't enough memory")]
+    OutOfMemory,
+    /// The file's first octets are neither those of pcap nor those of pcapng, or a section's byte order can't be told.
+    #[error("this is no pcap or pcapng file")]
+    NotACapture,
+    /// The format's version isn't 2 (pcap) or 1 (pcapng).
+    #[error("the format's version is unknown")]
+    Version,
+    /// The recording's link type is none that is read here.
+    #[error("the link type isn't one that is read here")]
+    LinkType,
+    /// A length lies, or is beyond what a reader takes.
+    #[error("a length is wrong")]
+    Length,
+    /// An interface's ticks are finer than 64 bits count.
+    #[error("the time resolution is too fine")]
+    Resolution,
+    /// A frame names an interface that its section hasn't described, or a section describes too many.
+    #[error("an interface is unknown, or there are too many")]
+    Interface,
+    /// The file ends inside a header, a block or a frame.
+    #[error("the file ends too early")]
+    CutShort,
+    /// The device that gives the file failed.
+    #[error("the file can't be read")]
+    Device,
+}
+
+/// What is wrong with a recording, and where.
+#[derive(Clone, Copy, Debug, PartialEq, Eq, Error)]
+#[error("at octet {at}: {kind}")]
+pub struct CaptureFault {
+    /// Where the header, the block or the frame begins that is wrong, in octets from the file's first.
+    pub at: u64,
+    pub kind: FaultKind,
+}

@@ -1,0 +1,103 @@
+//! A file as octets: read in full or skipped, with the place in it.
+
+ghost use Rattle.std.specs.Prelude.{◌≡◌, ◌+◌, ◌-◌, ◌^◌, ◌≤◌, length, take, min, IfOk, IfSome, IsTrue, OnOk, []};
+ghost use Rattle.std.specs.Io.KnownBytes.{Consumes, Keeps};
+ghost use Rattle.sacn_capture.specs.Inputs.{LeavesOut};
+
+use crate::faults::FaultKind;
+use std::io::{BufRead, ErrorKind};
+
+/// Octets are skipped in pieces of this many.
+const PIECE: u64 = 512;
+
+/// A reader, and how many octets it has given.
+#[derive(Drop)]
+pub struct Input<R> {
+    pub reader: R,
+    pub at: u64,
+}
+
+impl<R: BufRead> Input<R> {
+    /// Whether the file has ended. Error: Device.
+    pub fn is_ended(&mut self) -> Result<bool, FaultKind>
+        ensures place { self.new.at ≡ self.old.at }
+        ensures kept { OnOk result (Keeps (R.Read.remaining self.old.reader) (R.Read.remaining self.new.reader)) }
+        ensures end { IfOk result (λ ended. IsTrue ended → IfSome (R.Read.remaining self.old.reader) (λ octets. octets ≡ [])) }
+    {
+        match self.reader.fill_buf() {
+            Ok(octets) => Ok(octets.is_empty()),
+            Err(_) => Err(FaultKind::Device),
+        }
+    }
+
+    /// Reads as many octets as the buffer has. Errors: CutShort where the file ends before, Device.
+    pub fn fill(&mut self, buffer: &mut [u8]) -> Result<(), FaultKind>
+        ensures octets { OnOk result (Consumes (R.Read.remaining self.old.reader) (R.Read.remaining self.new.reader) buffer.new) }
+        ensures place { OnOk result (self.new.at ≡ min (self.old.at + length buffer.new) (2 ^ 64 - 1)) }
+    {
+        read_full(&mut self.reader, buffer)?;
+        self.at = self.at.saturating_add(buffer.len() as u64);
+        Ok(())
+    }
+
+    /// Reads so many octets to the buffer's front. Errors: CutShort where the file ends before, Device.
+    pub fn fill_front(&mut self, buffer: &mut [u8], count: usize) -> Result<(), FaultKind>
+        requires { count ≤ length buffer.old }
+        ensures octets { OnOk result (Consumes (R.Read.remaining self.old.reader) (R.Read.remaining self.new.reader) (take count buffer.new)) }
+        ensures len { length buffer.new ≡ length buffer.old }
+    {
+        self.fill(&mut buffer[..count])
+    }
+
+    /// Leaves out so many octets. Errors: CutShort where the file ends before, Device.
+    pub fn skip(&mut self, count: u64) -> Result<(), FaultKind>
+        ensures octets { OnOk result (LeavesOut (R.Read.remaining self.old.reader) (R.Read.remaining self.new.reader) count) }
+        ensures place { OnOk result (self.new.at ≡ min (self.old.at + count) (2 ^ 64 - 1)) }
+    {
+        leave_out(&mut self.reader, count)?;
+        self.at = self.at.saturating_add(count);
+        Ok(())
+    }
+}
+
+fn read_full<R: BufRead>(reader: &mut R, buffer: &mut [u8]) -> Result<(), FaultKind>
+    ensures octets { OnOk result (Consumes (R.Read.remaining reader.old) (R.Read.remaining reader.new) buffer.new) }
+    ensures len { length buffer.new ≡ length buffer.old }
+{
+    match reader.read_exact(buffer) {
+        Ok(()) => Ok(()),
+        Err(error) => match error.kind() {
+            ErrorKind::UnexpectedEof => Err(FaultKind::CutShort),
+            _ => Err(FaultKind::Device),
+        },
+    }
+}
+
+fn leave_out<R: BufRead>(reader: &mut R, count: u64) -> Result<(), FaultKind>
+    ensures { OnOk result (LeavesOut (R.Read.remaining reader.old) (R.Read.remaining reader.new) count) }
+{
+    let mut left = count;
+    while left > 0 {
+        let step = left.min(PIECE);
+        match leave_piece(reader, step as usize) {
+            Ok(()) => left -= step,
+            Err(fault) => return Err(fault),
+        }
+    }
+    Ok(())
+}
+
+fn leave_piece<R: BufRead>(reader: &mut R, count: usize) -> Result<(), FaultKind>
+    requires { count ≤ 512 }
+    ensures { OnOk result (LeavesOut (R.Read.remaining reader.old) (R.Read.remaining reader.new) count) }
+{
+    let mut piece = [0; PIECE as usize];
+    leave_front(reader, &mut piece, count)
+}
+
+fn leave_front<R: BufRead>(reader: &mut R, piece: &mut [u8], count: usize) -> Result<(), FaultKind>
+    requires { count ≤ length piece.old }
+    ensures { OnOk result (LeavesOut (R.Read.remaining reader.old) (R.Read.remaining reader.new) count) }
+{
+    read_full(reader, &mut piece[..count])
+}

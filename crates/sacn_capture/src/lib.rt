@@ -1,0 +1,34 @@
+//! Datagrams out of a recording of a network: `pcap` and `pcapng` read as a stream.
+//!
+//! Below is the pure layer: what stands in a frame, in a file's header and in a block, octets to values, each exact.
+#![tactic(auto)]
+
+mod clock;
+mod counts;
+mod faults;
+mod frame;
+mod headers;
+mod input;
+mod interface;
+mod links;
+mod octets;
+mod pcap;
+mod pcapng;
+mod stream;
+
+pub use clock::{milliseconds_of, units_in};
+pub use counts::Counts;
+pub use faults::{CaptureFault, FaultKind};
+pub use frame::{Datagram, datagram_in};
+pub use interface::Described;
+pub use links::{LinkType, Passed, link_type, packet_place};
+pub use octets::ByteOrder;
+pub use pcap::{Fraction, PcapHeader, RecordHead, Stamp, pcap_header, pcap_record_head};
+pub use pcapng::{
+    BlockHead, BlockKind, EnhancedHead, Section, enhanced_in, interface_in, is_section,
+    pcapng_block_head, section_in, simple_in,
+};
+pub use stream::{Capture, Record};
+
+#[cfg(test)]
+mod tests;
