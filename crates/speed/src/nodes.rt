@@ -101,7 +101,10 @@ impl Full {
         self.octets[source][111] = (number / 256 % 256) as u8;
         self.octets[source][114] = universe + 1;
         let now = number / 256;
-        matches!(self.node.take(now, &self.octets[source]), NodeTaken::FromTable(_))
+        matches!(
+            self.node.take(now, &self.octets[source]),
+            NodeTaken::FromTable(_)
+        )
     }
 }
 
@@ -124,7 +127,11 @@ struct Other {
 impl Turn for Other {
     fn turn(&mut self, number: u64) -> u64 {
         self.full.octets[0][111] = (number % 256) as u8;
-        match self.full.node.take(number / 1_000_000, &self.full.octets[0]) {
+        match self
+            .full
+            .node
+            .take(number / 1_000_000, &self.full.octets[0])
+        {
             NodeTaken::OtherUniverse => 1,
             _ => 0,
         }
