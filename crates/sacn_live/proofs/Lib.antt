@@ -1,3 +1,5 @@
 mod Draining
 mod Turning
 mod Rounding
+mod Fair
+mod FairRounds
