@@ -38,7 +38,7 @@ and_false : (a : Bool) → (a && false) ≡ false
 and_false true = refl
 and_false false = refl
 
-some_is : {X : Type 0} (a b : X) → Some a ≡ Some b → a ≡ b
+pub some_is : {X : Type 0} (a b : X) → Some a ≡ Some b → a ≡ b
 some_is a b e = cc
 
 any_map : {X : Type 0} (p : X → Bool) (f : X → X) (xs : List X) → ((x : X) → p (f x) ≡ p x) → list_any p (map f xs) ≡ list_any p xs
@@ -87,7 +87,7 @@ pub equal : (a b : ℕ) → (a == b) ≡ true → a ≡ b
 equal a b e = grind arith
 
 -- after its packet a line isn't due at that moment
-sent_rests : (p : Lights) (m : ℕ) (f : List ℕ) (l : Line) → line_due p m (line_sent m f l) ≡ false
+pub sent_rests : (p : Lights) (m : ℕ) (f : List ℕ) (l : Line) → line_due p m (line_sent m f l) ≡ false
 unfolding line_due line_sent
 sent_rests p m f l = rw (not_passed m) refl
 

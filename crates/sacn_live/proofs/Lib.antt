@@ -3,3 +3,4 @@ mod Turning
 mod Rounding
 mod Fair
 mod FairRounds
+mod FairEnds

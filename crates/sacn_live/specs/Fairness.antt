@@ -1,7 +1,8 @@
 -- Which universes are due at a reading, and what the polls at it give.
-use Rattle.std.specs.Prelude.{◌≡◌, ◌==◌, ◌<◌, ◌≤◌, ◌&&◌, ℕ, zero, suc, Bool, true, false, ⊤, if◌then◌else◌, List, [], ◌∷◌, ◌++◌, map, count_by, Option, None, Some}
+use Rattle.std.specs.Prelude.{◌≡◌, ◌==◌, ◌<◌, ◌≤◌, ◌&&◌, ℕ, zero, suc, ◌+◌, Bool, true, false, ⊤, if◌then◌else◌, List, [], ◌∷◌, ◌++◌, map, count_by, length, Option, None, Some}
 use Rattle.std.specs.List.{list_any}
 use Rattle.sacn_framing.specs.Data.{Data}
+use Rattle.sacn_discovery.specs.Pages.{page_count}
 use Rattle.sacn_console.specs.Lines.{Datagram, Packet, Paged, line_due}
 use Rattle.sacn_console.specs.Core.{Core, at, due, text}
 use Rattle.sacn_live.specs.declared.limits.TheConstants.{MOST_POLLS}
@@ -58,6 +59,14 @@ EachOnce = (c : Core) (now n u : ℕ) → due (at now (polled now n c)) ≡ None
 abbrev pub EachDueIsGiven : Type 0
 EachDueIsGiven = (c : Core) (now n u : ℕ) → is_due now u c ≡ true → due (at now (polled now n c)) ≡ None
     → (k : ℕ) × (d : Data) × (k < n) × (due (at now (polled now k c)) ≡ Some (Packet d)) × (d.universe ≡ u)
+
+-- the most datagrams that may be due at a reading: one for each universe, the pages left of a cycle, and those of a new one
+abbrev pub most_due : Core → ℕ
+most_due c = length c.lines + (page_count (length c.listed) + page_count (length c.lines))
+
+-- after so many polls at a reading nothing is due at it
+abbrev pub EachReadingEnds : Type 0
+EachReadingEnds = (c : Core) (now n : ℕ) → most_due c ≤ n → due (at now (polled now n c)) ≡ None
 
 -- ---- the laws of a desk's rounds
 
