@@ -1,3 +1,6 @@
 mod Draining
 mod Turning
 mod Rounding
+mod Fair
+mod FairRounds
+mod FairEnds

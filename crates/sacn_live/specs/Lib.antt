@@ -2,6 +2,7 @@ pub mod Hearings
 pub mod GatewayText
 pub mod GatewayRun
 pub mod DeskSends
+pub mod Fairness
 pub mod Addresses
 pub mod Gathering
 pub mod Groups

@@ -12,6 +12,7 @@ mod ear;
 mod gateway;
 mod hearing;
 mod input;
+pub mod laws;
 pub mod limits;
 mod lines;
 pub mod memory;
