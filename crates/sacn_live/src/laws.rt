@@ -1,7 +1,8 @@
 //! Laws of a desk's rounds over their definitions alone. They cost nothing when they run.
 //!
 //! The contract of [`run_desk`](crate::run_desk) says what is handed over poll by poll, and that nothing is due after a
-//! round. So in each round every universe that is due at its reading is sent, once, and no other is.
+//! round of fewer than the most polls. So in such a round, where it polls at all, every universe that is due at its
+//! reading is sent, once, and no other is.
 ghost use Rattle.sacn_live.specs.Fairness.{DeskSendsAreGiven, EachAtMostOnce, EachDueIsGiven, EachOnce, EachReadingEnds, RoundsAreFair, SendsAreGiven};
 
 /// Polls at one reading give a universe at most one packet, and none where it isn't due at the reading.
@@ -28,8 +29,9 @@ pub fn sends_are_what_polls_give()
     ensures rounds { DeskSendsAreGiven }
 {}
 
-/// In each round of a desk that ends with nothing due, each universe that is due at the round's reading, once its orders
-/// are given, is sent one packet, and no other universe is sent any.
+/// Where each round of a desk polls at least once and fewer than the most times, and ends with nothing due, each universe
+/// that is due at a round's reading, once its orders are given, is sent one packet in it, and no other universe is sent
+/// any.
 pub fn rounds_are_fair()
     ensures { RoundsAreFair }
 {}
