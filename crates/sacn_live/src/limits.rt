@@ -13,7 +13,7 @@ pub const LONGEST_WAIT: u64 = 500;
 /// The most orders that a desk takes in one round; what is left waits for the next one.
 pub const MOST_ORDERS: usize = 256;
 
-/// The most polls of one round of a desk. A console of 1024 universes has at most 1026 datagrams due at one reading.
+/// The most polls of one round of a desk. A console of 1024 universes has little more than a thousand datagrams due at one reading.
 pub const MOST_POLLS: u64 = 1 << 20;
 
 /// The most rounds of a desk: more than it makes in ten thousand years.
