@@ -21,7 +21,6 @@ import time
 TOP = os.path.dirname(os.path.dirname(os.path.realpath(__file__)))
 # The most memory that the check of a crate was seen to take, in bytes.
 NEED = 3_500_000_000
-MOST_JOBS = 4
 # The processor that the kit builds for where none is named.
 DEFAULT_CPU = "x86-64-v2"
 LAST_LINES = 20
@@ -61,6 +60,12 @@ def lanes():
     with open("/proc/meminfo", encoding="utf-8") as lines:
         free = next((1024 * int(it.split()[1]) for it in lines if it.startswith("MemAvailable:")), NEED)
     return max(1, min(processors, free // NEED))
+
+
+def jobs_each(most, count):
+    """How many jobs each of so many checks gets. A check keeps its jobs to its end, and others end before it: so there are twice
+    as many jobs as lanes, and where few checks are under way none of the processors waits for them."""
+    return max(1, min(most, 2 * most // max(count, 1)))
 
 
 def link_or_copy(source, to):
@@ -167,19 +172,14 @@ def prove(crates, program, cpu):
     left = sorted(needed, key=lambda name: -above[name])
     try:
         while left or running:
-            ready = [it for it in left if all(lower in done for lower in crates[it])]
-            idle = most - sum(it.jobs for it in running)
-            for at, name in enumerate(ready):
-                if idle <= 0:
-                    break
-                jobs = max(1, min(MOST_JOBS, idle // (len(ready) - at)))
-                words = ["rt", "lib", "--jobs", str(jobs)]
+            ready = [it for it in left if all(lower in done for lower in crates[it])][: most - len(running)]
+            jobs = str(jobs_each(most, len(running) + len(ready)))
+            for name in ready:
+                words = ["rt", "lib", "--jobs", jobs]
                 if name == program:
-                    words = ["rt", "run", "--jobs", str(jobs), *(["--cpu", cpu] if cpu else []), "--", "--help"]
+                    words = ["rt", "run", "--jobs", jobs, *(["--cpu", cpu] if cpu else []), "--", "--help"]
                 running.append(Proof(name, below(crates, name), words))
-                running[-1].jobs = jobs
                 left.remove(name)
-                idle -= jobs
             progress.show(len(done), running)
             time.sleep(0.2)
             for proof in [it for it in running if it.process.poll() is not None]:
