@@ -162,6 +162,32 @@ fn pages_of_1024_universes_are_two_and_full(rt: HostRuntime) -> Result<(), Fail>
     Ok(())
 }
 
+/// The page and the last page that octets say.
+fn page_and_last(octets: &Vec<u8>) -> Option<(u8, u8)> {
+    match read_packet(octets.as_slice()) {
+        Ok(Packet::PagePacket(page)) => Some((page.page(), page.last())),
+        _ => None,
+    }
+}
+
+#[test]
+fn both_pages_of_1024_universes_make_the_list(rt: HostRuntime) -> Result<(), Fail> {
+    let list = universes(rt.alloc(), 1024)?;
+    let first = written(&rt, list.as_slice(), 0, &CID)?;
+    let second = written(&rt, list.as_slice(), 1, &CID)?;
+    assert_eq!(rt; (first.len(), second.len()), (1144, 1144));
+    assert_eq!(rt;
+        (page_and_last(&first), page_and_last(&second)),
+        (Some((0, 1)), Some((1, 1)))
+    );
+    let mut collector = Collector::new(rt.alloc());
+    assert!(rt; keeps(&mut collector, 0, &first));
+    assert!(rt; collector.list_of(0, &CID)?.is_none());
+    assert!(rt; keeps(&mut collector, 0, &second));
+    assert_eq!(rt; collector.list_of(0, &CID)?, Some(list));
+    Ok(())
+}
+
 #[test]
 fn a_collectors_fault_has_a_number(rt: HostRuntime) {
     assert_eq!(rt; DiscoveryFault::OutOfMemory.number(), 1);

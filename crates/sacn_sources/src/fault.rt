@@ -1,4 +1,5 @@
 //! Why a table could not be made.
+ghost use Rattle.std.specs.Prelude.{◌≡◌};
 
 use thiserror::Error;
 
@@ -8,4 +9,15 @@ pub enum TableFault {
     /// A request for the table's room was refused.
     #[error("out of memory")]
     OutOfMemory = 1,
+}
+
+impl TableFault {
+    ghost use Rattle.sacn_sources.specs.FaultNumbers.{table_fault_number};
+
+    /// The fault's number, 1.
+    pub fn number(self) -> u8
+        ensures { result ≡ table_fault_number self }
+    {
+        self as u8
+    }
 }

@@ -156,3 +156,20 @@ fn room_is_refused(rt: HostRuntime) -> Result<(), Fail> {
     assert!(rt; matches!(frames_in(&memory), Ok(_)));
     Ok(())
 }
+
+/// A table whose room is refused is made at the next call, and takes a source.
+#[test]
+fn want_of_memory_leaves_no_table(rt: HostRuntime) -> Result<(), Fail> {
+    let mut table = match SourceTable::new(rt.alloc()) {
+        Err(TableFault::OutOfMemory) => SourceTable::new(rt.alloc())?,
+        made => made?,
+    };
+    gives(&rt, &mut table, &[(0, live(1, 0, &[4]), Taken::Held)]);
+    shows(&rt, &mut table, 0, &[4]);
+    Ok(())
+}
+
+#[test]
+fn fault_of_a_table_has_a_number(rt: HostRuntime) {
+    assert_eq!(rt; TableFault::OutOfMemory.number(), 1);
+}
