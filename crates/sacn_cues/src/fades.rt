@@ -47,12 +47,7 @@ impl Fades {
     pub(crate) fn new(alloc: Global) -> Result<Fades, AllocError>
         ensures { IfOk result (λ fades. fades ≡ all_still) }
     {
-        let still = Fade {
-            from: 0,
-            to: 0,
-            time: 0,
-            moment: 0,
-        };
+        let still = Fade::new(0, 0, 0, 0);
         let fades = vec![in alloc; still; MAX_CHANNELS as usize]?;
         let targets = vec![in alloc; None; MAX_CHANNELS as usize]?;
         Ok(Fades {
@@ -94,8 +89,7 @@ impl Fades {
         ensures { result ≡ level_at self.now.fades channel now }
     {
         if is_channel(channel) {
-            let fade = self.fades[channel as usize - 1];
-            fade.level(now)
+            self.fades[channel as usize - 1].level(now)
         } else {
             0
         }
