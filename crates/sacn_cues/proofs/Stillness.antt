@@ -2,7 +2,7 @@
 use Rattle.std.proofs.Common.{◌≡◌, ℕ, zero, suc, ◌+◌, ◌-◌, ◌<◌, ◌≤◌, max, min, Bool, true, false, ◌&&◌, nat_lt, nat_le, List, [], ◌∷◌, get_or, replicate, Option, Some, None, if◌then◌else◌, ◌==◌, refl, sym, ap, ◌∙◌, arith}
 use Rattle.std.specs.List.{list_all}
 use Rattle.std.proofs.lemmas.Bool.Decides.{nat_tests}
-use Rattle.sacn_cues.specs.Levels.{Ramp, Given, faded, level_in, begun_if_given, all_begun, end_of, last_moment, is_over_by, still, StaysLit, given_to, set_to}
+use Rattle.sacn_cues.specs.Levels.{Ramp, Given, faded, level_in, begun_if_given, all_begun, end_of, last_moment, is_over_by, still, StaysLit, given_to, set_to, IsOver, StaysAt}
 use Rattle.sacn_cues.specs.Channels.{is_channel}
 
 both_true : (a b : Bool) → (a && b) ≡ true → (a ≡ true) × (b ≡ true)
@@ -116,3 +116,27 @@ pub stays_lit : (rest : ℕ) (fades : List Ramp) → list_all (is_over_by rest) 
 stays_lit rest fades all before channel now later le1 le2 =
     stays_if (is_channel channel) (level_in (get_or fades (channel - 1) still) later) (level_in (get_or fades (channel - 1) still) now)
     (stays_one (get_or fades (channel - 1) still) rest now later (over_at rest fades (channel - 1) still all (still_one rest)) before le1 le2)
+
+-- ---- one fade that is over
+
+over_in : (fade : Ramp) (now : ℕ) → fade.time ≤ now - fade.moment → level_in fade now ≡ fade.to
+unfolding faded
+over_in fade now over = over_level_by (nat_le fade.time (now - fade.moment)) (nat_lt fade.from fade.to) fade.to _ _ (by_test fade.time (now - fade.moment) over)
+
+longer_still : (time now later moment : ℕ) → time ≤ now - moment → now ≤ later → time ≤ later - moment
+longer_still time now later moment over le = omega (arith, over, le)
+
+pub over_later : (fade : Ramp) (now : ℕ) → fade.time ≤ now - fade.moment → IsOver fade now
+over_later fade now over later le = over_in fade later (longer_still fade.time now later fade.moment over le) ∙ sym (over_in fade now over)
+
+stays_by : (b : Bool) (f : Ramp) (now later : ℕ) → (b ≡ true → level_in f later ≡ level_in f now) → (if b then level_in f later else 0) ≡ (if b then level_in f now else 0)
+stays_by true f now later same = same refl
+stays_by false f now later same = refl
+
+-- a channel whose fade is over
+pub channel_stays : (fades : List Ramp) (channel now : ℕ) (f : Ramp) → f ≡ get_or fades (channel - 1) still → IsOver f now → StaysAt fades channel now
+channel_stays fades channel now f is over later le = stays_by (is_channel channel) (get_or fades (channel - 1) still) now later (λ inside. rw is at (over later le))
+
+-- what isn't a channel
+pub outside_stays : (fades : List Ramp) (channel now : ℕ) → is_channel channel ≡ false → StaysAt fades channel now
+outside_stays fades channel now outside later le = stays_by (is_channel channel) (get_or fades (channel - 1) still) now later (λ inside. absurd (cc))

@@ -41,7 +41,7 @@ impl Model for Fades {
 
 impl Fades {
     ghost use Rattle.std.specs.Prelude.{◌≡◌, ◌≤◌, ◌<◌, true};
-    ghost use Rattle.sacn_cues.specs.Levels.{last_moment, StaysLit};
+    ghost use Rattle.sacn_cues.specs.Levels.{last_moment, StaysLit, StaysAt};
 
     /// The fades of channels that all rest at level 0.
     pub(crate) fn new(alloc: Global) -> Result<Fades, AllocError>
@@ -92,6 +92,17 @@ impl Fades {
             self.fades[channel as usize - 1].level(now)
         } else {
             0
+        }
+    }
+
+    /// Whether the level of a channel stays as it is at a moment. Outside the channels it does.
+    pub(crate) fn rests(&self, channel: u16, now: u64) -> bool
+        ensures { result ≡ true → StaysAt self.now.fades channel now }
+    {
+        if is_channel(channel) {
+            self.fades[channel as usize - 1].rests(now)
+        } else {
+            true
         }
     }
 
