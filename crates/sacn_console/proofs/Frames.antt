@@ -1,11 +1,17 @@
 -- Frames of a player at its own moment, at later ones, and after its commands.
-use Rattle.std.proofs.Common.{◌≡◌, ℕ, ◌*◌, ◌/◌, ◌-◌, ◌≤◌, ◌&&◌, max, Bool, true, false, nat_eq, List, [], ◌∷◌, Some, arith, ap, refl}
+use Rattle.std.proofs.Common.{◌≡◌, ℕ, ◌*◌, ◌/◌, ◌-◌, ◌≤◌, ◌&&◌, max, Bool, true, false, nat_eq, List, [], ◌∷◌, map, ◌+◌, Option, Some, None, arith, ap, refl, ◌∙◌}
 use Rattle.std.specs.Cmp.Lexicographic.{pointwise}
-use Rattle.sacn_patch.specs.Patch.{universe_frame}
+use Rattle.std.specs.FinMap.{get}
+use Rattle.std.specs.List.{range_with_len}
+use Rattle.std.proofs.lemmas.List.FromFn.{fill_by_all, length-map-range_with_len, get_or-map-range_with_len}
+use Rattle.sacn_patch.specs.declared.part.Part.{Part}
+use Rattle.sacn_patch.specs.Parts.{part_of_level}
+use Rattle.sacn_patch.specs.Patch.{Patched, universe_frame, slot_level, EachShown}
 use Rattle.sacn_cues.specs.declared.limits.TheConstants.{FULL}
 use Rattle.sacn_cues.specs.Levels.{all_begun}
-use Rattle.sacn_cues.specs.Playing.{Played, moved, after, gives, master_by, current_by, rest_by, level_mastered, StaysAsItIs}
+use Rattle.sacn_cues.specs.Playing.{Played, moved, after, gives, master_by, current_by, rest_by, level_mastered, StaysAsItIs, LevelStays}
 use Rattle.sacn_cues.specs.Playing as play
+use Rattle.sacn_console.specs.Wakes.{FrameStays}
 use Rattle.sacn_console.specs.Lines.{same, state_sent}
 use Rattle.sacn_console.specs.declared.line.Run.{Run}
 use Rattle.sacn_console.specs.declared.line.State.TheVariants.{Running}
@@ -65,6 +71,25 @@ frame_later l u t s le = ap (λ (p : Played). frame_now (record { patch = l.patc
 pub frame_stays : (l : Lights) (u s : ℕ) → StaysAsItIs l.player → frame l u s ≡ frame_now l u
 unfolding frame frame_now
 frame_stays l u s still = ap (λ (f : ℕ → ℕ). universe_frame (λ c. f c * l.player.master / FULL) l.patch u) (λ i c. still s c i)
+
+slot_by : (f g : ℕ → ℕ) (o : Option Part) → ((part : Part) → o ≡ Some part → f part.channel ≡ g part.channel) → slot_level f o ≡ slot_level g o
+slot_by f g None same = refl
+slot_by f g (Some part) same = ap (λ (n : ℕ). part_of_level n part) (same part refl)
+
+-- levels that are the same for each channel of a universe give it the same frame
+same_frame : (f g : ℕ → ℕ) (patch : Patched) (u : ℕ) → EachShown patch u (λ c. f c ≡ g c) → universe_frame f patch u ≡ universe_frame g patch u
+unfolding universe_frame
+same_frame f g patch u each =
+    let at : ℕ → ℕ = λ i. slot_level f (get patch (u, i + 1)) in
+    fill_by_all (λ i. slot_level g (get patch (u, i + 1))) (map at (range_with_len 0 512)) 512 0 (length-map-range_with_len at 0 512) (λ i lt.
+    let here : 0 + i ≡ i = omega arith in
+    get_or-map-range_with_len at 0 512 i i 0 lt here
+    ∙ slot_by f g (get patch (u, i + 1)) (λ part is. each (i + 1) part (omega arith) (omega (arith, lt)) is))
+
+-- while none of its channels fades, a universe's frame stays
+pub frame_rests : (l : Lights) (u : ℕ) → EachShown l.patch u (LevelStays l.player) → FrameStays l u
+unfolding frame frame_now
+frame_rests l u each s = same_frame (level_mastered (moved s l.player)) (level_mastered l.player) l.patch u (λ slot part least most is. each slot part least most is s)
 
 -- ---- frames that are the same
 

@@ -10,3 +10,5 @@ pub mod Kept
 pub mod Numbered
 pub mod ShowLemmas
 pub mod Lawful
+pub mod Counted
+pub mod LeastDue

@@ -10,7 +10,7 @@ use Rattle.sacn_console.specs.Lights.{Lights, lights_at, frame, frame_now}
 use Rattle.sacn_console.specs.Lines.{Page, Paged, same, passed, asks, line_due, line_sent, state_sent, fresh_run, is_stopped}
 use Rattle.std.specs.Option.{option_map}
 use Rattle.sacn_console.specs.Core.{Core, at, line_found, page_due, due, due_by, no_line}
-use Rattle.sacn_console.specs.Wakes.{Finds, IsWake, IsQuiet, QuietBefore, IsLeast, Waking, WakesOk, last_moment, when_passed, wake_sent, passed_over}
+use Rattle.sacn_console.specs.Wakes.{Finds, FrameStays, IsWake, IsQuiet, QuietBefore, IsLeast, Waking, WakesOk, last_moment, when_passed, wake_sent, passed_over}
 use Rattle.sacn_console.specs.declared.line.Run.{Run}
 use Rattle.sacn_console.specs.declared.line.Line.{Line}
 use Rattle.sacn_console.specs.declared.line.Look.TheVariants.{Due, Asleep}
@@ -195,6 +195,17 @@ look_awake p t l f w b tells not_still m fe e is =
     let quiet : line_due p t l ≡ false = asks_sleeps p t l f now e in (
       (quiet, omega (arith, is)),
       (λ s from lt. rw (no_later t s w last_moment is from lt) quiet, λ still from lt. absurd (both_ways b (tells ∙ still) not_still)),
+    )
+
+-- none of the universe's own channels fades, others do
+pub look_resting : (p : Lights) (t : ℕ) (l : Line) (f : List ℕ) (w : ℕ) (b : Bool) → b ≡ is_still p.player → b ≡ false → p.player.moment ≡ t → FrameStays p l.universe → is_stopped l.state ≡ false → f ≡ frame_now p l.universe → asks t l.last f l.state ≡ false → w ≡ when_passed KEEP_ALIVE l.last → Finds p t l f (Asleep w)
+look_resting p t l f w b tells not_still m stays go fe e is =
+    let now : frame p l.universe t ≡ f = now_is p l.universe t m ∙ sym fe in (
+      (asks_sleeps p t l f now e, rw is (ahead KEEP_ALIVE t l.last (quiet_alive t l.last f l.state go e))),
+      (
+        λ s from lt. asks_sleeps p s l f (stays s ∙ sym fe) (asks_later t s l.last f l.state e (not_passed KEEP_ALIVE s l.last (omega arith) (rw is at lt))),
+        λ still from lt. absurd (both_ways b (tells ∙ still) not_still),
+      ),
     )
 
 -- ---- after a packet

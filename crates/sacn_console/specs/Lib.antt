@@ -4,6 +4,8 @@ pub mod Lines
 pub mod Core
 pub mod Due
 pub mod Runs
+pub mod PageCounts
+pub mod Least
 pub mod Wakes
 pub mod Shows
 pub mod ShowReading

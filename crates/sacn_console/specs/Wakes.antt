@@ -2,7 +2,7 @@
 use Rattle.std.specs.Prelude.{◌≡◌, ℕ, ◌+◌, ◌<◌, ◌≤◌, min, Bool, true, false, ◌&&◌, ◌==◌, if◌then◌else◌, List, length, slice_index_or, Option, Some, None}
 use Rattle.sacn_cues.specs.Playing.{is_still}
 use Rattle.sacn_cues.specs.Levels as levels
-use Rattle.sacn_console.specs.Lights.{Lights, frame}
+use Rattle.sacn_console.specs.Lights.{Lights, frame, frame_now}
 use Rattle.sacn_console.specs.declared.limits.TheConstants.{LEAST_GAP, KEEP_ALIVE}
 use Rattle.sacn_console.specs.declared.line.Look.{Look}
 use Rattle.sacn_console.specs.declared.line.Look.TheVariants.{Due, Asleep}
@@ -20,6 +20,10 @@ last_moment = levels.last_moment
 abbrev pub when_passed : ℕ → Option ℕ → ℕ
 when_passed wait None = 0
 when_passed wait (Some m) = min (m + wait) last_moment
+
+-- the universe's frame stays as it is at the player's moment
+abbrev pub FrameStays : Lights → ℕ → Type 0
+FrameStays p u = (s : ℕ) → frame p u s ≡ frame_now p u
 
 -- from t on, and before its wake, the line isn't due
 abbrev pub IsAsleep : Lights → ℕ → ℕ → Line → Type 0

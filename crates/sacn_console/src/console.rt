@@ -153,7 +153,8 @@ impl ConsoleCore {
     /// What is kept of each universe, in ascending order of number: its state, the number of its next packet, and the moment of
     /// its latest one.
     pub fn lines(&self) -> &[Line]
-        ensures { result.now ≡ self.now.lines }
+        ensures lines { result.now ≡ self.now.lines }
+        ensures ascending { Rising (universes_of self.now.lines) }
     {
         self.lines.as_slice()
     }

@@ -1,5 +1,7 @@
 //! Laws of the console core over its definitions alone. They cost nothing when they run.
 ghost use Rattle.sacn_console.specs.Runs.{PacketsAreNumbered, StepsAreTheList};
+ghost use Rattle.sacn_console.specs.PageCounts.{PagesAreCounted};
+ghost use Rattle.sacn_console.specs.Least.{LeastGoesFirst};
 ghost use Rattle.std.specs.Prelude.{◌≡◌};
 ghost use Rattle.sacn_console.specs.declared.limits.TheConstants.{CONSOLE_UNIVERSES, DEFAULT_PRIORITY, DISCOVERY_INTERVAL, KEEP_ALIVE, LEAST_GAP, MAX_DESTINATIONS, MOST_OCTETS, NEWEST_SHOW, REPEATS, TERMINATIONS};
 
@@ -17,6 +19,18 @@ pub fn steps_are_the_list()
 /// The packets of a life on a universe are numbered from the first number on, one by one, modulo 256.
 pub fn packets_are_numbered()
     ensures { PacketsAreNumbered }
+{}
+
+/// Which discovery page comes next follows from counting: its number is how many pages were given
+/// since the latest cycle's first one, until the cycle's list has no more (E1.31 section 8).
+pub fn pages_are_counted()
+    ensures { PagesAreCounted }
+{}
+
+/// Where the universes of a life strictly ascend, as they do in each console, a packet that is due
+/// is that of the least-numbered due universe.
+pub fn least_goes_first()
+    ensures { LeastGoesFirst }
 {}
 
 /// What the numbers of a console and of its shows are, times in milliseconds.

@@ -4,7 +4,7 @@ ghost use Rattle.sacn_cues.specs.Playing.{StaysAsItIs};
 ghost use Rattle.sacn_cues.specs.Playing as play;
 ghost use Rattle.sacn_console.specs.Lights.{frame_now};
 ghost use Rattle.sacn_console.specs.Lines.{same, passed, asks, is_stopped, is_ending, state_sent, line_sent};
-ghost use Rattle.sacn_console.specs.Wakes.{Finds, when_passed, wake_sent};
+ghost use Rattle.sacn_console.specs.Wakes.{Finds, FrameStays, when_passed, wake_sent};
 ghost use Rattle.sacn_console.specs.Core.{end_answer, start_answer};
 ghost use Rattle.sacn_console.specs.declared.limits.TheConstants as limits;
 
@@ -85,6 +85,13 @@ fn fill(patch: &FlatPatch, player: &PlayerAt<'_>, universe: u16, slots: &mut [u8
     patch.fill(universe, player, slots);
 }
 
+// Whether none of the channels that the universe shows fades.
+fn rests(patch: &FlatPatch, player: &PlayerAt<'_>, universe: u16) -> bool
+    ensures { result ≡ true → FrameStays (record { patch = patch.now; player = player.now.player.now }) universe }
+{
+    patch.rests(universe, player)
+}
+
 fn asks(state: &State, moment: u64, last: Option<u64>, slots: &[u8; SLOTS]) -> bool
     ensures { result ≡ asks moment last slots.now state.now }
 {
@@ -106,7 +113,8 @@ fn asks(state: &State, moment: u64, last: Option<u64>, slots: &[u8; SLOTS]) -> b
 
 impl Line {
     /// Looks whether this universe is due at the player's moment. Its frame is made only where the
-    /// timers don't decide.
+    /// timers don't decide. Where none of its own channels fades it sleeps until its next keep-alive
+    /// packet, whatever fades elsewhere.
     pub(crate) fn look(
         &self,
         patch: &FlatPatch,
@@ -131,6 +139,9 @@ impl Line {
             return Look::Due;
         }
         if is_still {
+            return Look::Asleep(when_passed(KEEP_ALIVE, self.last));
+        }
+        if rests(patch, player, self.universe) {
             return Look::Asleep(when_passed(KEEP_ALIVE, self.last));
         }
         Look::Asleep(moment.saturating_add(1))

@@ -1,13 +1,12 @@
 -- Fades that are all_begun one after another.
 use Rattle.std.proofs.Common.{◌≡◌, ℕ, zero, suc, ◌+◌, ◌<◌, Bool, true, false, ◌==◌, List, [], ◌∷◌, length, set, get_or, replicate, Option, Some, None, if◌then◌else◌, refl, sym, ap, ◌∙◌, arith}
 use Rattle.std.proofs.lemmas.Bool.Decides.{nat_tests}
-use Rattle.sacn_cues.specs.declared.fade.Fade.{Fade}
+use Rattle.sacn_cues.specs.Levels.{Ramp, Given, begun_if_given, given_to, all_begun, begun_to, set_to}
 use Rattle.sacn_cues.specs.Targets.{Targets}
-use Rattle.sacn_cues.specs.Levels.{Given, begun_if_given, given_to, all_begun, begun_to, set_to}
 
 module _ (up down now : ℕ) where
   -- a target that is taken away as its fade begins
-  pub one_begun : (at : ℕ) (targets : Targets) (fades : List Fade) (x : Fade) → at < length fades → length targets ≡ length fades → x ≡ begun_if_given now (given_to up down (get_or targets at None)) (get_or fades at x) → begun_to up down now (set targets at None) (set fades at x) ≡ begun_to up down now targets fades
+  pub one_begun : (at : ℕ) (targets : Targets) (fades : List Ramp) (x : Ramp) → at < length fades → length targets ≡ length fades → x ≡ begun_if_given now (given_to up down (get_or targets at None)) (get_or fades at x) → begun_to up down now (set targets at None) (set fades at x) ≡ begun_to up down now targets fades
   one_begun at [] [] x lt same is = absurd (omega arith)
   one_begun at [] (fade ∷ fades) x lt same is = absurd (omega arith)
   one_begun at (target ∷ targets) [] x lt same is = absurd (omega arith)
@@ -15,13 +14,13 @@ module _ (up down now : ℕ) where
   one_begun (suc at) (target ∷ targets) (fade ∷ fades) x lt same is = ap (λ fs. begun_if_given now (given_to up down target) fade ∷ fs) (one_begun at targets fades x (omega arith) (omega arith) is)
 
   -- where nothing is aimed, nothing begins
-  pub none_aimed : (n : ℕ) (fades : List Fade) → begun_to up down now (replicate n None) fades ≡ fades
+  pub none_aimed : (n : ℕ) (fades : List Ramp) → begun_to up down now (replicate n None) fades ≡ fades
   none_aimed n [] = refl
   none_aimed zero (fade ∷ fades) = refl
   none_aimed (suc n) (fade ∷ fades) = ap (λ fs. fade ∷ fs) (none_aimed n fades)
 
   -- targets that say what a command gives
-  pub begun_as_given : (gives : ℕ → Option Given) (channel : ℕ) (targets : Targets) (fades : List Fade) → length targets ≡ length fades → ((k : ℕ) → k < length targets → given_to up down (get_or targets k None) ≡ gives (channel + k)) → begun_to up down now targets fades ≡ all_begun gives now channel fades
+  pub begun_as_given : (gives : ℕ → Option Given) (channel : ℕ) (targets : Targets) (fades : List Ramp) → length targets ≡ length fades → ((k : ℕ) → k < length targets → given_to up down (get_or targets k None) ≡ gives (channel + k)) → begun_to up down now targets fades ≡ all_begun gives now channel fades
   begun_as_given gives channel [] [] same is = refl
   begun_as_given gives channel [] (fade ∷ fades) same is = absurd (omega arith)
   begun_as_given gives channel (target ∷ targets) [] same is = refl
@@ -44,13 +43,13 @@ abbrev given_if : ℕ → Bool → Option Given
 given_if level b = if b then Some (record { level = level; up = 0; down = 0 }) else None
 
 -- nothing is given to the channels after the one that is set
-after_set : (channel level now from : ℕ) (fades : List Fade) → channel < from → all_begun (set_to channel level) now from fades ≡ fades
+after_set : (channel level now from : ℕ) (fades : List Ramp) → channel < from → all_begun (set_to channel level) now from fades ≡ fades
 after_set channel level now from [] lt = refl
 after_set channel level now from (fade ∷ fades) lt =
     ap (λ b. begun_if_given now (given_if level b) fade ∷ all_begun (set_to channel level) now (suc from) fades) (differ channel from lt)
     ∙ ap (λ fs. fade ∷ fs) (after_set channel level now (suc from) fades (omega arith))
 
-pub one_set : (channel level now from at : ℕ) (fades : List Fade) (x : Fade) → channel ≡ from + at → at < length fades → x ≡ begun_if_given now (Some (record { level = level; up = 0; down = 0 })) (get_or fades at x) → set fades at x ≡ all_begun (set_to channel level) now from fades
+pub one_set : (channel level now from at : ℕ) (fades : List Ramp) (x : Ramp) → channel ≡ from + at → at < length fades → x ≡ begun_if_given now (Some (record { level = level; up = 0; down = 0 })) (get_or fades at x) → set fades at x ≡ all_begun (set_to channel level) now from fades
 one_set channel level now from at [] x there lt is = absurd (omega arith)
 one_set channel level now from zero (fade ∷ fades) x there lt is =
     ap (λ f. f ∷ fades) is
@@ -61,24 +60,24 @@ one_set channel level now from (suc at) (fade ∷ fades) x there lt is =
     ∙ sym (ap (λ b. begun_if_given now (given_if level b) fade ∷ all_begun (set_to channel level) now (suc from) fades) (differ_above channel from (omega arith)))
 
 -- where nothing is given, nothing changes
-pub none_begun : (gives : ℕ → Option Given) (now from : ℕ) (fades : List Fade) → ((channel : ℕ) → gives channel ≡ None) → all_begun gives now from fades ≡ fades
+pub none_begun : (gives : ℕ → Option Given) (now from : ℕ) (fades : List Ramp) → ((channel : ℕ) → gives channel ≡ None) → all_begun gives now from fades ≡ fades
 none_begun gives now from [] none = refl
 none_begun gives now from (fade ∷ fades) none =
     ap (λ g. begun_if_given now g fade ∷ all_begun gives now (suc from) fades) (none from)
     ∙ ap (λ fs. fade ∷ fs) (none_begun gives now (suc from) fades none)
 
-pub length-all_begun : (gives : ℕ → Option Given) (now from : ℕ) (fades : List Fade) → length (all_begun gives now from fades) ≡ length fades
+pub length-all_begun : (gives : ℕ → Option Given) (now from : ℕ) (fades : List Ramp) → length (all_begun gives now from fades) ≡ length fades
 length-all_begun gives now from [] = refl
 length-all_begun gives now from (fade ∷ fades) = ap suc (length-all_begun gives now (suc from) fades)
 
-pub get_or-all_begun : (gives : ℕ → Option Given) (now from : ℕ) (fades : List Fade) (i : ℕ) (d : Fade) → i < length fades → get_or (all_begun gives now from fades) i d ≡ begun_if_given now (gives (from + i)) (get_or fades i d)
+pub get_or-all_begun : (gives : ℕ → Option Given) (now from : ℕ) (fades : List Ramp) (i : ℕ) (d : Ramp) → i < length fades → get_or (all_begun gives now from fades) i d ≡ begun_if_given now (gives (from + i)) (get_or fades i d)
 get_or-all_begun gives now from [] i d lt = absurd (omega arith)
 get_or-all_begun gives now from (fade ∷ fades) zero d lt = let here : from + 0 ≡ from = omega arith in ap (λ k. begun_if_given now (gives k) fade) (sym here)
 get_or-all_begun gives now from (fade ∷ fades) (suc i) d lt =
     let e : suc from + i ≡ from + suc i = omega arith in
     get_or-all_begun gives now (suc from) fades i d (omega arith) ∙ ap (λ k. begun_if_given now (gives k) (get_or fades i d)) e
 
-pub length-begun_to : (up down now : ℕ) (targets : Targets) (fades : List Fade) → length (begun_to up down now targets fades) ≡ length fades
+pub length-begun_to : (up down now : ℕ) (targets : Targets) (fades : List Ramp) → length (begun_to up down now targets fades) ≡ length fades
 length-begun_to up down now targets [] = refl
 length-begun_to up down now [] (fade ∷ fades) = refl
 length-begun_to up down now (target ∷ targets) (fade ∷ fades) = ap suc (length-begun_to up down now targets fades)

@@ -41,18 +41,13 @@ impl Model for Fades {
 
 impl Fades {
     ghost use Rattle.std.specs.Prelude.{◌≡◌, ◌≤◌, ◌<◌, true};
-    ghost use Rattle.sacn_cues.specs.Levels.{last_moment, StaysLit};
+    ghost use Rattle.sacn_cues.specs.Levels.{last_moment, StaysLit, StaysAt};
 
     /// The fades of channels that all rest at level 0.
     pub(crate) fn new(alloc: Global) -> Result<Fades, AllocError>
         ensures { IfOk result (λ fades. fades ≡ all_still) }
     {
-        let still = Fade {
-            from: 0,
-            to: 0,
-            time: 0,
-            moment: 0,
-        };
+        let still = Fade::new(0, 0, 0, 0);
         let fades = vec![in alloc; still; MAX_CHANNELS as usize]?;
         let targets = vec![in alloc; None; MAX_CHANNELS as usize]?;
         Ok(Fades {
@@ -94,10 +89,20 @@ impl Fades {
         ensures { result ≡ level_at self.now.fades channel now }
     {
         if is_channel(channel) {
-            let fade = self.fades[channel as usize - 1];
-            fade.level(now)
+            self.fades[channel as usize - 1].level(now)
         } else {
             0
+        }
+    }
+
+    /// Whether the level of a channel stays as it is at a moment. Outside the channels it does.
+    pub(crate) fn rests(&self, channel: u16, now: u64) -> bool
+        ensures { result ≡ true → StaysAt self.now.fades channel now }
+    {
+        if is_channel(channel) {
+            self.fades[channel as usize - 1].rests(now)
+        } else {
+            true
         }
     }
 

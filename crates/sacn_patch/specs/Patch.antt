@@ -1,5 +1,5 @@
 -- A patch: a finite map from places to the parts of channels that they show (profile).
-use Rattle.std.specs.Prelude.{ℕ, ◌+◌, Bool, ◌||◌, ◌&&◌, nat_lt, List, map, Option, Some, None, is_some, if◌then◌else◌}
+use Rattle.std.specs.Prelude.{◌≡◌, ◌≤◌, ℕ, ◌+◌, Bool, ◌||◌, ◌&&◌, nat_lt, List, map, Option, Some, None, is_some, if◌then◌else◌}
 use Rattle.std.specs.List.{range_with_len}
 use Rattle.std.specs.Ordering.{nat_cmp, ordering_then}
 use Rattle.std.specs.declared.cmp.Ordering.{Ordering}
@@ -34,6 +34,10 @@ slot_level level (Some part) = part_of_level (level part.channel) part
 -- the slots of a universe, under these levels of the channels
 unfoldable pub universe_frame : (ℕ → ℕ) → Patched → ℕ → List ℕ
 universe_frame level patch universe = map (λ i. slot_level level (get patch (universe, i + 1))) (range_with_len 0 SLOTS)
+
+-- P holds of each channel that a slot of the universe shows
+abbrev pub EachShown : Patched → ℕ → (ℕ → Type 0) → Type 0
+EachShown patch universe P = (slot : ℕ) (part : Part) → 1 ≤ slot → slot ≤ SLOTS → get patch (universe, slot) ≡ Some part → P part.channel
 
 -- ---- what a call of `add` does
 

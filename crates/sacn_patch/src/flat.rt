@@ -3,7 +3,7 @@ ghost use Rattle.std.specs.Prelude.{◌≡◌, ◌<◌, ◌≤◌, ℕ, length, 
 ghost use Rattle.sacn_patch.specs.declared.limits.TheConstants as limits;
 ghost use Rattle.sacn_patch.specs.Flat.{Row, Sorted, AllBelow, is_within};
 
-use crate::level::LevelOf;
+use crate::level::{LevelOf, RestOf};
 use crate::limits::SLOTS;
 use crate::part::{Part, byte_of};
 use crate::patch::level_once;
@@ -35,7 +35,7 @@ impl Model for FlatPatch {
 }
 
 impl FlatPatch {
-    ghost use Rattle.sacn_patch.specs.Patch.{universe_frame};
+    ghost use Rattle.sacn_patch.specs.Patch.{universe_frame, EachShown};
 
     /// Writes the slots of a universe as `Patch::fill` does.
     pub fn fill<L: LevelOf>(&self, universe: u16, levels: &L, slots: &mut [u8; SLOTS])
@@ -55,6 +55,26 @@ impl FlatPatch {
                 slots[at.1 as usize - 1] = byte_of(part, level);
             }
         }
+    }
+
+    /// Whether the level of each channel that the universe shows is known to stay. It looks no
+    /// further than the first one of which it isn't.
+    pub fn rests<R: RestOf>(&self, universe: u16, levels: &R) -> bool
+        ensures { result ≡ true → EachShown self.now universe (R.stays levels.now) }
+    {
+        let row = self.row.as_slice();
+        for place in start_of(row, universe)..row.len() {
+            let (at, part) = row[place];
+            if at.0 > universe {
+                return true;
+            }
+            if is_within(at, universe) {
+                if !levels.rests(part.channel) {
+                    return false;
+                }
+            }
+        }
+        true
     }
 }
 

@@ -1,5 +1,5 @@
-//! Where levels come from.
-ghost use Rattle.std.specs.Prelude.{◌≡◌, ℕ};
+//! Where levels come from, and whether they stay.
+ghost use Rattle.std.specs.Prelude.{◌≡◌, ℕ, true};
 
 /// What gives a level to each channel.
 ///
@@ -13,4 +13,14 @@ pub trait LevelOf {
     /// The level of this channel, from 0 to 65535. Every channel may be asked for.
     fn level_of(&self, channel: u16) -> u16
         ensures { result ≡ level self.now channel };
+}
+
+/// What says of a channel whether its level stays.
+pub trait RestOf {
+    /// The level of a channel stays, by definition.
+    ghost stays: { Self → ℕ → Type 0 };
+
+    /// Whether the level of this channel is known to stay. Every channel may be asked for.
+    fn rests(&self, channel: u16) -> bool
+        ensures { result ≡ true → stays self.now channel };
 }

@@ -16,6 +16,6 @@ mod tests;
 
 pub use fault::PatchFault;
 pub use flat::FlatPatch;
-pub use level::LevelOf;
+pub use level::{LevelOf, RestOf};
 pub use limits::{MAX_CHANNELS, MAX_UNIVERSE, SLOTS};
 pub use patch::Patch;

@@ -7,4 +7,4 @@ use Rattle.sacn_cues.proofs.fade.begin_one.Goals as goal
 pub returns-then-channel-targets-clause-fades : goal.returns-then-channel-targets-clause-fades
 returns-then-channel-targets-clause-fades c =
     let lt : c.args.channel - 1 < length c.args.fades.now = search rules in
-    one_begun c.args.times.up c.args.times.down c.args.now (c.args.channel - 1) c.args.targets.now c.args.fades.now c.begun.result lt c.requires (c.begun.ensures ∙ ap (begun_if_given c.args.now (given_to c.args.times.up c.args.times.down (get_or c.args.targets.now (c.args.channel - 1) None))) (get_or_default c.args.fades.now (c.args.channel - 1) _ _ lt))
+    one_begun c.args.times.up c.args.times.down c.args.now (c.args.channel - 1) c.args.targets.now c.args.fades.now c.begin_fade.new.fade lt c.requires (c.begin_fade.ensures ∙ ap (begun_if_given c.args.now (given_to c.args.times.up c.args.times.down (get_or c.args.targets.now (c.args.channel - 1) None))) (get_or_default c.args.fades.now (c.args.channel - 1) _ _ lt))

@@ -5,4 +5,4 @@ use Rattle.sacn_cues.proofs.Begun.{one_set}
 use Rattle.sacn_cues.proofs.fade.set_one.Goals as goal
 
 pub returns : goal.returns
-returns c = one_set c.args.channel c.args.level c.args.now 1 (c.args.channel - 1) c.args.fades.now c.begun.result (omega arith) (omega arith) (c.begun.ensures ∙ ap (begun_if_given c.args.now (Some (record { level = c.args.level; up = 0; down = 0 }))) (get_or_default c.args.fades.now (c.args.channel - 1) _ _ (omega arith)))
+returns c = one_set c.args.channel c.args.level c.args.now 1 (c.args.channel - 1) c.args.fades.now c.begin_fade.new.fade (omega arith) (omega arith) (c.begin_fade.ensures ∙ ap (begun_if_given c.args.now (Some (record { level = c.args.level; up = 0; down = 0 }))) (get_or_default c.args.fades.now (c.args.channel - 1) _ _ (omega arith)))

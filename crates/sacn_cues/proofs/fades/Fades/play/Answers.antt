@@ -2,9 +2,8 @@ use Rattle.std.proofs.Common.{◌≡◌, ℕ, List, length, max, replicate, Opti
 use Rattle.std.proofs.lemmas.List.{with_items_is}
 use Rattle.std.specs.List.{list_all}
 use Rattle.sacn_patch.specs.declared.limits.TheConstants.{MAX_CHANNELS}
-use Rattle.sacn_cues.specs.declared.fade.Fade.{Fade}
+use Rattle.sacn_cues.specs.Levels.{Ramp, Running, Given, given_to, all_begun, is_over_by, end_of}
 use Rattle.sacn_cues.specs.Cues.{level_of_channel}
-use Rattle.sacn_cues.specs.Levels.{Running, Given, given_to, all_begun, is_over_by, end_of}
 use Rattle.sacn_cues.specs.Targets.{Targets}
 use Rattle.sacn_cues.specs.Playing.{longer}
 use Rattle.sacn_cues.proofs.Begun.{length-all_begun}
@@ -27,7 +26,7 @@ invariant_of-self c =
     let rest = c.rest_after-self-inside.ensures ∙ ap (λ (n : ℕ). max c.self.inside.rest (end_of c.args.now n)) c.longer.ensures in (
       ap length items ∙ width ∙ c.self.invariant.0,
       targets ∙ room ∙ c.self.invariant.1,
-      ap (λ (fades : List Fade). list_all (is_over_by c.rest_after-self-inside.result) fades) (items ∙ begun)
+      ap (λ (fades : List Ramp). list_all (is_over_by c.rest_after-self-inside.result) fades) (items ∙ begun)
           ∙ ap (λ (r : ℕ). list_all (is_over_by r) (all_begun gives c.args.now 1 c.self.inside.fades.items)) rest
           ∙ cue_over (level_of_channel c.args.scene.now.levels) c.args.scene.now.up c.args.scene.now.down c.args.now c.self.inside.rest c.self.inside.fades.items c.self.invariant.2,
     )
@@ -39,6 +38,6 @@ returns c =
     let width : length c.play_scene.new.fades ≡ length c.self.inside.fades.items = ap length begun ∙ length-all_begun gives c.args.now 1 c.self.inside.fades.items in
     let items = with_items_is c.self.inside.fades c.play_scene.new.fades (omega (arith, width, c.self.inside.fades.ok)) in
     let rest = c.rest_after-self-inside.ensures ∙ ap (λ (n : ℕ). max c.self.inside.rest (end_of c.args.now n)) c.longer.ensures in
-    ap (λ (fades : List Fade). let r : Running = record { rest = c.rest_after-self-inside.result; fades = fades } in r) (items ∙ begun)
+    ap (λ (fades : List Ramp). let r : Running = record { rest = c.rest_after-self-inside.result; fades = fades } in r) (items ∙ begun)
     ∙ ap (λ (n : ℕ). let r : Running = record { rest = n; fades = all_begun gives c.args.now 1 c.self.inside.fades.items } in r) rest
     ∙ ap (λ (old : Running). let r : Running = record { rest = max old.rest (end_of c.args.now (longer c.args.scene.now)); fades = all_begun gives c.args.now 1 old.fades } in r) c.self.view_is

@@ -1,0 +1,5 @@
+use Rattle.sacn_console.proofs.Counted.{pages_are_counted}
+use Rattle.sacn_console.proofs.laws.pages_are_counted.Goals as goal
+
+pub returns : goal.returns
+returns c = pages_are_counted
