@@ -2,14 +2,14 @@
 use Rattle.std.proofs.Common.{subst, inl, inr, Bool, true, false, ◌⊎◌, IfErr, ◌≡◌, ℕ, ◌+◌, ◌<◌, ◌≤◌, List, [], ◌++◌, length, get_or, take, drop, Some, None, Result, Ok, Err, refl, sym, ap, ◌∙◌, append_assoc, arith}
 use Rattle.std.proofs.lemmas.List.{length-append, append-nil, drop_all, take-append-le, take_at}
 use Rattle.sacn_world.specs.declared.answer.Answer.{Answer}
-use Rattle.sacn_world.specs.declared.event.Event.{Event}
+use Rattle.sacn_schedule.specs.declared.event.Event.{Event}
 use Rattle.sacn_world.specs.declared.fault.WorldFault.{WorldFault}
 use Rattle.sacn_world.specs.declared.fault.NewFault.{NewFault}
 use Rattle.sacn_world.specs.declared.fault.NewFault.TheVariants as new
-use Rattle.sacn_world.specs.Cids.{Desk, HaveOwnCids, has_same_cid}
-use Rattle.sacn_world.proofs.OwnCids.{tested}
+use Rattle.sacn_schedule.specs.Cids.{Desk, HaveOwnCids, has_same_cid}
+use Rattle.sacn_schedule.proofs.OwnCids.{tested}
 use Rattle.sacn_world.specs.Worlds.{World, Step, step}
-use Rattle.sacn_world.specs.WorldFile.{WorldContent}
+use Rattle.sacn_schedule.specs.WorldFile.{WorldContent}
 use Rattle.sacn_text.specs.declared.fault.SimFault.{SimFault}
 use Rattle.sacn_text.specs.declared.fault.SimFault.TheVariants as sim
 use Rattle.sacn_text.specs.Simulating.{Simulated, simulated, simulated_by, then_line, line_of, begun, Reads, Breaks, Stops}

@@ -3,12 +3,12 @@ use Rattle.std.specs.Prelude.{◌≡◌, ◌⊎◌, ℕ, ◌+◌, ◌<◌, List,
 use Rattle.toml.specs.Parse.{parse_document}
 use Rattle.sacn_world.specs.declared.answer.Answer.{Answer}
 use Rattle.sacn_world.specs.declared.answer.Answer.TheVariants as answered
-use Rattle.sacn_world.specs.declared.event.Event.{Event}
-use Rattle.sacn_world.specs.declared.event.Event.TheVariants.{Order, Poll, Deliver, Look, RestartConsole, RestartNode, Noise}
+use Rattle.sacn_schedule.specs.declared.event.Event.{Event}
+use Rattle.sacn_schedule.specs.declared.event.Event.TheVariants.{Order, Poll, Deliver, Look, RestartConsole, RestartNode, Noise}
 use Rattle.sacn_world.specs.declared.fault.WorldFault.{WorldFault}
-use Rattle.sacn_world.specs.Events.{happening}
-use Rattle.sacn_world.specs.Schedules.{schedule_in}
-use Rattle.sacn_world.specs.WorldFile.{WorldContent, world_or_toml}
+use Rattle.sacn_schedule.specs.Events.{happening}
+use Rattle.sacn_schedule.specs.Schedules.{schedule_in}
+use Rattle.sacn_schedule.specs.WorldFile.{WorldContent, world_or_toml}
 use Rattle.sacn_world.specs.Worlds.{World, Step, step, new_world}
 use Rattle.sacn_text.specs.Looks.{look_line, frame_words}
 use Rattle.sacn_text.specs.declared.fault.SimFault.{SimFault}

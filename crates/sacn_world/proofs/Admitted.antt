@@ -9,14 +9,14 @@ use Rattle.sacn_framing.specs.declared.packet.Packet.TheVariants.{DataPacket, Pa
 use Rattle.sacn_framing.specs.PacketReading.{reading_packet}
 use Rattle.sacn_node.specs.Readings.{Reading}
 use Rattle.sacn_node.specs.Setup.{Port}
-use Rattle.sacn_world.specs.declared.event.Event.{Event}
-use Rattle.sacn_world.specs.declared.event.Event.TheVariants.{Order, Poll, Deliver, Look, RestartConsole, RestartNode, Noise}
+use Rattle.sacn_schedule.specs.declared.event.Event.{Event}
+use Rattle.sacn_schedule.specs.declared.event.Event.TheVariants.{Order, Poll, Deliver, Look, RestartConsole, RestartNode, Noise}
 use Rattle.sacn_world.specs.declared.fault.WorldFault.{WorldFault}
 use Rattle.sacn_world.specs.declared.fault.WorldFault.TheVariants.{TooFarBehind, OldLife}
 use Rattle.sacn_world.specs.Streams.{Sent, life_at, stream_of, place_of}
 use Rattle.sacn_world.specs.Holdings.{newest, is_old_life, is_too_far_behind, refusal_at, refusal}
 use Rattle.sacn_world.specs.Nodes.{Node}
-use Rattle.sacn_world.specs.Cids.{Desk}
+use Rattle.sacn_schedule.specs.Cids.{Desk}
 use Rattle.sacn_world.specs.Kept.{IsAccepted}
 use Rattle.sacn_world.specs.Worlds.{World, Step, order_step, poll_step, restart_console, come, arrive, deliver_step, look_step, heard, noise_step, restart_node, step, left_by, after, new_world}
 use Rattle.sacn_world.specs.Running.{Ran, answered_first, first_then, ran}

@@ -6,8 +6,8 @@ use Rattle.sacn_node.specs.Setup.{Setup}
 use Rattle.sacn_node.specs.Laws.{HasTheUniversesOfItsRanges}
 use Rattle.sacn_world.specs.declared.console.Console.{Console}
 use Rattle.sacn_world.specs.Nodes.{node_of}
-use Rattle.sacn_world.specs.Cids.{Desk, same_cid, has_same_cid}
-use Rattle.sacn_world.proofs.OwnCids.{or_parts, differ}
+use Rattle.sacn_schedule.specs.Cids.{Desk, same_cid, has_same_cid}
+use Rattle.sacn_schedule.proofs.OwnCids.{or_parts, differ}
 use Rattle.sacn_world.specs.Worlds.{new_console, new_world, Apart, WorldOk}
 use Rattle.sacn_world.specs.Watches.{Watch, new_watch, node_by_places, WatchOk}
 use Rattle.sacn_world.specs.Wire.{SentDatagram}

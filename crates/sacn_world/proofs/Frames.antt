@@ -12,13 +12,13 @@ use Rattle.sacn_node.specs.Setup.{Port}
 use Rattle.sacn_node.specs.Ports.{port_of, covers, octet_at, level_in, level_by, port_frame, frame_on}
 use Rattle.sacn_world.specs.declared.answer.Answer.{Answer}
 use Rattle.sacn_world.specs.declared.answer.Answer.TheVariants as answered
-use Rattle.sacn_world.specs.declared.event.Event.{Event}
-use Rattle.sacn_world.specs.declared.event.Event.TheVariants.{Look}
+use Rattle.sacn_schedule.specs.declared.event.Event.{Event}
+use Rattle.sacn_schedule.specs.declared.event.Event.TheVariants.{Look}
 use Rattle.sacn_world.specs.Streams.{Sent, at, stream_of}
 use Rattle.sacn_world.specs.Holdings.{Hold}
 use Rattle.sacn_world.specs.Nodes.{Holding, Node, node_at, holding_of, unexpired_all, slots, slots_on, node_slots, frame_of, HoldOk}
 use Rattle.sacn_world.specs.Members.{IsShown}
-use Rattle.sacn_world.specs.Cids.{Desk}
+use Rattle.sacn_schedule.specs.Cids.{Desk}
 use Rattle.sacn_world.specs.Worlds.{World, Step, step, after, look_step, shown, new_console, new_world, Apart, NodeOk, WorldOk}
 use Rattle.sacn_world.specs.Running.{Ran, ran}
 use Rattle.sacn_world.specs.Laws.{reached}

@@ -4,10 +4,10 @@ use Rattle.std.proofs.lemmas.Option.{same_Some}
 use Rattle.std.proofs.lemmas.List.{take-append-drop, take-take, drop-take}
 use Rattle.sacn_slots.specs.Merge.{MergesTheSet}
 use Rattle.sacn_node.specs.Setup.{Port}
-use Rattle.sacn_world.specs.declared.event.Event.{Event}
-use Rattle.sacn_world.specs.declared.event.Event.TheVariants.{Deliver}
+use Rattle.sacn_schedule.specs.declared.event.Event.{Event}
+use Rattle.sacn_schedule.specs.declared.event.Event.TheVariants.{Deliver}
 use Rattle.sacn_world.specs.Streams.{place_of}
-use Rattle.sacn_world.specs.Cids.{Desk}
+use Rattle.sacn_schedule.specs.Cids.{Desk}
 use Rattle.sacn_world.specs.Worlds.{World, step, left_by, after, new_console, new_world, Apart}
 use Rattle.sacn_world.specs.Running.{Ran, ran}
 use Rattle.sacn_world.specs.Counts.{Count, count_step, count_run, no_count}

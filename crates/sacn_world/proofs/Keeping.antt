@@ -27,8 +27,8 @@ use Rattle.sacn_root.specs.declared.fault.PacketFault.{PacketFault}
 use Rattle.sacn_world.specs.declared.answer.Answer.{Answer}
 use Rattle.sacn_world.specs.declared.answer.Answer.TheVariants as answered
 use Rattle.sacn_world.specs.declared.console.Console.{Console}
-use Rattle.sacn_world.specs.declared.event.Event.{Event}
-use Rattle.sacn_world.specs.declared.event.Event.TheVariants.{Order, Poll, Deliver, Look, RestartConsole, RestartNode, Noise}
+use Rattle.sacn_schedule.specs.declared.event.Event.{Event}
+use Rattle.sacn_schedule.specs.declared.event.Event.TheVariants.{Order, Poll, Deliver, Look, RestartConsole, RestartNode, Noise}
 use Rattle.sacn_world.specs.declared.fault.WorldFault.{WorldFault}
 use Rattle.sacn_world.specs.declared.fault.WorldFault.TheVariants.{NoConsole, NoNode, NoDatagram, NoiseIsPacket}
 use Rattle.sacn_world.specs.Streams.{Sent}
@@ -66,7 +66,7 @@ new_places : (ports : List Port) → node_by_places (new_watch ports) ≡ node_o
 unfolding by_places
 new_places ports = λ i. record { ports = ports; moment = 0; holdings = new_holdings (universes ports) i; delivered = [] }
 
-new_seen : (sent : List Sent) (ports : List Port) → (new_watch ports).node.core ≡ seen_core sent (node_of ports)
+pub new_seen : (sent : List Sent) (ports : List Port) → (new_watch ports).node.core ≡ seen_core sent (node_of ports)
 unfolding seen_core
 new_seen sent ports = λ i. record { moment = 0; tables = new_tables sent (universes ports) i }
 

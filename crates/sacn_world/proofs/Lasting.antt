@@ -18,8 +18,8 @@ use Rattle.sacn_sources.specs.declared.taken.Taken.TheVariants.{Held, EndedNow}
 use Rattle.sacn_world.specs.declared.answer.Answer.{Answer}
 use Rattle.sacn_world.specs.declared.answer.Answer.TheVariants as answered
 use Rattle.sacn_world.specs.declared.console.Console.{Console}
-use Rattle.sacn_world.specs.declared.event.Event.{Event}
-use Rattle.sacn_world.specs.declared.event.Event.TheVariants.{Order, Poll, Deliver, Look, RestartConsole, RestartNode, Noise}
+use Rattle.sacn_schedule.specs.declared.event.Event.{Event}
+use Rattle.sacn_schedule.specs.declared.event.Event.TheVariants.{Order, Poll, Deliver, Look, RestartConsole, RestartNode, Noise}
 use Rattle.sacn_world.specs.declared.fault.WorldFault.{WorldFault}
 use Rattle.sacn_world.specs.Streams.{Sent, stream_of, place_of}
 use Rattle.sacn_world.specs.Holdings.{Hold, is_renewed, unexpired, hold_of, answer, holding_after, delivered}
@@ -29,7 +29,7 @@ use Rattle.sacn_world.specs.Lasting.{LastsThrough, Lasts, HoldsFrom, TakesItsPla
 use Rattle.sacn_world.proofs.Forward.{never_back, later_than_held}
 use Rattle.sacn_world.proofs.Maps.{hold_of-put}
 use Rattle.sacn_world.proofs.Runs.{mapped}
-use Rattle.sacn_world.proofs.Counts.{find_kept, find_change, find_change_other, set_there, set_other}
+use Rattle.sacn_world.proofs.Changes.{find_kept, find_change, find_change_other, set_there, set_other}
 
 -- ---- expiry leaves what is renewed
 

@@ -1,6 +1,3 @@
-pub mod Entries
-pub mod FirstFaults
-pub mod OwnCids
 pub mod Numbers
 pub mod Sources
 pub mod All
@@ -15,6 +12,7 @@ pub mod Sending
 pub mod Polls
 pub mod Consoles
 pub mod Runs
+pub mod Changes
 pub mod Counts
 pub mod Looks
 pub mod Replies

@@ -12,18 +12,18 @@ use Rattle.sacn_node.specs.Readings.{Reading}
 use Rattle.sacn_node.specs.Setup.{Port}
 use Rattle.sacn_sources.specs.Order.{same}
 use Rattle.sacn_world.specs.declared.console.Console.{Console}
-use Rattle.sacn_world.specs.declared.event.Event.{Event}
-use Rattle.sacn_world.specs.declared.event.Event.TheVariants.{Order, Poll, Deliver, Look, RestartConsole, RestartNode, Noise}
+use Rattle.sacn_schedule.specs.declared.event.Event.{Event}
+use Rattle.sacn_schedule.specs.declared.event.Event.TheVariants.{Order, Poll, Deliver, Look, RestartConsole, RestartNode, Noise}
 use Rattle.sacn_world.specs.declared.fault.WorldFault.{WorldFault}
 use Rattle.sacn_world.specs.Streams.{Sent}
 use Rattle.sacn_world.specs.Holdings.{Delivery, newest, noted}
 use Rattle.sacn_world.specs.Nodes.{Node, node_of, node_after, node_at}
 use Rattle.sacn_world.specs.Worlds.{World, with_node, order_step, poll_by, poll_step, restart_console, come, arrive, deliver_step, look_step, heard, noise_step, restart_node, step, left_by, after, new_world}
 use Rattle.sacn_world.specs.Newest.{greater, greatest, with_place, with_packet, with_delivery, delivered_by, delivered_in, NewestIsTheGreatestDelivered}
-use Rattle.sacn_world.specs.Cids.{Desk}
+use Rattle.sacn_schedule.specs.Cids.{Desk}
 use Rattle.sacn_world.proofs.Sources.{same_source}
 use Rattle.sacn_world.proofs.Runs.{mapped}
-use Rattle.sacn_world.proofs.Counts.{set_same, set_other}
+use Rattle.sacn_world.proofs.Changes.{set_same, set_other}
 
 -- ---- one more delivery
 

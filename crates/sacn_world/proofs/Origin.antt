@@ -15,14 +15,14 @@ use Rattle.sacn_console.specs.declared.command.Command.{Command}
 use Rattle.sacn_node.specs.Readings.{Reading}
 use Rattle.sacn_node.specs.Setup.{Port}
 use Rattle.sacn_world.specs.declared.console.Console.{Console}
-use Rattle.sacn_world.specs.declared.event.Event.{Event}
-use Rattle.sacn_world.specs.declared.event.Event.TheVariants.{Order, Poll, Deliver, Look, RestartConsole, RestartNode, Noise}
+use Rattle.sacn_schedule.specs.declared.event.Event.{Event}
+use Rattle.sacn_schedule.specs.declared.event.Event.TheVariants.{Order, Poll, Deliver, Look, RestartConsole, RestartNode, Noise}
 use Rattle.sacn_world.specs.declared.fault.WorldFault.{WorldFault}
 use Rattle.sacn_world.specs.Streams.{Sent, nothing, at, is_on, is_of, stream_of, place_of, is_live, priority, levels, live_in}
 use Rattle.sacn_world.specs.Holdings.{Hold}
 use Rattle.sacn_world.specs.Seen.{shown_by}
 use Rattle.sacn_world.specs.Nodes.{Holding, Node, node_of, holding_of, shown_of, HoldOk}
-use Rattle.sacn_world.specs.Cids.{Desk}
+use Rattle.sacn_schedule.specs.Cids.{Desk}
 use Rattle.sacn_world.specs.Worlds.{World, with_console, with_node, sent_by, with_sent, polled, order_step, poll_by, poll_step, restart_console, come, arrive, deliver_step, look_step, heard, noise_step, restart_node, step, left_by, after, new_console, new_world, NodeOk, WorldOk}
 use Rattle.sacn_world.specs.Laws.{reached}
 use Rattle.sacn_world.specs.Origins.{ReallySent, IsHeldLayer, IsMergeOfHeld, HeldPlacesWereSent, NodesKeepTheirPorts}

@@ -19,8 +19,8 @@ use Rattle.sacn_console.specs.Lines as line
 use Rattle.sacn_console.specs.Core as console
 use Rattle.sacn_world.specs.declared.answer.Answer.TheVariants as answered
 use Rattle.sacn_world.specs.declared.console.Console.{Console}
-use Rattle.sacn_world.specs.declared.event.Event.{Event}
-use Rattle.sacn_world.specs.declared.event.Event.TheVariants.{Poll}
+use Rattle.sacn_schedule.specs.declared.event.Event.{Event}
+use Rattle.sacn_schedule.specs.declared.event.Event.TheVariants.{Poll}
 use Rattle.sacn_world.specs.Streams.{Sent, is_of, is_on, place_of, stream_of}
 use Rattle.sacn_world.specs.Worlds.{World, with_console, with_core, said_by, sent_by, poll_by, poll_step, step, NodeOk}
 use Rattle.sacn_world.specs.Watches.{Watch, Mark, node_by_places, by_places, delivery_of, MarkOk, WatchOk}
@@ -29,7 +29,7 @@ use Rattle.sacn_world.specs.Kept.{seen_world, Kept, IsAccepted}
 use Rattle.sacn_world.proofs.Growth.{node_kept, at_kept}
 use Rattle.sacn_world.proofs.Sending.{count_here, place_stays, next_place}
 use Rattle.sacn_world.proofs.Runs.{pushed_cases, mapped}
-use Rattle.sacn_world.proofs.Counts.{set_same}
+use Rattle.sacn_world.proofs.Changes.{set_same}
 use Rattle.std.specs.Prelude.{Vec}
 use Rattle.std.specs.declared.alloc.Global.{Global}
 use Rattle.sacn_world.proofs.Keeping.{Done, turned, ok_after, console_done}

@@ -17,17 +17,17 @@ use Rattle.sacn_console.specs.Runs.{Call, Answer, Order, Poll, Ordered, Polled, 
 use Rattle.sacn_node.specs.Readings.{Reading}
 use Rattle.sacn_node.specs.Setup.{Port}
 use Rattle.sacn_world.specs.declared.answer.Answer.TheVariants as answered
-use Rattle.sacn_world.specs.declared.event.Event.{Event}
-use Rattle.sacn_world.specs.declared.event.Event.TheVariants as event
+use Rattle.sacn_schedule.specs.declared.event.Event.{Event}
+use Rattle.sacn_schedule.specs.declared.event.Event.TheVariants as event
 use Rattle.sacn_world.specs.declared.fault.WorldFault.{WorldFault}
 use Rattle.sacn_world.specs.Streams.{Sent}
 use Rattle.sacn_world.specs.Nodes.{Node}
-use Rattle.sacn_world.specs.Cids.{Desk}
+use Rattle.sacn_schedule.specs.Cids.{Desk}
 use Rattle.sacn_world.specs.Worlds.{World, Console, Outcome, with_core, polled, order_step, poll_by, poll_step, begun, restart_console, come, arrive, deliver_step, look_step, heard, noise_step, restart_node, step, left_by, after, new_console, new_world}
 use Rattle.sacn_world.specs.Laws.{reached}
 use Rattle.sacn_world.specs.Lives.{calls_with, calls_in, first_with, first_in, moment_of, ConsolesDoWhatIsDue}
 use Rattle.sacn_world.proofs.Runs.{mapped}
-use Rattle.sacn_world.proofs.Counts.{set_same, set_other}
+use Rattle.sacn_world.proofs.Changes.{set_same, set_other}
 
 -- ---- the core after calls
 

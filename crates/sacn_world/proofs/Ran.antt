@@ -2,7 +2,7 @@
 use Rattle.std.proofs.Common.{get_or, ◌≡◌, ℕ, zero, suc, ◌+◌, ◌<◌, true, List, [], ◌∷◌, ◌++◌, take, length, Some, None, Ok, Err, refl, sym, ap, subst, ◌∙◌, inl, ◌⊎◌, arith, slice_get}
 use Rattle.std.proofs.lemmas.Option.{same_Some}
 use Rattle.sacn_world.specs.declared.answer.Answer.{Answer}
-use Rattle.sacn_world.specs.declared.event.Event.{Event}
+use Rattle.sacn_schedule.specs.declared.event.Event.{Event}
 use Rattle.sacn_world.specs.declared.fault.WorldFault.{WorldFault}
 use Rattle.sacn_world.specs.declared.fault.WorldFault.TheVariants.{OutOfMemory}
 use Rattle.sacn_world.specs.Worlds.{World, Step, step, takes_memory, after, left_by}

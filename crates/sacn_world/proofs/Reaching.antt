@@ -5,14 +5,14 @@ use Rattle.std.proofs.lemmas.Option.{same_Some, slice_get-map}
 use Rattle.sacn_framing.specs.Data.{Data}
 use Rattle.sacn_framing.specs.declared.packet.Packet.{Packet}
 use Rattle.sacn_framing.specs.declared.packet.Packet.TheVariants.{DataPacket, PagePacket, SyncPacket}
-use Rattle.sacn_world.specs.declared.event.Event.{Event}
-use Rattle.sacn_world.specs.declared.event.Event.TheVariants.{Deliver}
+use Rattle.sacn_schedule.specs.declared.event.Event.{Event}
+use Rattle.sacn_schedule.specs.declared.event.Event.TheVariants.{Deliver}
 use Rattle.sacn_world.specs.declared.fault.WorldFault.{WorldFault}
 use Rattle.sacn_world.specs.Streams.{Sent, at, stream_of, place_of, is_live, priority, levels, priority_in, levels_in}
 use Rattle.sacn_world.specs.Holdings.{Hold}
 use Rattle.sacn_world.specs.Seen.{shown_by, seen}
 use Rattle.sacn_world.specs.Nodes.{Node}
-use Rattle.sacn_world.specs.Cids.{Desk, HaveOwnCids}
+use Rattle.sacn_schedule.specs.Cids.{Desk, HaveOwnCids}
 use Rattle.sacn_world.specs.Worlds.{World, Outcome, Step, step, left_by, after, come, arrive, deliver_step, new_console, new_world, Apart, place_on, hold_in, held_at}
 use Rattle.sacn_world.specs.Running.{Ran, answered_first, first_then, ran}
 use Rattle.sacn_world.specs.Counts.{Count, count_run, no_count, Shows}
@@ -21,7 +21,7 @@ use Rattle.sacn_world.specs.Laws.{reached}
 use Rattle.sacn_world.specs.RunLaws.{OwnCidsKeepConsolesApart, ReachedWorldsKeepTheirInvariant, AnsweredAt, RunsAnswerStepByStep, ListsOfEventsJoin, HoldsLive, TwentyOneInARowAreHeld}
 use Rattle.sacn_world.proofs.Sources.{same_source}
 use Rattle.sacn_world.proofs.Looks.{found_passes}
-use Rattle.sacn_world.proofs.OwnCids.{tested}
+use Rattle.sacn_schedule.proofs.OwnCids.{tested}
 use Rattle.sacn_world.proofs.Beginning.{consoles_apart}
 use Rattle.sacn_world.proofs.Runs.{after_ok, start_ok}
 use Rattle.sacn_world.proofs.Sending.{place_is}
@@ -55,22 +55,23 @@ joined w (e ∷ es) fs = joined (left_by w (step w e)) es fs
 
 -- ---- the answers of a run
 
-record First (w : World) (e : Event) (es : List Event) (r : Ran) : Type 0 where
-  outcome : Outcome
-  is_outcome : step w e ≡ Ok outcome
-  rest : Ran
-  is_rest : ran outcome.world es ≡ Some rest
-  answers : outcome.answer ∷ rest.answers ≡ r.answers
+pub record First (w : World) (e : Event) (es : List Event) (r : Ran) : Type 0 where
+  pub outcome : Outcome
+  pub is_outcome : step w e ≡ Ok outcome
+  pub rest : Ran
+  pub is_rest : ran outcome.world es ≡ Some rest
+  pub answers : outcome.answer ∷ rest.answers ≡ r.answers
+  pub world : rest.world ≡ r.world
 
 first_by : (w : World) (e : Event) (es : List Event) (r : Ran) (t : Step) → step w e ≡ t → first_then t (λ v. ran v es) ≡ Some r → First w e es r
 first_by w e es r (Err f) is h = absurd (cc)
 first_by w e es r (Ok o) is h =
     elim (ran o.world es) as (λ q. ran o.world es ≡ q → answered_first o.answer q ≡ Some r → First w e es r) [
       | None ↦ λ a b. absurd (cc)
-      | Some q ↦ λ a b. record { outcome = o; is_outcome = is; rest = q; is_rest = a; answers = ap (λ (x : Ran). x.answers) (same_Some _ _ b) }
+      | Some q ↦ λ a b. record { outcome = o; is_outcome = is; rest = q; is_rest = a; answers = ap (λ (x : Ran). x.answers) (same_Some _ _ b); world = ap (λ (x : Ran). x.world) (same_Some _ _ b) }
     ] refl h
 
-first_of_run : (w : World) (e : Event) (es : List Event) (r : Ran) → ran w (e ∷ es) ≡ Some r → First w e es r
+pub first_of_run : (w : World) (e : Event) (es : List Event) (r : Ran) → ran w (e ∷ es) ≡ Some r → First w e es r
 first_of_run w e es r h = first_by w e es r (step w e) refl h
 
 pub each_answered : (w : World) (events : List Event) (r : Ran) (i : ℕ) (e : Event) → ran w events ≡ Some r → slice_get events i ≡ Some e → AnsweredAt w events r.answers i e

@@ -9,7 +9,7 @@ use Rattle.sacn_sources.specs.Rows.{Row, row_of}
 use Rattle.sacn_node.specs.Cores.{Table, core_row, row_on, table_of}
 use Rattle.sacn_world.specs.declared.console.Console.{Console}
 use Rattle.sacn_world.specs.declared.answer.Answer.{Answer}
-use Rattle.sacn_world.specs.declared.event.Event.{Event}
+use Rattle.sacn_schedule.specs.declared.event.Event.{Event}
 use Rattle.sacn_world.specs.declared.fault.WorldFault.{WorldFault}
 use Rattle.sacn_world.specs.Streams.{Sent}
 use Rattle.sacn_world.specs.Holdings.{Hold, hold_of}

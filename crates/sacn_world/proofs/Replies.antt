@@ -9,8 +9,8 @@ use Rattle.sacn_node.specs.declared.taken.NodeTaken.{NodeTaken}
 use Rattle.sacn_node.specs.Setup.{Port}
 use Rattle.sacn_node.specs.Cores.{core_reply, core_after}
 use Rattle.sacn_node.specs.Readings.{reply_to, after_reading}
-use Rattle.sacn_world.specs.declared.event.Event.{Event}
-use Rattle.sacn_world.specs.declared.event.Event.TheVariants.{Deliver}
+use Rattle.sacn_schedule.specs.declared.event.Event.{Event}
+use Rattle.sacn_schedule.specs.declared.event.Event.TheVariants.{Deliver}
 use Rattle.sacn_world.specs.declared.answer.Answer.{Answer}
 use Rattle.sacn_world.specs.declared.answer.Answer.TheVariants as answered
 use Rattle.sacn_world.specs.declared.fault.WorldFault.{WorldFault}
@@ -23,7 +23,7 @@ use Rattle.sacn_world.proofs.Sources.{same-itself}
 use Rattle.sacn_world.proofs.NodeSteps.{reply_seen, after_seen, at_seen}
 use Rattle.sacn_world.proofs.Sending.{place_within}
 use Rattle.sacn_world.proofs.Runs.{after_ok, start_ok}
-use Rattle.sacn_world.proofs.Counts.{set_same}
+use Rattle.sacn_world.proofs.Changes.{set_same}
 
 come_is : (w : World) (i m : ℕ) (n : Node) (s : List ℕ) (u q : ℕ) (f : Option WorldFault) → come w i m n s u q f ≡ arrival w i f (node_reply w.sent s u q m n) (node_after w.sent s u q m n)
 come_is w i m n s u q (Some f) = refl

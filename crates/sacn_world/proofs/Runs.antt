@@ -15,8 +15,8 @@ use Rattle.sacn_console.specs.Lines as line
 use Rattle.sacn_console.specs.Core as console
 use Rattle.sacn_node.specs.Readings.{Reading}
 use Rattle.sacn_node.specs.Setup.{Port, universes}
-use Rattle.sacn_world.specs.declared.event.Event.{Event}
-use Rattle.sacn_world.specs.declared.event.Event.TheVariants.{Order, Poll, Deliver, Look, RestartConsole, RestartNode, Noise}
+use Rattle.sacn_schedule.specs.declared.event.Event.{Event}
+use Rattle.sacn_schedule.specs.declared.event.Event.TheVariants.{Order, Poll, Deliver, Look, RestartConsole, RestartNode, Noise}
 use Rattle.sacn_world.specs.declared.fault.WorldFault.{WorldFault}
 use Rattle.sacn_world.specs.Streams.{Sent, is_of, is_on, stream_of, place_of, is_live, priority, levels, Ordered}
 use Rattle.sacn_world.specs.Holdings.{newest, refusal}

@@ -6,7 +6,7 @@ use Rattle.sacn_world.specs.declared.console.Console.{Console}
 use Rattle.sacn_world.specs.declared.fault.WorldFault.{WorldFault}
 use Rattle.sacn_world.specs.declared.fault.WorldFault.TheVariants.{OutOfMemory}
 use Rattle.std.specs.Prelude.{true}
-use Rattle.sacn_world.specs.declared.event.Event.{Event}
+use Rattle.sacn_schedule.specs.declared.event.Event.{Event}
 use Rattle.sacn_world.specs.Worlds.{World, Outcome, Step, takes_memory, WorldOk}
 use Rattle.sacn_world.specs.Watches.{Watch, node_by_places, WatchOk}
 use Rattle.sacn_world.specs.Wire.{SentDatagram, seen_sent, DatagramOk}

@@ -1,9 +1,3 @@
-pub mod Reads
-pub mod Cids
-pub mod Events
-pub mod WorldFaults
-pub mod WorldFile
-pub mod Schedules
 pub mod FaultNumbers
 pub mod Streams
 pub mod Holdings

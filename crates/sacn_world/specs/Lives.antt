@@ -6,9 +6,9 @@ use Rattle.sacn_console.specs.Lines.{Deed}
 use Rattle.sacn_console.specs.Runs.{Call, Order, Poll, deeds_after}
 use Rattle.sacn_node.specs.Setup.{Port}
 use Rattle.sacn_world.specs.declared.answer.Answer.TheVariants as answered
-use Rattle.sacn_world.specs.declared.event.Event.{Event}
-use Rattle.sacn_world.specs.declared.event.Event.TheVariants as event
-use Rattle.sacn_world.specs.Cids.{Desk}
+use Rattle.sacn_schedule.specs.declared.event.Event.{Event}
+use Rattle.sacn_schedule.specs.declared.event.Event.TheVariants as event
+use Rattle.sacn_schedule.specs.Cids.{Desk}
 use Rattle.sacn_world.specs.Worlds.{World, Console, Outcome, step, poll_by}
 use Rattle.sacn_world.specs.Laws.{reached}
 

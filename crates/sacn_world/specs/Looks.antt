@@ -5,12 +5,12 @@ use Rattle.sacn_slots.specs.declared.universe.TheConstants.{SLOTS}
 use Rattle.sacn_node.specs.Setup.{Port}
 use Rattle.sacn_node.specs.Ports.{port_of}
 use Rattle.sacn_world.specs.declared.answer.Answer.{Answer}
-use Rattle.sacn_world.specs.declared.event.Event.{Event}
+use Rattle.sacn_schedule.specs.declared.event.Event.{Event}
 use Rattle.sacn_world.specs.Streams.{Sent}
 use Rattle.sacn_world.specs.Holdings.{Hold}
 use Rattle.sacn_world.specs.Nodes.{Node}
 use Rattle.sacn_world.specs.Members.{SameShown}
-use Rattle.sacn_world.specs.Cids.{Desk}
+use Rattle.sacn_schedule.specs.Cids.{Desk}
 use Rattle.sacn_world.specs.Worlds.{new_console, new_world, Apart}
 use Rattle.sacn_world.specs.Running.{Ran, ran}
 use Rattle.sacn_world.specs.Laws.{reached, ShowTheSame}

@@ -9,12 +9,12 @@ use Rattle.sacn_node.specs.Setup.{Port}
 use Rattle.sacn_node.specs.Ports.{port_of, covers}
 use Rattle.sacn_world.specs.declared.answer.Answer.{Answer}
 use Rattle.sacn_world.specs.declared.answer.Answer.TheVariants.{Shown as Framed}
-use Rattle.sacn_world.specs.declared.event.Event.{Event}
-use Rattle.sacn_world.specs.declared.event.Event.TheVariants.{Look}
+use Rattle.sacn_schedule.specs.declared.event.Event.{Event}
+use Rattle.sacn_schedule.specs.declared.event.Event.TheVariants.{Look}
 use Rattle.sacn_world.specs.Streams.{Sent, place_of}
 use Rattle.sacn_world.specs.Holdings.{Hold}
 use Rattle.sacn_world.specs.Nodes.{Holding, Node, node_at, holding_of}
-use Rattle.sacn_world.specs.Cids.{Desk}
+use Rattle.sacn_schedule.specs.Cids.{Desk}
 use Rattle.sacn_world.specs.Worlds.{World, new_console, Apart}
 use Rattle.sacn_world.specs.Laws.{reached}
 

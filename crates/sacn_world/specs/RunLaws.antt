@@ -5,11 +5,11 @@ use Rattle.sacn_framing.specs.declared.packet.Packet.TheVariants.{DataPacket}
 use Rattle.sacn_sources.specs.Rows.{Row}
 use Rattle.sacn_node.specs.Setup.{Port}
 use Rattle.sacn_world.specs.declared.answer.Answer.{Answer}
-use Rattle.sacn_world.specs.declared.event.Event.{Event}
-use Rattle.sacn_world.specs.declared.event.Event.TheVariants.{Deliver}
+use Rattle.sacn_schedule.specs.declared.event.Event.{Event}
+use Rattle.sacn_schedule.specs.declared.event.Event.TheVariants.{Deliver}
 use Rattle.sacn_world.specs.Streams.{Sent, place_of}
 use Rattle.sacn_world.specs.Nodes.{Node, Holding, holding_of}
-use Rattle.sacn_world.specs.Cids.{Desk, HaveOwnCids}
+use Rattle.sacn_schedule.specs.Cids.{Desk, HaveOwnCids}
 use Rattle.sacn_world.specs.Worlds.{World, Outcome, step, after, new_console, Apart, WorldOk, place_at, row_at}
 use Rattle.sacn_world.specs.Running.{Ran, ran}
 use Rattle.sacn_world.specs.Counts.{count_step, count_run, no_count}

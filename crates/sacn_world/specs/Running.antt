@@ -1,7 +1,7 @@
 -- What a run of events answers and leaves.
 use Rattle.std.specs.Prelude.{◌≡◌, ◌⊎◌, true, List, [], ◌∷◌, take, slice_get, Option, Some, None, Ok, Err}
 use Rattle.sacn_world.specs.declared.answer.Answer.{Answer}
-use Rattle.sacn_world.specs.declared.event.Event.{Event}
+use Rattle.sacn_schedule.specs.declared.event.Event.{Event}
 use Rattle.sacn_world.specs.declared.fault.RunFault.{RunFault}
 use Rattle.sacn_world.specs.declared.fault.WorldFault.TheVariants.{OutOfMemory}
 use Rattle.sacn_world.specs.Worlds.{World, Step, step, takes_memory}

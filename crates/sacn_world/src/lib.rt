@@ -6,31 +6,26 @@
 //! rule by places, and `laws` says what holds of every list of events: `laws::headline` says the whole, and the others its parts.
 //!
 //! `read_world` reads a world's consoles and nodes from a TOML document, and `read_schedule` the events of a schedule, a line
-//! each.
+//! each; both stand in the crate `sacn_schedule`.
 #![tactic(auto)]
 
 mod answer;
-mod cids;
 mod console;
-mod event;
 mod fault;
 pub mod laws;
 mod limits;
 mod mark;
-mod schedule;
 mod sent;
 mod watched;
 mod world;
-mod world_file;
 
 pub use answer::Answer;
-pub use event::Event;
 pub use fault::{NewFault, RunFault, WorldFault};
 pub use limits::TOO_FAR_BEHIND;
-pub use sacn_files::faults::TextFault;
-pub use schedule::read_schedule;
+pub use sacn_schedule::{
+    Event, NEWEST_WORLD, TextFault, WorldTextFault, read_schedule, read_world,
+};
 pub use world::World;
-pub use world_file::{NEWEST_WORLD, WorldTextFault, read_world};
 
 #[cfg(test)]
 mod tests;

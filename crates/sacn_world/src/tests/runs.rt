@@ -2,11 +2,11 @@
 ghost use Rattle.std.specs.Prelude.{IfOk, map};
 ghost use Rattle.sacn_world.specs.Headline.{EveryFrameIsTheMergeOfWhatWasSent};
 
-use super::{SCHEDULE, WORLD};
 use crate::laws::headline;
 use crate::{Answer, Event, World, read_schedule, read_world};
 use sacn_console::Show;
 use sacn_node::{NodeSetup, NodeTaken};
+use sacn_schedule::examples::{SCHEDULE, WORLD};
 use sacn_sources::Taken;
 use std::alloc::Global;
 use std::test::Fail;
@@ -33,14 +33,15 @@ fn outputs(
 /// What a row of a worked case says of an answer.
 #[derive(Clone, Copy, PartialEq, Eq, Debug)]
 enum Said {
+    Ordered,
     Sent(usize),
     Held,
     Ended,
     Late,
     Ignored,
-    /// A frame, by its slots 1 and 10.
+    /// A frame, by its slots 1 and 10; start code and other slots are 0.
     Lit(u8, u8),
-    Dark,
+    NoPort,
     Other,
 }
 
@@ -54,12 +55,23 @@ fn said_of_table(taken: Taken) -> Said {
     }
 }
 
+/// Slots 1 and 10 of a frame whose other octets are 0.
+fn lit(frame: &[u8; 513]) -> Said {
+    let rest = frame[2..10].iter().all(|level| *level == 0);
+    if rest && frame[0] == 0 && frame[11..].iter().all(|level| *level == 0) {
+        Said::Lit(frame[1], frame[10])
+    } else {
+        Said::Other
+    }
+}
+
 fn word_of(answer: &Answer) -> Said {
     match answer {
+        Answer::Ordered(Ok(())) => Said::Ordered,
         Answer::Sent(number) => Said::Sent(*number),
         Answer::Taken(NodeTaken::FromTable(taken)) => said_of_table(*taken),
-        Answer::Shown(frame) => Said::Lit(frame[1], frame[10]),
-        Answer::NoSuchPort => Said::Dark,
+        Answer::Shown(frame) => lit(frame),
+        Answer::NoSuchPort => Said::NoPort,
         _ => Said::Other,
     }
 }
@@ -80,13 +92,13 @@ fn is_answered(alloc: Global, world: &str, schedule: &str, wanted: &[Said]) -> R
 fn a_cue_is_sent_shown_and_lost(rt: HostRuntime) -> Result<(), Fail> {
     let wanted = [
         Said::Lit(0, 0),
-        Said::Other,
+        Said::Ordered,
         Said::Sent(0),
         Said::Held,
         Said::Lit(255, 0),
         Said::Lit(255, 0),
         Said::Lit(0, 0),
-        Said::Dark,
+        Said::NoPort,
     ];
     assert!(rt; is_answered(rt.alloc(), WORLD, SCHEDULE, wanted.as_slice())?);
     Ok(())
@@ -145,7 +157,7 @@ fn two_nodes_saw_different_orders(rt: HostRuntime) -> Result<(), Fail> {
         "poll 0 0\norder 0 100 go\npoll 0 1000\npoll 0 2000\ndeliver 0 0 0\ndeliver 1 0 0\ndeliver 2 0 0\ndeliver 2 1 700\ndeliver 0 1 700\ndeliver 1 1 700\nlook 0 1 0\nlook 1 1 700\n";
     let wanted = [
         Said::Sent(0),
-        Said::Other,
+        Said::Ordered,
         Said::Sent(1),
         Said::Sent(2),
         Said::Held,
@@ -168,10 +180,10 @@ fn an_expired_entry_comes_anew_at_an_earlier_place(rt: HostRuntime) -> Result<()
     let schedule =
         "order 0 0 go\npoll 0 0\npoll 0 1000\norder 0 1500 set 1 0\npoll 0 2000\ndeliver 2 0 0\ndeliver 1 0 2499\nlook 0 1 2499\ndeliver 1 0 2500\nlook 0 1 2500\ndeliver 2 0 2500\n";
     let wanted = [
-        Said::Other,
+        Said::Ordered,
         Said::Sent(0),
         Said::Sent(1),
-        Said::Other,
+        Said::Ordered,
         Said::Sent(2),
         Said::Held,
         Said::Late,
@@ -191,10 +203,10 @@ fn a_universe_is_ended(rt: HostRuntime) -> Result<(), Fail> {
     let schedule =
         "order 0 0 go\npoll 0 0\npoll 0 1000\norder 0 1500 end 1\npoll 0 2000\npoll 0 2100\ndeliver 0 0 0\nlook 0 1 0\ndeliver 2 0 10\nlook 0 1 10\ndeliver 1 0 20\ndeliver 3 0 30\nlook 0 1 30\ndeliver 3 0 2530\n";
     let wanted = [
-        Said::Other,
+        Said::Ordered,
         Said::Sent(0),
         Said::Sent(1),
-        Said::Other,
+        Said::Ordered,
         Said::Sent(2),
         Said::Sent(3),
         Said::Held,
@@ -207,5 +219,64 @@ fn a_universe_is_ended(rt: HostRuntime) -> Result<(), Fail> {
         Said::Ignored,
     ];
     assert!(rt; is_answered(rt.alloc(), TWO_NODES, schedule, wanted.as_slice())?);
+    Ok(())
+}
+
+/// One console of universes 1 and 2, and a node whose port shows ranges of both.
+const RANGES: &str = "version = 1
+[[console]]
+[console.show]
+version = 1
+cid = \"00010203-0405-0607-0809-0a0b0c0d0e0f\"
+name = \"Desk\"
+universes = [1, 2]
+[[console.show.cue]]
+number = 1
+fade = 0
+levels = [[1, 65535], [2, 32768]]
+[[console.show.patch]]
+channel = 1
+universe = 1
+slot = 512
+[[console.show.patch]]
+channel = 2
+universe = 2
+slot = 7
+[[node]]
+[node.setup]
+version = 2
+[[node.setup.port]]
+number = 1
+[[node.setup.port.range]]
+universe = 2
+slot = 7
+count = 1
+port_slot = 1
+[[node.setup.port.range]]
+universe = 1
+slot = 509
+count = 4
+port_slot = 7
+";
+
+/// Slot 7 of universe 2 comes out as slot 1, and slots 509 to 512 of universe 1 as slots 7 to 10: each once its universe's
+/// packet came, and no longer than it lasts.
+#[test]
+fn a_port_shows_ranges_of_two_universes(rt: HostRuntime) -> Result<(), Fail> {
+    let schedule =
+        "order 0 0 go\npoll 0 0\npoll 0 0\nlook 0 1 0\ndeliver 1 0 100\nlook 0 1 100\ndeliver 0 0 200\nlook 0 1 200\nlook 0 1 2600\nlook 0 1 2700\n";
+    let wanted = [
+        Said::Ordered,
+        Said::Sent(0),
+        Said::Sent(1),
+        Said::Lit(0, 0),
+        Said::Held,
+        Said::Lit(128, 0),
+        Said::Held,
+        Said::Lit(128, 255),
+        Said::Lit(0, 255),
+        Said::Lit(0, 0),
+    ];
+    assert!(rt; is_answered(rt.alloc(), RANGES, schedule, wanted.as_slice())?);
     Ok(())
 }

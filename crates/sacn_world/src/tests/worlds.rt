@@ -112,11 +112,16 @@ fn a_new_life_and_an_old_one(rt: HostRuntime) -> Result<(), Fail> {
     assert!(rt; world.step(&Event::RestartConsole(0, 20)).is_ok());
     assert_eq!(rt; poll(&mut world, 12), 12);
     assert!(rt; all_late(&mut world, 1, 2));
+    assert_eq!(rt; held(&world), Some((30, 100, 0, 0, 0)));
     assert_eq!(rt; take(&mut world, 0), Err(WorldFault::OldLife));
+    assert_eq!(rt; world.place(0, &CID, 1), Some(0));
+    assert_eq!(rt; held(&world), Some((30, 100, 0, 0, 0)));
     assert!(rt; all_late(&mut world, 2, 12));
     assert_eq!(rt; take(&mut world, 12), HELD);
     assert_eq!(rt; world.place(0, &CID, 1), Some(12));
     assert_eq!(rt; take(&mut world, 0), Err(WorldFault::OldLife));
+    assert_eq!(rt; world.place(0, &CID, 1), Some(12));
+    assert_eq!(rt; held(&world), Some((31, 100, 0, 0, 0)));
     Ok(())
 }
 
@@ -150,6 +155,19 @@ fn two_shows_of_one_cid(rt: HostRuntime) -> Result<(), Fail> {
     Ok(())
 }
 
+/// What the node holds of the console: number, priority, the levels of slots 1 and 2, and the moment.
+fn held(world: &World) -> Option<(u8, u8, u8, u8, u64)> {
+    let view = world.held(0, 1, &CID)?;
+    let levels = view.levels()?;
+    Some((
+        view.number(),
+        view.priority(),
+        levels.at(0),
+        levels.at(1),
+        view.moment(),
+    ))
+}
+
 /// Levels of the world of one cue; the node starts anew before the look at 900.
 #[test]
 fn a_node_starts_anew(rt: HostRuntime) -> Result<(), Fail> {
@@ -160,7 +178,7 @@ fn a_node_starts_anew(rt: HostRuntime) -> Result<(), Fail> {
     assert!(rt; world.step(&Event::Deliver(0, 0, 1000)).is_ok());
     assert_eq!(rt; look(&mut world, 1, 3499), Some(255));
     assert_eq!(rt; world.place(0, &CID, 1), Some(0));
-    assert_eq!(rt; world.held(0, 1, &CID).ok_or("held")?.number(), 0);
+    assert_eq!(rt; held(&world), Some((0, 100, 255, 0, 1000)));
     assert!(rt; world.step(&Event::RestartNode(0)).is_ok());
     assert_eq!(rt; look(&mut world, 1, 900), Some(0));
     assert_eq!(rt; world.place(0, &CID, 1), None);

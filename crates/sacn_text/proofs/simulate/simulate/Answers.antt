@@ -1,5 +1,5 @@
 use Rattle.std.proofs.Common.{◌≡◌, ◌<◌, ◌+◌, ◌++◌, ◌∙◌, sym, ap, subst, List, ℕ, length, get_or, take, arith}
-use Rattle.sacn_world.specs.declared.event.Event.{Event}
+use Rattle.sacn_schedule.specs.declared.event.Event.{Event}
 use Rattle.sacn_world.specs.Worlds.{step}
 use Rattle.sacn_edge.specs.Told.{Adds}
 use Rattle.sacn_edge.proofs.ToldLemmas.{Adds-append}

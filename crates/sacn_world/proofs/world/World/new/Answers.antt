@@ -1,5 +1,5 @@
 use Rattle.std.proofs.Common.{sym, ap, ◌∙◌}
-use Rattle.sacn_world.specs.Cids.{has_same_cid}
+use Rattle.sacn_schedule.specs.Cids.{has_same_cid}
 use Rattle.sacn_world.proofs.Beginning.{consoles_apart, kept_as}
 use Rattle.sacn_world.proofs.world.World.new.Goals as goal
 

@@ -1,0 +1,7 @@
+pub mod Shown
+pub mod Turns
+pub mod NodeEvents
+pub mod NodeRunning
+pub mod Requests
+pub mod ConsoleEvents
+pub mod ConsoleRunning

@@ -1,0 +1,4 @@
+pub mod NodeVisits
+pub mod NodeRuns
+pub mod ConsoleRuns
+pub mod UsedConsoles

@@ -1,0 +1,30 @@
+//! The laws.
+
+ghost use Rattle.sacn_runs.specs.NodeRuns.{NodesRunAsInAWorld};
+ghost use Rattle.sacn_runs.specs.ConsoleRuns.{ConsolesRunAsInAWorld};
+ghost use Rattle.sacn_runs.specs.UsedConsoles.{SendsGoOnByTheList};
+
+use sacn_console::laws::steps_are_the_list;
+
+/// A node in its loop is a node of a world. From any world on, over any events that it accepts: where the packets that come to
+/// one of its nodes, what comes that is none, and the looks at its ports are, moment by moment, those of a loop's turns, the
+/// looks are answered with exactly the lines that the loop writes, and the world's node is then as the loop leaves its core.
+/// What else happens in the world makes no difference.
+pub fn nodes_run_as_in_a_world()
+    ensures { NodesRunAsInAWorld }
+{}
+
+/// A console in its loop is a console of a world. From any world on, over any events that it accepts: where one of its consoles
+/// is given the commands and polls of a loop's turns, and isn't started anew, it sends octet by octet what the loop hands over,
+/// refuses as many commands, and its core is then as the loop leaves it. The core may have been used before.
+pub fn consoles_run_as_in_a_world()
+    ensures { ConsolesRunAsInAWorld }
+{}
+
+/// A console core that was used before goes on by its list: what it hands over and refuses in its loop is what the list of all
+/// that was done in its life says beyond the earlier calls.
+pub fn sends_go_on_by_the_list()
+    ensures { SendsGoOnByTheList }
+{
+    steps_are_the_list();
+}

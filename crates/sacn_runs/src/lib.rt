@@ -1,0 +1,8 @@
+//! Laws that join the loops to worlds. They cost nothing when they run.
+//!
+//! The contract of [`sacn_edge::run_node`] says what a node writes over what its link brought and its clock read, and that of
+//! [`sacn_world::World`] says what a world answers. Here the one is the other: a node that runs in its loop writes what a
+//! world's node shows to which the same packets come at the same moments.
+#![tactic(auto)]
+
+pub mod laws;

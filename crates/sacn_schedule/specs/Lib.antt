@@ -1,0 +1,6 @@
+pub mod Reads
+pub mod Cids
+pub mod Events
+pub mod WorldFaults
+pub mod WorldFile
+pub mod Schedules

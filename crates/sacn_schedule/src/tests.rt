@@ -1,0 +1,4 @@
+//! Worked rows of world files and schedules.
+mod refusals;
+mod schedules;
+mod world_files;

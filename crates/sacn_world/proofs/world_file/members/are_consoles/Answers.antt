@@ -1,6 +1,0 @@
-use Rattle.std.proofs.Common.{◌∙◌, sym}
-use Rattle.sacn_files.proofs.TableLemmas.{list_all-map}
-use Rattle.sacn_world.proofs.world_file.members.are_consoles.Goals as goal
-
-pub returns : goal.returns
-returns c = c.each_is_console.ensures ∙ sym (list_all-map _ _ c.args.rows.now)
