@@ -14,7 +14,7 @@ use Rattle.sacn_edge.proofs.Settled.{turn_settled}
 frame_stays : (now p : ℕ) (n : Node) → core_at now n.core ≡ n.core → step (Frame now p) n ≡ n
 frame_stays now p n settled = ap (λ (c : Core). let m : Node = record { ports = n.ports; core = c } in m) settled
 
-asked_stays : (ports : List Port) (now : ℕ) (ps : List ℕ) (earlier : List Call) (n : Node) → core_at now n.core ≡ n.core → after_calls ports earlier ≡ n → after_calls ports (asked now ps earlier) ≡ n
+pub asked_stays : (ports : List Port) (now : ℕ) (ps : List ℕ) (earlier : List Call) (n : Node) → core_at now n.core ≡ n.core → after_calls ports earlier ≡ n → after_calls ports (asked now ps earlier) ≡ n
 asked_stays ports now [] earlier n settled is = is
 asked_stays ports now (p ∷ ps) earlier n settled is = asked_stays ports now ps (Frame now p ∷ earlier) n settled (ap (step (Frame now p)) is ∙ frame_stays now p n settled)
 
@@ -33,7 +33,7 @@ StopsAmong old new all earlier =
     × Adds old new (text_of (written ++ earlier) ++ take k (line_text l))
 
 module _ (answers : AnswersByThePlainRule) (keeps : KeepsItsPorts) (greatest : UsesTheGreatestMoment) where
-  ports_same : (ports : List Port) (now : ℕ) (ps : List ℕ) (earlier : List Call) (n : Node) (ls : List Line) → core_at now n.core ≡ n.core → after_calls ports earlier ≡ n → plain_ports ports now ps earlier ls ≡ with_ports n ps ls
+  pub ports_same : (ports : List Port) (now : ℕ) (ps : List ℕ) (earlier : List Call) (n : Node) (ls : List Line) → core_at now n.core ≡ n.core → after_calls ports earlier ≡ n → plain_ports ports now ps earlier ls ≡ with_ports n ps ls
   ports_same ports now [] earlier n ls settled is = refl
   ports_same ports now (p ∷ ps) earlier n ls settled is =
       let stays : after_calls ports (Frame now p ∷ earlier) ≡ n = ap (step (Frame now p)) is ∙ frame_stays now p n settled in

@@ -10,3 +10,4 @@ pub mod MemoryTold
 pub mod PlainText
 pub mod SendsByList
 pub mod Sockets
+pub mod Reports

@@ -16,8 +16,8 @@ const FRAME_DIGITS: usize = 1026;
 pub const LINE_OCTETS: usize = 3 + 1 + 20 + 1 + FRAME_DIGITS + 1;
 
 /// Adds a part to a line.
-fn add_part(line: &mut ArrayVec<u8, LINE_OCTETS>, part: &[u8])
-    requires { length line.old.items + length part.now ≤ LINE_OCTETS }
+pub(crate) fn add_part<const N: usize>(line: &mut ArrayVec<u8, N>, part: &[u8])
+    requires { length line.old.items + length part.now ≤ N }
     ensures { line.new.items ≡ line.old.items ++ part.now }
 {
     let _ = line.try_extend_from_slice(part);

@@ -64,13 +64,13 @@ module _ (p : Lights) (m : ℕ) (d : Data) where
 
 -- ---- pages
 
-more_pages : (a b : ℕ) → a ≤ b → page_count a ≤ page_count b
+pub more_pages : (a b : ℕ) → a ≤ b → page_count a ≤ page_count b
 more_pages zero zero le = omega arith
 more_pages zero (suc b) le = page_counted (suc b)
 more_pages (suc a) zero le = absurd (omega (arith, le))
 more_pages (suc a) (suc b) le = grind (arith, le)
 
-few_standing : (xs : List Line) → length (standing xs) ≤ length xs
+pub few_standing : (xs : List Line) → length (standing xs) ≤ length xs
 unfolding standing
 few_standing [] = omega arith
 few_standing (x ∷ xs) = by_state (not (is_stopped x.state)) (few_standing xs)
@@ -196,7 +196,7 @@ poll_leaves k c d le is = by_line (line_found c) refl is
 none_some : (d : Datagram) → None ≡ Some d → ⊥
 none_some d e = absurd (cc)
 
-lines_given : (d : Option Datagram) (c : Core) → length (given d c).lines ≡ length c.lines
+pub lines_given : (d : Option Datagram) (c : Core) → length (given d c).lines ≡ length c.lines
 unfolding after
 lines_given None c = refl
 lines_given (Some d) c = length-map c.lines (line_after (Gave c.moment d))

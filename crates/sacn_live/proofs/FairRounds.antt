@@ -10,7 +10,7 @@ use Rattle.sacn_console.specs.Lines.{Datagram, Packet, Paged}
 use Rattle.sacn_console.specs.Core.{Core, at, due, given, after, taken, answer, text}
 use Rattle.sacn_edge.specs.ConsoleSends.{octets_of}
 use Rattle.sacn_live.specs.DeskSends.{Round, ordered, polled, sends, desk_after}
-use Rattle.sacn_live.specs.Fairness.{has_due, listed, gives, desk_gives, is_packet_on, packets_on, SendsAreGiven, EachAtMostOnce, EachOnce, EachDueIsGiven, RoundsAreFair, DeskSendsAreGiven}
+use Rattle.sacn_live.specs.Fairness.{has_due, listed, gives, desk_gives, is_packet_on, packets_on, SendsAreGiven, EachAtMostOnce, EachOnce, EachDueIsGiven, DeskSendsAreGiven}
 use Rattle.sacn_live.proofs.Fair.{one_if, at_given, equal, quiet, kept}
 
 -- ---- how often
@@ -101,16 +101,3 @@ desk_sends_given first (r ∷ rs) =
     ap (λ os. os ++ sends r.now r.polls mid) (desk_sends_given first rs)
     ∙ ap (λ os. map (text first.sender) (desk_gives first rs) ++ os) (sends_given mid r.now r.polls ∙ ap (λ s. map (text s) (gives r.now r.polls mid)) (sender_ordered r.now r.orders (desk_after first rs) ∙ sender_after first rs))
     ∙ sym (map-append (text first.sender) (desk_gives first rs) (gives r.now r.polls mid))
-
--- ---- rounds
-
-at_polled : (now n : ℕ) (c : Core) → 0 < n → at now (polled now n c) ≡ polled now n c
-at_polled now zero c some = absurd (omega (arith, some))
-at_polled now (suc n) c some = at_given now (due (at now (polled now n c))) (polled now n c)
-
-pub rounds_fair : RoundsAreFair
-rounds_fair first [] are_quiet are_polled = tt
-rounds_fair first (r ∷ rs) are_quiet are_polled =
-    let mid = ordered r.now r.orders (desk_after first rs) in
-    let none : due (at r.now (polled r.now r.polls mid)) ≡ None = ap due (at_polled r.now r.polls mid are_polled.0) ∙ are_quiet.0 are_polled.1 in
-    (λ u. once mid r.now r.polls u none, rounds_fair first rs are_quiet.1 are_polled.2)

@@ -1,5 +1,5 @@
 -- The orders and polls of a desk's rounds, one more at a time.
-use Rattle.std.proofs.Common.{◌≡◌, ℕ, suc, true≢false, ◌+◌, ◌<◌, Bool, false, cond, is_some, List, [], ◌∷◌, ◌++◌, length, refl, sym, ap, subst, ◌∙◌, arith, append_assoc, Option, Some, None}
+use Rattle.std.proofs.Common.{◌≡◌, ℕ, suc, true≢false, ◌+◌, ◌<◌, ◌≤◌, Bool, false, cond, is_some, List, [], ◌∷◌, ◌++◌, length, refl, sym, ap, subst, ◌∙◌, arith, append_assoc, Option, Some, None}
 use Rattle.std.proofs.lemmas.Bool.{ne_eqb, eq-eqb}
 use Rattle.std.proofs.lemmas.List.{map-append}
 use Rattle.sacn_console.specs.declared.command.Command.{Command}
@@ -82,5 +82,5 @@ module _ (first core mid new : Core) (rs : List Round) (now n : ℕ) (ks : List 
   refused_round refused more sofar is =
       ap (λ n. n + more) sofar ∙ ap (λ m. desk_refusals first rs + m) (is ∙ ap (refusals now ks) was)
 
-  pub quiet_round : AreQuiet first rs → (n < MOST_POLLS → due new ≡ None) → AreQuiet first (round ∷ rs)
-  quiet_round sofar quiet = (λ few. subst (λ (d : Core). due d ≡ None) core_round (quiet few), sofar)
+  pub quiet_round : AreQuiet first rs → 0 < n → n ≤ MOST_POLLS → (n < MOST_POLLS → due new ≡ None) → AreQuiet first (round ∷ rs)
+  quiet_round sofar some most quiet = (some, most, λ few. subst (λ (d : Core). due d ≡ None) core_round (quiet few), sofar)

@@ -1,5 +1,5 @@
 -- What a desk does over what was asked of it. Lists of rounds and of a round's orders have the latest first.
-use Rattle.std.specs.Prelude.{◌≡◌, ◌==◌, ◌<◌, ℕ, zero, suc, ◌+◌, ⊤, is_ok, if◌then◌else◌, List, [], ◌∷◌, ◌++◌, length, Option, None, Some, Result}
+use Rattle.std.specs.Prelude.{◌≡◌, ◌==◌, ◌<◌, ◌≤◌, ℕ, zero, suc, ◌+◌, ⊤, is_ok, if◌then◌else◌, List, [], ◌∷◌, ◌++◌, length, Option, None, Some, Result}
 use Rattle.sacn_console.specs.declared.command.Command.{Command}
 use Rattle.sacn_console.specs.declared.command.ConsoleFault.{ConsoleFault}
 use Rattle.sacn_console.specs.Core.{Core, at, after_command, after_poll, answer, due}
@@ -44,10 +44,10 @@ abbrev pub desk_sends : Core → List Round → List (List ℕ)
 desk_sends first [] = []
 desk_sends first (r ∷ rs) = desk_sends first rs ++ sends r.now r.polls (ordered r.now r.orders (desk_after first rs))
 
--- after each round nothing is due at its reading, unless it made the most polls
+-- each round polls at least once, and at most so often; after it nothing is due at its reading, unless it polled the most times
 abbrev pub AreQuiet : Core → List Round → Type 0
 AreQuiet first [] = ⊤
-AreQuiet first (r ∷ rs) = (r.polls < MOST_POLLS → due (desk_after first (r ∷ rs)) ≡ None) × AreQuiet first rs
+AreQuiet first (r ∷ rs) = (0 < r.polls) × (r.polls ≤ MOST_POLLS) × (r.polls < MOST_POLLS → due (desk_after first (r ∷ rs)) ≡ None) × AreQuiet first rs
 
 -- ---- what is said
 

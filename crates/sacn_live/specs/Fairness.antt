@@ -5,6 +5,10 @@ use Rattle.sacn_framing.specs.Data.{Data}
 use Rattle.sacn_discovery.specs.Pages.{page_count}
 use Rattle.sacn_console.specs.Lines.{Datagram, Packet, Paged, line_due}
 use Rattle.sacn_console.specs.Core.{Core, at, due, text}
+use Rattle.sacn_console.specs.Shows.{ShowContent}
+use Rattle.sacn_console.specs.Due.{life_of}
+use Rattle.sacn_console.specs.Runs.{core_by}
+use Rattle.sacn_console.specs.declared.limits.TheConstants.{CONSOLE_UNIVERSES}
 use Rattle.sacn_live.specs.declared.limits.TheConstants.{MOST_POLLS}
 use Rattle.sacn_live.specs.DeskSends.{Round, ordered, polled, sends, desk_after, desk_sends, AreQuiet}
 
@@ -70,10 +74,14 @@ EachReadingEnds = (c : Core) (now n : ℕ) → most_due c ≤ n → due (at now 
 
 -- ---- the laws of a desk's rounds
 
--- each round polls at least once, and not the most times
-abbrev pub ArePolled : List Round → Type 0
-ArePolled [] = ⊤
-ArePolled (r ∷ rs) = (0 < r.polls) × (r.polls < MOST_POLLS) × ArePolled rs
+-- no round polls the most times
+abbrev pub AreShort : List Round → Type 0
+AreShort [] = ⊤
+AreShort (r ∷ rs) = (r.polls < MOST_POLLS) × AreShort rs
+
+-- no more universes than a console may have, and no longer a list of them
+abbrev pub IsOfAConsole : Core → Type 0
+IsOfAConsole c = (length c.lines ≤ CONSOLE_UNIVERSES) × (length c.listed ≤ CONSOLE_UNIVERSES)
 
 -- a round over a core that has its orders: each universe that is due at its reading gets one packet, and no other gets any
 abbrev pub IsFair : Round → Core → Type 0
@@ -83,8 +91,19 @@ abbrev pub AreFair : Core → List Round → Type 0
 AreFair first [] = ⊤
 AreFair first (r ∷ rs) = IsFair r (ordered r.now r.orders (desk_after first rs)) × AreFair first rs
 
+-- rounds of a desk are fair where none polls the most times
+abbrev pub ShortRoundsAreFair : Type 0
+ShortRoundsAreFair = (first : Core) (rs : List Round) → AreQuiet first rs → AreShort rs → AreFair first rs
+
+-- ... and, however often they poll, where the desk has no more universes than a console may have
 abbrev pub RoundsAreFair : Type 0
-RoundsAreFair = (first : Core) (rs : List Round) → AreQuiet first rs → ArePolled rs → AreFair first rs
+RoundsAreFair = (first : Core) (rs : List Round) → IsOfAConsole first → AreQuiet first rs → AreFair first rs
+
+-- so each round of a desk is fair from the start of a show's life on
+abbrev pub RoundsOfShowsAreFair : Type 0
+RoundsOfShowsAreFair =
+    (s : ShowContent) (number : ℕ) (rs : List Round)
+    → length s.universes ≤ CONSOLE_UNIVERSES → AreQuiet (core_by (life_of s number) 0 []) rs → AreFair (core_by (life_of s number) 0 []) rs
 
 abbrev pub DeskSendsAreGiven : Type 0
 DeskSendsAreGiven = (first : Core) (rs : List Round) → desk_sends first rs ≡ map (text first.sender) (desk_gives first rs)

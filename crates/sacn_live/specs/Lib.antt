@@ -1,6 +1,7 @@
 pub mod Hearings
 pub mod GatewayText
 pub mod GatewayRun
+pub mod PlainGateway
 pub mod DeskSends
 pub mod Fairness
 pub mod Addresses

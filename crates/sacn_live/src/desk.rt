@@ -44,7 +44,7 @@ fn order<O: Orders>(orders: &mut O, core: &mut ConsoleCore, now: u64) -> u64
     refused
 }
 
-/// Sends what is due at a reading, until nothing is.
+/// Sends what is due at a reading, until nothing is. It polls at least once.
 fn send_due<L: Link>(
     link: &mut L,
     core: &mut ConsoleCore,
@@ -53,7 +53,7 @@ fn send_due<L: Link>(
     report: &mut ConsoleReport,
 )
     requires { report.old.sent + report.old.failed < 2 ^ 64 - MOST_POLLS }
-    ensures sent { (n : ℕ) × (handed : Handed) × (n ≤ MOST_POLLS)
+    ensures sent { (n : ℕ) × (handed : Handed) × (0 < n) × (n ≤ MOST_POLLS)
         × Hands (L.told link.old) (L.told link.new) handed
         × (datagrams handed ≡ sends now n core.old)
         × (core.new ≡ polled now n core.old)

@@ -1,9 +1,30 @@
-//! Laws of a desk's rounds over their definitions alone. They cost nothing when they run.
+//! Laws of a gateway's turns and of a desk's rounds over their definitions alone. They cost nothing when they run.
 //!
-//! The contract of [`run_desk`](crate::run_desk) says what is handed over poll by poll, and that nothing is due after a
-//! round of fewer than the most polls. So in such a round, where it polls at all, every universe that is due at its
-//! reading is sent, once, and no other is.
-ghost use Rattle.sacn_live.specs.Fairness.{DeskSendsAreGiven, EachAtMostOnce, EachDueIsGiven, EachOnce, EachReadingEnds, RoundsAreFair, SendsAreGiven};
+//! The contract of [`run_gateway`](crate::run_gateway) says what is written by the steps of the node's core. Folded over
+//! any list of turns, that is what the plain rule of a node says of what the gateway took, and at which moments.
+//!
+//! The contract of [`run_desk`](crate::run_desk) says what is handed over poll by poll, that each round polls at least
+//! once, and that nothing is due after a round of fewer than the most polls. A console has so few universes that
+//! nothing is due after the most polls either. So in each round every universe that is due at its reading is sent,
+//! once, and no other is.
+ghost use Rattle.sacn_live.specs.Fairness.{DeskSendsAreGiven, EachAtMostOnce, EachDueIsGiven, EachOnce, EachReadingEnds, RoundsAreFair, RoundsOfShowsAreFair, SendsAreGiven, ShortRoundsAreFair};
+ghost use Rattle.sacn_live.specs.PlainGateway.{GatewayLinesAreByThePlainRule, GatewayStopsByThePlainRule, GatewayTextIsByThePlainRule};
+
+use sacn_node::laws as node;
+
+/// After any calls on a node, the lines that a gateway writes over any turns are those of the plain rule, one by one: what
+/// goes to the node of each hearing is taken by it at the hearing's reading, and each frame is its answer at the turn's
+/// last reading. So is the text; and so are the lines where a write fails: what is written then is the plain rule's lines up
+/// to one of the last turn, of which a proper part is.
+pub fn lines_are_by_the_plain_rule()
+    ensures lines { GatewayLinesAreByThePlainRule }
+    ensures text { GatewayTextIsByThePlainRule }
+    ensures stops { GatewayStopsByThePlainRule }
+{
+    node::answers_by_the_plain_rule();
+    node::keeps_its_ports();
+    node::moment_is_the_greatest();
+}
 
 /// Polls at one reading give a universe at most one packet, and none where it isn't due at the reading.
 pub fn each_universe_is_sent_at_most_once()
@@ -29,9 +50,11 @@ pub fn sends_are_what_polls_give()
     ensures rounds { DeskSendsAreGiven }
 {}
 
-/// Where each round of a desk polls at least once and fewer than the most times, and ends with nothing due, each universe
-/// that is due at a round's reading, once its orders are given, is sent one packet in it, and no other universe is sent
-/// any.
+/// In each round of a desk, each universe that is due at the round's reading, once its orders are given, is sent one
+/// packet, and no other universe is sent any. So it is from the start of a show's life on, and at any desk of no more
+/// universes than a console may have; at another, in rounds that poll fewer than the most times.
 pub fn rounds_are_fair()
-    ensures { RoundsAreFair }
+    ensures shows { RoundsOfShowsAreFair }
+    ensures few { RoundsAreFair }
+    ensures short { ShortRoundsAreFair }
 {}

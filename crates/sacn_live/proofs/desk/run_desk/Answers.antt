@@ -46,12 +46,12 @@ returns-then-has_ended g c =
       handed ++ s.1,
       omega (arith, run.2, c.loop-round-test.true, c.loop-round.auto._round-end),
       Extends-append _ _ _ (readings rs) (now ∷ []) run.3 c.now-now.ensures.told,
-      talk_round first core mid new rs now n ks run.7 o.3 s.5 _ _ _ run.4 told,
-      Hands-append _ _ _ handed s.1 run.5 s.3,
-      sends_round first core mid new rs now n ks run.7 o.3 s.5 handed s.1 run.6 s.4,
-      core_round first core mid new rs now n ks run.7 o.3 s.5,
-      quiet_round first core mid new rs now n ks run.7 o.3 s.5 run.8 s.6,
-      s.7 handed (desk_refusals first rs + c.order.result) before ∙ ap (sends_report (handed ++ s.1)) (refused_round first core mid new rs now n ks run.7 o.3 s.5 (desk_refusals first rs) c.order.result refl o.4),
+      talk_round first core mid new rs now n ks run.7 o.3 s.6 _ _ _ run.4 told,
+      Hands-append _ _ _ handed s.1 run.5 s.4,
+      sends_round first core mid new rs now n ks run.7 o.3 s.6 handed s.1 run.6 s.5,
+      core_round first core mid new rs now n ks run.7 o.3 s.6,
+      quiet_round first core mid new rs now n ks run.7 o.3 s.6 run.8 s.2 s.3 s.7,
+      s.8 handed (desk_refusals first rs + c.order.result) before ∙ ap (sends_report (handed ++ s.1)) (refused_round first core mid new rs now n ks run.7 o.3 s.6 (desk_refusals first rs) c.order.result refl o.4),
     )
 
 pub loop-round-preserved : goal.loop-round-preserved
@@ -82,12 +82,12 @@ loop-round-preserved g c =
         handed ++ s.1,
         omega (arith, run.2),
         Extends-append _ _ _ (readings rs) (now ∷ []) run.3 c.now-now.ensures.told,
-        talk_round first core mid new rs now n ks run.7 o.3 s.5 _ _ _ run.4 told,
-        Hands-append _ _ _ handed s.1 run.5 s.3,
-        sends_round first core mid new rs now n ks run.7 o.3 s.5 handed s.1 run.6 s.4,
-        c.next_wait-wake.ensures.core ∙ core_round first core mid new rs now n ks run.7 o.3 s.5,
-        quiet_round first core mid new rs now n ks run.7 o.3 s.5 run.8 s.6,
-        s.7 handed (desk_refusals first rs + c.order.result) before ∙ ap (sends_report (handed ++ s.1)) (refused_round first core mid new rs now n ks run.7 o.3 s.5 (desk_refusals first rs) c.order.result refl o.4),
+        talk_round first core mid new rs now n ks run.7 o.3 s.6 _ _ _ run.4 told,
+        Hands-append _ _ _ handed s.1 run.5 s.4,
+        sends_round first core mid new rs now n ks run.7 o.3 s.6 handed s.1 run.6 s.5,
+        c.next_wait-wake.ensures.core ∙ core_round first core mid new rs now n ks run.7 o.3 s.6,
+        quiet_round first core mid new rs now n ks run.7 o.3 s.6 run.8 s.2 s.3 s.7,
+        s.8 handed (desk_refusals first rs + c.order.result) before ∙ ap (sends_report (handed ++ s.1)) (refused_round first core mid new rs now n ks run.7 o.3 s.6 (desk_refusals first rs) c.order.result refl o.4),
       );
     }
 

@@ -28,6 +28,7 @@ returns-then-is_none-clause-sent g c =
     let none = c.is_none.ensures ∙ ap not c.if-is_none.true in (
       n + 1,
       run.0 ++ handed_of (sent_at now core) sent,
+      omega arith,
       omega (arith, c.loop-count-test.true),
       Hands-append _ _ _ run.0 (handed_of (sent_at now core) sent) run.1 e.link,
       sent_polled now n first core new run.3 e.core sent e.due run.0 run.2,
@@ -64,7 +65,7 @@ loop-count-preserved g c =
 pub returns-clause-sent : goal.returns-clause-sent
 returns-clause-sent g c =
     let run = c.loop-count.invariant.run in
-    (c.loop-count._count, run.0, c.loop-count.auto._count-end, run.1, run.2, run.3, (λ few. absurd (omega (arith, few, c.loop-count-test.false))), run.4)
+    (c.loop-count._count, run.0, omega (arith, c.loop-count-test.false), c.loop-count.auto._count-end, run.1, run.2, run.3, (λ few. absurd (omega (arith, few, c.loop-count-test.false))), run.4)
 
 pub returns-clause-few : goal.returns-clause-few
 returns-clause-few g c = omega (arith, c.loop-count.invariant.few, c.loop-count.auto._count-end)

@@ -1,5 +1,11 @@
-use Rattle.sacn_live.proofs.FairRounds.{rounds_fair}
+use Rattle.sacn_live.proofs.FairDesks.{short_fair, rounds_fair, shows_fair}
 use Rattle.sacn_live.proofs.laws.rounds_are_fair.Goals as goal
 
-pub returns : goal.returns
-returns c = rounds_fair
+pub returns-clause-shows : goal.returns-clause-shows
+returns-clause-shows c = shows_fair
+
+pub returns-clause-few : goal.returns-clause-few
+returns-clause-few c = rounds_fair
+
+pub returns-clause-short : goal.returns-clause-short
+returns-clause-short c = short_fair
