@@ -1,0 +1,5 @@
+pub mod Kinds
+pub mod Accounts
+pub mod Streams
+pub mod Tallies
+pub mod Books
