@@ -1,6 +1,8 @@
 -- What is known of one source on one universe, and what a packet changes in it.
-use Rattle.std.specs.Prelude.{ℕ, ℤ, pos, ◌-◌, ◌+◌, ◌^◌, ◌%◌, min, max, nat_lt, int_lt, Bool, true, false, not, ◌&&◌, ◌||◌, ◌==◌, Option, Some, None, if◌then◌else◌}
+use Rattle.std.specs.Prelude.{ℕ, ℤ, pos, ◌-◌, ◌+◌, ◌^◌, ◌%◌, min, max, nat_lt, int_lt, Bool, true, false, not, nat_le, List, length, replicate, ◌&&◌, ◌||◌, ◌==◌, Option, Some, None, if◌then◌else◌}
 use Rattle.std.specs.Str.{bytes_eq}
+use Rattle.std.specs.List.{before_first}
+use Rattle.sacn_framing.specs.Naming.{padded}
 use Rattle.sacn_framing.specs.Data.{Data}
 use Rattle.sacn_sequence.specs.Sequence.{step, is_late}
 use Rattle.sacn_sources.specs.Packets.{kind_of}
@@ -12,6 +14,14 @@ use Rattle.sacn_monitor.specs.declared.news.Event.TheVariants.{GoesOn, CameBack,
 use Rattle.sacn_monitor.specs.declared.news.Change.{Change}
 use Rattle.sacn_monitor.specs.declared.news.News.{News}
 use Rattle.sacn_monitor.specs.Kinds.{more, no_packets, counted}
+use Rattle.sacn_monitor.specs.Rates.{first_rate, rate_after}
+
+-- a name's octets, and NUL to the end of its field
+abbrev pub fitted : List ℕ → List ℕ
+fitted name = if nat_le (length name) 64 then padded name else replicate 64 0
+
+abbrev pub name_of : Data → List ℕ
+name_of d = fitted (before_first (λ octet. octet == 0) d.name)
 
 abbrev pub same_sender : Sender → Sender → Bool
 same_sender a b = bytes_eq a.address b.address && (a.port == b.port)
@@ -44,6 +54,7 @@ after_discarded number a = if number == a.number then record a { repeats = more 
 unfoldable pub after_taken : ℕ → Sender → Data → Account → Account
 after_taken t sender d a = record {
   sender = sender;
+  name = name_of d;
   priority = d.priority;
   first = a.first;
   latest = t;
@@ -54,6 +65,7 @@ after_taken t sender d a = record {
   late = a.late;
   repeats = a.repeats;
   greatest_gap = max a.greatest_gap (t - a.latest);
+  rate = rate_after t a.rate;
 }
 
 abbrev pub after_packet : ℕ → Sender → Data → Account → Account
@@ -62,6 +74,7 @@ after_packet t sender d a = if is_discarded t d.number a then after_discarded d.
 unfoldable pub first_account : ℕ → Sender → Data → Account
 first_account t sender d = record {
   sender = sender;
+  name = name_of d;
   priority = d.priority;
   first = t;
   latest = t;
@@ -72,6 +85,7 @@ first_account t sender d = record {
   late = 0;
   repeats = 0;
   greatest_gap = 0;
+  rate = first_rate t;
 }
 
 -- ---- what it tells that is new
@@ -95,7 +109,7 @@ taken_news t sender d a = record {
   skipped = skipped_at t d.number a;
   began_anew = begins_anew t d.number a;
   priority = changed a.priority d.priority;
-  renamed = false;
+  renamed = not (bytes_eq a.name (name_of d));
   moved = not (same_sender a.sender sender);
 }
 

@@ -1,4 +1,5 @@
 pub mod Kinds
+pub mod Rates
 pub mod Accounts
 pub mod Streams
 pub mod Tallies

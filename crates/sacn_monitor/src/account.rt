@@ -1,11 +1,14 @@
 //! What is known of one source on one universe.
 
-ghost use Rattle.std.specs.Prelude.{◌≡◌};
-ghost use Rattle.sacn_monitor.specs.Accounts.{same_sender, is_fresh, is_discarded, skipped_by, skipped_at, begins_anew, changed, taken_event, discarded_event, taken_news, news_of, after_packet, after_taken, after_discarded, first_account};
+ghost use Rattle.std.specs.Prelude.{◌≡◌, ◌≤◌, length};
+ghost use Rattle.sacn_framing.specs.Naming.{padded};
+ghost use Rattle.sacn_monitor.specs.Accounts.{same_sender, is_fresh, is_discarded, skipped_by, skipped_at, begins_anew, changed, taken_event, discarded_event, fitted, taken_news, news_of, after_packet, after_taken, after_discarded, first_account};
 
 use crate::kinds::Kinds;
 use crate::news::{Change, Event, News};
+use crate::rate::Rate;
 use sacn_framing::DataView;
+use sacn_root::put;
 use sacn_sequence::{in_sequence, signed_step};
 use sacn_sources::NETWORK_DATA_LOSS;
 
@@ -26,6 +29,8 @@ pub struct Sender {
 pub struct Account {
     /// The sender of the latest taken packet.
     pub sender: Sender,
+    /// The source's name in the latest taken packet (E1.31, 6.2.2): its octets, and NUL to the end.
+    pub name: [u8; 64],
     /// The priority of the latest taken packet, 0 to 200.
     pub priority: u8,
     /// The moment of the first packet.
@@ -46,6 +51,8 @@ pub struct Account {
     pub repeats: u64,
     /// The greatest time between a taken packet and the next one.
     pub greatest_gap: u64,
+    /// The taken packets of the latest second with one, and of the one before it.
+    pub rate: Rate,
 }
 
 impl Account {
@@ -58,6 +65,7 @@ impl Account {
         kinds.count(packet);
         Account {
             sender,
+            name: fitted(packet.name()),
             priority: packet.priority(),
             first: moment,
             latest: moment,
@@ -68,6 +76,7 @@ impl Account {
             late: 0,
             repeats: 0,
             greatest_gap: 0,
+            rate: Rate::begin(moment),
         }
     }
 
@@ -102,7 +111,7 @@ impl Account {
             skipped: self.skips(moment, packet.number()),
             began_anew: self.begins_anew(moment, packet.number()),
             priority: change(self.priority, packet.priority()),
-            renamed: false,
+            renamed: self.name != fitted(packet.name()),
             moved: !same_sender(&self.sender, &sender),
         }
     }
@@ -183,6 +192,7 @@ impl Account {
         let skipped = self.skips(moment, packet.number());
         let gap = moment.saturating_sub(self.latest);
         self.sender = sender;
+        self.name = fitted(packet.name());
         self.priority = packet.priority();
         self.latest = moment;
         self.number = packet.number();
@@ -190,6 +200,7 @@ impl Account {
         self.kinds.count(packet);
         self.skipped = self.skipped.saturating_add(u64::from(skipped));
         self.greatest_gap = self.greatest_gap.max(gap);
+        self.rate.count(moment);
     }
 }
 
@@ -221,4 +232,25 @@ fn same_sender(a: &Sender, b: &Sender) -> bool
     ensures { result ≡ same_sender a.now b.now }
 {
     (a.address == b.address) & (a.port == b.port)
+}
+
+// A name's octets, and NUL to the end of its field.
+fn fitted(name: &[u8]) -> [u8; 64]
+    ensures { result ≡ fitted name.now }
+{
+    if name.len() <= 64 {
+        padded(name)
+    } else {
+        [0; 64]
+    }
+}
+
+// The octets, and NUL to the end.
+fn padded(name: &[u8]) -> [u8; 64]
+    requires { length name.now ≤ 64 }
+    ensures { result ≡ padded name.now }
+{
+    let mut field = [0; 64];
+    put(&mut field, 0, name);
+    field
 }

@@ -10,6 +10,7 @@ mod kinds;
 mod limits;
 mod monitor;
 mod news;
+mod rate;
 mod stream;
 mod tally;
 
@@ -18,5 +19,6 @@ pub use kinds::Kinds;
 pub use limits::MAX_STREAMS;
 pub use monitor::Monitor;
 pub use news::{Change, Event, News, Noted};
+pub use rate::Rate;
 pub use stream::{State, Stream};
 pub use tally::Tally;
