@@ -4,3 +4,4 @@ pub mod Accounts
 pub mod Streams
 pub mod Tallies
 pub mod Books
+pub mod Histories

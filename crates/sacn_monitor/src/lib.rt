@@ -7,6 +7,7 @@
 
 mod account;
 mod kinds;
+pub mod laws;
 mod limits;
 mod monitor;
 mod news;
