@@ -1,0 +1,5 @@
+use Rattle.sacn_monitor.proofs.Tracked.{moments}
+use Rattle.sacn_monitor.proofs.laws.uses_the_greatest_moment.Goals as goal
+
+pub returns : goal.returns
+returns c = moments

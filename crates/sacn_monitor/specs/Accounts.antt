@@ -1,0 +1,117 @@
+-- What is known of one source on one universe, and what a packet changes in it.
+use Rattle.std.specs.Prelude.{ℕ, ℤ, pos, ◌-◌, ◌+◌, ◌^◌, ◌%◌, min, max, nat_lt, int_lt, Bool, true, false, not, nat_le, List, length, replicate, ◌&&◌, ◌||◌, ◌==◌, Option, Some, None, if◌then◌else◌}
+use Rattle.std.specs.Str.{bytes_eq}
+use Rattle.std.specs.List.{before_first}
+use Rattle.sacn_framing.specs.Naming.{padded}
+use Rattle.sacn_framing.specs.Data.{Data}
+use Rattle.sacn_sequence.specs.Sequence.{step, is_late}
+use Rattle.sacn_sources.specs.Packets.{kind_of}
+use Rattle.sacn_sources.specs.declared.limits.TheConstants.{NETWORK_DATA_LOSS}
+use Rattle.sacn_monitor.specs.declared.account.Account.{Account}
+use Rattle.sacn_monitor.specs.declared.account.Sender.{Sender}
+use Rattle.sacn_monitor.specs.declared.news.Event.{Event}
+use Rattle.sacn_monitor.specs.declared.news.Event.TheVariants.{GoesOn, CameBack, Ended, OutOfSequence, Repeated}
+use Rattle.sacn_monitor.specs.declared.news.Change.{Change}
+use Rattle.sacn_monitor.specs.declared.news.News.{News}
+use Rattle.sacn_monitor.specs.Kinds.{more, no_packets, counted}
+use Rattle.sacn_monitor.specs.Rates.{first_rate, rate_after}
+
+-- a name's octets, and NUL to the end of its field
+abbrev pub fitted : List ℕ → List ℕ
+fitted name = if nat_le (length name) 64 then padded name else replicate 64 0
+
+abbrev pub name_of : Data → List ℕ
+name_of d = fitted (before_first (λ octet. octet == 0) d.name)
+
+abbrev pub same_sender : Sender → Sender → Bool
+same_sender a b = bytes_eq a.address b.address && (a.port == b.port)
+
+-- at t the latest taken packet still counts
+abbrev pub is_fresh : ℕ → Account → Bool
+is_fresh t a = nat_lt (t - a.latest) NETWORK_DATA_LOSS
+
+-- at t a packet of this number is out of sequence
+abbrev pub is_discarded : ℕ → ℕ → Account → Bool
+is_discarded t number a = is_fresh t a && is_late a.number number
+
+-- the numbers that lie between two; none where the second seems to lie behind the first
+abbrev pub skipped_by : ℕ → ℕ → ℕ
+skipped_by held arrived = let ahead = (arrived + 256 - held) % 256 in if nat_lt ahead 128 then ahead - 1 else 0
+
+-- the numbers that a packet skips that is taken at t
+abbrev pub skipped_at : ℕ → ℕ → Account → ℕ
+skipped_at t number a = if is_fresh t a then skipped_by a.number number else 0
+
+-- the sender began its numbers anew
+abbrev pub begins_anew : ℕ → ℕ → Account → Bool
+begins_anew t number a = is_fresh t a && int_lt (step a.number number) (pos 0)
+
+-- ---- a packet after others
+
+abbrev pub after_discarded : ℕ → Account → Account
+after_discarded number a = if number == a.number then record a { repeats = more 1 a.repeats } else record a { late = more 1 a.late }
+
+unfoldable pub after_taken : ℕ → Sender → Data → Account → Account
+after_taken t sender d a = record {
+  sender = sender;
+  name = name_of d;
+  priority = d.priority;
+  first = a.first;
+  latest = t;
+  number = d.number;
+  ended = d.terminated;
+  kinds = counted (kind_of d) a.kinds;
+  skipped = more (skipped_at t d.number a) a.skipped;
+  late = a.late;
+  repeats = a.repeats;
+  greatest_gap = max a.greatest_gap (t - a.latest);
+  rate = rate_after t a.rate;
+}
+
+abbrev pub after_packet : ℕ → Sender → Data → Account → Account
+after_packet t sender d a = if is_discarded t d.number a then after_discarded d.number a else after_taken t sender d a
+
+unfoldable pub first_account : ℕ → Sender → Data → Account
+first_account t sender d = record {
+  sender = sender;
+  name = name_of d;
+  priority = d.priority;
+  first = t;
+  latest = t;
+  number = d.number;
+  ended = d.terminated;
+  kinds = counted (kind_of d) no_packets;
+  skipped = 0;
+  late = 0;
+  repeats = 0;
+  greatest_gap = 0;
+  rate = first_rate t;
+}
+
+-- ---- what it tells that is new
+
+abbrev pub quiet : Event → News
+quiet event = record { event = event; skipped = 0; began_anew = false; priority = None; renamed = false; moved = false }
+
+abbrev pub discarded_event : ℕ → Account → Event
+discarded_event number a = if number == a.number then Repeated else OutOfSequence
+
+abbrev pub taken_event : ℕ → Bool → Account → Event
+taken_event t true a = if a.ended then GoesOn else Ended
+taken_event t false a = if a.ended || not (is_fresh t a) then CameBack else GoesOn
+
+abbrev pub changed : ℕ → ℕ → Option Change
+changed from to = if from == to then None else Some (record { from = from; to = to })
+
+unfoldable pub taken_news : ℕ → Sender → Data → Account → News
+taken_news t sender d a = record {
+  event = taken_event t d.terminated a;
+  skipped = skipped_at t d.number a;
+  began_anew = begins_anew t d.number a;
+  priority = changed a.priority d.priority;
+  renamed = not (bytes_eq a.name (name_of d));
+  moved = not (same_sender a.sender sender);
+}
+
+abbrev pub news_of : ℕ → Sender → Data → Account → News
+news_of t sender d a = if is_discarded t d.number a then quiet (discarded_event d.number a) else taken_news t sender d a

@@ -1,0 +1,256 @@
+//! What is known of one source on one universe.
+
+ghost use Rattle.std.specs.Prelude.{◌≡◌, ◌≤◌, length};
+ghost use Rattle.sacn_framing.specs.Naming.{padded};
+ghost use Rattle.sacn_monitor.specs.Accounts.{same_sender, is_fresh, is_discarded, skipped_by, skipped_at, begins_anew, changed, taken_event, discarded_event, fitted, taken_news, news_of, after_packet, after_taken, after_discarded, first_account};
+
+use crate::kinds::Kinds;
+use crate::news::{Change, Event, News};
+use crate::rate::Rate;
+use sacn_framing::DataView;
+use sacn_root::put;
+use sacn_sequence::{in_sequence, signed_step};
+use sacn_sources::NETWORK_DATA_LOSS;
+
+/// Where a datagram came from.
+#[derive(Clone, Copy, Debug, PartialEq, Eq)]
+pub struct Sender {
+    /// The IPv4 address.
+    pub address: [u8; 4],
+    /// The UDP port.
+    pub port: u16,
+}
+
+/// What is known of one source on one universe. Moments are in milliseconds; each count stops at 2^64 - 1.
+///
+/// A packet is taken where it is in sequence after the latest taken one (E1.31, 6.7.2), or where that was 2500 ms ago or
+/// more (E1.31, 6.7.1); the others are discarded.
+#[derive(Clone, Copy, Debug, PartialEq, Eq)]
+pub struct Account {
+    /// The sender of the latest taken packet.
+    pub sender: Sender,
+    /// The source's name in the latest taken packet (E1.31, 6.2.2): its octets, and NUL to the end.
+    pub name: [u8; 64],
+    /// The priority of the latest taken packet, 0 to 200.
+    pub priority: u8,
+    /// The moment of the first packet.
+    pub first: u64,
+    /// The moment of the latest taken packet.
+    pub latest: u64,
+    /// The sequence number of the latest taken packet.
+    pub number: u8,
+    /// Whether the latest taken packet ended the stream.
+    pub ended: bool,
+    /// The taken packets, by kind.
+    pub kinds: Kinds,
+    /// The sequence numbers that taken packets skipped: packets lost on the way.
+    pub skipped: u64,
+    /// Discarded packets, out of sequence.
+    pub late: u64,
+    /// Discarded packets that had the number of the latest taken one.
+    pub repeats: u64,
+    /// The greatest time between a taken packet and the next one.
+    pub greatest_gap: u64,
+    /// The taken packets of the latest second with one, and of the one before it.
+    pub rate: Rate,
+}
+
+impl Account {
+    /// The account of a source whose first packet this is.
+    #[tactic(auto, unfolding(crate::specs::Accounts::first_account))]
+    pub(crate) fn begin(moment: u64, sender: Sender, packet: &DataView<'_>) -> Self
+        ensures { result ≡ first_account moment sender packet.now }
+    {
+        let mut kinds = Kinds::none();
+        kinds.count(packet);
+        Account {
+            sender,
+            name: fitted(packet.name()),
+            priority: packet.priority(),
+            first: moment,
+            latest: moment,
+            number: packet.number(),
+            ended: packet.terminated(),
+            kinds,
+            skipped: 0,
+            late: 0,
+            repeats: 0,
+            greatest_gap: 0,
+            rate: Rate::begin(moment),
+        }
+    }
+
+    /// A packet more.
+    pub(crate) fn hear(&mut self, moment: u64, sender: Sender, packet: &DataView<'_>)
+        ensures { self.new ≡ after_packet moment sender packet.now self.old }
+    {
+        if self.discards(moment, packet.number()) {
+            self.discard(packet.number());
+        } else {
+            self.take(moment, sender, packet);
+        }
+    }
+
+    /// What a packet tells that is new.
+    pub(crate) fn news(&self, moment: u64, sender: Sender, packet: &DataView<'_>) -> News
+        ensures { result ≡ news_of moment sender packet.now self.now }
+    {
+        if self.discards(moment, packet.number()) {
+            return News::quiet(self.discarded_event(packet.number()));
+        }
+        self.taken_news(moment, sender, packet)
+    }
+
+    // What a taken packet tells that is new.
+    #[tactic(auto, unfolding(crate::specs::Accounts::taken_news))]
+    fn taken_news(&self, moment: u64, sender: Sender, packet: &DataView<'_>) -> News
+        ensures { result ≡ taken_news moment sender packet.now self.now }
+    {
+        News {
+            event: self.taken_event(moment, packet.terminated()),
+            skipped: self.skips(moment, packet.number()),
+            began_anew: self.begins_anew(moment, packet.number()),
+            priority: change(self.priority, packet.priority()),
+            renamed: self.name != fitted(packet.name()),
+            moved: !same_sender(&self.sender, &sender),
+        }
+    }
+
+    /// Whether the latest taken packet still counts: it came less than 2500 ms ago.
+    pub(crate) fn is_fresh(&self, moment: u64) -> bool
+        ensures { result ≡ is_fresh moment self.now }
+    {
+        moment.saturating_sub(self.latest) < NETWORK_DATA_LOSS
+    }
+
+    // Whether a packet with this number is out of sequence.
+    fn discards(&self, moment: u64, number: u8) -> bool
+        ensures { result ≡ is_discarded moment number self.now }
+    {
+        self.is_fresh(moment) & !in_sequence(self.number, number)
+    }
+
+    // The event of a discarded packet.
+    fn discarded_event(&self, number: u8) -> Event
+        ensures { result ≡ discarded_event number self.now }
+    {
+        if number == self.number {
+            Event::Repeated
+        } else {
+            Event::OutOfSequence
+        }
+    }
+
+    // The event of a taken packet.
+    fn taken_event(&self, moment: u64, terminated: bool) -> Event
+        ensures { result ≡ taken_event moment terminated self.now }
+    {
+        if terminated {
+            return if self.ended { Event::GoesOn } else { Event::Ended };
+        }
+        if self.ended | !self.is_fresh(moment) {
+            Event::CameBack
+        } else {
+            Event::GoesOn
+        }
+    }
+
+    // The numbers that a taken packet skips.
+    fn skips(&self, moment: u64, number: u8) -> u8
+        ensures { result ≡ skipped_at moment number self.now }
+    {
+        if self.is_fresh(moment) {
+            skipped(self.number, number)
+        } else {
+            0
+        }
+    }
+
+    // Whether a taken packet begins the numbers anew.
+    fn begins_anew(&self, moment: u64, number: u8) -> bool
+        ensures { result ≡ begins_anew moment number self.now }
+    {
+        self.is_fresh(moment) & (signed_step(self.number, number) < 0)
+    }
+
+    // A packet that is discarded.
+    fn discard(&mut self, number: u8)
+        ensures { self.new ≡ after_discarded number self.old }
+    {
+        if number == self.number {
+            self.repeats = self.repeats.saturating_add(1);
+        } else {
+            self.late = self.late.saturating_add(1);
+        }
+    }
+
+    // A packet that is taken.
+    #[tactic(auto, unfolding(crate::specs::Accounts::after_taken))]
+    fn take(&mut self, moment: u64, sender: Sender, packet: &DataView<'_>)
+        ensures { self.new ≡ after_taken moment sender packet.now self.old }
+    {
+        let skipped = self.skips(moment, packet.number());
+        let gap = moment.saturating_sub(self.latest);
+        self.sender = sender;
+        self.name = fitted(packet.name());
+        self.priority = packet.priority();
+        self.latest = moment;
+        self.number = packet.number();
+        self.ended = packet.terminated();
+        self.kinds.count(packet);
+        self.skipped = self.skipped.saturating_add(u64::from(skipped));
+        self.greatest_gap = self.greatest_gap.max(gap);
+        self.rate.count(moment);
+    }
+}
+
+// The numbers between two that follow one another; none where the second seems to lie behind.
+fn skipped(held: u8, arrived: u8) -> u8
+    ensures { result ≡ skipped_by held arrived }
+{
+    let ahead = arrived.wrapping_sub(held);
+    if ahead < 128 {
+        ahead.saturating_sub(1)
+    } else {
+        0
+    }
+}
+
+// A priority in place of another.
+fn change(from: u8, to: u8) -> Option<Change>
+    ensures { result ≡ changed from to }
+{
+    if from == to {
+        None
+    } else {
+        Some(Change { from, to })
+    }
+}
+
+// Whether two datagrams came from one place.
+fn same_sender(a: &Sender, b: &Sender) -> bool
+    ensures { result ≡ same_sender a.now b.now }
+{
+    (a.address == b.address) & (a.port == b.port)
+}
+
+// A name's octets, and NUL to the end of its field.
+fn fitted(name: &[u8]) -> [u8; 64]
+    ensures { result ≡ fitted name.now }
+{
+    if name.len() <= 64 {
+        padded(name)
+    } else {
+        [0; 64]
+    }
+}
+
+// The octets, and NUL to the end.
+fn padded(name: &[u8]) -> [u8; 64]
+    requires { length name.now ≤ 64 }
+    ensures { result ≡ padded name.now }
+{
+    let mut field = [0; 64];
+    put(&mut field, 0, name);
+    field
+}

@@ -1,0 +1,62 @@
+//! How many packets there were of each kind.
+
+ghost use Rattle.std.specs.Prelude.{◌≡◌};
+ghost use Rattle.sacn_sources.specs.Packets.{kind_of};
+ghost use Rattle.sacn_monitor.specs.Kinds.{no_packets, counted};
+
+use sacn_framing::DataView;
+use sacn_sources::Kind;
+
+/// How many packets were taken of each kind. Each count stops at 2^64 - 1.
+#[derive(Clone, Copy, Debug, PartialEq, Eq)]
+pub struct Kinds {
+    /// Levels for the stage: start code 0 (E1.11).
+    pub live: u64,
+    /// Preview_Data is set (E1.31, 6.2.6).
+    pub previews: u64,
+    /// Stream_Terminated is set (E1.31, 6.2.6).
+    pub terminations: u64,
+    /// Another start code than 0.
+    pub others: u64,
+}
+
+impl Kinds {
+    /// No packet yet.
+    pub(crate) fn none() -> Self
+        ensures { result ≡ no_packets }
+    {
+        Kinds {
+            live: 0,
+            previews: 0,
+            terminations: 0,
+            others: 0,
+        }
+    }
+
+    /// One packet more.
+    pub(crate) fn count(&mut self, packet: &DataView<'_>)
+        ensures { self.new ≡ counted (kind_of packet.now) self.old }
+    {
+        match kind_of(packet) {
+            Kind::Termination => self.terminations = self.terminations.saturating_add(1),
+            Kind::Preview => self.previews = self.previews.saturating_add(1),
+            Kind::Live => self.live = self.live.saturating_add(1),
+            Kind::Other => self.others = self.others.saturating_add(1),
+        }
+    }
+}
+
+/// The kind of a packet: the first that fits, from the top.
+fn kind_of(packet: &DataView<'_>) -> Kind
+    ensures { result ≡ kind_of packet.now }
+{
+    if packet.terminated() {
+        Kind::Termination
+    } else if packet.preview() {
+        Kind::Preview
+    } else if packet.start() == 0 {
+        Kind::Live
+    } else {
+        Kind::Other
+    }
+}

@@ -1,0 +1,4 @@
+//! The numbers of the monitor.
+
+/// The most pairs of a universe and a source that have an account. A packet of a further pair is counted as untracked.
+pub const MAX_STREAMS: usize = 1024;

@@ -1,0 +1,208 @@
+//! The monitor.
+
+ghost use Rattle.std.specs.Prelude.{◌≡◌, ◌<◌, ◌^◌, ◌-◌, IfOk, max, length, slice_get, slice_index_or, slice_set, slice_index};
+ghost use Rattle.std.specs.List.{position};
+ghost use Rattle.sacn_monitor.specs.Accounts.{news_of};
+ghost use Rattle.sacn_monitor.specs.Streams.{is_of, stream_after, falls_silent};
+ghost use Rattle.sacn_monitor.specs.Books.{next_loss};
+
+use crate::account::Sender;
+use crate::limits::MAX_STREAMS;
+use crate::news::{Event, News, Noted};
+use crate::stream::Stream;
+use crate::tally::Tally;
+use sacn_framing::{DataView, Packet, read_packet};
+use std::alloc::{AllocError, Global};
+use std::marker::Model;
+
+/// Keeps an account of each source on each universe, of up to `MAX_STREAMS` pairs.
+///
+/// Its value is the list of the streams in the order in which they appeared, a moment, the greatest that was handed in,
+/// in milliseconds, and counts. Each call first moves the clock to the greater of its moment and `now`. No call but
+/// `new` takes memory.
+#[derive(Drop)]
+pub struct Monitor {
+    streams: Vec<Stream>,
+    moment: u64,
+    tally: Tally,
+}
+
+impl Model for Monitor {
+    ghost use Rattle.std.specs.Prelude.{◌≤◌, vec_capacity};
+    ghost use Rattle.sacn_monitor.specs.Books.{Book};
+    ghost use Rattle.sacn_monitor.specs.declared.limits.TheConstants.{MAX_STREAMS};
+
+    ghost Value = { Book };
+
+    ghost view = { λ m. record { streams = m.streams.items; moment = m.moment; tally = m.tally } };
+
+    ghost invariant = { λ m. MAX_STREAMS ≤ vec_capacity m.streams };
+}
+
+impl Monitor {
+    ghost use Rattle.sacn_monitor.specs.Books.{new_book, noted, after_take, noted_data, after_data, place_of, silent_place, after_tick, told, change_at};
+
+    /// A monitor that has heard nothing, with the room for `MAX_STREAMS` streams taken in one request.
+    ///
+    /// Errors: the request was refused.
+    pub fn new(alloc: Global) -> Result<Self, AllocError>
+        ensures { IfOk result (λ m. m ≡ new_book) }
+    {
+        Ok(Monitor {
+            streams: Vec::with_capacity(alloc, MAX_STREAMS)?,
+            moment: 0,
+            tally: Tally::none(),
+        })
+    }
+
+    /// Takes a datagram that came at a moment, in milliseconds, and answers what it told that is new.
+    pub fn take(&mut self, now: u64, sender: Sender, octets: &[u8]) -> Noted
+        ensures noted { result ≡ noted now sender octets.now self.old }
+        ensures book { self.new ≡ after_take now sender octets.now self.old }
+    {
+        self.moment = self.moment.max(now);
+        self.tally.datagrams = self.tally.datagrams.saturating_add(1);
+        match read_packet(octets) {
+            Ok(Packet::DataPacket(packet)) => self.hear(sender, &packet),
+            Ok(Packet::PagePacket(_)) => {
+                self.tally.pages = self.tally.pages.saturating_add(1);
+                Noted::Page
+            }
+            Ok(Packet::SyncPacket) => {
+                self.tally.syncs = self.tally.syncs.saturating_add(1);
+                Noted::Sync
+            }
+            Err(fault) => {
+                self.tally.refuse(fault);
+                Noted::Refused(fault)
+            }
+        }
+    }
+
+    /// Moves the clock, and answers the place of a stream that is lost by then, if there is one whose loss this call
+    /// didn't answer since its latest packet. Called again it answers the next one.
+    pub fn tick(&mut self, now: u64) -> Option<usize>
+        ensures place { result ≡ silent_place (max self.old.moment now) self.old.streams }
+        ensures book { self.new ≡ after_tick now self.old }
+    {
+        self.moment = self.moment.max(now);
+        let place = self.silent_place();
+        if let Some(at) = place {
+            self.tell(at);
+        }
+        place
+    }
+
+    /// The first moment at which `tick` answers a stream, where no packet comes; `u64::MAX` where it never does.
+    pub fn next_loss(&self) -> u64
+        ensures { result ≡ next_loss self.now.streams }
+    {
+        next_loss(self.streams.as_slice())
+    }
+
+    /// The streams in the order in which they appeared.
+    pub fn streams(&self) -> &[Stream]
+        ensures { result.now ≡ self.now.streams }
+    {
+        self.streams.as_slice()
+    }
+
+    /// The greatest moment that was handed in, in milliseconds.
+    pub fn moment(&self) -> u64
+        ensures { result ≡ self.now.moment }
+    {
+        self.moment
+    }
+
+    /// How many datagrams there were, by what they were.
+    pub fn tally(&self) -> &Tally
+        ensures { result.now ≡ self.now.tally }
+    {
+        &self.tally
+    }
+
+    // A data packet.
+    #[tactic(auto, unfolding(crate::specs::Books::noted_data, crate::specs::Books::after_data))]
+    fn hear(&mut self, sender: Sender, packet: &DataView<'_>) -> Noted
+        ensures noted { result ≡ noted_data sender packet.now self.old (place_of packet.now.universe packet.now.cid self.old.streams) }
+        ensures book { self.new ≡ after_data sender packet.now self.old (place_of packet.now.universe packet.now.cid self.old.streams) }
+    {
+        match self.place_of(packet.universe(), &packet.cid()) {
+            Some(at) => Noted::Heard(at, self.hear_at(at, sender, packet)),
+            None => self.admit(sender, packet),
+        }
+    }
+
+    // The place of the stream of a source on a universe.
+    fn place_of(&self, universe: u16, cid: &[u8; 16]) -> Option<usize>
+        ensures { result ≡ place_of universe cid.now self.now.streams }
+    {
+        place_in(self.streams.as_slice(), universe, cid)
+    }
+
+    // The place of the first stream whose loss is to be told.
+    fn silent_place(&self) -> Option<usize>
+        ensures { result ≡ silent_place self.now.moment self.now.streams }
+    {
+        silent_in(self.streams.as_slice(), self.moment)
+    }
+
+    // A packet of the stream at a place.
+    fn hear_at(&mut self, at: usize, sender: Sender, packet: &DataView<'_>) -> News
+        requires { at < length self.old.streams }
+        ensures news { (s : Stream) → result ≡ news_of self.old.moment sender packet.now (slice_index_or self.old.streams at s).account }
+        ensures book { (s : Stream) → self.new ≡ record self.old { streams = slice_set self.old.streams at (stream_after self.old.moment sender packet.now (slice_index_or self.old.streams at s)) } }
+    {
+        let moment = self.moment;
+        self.streams[at].hear(moment, sender, packet)
+    }
+
+    // A stream whose loss is told.
+    fn tell(&mut self, at: usize)
+        requires { at < length self.old.streams }
+        ensures { (s : Stream) → self.new ≡ record self.old { streams = slice_set self.old.streams at (told (slice_index_or self.old.streams at s)) } }
+    {
+        self.streams[at].told = true;
+    }
+
+    // The first packet of a stream.
+    #[tactic(auto, unfolding(crate::specs::Books::noted_data, crate::specs::Books::after_data))]
+    fn admit(&mut self, sender: Sender, packet: &DataView<'_>) -> Noted
+        ensures noted { result ≡ noted_data sender packet.now self.old None }
+        ensures book { self.new ≡ after_data sender packet.now self.old None }
+    {
+        let place = self.streams.len();
+        if place < MAX_STREAMS {
+            self.streams
+                .push_reserved(Stream::begin(self.moment, sender, packet));
+            return Noted::Heard(place, News::quiet(Event::Appeared));
+        }
+        self.tally.untracked = self.tally.untracked.saturating_add(1);
+        Noted::Untracked
+    }
+}
+
+// The first moment at which a stream is lost whose loss is still to be told.
+fn next_loss(streams: &[Stream]) -> u64
+    ensures { result ≡ next_loss streams.now }
+{
+    let mut least = u64::MAX;
+    for stream in streams {
+        least = least.min(stream.loss());
+    }
+    least
+}
+
+// The place of the stream of a source on a universe.
+fn place_in(streams: &[Stream], universe: u16, cid: &[u8; 16]) -> Option<usize>
+    ensures { result ≡ position (is_of universe cid.now) streams.now }
+{
+    streams.iter().position(|stream| stream.is_of(universe, cid))
+}
+
+// The place of the first stream whose loss is to be told.
+fn silent_in(streams: &[Stream], moment: u64) -> Option<usize>
+    ensures { result ≡ position (falls_silent moment) streams.now }
+{
+    streams.iter().position(|stream| stream.falls_silent(moment))
+}

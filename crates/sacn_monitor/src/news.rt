@@ -1,0 +1,76 @@
+//! What a datagram tells that is new.
+
+ghost use Rattle.std.specs.Prelude.{◌≡◌};
+ghost use Rattle.sacn_monitor.specs.Accounts.{quiet};
+
+use sacn_root::PacketFault;
+
+/// What a packet says of its source on its universe.
+#[derive(Clone, Copy, Debug, PartialEq, Eq)]
+pub enum Event {
+    /// It goes on.
+    GoesOn,
+    /// It wasn't heard there before.
+    Appeared,
+    /// It had ended, or was lost, and sends again.
+    CameBack,
+    /// It says that it ends its stream (E1.31, 6.2.6).
+    Ended,
+    /// The packet comes out of sequence, and is discarded (E1.31, 6.7.2).
+    OutOfSequence,
+    /// The packet has the number of the latest one that was taken, and is discarded (E1.31, 6.7.2).
+    Repeated,
+}
+
+/// A priority in place of another (E1.31, 6.2.3).
+#[derive(Clone, Copy, Debug, PartialEq, Eq)]
+pub struct Change {
+    pub from: u8,
+    pub to: u8,
+}
+
+/// All that a data packet tells that is new. A discarded packet tells its event alone.
+#[derive(Clone, Copy, Debug, PartialEq, Eq)]
+pub struct News {
+    pub event: Event,
+    /// The sequence numbers that were skipped: so many packets are missing.
+    pub skipped: u8,
+    /// The sequence numbers go back by twenty or more: the sender began them anew (E1.31, 6.7.2).
+    pub began_anew: bool,
+    pub priority: Option<Change>,
+    /// The source has another name than before (E1.31, 6.2.2).
+    pub renamed: bool,
+    /// The packet comes from another address or port than the one before.
+    pub moved: bool,
+}
+
+impl News {
+    /// The news of a packet that tells its event alone.
+    pub(crate) fn quiet(event: Event) -> Self
+        ensures { result ≡ quiet event }
+    {
+        News {
+            event,
+            skipped: 0,
+            began_anew: false,
+            priority: None,
+            renamed: false,
+            moved: false,
+        }
+    }
+}
+
+/// What was noted of a datagram.
+#[derive(Clone, Copy, Debug, PartialEq, Eq)]
+pub enum Noted {
+    /// It is no packet of the standard.
+    Refused(PacketFault),
+    /// A page of universe discovery (E1.31, 8).
+    Page,
+    /// A synchronization packet (E1.31, 6.3), whose content isn't looked at.
+    Sync,
+    /// A data packet of a pair for which there is no room.
+    Untracked,
+    /// A data packet of the stream at this place.
+    Heard(usize, News),
+}

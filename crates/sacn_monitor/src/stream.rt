@@ -1,0 +1,97 @@
+//! A source on a universe.
+
+ghost use Rattle.std.specs.Prelude.{◌≡◌};
+ghost use Rattle.sacn_monitor.specs.Accounts.{news_of};
+ghost use Rattle.sacn_monitor.specs.Streams.{is_of, first_stream, stream_after, loss_of, falls_silent, state_of};
+
+use crate::account::{Account, Sender};
+use crate::news::News;
+use sacn_framing::DataView;
+use sacn_sources::NETWORK_DATA_LOSS;
+
+/// Whether a source is there.
+#[derive(Clone, Copy, Debug, PartialEq, Eq)]
+pub enum State {
+    /// It sends.
+    Sending,
+    /// Its latest packet ended the stream (E1.31, 6.2.6).
+    Ended,
+    /// No packet of it was taken for 2500 ms (E1.31, 6.7.1).
+    Lost,
+}
+
+/// A source on a universe, and what is known of it there.
+#[derive(Clone, Copy, Debug, PartialEq, Eq)]
+pub struct Stream {
+    /// The universe, 1 to 63999 (E1.31, 6.2.7).
+    pub universe: u16,
+    /// The source's CID, a UUID (E1.31, 5.6).
+    pub cid: [u8; 16],
+    pub account: Account,
+    /// Whether its loss was told since its latest packet.
+    pub told: bool,
+}
+
+impl Stream {
+    /// Whether the source sends, at a moment that is no earlier than its latest packet.
+    pub fn state(&self, moment: u64) -> State
+        ensures { result ≡ state_of moment self.now }
+    {
+        if self.account.ended {
+            return State::Ended;
+        }
+        if self.account.is_fresh(moment) {
+            State::Sending
+        } else {
+            State::Lost
+        }
+    }
+
+    /// A stream whose first packet this is.
+    pub(crate) fn begin(moment: u64, sender: Sender, packet: &DataView<'_>) -> Self
+        ensures { result ≡ first_stream moment sender packet.now }
+    {
+        Stream {
+            universe: packet.universe(),
+            cid: packet.cid(),
+            account: Account::begin(moment, sender, packet),
+            told: false,
+        }
+    }
+
+    /// Whether it is the stream of a source on a universe.
+    pub(crate) fn is_of(&self, universe: u16, cid: &[u8; 16]) -> bool
+        ensures { result ≡ is_of universe cid.now self.now }
+    {
+        (self.universe == universe) & (self.cid == *cid)
+    }
+
+    /// A packet more. Answers what it tells that is new.
+    pub(crate) fn hear(&mut self, moment: u64, sender: Sender, packet: &DataView<'_>) -> News
+        ensures news { result ≡ news_of moment sender packet.now self.old.account }
+        ensures stream { self.new ≡ stream_after moment sender packet.now self.old }
+    {
+        let news = self.account.news(moment, sender, packet);
+        self.account.hear(moment, sender, packet);
+        self.told = false;
+        news
+    }
+
+    /// The moment at which it is lost if it stays silent, where that wasn't told yet; else `u64::MAX`.
+    pub(crate) fn loss(&self) -> u64
+        ensures { result ≡ loss_of self.now }
+    {
+        if self.told | self.account.ended {
+            u64::MAX
+        } else {
+            self.account.latest.saturating_add(NETWORK_DATA_LOSS)
+        }
+    }
+
+    /// Whether it is lost at this moment, and that wasn't told yet.
+    pub(crate) fn falls_silent(&self, moment: u64) -> bool
+        ensures { result ≡ falls_silent moment self.now }
+    {
+        !(self.told | self.account.ended) & !self.account.is_fresh(moment)
+    }
+}
