@@ -51,7 +51,7 @@ impl Desk {
                 number: 0,
                 frame: [0; 512],
             })?;
-            first = (first + slots) % CHANNELS;
+            first = first.wrapping_add(slots) % CHANNELS;
         }
         Ok(Desk {
             fades: vec![in alloc; fade; CHANNELS]?,
@@ -70,7 +70,7 @@ impl Desk {
             None => 0,
             Some(fade) => {
                 let level = level_of(fade, self.now) as u32 * self.master as u32 / 65535;
-                (level / 256) as u8
+                (level / 256 % 256) as u8
             }
         }
     }
