@@ -2,7 +2,6 @@
 ghost use Rattle.std.specs.Prelude.{◌≤◌};
 
 use crate::fault::SpeedFault;
-use crate::plain::packet;
 use crate::turn::{self, Turn};
 use sacn_framing::{DataFields, Packet, read_packet, write_data};
 use std::io::Write;
@@ -66,48 +65,14 @@ impl Turn for Writing {
     }
 }
 
-#[derive(Drop)]
-struct PlainReading {
-    octets: [u8; 638],
-}
-
-impl Turn for PlainReading {
-    fn turn(&mut self, number: u64) -> u64 {
-        self.octets[111] = (number % 256) as u8;
-        match packet::number_of(&self.octets) {
-            Some(number) => u64::from(number),
-            None => 0,
-        }
-    }
-}
-
-#[derive(Drop)]
-struct PlainWriting {
-    slots: [u8; 512],
-    out: [u8; 638],
-}
-
-impl Turn for PlainWriting {
-    fn turn(&mut self, number: u64) -> u64 {
-        self.slots[0] = (number % 256) as u8;
-        let length = packet::write(1, 1, 0, &self.slots, &mut self.out);
-        u64::from(self.out[126]).wrapping_add(length as u64)
-    }
-}
-
 pub fn measured<C: Clock, O: Write>(clock: &C, out: &mut O, calls: u64) -> Result<(), SpeedFault> {
     let mut octets = [0; 638];
     written(1, 1, 0, &[7; 512], &mut octets);
     let mut reading = Reading { octets };
-    let mut plain = PlainReading { octets };
-    turn::compared(clock, out, READ, calls, &mut reading, &mut plain)?;
+    turn::measured(clock, out, READ, calls, &mut reading)?;
     let mut writing = Writing {
         slots: [7; 512],
         out: [0; 638],
     };
-    let mut plain = PlainWriting {
-        slots: [7; 512],
-        out: [0; 638],
-    };
-    turn::compared(clock, out, WRITE, calls, &mut writing, &mut plain)
+    turn::measured(clock, out, WRITE, calls, &mut writing)
 }

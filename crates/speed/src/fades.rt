@@ -1,6 +1,5 @@
 //! Consoles of which many universes fade.
 use crate::fault::SpeedFault;
-use crate::plain::desk::Desk;
 use crate::turn::{self, Turn};
 use sacn_console::{Command, ConsoleCore, read_show};
 use std::alloc::{AllocError, AllocGlobal, Global};
@@ -20,9 +19,6 @@ pub const IDLE: &str = "poll of 4 universes where nothing is due";
 pub const SLEEP: &str = "wake of 1024 universes";
 
 const CHANNELS: u16 = 2048;
-
-/// The lower half of the channels.
-pub const HALF_OF_ALL: u16 = 1024;
 
 /// The lower half of the universes shows the channels from this one on, the upper half those below it.
 const HALF_WAY: u16 = 1025;
@@ -73,10 +69,10 @@ fn show_text(alloc: Global, universes: u16, slots: u16, fading: u16) -> Result<S
 
 /// One datagram; where none is due, the next after 25 ms.
 #[derive(Drop)]
-pub struct Fading {
-    pub core: ConsoleCore,
-    pub now: u64,
-    pub out: [u8; 1144],
+struct Fading {
+    core: ConsoleCore,
+    now: u64,
+    out: [u8; 1144],
 }
 
 impl Turn for Fading {
@@ -91,26 +87,6 @@ impl Turn for Fading {
                 }
             }
         }
-    }
-}
-
-/// The same by a plain desk.
-#[derive(Drop)]
-struct Plainly {
-    desk: Desk,
-}
-
-impl Plainly {
-    fn new(alloc: Global, universes: u16, slots: usize) -> Result<Self, SpeedFault> {
-        Ok(Plainly {
-            desk: Desk::new(alloc, universes, slots)?,
-        })
-    }
-}
-
-impl Turn for Plainly {
-    fn turn(&mut self, _number: u64) -> u64 {
-        self.desk.datagram() as u64
     }
 }
 
@@ -162,13 +138,8 @@ impl Turn for Sleeping {
     }
 }
 
-/// A console of such a show, whose cue began at 0.
-pub fn begun(
-    alloc: Global,
-    universes: u16,
-    slots: u16,
-    channels: u16,
-) -> Result<Fading, SpeedFault> {
+// A console of such a show, whose cue began at 0.
+fn begun(alloc: Global, universes: u16, slots: u16, channels: u16) -> Result<Fading, SpeedFault> {
     let text = show_text(alloc, universes, slots, channels)?;
     let show = read_show(alloc, text.as_str())?;
     let mut core = ConsoleCore::new(alloc, &show, 0)?;
@@ -185,19 +156,16 @@ pub fn begun(
 
 pub fn measured<R: AllocGlobal + Clock, O: Write>(rt: &R, out: &mut O) -> Result<(), SpeedFault> {
     let mut four = begun(rt.alloc(), 4, 512, CHANNELS)?;
-    let mut plain = Plainly::new(rt.alloc(), 4, 512)?;
-    turn::compared(rt, out, FOUR, 3000, &mut four, &mut plain)?;
+    turn::measured(rt, out, FOUR, 3000, &mut four)?;
     let mut idling = Idling { fading: four };
     turn::measured(rt, out, IDLE, 10_000, &mut idling)?;
     let mut many = begun(rt.alloc(), 64, 512, CHANNELS)?;
-    let mut plain = Plainly::new(rt.alloc(), 64, 512)?;
-    turn::compared(rt, out, MANY, 10_000, &mut many, &mut plain)?;
+    turn::measured(rt, out, MANY, 30_000, &mut many)?;
     let mut most = begun(rt.alloc(), 1024, 27, CHANNELS)?;
-    let mut plain = Plainly::new(rt.alloc(), 1024, 27)?;
-    turn::compared(rt, out, MOST, 40_000, &mut most, &mut plain)?;
-    let half = begun(rt.alloc(), 1024, 27, HALF_OF_ALL)?;
+    turn::measured(rt, out, MOST, 100_000, &mut most)?;
+    let half = begun(rt.alloc(), 1024, 27, CHANNELS / 2)?;
     let mut passing = Passing { fading: half };
-    turn::measured(rt, out, HALF, 700, &mut passing)?;
+    turn::measured(rt, out, HALF, 5000, &mut passing)?;
     let mut sleeping = Sleeping {
         core: passing.fading.core,
     };

@@ -1,6 +1,5 @@
 //! Why a run ends before all is measured.
 use sacn_console::ShowFault;
-use sacn_cues::CueFault;
 use sacn_node::SetupFault;
 use sacn_sources::TableFault;
 use std::alloc::AllocError;
@@ -20,8 +19,6 @@ pub enum SpeedFault {
     Setup(#[from] SetupFault),
     #[error("a show is refused")]
     Show(#[from] ShowFault),
-    #[error("a cue is refused")]
-    Cue(#[from] CueFault),
     #[error("a command is refused")]
     Command,
     #[error("the word is no number")]

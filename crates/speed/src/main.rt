@@ -1,19 +1,15 @@
 //! What the calls of every turn cost, measured by the machine's clock.
 //!
 //! `speed` alone names what it measures; `speed N` takes each measure, with `N` thousand calls of those that take
-//! nanoseconds. Each line is a measure's name, the calls made in each of seven turns, the nanoseconds of one in the
-//! median of the turns, and a sum over what they answered, so that no compiler leaves them out; then the same of plain
-//! work beside it, where there is such work (`plain`), and the ratio of the two.
+//! nanoseconds. Each line is a measure's name, the calls made, the nanoseconds of one, and a sum over what they
+//! answered, so that no compiler leaves them out.
 #![tactic(auto)]
 
 mod codec;
 mod consoles;
-mod cues;
 mod fades;
 mod fault;
 mod nodes;
-mod plain;
-mod rates;
 mod sources;
 mod turn;
 
@@ -24,7 +20,7 @@ use std::io::{self, Write};
 use std::process::ExitCode;
 use std::time::Clock;
 
-const MEASURES: [&str; 24] = [
+const MEASURES: [&str; 22] = [
     codec::READ,
     codec::WRITE,
     sources::TAKE_ONE,
@@ -47,8 +43,6 @@ const MEASURES: [&str; 24] = [
     fades::MOST,
     fades::HALF,
     fades::SLEEP,
-    rates::EACH,
-    cues::GO_TO,
 ];
 
 // The first word after the program's name.
@@ -70,14 +64,12 @@ fn all_measured<R: AllocGlobal + Clock, O: Write>(
     out: &mut O,
     thousands: u64,
 ) -> Result<(), SpeedFault> {
-    let calls = thousands.saturating_mul(1000) / turn::TURNS as u64;
+    let calls = thousands.saturating_mul(1000);
     codec::measured(rt, out, calls)?;
     sources::measured(rt, out, calls)?;
     nodes::measured(rt, out, calls)?;
     consoles::measured(rt, out)?;
-    fades::measured(rt, out)?;
-    rates::measured(rt, out)?;
-    cues::measured(rt, out)
+    fades::measured(rt, out)
 }
 
 fn run<R: AllocGlobal + Clock + Env, O: Write>(rt: &R, out: &mut O) -> Result<(), SpeedFault> {

@@ -3,8 +3,6 @@ ghost use Rattle.std.specs.Prelude.{◌≤◌};
 
 use crate::codec::written;
 use crate::fault::SpeedFault;
-use crate::plain::table::Table;
-use crate::sources::packets;
 use crate::turn::{self, Turn};
 use sacn_node::{NodeCore, NodeTaken, read_node};
 use std::alloc::{AllocError, AllocGlobal, Global};
@@ -151,65 +149,18 @@ impl Turn for Ticking {
     }
 }
 
-/// A plain node: a table for each universe from 1 on, each heard from as many sources as there are tables.
-#[derive(Drop)]
-struct PlainNode {
-    tables: Vec<Table>,
-    octets: [[u8; 638]; 16],
-    frame: [u8; 513],
-}
-
-impl PlainNode {
-    fn new(rt: &impl AllocGlobal, universes: u8) -> Result<Self, SpeedFault> {
-        let mut tables = Vec::new(rt.alloc());
-        for _ in 0..universes {
-            match tables.push(Table::new(rt.alloc())?) {
-                Ok(()) => {}
-                Err(_) => return Err(SpeedFault::Memory(AllocError)),
-            }
-        }
-        Ok(PlainNode {
-            tables,
-            octets: packets(),
-            frame: [0; 513],
-        })
-    }
-
-    // The frame of the port that shows the universe of this table: the start code, then the slots.
-    fn show(&mut self, place: usize, now: u64) -> u64 {
-        let mut slots = [0; 512];
-        if let Some(table) = self.tables.get(place) {
-            table.merge(now, &mut slots);
-        }
-        self.frame[0] = 0;
-        self.frame[1..].copy_from_slice(&slots);
-        u64::from(self.frame[512])
-    }
-}
-
-impl Turn for PlainNode {
-    fn turn(&mut self, number: u64) -> u64 {
-        let count = self.tables.len() as u64;
-        let universe = number.checked_rem(count).unwrap_or(0);
-        let round = number.checked_div(count).unwrap_or(0);
-        let source = (round.checked_rem(count).unwrap_or(0) % 16) as usize;
-        let sent = round.checked_div(count).unwrap_or(0);
-        self.octets[source][111] = (sent % 256) as u8;
-        self.octets[source][114] = (universe % 256) as u8;
-        let now = number / 1000;
-        if let Some(table) = self.tables.get_mut(universe as usize) {
-            table.take(now, &self.octets[source]);
-        }
-        self.show(universe as usize, now)
-    }
-}
-
 fn empty(rt: &impl AllocGlobal) -> Result<Full, SpeedFault> {
     let text = full_setup(rt.alloc())?;
     let setup = read_node(rt.alloc(), text.as_str())?;
+    let mut octets = [[0; 638]; 16];
+    let mut source = 0u8;
+    for packet in octets.iter_mut() {
+        source = source.wrapping_add(1);
+        written(source, 1, 0, &[source; 512], packet);
+    }
     Ok(Full {
         node: NodeCore::new(rt.alloc(), &setup)?,
-        octets: packets(),
+        octets,
         frame: [0; 513],
     })
 }
@@ -233,22 +184,8 @@ pub fn measured<R: AllocGlobal + Clock, O: Write>(
         hearing: fed(rt, 7)?,
         frame: [0; 513],
     };
-    turn::compared(
-        rt,
-        out,
-        SHOW,
-        calls,
-        &mut showing,
-        &mut PlainNode::new(rt, 1)?,
-    )?;
-    turn::compared(
-        rt,
-        out,
-        FULL,
-        calls,
-        &mut empty(rt)?,
-        &mut PlainNode::new(rt, 16)?,
-    )?;
+    turn::measured(rt, out, SHOW, calls, &mut showing)?;
+    turn::measured(rt, out, FULL, calls, &mut empty(rt)?)?;
     let mut other = Other { full: filled(rt)? };
     other.full.octets[0][114] = 17;
     turn::measured(rt, out, OTHER, calls, &mut other)?;

@@ -1,7 +1,6 @@
 //! The source table of one universe, with one, four and sixteen sources.
 use crate::codec::written;
 use crate::fault::SpeedFault;
-use crate::plain::table::Table;
 use crate::turn::{self, Turn};
 use sacn_framing::{Packet, read_packet};
 use sacn_sources::{SourceTable, Taken};
@@ -66,57 +65,18 @@ impl Turn for Merging {
     }
 }
 
-/// The same by a plain table.
-#[derive(Drop)]
-struct Plainly {
-    table: Table,
-    merges: bool,
-    sources: u64,
-    octets: [[u8; 638]; 16],
-    slots: [u8; 512],
-}
-
-impl Turn for Plainly {
-    fn turn(&mut self, number: u64) -> u64 {
-        let turn = number.checked_div(self.sources).unwrap_or(0);
-        let source = (number.checked_rem(self.sources).unwrap_or(0) % 16) as usize;
-        self.octets[source][111] = (turn % 256) as u8;
-        let held = self.table.take(number / 1000, &self.octets[source]);
-        if self.merges {
-            self.table.merge(number / 1000, &mut self.slots);
-            return u64::from(self.slots[511]);
-        }
-        u64::from(held)
-    }
-}
-
-fn made_plainly(rt: &impl AllocGlobal, sources: u64, merges: bool) -> Result<Plainly, SpeedFault> {
-    Ok(Plainly {
-        table: Table::new(rt.alloc())?,
-        merges,
-        sources,
-        octets: packets(),
-        slots: [0; 512],
-    })
-}
-
-/// A packet of each of sixteen sources, on universe 1.
-pub fn packets() -> [[u8; 638]; 16] {
+// Packets of sixteen sources, of which the first few are taken.
+fn sending(rt: &impl AllocGlobal, sources: u64) -> Result<Taking, SpeedFault> {
     let mut octets = [[0; 638]; 16];
     let mut source = 0u8;
     for packet in octets.iter_mut() {
         source = source.wrapping_add(1);
         written(source, 1, 0, &[source; 512], packet);
     }
-    octets
-}
-
-// Packets of sixteen sources, of which the first few are taken.
-fn sending(rt: &impl AllocGlobal, sources: u64) -> Result<Taking, SpeedFault> {
     Ok(Taking {
         table: SourceTable::new(rt.alloc())?,
         sources,
-        octets: packets(),
+        octets,
     })
 }
 
@@ -128,21 +88,12 @@ fn measured_with<R: AllocGlobal + Clock, O: Write>(
     sources: u64,
     names: (&str, &str),
 ) -> Result<(), SpeedFault> {
-    let mut plain = made_plainly(rt, sources, false)?;
-    turn::compared(
-        rt,
-        out,
-        names.0,
-        calls,
-        &mut sending(rt, sources)?,
-        &mut plain,
-    )?;
+    turn::measured(rt, out, names.0, calls, &mut sending(rt, sources)?)?;
     let mut merging = Merging {
         taking: sending(rt, sources)?,
         slots: [0; 512],
     };
-    let mut plain = made_plainly(rt, sources, true)?;
-    turn::compared(rt, out, names.1, calls, &mut merging, &mut plain)
+    turn::measured(rt, out, names.1, calls, &mut merging)
 }
 
 pub fn measured<R: AllocGlobal + Clock, O: Write>(
