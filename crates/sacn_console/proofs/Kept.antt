@@ -1,20 +1,20 @@
 -- A core keeps what is asked of the list of deeds, and its steps keep it so.
-use Rattle.std.proofs.Common.{◌≡◌, ℕ, ◌+◌, ◌-◌, ◌%◌, ◌<◌, ◌≤◌, max, Bool, true, false, not, ◌&&◌, ◌||◌, ◌==◌, cond, nat_lt, nat_le, if◌then◌else◌, List, [], ◌∷◌, length, map, filter, find, Option, Some, None, Result, Ok, Err, suc, zero, refl, arith, ap, sym, ◌∙◌}
+use Rattle.std.proofs.Common.{◌≡◌, ℕ, ◌+◌, ◌-◌, ◌%◌, ◌<◌, max, Bool, true, false, not, ◌&&◌, ◌==◌, cond, nat_lt, nat_le, if◌then◌else◌, List, [], ◌∷◌, length, map, filter, find, Option, Some, None, Result, Ok, Err, suc, zero, refl, arith, ap, sym, ◌∙◌}
 use Rattle.std.specs.Option.{option_map}
 use Rattle.sacn_framing.specs.Data.{Data}
 use Rattle.sacn_patch.specs.Patch.{universe_frame}
-use Rattle.sacn_cues.specs.Playing.{Played, moved, after as player_step, level_mastered, refusal}
+use Rattle.sacn_cues.specs.Playing.{Played, moved, level_mastered}
 use Rattle.sacn_cues.specs.Playing as play
 use Rattle.sacn_cues.specs.History as history
-use Rattle.sacn_cues.specs.History.{History, StepsFollowTheCalls, ReadingsShowTheLevels, current_cue, accepted}
-use Rattle.sacn_console.specs.declared.limits.TheConstants.{LEAST_GAP, KEEP_ALIVE, REPEATS, TERMINATIONS, DISCOVERY_INTERVAL}
+use Rattle.sacn_cues.specs.History.{History, StepsFollowTheCalls, ReadingsShowTheLevels}
+use Rattle.sacn_console.specs.declared.limits.TheConstants.{LEAST_GAP, TERMINATIONS, DISCOVERY_INTERVAL}
 use Rattle.sacn_discovery.specs.Pages.{page_count}
 use Rattle.sacn_console.specs.Lights.{Lights, lights_at, frame, frame_now, ordered, player_command}
 use Rattle.sacn_console.proofs.Frames.{later, twice, after_moved}
 use Rattle.sacn_console.proofs.Plain.{same_number, some_same, option_paged}
 use Rattle.sacn_console.specs.Lines.{Page, Datagram, Packet, Paged, Deed, Accepted, Gave, same, passed, line_due, asks, state_sent, line_sent, line_after, is_ending, is_stopped}
 use Rattle.sacn_console.specs.Core.{Core, standing, page_due, is_of, page_by, packet_with, line_found, due, due_by, after, answer, at, given, after_poll, after_command, taken, end_answer, start_answer, for_line, answer_of as kept_answer, universe_answer as kept_universe_answer}
-use Rattle.sacn_console.specs.Due.{Life, Sent, packets, is_ended, packets_since, Mode, Ends, Stops, terminations, mode_by, mode, follow_new, latest, due_in, player_calls, with_player, level_by, frame_by, universe_due, is_stop, is_end, number_by, packet_by, standing_by, list_by, cycle_by, due_with, due_by_list, answer_by_list, end_in, start_in, if_there, or_else, unless, answer_of, universe_answer}
+use Rattle.sacn_console.specs.Due.{Life, Sent, packets, is_ended, packets_since, Mode, terminations, mode_by, mode, follow_new, latest, player_calls, with_player, level_by, frame_by, universe_due, is_stop, is_end, number_by, packet_by, standing_by, list_by, cycle_by, due_with, due_by_list, answer_by_list, end_in, start_in, if_there, or_else, unless, answer_of, universe_answer}
 use Rattle.sacn_console.specs.Runs.{state_by, line_by, lights_by, core_by, Call, Order, Poll, answers, with_order, with_datagram, answers_by_list, StepsAreTheList}
 use Rattle.sacn_console.specs.declared.command.Command.{Command}
 use Rattle.sacn_console.specs.declared.command.Command.TheVariants.{Go, GoTo, SetLevel, Master, EndUniverse, StartUniverse}
@@ -23,84 +23,7 @@ use Rattle.sacn_console.specs.declared.line.Line.{Line}
 use Rattle.sacn_console.specs.declared.line.Begun.{Begun}
 use Rattle.sacn_console.specs.declared.line.State.{State}
 use Rattle.sacn_console.specs.declared.line.State.TheVariants.{Running, Ending, Stopped}
-
--- ---- states and modes
-
-stop_same : (e : Bool) (ss : List Sent) → is_stopped (state_by e ss) ≡ is_stop (mode_by e (terminations ss))
-stop_same true ss =
-    elim (nat_lt (terminations ss) TERMINATIONS) as (λ b. is_stopped (cond b (Ending (TERMINATIONS - terminations ss)) Stopped) ≡ is_stop (cond b Ends Stops)) [ true ↦ refl | false ↦ refl ]
-stop_same false [] = refl
-stop_same false (a ∷ ss) = refl
-
-end_same : (e : Bool) (ss : List Sent) → is_ending (state_by e ss) ≡ is_end (mode_by e (terminations ss))
-end_same true ss =
-    elim (nat_lt (terminations ss) TERMINATIONS) as (λ b. is_ending (cond b (Ending (TERMINATIONS - terminations ss)) Stopped) ≡ is_end (cond b Ends Stops)) [ true ↦ refl | false ↦ refl ]
-end_same false [] = refl
-end_same false (a ∷ ss) = refl
-
-end_answered : (e : Bool) (ss : List Sent) → end_answer (state_by e ss) ≡ end_in (mode_by e (terminations ss))
-end_answered true ss =
-    elim (nat_lt (terminations ss) TERMINATIONS) as (λ b. end_answer (cond b (Ending (TERMINATIONS - terminations ss)) Stopped) ≡ end_in (cond b Ends Stops)) [ true ↦ refl | false ↦ refl ]
-end_answered false [] = refl
-end_answered false (a ∷ ss) = refl
-
-start_answered : (e : Bool) (ss : List Sent) → start_answer (state_by e ss) ≡ start_in (mode_by e (terminations ss))
-start_answered true ss =
-    elim (nat_lt (terminations ss) TERMINATIONS) as (λ b. start_answer (cond b (Ending (TERMINATIONS - terminations ss)) Stopped) ≡ start_in (cond b Ends Stops)) [ true ↦ refl | false ↦ refl ]
-start_answered false [] = refl
-start_answered false (a ∷ ss) = refl
-
--- ---- due
-
-later_too : (a b x : ℕ) → a ≤ b → nat_le b x ≡ true → nat_le a x ≡ true
-later_too a b x le h = grind arith
-
-passed_both : (t : ℕ) (last : Option ℕ) → passed 900 t last ≡ true → passed 25 t last ≡ true
-passed_both t None h = refl
-passed_both t (Some m) h = later_too 25 900 (t - m) (omega arith) h
-
-either : (p q o n : Bool) → (q ≡ true → p ≡ true) → (p && (o || (q || n))) ≡ ((p && (n || o)) || q)
-either true true true true h = refl
-either true true true false h = refl
-either true true false true h = refl
-either true true false false h = refl
-either true false true true h = refl
-either true false true false h = refl
-either true false false true h = refl
-either true false false false h = refl
-either false true o n h = h refl
-either false false true true h = refl
-either false false true false h = refl
-either false false false true h = refl
-either false false false false h = refl
-
-first_too : (p q : Bool) → (q ≡ true → p ≡ true) → (p && true) ≡ ((p && true) || q)
-first_too true true h = refl
-first_too true false h = refl
-first_too false true h = h refl
-first_too false false h = refl
-
-always_asked : (p : Bool) → (p && true) ≡ p
-always_asked true = refl
-always_asked false = refl
-
-never_asked : (p : Bool) → (p && false) ≡ false
-never_asked true = refl
-never_asked false = refl
-
-owed_same : (n : ℕ) → nat_lt 0 (3 - n) ≡ nat_lt n 3
-owed_same zero = refl
-owed_same (suc zero) = refl
-owed_same (suc (suc zero)) = refl
-owed_same (suc (suc (suc n))) = grind arith
-
-state_due_same : (f : List ℕ) (t : ℕ) (last : Option ℕ) (e : Bool) (ss : List Sent) → (passed LEAST_GAP t last && asks t last f (state_by e ss)) ≡ due_in (mode_by e (terminations ss)) t last f ss
-state_due_same f t last true ss =
-    elim (nat_lt (terminations ss) TERMINATIONS) as (λ b. (passed LEAST_GAP t last && asks t last f (cond b (Ending (TERMINATIONS - terminations ss)) Stopped)) ≡ due_in (cond b Ends Stops) t last f ss) [ true ↦ always_asked (passed LEAST_GAP t last) | false ↦ never_asked (passed LEAST_GAP t last) ]
-state_due_same f t last false [] = first_too (passed LEAST_GAP t last) (passed KEEP_ALIVE t last) (passed_both t last)
-state_due_same f t last false (a ∷ ss) =
-    rw (owed_same (follow_new (a ∷ ss)))
-    (either (passed LEAST_GAP t last) (passed KEEP_ALIVE t last) (nat_lt (follow_new (a ∷ ss)) REPEATS) (not (same a.data_sent.slots f)) (passed_both t last))
+use Rattle.sacn_console.proofs.Modes.{stop_same, end_same, end_answered, start_answered, state_due_same}
 
 -- ---- what rests on the laws of the player
 

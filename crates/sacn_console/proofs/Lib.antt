@@ -2,10 +2,13 @@ pub mod Plain
 pub mod Searches
 pub mod Frames
 pub mod Wakes
+pub mod WakeLists
+pub mod WakeCores
 pub mod Octets
 pub mod Dues
 pub mod Changes
 pub mod Openings
+pub mod Modes
 pub mod Kept
 pub mod Numbered
 pub mod ShowLemmas

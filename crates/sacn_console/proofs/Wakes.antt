@@ -1,22 +1,17 @@
--- Wakes of lines, over looks and changes.
-use Rattle.std.proofs.Common.{◌≡◌, ℕ, ◌+◌, ◌-◌, ◌%◌, ◌<◌, ◌≤◌, max, min, Bool, true, false, not, ◌&&◌, ◌||◌, ◌==◌, ◌≢◌, if◌then◌else◌, nat_lt, nat_le, List, [], ◌∷◌, length, get_or, slice_index_or, slice_set, replicate, find, Option, Some, None, is_some, suc, zero, refl, arith, ap, sym, ◌∙◌}
-use mathlib.Core.Bool.{beq}
+-- Wakes of one line, over looks and packets.
+use Rattle.std.proofs.Common.{◌≡◌, ℕ, ◌+◌, ◌-◌, ◌%◌, ◌<◌, ◌≤◌, min, Bool, true, false, not, ◌&&◌, ◌||◌, ◌==◌, if◌then◌else◌, nat_lt, nat_le, List, Option, Some, None, refl, arith, sym, ◌∙◌}
 use Rattle.std.proofs.lemmas.Bool.Decides.{nat_tests}
-use Rattle.std.proofs.lemmas.List.{length-set, length-replicate, get_or-set_other, get_or_read}
-use Rattle.std.proofs.lemmas.Grind.{get_or-set_at}
 use Rattle.sacn_cues.specs.Playing.{StaysAsItIs, is_still}
 use Rattle.sacn_console.specs.declared.limits.TheConstants.{LEAST_GAP, KEEP_ALIVE}
-use Rattle.sacn_console.specs.Lights.{Lights, lights_at, frame, frame_now}
-use Rattle.sacn_console.specs.Lines.{Page, Paged, same, passed, asks, line_due, line_sent, state_sent, fresh_run, is_stopped}
-use Rattle.std.specs.Option.{option_map}
-use Rattle.sacn_console.specs.Core.{Core, at, line_found, page_due, due, due_by, no_line}
-use Rattle.sacn_console.specs.Wakes.{Finds, FrameStays, IsWake, IsQuiet, QuietBefore, IsLeast, Waking, WakesOk, last_moment, when_passed, wake_sent, passed_over}
+use Rattle.sacn_console.specs.Lights.{Lights, frame, frame_now}
+use Rattle.sacn_console.specs.Lines.{same, passed, asks, line_due, line_sent, state_sent, fresh_run, is_stopped}
+use Rattle.sacn_console.specs.Wakes.{Finds, FrameStays, IsWake, IsQuiet, last_moment, when_passed, wake_sent}
 use Rattle.sacn_console.specs.declared.line.Run.{Run}
 use Rattle.sacn_console.specs.declared.line.Line.{Line}
 use Rattle.sacn_console.specs.declared.line.Look.TheVariants.{Due, Asleep}
 use Rattle.sacn_console.specs.declared.line.State.{State}
 use Rattle.sacn_console.specs.declared.line.State.TheVariants.{Running, Ending, Stopped}
-use Rattle.sacn_console.proofs.Frames.{same_self, now_is, frame_later, frame_stays}
+use Rattle.sacn_console.proofs.Frames.{same_self, now_is, frame_stays}
 
 -- ---- moments
 
@@ -26,10 +21,10 @@ le_true a b h = grind (arith, nat_tests)
 le_false : (a b : ℕ) → b < a → nat_le a b ≡ false
 le_false a b h = grind (arith, nat_tests)
 
-is_le : (a b : ℕ) → nat_le a b ≡ true → a ≤ b
+pub is_le : (a b : ℕ) → nat_le a b ≡ true → a ≤ b
 is_le a b h = grind (arith, nat_tests)
 
-is_above : (a b : ℕ) → nat_le a b ≡ false → b < a
+pub is_above : (a b : ℕ) → nat_le a b ≡ false → b < a
 is_above a b h = grind (arith, nat_tests)
 
 reached : (wait last w m : ℕ) → w ≡ min (m + wait) last → w < last → wait ≤ w - m
@@ -49,7 +44,7 @@ not_passed : (wait s : ℕ) (last : Option ℕ) → 0 < wait → s < when_passed
 not_passed wait s None some lt = absurd (omega (arith, lt))
 not_passed wait s (Some m) some lt = le_false wait (s - m) (not_reached wait last_moment s m some lt)
 
-ahead : (wait t : ℕ) (last : Option ℕ) → passed wait t last ≡ false → min (t + 1) last_moment ≤ when_passed wait last
+pub ahead : (wait t : ℕ) (last : Option ℕ) → passed wait t last ≡ false → min (t + 1) last_moment ≤ when_passed wait last
 ahead wait t None e = absurd (cc)
 ahead wait t (Some m) e = next_first wait last_moment t m (is_above wait (t - m) e)
 
@@ -152,7 +147,7 @@ look_stopped p t l f w e le = (
   (λ s from lt. stopped_sleeps p s l e, λ still from lt. absurd (omega (arith, le, lt))),
 )
 
-both_ways : (b : Bool) → b ≡ true → b ≡ false → ⊥
+pub both_ways : (b : Bool) → b ≡ true → b ≡ false → ⊥
 both_ways true e f = absurd (cc)
 both_ways false e f = absurd (cc)
 
@@ -314,318 +309,3 @@ pub sent_wakes : (p : Lights) (t : ℕ) (l y : Line) (f : List ℕ) (still : Boo
 unfolding line_sent
 sent_wakes p t l y f still e fe m tells stays =
     rw e (state_wake p t (record { universe = l.universe; state = state_sent f l.state; number = (l.number + 1) % 256; last = Some t }) f still (state_sent f l.state) refl refl (shows_sent f l.state) fe m tells stays)
-
--- ---- lists of lines
-
-equal_at : (i j : ℕ) → (i == j) ≡ true → j ≡ i
-equal_at i j h = grind arith
-
-other_at : (i j : ℕ) → (i == j) ≡ false → j ≢ i
-other_at i j h = λ e. absurd (grind arith)
-
--- a property of each wake with its line stays where one place is written in both lists
-set_by : (P : ℕ → Line → Type 0) (wakes : List ℕ) (lines : List Line) (n i w : ℕ) (y : Line) → length wakes ≡ length lines →
-    ((j : ℕ) (d : Line) → j < n → j < length lines → P (get_or wakes j 0) (get_or lines j d)) → i < length lines → P w y →
-    (j : ℕ) (d : Line) → j < n → j < length lines → (b : Bool) → (i == j) ≡ b → P (get_or (slice_set wakes i w) j 0) (get_or (slice_set lines i y) j d)
-set_by P wakes lines n i w y same all lt h j d before jlt true is =
-    let k : j ≡ i = equal_at i j is in
-    rw (get_or-set_at lines i j y d k lt, get_or-set_at wakes i j w 0 k (omega (arith, same, lt))) h
-set_by P wakes lines n i w y same all lt h j d before jlt false is =
-    let k : j ≢ i = other_at i j is in
-    rw (get_or-set_other lines i j y d k, get_or-set_other wakes i j w 0 k) (all j d before jlt)
-
-wake_by : (P : ℕ → Line → Type 0) (wakes : List ℕ) (lines : List Line) (n i w : ℕ) (x : Line) → length wakes ≡ length lines →
-    ((j : ℕ) (d : Line) → j < n → j < length lines → P (get_or wakes j 0) (get_or lines j d)) → i < length lines → x ≡ get_or lines i x → P w x →
-    (j : ℕ) (d : Line) → j < n → j < length lines → (b : Bool) → (i == j) ≡ b → P (get_or (slice_set wakes i w) j 0) (get_or lines j d)
-wake_by P wakes lines n i w x same all lt here h j d before jlt true is =
-    let k : j ≡ i = equal_at i j is in
-    let same_line : x ≡ get_or lines i d = get_or_read lines i x lt here d in
-    rw (get_or-set_at wakes i j w 0 k (omega (arith, same, lt)), k, ← same_line) h
-wake_by P wakes lines n i w x same all lt here h j d before jlt false is =
-    let k : j ≢ i = other_at i j is in
-    rw (get_or-set_other wakes i j w 0 k) (all j d before jlt)
-
-past_or_here : (i j from : ℕ) → j < (if from == i then i + 1 else from) → (i == j) ≡ false → j < from
-past_or_here i j from lt other = elim (from == i) as (λ b. (from == i) ≡ b → j < (if b then i + 1 else from) → j < from) [
-  | true ↦ λ e within. absurd_or e within
-  | false ↦ λ e within. within
-] refl lt where
-  absurd_or : (from == i) ≡ true → j < i + 1 → j < from
-  absurd_or e within = grind (arith, nat_tests, other)
-
-quiet_set : (p : Lights) (t : ℕ) (wakes : List ℕ) (lines : List Line) (from i w : ℕ) (y : Line) → length wakes ≡ length lines → QuietBefore wakes p t lines from → i < length lines → IsQuiet p t w y →
-    (j : ℕ) (d : Line) → j < passed_over i from → j < length lines → (b : Bool) → (i == j) ≡ b → IsQuiet p t (get_or (slice_set wakes i w) j 0) (get_or (slice_set lines i y) j d)
-quiet_set p t wakes lines from i w y same quiet lt h j d before jlt true is =
-    let k : j ≡ i = equal_at i j is in
-    rw (get_or-set_at lines i j y d k lt, get_or-set_at wakes i j w 0 k (omega (arith, same, lt))) h
-quiet_set p t wakes lines from i w y same quiet lt h j d before jlt false is = set_by (IsQuiet p t) wakes lines from i w y same quiet lt h j d (past_or_here i j from before is) jlt false is
-
--- a packet was sent on the line at place i
-pub wakes_sent : (w : Waking) (p : Lights) (t : ℕ) (lines : List Line) (i wake least : ℕ) (y : Line) → WakesOk w p t lines → i < length lines → IsQuiet p t wake y × IsWake p t wake y → WakesOk (record { each = slice_set w.each i wake; least = least; from = passed_over i w.from }) p t (slice_set lines i y)
-wakes_sent w p t lines i wake least y ok lt h = record {
-  counted = length-set w.each i wake ∙ ok.counted ∙ sym (length-set lines i y);
-  woken = λ j d jlt. set_by (IsWake p t) w.each lines (length lines) i wake y ok.counted (λ k e before klt. ok.woken k e klt) lt h.1 j d (rw (length-set lines i y) at jlt) (rw (length-set lines i y) at jlt) (i == j) refl;
-  quiet = λ j d before jlt. quiet_set p t w.each lines w.from i wake y ok.counted ok.quiet lt h.0 j d before (rw (length-set lines i y) at jlt) (i == j) refl;
-}
-
--- the line at place i has to be looked at
-pub wakes_ordered : (w : Waking) (p : Lights) (t : ℕ) (lines : List Line) (i least : ℕ) (y : Line) → WakesOk w p t lines → i < length lines → WakesOk (record { each = slice_set w.each i 0; least = least; from = 0 }) p t (slice_set lines i y)
-wakes_ordered w p t lines i least y ok lt = record {
-  counted = length-set w.each i 0 ∙ ok.counted ∙ sym (length-set lines i y);
-  woken = λ j d jlt. set_by (IsWake p t) w.each lines (length lines) i 0 y ok.counted (λ k e before klt. ok.woken k e klt) lt (λ s from early. absurd (omega (arith, early)), λ still early last. absurd (omega (arith, early))) j d (rw (length-set lines i y) at jlt) (rw (length-set lines i y) at jlt) (i == j) refl;
-  quiet = λ j d before jlt. absurd (omega (arith, before));
-}
-
--- the line at place i, which was looked at, has a new wake
-pub wakes_looked : (w : Waking) (p : Lights) (t : ℕ) (lines : List Line) (i wake least : ℕ) (x : Line) → WakesOk w p t lines → i < length lines → x ≡ slice_index_or lines i x → IsQuiet p t wake x × IsWake p t wake x → WakesOk (record { each = slice_set w.each i wake; least = least; from = w.from }) p t lines
-wakes_looked w p t lines i wake least x ok lt here h = record {
-  counted = length-set w.each i wake ∙ ok.counted;
-  woken = λ j d jlt. wake_by (IsWake p t) w.each lines (length lines) i wake x ok.counted (λ k e before klt. ok.woken k e klt) lt here h.1 j d jlt jlt (i == j) refl;
-  quiet = λ j d before jlt. wake_by (IsQuiet p t) w.each lines w.from i wake x ok.counted ok.quiet lt here h.0 j d before jlt (i == j) refl;
-}
-
-same_or_before : (i j : ℕ) → j < i + 1 → (i == j) ≡ false → j < i
-same_or_before i j lt other = grind (arith, nat_tests, other)
-
-quiet_by : (p : Lights) (t : ℕ) (wakes : List ℕ) (lines : List Line) (i w : ℕ) (x : Line) → length wakes ≡ length lines → QuietBefore wakes p t lines i → i < length lines → x ≡ get_or lines i x → IsQuiet p t w x →
-    (j : ℕ) (d : Line) → j < i + 1 → j < length lines → (b : Bool) → (i == j) ≡ b → IsQuiet p t (get_or (slice_set wakes i w) j 0) (get_or lines j d)
-quiet_by p t wakes lines i w x same quiet lt here h j d before jlt true is =
-    let k : j ≡ i = equal_at i j is in
-    let same_line : x ≡ get_or lines i d = get_or_read lines i x lt here d in
-    rw (get_or-set_at wakes i j w 0 k (omega (arith, same, lt)), k, ← same_line) h
-quiet_by p t wakes lines i w x same quiet lt here h j d before jlt false is =
-    let k : j ≢ i = other_at i j is in
-    rw (get_or-set_other wakes i j w 0 k) (quiet j d (same_or_before i j before is) jlt)
-
-pub quiet_looked : (w : Waking) (p : Lights) (t : ℕ) (lines : List Line) (i wake : ℕ) (x : Line) → WakesOk w p t lines → QuietBefore w.each p t lines i → i < length lines → x ≡ slice_index_or lines i x → IsQuiet p t wake x → QuietBefore (slice_set w.each i wake) p t lines (i + 1)
-quiet_looked w p t lines i wake x ok quiet lt here h = λ j d before jlt. quiet_by p t w.each lines i wake x ok.counted quiet lt here h j d before jlt (i == j) refl
-
--- a line before whose wake a moment is isn't due
-quiet_asleep : (w : Waking) (p : Lights) (t : ℕ) (lines : List Line) (i : ℕ) (d : Line) → WakesOk w p t lines → i < length lines → t < get_or w.each i 0 → IsQuiet p t (get_or w.each i 0) (get_or lines i d)
-quiet_asleep w p t lines i d ok lt before = ((ok.woken i d lt).0 t (omega arith) before, omega (arith, before))
-
-quiet_more_by : (w : Waking) (p : Lights) (t : ℕ) (lines : List Line) (i : ℕ) → WakesOk w p t lines → QuietBefore w.each p t lines i → i < length lines → t < get_or w.each i 0 →
-    (j : ℕ) (d : Line) → j < i + 1 → j < length lines → (b : Bool) → (i == j) ≡ b → IsQuiet p t (get_or w.each j 0) (get_or lines j d)
-quiet_more_by w p t lines i ok quiet lt before j d within jlt true is = rw (equal_at i j is) (quiet_asleep w p t lines i d ok lt before)
-quiet_more_by w p t lines i ok quiet lt before j d within jlt false is = quiet j d (same_or_before i j within is) jlt
-
--- the line at place i sleeps
-pub quiet_more : (w : Waking) (p : Lights) (t : ℕ) (lines : List Line) (i : ℕ) → WakesOk w p t lines → QuietBefore w.each p t lines i → i < length lines → t < get_or w.each i 0 → QuietBefore w.each p t lines (i + 1)
-quiet_more w p t lines i ok quiet lt before = λ j d within jlt. quiet_more_by w p t lines i ok quiet lt before j d within jlt (i == j) refl
-
--- the search begins at a place before which all is quiet
-pub wakes_from : (w : Waking) (p : Lights) (t : ℕ) (lines : List Line) (least i : ℕ) → WakesOk w p t lines → QuietBefore w.each p t lines i → WakesOk (record { each = w.each; least = least; from = i }) p t lines
-wakes_from w p t lines least i ok quiet = record { counted = ok.counted; woken = ok.woken; quiet = quiet }
-
-none_before : (P : List ℕ) (p : Lights) (t : ℕ) (lines : List Line) → QuietBefore P p t lines 0
-none_before each p t lines = λ j d before jlt. absurd (omega (arith, before))
-
-all_zero : (n j : ℕ) → ◌≡◌ {A = ℕ} (get_or {A = ℕ} (replicate n 0) j 0) 0
-all_zero zero j = refl
-all_zero (suc n) zero = refl
-all_zero (suc n) (suc j) = all_zero n j
-
-not_before : (s w : ℕ) → w ≡ 0 → s < w → ⊥
-not_before s w e lt = absurd (omega (arith, e, lt))
-
--- every line is to be looked at
-pub wakes_cleared : (w new : Waking) (p q : Lights) (t s : ℕ) (lines : List Line) → WakesOk w p t lines → new ≡ record { each = replicate (length w.each) 0; least = 0; from = 0 } → WakesOk new q s lines
-wakes_cleared w new p q t s lines ok is = rw is (record {
-  counted = length-replicate (length w.each) 0 ∙ ok.counted;
-  woken = λ j d jlt. (
-    λ r le lt. absurd (not_before r (get_or {A = ℕ} (replicate (length w.each) 0) j 0) (all_zero (length w.each) j) lt),
-    λ still lt last. absurd (not_before s (get_or {A = ℕ} (replicate (length w.each) 0) j 0) (all_zero (length w.each) j) lt),
-  );
-  quiet = none_before (replicate (length w.each) 0) q s lines;
-})
-
-line_later : (p : Lights) (t s : ℕ) (l : Line) → t ≤ s → line_due (lights_at t p) s l ≡ line_due p s l
-unfolding line_due
-line_later p t s l le = ap (λ (f : List ℕ). passed LEAST_GAP s l.last && asks s l.last f l.state) (frame_later p l.universe t s le)
-
--- the clock moves on, and the fades run or rest as before
-pub wakes_later : (w : Waking) (p : Lights) (t now s from : ℕ) (lines : List Line) → WakesOk w p t lines → t ≤ s → now ≤ s → (is_still (lights_at now p).player ≡ true → is_still p.player ≡ true) →
-    QuietBefore w.each (lights_at now p) s lines from → WakesOk (record { each = w.each; least = w.least; from = from }) (lights_at now p) s lines
-wakes_later w p t now s from lines ok le le2 rests quiet = record {
-  counted = ok.counted;
-  woken = λ j d jlt. (
-    λ r rle lt. line_later p now r (get_or lines j d) (omega (arith, rle, le2)) ∙ (ok.woken j d jlt).0 r (omega (arith, le, rle)) lt,
-    λ still lt last. line_later p now (get_or w.each j 0) (get_or lines j d) (omega (arith, lt, le2)) ∙ (ok.woken j d jlt).1 (rests still) (omega (arith, le, lt)) last,
-  );
-  quiet = quiet;
-}
-
--- at the same moment
-pub quiet_stays : (w : Waking) (p : Lights) (t now s : ℕ) (lines : List Line) → WakesOk w p t lines → s ≡ t → now ≤ s → QuietBefore w.each (lights_at now p) s lines w.from
-quiet_stays w p t now s lines ok e le = λ j d before jlt. rw e (
-  line_later p now t (get_or lines j d) (omega (arith, e, le)) ∙ (ok.quiet j d before jlt).0,
-  (ok.quiet j d before jlt).1,
-)
-
-pub quiet_none : (w : Waking) (p : Lights) (s : ℕ) (lines : List Line) → QuietBefore w.each p s lines 0
-quiet_none w p s lines = none_before w.each p s lines
-
-pub place_in : (v c : Core) (i : ℕ) → v ≡ c → i < length c.lines → i < length v.lines
-place_in v c i e lt = rw e lt
-
--- ---- searches
-
-find_first : {X : Type 0} (f : X → Bool) (xs : List X) (i : ℕ) (d : X) → ((j : ℕ) (e : X) → j < i → j < length xs → f (get_or xs j e) ≡ false) → i < length xs → f (get_or xs i d) ≡ true → find f xs ≡ Some (get_or xs i d)
-find_first f [] i d quiet lt e = absurd (omega arith)
-find_first f (x ∷ xs) zero d quiet lt e = rw e refl
-find_first f (x ∷ xs) (suc i) d quiet lt e = rw (quiet 0 d (omega arith) (omega arith)) (find_first f xs i d (λ j a before within. quiet (suc j) a (omega (arith, before)) (omega (arith, within))) (omega (arith, lt)) e)
-
-find_nothing : {X : Type 0} (f : X → Bool) (xs : List X) → ((j : ℕ) (e : X) → j < length xs → f (get_or xs j e) ≡ false) → find f xs ≡ None
-find_nothing f [] quiet = refl
-find_nothing f (x ∷ xs) quiet = rw (quiet 0 x (omega arith)) (find_nothing f xs (λ j a within. quiet (suc j) a (omega (arith, within))))
-
--- the first due line
-pub first_found : (wakes : List ℕ) (p : Lights) (t : ℕ) (lines : List Line) (i : ℕ) (x : Line) (f : List ℕ) → QuietBefore wakes p t lines i → i < length lines → x ≡ slice_index_or lines i x → (line_due p t x ≡ true) × (f ≡ frame p x.universe t) →
-    (d : Line) → (find (line_due p t) lines ≡ Some (slice_index_or lines i d)) × (f ≡ frame p (slice_index_or lines i d).universe t)
-first_found wakes p t lines i x f quiet lt here h d =
-    let same_line : x ≡ get_or lines i d = get_or_read lines i x lt here d in (
-      find_first (line_due p t) lines i d (λ j e before within. (quiet j e before within).0) lt (rw same_line at h.0),
-      rw same_line at h.1,
-    )
-
--- no line is due
-pub none_found : (wakes : List ℕ) (p : Lights) (t : ℕ) (lines : List Line) (n : ℕ) → QuietBefore wakes p t lines n → length lines ≤ n → find (line_due p t) lines ≡ None
-none_found wakes p t lines n quiet le = find_nothing (line_due p t) lines (λ j e within. (quiet j e (omega (arith, le, within)) within).0)
-
-pub all_ahead : (w : Waking) (p : Lights) (t : ℕ) (lines : List Line) (n : ℕ) → WakesOk w p t lines → QuietBefore w.each p t lines n → length lines ≤ n → IsLeast w.each (min (t + 1) last_moment)
-all_ahead w p t lines n ok quiet le = λ j jlt. (quiet j no_line (omega (arith, le, jlt, ok.counted)) (omega (arith, jlt, ok.counted))).1
-
--- the same wakes and place, whatever the least is noted to be
-pub wakes_as : (w new : Waking) (p : Lights) (t : ℕ) (lines : List Line) → WakesOk w p t lines → new.each ≡ w.each → new.from ≡ w.from → WakesOk new p t lines
-wakes_as w new p t lines ok e f = record {
-  counted = ap length e ∙ ok.counted;
-  woken = rw e ok.woken;
-  quiet = rw (e, f) ok.quiet;
-}
-
-pub ahead_as : (each new : List ℕ) (m : ℕ) → IsLeast each m → new ≡ each → IsLeast new m
-ahead_as each new m h e = rw e h
-
--- ---- the core
-
--- before the least of its wakes no line of the core is due: v is what c is seen to be
-pub none_due : (v c : Core) (w : Waking) (least : ℕ) → v ≡ c → WakesOk w v.lights v.moment v.lines → IsLeast w.each least → v.moment < least → line_found c ≡ None
-unfolding line_found
-none_due v c w least e ok below before = rw (← e) (find_nothing (line_due v.lights v.moment) v.lines (λ j d within.
-    (ok.woken j d within).0 v.moment (omega arith) (omega (arith, before, below j (omega (arith, within, ok.counted))))))
-
-pub here_at : {X : Type 0} (xs : List X) (i : ℕ) (d : X) → get_or xs i d ≡ get_or xs i (get_or xs i d)
-here_at [] i d = refl
-here_at (x ∷ xs) zero d = refl
-here_at (x ∷ xs) (suc i) d = here_at xs i d
-
--- the line that is found at t, by the lights before the clock moved
-found_at : (v : Core) (t : ℕ) → line_found (at t v) ≡ find (line_due v.lights (max v.moment t)) v.lines
-unfolding line_found
-found_at v t = ap (λ (f : Line → Bool). find f v.lines) (λ i l. line_later v.lights t (max v.moment t) l (omega arith) i)
-
-greater : (m t : ℕ) → m < t → max m t ≡ t
-greater m t lt = omega (arith, lt)
-
-smaller : (m t : ℕ) → t ≤ m → max m t ≡ m
-smaller m t le = omega (arith, le)
-
-quiet_until_by : (v : Core) (w : Waking) (first t : ℕ) → WakesOk w v.lights v.moment v.lines → find (line_due v.lights v.moment) v.lines ≡ None → IsLeast w.each first → t < first → (b : Bool) → nat_le t v.moment ≡ b → find (line_due v.lights (max v.moment t)) v.lines ≡ None
-quiet_until_by v w first t ok none below before true is = rw (smaller v.moment t (is_le t v.moment is)) none
-quiet_until_by v w first t ok none below before false is =
-    let later : v.moment < t = is_above t v.moment is in
-    rw (greater v.moment t later) (find_nothing (line_due v.lights t) v.lines (λ j d within.
-    (ok.woken j d within).0 t (omega (arith, later)) (omega (arith, before, below j (omega (arith, within, ok.counted))))))
-
--- before the first of its wakes no line of the core is due
-pub quiet_until : (v c : Core) (p : Lights) (ls : List Line) (w : Waking) (first t : ℕ) → v ≡ c → p ≡ v.lights → ls ≡ v.lines → WakesOk w p v.moment ls → find (line_due p v.moment) ls ≡ None → IsLeast w.each first → t < first → line_found (at t c) ≡ None
-quiet_until v c p ls w first t e pe le ok none below before =
-    rw (← e) (found_at v t ∙ quiet_until_by v w first t (rw (pe, le) at ok) (rw (pe, le) at none) below before (nat_le t v.moment) refl)
-
-some_or : {X : Type 0} (b : Bool) (x : X) (o : Option X) → is_some o ≡ true → is_some (if b then Some x else o) ≡ true
-some_or true x o e = refl
-some_or false x o e = e
-
-find_some : {X : Type 0} (f : X → Bool) (xs : List X) (i : ℕ) (d : X) → i < length xs → f (get_or xs i d) ≡ true → is_some (find f xs) ≡ true
-find_some f [] i d lt e = absurd (omega arith)
-find_some f (x ∷ xs) zero d lt e = rw e refl
-find_some f (x ∷ xs) (suc i) d lt e = some_or (f x) x (find f xs) (find_some f xs i d (omega (arith, lt)) e)
-
-lies_later : (t last w : ℕ) → min (t + 1) last ≤ w → w < last → t < w
-lies_later t last w le lt = omega (arith, le, lt)
-
--- at the first of its wakes a line of the core is due, while no fade runs
-pub due_then : (v c : Core) (p : Lights) (ls : List Line) (w : Waking) (first : ℕ) → v ≡ c → p ≡ v.lights → ls ≡ v.lines → WakesOk w p v.moment ls → IsLeast w.each (min (v.moment + 1) last_moment) → is_still c.lights.player ≡ true → first < last_moment →
-    (i : ℕ) × (i < length w.each) × (slice_index_or w.each i 0 ≡ first) → is_some (line_found (at first c)) ≡ true
-due_then v c p ls w first e pe le ok ahead still lt (i, within, is) =
-    let k : i < length v.lines = omega (arith, within, ok.counted, ap length le) in
-    let ok2 : WakesOk w v.lights v.moment v.lines = rw (pe, le) at ok in
-    let on : min (v.moment + 1) last_moment ≤ first = rw is at (ahead i within) in
-    let later : v.moment < first = lies_later v.moment last_moment first on lt in
-    let still2 : is_still v.lights.player ≡ true = rw e still in
-    let timely = (ok2.woken i no_line k).1 in
-    let due_there : line_due v.lights first (get_or v.lines i no_line) ≡ true = (rw is at timely) still2 later lt in
-    rw (← e) (ap is_some (found_at v first) ∙ rw (greater v.moment first later) (find_some (line_due v.lights first) v.lines i no_line k due_there))
-
--- a line is due now
-pub due_now : (v c : Core) (p : Lights) (ls : List Line) (x : Line) → v ≡ c → p ≡ v.lights → ls ≡ v.lines → find (line_due p v.moment) ls ≡ Some x → is_some (line_found (at 0 c)) ≡ true
-due_now v c p ls x e pe le some = rw (← e) (ap is_some (found_at v 0) ∙ rw (smaller v.moment 0 (omega arith)) (ap is_some (rw (pe, le) at some)))
-
--- ---- datagrams
-
-pub nothing_due : (c : Core) → line_found c ≡ None → page_due c ≡ None → due c ≡ None
-unfolding due
-nothing_due c e f = rw (e, f) refl
-
-some_paged : (o : Option Page) → is_some o ≡ true → is_some (option_map Paged o) ≡ true
-some_paged None e = absurd (cc)
-some_paged (Some p) e = refl
-
-line_or_page : (c : Core) (o : Option Line) → is_some o ≡ true → is_some (due_by c o) ≡ true
-line_or_page c None e = absurd (cc)
-line_or_page c (Some l) e = refl
-
-page_or_line : (c : Core) (o : Option Line) → is_some (page_due c) ≡ true → is_some (due_by c o) ≡ true
-page_or_line c None e = some_paged (page_due c) e
-page_or_line c (Some l) e = refl
-
-line_is_due : (c : Core) → is_some (line_found c) ≡ true → is_some (due c) ≡ true
-unfolding due
-line_is_due c e = line_or_page c (line_found c) e
-
-page_is_due : (c : Core) → is_some (page_due c) ≡ true → is_some (due c) ≡ true
-unfolding due
-page_is_due c e = page_or_line c (line_found c) e
-
-first_of : (a b : ℕ) → nat_le a b ≡ true → min a b ≡ a
-first_of a b e = grind (arith, nat_tests)
-
-second_of : (a b : ℕ) → nat_le a b ≡ false → min a b ≡ b
-second_of a b e = grind (arith, nat_tests)
-
-exact_by : (c : Core) (a b last : ℕ) → (a < last → is_some (line_found (at a c)) ≡ true) → (b < last → is_some (page_due (at b c)) ≡ true) → (t : Bool) → nat_le a b ≡ t → min a b < last → is_some (due (at (min a b) c)) ≡ true
-exact_by c a b last ha hb true is lt = rw (first_of a b is) (line_is_due (at a c) (ha (rw (first_of a b is) at lt)))
-exact_by c a b last ha hb false is lt = rw (second_of a b is) (page_is_due (at b c) (hb (rw (second_of a b is) at lt)))
-
--- the earlier of a line's and a page's moments
-pub exact_first : (c : Core) (w a b last : ℕ) → w ≡ min a b → (a < last → is_some (line_found (at a c)) ≡ true) → (b < last → is_some (page_due (at b c)) ≡ true) → w < last → is_some (due (at w c)) ≡ true
-exact_first c w a b last e ha hb lt = rw e (exact_by c a b last ha hb (nat_le a b) refl (rw e at lt))
-
--- whether the fades rest is as before
-pub rests_as : (a b x y : Bool) → not (beq a b) ≡ false → a ≡ x → b ≡ y → x ≡ true → y ≡ true
-rests_as true true x y same e f is = sym f
-rests_as true false x y same e f is = absurd (cc)
-rests_as false b x y same e f is = absurd (both_ways x is (sym e))
-
-reaches_by : (each : List ℕ) (first m last : ℕ) → IsLeast each m → m ≤ last → (first < last → (i : ℕ) × (i < length each) × (slice_index_or each i 0 ≡ first)) → (b : Bool) → nat_le last first ≡ b → m ≤ first
-reaches_by each first m last below le attained true is = omega (arith, le, is_le last first is)
-reaches_by each first m last below le attained false is = one (attained (is_above last first is)) where
-  one : (i : ℕ) × (i < length each) × (slice_index_or each i 0 ≡ first) → m ≤ first
-  one (i, within, e) = rw e at (below i within)
-
-no_further : (t last : ℕ) → min (t + 1) last ≤ last
-no_further t last = omega arith
-
--- the first of the wakes lies ahead where all of them do: v is what c is seen to be
-pub lies_ahead : (v c : Core) (w : Waking) (first : ℕ) → v ≡ c → IsLeast w.each (min (v.moment + 1) last_moment) → (first < last_moment → (i : ℕ) × (i < length w.each) × (slice_index_or w.each i 0 ≡ first)) → min (c.moment + 1) last_moment ≤ first
-lies_ahead v c w first e below attained = rw (← e) (reaches_by w.each first (min (v.moment + 1) last_moment) last_moment below (no_further v.moment last_moment) attained (nat_le last_moment first) refl)

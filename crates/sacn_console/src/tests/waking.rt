@@ -79,9 +79,10 @@ fn wakes_at_once_after_a_command(rt: HostRuntime) -> Result<(), Fail> {
 fn wakes_while_a_fade_runs(rt: HostRuntime) -> Result<(), Fail> {
     let mut core = core(rt.alloc(), FADE, 0)?;
     assert_eq!(rt; core.command(0, Command::Go), Ok(()));
-    // Both were sent at 0, 25, 50 and 75; from then on the second rests and is looked at in each
-    // millisecond in which the first isn't sent. At 999 both are sent, the second to be kept alive.
-    let fade: [(u64, u64); 5] = [(0, 25), (25, 50), (50, 75), (75, 100), (100, 101)];
+    // Both were sent at 0, 25, 50 and 75; from then on the second rests, and sleeps beside the fade
+    // until its keep-alive packet at 975: after 100 the first one's gap of 25 ms comes next. At 999
+    // both are sent.
+    let fade: [(u64, u64); 5] = [(0, 25), (25, 50), (50, 75), (75, 100), (100, 125)];
     assert_eq!(rt; wrong_wake(&mut core, fade.as_slice()), None);
     assert_eq!(rt; wakes_after(&mut core, 999), 1024);
     // At 999 slot 1 was 255 already, so three repeats of it follow.

@@ -1,7 +1,8 @@
 use Rattle.std.proofs.Common.{arith, None}
 use Rattle.sacn_console.specs.declared.line.Line.{Line}
 use Rattle.sacn_console.specs.declared.line.State.TheVariants.{Running}
-use Rattle.sacn_console.proofs.Wakes.{quiet_more, wakes_from, wakes_looked, quiet_looked, first_found, none_found, all_ahead, wakes_as, ahead_as, here_at}
+use Rattle.sacn_console.proofs.WakeLists.{quiet_more, wakes_from, wakes_looked, quiet_looked, first_found, none_found, all_ahead, wakes_as, ahead_as}
+use Rattle.sacn_console.proofs.WakeCores.{here_at}
 use Rattle.sacn_console.proofs.lines.first_due.Goals as goal
 
 abbrev blank : Line

@@ -1,6 +1,6 @@
 use Rattle.std.proofs.Common.{Some, ap}
 use Rattle.sacn_console.proofs.Dues.{due_packet, due_page}
-use Rattle.sacn_console.proofs.Wakes.{none_due}
+use Rattle.sacn_console.proofs.WakeCores.{none_due}
 use Rattle.sacn_console.proofs.console.ConsoleCore.give.Goals as goal
 
 pub returns-in-Some-clause-answer : goal.returns-in-Some-clause-answer

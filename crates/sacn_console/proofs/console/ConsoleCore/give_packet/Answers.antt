@@ -1,6 +1,7 @@
 use Rattle.std.proofs.Common.{sym, ◌∙◌}
 use Rattle.sacn_console.specs.Core.{line_at}
-use Rattle.sacn_console.proofs.Wakes.{wakes_sent, sent_wakes, place_in}
+use Rattle.sacn_console.proofs.WakeLists.{wakes_sent, place_in}
+use Rattle.sacn_console.proofs.Wakes.{sent_wakes}
 use Rattle.sacn_console.proofs.Changes.{core_given, ok_given, universe_ok, packet_len, packet_over, frame_read}
 use Rattle.sacn_console.proofs.console.ConsoleCore.give_packet.Goals as goal
 

@@ -3,7 +3,7 @@ use Rattle.sacn_cues.specs.Playing.{Played}
 use Rattle.sacn_console.specs.Lights.{Lights}
 use Rattle.sacn_console.specs.Core.{no_line}
 use Rattle.sacn_console.proofs.Frames.{settled}
-use Rattle.sacn_console.proofs.Wakes.{quiet_until, due_then, due_now, lies_ahead}
+use Rattle.sacn_console.proofs.WakeCores.{quiet_until, due_then, due_now, lies_ahead}
 use Rattle.sacn_console.proofs.console.ConsoleCore.line_wake.Goals.{in-Some, in-None}
 use Rattle.sacn_console.proofs.console.ConsoleCore.line_wake.Goals as goal
 

@@ -1,6 +1,7 @@
 use Rattle.std.proofs.Common.{arith, ap, ◌∙◌}
 use Rattle.sacn_cues.specs.Playing.{Played, is_still}
-use Rattle.sacn_console.proofs.Wakes.{wakes_later, quiet_none, rests_as}
+use Rattle.sacn_console.proofs.WakeLists.{wakes_later, quiet_none}
+use Rattle.sacn_console.proofs.WakeCores.{rests_as}
 use Rattle.sacn_console.proofs.Changes.{ok_moved}
 use Rattle.sacn_console.proofs.console.ConsoleCore.move_clock.Goals as goal
 

@@ -1,7 +1,7 @@
 use Rattle.std.proofs.Common.{refl, ◌∙◌}
 use Rattle.sacn_cues.specs.Playing as play
 use Rattle.sacn_console.specs.declared.command.Command.TheVariants.{SetLevel}
-use Rattle.sacn_console.proofs.Wakes.{wakes_cleared}
+use Rattle.sacn_console.proofs.WakeLists.{wakes_cleared}
 use Rattle.sacn_console.proofs.Changes.{light_told, ok_played}
 use Rattle.sacn_console.proofs.console.ConsoleCore.set_level.Goals as goal
 

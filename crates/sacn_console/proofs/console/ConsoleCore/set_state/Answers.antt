@@ -1,4 +1,4 @@
-use Rattle.sacn_console.proofs.Wakes.{wakes_ordered, place_in}
+use Rattle.sacn_console.proofs.WakeLists.{wakes_ordered, place_in}
 use Rattle.sacn_console.proofs.Changes.{ok_kept, state_set}
 use Rattle.sacn_console.proofs.console.ConsoleCore.set_state.Goals as goal
 

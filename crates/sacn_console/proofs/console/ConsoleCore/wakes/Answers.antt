@@ -1,5 +1,5 @@
 use Rattle.std.proofs.Common.{arith}
-use Rattle.sacn_console.proofs.Wakes.{nothing_due, exact_first}
+use Rattle.sacn_console.proofs.WakeCores.{nothing_due, exact_first}
 use Rattle.sacn_console.specs.Core.{at}
 use Rattle.sacn_console.proofs.console.ConsoleCore.wakes.Goals as goal
 
