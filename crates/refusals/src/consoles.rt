@@ -1,6 +1,7 @@
 //! Shows, scripts and the console core.
 use crate::Outcome;
-use sacn_console::{ConsoleCore, Show, ShowFault, TextFault, read_script, read_show};
+use sacn_console::limits::MOST_OCTETS;
+use sacn_console::{Command, ConsoleCore, Show, ShowFault, TextFault, read_script, read_show};
 use std::alloc::Global;
 
 const SHOW: &str = "version = 2
@@ -35,22 +36,52 @@ const SCRIPT: &str = "0 go
 20 end 1
 ";
 
+const CID: [u8; 16] = [0, 1, 2, 3, 4, 5, 6, 7, 8, 9, 10, 11, 12, 13, 14, 15];
+
+/// Whether the show is that of the text, its universes in ascending number.
+fn is_read(show: &Show) -> bool {
+    let named = show.cid() == CID && show.name() == "Desk" && show.priority() == 100;
+    named && show.universes() == [1, 2].as_slice() && show.send_to() == [5568, 5569].as_slice()
+}
+
+/// Whether a core is new, and plays the show: after `go` it sends universe 1 as packet 9, dark at first,
+/// since channel 1 takes a second to come up.
+fn is_new(mut core: ConsoleCore) -> bool {
+    let mut octets = [7; MOST_OCTETS];
+    let sent = core.command(0, Command::Go).is_ok() && core.poll(0, &mut octets) == Some(638);
+    let dark = octets[126..638].iter().all(|level| *level == 0);
+    let header = octets[22..38].starts_with(&CID) && octets[111..115].starts_with(&[9, 0, 0, 1]);
+    sent && header && dark
+}
+
 // A core of the show, made again where memory was refused.
 fn core_made(alloc: Global, show: &Show) -> Outcome {
-    if show.universes() != [1, 2].as_slice() {
-        return Outcome::Wrong("the universes of a show");
+    if !is_read(show) {
+        return Outcome::Wrong("a show");
     }
-    match ConsoleCore::new(alloc, show, 0) {
-        Ok(_) => Outcome::Done,
-        Err(ShowFault::OutOfMemory) if ConsoleCore::new(alloc, show, 0).is_ok() => Outcome::Refused,
-        Err(_) => Outcome::Wrong("a console that can't be made again"),
+    match ConsoleCore::new(alloc, show, 9) {
+        Ok(core) => Outcome::Done.provided(is_new(core), "a new console"),
+        Err(ShowFault::OutOfMemory) => match ConsoleCore::new(alloc, show, 9) {
+            Ok(core) => Outcome::Refused.provided(is_new(core), "a console that is made again"),
+            Err(_) => Outcome::Wrong("a console that can't be made again"),
+        },
+        Err(_) => Outcome::Wrong("a console that is refused"),
     }
 }
 
+const LINES: [(u64, Command); 3] = [
+    (0, Command::Go),
+    (10, Command::SetLevel(1, 65535)),
+    (20, Command::EndUniverse(1)),
+];
+
 fn script_read(alloc: Global) -> Outcome {
     match read_script(alloc, SCRIPT) {
-        Ok(lines) if lines.len() == 3 => Outcome::Done,
-        Err(TextFault::OutOfMemory) if read_script(alloc, SCRIPT).is_ok() => Outcome::Refused,
+        Ok(lines) if lines.as_slice() == LINES.as_slice() => Outcome::Done,
+        Err(TextFault::OutOfMemory) => match read_script(alloc, SCRIPT) {
+            Ok(lines) if lines.as_slice() == LINES.as_slice() => Outcome::Refused,
+            _ => Outcome::Wrong("a script that can't be read again"),
+        },
         _ => Outcome::Wrong("a script"),
     }
 }
@@ -64,6 +95,6 @@ pub fn calls_made(alloc: Global) -> Outcome {
             Ok(show) => Outcome::Refused.then(script).then(core_made(alloc, &show)),
             Err(_) => Outcome::Wrong("a show that can't be read again"),
         },
-        Err(_) => Outcome::Wrong("a show"),
+        Err(_) => Outcome::Wrong("a show that is refused"),
     }
 }

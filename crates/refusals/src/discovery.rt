@@ -27,32 +27,45 @@ fn kept(
     }
 }
 
-/// The first universe known of a source; None where nothing is known.
-fn known(collector: &mut Collector, now: u64, source: u8) -> Result<Option<u16>, DiscoveryFault> {
-    let list = collector.list_of(now, &[source; 16])?;
-    Ok(list.and_then(|list| list.first().copied()))
-}
-
-// Takes a page, again where memory was refused: what was known before stays known till then.
-fn taken(collector: &mut Collector, source: u8, universe: u8, before: Option<u16>) -> Outcome {
-    if kept(collector, 0, source, universe).is_ok() {
-        return Outcome::Done;
-    }
-    if known(collector, 0, source) != Ok(before) {
-        return Outcome::Wrong("a refused page changed what is known");
-    }
-    if kept(collector, 0, source, universe).is_ok() {
-        Outcome::Refused
-    } else {
-        Outcome::Wrong("a refused page can't be taken again")
+/// Whether these are the universes known of a source; none are where nothing is known of it.
+fn has_list(collector: &mut Collector, source: u8, wanted: &[u16]) -> Result<bool, DiscoveryFault> {
+    match collector.list_of(0, &[source; 16])? {
+        Some(list) => Ok(list.as_slice() == wanted),
+        None => Ok(wanted.is_empty()),
     }
 }
 
-fn listed(collector: &mut Collector, source: u8, universe: u16) -> Outcome {
-    match known(collector, 0, source) {
-        Ok(Some(found)) if found == universe => Outcome::Done,
-        Err(DiscoveryFault::OutOfMemory) if known(collector, 0, source) == Ok(Some(universe)) =>
-            Outcome::Refused,
+/// Whether of each source before this one universe 6 is known, of this one `wanted`, and of the next nothing.
+fn is_left(collector: &mut Collector, source: u8, wanted: &[u16]) -> bool {
+    for earlier in 0..source {
+        if has_list(collector, earlier, &[6]) != Ok(true) {
+            return false;
+        }
+    }
+    has_list(collector, source, wanted) == Ok(true)
+        && has_list(collector, source.saturating_add(1), &[]) == Ok(true)
+}
+
+// Takes a page, again where memory was refused: all that was known before is known till then, and no more.
+fn taken(collector: &mut Collector, source: u8, universe: u8, before: &[u16]) -> Outcome {
+    match kept(collector, 0, source, universe) {
+        Ok(()) => Outcome::Done,
+        Err(DiscoveryFault::OutOfMemory) => {
+            if !is_left(collector, source, before) {
+                Outcome::Wrong("a refused page changed what is known")
+            } else if kept(collector, 0, source, universe).is_ok() {
+                Outcome::Refused
+            } else {
+                Outcome::Wrong("a refused page can't be taken again")
+            }
+        }
+    }
+}
+
+fn listed(collector: &mut Collector, source: u8, wanted: &[u16]) -> Outcome {
+    match has_list(collector, source, wanted) {
+        Ok(true) => Outcome::Done,
+        Err(DiscoveryFault::OutOfMemory) if is_left(collector, source, wanted) => Outcome::Refused,
         _ => Outcome::Wrong("the list of a source"),
     }
 }
@@ -62,9 +75,9 @@ pub fn calls_made(alloc: Global) -> Outcome {
     let mut collector = Collector::new(alloc);
     let mut outcome = Outcome::Done;
     for source in 0..20u8 {
-        outcome = outcome.then(taken(&mut collector, source, 5, None));
-        outcome = outcome.then(taken(&mut collector, source, 6, Some(5)));
-        outcome = outcome.then(listed(&mut collector, source, 6));
+        outcome = outcome.then(taken(&mut collector, source, 5, &[]));
+        outcome = outcome.then(taken(&mut collector, source, 6, &[5]));
+        outcome = outcome.then(listed(&mut collector, source, &[6]));
     }
     if collector.expire(25_000) == 20 {
         outcome

@@ -10,6 +10,7 @@ mod cues;
 mod discovery;
 mod nodes;
 mod patches;
+mod simulations;
 mod sources;
 mod world_files;
 mod worlds;
@@ -38,6 +39,11 @@ impl Outcome {
             _ => Outcome::Refused,
         }
     }
+
+    /// This outcome, where what a call gave is as it should be.
+    pub fn provided(self, holds: bool, what: &'static str) -> Outcome {
+        if holds { self } else { Outcome::Wrong(what) }
+    }
 }
 
 fn calls_made(rt: &impl AllocGlobal) -> Result<Outcome, AllocError> {
@@ -49,6 +55,7 @@ fn calls_made(rt: &impl AllocGlobal) -> Result<Outcome, AllocError> {
     let consoles = consoles::calls_made(rt.alloc());
     let world_files = world_files::calls_made(rt.alloc());
     let worlds = worlds::calls_made(rt.alloc());
+    let simulations = simulations::calls_made(rt.alloc());
     Ok(
         patches
             .then(cues)
@@ -57,7 +64,8 @@ fn calls_made(rt: &impl AllocGlobal) -> Result<Outcome, AllocError> {
             .then(nodes)
             .then(consoles)
             .then(world_files)
-            .then(worlds),
+            .then(worlds)
+            .then(simulations),
     )
 }
 

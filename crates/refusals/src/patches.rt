@@ -3,7 +3,7 @@ use crate::Outcome;
 use sacn_patch::{LevelOf, Patch, PatchFault, SLOTS};
 use std::alloc::Global;
 
-/// Every channel at one level, 0x1234.
+/// Every channel at one level, 0x1234: a wide channel shows 0x12 and 0x34.
 struct Even;
 
 impl LevelOf for Even {
@@ -14,19 +14,42 @@ impl LevelOf for Even {
     }
 }
 
-/// The slots of universe 1 that aren't 0.
-fn lit(patch: &Patch) -> usize {
-    let mut slots = [0; SLOTS];
-    patch.fill(1, &Even, &mut slots);
-    slots.iter().filter(|level| **level > 0).count()
+/// The level of a slot, counted from 0, where the first so many pairs of slots are patched.
+fn wanted(place: usize, pairs: usize) -> u8 {
+    if place / 2 >= pairs {
+        0
+    } else if place % 2 == 0 {
+        18
+    } else {
+        52
+    }
 }
 
-// Adds a wide channel, again where memory was refused.
-fn added(patch: &mut Patch, slot: u16) -> Outcome {
-    let before = lit(patch);
+fn are_pairs(slots: &[u8; SLOTS], pairs: usize) -> bool {
+    for place in 0..SLOTS {
+        if slots[place] != wanted(place, pairs) {
+            return false;
+        }
+    }
+    true
+}
+
+/// Whether universe 1 has wide channels on the first so many pairs of slots, and universe 2 none.
+fn has_pairs(patch: &Patch, pairs: usize) -> bool {
+    let mut first = [7; SLOTS];
+    patch.fill(1, &Even, &mut first);
+    let mut second = [7; SLOTS];
+    patch.fill(2, &Even, &mut second);
+    are_pairs(&first, pairs) && are_pairs(&second, 0)
+}
+
+// Adds a wide channel on a pair of slots, again where memory was refused.
+fn added(patch: &mut Patch, pair: u16) -> Outcome {
+    let slot = pair.saturating_mul(2).saturating_add(1);
+    let before = pair as usize;
     match patch.add(1, 1, slot, true) {
         Ok(()) => Outcome::Done,
-        Err(PatchFault::OutOfMemory) if lit(patch) != before => Outcome::Wrong(
+        Err(PatchFault::OutOfMemory) if !has_pairs(patch, before) => Outcome::Wrong(
             "a refused add changed the patch",
         ),
         Err(PatchFault::OutOfMemory) if patch.add(1, 1, slot, true).is_ok() => Outcome::Refused,
@@ -36,8 +59,11 @@ fn added(patch: &mut Patch, slot: u16) -> Outcome {
 
 fn copied(patch: &Patch) -> Outcome {
     match patch.try_copy() {
-        Ok(copy) if lit(&copy) == lit(patch) => Outcome::Done,
-        Err(PatchFault::OutOfMemory) if patch.try_copy().is_ok() => Outcome::Refused,
+        Ok(copy) if has_pairs(&copy, 30) => Outcome::Done,
+        Err(PatchFault::OutOfMemory) => match patch.try_copy() {
+            Ok(copy) if has_pairs(&copy, 30) => Outcome::Refused,
+            _ => Outcome::Wrong("a patch that can't be copied again"),
+        },
         _ => Outcome::Wrong("a copy of the patch"),
     }
 }
@@ -47,10 +73,10 @@ pub fn calls_made(alloc: Global) -> Outcome {
     let mut patch = Patch::new(alloc);
     let mut outcome = Outcome::Done;
     for pair in 0..30u16 {
-        outcome = outcome.then(added(&mut patch, 2 * pair + 1));
+        outcome = outcome.then(added(&mut patch, pair));
     }
     outcome = outcome.then(copied(&patch));
-    if lit(&patch) == 60 {
+    if has_pairs(&patch, 30) {
         outcome
     } else {
         outcome.then(Outcome::Wrong("the slots of the patch"))

@@ -1,6 +1,8 @@
 //! World files and schedules.
 use crate::Outcome;
-use sacn_world::{Event, TextFault, WorldTextFault, read_schedule, read_world};
+use sacn_console::{Command, Show};
+use sacn_node::NodeSetup;
+use sacn_schedule::{Event, TextFault, WorldTextFault, read_schedule, read_world};
 use std::alloc::Global;
 
 const WORLD: &str = "version = 1
@@ -33,28 +35,73 @@ noise 0 5 -
 look 0 1 0
 ";
 
-fn world_read(alloc: Global) -> Outcome {
-    match read_world(alloc, WORLD) {
-        Ok((desks, setups)) if desks.len() == 1 && setups.len() == 2 => Outcome::Done,
-        Err(WorldTextFault::OutOfMemory) if read_world(alloc, WORLD).is_ok() => Outcome::Refused,
-        _ => Outcome::Wrong("a world"),
+const CID: [u8; 16] = [0, 1, 2, 3, 4, 5, 6, 7, 8, 9, 10, 11, 12, 13, 14, 15];
+
+fn is_desk(desk: &(Show, u8)) -> bool {
+    let show = &desk.0;
+    let named = show.cid() == CID && show.name() == "Desk";
+    named && show.universes() == [1].as_slice() && desk.1 == 254
+}
+
+fn is_node(setup: &NodeSetup) -> bool {
+    match setup.ports() {
+        [port] => port.number() == 1 && port.ranges().len() == 1 && setup.udp_port() == 5568,
+        _ => false,
     }
 }
 
-fn is_noise(events: &[Event]) -> bool {
-    match events.split_first() {
-        Some((_, rest)) => match rest.first() {
-            Some(Event::Noise(0, 5, octets)) => octets.len() == 2,
-            _ => false,
+/// Whether the members are those of the text: a console, a node of one port, and one of none.
+fn is_read(desks: &[(Show, u8)], setups: &[NodeSetup]) -> bool {
+    match (desks, setups) {
+        ([desk], [node, bare]) => is_desk(desk) && is_node(node) && bare.ports().is_empty(),
+        _ => false,
+    }
+}
+
+fn world_read(alloc: Global) -> Outcome {
+    match read_world(alloc, WORLD) {
+        Ok((desks, setups)) => Outcome::Done.provided(
+            is_read(desks.as_slice(), setups.as_slice()),
+            "a world",
+        ),
+        Err(WorldTextFault::OutOfMemory) => match read_world(alloc, WORLD) {
+            Ok((desks, setups)) => Outcome::Refused.provided(
+                is_read(desks.as_slice(), setups.as_slice()),
+                "a world that is read again",
+            ),
+            Err(_) => Outcome::Wrong("a world that can't be read again"),
         },
-        None => false,
+        Err(_) => Outcome::Wrong("a world that is refused"),
+    }
+}
+
+fn is_noise(event: &Event, wanted: &[u8]) -> bool {
+    match event {
+        Event::Noise(0, 5, octets) => octets.as_slice() == wanted,
+        _ => false,
+    }
+}
+
+/// Whether the events are those of the text.
+fn are_read(events: &[Event]) -> bool {
+    match events {
+        [first, noise, silence, last] => {
+            *first == Event::Order(0, 0, Command::SetLevel(1, 65535))
+                && is_noise(noise, &[171, 1])
+                && is_noise(silence, &[])
+                && *last == Event::Look(0, 1, 0)
+        }
+        _ => false,
     }
 }
 
 fn schedule_read(alloc: Global) -> Outcome {
     match read_schedule(alloc, SCHEDULE) {
-        Ok(events) if events.len() == 4 && is_noise(events.as_slice()) => Outcome::Done,
-        Err(TextFault::OutOfMemory) if read_schedule(alloc, SCHEDULE).is_ok() => Outcome::Refused,
+        Ok(events) if are_read(events.as_slice()) => Outcome::Done,
+        Err(TextFault::OutOfMemory) => match read_schedule(alloc, SCHEDULE) {
+            Ok(events) if are_read(events.as_slice()) => Outcome::Refused,
+            _ => Outcome::Wrong("a schedule that can't be read again"),
+        },
         _ => Outcome::Wrong("a schedule"),
     }
 }

@@ -1,3 +1,4 @@
 //! Printed texts of packets laid out by hand.
 mod datagrams;
 mod decoding;
+mod simulating;

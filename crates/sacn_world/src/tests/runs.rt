@@ -39,8 +39,8 @@ enum Said {
     Ended,
     Late,
     Ignored,
-    /// A frame, by its slots 1 and 10; start code and other slots are 0.
-    Lit(u8, u8),
+    /// A frame, by its slots 1, 9 and 10; start code and other slots are 0.
+    Lit(u8, u8, u8),
     NoPort,
     Other,
 }
@@ -55,11 +55,11 @@ fn said_of_table(taken: Taken) -> Said {
     }
 }
 
-/// Slots 1 and 10 of a frame whose other octets are 0.
+/// Slots 1, 9 and 10 of a frame whose other octets are 0.
 fn lit(frame: &[u8; 513]) -> Said {
-    let rest = frame[2..10].iter().all(|level| *level == 0);
+    let rest = frame[2..9].iter().all(|level| *level == 0);
     if rest && frame[0] == 0 && frame[11..].iter().all(|level| *level == 0) {
-        Said::Lit(frame[1], frame[10])
+        Said::Lit(frame[1], frame[9], frame[10])
     } else {
         Said::Other
     }
@@ -91,13 +91,13 @@ fn is_answered(alloc: Global, world: &str, schedule: &str, wanted: &[Said]) -> R
 #[test]
 fn a_cue_is_sent_shown_and_lost(rt: HostRuntime) -> Result<(), Fail> {
     let wanted = [
-        Said::Lit(0, 0),
+        Said::Lit(0, 0, 0),
         Said::Ordered,
         Said::Sent(0),
         Said::Held,
-        Said::Lit(255, 0),
-        Said::Lit(255, 0),
-        Said::Lit(0, 0),
+        Said::Lit(255, 0, 0),
+        Said::Lit(255, 0, 0),
+        Said::Lit(0, 0, 0),
         Said::NoPort,
     ];
     assert!(rt; is_answered(rt.alloc(), WORLD, SCHEDULE, wanted.as_slice())?);
@@ -166,8 +166,8 @@ fn two_nodes_saw_different_orders(rt: HostRuntime) -> Result<(), Fail> {
         Said::Held,
         Said::Late,
         Said::Late,
-        Said::Lit(255, 0),
-        Said::Lit(255, 0),
+        Said::Lit(255, 0, 0),
+        Said::Lit(255, 255, 0),
     ];
     assert!(rt; is_answered(rt.alloc(), TWO_NODES, schedule, wanted.as_slice())?);
     Ok(())
@@ -187,9 +187,9 @@ fn an_expired_entry_comes_anew_at_an_earlier_place(rt: HostRuntime) -> Result<()
         Said::Sent(2),
         Said::Held,
         Said::Late,
-        Said::Lit(0, 0),
+        Said::Lit(0, 0, 0),
         Said::Held,
-        Said::Lit(255, 0),
+        Said::Lit(255, 0, 0),
         Said::Held,
     ];
     assert!(rt; is_answered(rt.alloc(), TWO_NODES, schedule, wanted.as_slice())?);
@@ -210,12 +210,12 @@ fn a_universe_is_ended(rt: HostRuntime) -> Result<(), Fail> {
         Said::Sent(2),
         Said::Sent(3),
         Said::Held,
-        Said::Lit(255, 0),
+        Said::Lit(255, 0, 0),
         Said::Ended,
-        Said::Lit(0, 0),
+        Said::Lit(0, 0, 0),
         Said::Late,
         Said::Ended,
-        Said::Lit(0, 0),
+        Said::Lit(0, 0, 0),
         Said::Ignored,
     ];
     assert!(rt; is_answered(rt.alloc(), TWO_NODES, schedule, wanted.as_slice())?);
@@ -269,13 +269,13 @@ fn a_port_shows_ranges_of_two_universes(rt: HostRuntime) -> Result<(), Fail> {
         Said::Ordered,
         Said::Sent(0),
         Said::Sent(1),
-        Said::Lit(0, 0),
+        Said::Lit(0, 0, 0),
         Said::Held,
-        Said::Lit(128, 0),
+        Said::Lit(128, 0, 0),
         Said::Held,
-        Said::Lit(128, 255),
-        Said::Lit(0, 255),
-        Said::Lit(0, 0),
+        Said::Lit(128, 0, 255),
+        Said::Lit(0, 0, 255),
+        Said::Lit(0, 0, 0),
     ];
     assert!(rt; is_answered(rt.alloc(), RANGES, schedule, wanted.as_slice())?);
     Ok(())
