@@ -17,6 +17,11 @@ const EXAMPLE: &str = "Examples, in a clone of the repository:
   ./sacn sim examples/world.toml examples/schedule.txt
   ./sacn node examples/node.toml --turns 40000000 &
   ./sacn console examples/show.toml examples/script.txt --turns 10000000
+  ./sacn gateway examples/node.toml --seconds 60 &
+  ./sacn desk examples/show.toml --to 127.0.0.1
+  ./sacn groups examples/node.toml --device eth0
+
+docs/FILES.md tells what stands in the files, and what is printed.
 
 Exit status: 0; 2 bad words; 3 refused input; 4 a device failed.";
 
@@ -31,6 +36,21 @@ const CONSOLE_ABOUT: &str =
 
 const NODE_ABOUT: &str =
     "Hears datagrams on 127.0.0.1, and prints each port's frame whenever it is another";
+
+const DATAGRAM_HELP: &str = "Files of one datagram each, raw octets";
+
+const WORLD_HELP: &str = "A world: a TOML file of shows for its consoles and setups for its nodes";
+
+const SCHEDULE_HELP: &str = "A schedule: a text file of an event a line, as `deliver 0 0 1000`";
+
+pub const SHOW_HELP: &str =
+    "A show: a TOML file of a console's CID, name, universes, cues and patch";
+
+pub const SCRIPT_HELP: &str =
+    "A script: a text file of an order a line, each after its moment in milliseconds, as `0 go`";
+
+pub const SETUP_HELP: &str =
+    "A setup: a TOML file of a node's ports, each with a universe or ranges of slots";
 
 const MOST_TURNS: i64 = 1_000_000_000;
 
@@ -68,13 +88,14 @@ pub enum Asked<'a> {
 
 fn files<'a>(alloc: Global) -> Arg<'a> {
     Arg::new(alloc, "FILE")
+        .help(DATAGRAM_HELP)
         .required(true)
         .num_args(1..)
         .action(ArgAction::Append)
 }
 
-pub fn file<'a>(alloc: Global, name: &'a str) -> Arg<'a> {
-    Arg::new(alloc, name).required(true)
+pub fn file<'a>(alloc: Global, name: &'a str, help: &'a str) -> Arg<'a> {
+    Arg::new(alloc, name).help(help).required(true)
 }
 
 fn turns<'a>(alloc: Global) -> Arg<'a> {
@@ -95,48 +116,66 @@ pub fn first<'a>(alloc: Global) -> Arg<'a> {
         .value_parser(value_parser!(u8))
 }
 
-fn sim<'a>(alloc: Global) -> Result<Command<'a>, Error> {
-    let command = Command::new(alloc, "sim")
-        .about(SIM_ABOUT)
-        .arg(file(alloc, "WORLD"))?
-        .arg(file(alloc, "SCHEDULE"))?;
+/// A subcommand of these arguments.
+pub fn subcommand<'a>(
+    alloc: Global,
+    name: &'a str,
+    about: &'a str,
+    args: Vec<Arg<'a>>,
+) -> Result<Command<'a>, Error> {
+    let command = Command::new(alloc, name).about(about).args(args)?;
     Ok(command)
+}
+
+fn decode<'a>(alloc: Global) -> Result<Command<'a>, Error> {
+    let args = vec![in alloc; files(alloc)]?;
+    subcommand(alloc, "decode", DECODE_ABOUT, args)
+}
+
+fn sim<'a>(alloc: Global) -> Result<Command<'a>, Error> {
+    let args = vec![in alloc;
+        file(alloc, "WORLD", WORLD_HELP),
+        file(alloc, "SCHEDULE", SCHEDULE_HELP),
+    ]?;
+    subcommand(alloc, "sim", SIM_ABOUT, args)
 }
 
 fn console<'a>(alloc: Global) -> Result<Command<'a>, Error> {
-    let command = Command::new(alloc, "console")
-        .about(CONSOLE_ABOUT)
-        .arg(file(alloc, "SHOW"))?
-        .arg(file(alloc, "SCRIPT"))?
-        .arg(turns(alloc))?
-        .arg(first(alloc))?;
-    Ok(command)
+    let args = vec![in alloc;
+        file(alloc, "SHOW", SHOW_HELP),
+        file(alloc, "SCRIPT", SCRIPT_HELP),
+        turns(alloc),
+        first(alloc),
+    ]?;
+    subcommand(alloc, "console", CONSOLE_ABOUT, args)
 }
 
 fn node<'a>(alloc: Global) -> Result<Command<'a>, Error> {
-    let command = Command::new(alloc, "node")
-        .about(NODE_ABOUT)
-        .arg(file(alloc, "SETUP"))?
-        .arg(turns(alloc))?;
+    let args = vec![in alloc; file(alloc, "SETUP", SETUP_HELP), turns(alloc)]?;
+    subcommand(alloc, "node", NODE_ABOUT, args)
+}
+
+// (A `?` for each command in one function would take the check of it much longer, and so would one for each argument.)
+fn with<'a>(
+    command: Result<Command<'a>, Error>,
+    subcommand: Result<Command<'a>, Error>,
+) -> Result<Command<'a>, Error> {
+    let command = command?.subcommand(subcommand?)?;
     Ok(command)
 }
 
 fn command<'a>(alloc: Global) -> Result<Command<'a>, Error> {
-    let decode = Command::new(alloc, "decode")
-        .about(DECODE_ABOUT)
-        .arg(files(alloc))?;
     let command = Command::new(alloc, "sacn")
         .about(ABOUT)
         .after_help(EXAMPLE)
-        .disable_help_subcommand(true)
-        .subcommand(decode)?
-        .subcommand(sim(alloc)?)?
-        .subcommand(console(alloc)?)?
-        .subcommand(node(alloc)?)?
-        .subcommand(live_words::gateway(alloc)?)?
-        .subcommand(live_words::desk(alloc)?)?
-        .subcommand(live_words::groups(alloc)?)?;
-    Ok(command)
+        .disable_help_subcommand(true);
+    let command = with(Ok(command), decode(alloc));
+    let command = with(command, sim(alloc));
+    let command = with(command, console(alloc));
+    let command = with(command, node(alloc));
+    let command = with(command, live_words::gateway(alloc));
+    let command = with(command, live_words::desk(alloc));
+    with(command, live_words::groups(alloc))
 }
 
 // The call of clap's parser stands alone: checking it takes longest.

@@ -2,6 +2,7 @@
 use crate::ending::{DEVICE_FAILED, Ending, REFUSED};
 use crate::files::text_of_file;
 use crate::live_words::{DeskAsked, GatewayAsked};
+use crate::network::tell;
 use sacn_console::{Command, ConsoleCore, Show, TextFault, read_script, read_show};
 use sacn_edge::{ConsoleReport, Link, WriterOut};
 use sacn_framing::multicast_group;
@@ -261,7 +262,7 @@ fn perform<R: AllocGlobal + Net + Clock, O: Write, E: Write>(
     let destinations = destinations_of(rt, asked, show)?;
     let mut core = ConsoleCore::new(rt.alloc(), show, asked.first)?;
     let report = send_show(rt, asked, plan, destinations, &mut core, out, err)?;
-    closing_line(&report, out)
+    tell(&report, out)
 }
 
 // Sends from a socket of its own.
@@ -304,18 +305,6 @@ fn run_orders<R: Clock, L: Link, O: Write>(
         return Err(Ending::DeviceWrite);
     }
     Ok(report)
-}
-
-fn closing_line<O: Write>(report: &ConsoleReport, out: &mut O) -> Result<(), Ending> {
-    let line = writeln!(
-        out,
-        "sent {} failed {} refused {}",
-        report.sent, report.failed, report.refused
-    );
-    if line.is_err() || out.flush().is_err() {
-        return Err(Ending::DeviceWrite);
-    }
-    Ok(())
 }
 
 // The universes of a setup or of a show.

@@ -1,5 +1,7 @@
 //! The words of the commands that run a rig.
-use crate::command::{Asked, file, first, number, refused_words, text};
+use crate::command::{
+    Asked, SCRIPT_HELP, SETUP_HELP, SHOW_HELP, file, first, number, refused_words, subcommand, text,
+};
 use clap::{Arg, ArgAction, ArgMatches, Command, Error, value_parser};
 use sacn_live::{AddressFault, MOST_DESTINATIONS, Octets4, SACN_PORT, destination_of, host_of};
 use std::alloc::Global;
@@ -13,6 +15,8 @@ const DESK_ABOUT: &str =
 
 const GROUPS_ABOUT: &str =
     "Prints the commands by which a device joins the groups of a setup's or a show's universes";
+
+const GROUPS_HELP: &str = "A setup or a show, as those of a gateway and of a desk";
 
 const MOST_SECONDS: i64 = 1_000_000_000;
 
@@ -59,68 +63,51 @@ fn flag<'a>(alloc: Global, name: &'a str, help: &'a str) -> Arg<'a> {
         .action(ArgAction::SetTrue)
 }
 
+fn seconds<'a>(alloc: Global) -> Arg<'a> {
+    let help = "How many seconds it runs, 1 to 1000000000";
+    word(alloc, "seconds", "S", help).value_parser(value_parser!(u64).range(1..=MOST_SECONDS))
+}
+
+fn ttl<'a>(alloc: Global) -> Arg<'a> {
+    let help = "How many routers a group's packets pass, 1 to 255";
+    word(alloc, "ttl", "N", help)
+        .default_value("1")
+        .value_parser(value_parser!(u8).range(1..=255))
+}
+
 pub fn gateway<'a>(alloc: Global) -> Result<Command<'a>, Error> {
-    let seconds = word(
-        alloc,
-        "seconds",
-        "S",
-        "How many seconds it runs, 1 to 1000000000",
-    )
-    .value_parser(value_parser!(u64).range(1..=MOST_SECONDS));
-    let command = Command::new(alloc, "gateway")
-        .about(GATEWAY_ABOUT)
-        .arg(file(alloc, "SETUP"))?
-        .arg(word(
-            alloc,
-            "listen",
-            "ADDRESS",
-            "The address that it hears at; else all",
-        ))?
-        .arg(words(alloc, "from", "ADDRESS", "A sender that it hears; else all"))?
-        .arg(words(
-            alloc,
-            "widget",
-            "PORT=DEVICE",
-            "An interface with the protocol of the DMX USB Pro",
-        ))?
-        .arg(seconds)?;
-    Ok(command)
+    let listen = "The address that it hears at; else all";
+    let from = "A sender that it hears; else all";
+    let widget = "An interface with the protocol of the DMX USB Pro";
+    let args = vec![in alloc;
+        file(alloc, "SETUP", SETUP_HELP),
+        word(alloc, "listen", "ADDRESS", listen),
+        words(alloc, "from", "ADDRESS", from),
+        words(alloc, "widget", "PORT=DEVICE", widget),
+        seconds(alloc),
+    ]?;
+    subcommand(alloc, "gateway", GATEWAY_ABOUT, args)
 }
 
 pub fn desk<'a>(alloc: Global) -> Result<Command<'a>, Error> {
-    let ttl = word(
-        alloc,
-        "ttl",
-        "N",
-        "How many routers a group's packets pass, 1 to 255",
-    )
-    .default_value("1")
-    .value_parser(value_parser!(u8).range(1..=255));
-    let command = Command::new(alloc, "desk")
-        .about(DESK_ABOUT)
-        .arg(file(alloc, "SHOW"))?
-        .arg(words(
-            alloc,
-            "to",
-            "ADDRESS[:PORT]",
-            "A host that it sends to, at most 64; else the show's ports on 127.0.0.1",
-        ))?
-        .arg(flag(alloc, "multicast", "Sends each universe to its group"))?
-        .arg(ttl)?
-        .arg(word(alloc, "bind", "ADDRESS", "The address that it sends from"))?
-        .arg(word(alloc, "script", "SCRIPT", "Orders with their moments"))?
-        .arg(first(alloc))?
-        .arg(flag(alloc, "stay", "Goes on after the script"))?;
-    Ok(command)
+    let to = "A host that it sends to, at most 64; else the show's ports on 127.0.0.1";
+    let args = vec![in alloc;
+        file(alloc, "SHOW", SHOW_HELP),
+        words(alloc, "to", "ADDRESS[:PORT]", to),
+        flag(alloc, "multicast", "Sends each universe to its group"),
+        ttl(alloc),
+        word(alloc, "bind", "ADDRESS", "The address that it sends from"),
+        word(alloc, "script", "SCRIPT", SCRIPT_HELP),
+        first(alloc),
+        flag(alloc, "stay", "Goes on after the script"),
+    ]?;
+    subcommand(alloc, "desk", DESK_ABOUT, args)
 }
 
 pub fn groups<'a>(alloc: Global) -> Result<Command<'a>, Error> {
     let device = word(alloc, "device", "DEV", "The network device that joins").required(true);
-    let command = Command::new(alloc, "groups")
-        .about(GROUPS_ABOUT)
-        .arg(file(alloc, "FILE"))?
-        .arg(device)?;
-    Ok(command)
+    let args = vec![in alloc; file(alloc, "FILE", GROUPS_HELP), device]?;
+    subcommand(alloc, "groups", GROUPS_ABOUT, args)
 }
 
 fn fault_name(fault: AddressFault) -> &'static str {

@@ -1,7 +1,9 @@
 //! A console and a node on 127.0.0.1.
 use crate::ending::Ending;
 use sacn_console::{Command, ConsoleCore, Show, read_script, read_show};
-use sacn_edge::{ConsoleReport, SystemClock, UdpLink, WriterOut, run_console, run_node};
+use sacn_edge::{
+    ConsoleReport, SystemClock, UdpLink, WriterOut, print_report, run_console, run_node,
+};
 use sacn_node::{NodeCore, read_node};
 use std::io::Write;
 use std::net::Net;
@@ -17,7 +19,7 @@ pub fn console<R: AllocGlobal + Net + Clock, O: Write>(
 ) -> Result<(), Ending> {
     let show = read_show(rt.alloc(), texts.0)?;
     let report = perform(rt, &show, texts.1, first, turns)?;
-    tell(report, out)
+    tell(&report, out)
 }
 
 // Reads the script, and plays it. (The check of a function takes much longer the more values it has to drop on its ways out.)
@@ -46,16 +48,12 @@ fn play<R: AllocGlobal + Net + Clock>(
     Ok(run_console(&mut link, &mut clock, &mut core, script, turns))
 }
 
-fn tell<O: Write>(report: ConsoleReport, out: &mut O) -> Result<(), Ending> {
-    let line = writeln!(
-        out,
-        "sent {} failed {} refused {}",
-        report.sent, report.failed, report.refused
-    );
-    if line.is_err() || out.flush().is_err() {
-        return Err(Ending::DeviceWrite);
+/// Prints what came of a console's run.
+pub fn tell<O: Write>(report: &ConsoleReport, out: &mut O) -> Result<(), Ending> {
+    match print_report(out, report) {
+        Ok(()) => Ok(()),
+        Err(_) => Err(Ending::DeviceWrite),
     }
-    Ok(())
 }
 
 /// Runs a node of a setup for so many turns, which prints its frames as they change.

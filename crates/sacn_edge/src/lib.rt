@@ -27,7 +27,7 @@ pub use line::FRAME_OCTETS;
 pub use link::{BUFFER_OCTETS, Link, Received};
 pub use node_loop::{ports_of, run_node};
 pub use out::Out;
-pub use report::{ConsoleReport, NodeReport, write_report};
+pub use report::{ConsoleReport, NodeReport, print_report};
 pub use shown::{PortShown, show};
 pub use system::SystemClock;
 pub use text::{WriteFailed, write_text};

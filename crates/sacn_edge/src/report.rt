@@ -1,13 +1,12 @@
 //! What the loops count.
-ghost use Rattle.std.specs.Prelude.{◌≡◌, ◌<◌, ℕ, length, take, true, false, OnOk, OnErr};
-ghost use Rattle.sacn_edge.specs.Told.{Adds, AddsPart};
+ghost use Rattle.std.specs.Prelude.{◌≡◌, OnOk};
+ghost use Rattle.std.specs.Io.KnownBytes.{Appends};
 ghost use Rattle.sacn_edge.specs.Reports.{report_text};
 
 use crate::line::add_part;
-use crate::out::Out;
-use crate::text::{WriteFailed, write_text};
 use arrayvec::ArrayVec;
 use itoa::Buffer;
+use std::io::{self, Write};
 
 /// What a node's run counts.
 #[derive(Clone, Copy, Debug, PartialEq, Eq)]
@@ -48,11 +47,11 @@ fn report_line(report: &ConsoleReport) -> ArrayVec<u8, REPORT_OCTETS>
     line
 }
 
-/// Writes the line of a report, as `sent 3 failed 1 refused 0`. What stands there after a failure is a proper prefix of it.
-pub fn write_report<O: Out>(out: &mut O, report: &ConsoleReport) -> Result<(), WriteFailed>
-    requires { O.failed out.old ≡ false }
-    ensures ok { OnOk result ((O.failed out.new ≡ false) × Adds (O.Tells out.old) (O.Tells out.new) (report_text report.now)) }
-    ensures err { OnErr result ((O.failed out.new ≡ true) × AddsPart (O.Tells out.old) (O.Tells out.new) (report_text report.now)) }
+/// Prints the line of a report, as `sent 3 failed 1 refused 0`: the writer then has it, after what it had.
+pub fn print_report<W: Write>(writer: &mut W, report: &ConsoleReport) -> io::Result<()>
+    ensures { OnOk result (Appends (W.contents writer.old) (W.contents writer.new) (report_text report.now)) }
 {
-    write_text(out, report_line(report).as_slice())
+    let line = report_line(report);
+    writer.write_all(line.as_slice())?;
+    writer.flush()
 }

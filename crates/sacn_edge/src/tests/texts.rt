@@ -1,4 +1,4 @@
-use crate::{ConsoleReport, Out, WriterOut, write_report, write_text};
+use crate::{ConsoleReport, Out, WriterOut, print_report, write_text};
 use std::io::{self, Write};
 use std::test::*;
 
@@ -92,9 +92,9 @@ fn a_report_is_a_line(rt: HostRuntime) {
             failed,
             refused,
         };
-        let mut out = WriterOut::new(Vec::new(rt.alloc()));
-        assert!(rt; write_report(&mut out, &report).is_ok());
-        assert_eq!(rt; out.writer.as_slice(), line);
-        assert!(rt; write_report(&mut WriterOut::new(Broken), &report).is_err());
+        let mut out = Vec::new(rt.alloc());
+        assert!(rt; print_report(&mut out, &report).is_ok());
+        assert_eq!(rt; out.as_slice(), line);
+        assert!(rt; print_report(&mut Broken, &report).is_err());
     }
 }
