@@ -1,8 +1,7 @@
--- Which universes are asked for, and moments as they are told.
-use Rattle.std.specs.Prelude.{ℕ, Bool, true, List, [], ◌∷◌, ◌||◌, ◌==◌}
+-- Which universes are asked for.
+use Rattle.std.specs.Prelude.{ℕ, Bool, List, length, ◌||◌, ◌==◌}
 use Rattle.std.specs.List.{list_any}
 
 -- every universe where none is named, else the named ones
 abbrev pub is_wanted : List ℕ → ℕ → Bool
-is_wanted [] universe = true
-is_wanted (first ∷ more) universe = list_any (λ u. u == universe) (first ∷ more)
+is_wanted universes universe = (length universes == 0) || list_any (λ named. named == universe) universes

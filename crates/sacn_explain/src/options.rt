@@ -1,6 +1,6 @@
 //! What is asked for.
 
-ghost use Rattle.std.specs.Prelude.{◌≡◌};
+ghost use Rattle.std.specs.Prelude.{◌≡◌, ◌==◌};
 ghost use Rattle.std.specs.List.{list_any};
 ghost use Rattle.sacn_explain.specs.Wanted.{is_wanted};
 
@@ -36,8 +36,12 @@ impl<'a> Options<'a> {
 fn is_wanted(universes: &[u16], universe: u16) -> bool
     ensures { result ≡ is_wanted universes.now universe }
 {
-    if universes.is_empty() {
-        return true;
-    }
-    universes.iter().any(|wanted| *wanted == universe)
+    universes.is_empty() | is_named(universes, universe)
+}
+
+// Whether a universe is among these.
+fn is_named(universes: &[u16], universe: u16) -> bool
+    ensures { result ≡ list_any (λ named. named == universe) universes.now }
+{
+    universes.iter().any(|named| *named == universe)
 }
