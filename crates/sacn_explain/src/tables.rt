@@ -34,7 +34,8 @@ pub fn tell<O: Write>(
     teller.write()
 }
 
-const STREAM_HEAD: &str = "\nuniverse state    priority      first       last     taken   preview     other   skipped      late  repeated   gap ms  source";
+const STREAM_HEAD: &str =
+    "\nuniverse state    priority      first       last     taken   preview     other   skipped      late  repeated   gap ms  source";
 
 const UNIVERSE_HEAD: &str = "\nuniverse  sources  sending     taken   skipped discarded";
 

@@ -1,9 +1,8 @@
 //! Lines as they are written.
 
 use crate::fault::ExplainFault;
-use crate::json;
 use crate::options::Form;
-use crate::words;
+use crate::{json, words};
 use sacn_monitor::{Event, News, Sender, Stream};
 use sacn_root::PacketFault;
 use std::alloc::{AllocError, Global};
@@ -125,12 +124,7 @@ fn event_line(
     }
 }
 
-fn moved_line(
-    text: &mut String,
-    form: Form,
-    now: u64,
-    stream: &Stream,
-) -> Result<(), AllocError> {
+fn moved_line(text: &mut String, form: Form, now: u64, stream: &Stream) -> Result<(), AllocError> {
     match form {
         Form::Text => {
             words::begin_stream(text, now, stream)?;

@@ -136,7 +136,8 @@ const TEXT: Options<'static> = Options {
     form: Form::Text,
 };
 
-const LINES: &str = r#"     0.000 s  universe     1  0102030405060708090a0b0c0d0e0f10 "Desk"  appears at 10.0.0.1:5000, priority 100
+const LINES: &str =
+    r#"     0.000 s  universe     1  0102030405060708090a0b0c0d0e0f10 "Desk"  appears at 10.0.0.1:5000, priority 100
      0.200 s  universe     1  0102030405060708090a0b0c0d0e0f10 "Desk"  skipped 3 numbers
      0.210 s  universe     1  0102030405060708090a0b0c0d0e0f10 "Desk"  a packet out of sequence, discarded
      0.220 s  universe     1  0102030405060708090a0b0c0d0e0f10 "Desk"  a packet comes again, discarded
@@ -189,7 +190,8 @@ fn other_universes_are_left_out(rt: HostRuntime) -> Result<(), Fail> {
     Ok(())
 }
 
-const OBJECTS: &str = r#"{"ms":0,"event":"appeared","universe":1,"cid":"0102030405060708090a0b0c0d0e0f10","name":"Desk","address":"10.0.0.1","port":5000,"priority":100}
+const OBJECTS: &str =
+    r#"{"ms":0,"event":"appeared","universe":1,"cid":"0102030405060708090a0b0c0d0e0f10","name":"Desk","address":"10.0.0.1","port":5000,"priority":100}
 {"ms":200,"event":"skipped","universe":1,"cid":"0102030405060708090a0b0c0d0e0f10","name":"Desk","count":3}
 {"ms":210,"event":"out_of_sequence","universe":1,"cid":"0102030405060708090a0b0c0d0e0f10","name":"Desk","address":"10.0.0.1","port":5000,"priority":100}
 {"ms":220,"event":"repeated","universe":1,"cid":"0102030405060708090a0b0c0d0e0f10","name":"Desk","address":"10.0.0.1","port":5000,"priority":100}
@@ -224,10 +226,14 @@ fn a_cut_file_is_told_as_far_as_it_goes(rt: HostRuntime) -> Result<(), Fail> {
     push_said(a, &mut file, 100, 1, &numbered(11))?;
     let len = file.len() - 1;
     let text = told(a, &file[..len], &TEXT)?;
-    let first = r#"     0.000 s  universe     1  0102030405060708090a0b0c0d0e0f10 "Desk"  appears at 10.0.0.1:5000, priority 100
+    let first =
+        r#"     0.000 s  universe     1  0102030405060708090a0b0c0d0e0f10 "Desk"  appears at 10.0.0.1:5000, priority 100
 "#;
     assert!(rt; text.as_str().starts_with(first));
-    assert!(rt; text.as_str().ends_with("at octet 210: the file ends too early\n"));
+    assert!(rt;
+        text.as_str()
+            .ends_with("at octet 210: the file ends too early\n")
+    );
     Ok(())
 }
 

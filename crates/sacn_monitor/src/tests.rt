@@ -21,14 +21,12 @@ fn packet(alloc: Global, universe: u8, number: u8, options: u8) -> Result<Vec<u8
 }
 
 fn heard(
+    alloc: Global,
     monitor: &mut Monitor,
-    now: u64,
-    universe: u8,
-    number: u8,
-    options: u8,
+    row: &Row,
 ) -> Result<Option<(usize, Event, u8)>, AllocError> {
-    let octets = packet(Global, universe, number, options)?;
-    match monitor.take(now, SENDER, &octets) {
+    let octets = packet(alloc, row.1, row.2, row.3)?;
+    match monitor.take(row.0, SENDER, &octets) {
         Noted::Heard(place, news) => Ok(Some((place, news.event, news.skipped))),
         _ => Ok(None),
     }
@@ -49,10 +47,9 @@ const STORY: [Row; 8] = [
     (1101, 1, 14, 0x40, 0, Event::Ended, 0),
 ];
 
-fn tell_story(monitor: &mut Monitor, story: &[Row]) -> Result<bool, AllocError> {
-    for (now, universe, number, options, place, event, skipped) in story {
-        let noted = heard(monitor, *now, *universe, *number, *options)?;
-        if noted != Some((*place, *event, *skipped)) {
+fn tell_story(alloc: Global, monitor: &mut Monitor, story: &[Row]) -> Result<bool, AllocError> {
+    for row in story {
+        if heard(alloc, monitor, row)? != Some((row.4, row.5, row.6)) {
             return Ok(false);
         }
     }
@@ -62,7 +59,7 @@ fn tell_story(monitor: &mut Monitor, story: &[Row]) -> Result<bool, AllocError> 
 #[test]
 fn accounts_are_kept(rt: HostRuntime) -> Result<(), Fail> {
     let mut monitor = Monitor::new(rt.alloc())?;
-    assert!(rt; tell_story(&mut monitor, &STORY)?);
+    assert!(rt; tell_story(rt.alloc(), &mut monitor, &STORY)?);
     let counts = |stream: &Stream| {
         let account = &stream.account;
         (account.kinds.total(), account.skipped, account.late)
@@ -79,7 +76,7 @@ fn accounts_are_kept(rt: HostRuntime) -> Result<(), Fail> {
 #[test]
 fn silence_is_told_once(rt: HostRuntime) -> Result<(), Fail> {
     let mut monitor = Monitor::new(rt.alloc())?;
-    assert!(rt; tell_story(&mut monitor, &STORY)?);
+    assert!(rt; tell_story(rt.alloc(), &mut monitor, &STORY)?);
     // universe 1 ended, universe 2 was heard at 1100
     assert_eq!(rt; monitor.next_loss(), 3600);
     assert_eq!(rt; monitor.tick(3599), None);
@@ -88,7 +85,7 @@ fn silence_is_told_once(rt: HostRuntime) -> Result<(), Fail> {
     assert_eq!(rt; monitor.streams()[1].state(3600), State::Lost);
     assert_eq!(rt; monitor.streams()[0].state(3600), State::Ended);
     let back = [(4000, 2, 1, 0, 1, Event::CameBack, 0)];
-    assert!(rt; tell_story(&mut monitor, &back)?);
+    assert!(rt; tell_story(rt.alloc(), &mut monitor, &back)?);
     assert_eq!(rt; monitor.moment(), 4000);
     Ok(())
 }
@@ -96,7 +93,7 @@ fn silence_is_told_once(rt: HostRuntime) -> Result<(), Fail> {
 #[test]
 fn other_datagrams_are_counted(rt: HostRuntime) -> Result<(), Fail> {
     let mut monitor = Monitor::new(rt.alloc())?;
-    let noted = monitor.take(0, SENDER, b"no packet");
+    let noted = monitor.take(0, SENDER, b"x");
     let wanted = Noted::Refused(sacn_root::PacketFault::TooShort);
     assert_eq!(rt; noted, wanted);
     let tally = *monitor.tally();
