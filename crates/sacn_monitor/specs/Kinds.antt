@@ -17,3 +17,7 @@ counted Live kinds = record kinds { live = more 1 kinds.live }
 counted Preview kinds = record kinds { previews = more 1 kinds.previews }
 counted Termination kinds = record kinds { terminations = more 1 kinds.terminations }
 counted Other kinds = record kinds { others = more 1 kinds.others }
+
+-- all of them, at most what 64 bits hold
+abbrev pub total : Kinds → ℕ
+total kinds = min (kinds.live + kinds.previews + kinds.terminations + kinds.others) (2 ^ 64 - 1)

@@ -146,7 +146,11 @@ impl Account {
         ensures { result ≡ taken_event moment terminated self.now }
     {
         if terminated {
-            return if self.ended { Event::GoesOn } else { Event::Ended };
+            return if self.ended {
+                Event::GoesOn
+            } else {
+                Event::Ended
+            };
         }
         if self.ended | !self.is_fresh(moment) {
             Event::CameBack

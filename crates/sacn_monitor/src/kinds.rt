@@ -2,7 +2,7 @@
 
 ghost use Rattle.std.specs.Prelude.{◌≡◌};
 ghost use Rattle.sacn_sources.specs.Packets.{kind_of};
-ghost use Rattle.sacn_monitor.specs.Kinds.{no_packets, counted};
+ghost use Rattle.sacn_monitor.specs.Kinds.{no_packets, counted, total};
 
 use sacn_framing::DataView;
 use sacn_sources::Kind;
@@ -21,6 +21,16 @@ pub struct Kinds {
 }
 
 impl Kinds {
+    /// All of them, at most 2^64 - 1.
+    pub fn total(&self) -> u64
+        ensures { result ≡ total self.now }
+    {
+        self.live
+            .saturating_add(self.previews)
+            .saturating_add(self.terminations)
+            .saturating_add(self.others)
+    }
+
     /// No packet yet.
     pub(crate) fn none() -> Self
         ensures { result ≡ no_packets }

@@ -23,3 +23,6 @@ pub use news::{Change, Event, News, Noted};
 pub use rate::Rate;
 pub use stream::{State, Stream};
 pub use tally::Tally;
+
+#[cfg(test)]
+mod tests;

@@ -197,12 +197,16 @@ fn next_loss(streams: &[Stream]) -> u64
 fn place_in(streams: &[Stream], universe: u16, cid: &[u8; 16]) -> Option<usize>
     ensures { result ≡ position (is_of universe cid.now) streams.now }
 {
-    streams.iter().position(|stream| stream.is_of(universe, cid))
+    streams
+        .iter()
+        .position(|stream| stream.is_of(universe, cid))
 }
 
 // The place of the first stream whose loss is to be told.
 fn silent_in(streams: &[Stream], moment: u64) -> Option<usize>
     ensures { result ≡ position (falls_silent moment) streams.now }
 {
-    streams.iter().position(|stream| stream.falls_silent(moment))
+    streams
+        .iter()
+        .position(|stream| stream.falls_silent(moment))
 }

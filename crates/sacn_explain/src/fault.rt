@@ -1,0 +1,41 @@
+//! Why a recording isn't told to its end.
+
+use sacn_capture::{CaptureFault, FaultKind};
+use std::alloc::AllocError;
+use std::io;
+use thiserror::Error;
+
+/// Why a recording isn't told to its end.
+#[derive(Debug, Drop, Error)]
+pub enum ExplainFault {
+    /// A growth was refused.
+    #[error("there isn't enough memory")]
+    OutOfMemory,
+    /// The recording is wrong. What happened before that place was told.
+    #[error("{0}")]
+    Capture(CaptureFault),
+    /// What is told can't be written.
+    #[error("the text can't be written")]
+    Device,
+}
+
+impl From<AllocError> for ExplainFault {
+    fn from(_fault: AllocError) -> Self {
+        ExplainFault::OutOfMemory
+    }
+}
+
+impl From<io::Error> for ExplainFault {
+    fn from(_fault: io::Error) -> Self {
+        ExplainFault::Device
+    }
+}
+
+impl From<CaptureFault> for ExplainFault {
+    fn from(fault: CaptureFault) -> Self {
+        match fault.kind {
+            FaultKind::OutOfMemory => ExplainFault::OutOfMemory,
+            _ => ExplainFault::Capture(fault),
+        }
+    }
+}

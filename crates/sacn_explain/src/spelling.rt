@@ -1,0 +1,85 @@
+//! How names, CIDs and moments are spelled.
+
+use sacn_monitor::Sender;
+use std::alloc::AllocError;
+use std::fmt::Write;
+use std::str;
+
+/// Two digits of an octet.
+fn push_octet(text: &mut String, octet: u8) -> Result<(), AllocError> {
+    write!(text, "{octet:02x}")
+}
+
+/// A CID's 32 digits (E1.31, 5.6).
+pub fn push_cid(text: &mut String, cid: &[u8; 16]) -> Result<(), AllocError> {
+    for octet in cid {
+        push_octet(text, *octet)?;
+    }
+    Ok(())
+}
+
+/// An address, a colon and a port.
+pub fn push_sender(text: &mut String, sender: &Sender) -> Result<(), AllocError> {
+    push_address(text, &sender.address)?;
+    let port = sender.port;
+    write!(text, ":{port}")
+}
+
+/// An IPv4 address.
+pub fn push_address(text: &mut String, address: &[u8; 4]) -> Result<(), AllocError> {
+    let [a, b, c, d] = *address;
+    write!(text, "{a}.{b}.{c}.{d}")
+}
+
+/// A moment in seconds, with three places behind the point, right-aligned in ten places.
+pub fn push_moment(text: &mut String, moment: u64) -> Result<(), AllocError> {
+    let seconds = moment / 1000;
+    let rest = moment % 1000;
+    write!(text, "{seconds:>6}.{rest:03}")
+}
+
+/// A name between quotes, as JSON writes a string. One that isn't UTF-8 has its octets as characters below 256.
+pub fn push_name(text: &mut String, name: &[u8]) -> Result<(), AllocError> {
+    text.push('"')?;
+    match str::from_utf8(name) {
+        Ok(letters) => push_letters(text, letters)?,
+        Err(_) => push_octets(text, name)?,
+    }
+    text.push('"')
+}
+
+fn push_letters(text: &mut String, letters: &str) -> Result<(), AllocError> {
+    for letter in letters.chars() {
+        push_letter(text, letter)?;
+    }
+    Ok(())
+}
+
+fn push_octets(text: &mut String, octets: &[u8]) -> Result<(), AllocError> {
+    for octet in octets {
+        push_letter(text, char::from(*octet))?;
+    }
+    Ok(())
+}
+
+fn push_letter(text: &mut String, letter: char) -> Result<(), AllocError> {
+    match letter {
+        '"' => text.push_str("\\\""),
+        '\\' => text.push_str("\\\\"),
+        '\0'..='\u{1f}' | '\u{7f}'..='\u{9f}' => push_escape(text, letter),
+        _ => text.push(letter),
+    }
+}
+
+fn push_escape(text: &mut String, letter: char) -> Result<(), AllocError> {
+    let code = letter as u32;
+    write!(text, "\\u{code:04x}")
+}
+
+/// A name up to its first NUL (E1.31, 6.2.2).
+pub fn up_to_nul(name: &[u8; 64]) -> &[u8] {
+    match name.iter().position(|octet| *octet == 0) {
+        Some(len) => &name[..len],
+        None => name,
+    }
+}

@@ -1,0 +1,274 @@
+//! Lines as they are written.
+
+use crate::fault::ExplainFault;
+use crate::options::Form;
+use crate::{json, words};
+use sacn_monitor::{Event, News, Sender, Stream};
+use sacn_root::PacketFault;
+use std::alloc::{AllocError, Global};
+use std::io::Write;
+
+/// Writes a line for each thing that happened. One line is kept in memory.
+#[derive(Drop)]
+pub struct Teller<'o, O> {
+    pub form: Form,
+    pub line: String,
+    out: &'o mut O,
+}
+
+impl<'o, O: Write> Teller<'o, O> {
+    pub fn new(alloc: Global, form: Form, out: &'o mut O) -> Self {
+        Teller {
+            form,
+            line: String::new(alloc),
+            out,
+        }
+    }
+
+    /// Ends the line, and writes it.
+    pub fn write(&mut self) -> Result<(), ExplainFault> {
+        self.line.push('\n')?;
+        self.out.write_all(self.line.as_bytes())?;
+        self.line.clear();
+        Ok(())
+    }
+
+    /// All that a data packet told.
+    pub fn news(&mut self, now: u64, stream: &Stream, news: &News) -> Result<(), ExplainFault> {
+        if news.event != Event::GoesOn {
+            event_line(&mut self.line, self.form, now, stream, news.event)?;
+            self.write()?;
+        }
+        if news.moved {
+            moved_line(&mut self.line, self.form, now, stream)?;
+            self.write()?;
+        }
+        if news.renamed {
+            renamed_line(&mut self.line, self.form, now, stream)?;
+            self.write()?;
+        }
+        self.numbers(now, stream, news)
+    }
+
+    fn numbers(&mut self, now: u64, stream: &Stream, news: &News) -> Result<(), ExplainFault> {
+        if let Some(change) = news.priority {
+            priority_line(&mut self.line, self.form, now, stream, change)?;
+            self.write()?;
+        }
+        if news.began_anew {
+            anew_line(&mut self.line, self.form, now, stream)?;
+            self.write()?;
+        }
+        if news.skipped > 0 {
+            skipped_line(&mut self.line, self.form, now, stream, news)?;
+            self.write()?;
+        }
+        Ok(())
+    }
+
+    /// A stream that is lost.
+    pub fn loss(&mut self, now: u64, stream: &Stream) -> Result<(), ExplainFault> {
+        loss_line(&mut self.line, self.form, now, stream)?;
+        self.write()
+    }
+
+    /// A datagram that is no packet.
+    pub fn refused(
+        &mut self,
+        now: u64,
+        sender: &Sender,
+        fault: PacketFault,
+    ) -> Result<(), ExplainFault> {
+        refused_line(&mut self.line, self.form, now, sender, fault)?;
+        self.write()
+    }
+
+    /// A data packet of a stream for which there is no room.
+    pub fn untracked(&mut self, now: u64, sender: &Sender) -> Result<(), ExplainFault> {
+        untracked_line(&mut self.line, self.form, now, sender)?;
+        self.write()
+    }
+}
+
+// The key of an event in JSON.
+fn event_key(event: Event) -> &'static str {
+    match event {
+        Event::GoesOn => "goes_on",
+        Event::Appeared => "appeared",
+        Event::CameBack => "came_back",
+        Event::Ended => "ended",
+        Event::OutOfSequence => "out_of_sequence",
+        Event::Repeated => "repeated",
+    }
+}
+
+fn event_line(
+    text: &mut String,
+    form: Form,
+    now: u64,
+    stream: &Stream,
+    event: Event,
+) -> Result<(), AllocError> {
+    match form {
+        Form::Text => {
+            words::begin_stream(text, now, stream)?;
+            words::push_event(text, event, stream)
+        }
+        Form::Json => {
+            json::begin(text, now, event_key(event))?;
+            json::push_stream(text, stream)?;
+            json::push_sender(text, &stream.account.sender)?;
+            json::push_number(text, "priority", u64::from(stream.account.priority))?;
+            text.push('}')
+        }
+    }
+}
+
+fn moved_line(text: &mut String, form: Form, now: u64, stream: &Stream) -> Result<(), AllocError> {
+    match form {
+        Form::Text => {
+            words::begin_stream(text, now, stream)?;
+            text.push_str("now sends from ")?;
+            crate::spelling::push_sender(text, &stream.account.sender)
+        }
+        Form::Json => {
+            json::begin(text, now, "moved")?;
+            json::push_stream(text, stream)?;
+            json::push_sender(text, &stream.account.sender)?;
+            text.push('}')
+        }
+    }
+}
+
+fn renamed_line(
+    text: &mut String,
+    form: Form,
+    now: u64,
+    stream: &Stream,
+) -> Result<(), AllocError> {
+    match form {
+        Form::Text => {
+            words::begin_stream(text, now, stream)?;
+            text.push_str("has this name now")
+        }
+        Form::Json => {
+            json::begin(text, now, "renamed")?;
+            json::push_stream(text, stream)?;
+            text.push('}')
+        }
+    }
+}
+
+fn priority_line(
+    text: &mut String,
+    form: Form,
+    now: u64,
+    stream: &Stream,
+    change: sacn_monitor::Change,
+) -> Result<(), AllocError> {
+    match form {
+        Form::Text => {
+            words::begin_stream(text, now, stream)?;
+            words::push_priority(text, change)
+        }
+        Form::Json => {
+            json::begin(text, now, "priority")?;
+            json::push_stream(text, stream)?;
+            json::push_number(text, "from", u64::from(change.from))?;
+            json::push_number(text, "to", u64::from(change.to))?;
+            text.push('}')
+        }
+    }
+}
+
+fn anew_line(text: &mut String, form: Form, now: u64, stream: &Stream) -> Result<(), AllocError> {
+    match form {
+        Form::Text => {
+            words::begin_stream(text, now, stream)?;
+            text.push_str("begins its numbers anew")
+        }
+        Form::Json => {
+            json::begin(text, now, "began_anew")?;
+            json::push_stream(text, stream)?;
+            text.push('}')
+        }
+    }
+}
+
+fn skipped_line(
+    text: &mut String,
+    form: Form,
+    now: u64,
+    stream: &Stream,
+    news: &News,
+) -> Result<(), AllocError> {
+    match form {
+        Form::Text => {
+            words::begin_stream(text, now, stream)?;
+            words::push_skipped(text, news)
+        }
+        Form::Json => {
+            json::begin(text, now, "skipped")?;
+            json::push_stream(text, stream)?;
+            json::push_number(text, "count", u64::from(news.skipped))?;
+            text.push('}')
+        }
+    }
+}
+
+fn loss_line(text: &mut String, form: Form, now: u64, stream: &Stream) -> Result<(), AllocError> {
+    match form {
+        Form::Text => {
+            words::begin_stream(text, now, stream)?;
+            words::push_loss(text, stream)
+        }
+        Form::Json => {
+            json::begin(text, now, "lost")?;
+            json::push_stream(text, stream)?;
+            json::push_number(text, "since", stream.account.latest)?;
+            text.push('}')
+        }
+    }
+}
+
+fn refused_line(
+    text: &mut String,
+    form: Form,
+    now: u64,
+    sender: &Sender,
+    fault: PacketFault,
+) -> Result<(), AllocError> {
+    match form {
+        Form::Text => {
+            words::begin(text, now)?;
+            words::push_refused(text, sender, fault)
+        }
+        Form::Json => {
+            json::begin(text, now, "refused")?;
+            json::push_sender(text, sender)?;
+            json::push_number(text, "fault", u64::from(fault.number()))?;
+            text.push('}')
+        }
+    }
+}
+
+fn untracked_line(
+    text: &mut String,
+    form: Form,
+    now: u64,
+    sender: &Sender,
+) -> Result<(), AllocError> {
+    match form {
+        Form::Text => {
+            words::begin(text, now)?;
+            text.push_str("from ")?;
+            crate::spelling::push_sender(text, sender)?;
+            text.push_str("  no room for a further source, not followed")
+        }
+        Form::Json => {
+            json::begin(text, now, "untracked")?;
+            json::push_sender(text, sender)?;
+            text.push('}')
+        }
+    }
+}
