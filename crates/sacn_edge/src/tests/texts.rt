@@ -83,8 +83,7 @@ fn a_report_is_a_line(rt: HostRuntime) {
             u64::MAX,
             u64::MAX,
             u64::MAX,
-            b"sent 18446744073709551615 failed 18446744073709551615 refused 18446744073709551615\n"
-                .as_slice(),
+            b"sent 18446744073709551615 failed 18446744073709551615 refused 18446744073709551615\n".as_slice(),
         ),
     ] {
         let report = ConsoleReport {
