@@ -7,6 +7,5 @@
 #![tactic(auto)]
 
 pub mod laws;
-
 #[cfg(test)]
 mod tests;
