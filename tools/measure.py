@@ -179,42 +179,52 @@ def packet(universe, source, number, level):
     return b"\0\x10\0\0ASC-E1.17\0\0\0" + root
 
 
-def used(pid):
-    fields = open(f"/proc/{pid}/stat", encoding="utf-8").read().rsplit(")", 1)[1].split()
-    tick = os.sysconf("SC_CLK_TCK")
-    return int(fields[11]) / tick, int(fields[12]) / tick
+def setup(port):
+    ports = "".join(f"[[port]]\nnumber = {n}\nuniverse = {n}\n" for n in range(1, 17))
+    return write("node.toml", f"version = 1\nudp_port = {port}\n{ports}")
 
 
-def load_node(words, port, seconds=20):
-    setup = "version = 1\nudp_port = %d\n" % port + "".join(f"[[port]]\nnumber = {n}\nuniverse = {n}\n" for n in range(1, 17))
-    path = write("node.toml", setup)
-    run = subprocess.Popen([SACN, words[0], path, *words[1:]], stdout=subprocess.DEVNULL, stderr=subprocess.DEVNULL)
-    time.sleep(1)
+def send_rounds(port, rounds, fades, pace):
+    """Sends a packet of each source on each universe again and again; answers how many, and how many the socket dropped."""
     out = socket.socket(socket.AF_INET, socket.SOCK_DGRAM)
-    rounds = [[packet(u, s, n % 256, 1 + (s + n) % 200) for u in range(1, 17) for s in range(1, 17)] for n in range(256)]
-    sent, before, begin, n = 0, used(run.pid), time.monotonic(), 0
-    while time.monotonic() - begin < seconds:
-        for datagram in rounds[n % 256]:
-            out.sendto(datagram, ("127.0.0.1", port))
-        sent += 256
-        n += 1
-        time.sleep(max(0, begin + n * 256 / 11264 - time.monotonic()))  # 256 packets 44 times a second
-    time.sleep(0.2)
-    after, took = used(run.pid), time.monotonic() - begin
-    drops = [line.split()[-1] for line in open("/proc/net/udp", encoding="utf-8") if line.split()[1].endswith(f":{port:04X}")]
-    run.kill()
-    run.wait()
-    user, system = (after[0] - before[0], after[1] - before[1])
-    print(f"  {sent} datagrams in {took:.1f} s, {drops} dropped: user {user:.2f} s, system {system:.2f} s")
-    print(f"  a datagram: user {user / sent * 1e6:.2f} us, system {system / sent * 1e6:.2f} us")
+    level = lambda s, n: 1 + (s + n) % 200 if fades else s
+    packets = [[packet(u, s, n, level(s, n)) for u in range(1, 17) for s in range(1, 17)] for n in range(256)]
+    begin = time.monotonic()
+    for n in range(rounds):
+        for octets in packets[n % 256]:
+            out.sendto(octets, ("127.0.0.1", port))
+        if pace:
+            time.sleep(max(0, begin + (n + 1) / 44 - time.monotonic()))
+    time.sleep(0.3)
+    lines = [line.split() for line in open("/proc/net/udp", encoding="utf-8")]
+    return rounds * 256, sum(int(line[-1]) for line in lines if line[1].endswith(f":{port:04X}"))
+
+
+def run_of(words, port, rounds, fades, pace):
+    """Processor seconds of a run, user and system, how many datagrams it took, and how many were dropped."""
+    run = subprocess.Popen([SACN, words[0], setup(port), *words[1:]], stdout=subprocess.DEVNULL, stderr=subprocess.DEVNULL)
+    time.sleep(0.5)
+    sent, dropped = send_rounds(port, rounds, fades, pace)
+    _, _, usage = os.wait4(run.pid, 0)
+    return usage.ru_utime, usage.ru_stime, sent - dropped, dropped
+
+
+def load_of(words, port, pace, rounds, turns):
+    idle = run_of(words, port, 0, False, pace)
+    for name, fades in (("all frames stay", False), ("each packet is a change", True)):
+        user, system, took, dropped = run_of(words, port, rounds, fades, pace)
+        spent = [(now - before * max(0, turns - took) / max(1, turns)) / took * 1e6 for now, before in ((user, idle[0]), (system, idle[1]))]
+        print(f"  {name}: {took} datagrams, {dropped} dropped; a datagram: user {spent[0]:.2f} us, system {spent[1]:.2f} us")
 
 
 def node():
-    load_node(["node", "--turns", "1000000000"], FIRST_PORT + 41)
+    # A node never waits: what its turns without a datagram take is taken off.
+    turns = 20_000_000
+    load_of(["node", "--turns", str(turns)], FIRST_PORT + 41, False, 4000, turns)
 
 
 def gateway():
-    load_node(["gateway", "--listen", "127.0.0.1"], FIRST_PORT + 42)
+    load_of(["gateway", "--listen", "127.0.0.1", "--seconds", "20"], FIRST_PORT + 42, True, 18 * 44, 0)
 
 
 def main(words):
