@@ -60,18 +60,6 @@ ends "a word that is no text" 2 "error: a word of the command line is no text" /
 ends "a folder as a file" 4 "device read" /dev/null /dev/null decode "$examples"
 ends "a folder as a world" 4 "device read" /dev/null /dev/null sim "$examples" "$examples/schedule.txt"
 
-# The commands that run a rig name the file that they refuse.
-"$sacn" groups "$examples/node.toml" --device eth0 >"$room/plain" 2>/dev/null
-padded "$examples/node.toml" $'\n'
-ends "groups of a setup of $MOST octets" 0 "" "$room/plain" /dev/null groups "$room/most" --device eth0
-ends "groups of a setup of one octet more" 3 "refused $room/over TooLarge" /dev/null /dev/null groups "$room/over" --device eth0
-ends "a gateway's setup of one octet more" 3 "refused $room/over TooLarge" /dev/null /dev/null gateway "$room/over"
-ends "a desk's show of one octet more" 3 "refused $room/over TooLarge" /dev/null /dev/null desk "$room/over"
-ends "a desk's script of one octet more" 3 "refused $room/over TooLarge" /dev/null /dev/null desk "$examples/show.toml" --script "$room/over"
-ends "a folder as a gateway's setup" 4 "device read $examples" /dev/null /dev/null gateway "$examples"
-ends "a folder as a desk's show" 4 "device read $examples" /dev/null /dev/null desk "$examples"
-ends "an address that is no text" 2 "error: a word of the command line is no text" /dev/null /dev/null gateway "$room/most" --from $'\xff'
-
 # A setup with a port of its own. What a node prints has the moment of its clock, so only the status and the refusal are looked at.
 port=$((20000 + $$ % 40000))
 { printf 'udp_port = %s\n' "$port"; cat "$examples/node.toml"; } >"$room/node.toml"

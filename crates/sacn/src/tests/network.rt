@@ -6,7 +6,7 @@ use std::rt::{Clock, Env, Files};
 use std::test::*;
 
 /// One universe, with channel 1 on slot 1; nobody listens where it is sent.
-pub const SHOW: &str = "version = 1
+const SHOW: &str = "version = 1
 cid = \"00010203-0405-0607-0809-0a0b0c0d0e0f\"
 name = \"Desk\"
 universes = [1]
@@ -107,21 +107,6 @@ fn faulty_files_are_refused_by_name(rt: HostRuntime) -> Result<(), Fail> {
     assert_eq!(rt; found.as_str(), "refused Version\n");
     let found = refusal(&rt, "node", &[b"version = 1\ncolour = 1\n".as_slice()])?;
     assert_eq!(rt; found.as_str(), "refused UnknownKey\n");
-    Ok(())
-}
-
-/// A show has at most eight ports to send to.
-#[test]
-fn a_ninth_port_to_send_to_is_refused(rt: HostRuntime) -> Result<(), Fail> {
-    for (ports, wanted) in [
-        ("[1, 2, 3, 4, 5, 6, 7, 25691]", ""),
-        ("[1, 2, 3, 4, 5, 6, 7, 8, 25691]", "refused KeyValue\n"),
-    ] {
-        let (before, after) = SHOW.split_once("[25691]").unwrap_or(("", ""));
-        let show = format!(in rt.alloc(); "{before}{ports}{after}")?;
-        let found = refusal(&rt, "console", &[show.as_bytes(), b"".as_slice()])?;
-        assert_eq!(rt; found.as_str(), wanted);
-    }
     Ok(())
 }
 

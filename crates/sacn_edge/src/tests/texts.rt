@@ -1,4 +1,4 @@
-use crate::{ConsoleReport, Out, WriterOut, print_report, write_text};
+use crate::{Out, WriterOut, write_text};
 use std::io::{self, Write};
 use std::test::*;
 
@@ -71,29 +71,4 @@ fn an_error_is_a_failure(rt: HostRuntime) {
     let mut out = WriterOut::new(Broken);
     assert_eq!(rt; out.put(b"x"), 0);
     assert!(rt; out.has_failed());
-}
-
-/// The greatest numbers make the longest line.
-#[test]
-fn a_report_is_a_line(rt: HostRuntime) {
-    for (sent, failed, refused, line) in [
-        (3, 1, 0, b"sent 3 failed 1 refused 0\n".as_slice()),
-        (0, 10, 2, b"sent 0 failed 10 refused 2\n".as_slice()),
-        (
-            u64::MAX,
-            u64::MAX,
-            u64::MAX,
-            b"sent 18446744073709551615 failed 18446744073709551615 refused 18446744073709551615\n".as_slice(),
-        ),
-    ] {
-        let report = ConsoleReport {
-            sent,
-            failed,
-            refused,
-        };
-        let mut out = Vec::new(rt.alloc());
-        assert!(rt; print_report(&mut out, &report).is_ok());
-        assert_eq!(rt; out.as_slice(), line);
-        assert!(rt; print_report(&mut Broken, &report).is_err());
-    }
 }
