@@ -64,7 +64,7 @@ fn push_datagram(
     port: u16,
     payload: &[u8],
 ) -> Result<(), AllocError> {
-    let len = payload.len() as u16;
+    let len = payload.len().min(1000) as u16;
     push_record(file, moment, 42 + u32::from(len))?;
     file.extend_from_slice(&ETHERNET)?;
     file.extend_from_slice(b"\x45\0")?;
@@ -224,7 +224,7 @@ fn a_cut_file_is_told_as_far_as_it_goes(rt: HostRuntime) -> Result<(), Fail> {
     let mut file = Vec::from_slice(a, &FILE)?;
     push_said(a, &mut file, 0, 1, &numbered(10))?;
     push_said(a, &mut file, 100, 1, &numbered(11))?;
-    let len = file.len() - 1;
+    let len = file.len().saturating_sub(1);
     let text = told(a, &file[..len], &TEXT)?;
     let first =
         r#"     0.000 s  universe     1  0102030405060708090a0b0c0d0e0f10 "Desk"  appears at 10.0.0.1:5000, priority 100
