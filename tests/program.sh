@@ -60,6 +60,27 @@ ends "a word that is no text" 2 "error: a word of the command line is no text" /
 ends "a folder as a file" 4 "device read" /dev/null /dev/null decode "$examples"
 ends "a folder as a world" 4 "device read" /dev/null /dev/null sim "$examples" "$examples/schedule.txt"
 
+# The commands that run a rig name the file that they refuse.
+"$sacn" groups "$examples/node.toml" --device eth0 >"$room/plain" 2>/dev/null
+padded "$examples/node.toml" $'\n'
+ends "groups of a setup of $MOST octets" 0 "" "$room/plain" /dev/null groups "$room/most" --device eth0
+ends "groups of a setup of one octet more" 3 "refused $room/over TooLarge" /dev/null /dev/null groups "$room/over" --device eth0
+ends "a gateway's setup of one octet more" 3 "refused $room/over TooLarge" /dev/null /dev/null gateway "$room/over"
+ends "a desk's show of one octet more" 3 "refused $room/over TooLarge" /dev/null /dev/null desk "$room/over"
+ends "a desk's script of one octet more" 3 "refused $room/over TooLarge" /dev/null /dev/null desk "$examples/show.toml" --script "$room/over"
+ends "a folder as a gateway's setup" 4 "device read $examples" /dev/null /dev/null gateway "$examples"
+ends "a folder as a desk's show" 4 "device read $examples" /dev/null /dev/null desk "$examples"
+ends "an address that is no text" 2 "error: a word of the command line is no text" /dev/null /dev/null gateway "$room/most" --from $'\xff'
+
+# A show has at most eight ports to send to.
+for count in 8 9; do
+  ports=$(seq -s ', ' 25691 $((25690 + count)))
+  sed "s/^universes.*/&\nsend_to = [$ports]/" "$examples/show.toml" >"$room/ports$count.toml"
+done
+echo "sent 1 failed 0 refused 0" >"$room/one"
+ends "a show of eight ports to send to" 0 "" "$room/one" /dev/null console "$room/ports8.toml" /dev/null --turns 1
+ends "a show of nine ports to send to" 3 "refused KeyValue" /dev/null /dev/null console "$room/ports9.toml" /dev/null --turns 1
+
 # A setup with a port of its own. What a node prints has the moment of its clock, so only the status and the refusal are looked at.
 port=$((20000 + $$ % 40000))
 { printf 'udp_port = %s\n' "$port"; cat "$examples/node.toml"; } >"$room/node.toml"
