@@ -1,0 +1,131 @@
+#!/usr/bin/env bash
+# The words and files of the commands that run a rig, and how each faulty one is refused: status, and the first line on standard error, after which a
+# `*` stands for anything. Prints 'ok NAME', 'not ok NAME: why' or 'skipped NAME: why' for each run, as ./test counts them.
+set -u
+top=$(cd "$(dirname "$(readlink -f "$0")")/.." && pwd)
+sacn=${SACN:-$top/crates/sacn/out/sacn}
+if [ ! -x "$sacn" ]; then
+  echo "skipped words: sacn isn't built"
+  exit 0
+fi
+room=$(mktemp -d)
+trap 'rm -rf "$room"' EXIT
+cd "$room" || exit 1
+
+# refused STATUS WANTED WORD..: a run without input prints nothing, and ends so
+refused() {
+  local wanted=$1 said=$2 status=0 first
+  shift 2
+  timeout 20 "$sacn" "$@" <&- >out 2>err || status=$?
+  first=$(head -n 1 err)
+  # shellcheck disable=SC2053
+  if [ "$status" = "$wanted" ] && [[ $first == $said ]] && [ ! -s out ]; then
+    echo "ok words: $(head -c 90 <<<"$*")"
+  else
+    echo "not ok words: $*: status $status, '$first'"
+  fi
+}
+
+# The words of a gateway: addresses, interfaces, seconds.
+refused 2 "error: 300.1.1.1: Address" gateway x --listen 300.1.1.1
+refused 2 "error: 10.0.0.1:5568: Address" gateway x --listen 10.0.0.1:5568
+refused 2 "error: localhost: Address" gateway x --listen localhost
+refused 2 "error: 10.0.0: Address" gateway x --from 10.0.0
+refused 2 "error: ::1: Address" gateway x --from ::1
+refused 2 "error: x: Widget" gateway x --widget x
+refused 2 "error: 0=/dev/x: Widget" gateway x --widget 0=/dev/x
+refused 2 "error: 256=/dev/x: Widget" gateway x --widget 256=/dev/x
+refused 2 "error: 1=: Widget" gateway x --widget 1=
+refused 2 "error: --seconds takes a number of 1 to 1000000000, in decimal digits" gateway x --seconds +5
+refused 2 "error: *" gateway
+refused 2 "error: *" gateway x y
+refused 2 "error: *" gateway x --seconds 0
+refused 2 "error: *" gateway x --seconds 1000000001
+refused 2 "error: *" gateway x --seconds five
+refused 2 "error: *" gateway x --seconds 1 --seconds 1
+refused 2 "error: *" gateway x --turns 5
+
+# Those of a desk: hosts with ports, groups, numbers.
+refused 2 "error: 10.0.0.1:0: Port" desk x --to 10.0.0.1:0
+refused 2 "error: 10.0.0.1:65536: Port" desk x --to 10.0.0.1:65536
+refused 2 "error: 10.0.0.1:: Port" desk x --to 10.0.0.1:
+refused 2 "error: 10.0.0.256: Address" desk x --to 10.0.0.256
+refused 2 "error: stage: Address" desk x --to stage
+refused 2 "error: 10.0.0.1:1: Address" desk x --bind 10.0.0.1:1
+refused 2 "error: --ttl takes a number of 1 to 255, in decimal digits" desk x --ttl +5
+refused 2 "error: --first takes a number of 0 to 255, in decimal digits" desk x --first +5
+refused 2 "error: *" desk
+refused 2 "error: *" desk x --ttl 0
+refused 2 "error: *" desk x --ttl 256
+refused 2 "error: *" desk x --first 256
+refused 2 "error: *" desk x --script
+refused 2 "error: *" desk x --multicast --multicast
+refused 2 "error: --to: beside --multicast" desk x --to 10.0.0.1 --multicast
+hosts=()
+for _ in $(seq 64); do hosts+=(--to 10.0.0.1); done
+refused 4 "device read absent" desk absent "${hosts[@]}"
+refused 2 "error: --to: TooManyDestinations" desk absent "${hosts[@]}" --to 10.0.0.1
+
+# Those of groups.
+refused 2 "error: *" groups x
+refused 2 "error: *" groups --device eth0
+
+# Files that are absent, or faulty: each is named, with its fault.
+show='version = 1
+cid = "00010203-0405-0607-0809-0a0b0c0d0e0f"
+name = "Desk"
+universes = [1]
+send_to = [25891]'
+printf '%s\n' "$show" >show
+refused 4 "device read absent" gateway absent
+refused 4 "device read absent" desk absent
+refused 4 "device read absent" desk show --script absent
+refused 4 "device read absent" groups absent --device eth0
+# faulty OCTETS CAUSE COMMAND: the file of these octets is refused for this
+faulty() {
+  printf "$1" >faulty
+  refused 3 "refused faulty $2" "$3" faulty
+}
+faulty 'version = 1\ncolour = 1\n' UnknownKey gateway
+faulty 'version = 3\n' Version gateway
+faulty '\xff' NotText gateway
+faulty 'version = ' Toml desk
+faulty 'version = 1\n' MissingKey desk
+faulty '\xff' NotText desk
+printf 'version = 1\n[[cue]]\n' >faulty
+refused 3 "refused faulty UnknownKey" groups faulty --device eth0
+# script OCTETS CAUSE
+script() {
+  printf "$1" >script
+  refused 3 "refused script $2" desk show --script script
+}
+script '0 jump\n' "line 1 UnknownWord"
+script '\n0 set 1\n' "line 2 WordCount"
+script '0 go\nx go\n' "line 2 Number"
+script '\xff\n' NotText
+
+# An address that isn't this machine's (192.0.2.0/24 is nobody's).
+printf 'version = 1\nudp_port = 25892\n' >setup
+refused 4 "device socket 192.0.2.1:25892 AddrNotAvailable" gateway setup --listen 192.0.2.1
+
+# helps COMMAND TEXT: its help has the text, on standard output alone
+helps() {
+  local status=0
+  "$sacn" $1 --help >out 2>err || status=$?
+  if [ "$status" = 0 ] && grep -qF -- "$2" out && [ ! -s err ]; then
+    echo "ok words: help of ${1:-the program}: $2"
+  else
+    echo "not ok words: help of ${1:-the program}: no '$2' (status $status)"
+  fi
+}
+for command in decode sim node console gateway desk groups; do helps "" "./sacn $command examples/"; done
+helps decode "Files of one datagram each"
+helps sim "A world: a TOML file"
+helps sim "A schedule: a text file"
+helps console "A show: a TOML file"
+helps console "A script: a text file"
+helps node "A setup: a TOML file"
+helps gateway "A setup: a TOML file"
+helps desk "A show: a TOML file"
+helps desk "A script: a text file"
+helps groups "A setup or a show"
