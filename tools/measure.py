@@ -34,7 +34,8 @@ def write(name, text):
 def show(universes, ports, cue, patch):
     head = 'version = 1\ncid = "00010203-0405-0607-0809-0a0b0c0d0e0f"\nname = "Desk"\n'
     text = [head, f"universes = {universes}\nsend_to = {ports}\n", cue]
-    text += [f"[[patch]]\nchannel = {c}\nuniverse = {u}\nslot = {s}\n" for c, u, s in patch]
+    # (wide: the low octet of a level changes each 25 ms of a long fade)
+    text += [f"[[patch]]\nchannel = {c}\nuniverse = {u}\nslot = {s}\nwide = true\n" for c, u, s in patch]
     return write("show.toml", "".join(text))
 
 
@@ -132,7 +133,7 @@ def fades(number, seconds=60):
     ports = [FIRST_PORT + 10 + n for n in range(number)]
     universes = list(range(1, 1025))
     cue = "[[cue]]\nnumber = 1\nfade = 900000\nlevels = [[1, 65535]]\n"
-    path = show(universes, ports, cue, [(1, u, 512) for u in universes])
+    path = show(universes, ports, cue, [(1, u, 511) for u in universes])
     reads = [listen(port, seconds) for port in ports[:2]]
     others = [heard_at(port) for port in ports[2:]]
     time.sleep(0.3)
@@ -153,7 +154,7 @@ def resting(seconds=20):
     port = FIRST_PORT + 30
     universes = list(range(1, 1025))
     cue = "[[cue]]\nnumber = 1\nfade = 900000\nlevels = [[1, 65535]]\n"
-    patch = [(1 if u > 512 else 2, u, 27) for u in universes]
+    patch = [(1 if u > 512 else 2, u, 26) for u in universes]
     path = show(universes, [port], cue, patch)
     read = listen(port, seconds)
     time.sleep(0.3)
