@@ -13,6 +13,7 @@ It takes the program crates/sacn/out/sacn, or the path in SACN, and prints the m
 """
 import os
 import socket
+import struct
 import subprocess
 import sys
 import tempfile
@@ -22,6 +23,8 @@ TOP = os.path.dirname(os.path.dirname(os.path.realpath(__file__)))
 SACN = os.environ.get("SACN", f"{TOP}/crates/sacn/out/sacn")
 ROOM = tempfile.mkdtemp()
 FIRST_PORT = 26200
+# Linux's number of it, of which Python has no name.
+SO_TIMESTAMPNS = 35
 
 
 def write(name, text):
@@ -60,13 +63,16 @@ def moments():
     script = write("script.txt", "".join(f"{m} set 1 {257 * (1 + n % 255)}\n" for n, m in enumerate(ordered)))
     heard = heard_at(port)
     run = subprocess.Popen([SACN, "desk", path, "--script", script], stdin=subprocess.PIPE, stdout=subprocess.DEVNULL)
+    # (the machine's own note of when each came, so that this program's delays don't count)
+    heard.setsockopt(socket.SOL_SOCKET, SO_TIMESTAMPNS, 1)
     came = []
     while run.poll() is None:
         try:
-            octets = heard.recv(2048)
+            octets, notes, _, _ = heard.recvmsg(2048, 64)
         except TimeoutError:
             continue
-        came.append((time.monotonic() * 1000, octets[126] if len(octets) > 126 else None, octets[43]))
+        seconds, nanoseconds = struct.unpack("qq", notes[0][2])
+        came.append((seconds * 1000 + nanoseconds / 1e6, octets[126] if len(octets) > 126 else None, octets[43]))
     run.stdin.close()
     packets = [(moment, level) for moment, level, kind in came if kind == 2 and level is not None]
     first = {}
