@@ -8,8 +8,6 @@ mod live;
 mod live_words;
 mod network;
 mod program;
-#[cfg(test)]
-mod tests;
 
 use std::io::{ErrorKind, Write};
 use std::process::ExitCode;

@@ -20,6 +20,3 @@ pub use sacn_files::faults::TextFault;
 pub use script::{command_of, read_script};
 pub use sender::Sender;
 pub use show::{PatchRow, Show, ShowFault, read_show, show_of};
-
-#[cfg(test)]
-mod tests;

@@ -16,6 +16,3 @@ pub use collector::Collector;
 pub use fault::DiscoveryFault;
 pub use limits::FORGOTTEN_AFTER;
 pub use pages::{page_count, write_page};
-
-#[cfg(test)]
-mod tests;

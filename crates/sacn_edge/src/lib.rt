@@ -33,6 +33,3 @@ pub use system::SystemClock;
 pub use text::{WriteFailed, write_text};
 pub use udp::{SocketFailed, UdpLink};
 pub use writer::WriterOut;
-
-#[cfg(test)]
-mod tests;

@@ -41,6 +41,3 @@ pub use sys::guard_standard_descriptors;
 pub use typed::{DeskOrders, Plan};
 pub use watch::Watch;
 pub use widget::{WIDGET_OCTETS, Widget, widget_packet};
-
-#[cfg(test)]
-mod tests;

@@ -15,6 +15,3 @@ pub use event::Event;
 pub use sacn_files::faults::TextFault;
 pub use schedule::read_schedule;
 pub use world_file::{NEWEST_WORLD, WorldTextFault, read_world};
-
-#[cfg(test)]
-mod tests;

@@ -21,6 +21,3 @@ pub use kind::Kind;
 pub use limits::{MAX_SOURCES, NETWORK_DATA_LOSS};
 pub use table::SourceTable;
 pub use taken::Taken;
-
-#[cfg(test)]
-mod tests;

@@ -20,6 +20,3 @@ pub use fault::{DecodeFault, SimFault};
 pub use input::{MOST_OCTETS, ReadFault, read_limited};
 pub use marked::Marked;
 pub use simulate::sim_text;
-
-#[cfg(test)]
-mod tests;

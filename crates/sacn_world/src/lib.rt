@@ -26,6 +26,3 @@ pub use sacn_schedule::{
     Event, NEWEST_WORLD, TextFault, WorldTextFault, read_schedule, read_world,
 };
 pub use world::World;
-
-#[cfg(test)]
-mod tests;
