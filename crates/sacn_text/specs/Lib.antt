@@ -5,3 +5,4 @@ pub mod Digits
 pub mod FaultNumbers
 pub mod Looks
 pub mod Simulating
+pub mod Printing

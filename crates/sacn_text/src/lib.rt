@@ -11,6 +11,7 @@ mod fault;
 mod input;
 mod look;
 mod marked;
+mod print;
 mod simulate;
 mod words;
 
@@ -19,4 +20,5 @@ pub use digits::octets_of_digits;
 pub use fault::{DecodeFault, SimFault};
 pub use input::{MOST_OCTETS, ReadFault, read_limited};
 pub use marked::Marked;
+pub use print::{Printed, print_looks, print_packets};
 pub use simulate::sim_text;

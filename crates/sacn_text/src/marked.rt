@@ -5,15 +5,16 @@ use std::io::{self, Write};
 
 /// A writer that knows whether anything was written to it. It tells the octets that the writer below tells.
 #[derive(Drop)]
-pub struct Marked<'a, W> {
-    writer: &'a mut W,
+pub struct Marked<W> {
+    /// The writer below, which has what was written.
+    pub writer: W,
     is_marked: bool,
 }
 
-impl<'a, W: Write> Marked<'a, W> {
+impl<W: Write> Marked<W> {
     /// A writer to which nothing was written yet.
-    pub fn new(writer: &'a mut W) -> Marked<'a, W>
-        ensures writer { result.writer.now ≡ writer.old }
+    pub fn new(writer: W) -> Marked<W>
+        ensures writer { result.writer ≡ writer }
         ensures unmarked { result.is_marked ≡ false }
     {
         Marked {
@@ -30,8 +31,8 @@ impl<'a, W: Write> Marked<'a, W> {
     }
 }
 
-impl<'a, W: Write> Write for Marked<'a, W> {
-    ghost contents = { λ m. W.contents m.writer.now };
+impl<W: Write> Write for Marked<W> {
+    ghost contents = { λ m. W.contents m.writer };
 
     fn write(&mut self, buf: &[u8]) -> io::Result<usize> {
         self.is_marked = true;
