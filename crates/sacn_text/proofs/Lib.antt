@@ -1,3 +1,4 @@
 pub mod Decodes
 pub mod Simulates
 pub mod ReadLemmas
+pub mod Prints

@@ -1,5 +1,5 @@
 -- What a writer has once something was printed to it.
-use Rattle.std.specs.Prelude.{◌≡◌, List, ℕ, Option, IsSome, Bool}
+use Rattle.std.specs.Prelude.{List, ℕ, Option, IsSome, Bool}
 use Rattle.std.specs.Io.KnownBytes.{Appends}
 use Rattle.sacn_text.specs.Decoding as decoding
 use Rattle.sacn_text.specs.Decoding.{Decoded}
