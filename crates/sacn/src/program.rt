@@ -2,7 +2,7 @@
 use crate::command::{Asked, parse};
 use crate::ending::{DONE, Ending, ended};
 use crate::files::{octets_of_files, text_of_file};
-use crate::{live, network};
+use crate::{explain, live, network};
 use sacn_edge::WriterOut;
 use sacn_text::{MOST_OCTETS, Marked, decode_text, octets_of_digits, read_limited, sim_text};
 use std::alloc::Global;
@@ -67,6 +67,7 @@ fn run<R: AllocGlobal + Files + Net + Clock, I: Read + Drop, O: Write, E: Write>
         Asked::Gateway(asked) => live::gateway(rt, &asked, out, err),
         Asked::Desk(asked) => live::desk(rt, &asked, out, err),
         Asked::Groups { file, device } => live::groups(rt, file, device, out, err),
+        Asked::Explain(asked) => explain::tell(rt, &asked, out, err),
     }
 }
 

@@ -125,12 +125,7 @@ impl<'a, O: Write> Follower<'a, O> {
     }
 
     // What a datagram tells.
-    fn tell(
-        &mut self,
-        sender: &Sender,
-        octets: &[u8],
-        noted: Noted,
-    ) -> Result<(), ExplainFault> {
+    fn tell(&mut self, sender: &Sender, octets: &[u8], noted: Noted) -> Result<(), ExplainFault> {
         let now = self.monitor.moment();
         match noted {
             Noted::Refused(fault) => self.teller.refused(now, sender, fault),

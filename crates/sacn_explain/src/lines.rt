@@ -36,18 +36,20 @@ pub fn rivals_line(
 }
 
 fn rivals_key(sources: u64) -> &'static str {
-    if sources >= 2 {
-        "rivals"
-    } else {
-        "no_rivals"
-    }
+    if sources >= 2 { "rivals" } else { "no_rivals" }
 }
 
 fn push_rivals(text: &mut String, sources: u64, priority: u8) -> Result<(), AllocError> {
     match sources {
         0 => text.push_str("no source sends any longer"),
-        1 => write!(text, "one source alone sends at the top priority, {priority}"),
-        _ => write!(text, "{sources} sources send at the top priority, {priority}"),
+        1 => write!(
+            text,
+            "one source alone sends at the top priority, {priority}"
+        ),
+        _ => write!(
+            text,
+            "{sources} sources send at the top priority, {priority}"
+        ),
     }
 }
 

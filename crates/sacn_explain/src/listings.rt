@@ -151,9 +151,7 @@ impl Listing {
 fn is_heard(streams: &[Stream], cid: &[u8; 16], universe: u16) -> bool
     ensures { result ≡ is_heard streams.now cid.now universe }
 {
-    streams
-        .iter()
-        .any(|stream| (stream.universe == universe) & (stream.cid == *cid))
+    streams.iter().any(|stream| (stream.universe == universe) & (stream.cid == *cid))
 }
 
 /// The universes that a source lists, and on which it wasn't heard.

@@ -33,7 +33,12 @@ pub fn tell<O: Write>(
         }
     }
     tell_universes(teller, options, monitor, report.length)?;
-    tell_listings(listings.alloc(), teller, monitor.streams(), listings.known())?;
+    tell_listings(
+        listings.alloc(),
+        teller,
+        monitor.streams(),
+        listings.known(),
+    )?;
     tell_refused(teller, &report.tally)?;
     counts_row(&mut teller.line, teller.form, report)?;
     teller.write()
