@@ -1,4 +1,5 @@
 //! The command line.
+use crate::explain::{self, ExplainAsked};
 use crate::live_words::{self, DeskAsked, GatewayAsked};
 use clap::error::ErrorKind;
 use clap::{Arg, ArgAction, ArgMatches, Command, Error, value_parser};
@@ -20,6 +21,7 @@ const EXAMPLE: &str = "Examples, in a clone of the repository:
   ./sacn gateway examples/node.toml --seconds 60 &
   ./sacn desk examples/show.toml --to 127.0.0.1
   ./sacn groups examples/node.toml --device eth0
+  ./sacn explain examples/ola.pcap
 
 docs/FILES.md tells what stands in the files, and what is printed.
 
@@ -84,6 +86,7 @@ pub enum Asked<'a> {
         file: &'a str,
         device: &'a str,
     },
+    Explain(ExplainAsked<'a>),
 }
 
 fn files<'a>(alloc: Global) -> Arg<'a> {
@@ -175,7 +178,8 @@ fn command<'a>(alloc: Global) -> Result<Command<'a>, Error> {
     let command = with(command, node(alloc));
     let command = with(command, live_words::gateway(alloc));
     let command = with(command, live_words::desk(alloc));
-    with(command, live_words::groups(alloc))
+    let command = with(command, live_words::groups(alloc));
+    with(command, explain::command(alloc))
 }
 
 // The call of clap's parser stands alone: checking it takes longest.
@@ -273,6 +277,7 @@ fn asked_of<'a>(alloc: Global, matches: &ArgMatches<'a>) -> Result<Asked<'a>, Er
         Some(("gateway", gateway)) => live_words::gateway_asked(alloc, gateway),
         Some(("desk", desk)) => live_words::desk_asked(alloc, desk),
         Some(("groups", groups)) => Ok(live_words::groups_asked(groups)),
+        Some(("explain", words)) => explain::asked(alloc, words),
         Some((_, decode)) => decode_asked(alloc, decode),
     }
 }

@@ -23,8 +23,6 @@ pub const DEVICE_FAILED: u8 = 4;
 /// Why a run ends before its work is done.
 #[derive(Drop)]
 pub enum Ending {
-    /// The words are bad, or ask for help.
-    Words(clap::Error),
     OutOfMemory,
     TooLarge,
     /// Standard input isn't an even number of hexadecimal digits.
@@ -130,9 +128,8 @@ impl From<WriteFailed> for Ending {
 }
 
 /// Says how a run ended, and answers its status.
-pub fn ended<O: Write, E: Write>(alloc: Global, ending: Ending, out: &mut O, err: &mut E) -> u8 {
+pub fn ended<E: Write>(ending: Ending, err: &mut E) -> u8 {
     match ending {
-        Ending::Words(error) => explained(alloc, error, out, err),
         Ending::OutOfMemory => refused(err, "OutOfMemory"),
         Ending::TooLarge => refused(err, "TooLarge"),
         Ending::Hex => refused(err, "Hex"),
@@ -162,8 +159,8 @@ pub fn ended<O: Write, E: Write>(alloc: Global, ending: Ending, out: &mut O, err
     }
 }
 
-// Bad words are explained on standard error, and help goes to standard output.
-fn explained<O: Write, E: Write>(
+/// Explains bad words on standard error, or prints help to standard output, and answers the status.
+pub fn explained<O: Write, E: Write>(
     alloc: Global,
     error: clap::Error,
     out: &mut O,

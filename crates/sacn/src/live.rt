@@ -17,8 +17,8 @@ use std::io::{ErrorKind, Write};
 use std::net::{Ipv4Addr, Net, SocketAddrV4};
 use std::rt::{Clock, Files};
 
-// Says the fault of a file with its name.
-fn said_of_file<E: Write>(path: &str, ending: Ending, err: &mut E) -> Ending {
+/// Says the fault of a file with its name.
+pub fn said_of_file<E: Write>(path: &str, ending: Ending, err: &mut E) -> Ending {
     let (line, status) = match ending {
         Ending::DeviceRead => (writeln!(err, "device read {path}"), DEVICE_FAILED),
         Ending::TooLarge => (writeln!(err, "refused {path} TooLarge"), REFUSED),
@@ -53,7 +53,8 @@ fn said_of_socket<E: Write>(address: SocketAddrV4, kind: ErrorKind, err: &mut E)
     Ending::Said(DEVICE_FAILED)
 }
 
-fn setup_of_file<R: AllocGlobal + Files>(rt: &R, path: &str) -> Result<NodeSetup, Ending> {
+/// The setup in a file.
+pub fn setup_of_file<R: AllocGlobal + Files>(rt: &R, path: &str) -> Result<NodeSetup, Ending> {
     let text = text_of_file(rt, path)?;
     Ok(read_node(rt.alloc(), text.as_str())?)
 }

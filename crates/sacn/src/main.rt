@@ -3,6 +3,7 @@
 
 mod command;
 mod ending;
+mod explain;
 mod files;
 mod live;
 mod live_words;

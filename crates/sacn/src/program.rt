@@ -1,10 +1,11 @@
 //! The program, over any words, input and outputs.
 use crate::command::{Asked, parse};
-use crate::ending::{DONE, Ending, ended};
+use crate::ending::{DONE, Ending, ended, explained};
 use crate::files::{octets_of_files, text_of_file};
-use crate::{live, network};
-use sacn_edge::WriterOut;
-use sacn_text::{MOST_OCTETS, Marked, decode_text, octets_of_digits, read_limited, sim_text};
+use crate::{explain, live, network};
+use sacn_text::{
+    MOST_OCTETS, Printed, octets_of_digits, print_looks, print_packets, read_limited,
+};
 use std::alloc::Global;
 use std::io::{Read, Write};
 use std::net::Net;
@@ -18,38 +19,28 @@ pub fn run_program<
     O: Write + Drop,
     E: Write + Drop,
 >(rt: &R, words: &[String], input: I, mut out: O, mut err: E) -> u8 {
-    match run(rt, words, input, &mut out, &mut err) {
+    let asked = match parse(rt.alloc(), words) {
+        Ok(asked) => asked,
+        Err(error) => return explained(rt.alloc(), error, &mut out, &mut err),
+    };
+    match run(rt, asked, input, out, &mut err) {
         Ok(()) => DONE,
-        Err(ending) => ended(rt.alloc(), ending, &mut out, &mut err),
+        Err(ending) => ended(ending, &mut err),
     }
 }
 
-fn run<R: AllocGlobal + Files + Net + Clock, I: Read + Drop, O: Write, E: Write>(
+// Does what is asked for. What prints packets and looks owns the output, and promises what it then has.
+fn run<R: AllocGlobal + Files + Net + Clock, I: Read + Drop, O: Write + Drop, E: Write>(
     rt: &R,
-    words: &[String],
+    asked: Asked<'_>,
     input: I,
-    out: &mut O,
+    mut out: O,
     err: &mut E,
 ) -> Result<(), Ending> {
-    let alloc = rt.alloc();
-    let asked = match parse(alloc, words) {
-        Ok(asked) => asked,
-        Err(error) => return Err(Ending::Words(error)),
-    };
     match asked {
-        Asked::Datagram => {
-            let datagrams = standard_input(alloc, input)?;
-            print_packets(alloc, datagrams.as_slice(), out)
-        }
-        Asked::Decode(files) => {
-            let datagrams = octets_of_files(rt, files.as_slice())?;
-            print_packets(alloc, datagrams.as_slice(), out)
-        }
-        Asked::Simulate { world, schedule } => {
-            let world = text_of_file(rt, world)?;
-            let schedule = text_of_file(rt, schedule)?;
-            print_looks(alloc, world.as_str(), schedule.as_str(), out)
-        }
+        Asked::Datagram => decode_input(rt.alloc(), input, out),
+        Asked::Decode(files) => decode_files(rt, files.as_slice(), out),
+        Asked::Simulate { world, schedule } => simulate(rt, world, schedule, out),
         Asked::Console {
             show,
             script,
@@ -58,16 +49,56 @@ fn run<R: AllocGlobal + Files + Net + Clock, I: Read + Drop, O: Write, E: Write>
         } => {
             let show = text_of_file(rt, show)?;
             let script = text_of_file(rt, script)?;
-            network::console(rt, (show.as_str(), script.as_str()), first, turns, out)
+            network::console(
+                rt,
+                (show.as_str(), script.as_str()),
+                first,
+                turns,
+                &mut out,
+            )
         }
         Asked::Node { setup, turns } => {
             let setup = text_of_file(rt, setup)?;
-            network::node(rt, setup.as_str(), turns, out)
+            network::node(rt, setup.as_str(), turns, &mut out)
         }
-        Asked::Gateway(asked) => live::gateway(rt, &asked, out, err),
-        Asked::Desk(asked) => live::desk(rt, &asked, out, err),
-        Asked::Groups { file, device } => live::groups(rt, file, device, out, err),
+        Asked::Gateway(asked) => live::gateway(rt, &asked, &mut out, err),
+        Asked::Desk(asked) => live::desk(rt, &asked, &mut out, err),
+        Asked::Groups { file, device } => live::groups(rt, file, device, &mut out, err),
+        Asked::Explain(asked) => explain::tell(rt, &asked, &mut out, err),
     }
+}
+
+// Decodes the one datagram on standard input.
+fn decode_input<I: Read + Drop, O: Write + Drop>(
+    alloc: Global,
+    input: I,
+    out: O,
+) -> Result<(), Ending> {
+    let datagrams = standard_input(alloc, input)?;
+    finished(print_packets(alloc, datagrams.as_slice(), out))
+}
+
+// Decodes files of one datagram each.
+fn decode_files<R: AllocGlobal + Files, O: Write + Drop>(
+    rt: &R,
+    files: &[&str],
+    out: O,
+) -> Result<(), Ending> {
+    let datagrams = octets_of_files(rt, files)?;
+    finished(print_packets(rt.alloc(), datagrams.as_slice(), out))
+}
+
+// Runs a world by a schedule.
+fn simulate<R: AllocGlobal + Files, O: Write + Drop>(
+    rt: &R,
+    world: &str,
+    schedule: &str,
+    out: O,
+) -> Result<(), Ending> {
+    let world = text_of_file(rt, world)?;
+    let schedule = text_of_file(rt, schedule)?;
+    let printed = print_looks(rt.alloc(), world.as_str(), schedule.as_str(), out);
+    finished(printed)
 }
 
 // The one datagram on standard input.
@@ -81,33 +112,14 @@ fn standard_input<I: Read + Drop>(alloc: Global, input: I) -> Result<Vec<Vec<u8>
     Ok(datagrams)
 }
 
-// Decodes the datagrams.
-fn print_packets<O: Write>(
-    alloc: Global,
-    datagrams: &[Vec<u8>],
-    out: &mut O,
-) -> Result<(), Ending> {
-    let mut out = Marked::new(out);
-    let decoded = decode_text(alloc, datagrams, &mut WriterOut::new(&mut out));
-    finished(&mut out, decoded.map_err(Ending::from))
-}
-
-// Runs a world by a schedule.
-fn print_looks<O: Write>(
-    alloc: Global,
-    world: &str,
-    schedule: &str,
-    out: &mut O,
-) -> Result<(), Ending> {
-    let mut out = Marked::new(out);
-    let ended = sim_text(alloc, world, schedule, &mut WriterOut::new(&mut out));
-    finished(&mut out, ended.map_err(Ending::from))
-}
-
 // Flushes what was written: a refusal stands only where the device did its part.
-fn finished<W: Write>(out: &mut Marked<'_, W>, ended: Result<(), Ending>) -> Result<(), Ending> {
+fn finished<W: Write, F>(printed: Printed<W, F>) -> Result<(), Ending>
+where
+    Ending: From<F>,
+{
+    let Printed { mut out, ended } = printed;
     if out.is_marked() && out.flush().is_err() {
         return Err(Ending::DeviceWrite);
     }
-    ended
+    Ok(ended?)
 }

@@ -7,6 +7,7 @@ use Rattle.sacn_capture.specs.declared.links.Passed.{Passed}
 use Rattle.sacn_capture.specs.declared.links.Passed.TheVariants.{OtherLink, TooLong}
 use Rattle.sacn_capture.specs.declared.links.LinkType.{LinkType}
 use Rattle.sacn_capture.specs.declared.pcap.PcapHeader.{PcapHeader}
+use Rattle.sacn_capture.specs.declared.headers.Format.TheVariants.{Pcap}
 use Rattle.sacn_capture.specs.declared.stream.Capture.{Capture}
 use Rattle.sacn_capture.specs.declared.stream.Frame.{Frame}
 use Rattle.sacn_capture.specs.declared.stream.Frame.TheVariants.{Kept, LeftOut}
@@ -51,3 +52,16 @@ pub record ReadsRecord (header : PcapHeader) (frame : Frame) (moment : ℕ) (old
   pub between : Option (List ℕ)
   pub head_read : Consumes old between head
   pub frame_read : ReadsFrame header head frame moment between new buffer
+
+-- the file is of the format pcap, and this is its header
+abbrev pub IsPcap : {R : Type 0} → PcapHeader → Capture R → Type 0
+IsPcap header capture = capture.format ≡ Pcap header
+
+-- what is left of the file, where its reader tells
+abbrev pub left_in : {R : Type 0} → (R → Option (List ℕ)) → Capture R → Option (List ℕ)
+left_in remaining capture = remaining capture.input.reader
+
+-- a record stands at the front of what was left, its moment is that of its head, and this is what stands in its frame
+abbrev pub GivesRecord : PcapHeader → ℕ → Result Sent Passed → Option (List ℕ) → Type 0
+GivesRecord header moment content old =
+    (new : Option (List ℕ)) × (frame : Frame) × (buffer : List ℕ) × ReadsRecord header frame moment old new buffer × (content ≡ content_in frame buffer)

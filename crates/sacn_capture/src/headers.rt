@@ -18,10 +18,7 @@ pub enum Format {
 
 /// The first header, which says how the file is written.
 pub fn first_header<R: BufRead>(input: &mut Input<R>) -> Result<Format, FaultKind> {
-    let mut front = [0; BLOCK_HEAD];
-    if input.fill(&mut front).is_err() {
-        return Err(FaultKind::NotACapture);
-    }
+    let front = front_of(input)?;
     if is_section(&front) {
         return Ok(Format::Pcapng(section(input, front)?));
     }
@@ -31,6 +28,16 @@ pub fn first_header<R: BufRead>(input: &mut Input<R>) -> Result<Format, FaultKin
     let mut octets = [0; HEADER];
     continued(input, front, &mut octets)?;
     Ok(Format::Pcap(pcap_header(&octets)?))
+}
+
+// The first octets. A file that ends before is no recording.
+fn front_of<R: BufRead>(input: &mut Input<R>) -> Result<[u8; BLOCK_HEAD], FaultKind> {
+    let mut front = [0; BLOCK_HEAD];
+    match input.fill(&mut front) {
+        Ok(()) => Ok(front),
+        Err(FaultKind::CutShort) => Err(FaultKind::NotACapture),
+        Err(fault) => Err(fault),
+    }
 }
 
 /// A section header, whose block's head was read; its order.

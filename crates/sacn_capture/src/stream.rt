@@ -7,7 +7,7 @@ ghost use Rattle.sacn_capture.specs.Inputs.{LeavesOut};
 ghost use Rattle.sacn_capture.specs.declared.stream.Frame.TheVariants.{LeftOut};
 ghost use Rattle.sacn_capture.specs.Counting.{none_counted};
 ghost use Rattle.sacn_capture.specs.Frames.{sent_of};
-ghost use Rattle.sacn_capture.specs.Streams.{ReadsFrame, ReadsRecord, TakesFrame, content_in, counts_of, place_of_reading, stopped_by};
+ghost use Rattle.sacn_capture.specs.Streams.{GivesRecord, IsPcap, ReadsFrame, ReadsRecord, TakesFrame, content_in, left_in, counts_of, place_of_reading, stopped_by};
 
 use crate::clock::milliseconds_of;
 use crate::counts::Counts;
@@ -104,10 +104,15 @@ impl<R: BufRead + Drop> Capture<R> {
 impl<R: BufRead> Capture<R> {
     /// The next frame, or none at the file's end.
     ///
+    /// Of a file of the format pcap the frame is that of the record at the front of what was left, and at the end nothing
+    /// was left, where the reader tells what is left.
+    ///
     /// Errors: what is wrong with the file, and where the header, the block or the record begins that is. What was
     /// read before stays valid; each later call gives the same fault.
     pub fn next(&mut self) -> Result<Option<Record<'_>>, CaptureFault>
         ensures stopped { IfSome (stopped_by self.old) (λ fault. result ≡ Err fault) }
+        ensures end { (header : PcapHeader) → IsPcap header self.old → IfOk result (λ found. IfNone found (IfSome (left_in R.Read.remaining self.old) (λ octets. octets ≡ []))) }
+        ensures given { (header : PcapHeader) → IsPcap header self.old → IfOk result (λ found. IfSome found (λ given. GivesRecord header given.moment (map_ok sent_of given.content) (left_in R.Read.remaining self.old))) }
     {
         if let Some(fault) = self.stopped {
             return Err(fault);
@@ -155,7 +160,10 @@ impl<R: BufRead> Capture<R> {
         }
     }
 
-    fn next_frame(&mut self) -> Result<Option<Frame>, FaultKind> {
+    fn next_frame(&mut self) -> Result<Option<Frame>, FaultKind>
+        ensures end { (header : PcapHeader) → IsPcap header self.old → IfOk result (λ found. IfNone found (IfSome (R.Read.remaining self.old.input.reader) (λ octets. octets ≡ []))) }
+        ensures given { (header : PcapHeader) → IsPcap header self.old → IfOk result (λ found. IfSome found (λ frame. ReadsRecord header frame self.new.moment (R.Read.remaining self.old.input.reader) (R.Read.remaining self.new.input.reader) self.new.buffer.items)) }
+    {
         match self.format {
             Format::Pcap(header) => self.next_record(header),
             Format::Pcapng(_) => self.next_packet(),

@@ -1,6 +1,8 @@
 //! Why a recording isn't told to its end.
 
 use sacn_capture::{CaptureFault, FaultKind};
+use sacn_discovery::DiscoveryFault;
+use sacn_sources::TableFault;
 use std::alloc::AllocError;
 use std::io;
 use thiserror::Error;
@@ -21,6 +23,18 @@ pub enum ExplainFault {
 
 impl From<AllocError> for ExplainFault {
     fn from(_fault: AllocError) -> Self {
+        ExplainFault::OutOfMemory
+    }
+}
+
+impl From<DiscoveryFault> for ExplainFault {
+    fn from(_fault: DiscoveryFault) -> Self {
+        ExplainFault::OutOfMemory
+    }
+}
+
+impl From<TableFault> for ExplainFault {
+    fn from(_fault: TableFault) -> Self {
         ExplainFault::OutOfMemory
     }
 }

@@ -1,32 +1,28 @@
 //! A recording followed to its end.
 
 use crate::fault::ExplainFault;
+use crate::follower::Follower;
 use crate::options::Options;
 use crate::report::Report;
-use crate::tables;
-use crate::teller::Teller;
 use sacn_capture::{Capture, CaptureFault, Datagram, Record};
-use sacn_monitor::{MAX_STREAMS, Monitor, Noted, Sender};
-use sacn_sources::NETWORK_DATA_LOSS;
+use sacn_monitor::Sender;
+use sacn_node::NodeSetup;
 use std::alloc::Global;
 use std::io::{BufRead, Write};
 
-/// What is known of a recording so far.
-#[derive(Drop)]
-struct Followed {
-    monitor: Monitor,
+/// The clock of a recording.
+#[derive(Clone, Copy)]
+struct Timeline {
     /// The moment of the first frame, in milliseconds since 1970.
     first: Option<u64>,
     /// The latest moment, in milliseconds from the first.
     now: u64,
-    /// No stream is lost before this moment.
-    wake: u64,
-    other_ports: u64,
     went_back: u64,
 }
 
 /// Tells what happened in a recording, and what it amounts to: a line for each thing that happened, in order, moments in
-/// milliseconds from its first frame, and then tables of sources and universes.
+/// milliseconds from its first frame, and then tables of sources and universes. With a node's setup the node's frames are told
+/// too, from its start at the first frame on, each with its cause.
 ///
 /// Errors: OutOfMemory; Capture where the recording is wrong, and then all before that place was told, with the tables;
 /// Device where a line can't be written.
@@ -34,49 +30,63 @@ pub fn explain<R: BufRead + Drop, O: Write>(
     alloc: Global,
     capture: R,
     options: &Options<'_>,
+    setup: Option<&NodeSetup>,
     out: &mut O,
 ) -> Result<Report, ExplainFault> {
     let mut capture = Capture::open(alloc, capture)?;
-    let mut followed = Followed {
-        monitor: Monitor::new(alloc)?,
-        first: None,
-        now: 0,
-        wake: 0,
-        other_ports: 0,
-        went_back: 0,
-    };
-    let mut teller = Teller::new(alloc, options.form, out);
-    let stopped = follow(&mut capture, &mut followed, options, &mut teller)?;
+    let mut follower = Follower::new(alloc, *options, setup, out)?;
+    let followed = follow(&mut capture, &mut follower, options.port)?;
     let report = Report {
         frames: capture.counts(),
-        tally: *followed.monitor.tally(),
+        tally: *follower.tally(),
+        pages_passed: follower.pages_passed(),
         other_ports: followed.other_ports,
-        went_back: followed.went_back,
-        streams: followed.monitor.streams().len(),
-        length: followed.now,
+        went_back: followed.timeline.went_back,
+        streams: follower.streams().len(),
+        length: followed.timeline.now,
     };
-    tables::tell(&mut teller, options, &followed.monitor, &report)?;
-    match stopped {
+    follower.finish(&report)?;
+    match followed.stopped {
         Some(fault) => Err(ExplainFault::from(fault)),
         None => Ok(report),
     }
 }
 
+/// How far a recording was followed.
+#[derive(Clone, Copy)]
+struct Followed {
+    timeline: Timeline,
+    other_ports: u64,
+    /// What is wrong with the recording.
+    stopped: Option<CaptureFault>,
+}
+
 // Follows a recording to its end, or to what is wrong with it.
 fn follow<R: BufRead + Drop, O: Write>(
     capture: &mut Capture<R>,
-    followed: &mut Followed,
-    options: &Options<'_>,
-    teller: &mut Teller<'_, O>,
-) -> Result<Option<CaptureFault>, ExplainFault> {
+    follower: &mut Follower<'_, O>,
+    port: u16,
+) -> Result<Followed, ExplainFault> {
+    let mut followed = Followed {
+        timeline: Timeline {
+            first: None,
+            now: 0,
+            went_back: 0,
+        },
+        other_ports: 0,
+        stopped: None,
+    };
     for _ in 0..u64::MAX {
         match capture.next() {
-            Ok(Some(record)) => followed.take(&record, options, teller)?,
-            Ok(None) => return Ok(None),
-            Err(fault) => return Ok(Some(fault)),
+            Ok(Some(record)) => followed.take(&record, port, follower)?,
+            Ok(None) => break,
+            Err(fault) => {
+                followed.stopped = Some(fault);
+                break;
+            }
         }
     }
-    Ok(None)
+    Ok(followed)
 }
 
 impl Followed {
@@ -84,21 +94,38 @@ impl Followed {
     fn take<O: Write>(
         &mut self,
         record: &Record<'_>,
-        options: &Options<'_>,
-        teller: &mut Teller<'_, O>,
+        port: u16,
+        follower: &mut Follower<'_, O>,
     ) -> Result<(), ExplainFault> {
-        self.move_clock(record.moment);
-        if self.wake <= self.now {
-            self.tell_losses(options, teller)?;
-        }
+        self.timeline.advance(record.moment);
+        let now = self.timeline.now;
         match &record.content {
-            Ok(datagram) => self.hear(datagram, options, teller),
-            Err(_) => Ok(()),
+            Ok(datagram) if datagram.destination_port == port => hear(now, datagram, follower),
+            Ok(_) => {
+                self.other_ports = self.other_ports.saturating_add(1);
+                follower.tick(now)
+            }
+            Err(_) => follower.tick(now),
         }
     }
+}
 
-    // Moves the clock to a frame's moment.
-    fn move_clock(&mut self, moment: u64) {
+// A datagram to the port.
+fn hear<O: Write>(
+    now: u64,
+    datagram: &Datagram<'_>,
+    follower: &mut Follower<'_, O>,
+) -> Result<(), ExplainFault> {
+    let sender = Sender {
+        address: datagram.sender,
+        port: datagram.sender_port,
+    };
+    follower.take(now, sender, datagram.payload)
+}
+
+impl Timeline {
+    // Moves to a frame's moment.
+    fn advance(&mut self, moment: u64) {
         let first = match self.first {
             Some(first) => first,
             None => moment,
@@ -109,60 +136,6 @@ impl Followed {
             self.went_back = self.went_back.saturating_add(1);
         } else {
             self.now = now;
-        }
-    }
-
-    // Tells the streams that are lost by now, each at its moment.
-    fn tell_losses<O: Write>(
-        &mut self,
-        options: &Options<'_>,
-        teller: &mut Teller<'_, O>,
-    ) -> Result<(), ExplainFault> {
-        for _ in 0..MAX_STREAMS {
-            let at = self.monitor.next_loss();
-            if self.now < at {
-                break;
-            }
-            let Some(place) = self.monitor.tick(at) else {
-                break;
-            };
-            if let Some(stream) = self.monitor.streams().get(place) {
-                if options.is_wanted(stream.universe) {
-                    teller.loss(at, stream)?;
-                }
-            }
-        }
-        let later = self.now.saturating_add(NETWORK_DATA_LOSS);
-        self.wake = self.monitor.next_loss().min(later);
-        Ok(())
-    }
-
-    // A datagram.
-    fn hear<O: Write>(
-        &mut self,
-        datagram: &Datagram<'_>,
-        options: &Options<'_>,
-        teller: &mut Teller<'_, O>,
-    ) -> Result<(), ExplainFault> {
-        if datagram.destination_port != options.port {
-            self.other_ports = self.other_ports.saturating_add(1);
-            return Ok(());
-        }
-        let sender = Sender {
-            address: datagram.sender,
-            port: datagram.sender_port,
-        };
-        match self.monitor.take(self.now, sender, datagram.payload) {
-            Noted::Refused(fault) => teller.refused(self.now, &sender, fault),
-            Noted::Page => Ok(()),
-            Noted::Sync => Ok(()),
-            Noted::Untracked => teller.untracked(self.now, &sender),
-            Noted::Heard(place, news) => match self.monitor.streams().get(place) {
-                Some(stream) if options.is_wanted(stream.universe) => {
-                    teller.news(self.now, stream, &news)
-                }
-                _ => Ok(()),
-            },
         }
     }
 }

@@ -1,20 +1,29 @@
-//! What happened on a network of streaming ACN (ANSI E1.31-2018), told from a recording: a line for each thing that
-//! happened, in order, and then tables of the sources and universes with all counts.
+//! What happens on a network of streaming ACN (ANSI E1.31-2018), told as it happens or from a recording: a line for each thing
+//! that happens, in order, the frames of a node with their causes, and then tables of the sources and universes with all counts.
 #![tactic(auto)]
 
+mod cause;
+mod contests;
 mod count;
 mod fault;
 mod follow;
+mod follower;
 mod json;
+mod lines;
+mod listings;
 mod options;
 mod report;
+mod rows;
 mod spelling;
+mod stage;
 mod tables;
 mod teller;
 mod words;
 
 pub use fault::ExplainFault;
 pub use follow::explain;
+pub use follower::Follower;
+pub use listings::MOST_LISTINGS;
 pub use options::{Form, Options};
 pub use report::Report;
 

@@ -10,6 +10,8 @@ pub struct Report {
     pub frames: Counts,
     /// Its datagrams to the port that was asked for, by what they were.
     pub tally: Tally,
+    /// Pages of sources for whose lists there was no room.
+    pub pages_passed: u64,
     /// Datagrams to other ports.
     pub other_ports: u64,
     /// Frames with an earlier moment than the frame before. They are taken at the latest moment so far.

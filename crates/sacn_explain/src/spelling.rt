@@ -76,6 +76,45 @@ fn push_escape(text: &mut String, letter: char) -> Result<(), AllocError> {
     write!(text, "\\u{code:04x}")
 }
 
+/// Numbers that ascend, as ranges; a dash where there is none.
+pub fn push_ranges(text: &mut String, numbers: &[u16]) -> Result<(), AllocError> {
+    let mut range: Option<(u16, u16)> = None;
+    for number in numbers {
+        range = match range {
+            Some((first, last)) if last.saturating_add(1) == *number => Some((first, *number)),
+            _ => {
+                push_range(text, range)?;
+                Some((*number, *number))
+            }
+        };
+    }
+    match range {
+        Some((first, last)) if first == last => write!(text, "{first}"),
+        Some((first, last)) => write!(text, "{first}-{last}"),
+        None => text.push('-'),
+    }
+}
+
+// A range before another one.
+fn push_range(text: &mut String, range: Option<(u16, u16)>) -> Result<(), AllocError> {
+    match range {
+        Some((first, last)) if first == last => write!(text, "{first}, "),
+        Some((first, last)) => write!(text, "{first}-{last}, "),
+        None => Ok(()),
+    }
+}
+
+/// A member that is a list of numbers.
+pub fn push_numbers(text: &mut String, key: &str, numbers: &[u16]) -> Result<(), AllocError> {
+    write!(text, ",\"{key}\":[")?;
+    let mut comma = "";
+    for number in numbers {
+        write!(text, "{comma}{number}")?;
+        comma = ",";
+    }
+    text.push(']')
+}
+
 /// A name up to its first NUL (E1.31, 6.2.2).
 pub fn up_to_nul(name: &[u8; 64]) -> &[u8] {
     match name.iter().position(|octet| *octet == 0) {

@@ -3,8 +3,10 @@
 use crate::count::UniverseCounts;
 use crate::fault::ExplainFault;
 use crate::json;
+use crate::listings::Listings;
 use crate::options::{Form, Options};
 use crate::report::Report;
+use crate::rows::{tell_listings, tell_refused};
 use crate::spelling::{push_cid, push_moment, push_name, push_sender, up_to_nul};
 use crate::teller::Teller;
 use sacn_monitor::{Monitor, State, Stream};
@@ -17,6 +19,7 @@ pub fn tell<O: Write>(
     teller: &mut Teller<'_, O>,
     options: &Options<'_>,
     monitor: &Monitor,
+    listings: &Listings,
     report: &Report,
 ) -> Result<(), ExplainFault> {
     if teller.form == Form::Text {
@@ -30,6 +33,13 @@ pub fn tell<O: Write>(
         }
     }
     tell_universes(teller, options, monitor, report.length)?;
+    tell_listings(
+        listings.alloc(),
+        teller,
+        monitor.streams(),
+        listings.known(),
+    )?;
+    tell_refused(teller, &report.tally)?;
     counts_row(&mut teller.line, teller.form, report)?;
     teller.write()
 }
@@ -225,6 +235,7 @@ fn counts_text(text: &mut String, report: &Report) -> Result<(), AllocError> {
     push_named(text, "datagrams to the port", tally.datagrams)?;
     push_named(text, "refused", refused_in(report))?;
     push_named(text, "pages", tally.pages)?;
+    push_named(text, "pages not followed", report.pages_passed)?;
     push_named(text, "synchronization", tally.syncs)?;
     push_named(text, "not followed", tally.untracked)?;
     push_named(text, "datagrams to other ports", report.other_ports)?;
@@ -242,6 +253,7 @@ fn counts_json(text: &mut String, report: &Report) -> Result<(), AllocError> {
     json::push_number(text, "datagrams", tally.datagrams)?;
     json::push_number(text, "refused", refused_in(report))?;
     json::push_number(text, "pages", tally.pages)?;
+    json::push_number(text, "pages_untracked", report.pages_passed)?;
     json::push_number(text, "synchronization", tally.syncs)?;
     json::push_number(text, "untracked", tally.untracked)?;
     json::push_number(text, "other_ports", report.other_ports)?;

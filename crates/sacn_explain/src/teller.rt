@@ -1,8 +1,12 @@
 //! Lines as they are written.
 
+use crate::cause::Cause;
 use crate::fault::ExplainFault;
+use crate::lines::{frame_line, listing_line, rivals_line};
+use crate::listings::Listing;
 use crate::options::Form;
 use crate::{json, words};
+use sacn_edge::PortShown;
 use sacn_monitor::{Event, News, Sender, Stream};
 use sacn_root::PacketFault;
 use std::alloc::{AllocError, Global};
@@ -87,6 +91,45 @@ impl<'o, O: Write> Teller<'o, O> {
     pub fn untracked(&mut self, now: u64, sender: &Sender) -> Result<(), ExplainFault> {
         untracked_line(&mut self.line, self.form, now, sender)?;
         self.write()
+    }
+
+    /// How many sources send at the top priority of a universe.
+    pub fn rivals(
+        &mut self,
+        now: u64,
+        universe: u16,
+        sources: usize,
+        priority: u8,
+    ) -> Result<(), ExplainFault> {
+        rivals_line(&mut self.line, self.form, now, universe, sources, priority)?;
+        self.write()
+    }
+
+    /// A list of universes, which is another one than before.
+    pub fn listing(
+        &mut self,
+        now: u64,
+        event: &str,
+        listing: &Listing,
+    ) -> Result<(), ExplainFault> {
+        listing_line(&mut self.line, self.form, now, event, listing)?;
+        self.write()
+    }
+
+    /// A frame of a port with its cause, and its line as a node writes it.
+    pub fn frame(
+        &mut self,
+        now: u64,
+        shown: &PortShown,
+        cause: &Cause<'_>,
+        line: &[u8],
+    ) -> Result<(), ExplainFault> {
+        frame_line(&mut self.line, self.form, now, shown, cause)?;
+        self.write()?;
+        if self.form == Form::Text {
+            self.out.write_all(line)?;
+        }
+        Ok(())
     }
 }
 

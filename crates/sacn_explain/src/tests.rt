@@ -123,7 +123,7 @@ fn recording(alloc: Global) -> Result<Vec<u8>, AllocError> {
 /// What is told of a recording.
 fn told(alloc: Global, file: &[u8], options: &Options<'_>) -> Result<String, Fail> {
     let mut text = Vec::new(alloc);
-    let answer = explain(alloc, file, options, &mut text);
+    let answer = explain(alloc, file, options, None, &mut text);
     if let Err(fault) = answer {
         text.extend_from_slice(format!(in alloc; "{fault}\n")?.as_bytes())?;
     }
@@ -156,9 +156,13 @@ universe state    priority      first       last     taken   preview     other  
 universe  sources  sending     taken   skipped discarded
        1        1        0         9         3         2
 
+refused by fault
+TooShort                       1
+
 datagrams to the port          12
 refused                        1
 pages                          0
+pages not followed             0
 synchronization                0
 not followed                   0
 datagrams to other ports       1
@@ -184,7 +188,8 @@ fn other_universes_are_left_out(rt: HostRuntime) -> Result<(), Fail> {
         form: Form::Json,
     };
     let wanted = r#"{"ms":510,"event":"refused","address":"10.0.0.9","port":5000,"fault":1}
-{"row":"counts","datagrams":12,"refused":1,"pages":0,"synchronization":0,"untracked":0,"other_ports":1,"other_frames":1,"went_back":1,"ms":4000}
+{"row":"refused","fault":1,"name":"TooShort","count":1}
+{"row":"counts","datagrams":12,"refused":1,"pages":0,"pages_untracked":0,"synchronization":0,"untracked":0,"other_ports":1,"other_frames":1,"went_back":1,"ms":4000}
 "#;
     assert_eq!(rt; told(a, &file, &options)?.as_str(), wanted);
     Ok(())
@@ -205,7 +210,8 @@ const OBJECTS: &str =
 {"ms":3300,"event":"lost","universe":1,"cid":"0102030405060708090a0b0c0d0e0f10","name":"Desk \"B\"","since":800}
 {"row":"source","universe":1,"cid":"0102030405060708090a0b0c0d0e0f10","name":"Desk \"B\"","address":"10.0.0.2","port":5000,"state":"lost","priority":120,"first":0,"last":800,"live":7,"preview":1,"terminated":1,"other":0,"skipped":3,"late":1,"repeated":1,"gap":100,"last_second":0}
 {"row":"universe","universe":1,"sources":1,"sending":0,"taken":9,"skipped":3,"discarded":2}
-{"row":"counts","datagrams":12,"refused":1,"pages":0,"synchronization":0,"untracked":0,"other_ports":1,"other_frames":1,"went_back":1,"ms":4000}
+{"row":"refused","fault":1,"name":"TooShort","count":1}
+{"row":"counts","datagrams":12,"refused":1,"pages":0,"pages_untracked":0,"synchronization":0,"untracked":0,"other_ports":1,"other_frames":1,"went_back":1,"ms":4000}
 "#;
 
 #[test]

@@ -5,3 +5,4 @@ pub mod Streams
 pub mod Tallies
 pub mod Books
 pub mod Histories
+pub mod Rivals

@@ -5,10 +5,12 @@ ghost use Rattle.std.specs.List.{position};
 ghost use Rattle.sacn_monitor.specs.Accounts.{news_of};
 ghost use Rattle.sacn_monitor.specs.Streams.{is_of, stream_after, falls_silent};
 ghost use Rattle.sacn_monitor.specs.Books.{next_loss};
+ghost use Rattle.sacn_monitor.specs.Rivals.{top_priority, rivals};
 
 use crate::account::Sender;
 use crate::limits::MAX_STREAMS;
 use crate::news::{Event, News, Noted};
+use crate::rivals::{rivals, top_priority};
 use crate::stream::Stream;
 use crate::tally::Tally;
 use sacn_framing::{DataView, Packet, read_packet};
@@ -119,6 +121,21 @@ impl Monitor {
         ensures { result.now ≡ self.now.tally }
     {
         &self.tally
+    }
+
+    /// The greatest priority of the sources that light a universe (E1.31, 6.2.3), 0 where none does: those that send there
+    /// at the greatest moment handed in, and of which a packet with levels for the stage was taken.
+    pub fn top_priority(&self, universe: u16) -> u8
+        ensures { result ≡ top_priority universe self.now.moment self.now.streams }
+    {
+        top_priority(self.streams.as_slice(), universe, self.moment)
+    }
+
+    /// How many sources light a universe at that priority. Where these are two or more, their levels are merged.
+    pub fn rivals(&self, universe: u16) -> usize
+        ensures { result ≡ rivals universe self.now.moment self.now.streams }
+    {
+        rivals(self.streams.as_slice(), universe, self.moment)
     }
 
     // A data packet.

@@ -2,6 +2,7 @@
 
 ghost use Rattle.std.specs.Prelude.{◌≡◌};
 ghost use Rattle.sacn_monitor.specs.Accounts.{news_of};
+ghost use Rattle.sacn_monitor.specs.Rivals.{lights};
 ghost use Rattle.sacn_monitor.specs.Streams.{is_of, first_stream, stream_after, loss_of, falls_silent, state_of};
 
 use crate::account::{Account, Sender};
@@ -45,6 +46,16 @@ impl Stream {
         } else {
             State::Lost
         }
+    }
+
+    /// Whether the source sends on this universe, and a packet with levels for the stage was taken there.
+    pub(crate) fn lights(&self, universe: u16, moment: u64) -> bool
+        ensures { result ≡ lights universe moment self.now }
+    {
+        (self.universe == universe)
+            & !self.account.ended
+            & self.account.is_fresh(moment)
+            & (self.account.kinds.live > 0)
     }
 
     /// A stream whose first packet this is.

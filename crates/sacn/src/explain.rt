@@ -1,0 +1,195 @@
+//! Recordings told.
+use crate::command::{Asked, SETUP_HELP, file, refused_words, subcommand, text};
+use crate::ending::{DEVICE_FAILED, Ending, REFUSED};
+use crate::live::{said_of_file, setup_of_file};
+use crate::live_words::{flag, word, words};
+use clap::{ArgMatches, Command, Error};
+use sacn_capture::{CaptureFault, FaultKind};
+use sacn_explain::{ExplainFault, Form, Options, explain};
+use sacn_files::words::short_in;
+use sacn_framing::{LEAST_UNIVERSE, MOST_UNIVERSE};
+use sacn_live::SACN_PORT;
+use sacn_node::NodeSetup;
+use std::alloc::Global;
+use std::fs;
+use std::io::{BufRead, BufReader, BufWriter, Write};
+use std::rt::Files;
+
+const ABOUT: &str =
+    "Tells what a recording of a network holds: a line for each thing that happened, then tables";
+
+const CAPTURE_HELP: &str = "A recording: a file of the formats pcap or pcapng";
+
+/// The octets of a recording that are read at once.
+const ROOM: usize = 65_536;
+
+/// What is asked of a recording.
+#[derive(Drop)]
+pub struct ExplainAsked<'a> {
+    pub capture: &'a str,
+    /// The node whose frames are told.
+    pub setup: Option<&'a str>,
+    pub port: Option<u16>,
+    /// Empty for all.
+    pub universes: Vec<u16>,
+    pub form: Form,
+}
+
+/// The words of `explain`.
+pub fn command<'a>(alloc: Global) -> Result<Command<'a>, Error> {
+    let port = "The UDP port of the datagrams that are told; else the setup's, else 5568";
+    let universe = "A universe whose lines and rows are told; else all";
+    let args = vec![in alloc;
+        file(alloc, "CAPTURE", CAPTURE_HELP),
+        word(alloc, "setup", "SETUP", SETUP_HELP),
+        word(alloc, "port", "P", port),
+        words(alloc, "universe", "U", universe),
+        flag(alloc, "json", "Prints an object of JSON on each line"),
+    ]?;
+    subcommand(alloc, "explain", ABOUT, args)
+}
+
+fn port_in<'a>(alloc: Global, matches: &ArgMatches<'a>) -> Result<Option<u16>, Error> {
+    let Some(word) = matches.get_str("port") else {
+        return Ok(None);
+    };
+    match short_in(word) {
+        Some(port) if port > 0 => Ok(Some(port)),
+        _ => Err(refused_words(alloc, word, "Port")),
+    }
+}
+
+fn universes_in<'a>(alloc: Global, matches: &ArgMatches<'a>) -> Result<Vec<u16>, Error> {
+    let mut universes = Vec::new(alloc);
+    if let Some(words) = matches.get_strs("universe") {
+        for word in words {
+            match short_in(word) {
+                Some(universe) if is_universe(universe) => universes.push(universe)?,
+                _ => return Err(refused_words(alloc, word, "Universe")),
+            }
+        }
+    }
+    Ok(universes)
+}
+
+// Whether data may be of this universe (E1.31, 6.2.7).
+fn is_universe(universe: u16) -> bool {
+    (LEAST_UNIVERSE <= universe) & (universe <= MOST_UNIVERSE)
+}
+
+/// What the words of `explain` ask for.
+pub fn asked<'a>(alloc: Global, matches: &ArgMatches<'a>) -> Result<Asked<'a>, Error> {
+    let port = port_in(alloc, matches)?;
+    let universes = universes_in(alloc, matches)?;
+    Ok(Asked::Explain(ExplainAsked {
+        capture: text(matches, "CAPTURE"),
+        setup: matches.get_str("setup"),
+        port,
+        universes,
+        form: if matches.get_flag("json") {
+            Form::Json
+        } else {
+            Form::Text
+        },
+    }))
+}
+
+// Says that a recording can't be read.
+fn unread<E: Write>(path: &str, err: &mut E) -> Ending {
+    let _ = writeln!(err, "device read {path}");
+    Ending::Said(DEVICE_FAILED)
+}
+
+// Says what is wrong with a recording, and where.
+fn said_of_capture<E: Write>(path: &str, fault: CaptureFault, err: &mut E) -> Ending {
+    if fault.kind == FaultKind::Device {
+        return unread(path, err);
+    }
+    let at = fault.at;
+    let kind = fault.kind;
+    let _ = writeln!(err, "refused {path} octet {at} {kind:?}");
+    Ending::Said(REFUSED)
+}
+
+/// Tells a recording.
+pub fn tell<R: AllocGlobal + Files, O: Write, E: Write>(
+    rt: &R,
+    asked: &ExplainAsked<'_>,
+    out: &mut O,
+    err: &mut E,
+) -> Result<(), Ending> {
+    match asked.setup {
+        None => tell_file(rt, asked, None, out, err),
+        Some(path) => match setup_of_file(rt, path) {
+            Ok(setup) => tell_file(rt, asked, Some(&setup), out, err),
+            Err(ending) => Err(said_of_file(path, ending, err)),
+        },
+    }
+}
+
+fn tell_file<R: AllocGlobal + Files, O: Write, E: Write>(
+    rt: &R,
+    asked: &ExplainAsked<'_>,
+    setup: Option<&NodeSetup>,
+    out: &mut O,
+    err: &mut E,
+) -> Result<(), Ending> {
+    let Ok(file) = fs::open(rt, asked.capture) else {
+        return Err(unread(asked.capture, err));
+    };
+    match BufReader::with_capacity(rt.alloc(), ROOM, file) {
+        Ok(reader) => tell_to_lines(rt.alloc(), reader, asked, setup, out, err),
+        Err(_) => Err(Ending::OutOfMemory),
+    }
+}
+
+// Tells what a reader gives; the lines are written in pieces.
+fn tell_to_lines<I: BufRead + Drop, O: Write, E: Write>(
+    alloc: Global,
+    reader: I,
+    asked: &ExplainAsked<'_>,
+    setup: Option<&NodeSetup>,
+    out: &mut O,
+    err: &mut E,
+) -> Result<(), Ending> {
+    let Ok(mut lines) = BufWriter::new(alloc, &mut *out) else {
+        return Err(Ending::OutOfMemory);
+    };
+    let told = tell_reader(alloc, reader, asked, setup, &mut lines);
+    if lines.flush().is_err() {
+        return Err(Ending::DeviceWrite);
+    }
+    match told {
+        Ok(()) => Ok(()),
+        Err(ExplainFault::OutOfMemory) => Err(Ending::OutOfMemory),
+        Err(ExplainFault::Device) => Err(Ending::DeviceWrite),
+        Err(ExplainFault::Capture(fault)) => Err(said_of_capture(asked.capture, fault, err)),
+    }
+}
+
+fn tell_reader<I: BufRead + Drop, O: Write>(
+    alloc: Global,
+    reader: I,
+    asked: &ExplainAsked<'_>,
+    setup: Option<&NodeSetup>,
+    out: &mut O,
+) -> Result<(), ExplainFault> {
+    let options = Options {
+        port: port_of(asked.port, setup),
+        universes: asked.universes.as_slice(),
+        form: asked.form,
+    };
+    match explain(alloc, reader, &options, setup, out) {
+        Ok(_) => Ok(()),
+        Err(fault) => Err(fault),
+    }
+}
+
+// The port that is asked for, that of the setup, or that of streaming ACN.
+fn port_of(asked: Option<u16>, setup: Option<&NodeSetup>) -> u16 {
+    match (asked, setup) {
+        (Some(port), _) => port,
+        (None, Some(setup)) => setup.udp_port(),
+        (None, None) => SACN_PORT,
+    }
+}

@@ -1,0 +1,256 @@
+//! What happens, told as it happens.
+
+use crate::cause::Cause;
+use crate::contests::Contests;
+use crate::fault::ExplainFault;
+use crate::listings::{Listings, PageNews};
+use crate::options::Options;
+use crate::report::Report;
+use crate::stage::Stage;
+use crate::tables;
+use crate::teller::Teller;
+use sacn_framing::{Packet, read_packet};
+use sacn_monitor::{Event, Monitor, News, Noted, Sender, Stream, Tally};
+use sacn_node::NodeSetup;
+use sacn_sources::NETWORK_DATA_LOSS;
+use std::alloc::Global;
+use std::io::Write;
+
+/// Tells what happens on a network, datagram by datagram: a line for each thing that happens, in order. With a node's setup it
+/// tells the frames of that node too, each with its cause.
+///
+/// Moments are in milliseconds. Each call uses the greatest moment that was handed in so far. Its memory doesn't grow with the
+/// number of datagrams: it follows up to `sacn_monitor::MAX_STREAMS` sources on universes, and the lists of up to
+/// `MOST_LISTINGS` sources.
+#[derive(Drop)]
+pub struct Follower<'a, O> {
+    monitor: Monitor,
+    listings: Listings,
+    contests: Contests,
+    stage: Option<Stage>,
+    options: Options<'a>,
+    teller: Teller<'a, O>,
+    /// Nothing ends by silence before this moment.
+    wake: u64,
+}
+
+impl<'a, O: Write> Follower<'a, O> {
+    /// A follower that has heard nothing. The frames of a node are told at once.
+    ///
+    /// Errors: OutOfMemory; Device where a line can't be written.
+    pub fn new(
+        alloc: Global,
+        options: Options<'a>,
+        setup: Option<&NodeSetup>,
+        out: &'a mut O,
+    ) -> Result<Self, ExplainFault> {
+        let monitor = Monitor::new(alloc)?;
+        let contests = Contests::new(alloc)?;
+        let mut teller = Teller::new(alloc, options.form, out);
+        let stage = match setup {
+            Some(setup) => Some(started(alloc, setup, &mut teller)?),
+            None => None,
+        };
+        Ok(Follower {
+            monitor,
+            listings: Listings::new(alloc),
+            contests,
+            stage,
+            options,
+            teller,
+            wake: 0,
+        })
+    }
+
+    /// Takes a datagram that came at a moment from a sender, and tells what it changed, after what had ended by silence.
+    ///
+    /// Errors: OutOfMemory; Device where a line can't be written.
+    pub fn take(&mut self, now: u64, sender: Sender, octets: &[u8]) -> Result<(), ExplainFault> {
+        self.tick(now)?;
+        let noted = self.monitor.take(now, sender, octets);
+        self.tell(&sender, octets, noted)?;
+        self.show_turn(octets, noted)
+    }
+
+    /// Tells what has ended by silence up to a moment, each thing at its own moment.
+    ///
+    /// Errors: OutOfMemory; Device where a line can't be written.
+    pub fn tick(&mut self, now: u64) -> Result<(), ExplainFault> {
+        if now < self.wake {
+            return Ok(());
+        }
+        for _ in 0..u64::MAX {
+            let lost = self.monitor.next_loss();
+            let dark = self.next_dark();
+            let at = lost.min(dark);
+            if (now < at) | (at == u64::MAX) {
+                self.wake = at.min(now.saturating_add(NETWORK_DATA_LOSS));
+                break;
+            }
+            if lost <= dark {
+                self.tell_loss(lost)?;
+            } else {
+                self.show_dark(dark)?;
+            }
+        }
+        Ok(())
+    }
+
+    /// Tells the tables of sources, universes and lists, and these counts.
+    ///
+    /// Errors: OutOfMemory; Device where a line can't be written.
+    pub fn finish(&mut self, report: &Report) -> Result<(), ExplainFault> {
+        tables::tell(
+            &mut self.teller,
+            &self.options,
+            &self.monitor,
+            &self.listings,
+            report,
+        )
+    }
+
+    /// The datagrams so far, by what they were.
+    pub fn tally(&self) -> &Tally {
+        self.monitor.tally()
+    }
+
+    /// The sources on universes so far, in the order in which they appeared.
+    pub fn streams(&self) -> &[Stream] {
+        self.monitor.streams()
+    }
+
+    /// Pages of sources for whose lists there was no room.
+    pub fn pages_passed(&self) -> u64 {
+        self.listings.passed()
+    }
+
+    // What a datagram tells.
+    fn tell(&mut self, sender: &Sender, octets: &[u8], noted: Noted) -> Result<(), ExplainFault> {
+        let now = self.monitor.moment();
+        match noted {
+            Noted::Refused(fault) => self.teller.refused(now, sender, fault),
+            Noted::Page => self.tell_page(octets),
+            Noted::Sync => Ok(()),
+            Noted::Untracked => self.teller.untracked(now, sender),
+            Noted::Heard(place, news) => self.tell_news(place, &news),
+        }
+    }
+
+    // What a data packet tells of its source on its universe.
+    fn tell_news(&mut self, place: usize, news: &News) -> Result<(), ExplainFault> {
+        let now = self.monitor.moment();
+        let Some(stream) = self.monitor.streams().get(place) else {
+            return Ok(());
+        };
+        let universe = stream.universe;
+        if !self.options.is_wanted(universe) {
+            return Ok(());
+        }
+        self.teller.news(now, stream, news)?;
+        if stirs(stream, news) {
+            self.tell_rivals(universe)?;
+        }
+        Ok(())
+    }
+
+    // Whether two sources begin or cease to send at the same top priority on a universe.
+    fn tell_rivals(&mut self, universe: u16) -> Result<(), ExplainFault> {
+        let sources = self.monitor.rivals(universe);
+        if !self.contests.note(universe, sources >= 2)? {
+            return Ok(());
+        }
+        let priority = self.monitor.top_priority(universe);
+        let now = self.monitor.moment();
+        self.teller.rivals(now, universe, sources, priority)
+    }
+
+    // The list of a source, where it is another one than before.
+    fn tell_page(&mut self, octets: &[u8]) -> Result<(), ExplainFault> {
+        let Ok(Packet::PagePacket(page)) = read_packet(octets) else {
+            return Ok(());
+        };
+        let now = self.monitor.moment();
+        let event = match self.listings.take(now, &page)? {
+            PageNews::Nothing => return Ok(()),
+            PageNews::Appears => "lists",
+            PageNews::Changes => "relists",
+        };
+        match self.listings.of(&page.cid()) {
+            Some(listing) => self.teller.listing(now, event, listing),
+            None => Ok(()),
+        }
+    }
+
+    // A stream that is lost at a moment.
+    fn tell_loss(&mut self, at: u64) -> Result<(), ExplainFault> {
+        let Some(place) = self.monitor.tick(at) else {
+            return Ok(());
+        };
+        let Some(stream) = self.monitor.streams().get(place) else {
+            return Ok(());
+        };
+        let universe = stream.universe;
+        if !self.options.is_wanted(universe) {
+            return Ok(());
+        }
+        self.teller.loss(at, stream)?;
+        self.tell_rivals(universe)
+    }
+
+    // The first moment at which the node loses a source; `u64::MAX` where there is none.
+    fn next_dark(&self) -> u64 {
+        match &self.stage {
+            Some(stage) => stage.wakes(),
+            None => u64::MAX,
+        }
+    }
+
+    // The frames of the node, where a source is lost at a moment.
+    fn show_dark(&mut self, at: u64) -> Result<(), ExplainFault> {
+        match &mut self.stage {
+            Some(stage) => stage.show(at, &Cause::Lost, &mut self.teller),
+            None => Ok(()),
+        }
+    }
+
+    // The frames of the node after a datagram.
+    fn show_turn(&mut self, octets: &[u8], noted: Noted) -> Result<(), ExplainFault> {
+        let now = self.monitor.moment();
+        let Some(stage) = &mut self.stage else {
+            return Ok(());
+        };
+        if !stage.take(now, octets) {
+            return Ok(());
+        }
+        let cause = cause_of(self.monitor.streams(), noted);
+        stage.show(now, &cause, &mut self.teller)
+    }
+}
+
+// A node, whose first frames are told.
+fn started<O: Write>(
+    alloc: Global,
+    setup: &NodeSetup,
+    teller: &mut Teller<'_, O>,
+) -> Result<Stage, ExplainFault> {
+    let mut stage = Stage::new(alloc, setup)?;
+    stage.show(0, &Cause::Start, teller)?;
+    Ok(stage)
+}
+
+// Whether a packet may change who lights its universe at the top priority.
+fn stirs(stream: &Stream, news: &News) -> bool {
+    (news.event != Event::GoesOn) | news.priority.is_some() | (stream.account.kinds.live == 1)
+}
+
+// Why a datagram changed a frame.
+fn cause_of(streams: &[Stream], noted: Noted) -> Cause<'_> {
+    match noted {
+        Noted::Heard(place, _) => match streams.get(place) {
+            Some(stream) if stream.account.ended => Cause::Ended(stream),
+            Some(stream) => Cause::Packet(stream),
+            None => Cause::Unfollowed,
+        },
+        _ => Cause::Unfollowed,
+    }
+}

@@ -1,0 +1,194 @@
+//! The universes that sources list (E1.31, 8).
+
+ghost use Rattle.std.specs.Prelude.{◌≡◌, IfOk};
+ghost use Rattle.sacn_explain.specs.Lists.{is_heard, silent, is_unlisted, unlisted};
+
+use sacn_discovery::{Collector, DiscoveryFault};
+use sacn_framing::PageView;
+use sacn_monitor::Stream;
+use std::alloc::{AllocError, Global};
+
+/// The most sources whose lists are kept. Pages of further sources are counted alone.
+pub const MOST_LISTINGS: usize = 256;
+
+/// A source, and the latest list of universes of which all pages came.
+#[derive(Drop)]
+pub struct Listing {
+    /// The source's CID, a UUID (E1.31, 5.6).
+    pub cid: [u8; 16],
+    /// The source's name in the latest page of that list (E1.31, 6.4.2), up to its NUL.
+    pub name: Vec<u8>,
+    /// Ascending, each once. None where no list came whole.
+    pub universes: Option<Vec<u16>>,
+}
+
+/// What a page tells.
+#[derive(Clone, Copy)]
+pub enum PageNews {
+    /// Nothing that is new.
+    Nothing,
+    /// The first list of its source.
+    Appears,
+    /// Another list than before.
+    Changes,
+}
+
+/// The lists of up to `MOST_LISTINGS` sources.
+#[derive(Drop)]
+pub struct Listings {
+    alloc: Global,
+    collector: Collector,
+    known: Vec<Listing>,
+    passed: u64,
+}
+
+impl Listings {
+    pub fn new(alloc: Global) -> Self {
+        Listings {
+            alloc,
+            collector: Collector::new(alloc),
+            known: Vec::new(alloc),
+            passed: 0,
+        }
+    }
+
+    pub fn alloc(&self) -> Global {
+        self.alloc
+    }
+
+    /// The sources in the order of their first pages.
+    pub fn known(&self) -> &[Listing] {
+        self.known.as_slice()
+    }
+
+    /// Pages of sources for which there was no room.
+    pub fn passed(&self) -> u64 {
+        self.passed
+    }
+
+    /// The list of a source.
+    pub fn of(&self, cid: &[u8; 16]) -> Option<&Listing> {
+        match self.place_of(cid) {
+            Some(place) => self.known.get(place),
+            None => None,
+        }
+    }
+
+    /// A page that came at a moment.
+    pub fn take(&mut self, now: u64, page: &PageView<'_>) -> Result<PageNews, DiscoveryFault> {
+        match self.place_of(&page.cid()) {
+            Some(place) => self.collect(now, place, page),
+            None if self.known.len() < MOST_LISTINGS => {
+                let place = self.known.len();
+                self.admit(page)?;
+                self.collect(now, place, page)
+            }
+            None => {
+                self.passed = self.passed.saturating_add(1);
+                Ok(PageNews::Nothing)
+            }
+        }
+    }
+
+    fn place_of(&self, cid: &[u8; 16]) -> Option<usize> {
+        self.known.iter().position(|listing| listing.cid == *cid)
+    }
+
+    // A source that wasn't heard before.
+    fn admit(&mut self, page: &PageView<'_>) -> Result<(), DiscoveryFault> {
+        let listing = Listing {
+            cid: page.cid(),
+            name: Vec::new(self.alloc),
+            universes: None,
+        };
+        match self.known.push(listing) {
+            Ok(()) => Ok(()),
+            Err(_) => Err(DiscoveryFault::OutOfMemory),
+        }
+    }
+
+    // A page of the source at a place.
+    fn collect(
+        &mut self,
+        now: u64,
+        place: usize,
+        page: &PageView<'_>,
+    ) -> Result<PageNews, DiscoveryFault> {
+        self.collector.take(now, page)?;
+        let Some(universes) = self.collector.list_of(now, &page.cid())? else {
+            return Ok(PageNews::Nothing);
+        };
+        match self.known.get_mut(place) {
+            Some(listing) => listing.keep(self.alloc, page.name(), universes),
+            None => Ok(PageNews::Nothing),
+        }
+    }
+}
+
+impl Listing {
+    // A whole list.
+    fn keep(
+        &mut self,
+        alloc: Global,
+        name: &[u8],
+        universes: Vec<u16>,
+    ) -> Result<PageNews, DiscoveryFault> {
+        let news = match &self.universes {
+            None => PageNews::Appears,
+            Some(known) if known.as_slice() == universes.as_slice() => return Ok(PageNews::Nothing),
+            Some(_) => PageNews::Changes,
+        };
+        let Ok(name) = name.to_vec(alloc) else {
+            return Err(DiscoveryFault::OutOfMemory);
+        };
+        self.name = name;
+        self.universes = Some(universes);
+        Ok(news)
+    }
+}
+
+// Whether a source was heard on a universe.
+fn is_heard(streams: &[Stream], cid: &[u8; 16], universe: u16) -> bool
+    ensures { result ≡ is_heard streams.now cid.now universe }
+{
+    streams.iter().any(|stream| (stream.universe == universe) & (stream.cid == *cid))
+}
+
+/// The universes that a source lists, and on which it wasn't heard.
+pub fn silent(
+    alloc: Global,
+    streams: &[Stream],
+    cid: &[u8; 16],
+    listed: &[u16],
+) -> Result<Vec<u16>, AllocError>
+    ensures { IfOk result (λ found. found.items ≡ silent streams.now cid.now listed.now) }
+{
+    listed
+        .iter()
+        .copied()
+        .filter(|universe| !is_heard(streams, cid, *universe))
+        .collect(alloc)
+}
+
+// Whether it is a stream of a source, on a universe that the source doesn't list.
+fn is_unlisted(stream: &Stream, cid: &[u8; 16], listed: &[u16]) -> bool
+    ensures { result ≡ is_unlisted cid.now listed.now stream.now }
+{
+    (stream.cid == *cid) & !listed.contains(&stream.universe)
+}
+
+/// The universes on which a source was heard, and that it doesn't list, in the order in which it appeared there.
+pub fn unlisted(
+    alloc: Global,
+    streams: &[Stream],
+    cid: &[u8; 16],
+    listed: &[u16],
+) -> Result<Vec<u16>, AllocError>
+    ensures { IfOk result (λ found. found.items ≡ unlisted streams.now cid.now listed.now) }
+{
+    streams
+        .iter()
+        .filter(|stream| is_unlisted(stream, cid, listed))
+        .map(|stream| stream.universe)
+        .collect(alloc)
+}

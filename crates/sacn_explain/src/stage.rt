@@ -1,0 +1,84 @@
+//! The frames of a node.
+
+ghost use Rattle.std.specs.Prelude.{◌≡◌, IfOk, OnOk, map};
+ghost use Rattle.sacn_node.specs.Calls.{step, Tick};
+ghost use Rattle.sacn_edge.specs.Shown.{port_after, ports_text};
+
+use crate::cause::Cause;
+use crate::fault::ExplainFault;
+use crate::teller::Teller;
+use arrayvec::ArrayVec;
+use sacn_edge::{PortShown, WriterOut, ports_of, show};
+use sacn_node::{MAX_PORTS, NodeCore, NodeSetup, NodeTaken};
+use std::alloc::Global;
+use std::io::Write;
+
+/// A node that is given datagrams, and the frames of its latest lines.
+#[derive(Drop)]
+pub struct Stage {
+    alloc: Global,
+    core: NodeCore,
+    ports: ArrayVec<PortShown, MAX_PORTS>,
+}
+
+impl Stage {
+    /// A node of a setup, of which no frame was shown.
+    pub fn new(alloc: Global, setup: &NodeSetup) -> Result<Self, ExplainFault> {
+        let core = NodeCore::new(alloc, setup)?;
+        let ports = ports_of(&core);
+        Ok(Stage { alloc, core, ports })
+    }
+
+    /// Gives the node a datagram, and answers whether a frame may have changed.
+    pub fn take(&mut self, now: u64, octets: &[u8]) -> bool {
+        let is_still = self.core.tick(now) == 0;
+        match self.core.take(now, octets) {
+            NodeTaken::FromTable(_) => true,
+            _ => !is_still,
+        }
+    }
+
+    /// The first moment at which a source that is held is lost; `u64::MAX` where there is none.
+    pub fn wakes(&self) -> u64 {
+        match self.core.wakes() {
+            Some(moment) => moment,
+            None => u64::MAX,
+        }
+    }
+
+    /// Tells each frame that isn't that of its port's latest line, with the cause.
+    pub fn show<O: Write>(
+        &mut self,
+        now: u64,
+        cause: &Cause<'_>,
+        teller: &mut Teller<'_, O>,
+    ) -> Result<(), ExplainFault> {
+        let ports = self.ports.as_mut_slice();
+        for index in 0..ports.len() {
+            let line = line_of(self.alloc, &mut self.core, now, &mut ports[index..=index])?;
+            if !line.is_empty() {
+                teller.frame(now, &ports[index], cause, line.as_slice())?;
+            }
+        }
+        Ok(())
+    }
+}
+
+// The lines that a node's loop writes of these ports at a moment.
+fn line_of(
+    alloc: Global,
+    core: &mut NodeCore,
+    now: u64,
+    ports: &mut [PortShown],
+) -> Result<Vec<u8>, ExplainFault>
+    ensures core { core.new ≡ step (Tick now) core.old }
+    ensures lines { IfOk result (λ lines. lines.items ≡ ports_text core.new ports.old) }
+    ensures ports { OnOk result (ports.new ≡ map (port_after core.new) ports.old) }
+{
+    core.tick(now);
+    let mut lines = WriterOut::new(Vec::new(alloc));
+    match show(&mut lines, core, now, false, ports) {
+        Ok(()) => Ok(lines.writer),
+        Err(_) => Err(ExplainFault::OutOfMemory),
+    }
+}

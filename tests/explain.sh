@@ -1,0 +1,391 @@
+#!/usr/bin/env bash
+# Tells recordings with the built program: one of another sender's packets (examples/ola.pcap), recordings written here octet by octet, faulty ones,
+# and one of a desk beside a gateway, whose frames are compared line for line. Prints 'ok NAME', 'not ok NAME: why' or 'skipped NAME: why' for each
+# run, as ./test counts them.
+set -u
+top=$(cd "$(dirname "$(readlink -f "$0")")/.." && pwd)
+sacn=${SACN:-$top/crates/sacn/out/sacn}
+if [ ! -x "$sacn" ]; then
+  echo "skipped explain: sacn isn't built"
+  exit 0
+fi
+room=$(mktemp -d)
+started=()
+cleanup() {
+  for pid in "${started[@]:-}"; do [ -z "$pid" ] || kill "$pid" 2>/dev/null; done
+  rm -rf "$room"
+}
+trap cleanup EXIT
+cd "$room" || exit 1
+
+# tells NAME STATUS WANTED-ERRORS WANTED-OUTPUT WORD..: a run of explain ends so, and prints this file
+tells() {
+  local name=$1 wanted=$2 said=$3 output=$4 status=0 first
+  shift 4
+  timeout 60 "$sacn" explain "$@" </dev/null >out 2>err || status=$?
+  first=$(head -n 1 err)
+  # shellcheck disable=SC2053
+  if [ "$status" != "$wanted" ]; then
+    echo "not ok explain: $name: status $status, '$first'"
+  elif ! [[ $first == $said ]]; then
+    echo "not ok explain: $name: '$first'"
+  elif ! cmp -s "$output" out; then
+    echo "not ok explain: $name: it prints something else: $(diff "$output" out | head -n 3 | cut -c 1-160 | tr '\n' '|')"
+  else
+    echo "ok explain: $name"
+  fi
+}
+
+# What OLA 0.10 sent: three packets of levels, three that end the stream, and a page of universe discovery by a draft of the
+# standard (root vector 4, framing vector 4). The moments, numbers and options were read off the octets.
+cat >ola.text <<'E'
+     0.000 s  universe     1  0102030405060708090a0b0c0d0e0f10 "OLA Server"  appears at 10.77.0.1:5568, priority 100
+     2.412 s  universe     1  0102030405060708090a0b0c0d0e0f10 "OLA Server"  ends its stream
+     5.970 s  from 10.77.0.1:5568  refused: the framing vector is unknown
+
+universe state    priority      first       last     taken   preview     other   skipped      late  repeated   gap ms  source
+       1 ended         100      0.000      2.412         6         0         0         0         0         0     1544  0102030405060708090a0b0c0d0e0f10 "OLA Server" at 10.77.0.1:5568
+
+universe  sources  sending     taken   skipped discarded
+       1        1        0         6         0         0
+
+refused by fault
+FramingVector                  1
+
+datagrams to the port          7
+refused                        1
+pages                          0
+pages not followed             0
+synchronization                0
+not followed                   0
+datagrams to other ports       0
+frames without a datagram      0
+frames with an earlier moment  0
+E
+cat >ola.json <<'E'
+{"ms":0,"event":"appeared","universe":1,"cid":"0102030405060708090a0b0c0d0e0f10","name":"OLA Server","address":"10.77.0.1","port":5568,"priority":100}
+{"ms":2412,"event":"ended","universe":1,"cid":"0102030405060708090a0b0c0d0e0f10","name":"OLA Server","address":"10.77.0.1","port":5568,"priority":100}
+{"ms":5970,"event":"refused","address":"10.77.0.1","port":5568,"fault":8}
+{"row":"source","universe":1,"cid":"0102030405060708090a0b0c0d0e0f10","name":"OLA Server","address":"10.77.0.1","port":5568,"state":"ended","priority":100,"first":0,"last":2412,"live":3,"preview":0,"terminated":3,"other":0,"skipped":0,"late":0,"repeated":0,"gap":1544,"last_second":0}
+{"row":"universe","universe":1,"sources":1,"sending":0,"taken":6,"skipped":0,"discarded":0}
+{"row":"refused","fault":8,"name":"FramingVector","count":1}
+{"row":"counts","datagrams":7,"refused":1,"pages":0,"pages_untracked":0,"synchronization":0,"untracked":0,"other_ports":0,"other_frames":0,"went_back":0,"ms":5970}
+E
+tells "what OLA sent, as text" 0 "" ola.text "$top/examples/ola.pcap"
+tells "what OLA sent, as JSON" 0 "" ola.json "$top/examples/ola.pcap" --json
+tells "another port" 0 "" <(printf '%s\n' '{"row":"counts","datagrams":0,"refused":0,"pages":0,"pages_untracked":0,"synchronization":0,"untracked":0,"other_ports":7,"other_frames":0,"went_back":0,"ms":5970}') \
+  "$top/examples/ola.pcap" --json --port 6454
+grep -vE '"universe":1,' ola.json >other.json
+tells "another universe" 0 "" other.json "$top/examples/ola.pcap" --json --universe 2
+tells "two universes" 0 "" ola.json "$top/examples/ola.pcap" --json --universe 2 --universe 1
+
+# Faulty recordings: what was told before the fault stays, and the tables follow.
+head -c 1311 "$top/examples/ola.pcap" >cut.pcap
+{
+  sed -n 1,2p ola.json
+  sed -n 4,5p ola.json
+  printf '%s\n' '{"row":"counts","datagrams":6,"refused":0,"pages":0,"pages_untracked":0,"synchronization":0,"untracked":0,"other_ports":0,"other_frames":0,"went_back":0,"ms":2412}'
+} >cut.json
+tells "a file that is cut in its last frame" 3 "refused cut.pcap octet 1137 CutShort" cut.json cut.pcap --json
+: >empty
+tells "an empty file" 3 "refused empty octet 0 NotACapture" empty empty
+printf 'a text, and no recording at all' >plain
+tells "a file that is no recording" 3 "refused plain octet 0 NotACapture" empty plain
+head -c 10 "$top/examples/ola.pcap" >stub
+tells "a header that is cut" 3 "refused stub octet 0 CutShort" empty stub
+# A block of 4 GB in 40 octets: a section, and the head of an enhanced packet.
+printf '\n\r\r\n\x1c\0\0\0\x4d\x3c\x2b\x1a\1\0\0\0\xff\xff\xff\xff\xff\xff\xff\xff\x1c\0\0\0' >lying
+printf '\6\0\0\0\xfc\xff\xff\xff\0\0\0\0' >>lying
+tells "a block that says 4 GB" 3 "refused lying octet 28 *" <(printf '%s\n' '{"row":"counts","datagrams":0,"refused":0,"pages":0,"pages_untracked":0,"synchronization":0,"untracked":0,"other_ports":0,"other_frames":0,"went_back":0,"ms":0}') lying --json
+tells "a file that is absent" 4 "device read absent" empty absent
+tells "a folder" 4 "device read $room" empty "$room"
+tells "a setup that is absent" 4 "device read absent" empty "$top/examples/ola.pcap" --setup absent
+tells "a setup that is faulty" 3 "refused plain Toml" empty "$top/examples/ola.pcap" --setup plain
+
+# Bad words.
+tells "no recording" 2 "error: *" empty
+tells "two recordings" 2 "error: *" empty x y
+tells "port 0" 2 "error: 0: Port" empty x --port 0
+tells "port 65536" 2 "error: 65536: Port" empty x --port 65536
+tells "a port with a sign" 2 "error: +1: Port" empty x --port +1
+tells "universe 0" 2 "error: 0: Universe" empty x --universe 0
+tells "universe 64000" 2 "error: 64000: Universe" empty x --universe 64000
+tells "a universe in words" 2 "error: one: Universe" empty x --universe one
+tells "a setup without a name" 2 "error: *" empty x --setup
+
+if ! command -v python3 >/dev/null; then
+  echo "skipped explain: a recording with each event: no python3"
+  exit 0
+fi
+
+# Recordings written octet by octet (E1.31, 5 to 8; pcap of Ethernet). The moments in the lines below are those in the calls here.
+cat >recordings.py <<'P'
+import struct, sys
+
+A, B, C = (bytes([letter]) * 16 for letter in (0xaa, 0xbb, 0xcc))
+
+def root(vector, cid, rest):
+    return b"\0\x10\0\0ASC-E1.17\0\0\0" + struct.pack(">HI", 0x7000 | 22 + len(rest), vector) + cid + rest
+
+def data(cid, name, universe, number, slots=b"", priority=100, options=0, start=0):
+    dmp = struct.pack(">HBBHHHB", 0x7000 | 11 + len(slots), 2, 0xa1, 0, 1, 1 + len(slots), start) + slots
+    head = struct.pack(">I64sBHBBH", 2, name, priority, 0, number, options, universe)
+    return root(4, cid, struct.pack(">H", 0x7000 | 2 + len(head) + len(dmp)) + head + dmp)
+
+def page(cid, name, numbers, page=0, last=0):
+    layer = struct.pack(">IBB", 1, page, last) + b"".join(struct.pack(">H", number) for number in numbers)
+    layer = struct.pack(">H", 0x7000 | 2 + len(layer)) + layer
+    head = struct.pack(">I64sI", 2, name, 0)
+    return root(8, cid, struct.pack(">H", 0x7000 | 2 + len(head) + len(layer)) + head + layer)
+
+def sync():
+    return root(8, A, struct.pack(">HIBHH", 0x700b, 1, 0, 0, 0))
+
+class Recording:
+    def __init__(self, path):
+        self.file = open(path, "wb")
+        self.file.write(struct.pack("<IHHIIII", 0xa1b2c3d4, 2, 4, 0, 0, 65535, 1))
+
+    def frame(self, moment, octets):
+        self.file.write(struct.pack("<IIII", 1000 + moment // 1000, moment % 1000 * 1000, len(octets), len(octets)) + octets)
+
+    def sent(self, moment, host, payload, port=5568):
+        udp = struct.pack(">HHHH", 5000, port, 8 + len(payload), 0) + payload
+        ip = struct.pack(">BBHHHBBH", 0x45, 0, 20 + len(udp), 0, 0, 64, 17, 0) + bytes([10, 0, 0, host, 239, 255, 0, 1])
+        self.frame(moment, bytes(12) + b"\x08\0" + ip + udp)
+
+def events(path):
+    r = Recording(path)
+    r.sent(0, 1, data(A, b"Desk", 1, 10, b"\x80"))
+    r.sent(100, 1, data(A, b"Desk", 1, 15, b"\x81"))
+    r.sent(110, 1, data(A, b"Desk", 1, 14, b"\x82"))
+    r.sent(120, 1, data(A, b"Desk", 1, 15, b"\x83"))
+    r.sent(200, 1, data(A, b"Desk", 1, 16, b"\x81", priority=120))
+    r.sent(300, 2, data(A, b"Desk", 1, 17, b"\x81", priority=120))
+    r.sent(400, 2, data(A, b"Main", 1, 18, b"\x81", priority=120))
+    r.sent(500, 2, data(A, b"Main", 1, 200, b"\x81", priority=120))
+    r.sent(600, 3, data(B, b"Spare", 1, 0, b"\x40\x40", priority=120))
+    r.sent(700, 3, data(B, b"Spare", 1, 1, b"\xf0\x40", priority=120))
+    r.sent(800, 3, data(B, b"Spare", 1, 2, priority=120, options=0x40))
+    r.sent(900, 3, data(B, b"Spare", 1, 3, b"\x40", priority=121))
+    r.sent(950, 3, data(B, b"Spare", 2, 0, b"\1", options=0x80))
+    r.sent(1000, 3, page(B, b"Spare", [1, 3, 4, 5]))
+    r.sent(1100, 3, page(B, b"Spare", [1, 3, 4, 5]))
+    r.sent(1200, 3, page(B, b"Spare", [1, 7]))
+    r.sent(1300, 3, sync())
+    r.sent(1400, 9, b"x")
+    r.sent(1500, 9, b"y", port=53)
+    r.frame(1499, bytes(12) + b"\x08\x06")
+    r.sent(3000, 2, data(A, b"Main", 1, 201, b"\x81", priority=120))
+    r.sent(6000, 9, b"z", port=53)
+
+def many(path):
+    r = Recording(path)
+    for number in range(1025):
+        r.sent(number, 1, data(number.to_bytes(16, "big"), b"", 1 + number % 5, 0, b"\1"))
+    r.sent(1025, 1, data((1024).to_bytes(16, "big"), b"", 1, 1, b"\1"))
+
+def listings(path):
+    r = Recording(path)
+    for number in range(257):
+        r.sent(number, 1, page(number.to_bytes(16, "big"), b"", [1]))
+
+{"events": events, "many": many, "listings": listings}[sys.argv[1]](sys.argv[2])
+P
+for name in events many listings; do python3 recordings.py "$name" "$name.pcap" || exit 1; done
+
+A=aaaaaaaaaaaaaaaaaaaaaaaaaaaaaaaa
+B=bbbbbbbbbbbbbbbbbbbbbbbbbbbbbbbb
+cat >events.text <<E
+     0.000 s  universe     1  $A "Desk"  appears at 10.0.0.1:5000, priority 100
+     0.100 s  universe     1  $A "Desk"  skipped 4 numbers
+     0.110 s  universe     1  $A "Desk"  a packet out of sequence, discarded
+     0.120 s  universe     1  $A "Desk"  a packet comes again, discarded
+     0.200 s  universe     1  $A "Desk"  priority 120, before 100
+     0.300 s  universe     1  $A "Desk"  now sends from 10.0.0.2:5000
+     0.400 s  universe     1  $A "Main"  has this name now
+     0.500 s  universe     1  $A "Main"  begins its numbers anew
+     0.600 s  universe     1  $B "Spare"  appears at 10.0.0.3:5000, priority 120
+     0.600 s  universe     1  2 sources send at the top priority, 120
+     0.800 s  universe     1  $B "Spare"  ends its stream
+     0.800 s  universe     1  one source alone sends at the top priority, 120
+     0.900 s  universe     1  $B "Spare"  is back at 10.0.0.3:5000, priority 121
+     0.900 s  universe     1  $B "Spare"  priority 121, before 120
+     0.950 s  universe     2  $B "Spare"  appears at 10.0.0.3:5000, priority 100
+     1.000 s  $B "Spare"  lists universes 1, 3-5
+     1.200 s  $B "Spare"  lists other universes than before: 1, 7
+     1.400 s  from 10.0.0.9:5000  refused: the octets end too early
+     3.000 s  universe     1  $A "Main"  is lost: silent since 0.500 s
+     3.000 s  universe     1  $A "Main"  is back at 10.0.0.2:5000, priority 120
+     3.400 s  universe     1  $B "Spare"  is lost: silent since 0.900 s
+     3.450 s  universe     2  $B "Spare"  is lost: silent since 0.950 s
+     5.500 s  universe     1  $A "Main"  is lost: silent since 3.000 s
+
+universe state    priority      first       last     taken   preview     other   skipped      late  repeated   gap ms  source
+       1 lost          120      0.000      3.000         7         0         0         4         1         1     2500  $A "Main" at 10.0.0.2:5000
+       1 lost          121      0.600      0.900         4         0         0         0         0         0      100  $B "Spare" at 10.0.0.3:5000
+       2 lost          100      0.950      0.950         1         1         0         0         0         0        0  $B "Spare" at 10.0.0.3:5000
+
+universe  sources  sending     taken   skipped discarded
+       1        2        0        11         4         2
+       2        1        0         1         0         0
+
+lists of universes
+$B "Spare"  lists 1, 7; listed and silent: 7; heard and unlisted: 2
+
+refused by fault
+TooShort                       1
+
+datagrams to the port          19
+refused                        1
+pages                          3
+pages not followed             0
+synchronization                1
+not followed                   0
+datagrams to other ports       2
+frames without a datagram      1
+frames with an earlier moment  1
+E
+tells "a recording with each event" 0 "" events.text events.pcap
+
+# The same as JSON: the kinds of lines that no other recording here has.
+cat >events.json <<E
+{"ms":600,"event":"rivals","universe":1,"sources":2,"priority":120}
+{"ms":800,"event":"no_rivals","universe":1,"sources":1,"priority":120}
+{"ms":1000,"event":"lists","cid":"$B","name":"Spare","universes":[1,3,4,5]}
+{"ms":1200,"event":"relists","cid":"$B","name":"Spare","universes":[1,7]}
+{"ms":1400,"event":"refused","address":"10.0.0.9","port":5000,"fault":1}
+{"row":"list","cid":"$B","name":"Spare","universes":[1,7],"silent":[7],"unlisted":[2]}
+{"row":"refused","fault":1,"name":"TooShort","count":1}
+E
+"$sacn" explain events.pcap --json </dev/null 2>err | grep -E '"(rivals|no_rivals|lists|relists|list|refused)"[,}]' >out
+if cmp -s events.json out; then
+  echo "ok explain: the same as JSON"
+else
+  echo "not ok explain: the same as JSON: $(diff events.json out | head -n 3 | tr '\n' '|')"
+fi
+
+# frame PORT MOMENT DIGITS: the line of a frame as a node prints it, the start code and slots of these digits, and 0 in the rest
+frame() { printf '%s %s 00%s%0*d\n' "$1" "$2" "$3" $((1024 - ${#3})) 0; }
+# slots DIGITS: the same slots alone
+slots() { printf '%s%0*d' "$1" $((1024 - ${#1})) 0; }
+printf 'version = 1\n[[port]]\nnumber = 1\nuniverse = 1\n[[port]]\nnumber = 2\nuniverse = 2\n' >node.toml
+{
+  echo "     0.000 s  port         1  at the start"
+  frame 1 0 ""
+  echo "     0.000 s  port         2  at the start"
+  frame 2 0 ""
+  echo "     0.000 s  port         1  by a packet on universe 1 of $A \"Desk\""
+  frame 1 0 80
+  echo "     0.100 s  port         1  by a packet on universe 1 of $A \"Desk\""
+  frame 1 100 81
+  echo "     0.600 s  port         1  by a packet on universe 1 of $B \"Spare\""
+  frame 1 600 8140
+  echo "     0.700 s  port         1  by a packet on universe 1 of $B \"Spare\""
+  frame 1 700 f040
+  echo "     0.800 s  port         1  by the end of a stream on universe 1 of $B \"Spare\""
+  frame 1 800 81
+  echo "     0.900 s  port         1  by a packet on universe 1 of $B \"Spare\""
+  frame 1 900 40
+  echo "     3.400 s  port         1  by the loss of a source"
+  frame 1 3400 81
+  echo "     5.500 s  port         1  by the loss of a source"
+  frame 1 5500 ""
+} >frames.text
+"$sacn" explain events.pcap --setup node.toml </dev/null 2>err | grep -E '^[0-9]+ [0-9]+ [0-9a-f]{1026}$|  port ' >out
+if cmp -s frames.text out; then
+  echo "ok explain: the frames of a node, each with its cause"
+else
+  echo "not ok explain: the frames of a node: $(diff frames.text out | head -n 3 | cut -c 1-120 | tr '\n' '|')"
+fi
+{
+  echo "{\"ms\":0,\"event\":\"frame\",\"port\":1,\"cause\":\"start\",\"slots\":\"$(slots "")\"}"
+  echo "{\"ms\":0,\"event\":\"frame\",\"port\":2,\"cause\":\"start\",\"slots\":\"$(slots "")\"}"
+  echo "{\"ms\":0,\"event\":\"frame\",\"port\":1,\"cause\":\"packet\",\"universe\":1,\"cid\":\"$A\",\"name\":\"Desk\",\"slots\":\"$(slots 80)\"}"
+  echo "{\"ms\":100,\"event\":\"frame\",\"port\":1,\"cause\":\"packet\",\"universe\":1,\"cid\":\"$A\",\"name\":\"Desk\",\"slots\":\"$(slots 81)\"}"
+  echo "{\"ms\":600,\"event\":\"frame\",\"port\":1,\"cause\":\"packet\",\"universe\":1,\"cid\":\"$B\",\"name\":\"Spare\",\"slots\":\"$(slots 8140)\"}"
+  echo "{\"ms\":700,\"event\":\"frame\",\"port\":1,\"cause\":\"packet\",\"universe\":1,\"cid\":\"$B\",\"name\":\"Spare\",\"slots\":\"$(slots f040)\"}"
+  echo "{\"ms\":800,\"event\":\"frame\",\"port\":1,\"cause\":\"ended\",\"universe\":1,\"cid\":\"$B\",\"name\":\"Spare\",\"slots\":\"$(slots 81)\"}"
+  echo "{\"ms\":900,\"event\":\"frame\",\"port\":1,\"cause\":\"packet\",\"universe\":1,\"cid\":\"$B\",\"name\":\"Spare\",\"slots\":\"$(slots 40)\"}"
+  echo "{\"ms\":3400,\"event\":\"frame\",\"port\":1,\"cause\":\"lost\",\"slots\":\"$(slots 81)\"}"
+  echo "{\"ms\":5500,\"event\":\"frame\",\"port\":1,\"cause\":\"lost\",\"slots\":\"$(slots "")\"}"
+} >frames.json
+"$sacn" explain events.pcap --setup node.toml --json </dev/null 2>err | grep '"event":"frame"' >out
+if cmp -s frames.json out; then
+  echo "ok explain: the frames as JSON"
+else
+  echo "not ok explain: the frames as JSON: $(diff frames.json out | head -n 3 | cut -c 1-120 | tr '\n' '|')"
+fi
+
+# 1025 sources and 257 lists: the last of each finds no room.
+"$sacn" explain many.pcap --json </dev/null >out 2>err
+if [ "$(grep -c '"event":"appeared"' out)" = 1024 ] && [ "$(grep -c '"event":"untracked"' out)" = 2 ] && grep -q '"row":"counts","datagrams":1026,.*"untracked":2,' out; then
+  echo "ok explain: 1025 sources"
+else
+  echo "not ok explain: 1025 sources: $(tail -n 1 out)"
+fi
+"$sacn" explain listings.pcap --json </dev/null >out 2>err
+if [ "$(grep -c '"event":"lists"' out)" = 256 ] && grep -q '"pages":257,"pages_untracked":1,' out; then
+  echo "ok explain: the lists of 257 sources"
+else
+  echo "not ok explain: the lists of 257 sources: $(tail -n 1 out)"
+fi
+
+# A desk beside a gateway: what a recording of them says of the gateway's frames is what the gateway printed, but for its clock.
+if ! command -v tcpdump >/dev/null; then
+  echo "skipped explain: a gateway's frames: no tcpdump"
+  exit 0
+fi
+port=25821
+timeout 20 tcpdump -i lo -U -w rig.pcap "udp port $port" 2>tcpdump.err &
+recorder=$!
+started+=("$recorder")
+for _ in $(seq 50); do grep -q '^tcpdump: listening' tcpdump.err && break; sleep 0.1; done
+if ! kill -0 "$recorder" 2>/dev/null || ! grep -q '^tcpdump: listening' tcpdump.err; then
+  echo "skipped explain: a gateway's frames: $(head -n 1 tcpdump.err)"
+  exit 0
+fi
+printf 'version = 1\nudp_port = %s\n[[port]]\nnumber = 1\nuniverse = 1\n[[port]]\nnumber = 7\nuniverse = 2\n' "$port" >rig.toml
+cat >rig-show.toml <<T
+version = 2
+cid = "00010203-0405-0607-0809-0a0b0c0d0e0f"
+name = "Desk"
+universes = [1, 2]
+send_to = [$port]
+[[cue]]
+number = 1
+up = 0
+down = 0
+levels = [[1, 65535]]
+[[patch]]
+channel = 1
+universe = 1
+slot = 1
+[[patch]]
+channel = 2
+universe = 2
+slot = 512
+T
+{
+  echo "100 go"
+  for step in $(seq 12); do echo "$((100 + 100 * step)) set $((1 + step % 2)) $((65535 - 5000 * step))"; done
+  printf '%s\n' "1500 master 30000" "1600 end 2"
+} >rig-script.txt
+"$sacn" gateway rig.toml --seconds 5 >gateway.lines 2>gateway.err &
+gateway=$!
+started+=("$gateway")
+for _ in $(seq 50); do [ -s gateway.lines ] && break; sleep 0.1; done
+"$sacn" desk rig-show.toml --script rig-script.txt </dev/null >desk.lines 2>desk.err
+wait "$gateway"
+kill -INT "$recorder"
+wait "$recorder"
+"$sacn" explain rig.pcap --setup rig.toml </dev/null >rig.text 2>err
+# (One turn of a gateway takes all that waits, and writes its ports in order: so the lines of each port are compared.)
+cut -d ' ' -f 1,3 gateway.lines | sort -s -n -k 1,1 >wanted
+grep -E '^[0-9]+ [0-9]+ [0-9a-f]{1026}$' rig.text | cut -d ' ' -f 1,3 | sort -s -n -k 1,1 >found
+count=$(wc -l <wanted)
+if [ "$count" -gt 10 ] && cmp -s wanted found; then
+  echo "ok explain: a gateway's frames out of a recording, $count lines"
+else
+  echo "not ok explain: a gateway's frames: $count lines, $(wc -l <found) told"
+fi
