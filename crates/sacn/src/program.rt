@@ -113,7 +113,7 @@ fn standard_input<I: Read + Drop>(alloc: Global, input: I) -> Result<Vec<Vec<u8>
 }
 
 // Flushes what was written: a refusal stands only where the device did its part.
-fn finished<W: Write, F>(printed: Printed<W, F>) -> Result<(), Ending>
+fn finished<W: Write + Drop, F: Drop>(printed: Printed<W, F>) -> Result<(), Ending>
 where
     Ending: From<F>,
 {
