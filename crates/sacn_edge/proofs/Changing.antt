@@ -1,10 +1,10 @@
 -- What a node's loop notes, and the ports whose latest lines have their frames.
-use Rattle.std.proofs.Common.{◌≡◌, ◌≢◌, ℕ, ◌==◌, Bool, true, false, ◌||◌, List, [], ◌∷◌, ◌++◌, take, drop, length, map, get_or, zero, suc, ◌<◌, Option, None, Some, IfSome, refl, sym, ap, subst, ◌∙◌, arith}
+use Rattle.std.proofs.Common.{◌≡◌, ℕ, ◌==◌, Bool, true, false, ◌||◌, List, [], ◌∷◌, length, map, get_or, zero, suc, ◌<◌, Option, None, Some, IfSome, refl, sym, ap, subst, ◌∙◌, arith}
 use Rattle.std.specs.List.{list_any}
 use Rattle.sacn_framing.specs.PacketReading.{reading_packet}
 use Rattle.sacn_node.specs.declared.setup.SlotRange.{SlotRange}
 use Rattle.sacn_node.specs.Setup.{Port}
-use Rattle.sacn_node.specs.Ports.{port_of, frame_on}
+use Rattle.sacn_node.specs.Ports.{port_of}
 use Rattle.sacn_node.specs.Cores.{Table, Core, Node, core_at, core_lost, core_slots, node_frame, slots_on, table_of}
 use Rattle.sacn_node.specs.Readings.{after_reading}
 use Rattle.sacn_node.specs.Changes.{universe_changed, shows_on, node_shows}

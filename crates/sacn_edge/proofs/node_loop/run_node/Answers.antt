@@ -1,6 +1,5 @@
-use Rattle.std.proofs.Common.{nat_lt, rules, arith, ◌≡◌, ◌∷◌, [], length, map, refl, sym, ap, subst, ◌∙◌}
+use Rattle.std.proofs.Common.{rules, arith, ◌≡◌, ◌∷◌, [], length, map, refl, sym, ap, subst, ◌∙◌}
 use Rattle.std.proofs.lemmas.List.{length-map}
-use Rattle.std.proofs.lemmas.Bool.{and_parts, ltb-true}
 use Rattle.std.proofs.lemmas.Result.{err_from_is_err_and}
 use Rattle.sacn_node.specs.Setup.{port_numbers}
 use Rattle.sacn_node.specs.Cores.{Node, core_at}

@@ -1,4 +1,4 @@
-use Rattle.std.proofs.Common.{arith, ◌∷◌, [], ◌∙◌, refl, sym}
+use Rattle.std.proofs.Common.{arith, ◌∷◌, [], refl, sym}
 use Rattle.sacn_edge.proofs.NodeLemmas.{Extends-append}
 use Rattle.sacn_edge.proofs.Changing.{grown, more_told}
 use Rattle.sacn_live.specs.Hearings.{hearing_in, came_of, heard_of, in_order}

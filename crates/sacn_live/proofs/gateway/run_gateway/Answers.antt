@@ -1,4 +1,4 @@
-use Rattle.std.proofs.Common.{nat_lt, arith, ◌≡◌, ◌∷◌, [], length, map, refl, sym, ap, subst, ◌∙◌}
+use Rattle.std.proofs.Common.{arith, ◌≡◌, ◌∷◌, [], length, map, refl, sym, ap, subst, ◌∙◌}
 use Rattle.std.proofs.lemmas.List.{length-map}
 use Rattle.std.proofs.lemmas.Result.{err_from_is_err_and}
 use Rattle.sacn_node.specs.Setup.{port_numbers}

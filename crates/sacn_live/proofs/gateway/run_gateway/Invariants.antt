@@ -1,4 +1,4 @@
-use Rattle.std.proofs.Common.{◌≡◌, ◌<◌, List, length, false}
+use Rattle.std.proofs.Common.{◌≡◌, List, length, false}
 use Rattle.sacn_node.specs.Setup.{port_numbers}
 use Rattle.sacn_edge.specs.Told.{Adds, Extends}
 use Rattle.sacn_edge.specs.Changing.{AreCurrentBut}
