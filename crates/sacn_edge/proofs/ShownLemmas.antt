@@ -66,7 +66,7 @@ shows_itself : (f : List ℕ) → same f f ≡ true
 unfolding same
 shows_itself f = (bytes_decides f f).1 refl
 
-current_text : (m : ℕ) (s : PortShown) (f : Option (List ℕ)) → later s.last f ≡ s.last → frame_text m s f ≡ []
+pub current_text : (m : ℕ) (s : PortShown) (f : Option (List ℕ)) → later s.last f ≡ s.last → frame_text m s f ≡ []
 current_text m s None is = refl
 current_text m s (Some f) is = ap (λ last. if is_shown last f then [] else line_text (record { port = s.number; moment = m; frame = f })) (sym is) ∙ ap (λ b. if b then [] else line_text (record { port = s.number; moment = m; frame = f })) (shows_itself f)
 
@@ -74,6 +74,9 @@ current_text m s (Some f) is = ap (λ last. if is_shown last f then [] else line
 pub current_texts : (n : Node) (ss : List PortShown) → AreCurrent n ss → ports_text n ss ≡ []
 current_texts n [] all = refl
 current_texts n (s ∷ ss) all = ap (λ t. t ++ ports_text n ss) (current_text n.core.moment s (node_frame s.number n) all.0) ∙ current_texts n ss all.1
+
+pub one_stays : (s : PortShown) (f : Option (List ℕ)) → later s.last f ≡ s.last → s ≡ with_last s f
+one_stays s f is = ap (λ last. let t : PortShown = record { number = s.number; last = last } in t) (sym is)
 
 pub current_stay : (n : Node) (ss : List PortShown) → AreCurrent n ss → ss ≡ map (port_after n) ss
 current_stay n [] all = refl

@@ -3,6 +3,7 @@ pub mod Writers
 pub mod Heard
 pub mod NodeText
 pub mod Shown
+pub mod Changing
 pub mod NodeRun
 pub mod ConsoleSends
 pub mod MemoryItems

@@ -6,6 +6,7 @@
 //! as a socket or a terminal of the machine, makes no clause false and none useful.
 #![tactic(auto)]
 
+mod changes;
 mod clock;
 mod console_loop;
 pub mod laws;
@@ -21,6 +22,7 @@ mod text;
 mod udp;
 mod writer;
 
+pub use changes::Changes;
 pub use clock::Clock;
 pub use console_loop::{count as count_send, run_console, send};
 pub use line::FRAME_OCTETS;
@@ -28,7 +30,7 @@ pub use link::{BUFFER_OCTETS, Link, Received};
 pub use node_loop::{ports_of, run_node};
 pub use out::Out;
 pub use report::{ConsoleReport, NodeReport, print_report};
-pub use shown::{PortShown, show};
+pub use shown::{PortShown, show, show_changed};
 pub use system::SystemClock;
 pub use text::{WriteFailed, write_text};
 pub use udp::{SocketFailed, UdpLink};

@@ -2,77 +2,56 @@
 ghost use Rattle.std.specs.Prelude.{◌≡◌, ◌≤◌, ◌<◌, ◌+◌, ◌-◌, ◌^◌, ◌∷◌, [], List, length, false, true, map, ℕ, if◌then◌else◌, OnOk, IfOk, OnErr};
 ghost use Rattle.std.specs.List.Sorted.{IsStrictlyIncreasing};
 ghost use Rattle.sacn_node.specs.Setup.{port_numbers};
-ghost use Rattle.sacn_node.specs.Calls.{step, Take, Tick};
+ghost use Rattle.sacn_node.specs.Calls.{step};
 ghost use Rattle.sacn_edge.specs.Told.{Adds, Extends};
 ghost use Rattle.sacn_edge.specs.Heard.{Hears, heard_of, is_datagram, is_failure};
 ghost use Rattle.sacn_edge.specs.NodeText.{Turn, call_at, node_after, node_text};
 ghost use Rattle.sacn_edge.specs.NodeRun.{Turned, report_of, StopsIn};
 ghost use Rattle.sacn_edge.specs.Shown.{unshown};
+ghost use Rattle.sacn_edge.specs.Changing.{Grows, IsTold};
 
+use crate::changes::Changes;
 use crate::clock::Clock;
 use crate::link::{BUFFER_OCTETS, Link, Received};
 use crate::out::Out;
 use crate::report::NodeReport;
-use crate::shown::{PortShown, show};
+use crate::shown::{PortShown, show_changed};
 use crate::text::WriteFailed;
 use arrayvec::ArrayVec;
-use sacn_node::{MAX_PORTS, NodeCore, NodeTaken};
+use sacn_node::{MAX_PORTS, NodeCore};
 
-/// What a turn read and received, and whether it is known that no frame changed.
+/// What a turn read and received.
 #[derive(Clone, Copy)]
 struct Hearing {
     now: u64,
     received: Received,
-    is_still: bool,
 }
 
-/// Gives the node a datagram. Where no source was lost and no table of the node took it, no frame changed.
-fn take(core: &mut NodeCore, now: u64, octets: &[u8]) -> bool
-    ensures still { result ≡ true → core.new.core.tables ≡ core.old.core.tables }
-    ensures core { core.new ≡ step (Take now octets.now) core.old }
-{
-    let is_still = tick(core, now);
-    match core.take(now, octets) {
-        NodeTaken::FromTable(_) => false,
-        NodeTaken::OtherUniverse => is_still,
-        NodeTaken::Discovery => is_still,
-        NodeTaken::Sync => is_still,
-        NodeTaken::Refused(_) => is_still,
-    }
-}
-
-/// Moves the node's clock. Where no source was lost, no frame changed.
-fn tick(core: &mut NodeCore, now: u64) -> bool
-    ensures still { result ≡ true → core.new.core.tables ≡ core.old.core.tables }
-    ensures core { core.new ≡ step (Tick now) core.old }
-{
-    core.tick(now) == 0
-}
-
-/// Reads the clock, receives once, and gives the node what came; where nothing did, its clock is moved.
+/// Reads the clock, receives once, and gives the node what came; where nothing did, its clock is moved. Notes what that may
+/// have changed.
 fn hear<L: Link, C: Clock>(
     link: &mut L,
     clock: &mut C,
     core: &mut NodeCore,
+    changes: &mut Changes,
     buffer: &mut [u8; BUFFER_OCTETS],
 ) -> Hearing
     ensures clock { Extends (C.readings clock.old) (C.readings clock.new) (result.now ∷ []) }
     ensures link { Hears (L.told link.old) (L.told link.new) (heard_of result.received buffer.new ∷ []) }
     ensures core { core.new ≡ step (call_at result.now (heard_of result.received buffer.new)) core.old }
-    ensures still { result.is_still ≡ true → core.new.core.tables ≡ core.old.core.tables }
+    ensures grows { Grows changes.old changes.new }
+    ensures told { IsTold changes.new core.old.core core.new.core }
 {
     let now = clock.now();
     let received = link.receive(buffer);
-    let is_still = match received {
-        Received::Datagram(len) => take(core, now, &buffer[..len]),
-        Received::Nothing => tick(core, now),
-        Received::Failed => tick(core, now),
-    };
-    Hearing {
-        now,
-        received,
-        is_still,
+    match received {
+        Received::Datagram(len) => {
+            changes.take(core, now, &buffer[..len]);
+        }
+        Received::Nothing => changes.tick(core, now),
+        Received::Failed => changes.tick(core, now),
     }
+    Hearing { now, received }
 }
 
 /// Counts one receive.
@@ -141,12 +120,13 @@ pub fn run_node<L: Link, C: Clock, O: Out>(
         failed: 0,
     };
     let mut ports = ports_of(core);
+    let mut changes = Changes::all();
     let mut buffer = [0; BUFFER_OCTETS];
-    for turn in 0..turns {
-        let hearing = hear(link, clock, core, &mut buffer);
+    for _turn in 0..turns {
+        let hearing = hear(link, clock, core, &mut changes, &mut buffer);
         count(&mut report, hearing.received);
-        let is_still = hearing.is_still & (turn > 0);
-        show(out, core, hearing.now, is_still, ports.as_mut_slice())?;
+        show_changed(out, core, hearing.now, &changes, ports.as_mut_slice())?;
+        changes.clear();
     }
     Ok(report)
 }

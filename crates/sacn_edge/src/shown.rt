@@ -4,7 +4,9 @@ ghost use Rattle.sacn_node.specs.Cores.{core_at};
 ghost use Rattle.sacn_edge.specs.Told.{Adds, AddsPart};
 ghost use Rattle.sacn_edge.specs.NodeText.{is_shown};
 ghost use Rattle.sacn_edge.specs.Shown.{frame_text, with_last, port_text, port_after, ports_text, AreCurrent, FailsAmong};
+ghost use Rattle.sacn_edge.specs.Changing.{IsCurrentBut, AreCurrentBut};
 
+use crate::changes::Changes;
 use crate::line::{FRAME_OCTETS, line_of};
 use crate::out::Out;
 use crate::text::{WriteFailed, write_text};
@@ -91,6 +93,52 @@ pub fn show<O: Out>(
     }
     for shown in ports.iter_mut() {
         show_port(out, core, now, shown)?;
+    }
+    Ok(())
+}
+
+/// Writes the line of a port whose frame may have changed, where it isn't that of its latest line.
+fn show_changed_port<O: Out>(
+    out: &mut O,
+    core: &mut NodeCore,
+    now: u64,
+    changes: &Changes,
+    shown: &mut PortShown,
+) -> Result<(), WriteFailed>
+    requires works { O.failed out.old ≡ false }
+    requires settled { core_at now core.old.core ≡ core.old.core }
+    requires current { IsCurrentBut changes.now core.old shown.old }
+    ensures core { core.new ≡ core.old }
+    ensures ok { OnOk result ((O.failed out.new ≡ false) × Adds (O.Tells out.old) (O.Tells out.new) (port_text core.old shown.old) × (shown.new ≡ port_after core.old shown.old)) }
+    ensures err { OnErr result ((O.failed out.new ≡ true) × AddsPart (O.Tells out.old) (O.Tells out.new) (port_text core.old shown.old)) }
+{
+    if changes.concern(core, shown.number) {
+        return show_port(out, core, now, shown);
+    }
+    Ok(())
+}
+
+/// Writes the lines of a turn: of each port whose frame isn't that of its latest line. A frame is made only for a port that
+/// shows what may have changed; where nothing may have, no port is looked at.
+pub fn show_changed<O: Out>(
+    out: &mut O,
+    core: &mut NodeCore,
+    now: u64,
+    changes: &Changes,
+    ports: &mut [PortShown],
+) -> Result<(), WriteFailed>
+    requires works { O.failed out.old ≡ false }
+    requires settled { core_at now core.old.core ≡ core.old.core }
+    requires current { AreCurrentBut changes.now core.old ports.old }
+    ensures core { core.new ≡ core.old }
+    ensures ok { OnOk result ((O.failed out.new ≡ false) × Adds (O.Tells out.old) (O.Tells out.new) (ports_text core.old ports.old) × (ports.new ≡ map (port_after core.old) ports.old)) }
+    ensures err { OnErr result ((O.failed out.new ≡ true) × FailsAmong core.old ports.old (O.Tells out.old) (O.Tells out.new)) }
+{
+    if changes.is_none() {
+        return Ok(());
+    }
+    for shown in ports.iter_mut() {
+        show_changed_port(out, core, now, changes, shown)?;
     }
     Ok(())
 }

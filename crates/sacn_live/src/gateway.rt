@@ -3,6 +3,7 @@ ghost use Rattle.std.specs.Prelude.{◌≡◌, ℕ, ◌≤◌, ◌<◌, ◌+◌,
 ghost use Rattle.sacn_node.specs.Cores.{core_at, core_lost};
 ghost use Rattle.sacn_edge.specs.Told.{Adds, Extends};
 ghost use Rattle.sacn_edge.specs.NodeText.{node_after};
+ghost use Rattle.sacn_edge.specs.Changing.{Grows, IsTold};
 ghost use Rattle.sacn_live.specs.Hearings.{Hearing, turns_of, emptied_after, in_order};
 ghost use Rattle.sacn_live.specs.GatewayText.{gateway_after, gateway_text};
 ghost use Rattle.sacn_live.specs.declared.limits.TheConstants.{LONGEST_WAIT};
@@ -11,7 +12,7 @@ ghost use Rattle.sacn_live.specs.GatewayRun.{all_heard, IsWhole, AreWhole, lates
 use crate::hearing::{Notes, hear};
 use crate::limits::{LONGEST_WAIT, MOST_BURST};
 use crate::receiver::{Octets4, Receiver};
-use sacn_edge::{BUFFER_OCTETS, Out, WriteFailed, ports_of, show};
+use sacn_edge::{BUFFER_OCTETS, Changes, Out, WriteFailed, ports_of, show_changed};
 use sacn_node::NodeCore;
 
 /// How long a gateway runs: at most so many turns, and no turn after the first that ends at the moment or later.
@@ -27,13 +28,13 @@ pub struct Span {
 struct Drained {
     now: u64,
     emptied: u64,
-    is_still: bool,
 }
 
 /// Takes all that waits, or as much as a turn may.
 fn drain<G: Receiver, N: Notes>(
     receiver: &mut G,
     core: &mut NodeCore,
+    changes: &mut Changes,
     notes: &mut N,
     senders: &[Octets4],
     emptied: u64,
@@ -45,25 +46,30 @@ fn drain<G: Receiver, N: Notes>(
         × (result.emptied ≡ emptied_after emptied hs)
         × (result.now ≡ latest_reading hs) }
     ensures settled { core_at result.now core.new.core ≡ core.new.core }
-    ensures still { result.is_still ≡ true → core.new.core.tables ≡ core.old.core.tables }
+    ensures grows { Grows changes.old changes.new }
+    ensures changed { IsTold changes.new core.old.core core.new.core }
 {
-    let mut step = hear(receiver, core, notes, senders, emptied, buffer);
-    let mut is_still = step.is_still;
+    let mut step = hear(receiver, core, changes, notes, senders, emptied, buffer);
     for _count in 1..MOST_BURST {
         if !step.is_more {
             return Drained {
                 now: step.now,
                 emptied: step.emptied,
-                is_still,
             };
         }
-        step = hear(receiver, core, notes, senders, step.emptied, buffer);
-        is_still &= step.is_still;
+        step = hear(
+            receiver,
+            core,
+            changes,
+            notes,
+            senders,
+            step.emptied,
+            buffer,
+        );
     }
     Drained {
         now: step.now,
         emptied: step.emptied,
-        is_still,
     }
 }
 
@@ -119,16 +125,25 @@ pub fn run_gateway<G: Receiver, N: Notes, O: Out>(
     ensures failed { OnErr result (O.failed out.new ≡ true) }
 {
     let mut ports = ports_of(core);
+    let mut changes = Changes::all();
     let mut buffer = [0; BUFFER_OCTETS];
     let mut emptied = 0;
     let mut wake = 0;
-    for turn in 0..span.turns {
+    for _turn in 0..span.turns {
         receiver.wait(wake);
-        let drained = drain(receiver, core, notes, senders, emptied, &mut buffer);
+        let drained = drain(
+            receiver,
+            core,
+            &mut changes,
+            notes,
+            senders,
+            emptied,
+            &mut buffer,
+        );
         emptied = drained.emptied;
         let now = drained.now;
-        let is_still = drained.is_still & (turn > 0);
-        show(out, core, now, is_still, ports.as_mut_slice())?;
+        show_changed(out, core, now, &changes, ports.as_mut_slice())?;
+        changes.clear();
         notes.shown(now, ports.as_slice());
         if now >= span.until {
             return Ok(());

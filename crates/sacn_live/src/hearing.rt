@@ -1,14 +1,15 @@
 //! One receive of a gateway, and what of it goes to the node.
-ghost use Rattle.std.specs.Prelude.{◌≡◌, ◌≤◌, ◌||◌, not, [], ◌∷◌, true, false, map, is_some};
+ghost use Rattle.std.specs.Prelude.{◌≡◌, ◌≤◌, ◌||◌, not, [], ◌∷◌, map, is_some};
 ghost use Rattle.std.specs.List.{list_any};
-ghost use Rattle.sacn_node.specs.Calls.{step, Take, Tick};
+ghost use Rattle.sacn_node.specs.Calls.{step};
 ghost use Rattle.sacn_edge.specs.Told.{Extends};
 ghost use Rattle.sacn_edge.specs.NodeText.{call_at, same};
+ghost use Rattle.sacn_edge.specs.Changing.{Grows, IsTold};
 ghost use Rattle.sacn_live.specs.Hearings.{hearing_in, From, came_of, is_admitted, is_late, is_datagram, heard_of, emptied_with};
 
 use crate::limits::LATE_AFTER;
 use crate::receiver::{Arrival, Octets4, Receiver};
-use sacn_edge::{BUFFER_OCTETS, PortShown};
+use sacn_edge::{BUFFER_OCTETS, Changes, PortShown};
 use sacn_node::{NodeCore, NodeTaken};
 
 /// Why a datagram doesn't go to the node.
@@ -43,8 +44,6 @@ pub(crate) struct Step {
     pub(crate) arrival: Arrival,
     /// The latest reading at which nothing was there.
     pub(crate) emptied: u64,
-    /// It is known that no frame changed.
-    pub(crate) is_still: bool,
     /// A datagram was there, so that there may be another.
     pub(crate) is_more: bool,
 }
@@ -84,48 +83,29 @@ fn why_passed(senders: &[Octets4], emptied: u64, now: u64, sender: &Octets4) -> 
     }
 }
 
-/// Gives the node a datagram. What it changed isn't known.
-fn take<N: Notes>(
-    core: &mut NodeCore,
-    notes: &mut N,
-    now: u64,
-    sender: Octets4,
-    octets: &[u8],
-) -> bool
-    ensures still { result ≡ false }
-    ensures core { core.new ≡ step (Take now octets.now) core.old }
-{
-    let taken = core.take(now, octets);
-    notes.taken(now, sender, octets, taken);
-    false
-}
-
-/// Moves the node's clock. Where no source was lost, no frame changed.
-fn tick(core: &mut NodeCore, now: u64) -> bool
-    ensures still { result ≡ true → core.new.core.tables ≡ core.old.core.tables }
-    ensures core { core.new ≡ step (Tick now) core.old }
-{
-    core.tick(now) == 0
-}
-
 /// Gives the node what came at a reading, where it goes there.
 fn give<N: Notes>(
     core: &mut NodeCore,
+    changes: &mut Changes,
     notes: &mut N,
     senders: &[Octets4],
     emptied: u64,
     now: u64,
     sender: Octets4,
     octets: &[u8],
-) -> bool
-    ensures still { result ≡ true → core.new.core.tables ≡ core.old.core.tables }
+)
+    ensures grows { Grows changes.old changes.new }
+    ensures changed { IsTold changes.new core.old.core core.new.core }
     ensures core { core.new ≡ step (call_at now (heard_of senders.now emptied now (From sender octets.now))) core.old }
 {
     match why_passed(senders, emptied, now, &sender) {
-        None => take(core, notes, now, sender, octets),
+        None => {
+            let taken = changes.take(core, now, octets);
+            notes.taken(now, sender, octets, taken);
+        }
         Some(why) => {
             notes.passed_over(now, sender, why);
-            tick(core, now)
+            changes.tick(core, now);
         }
     }
 }
@@ -134,6 +114,7 @@ fn give<N: Notes>(
 pub(crate) fn hear<G: Receiver, N: Notes>(
     receiver: &mut G,
     core: &mut NodeCore,
+    changes: &mut Changes,
     notes: &mut N,
     senders: &[Octets4],
     emptied: u64,
@@ -142,42 +123,48 @@ pub(crate) fn hear<G: Receiver, N: Notes>(
     ensures told { Extends (G.told receiver.old) (G.told receiver.new) (hearing_in result.now result.arrival buffer.new ∷ []) }
     ensures core { core.new ≡ step (call_at result.now (heard_of senders.now emptied result.now (came_of result.arrival buffer.new))) core.old }
     ensures emptied { result.emptied ≡ emptied_with emptied result.now (came_of result.arrival buffer.new) }
-    ensures still { result.is_still ≡ true → core.new.core.tables ≡ core.old.core.tables }
+    ensures grows { Grows changes.old changes.new }
+    ensures changed { IsTold changes.new core.old.core core.new.core }
     ensures more { result.is_more ≡ is_datagram (came_of result.arrival buffer.new) }
 {
     let receipt = receiver.receive(buffer);
     let now = receipt.now;
     let arrival = receipt.arrival;
     match arrival {
-        Arrival::Datagram { octets, sender } => Step {
-            now,
-            arrival,
-            emptied,
-            is_still: give(
+        Arrival::Datagram { octets, sender } => {
+            give(
                 core,
+                changes,
                 notes,
                 senders,
                 emptied,
                 now,
                 sender,
                 &buffer[..octets],
-            ),
-            is_more: true,
-        },
-        Arrival::Nothing => Step {
-            now,
-            arrival,
-            emptied: now,
-            is_still: tick(core, now),
-            is_more: false,
-        },
-        Arrival::Failed => {
-            notes.failed(now);
+            );
             Step {
                 now,
                 arrival,
                 emptied,
-                is_still: tick(core, now),
+                is_more: true,
+            }
+        }
+        Arrival::Nothing => {
+            changes.tick(core, now);
+            Step {
+                now,
+                arrival,
+                emptied: now,
+                is_more: false,
+            }
+        }
+        Arrival::Failed => {
+            notes.failed(now);
+            changes.tick(core, now);
+            Step {
+                now,
+                arrival,
+                emptied,
                 is_more: false,
             }
         }

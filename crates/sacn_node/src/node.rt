@@ -4,10 +4,10 @@ ghost use Rattle.std.specs.Prelude.{◌≡◌, ◌<◌, ◌≤◌, ◌^◌, ℕ,
 ghost use Rattle.std.specs.List.Sorted.{IsStrictlyIncreasing};
 
 use crate::limits::MAX_PORTS;
-use crate::ports::{NodePort, copy_numbers, copy_ports, fill_frame, find_port};
+use crate::ports::{NodePort, copy_numbers, copy_ports, fill_frame, find_port, show_one_of};
 use crate::setup::{NodeSetup, universes_of};
 use crate::tables::Tables;
-use crate::taken::{NoPort, NodeTaken};
+use crate::taken::{NoPort, NodeChange, NodeTaken};
 use arrayvec::ArrayVec;
 use sacn_framing::{Packet, read_packet};
 use sacn_slots::FRAME_OCTETS;
@@ -47,6 +47,7 @@ impl NodeCore {
     ghost use Rattle.sacn_framing.specs.PacketReading.{reading_packet};
     ghost use Rattle.sacn_node.specs.Setup.{port_numbers};
     ghost use Rattle.sacn_node.specs.Cores.{new_node, core_at, core_lost, core_row, node_frame};
+    ghost use Rattle.sacn_node.specs.Changes.{universe_changed, node_shows};
     ghost use Rattle.sacn_node.specs.Readings.{reply_to, after_reading};
 
     /// A node of these ports at moment 0, which holds no source. All its room is taken here, and a refusal is `OutOfMemory`.
@@ -84,6 +85,33 @@ impl NodeCore {
                 self.tables.expire(now);
                 NodeTaken::Refused(fault)
             }
+        }
+    }
+
+    /// Takes a datagram as `take` does, and says what it may have changed of what the node shows: where no source was lost at
+    /// this moment, the slots of `universe` alone.
+    pub fn take_and_tell(&mut self, now: u64, octets: &[u8]) -> NodeChange
+        ensures taken { result.taken ≡ reply_to (reading_packet octets.now) now self.old.core }
+        ensures lost { result.lost ≡ core_lost now self.old.core }
+        ensures universe { result.universe ≡ universe_changed (reading_packet octets.now) now self.old.core }
+        ensures core { self.new ≡ record self.old { core = after_reading (reading_packet octets.now) now self.old.core } }
+    {
+        match read_packet(octets) {
+            Ok(Packet::DataPacket(packet)) => self.tables.take_and_tell(now, &packet),
+            Ok(Packet::PagePacket(_)) => self.pass(now, NodeTaken::Discovery),
+            Ok(Packet::SyncPacket) => self.pass(now, NodeTaken::Sync),
+            Err(fault) => self.pass(now, NodeTaken::Refused(fault)),
+        }
+    }
+
+    /// Whether a port shows a slot of one of these universes; `false` where the node has no port of this number. The frame of a
+    /// port that shows none of those that changed is as before.
+    pub fn shows(&self, port: u8, universes: &[u16]) -> bool
+        ensures { result ≡ node_shows port universes.now self.now }
+    {
+        match find_port(&self.ports, port) {
+            Some(port) => show_one_of(port.ranges(), universes),
+            None => false,
         }
     }
 
@@ -149,5 +177,19 @@ impl NodeCore {
         ensures { result ≡ self.now.core.moment }
     {
         self.tables.moment()
+    }
+
+    /// Moves the clock for a datagram that goes to no table.
+    fn pass(&mut self, now: u64, taken: NodeTaken) -> NodeChange
+        ensures taken { result.taken ≡ taken }
+        ensures lost { result.lost ≡ core_lost now self.old.core }
+        ensures universe { result.universe ≡ None }
+        ensures core { self.new ≡ record self.old { core = core_at now self.old.core } }
+    {
+        NodeChange {
+            taken,
+            lost: self.tables.expire(now),
+            universe: None,
+        }
     }
 }

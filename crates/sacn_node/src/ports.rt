@@ -1,7 +1,8 @@
 //! The ports of a node, and their frames.
 
-ghost use Rattle.std.specs.Prelude.{◌≡◌, ◌+◌, ◌≤◌, ◌<◌, ℕ, true, false, length, slice_index, All, IfOk, IfSome, List, [], ◌∷◌};
+ghost use Rattle.std.specs.Prelude.{◌≡◌, ◌==◌, ◌+◌, ◌≤◌, ◌<◌, ℕ, true, false, length, slice_index, All, IfOk, IfSome, List, [], ◌∷◌};
 ghost use Rattle.std.specs.Option.{option_map};
+ghost use Rattle.std.specs.List.{list_any};
 ghost use Rattle.sacn_slots.specs.declared.universe.TheConstants.{SLOTS, FRAME_OCTETS};
 ghost use Rattle.sacn_node.specs.Cores.{core_at, core_slots};
 ghost use Rattle.sacn_node.specs.Setup.{port_numbers};
@@ -97,6 +98,22 @@ pub(crate) fn find_port(ports: &[NodePort], number: u8) -> Option<&NodePort>
         }
     }
     None
+}
+
+/// Whether a universe is one of these.
+fn is_among(universes: &[u16], universe: u16) -> bool
+    ensures { result ≡ list_any (λ u. u == universe) universes.now }
+{
+    universes.iter().any(|one| *one == universe)
+}
+
+/// Whether some range is of one of these universes.
+pub(crate) fn show_one_of(ranges: &[SlotRange], universes: &[u16]) -> bool
+    ensures { result ≡ list_any (λ r. list_any (λ u. u == r.universe) universes.now) ranges.now }
+{
+    ranges
+        .iter()
+        .any(|range| is_among(universes, range.universe))
 }
 
 /// Writes the frame of a port with these ranges, where all that is lost is dropped already.

@@ -8,7 +8,7 @@ ghost use Rattle.sacn_node.specs.Seen.{one_expired, lost_in, new_one, Rise};
 ghost use Rattle.sacn_sources.specs.Wakes.{oldest_by, oldest_of};
 
 use crate::limits::MAX_UNIVERSES;
-use crate::taken::NodeTaken;
+use crate::taken::{NodeChange, NodeTaken, told};
 use sacn_framing::DataView;
 use sacn_slots::{SLOTS, merge_into};
 use sacn_sources::{HeldView, NETWORK_DATA_LOSS, SourceTable, TableFault, Taken};
@@ -46,6 +46,7 @@ impl Model for Tables {
 impl Tables {
     ghost use Rattle.sacn_node.specs.Cores.{Table, core_at, core_lost, core_reply, core_after, core_row, core_slots, with_taken, with_kept, new_core};
     ghost use Rattle.sacn_sources.specs.Rows.{taken, rows_kept};
+    ghost use Rattle.sacn_node.specs.Changes.{universe_by};
 
     /// An empty table for each of these universes.
     pub(crate) fn new(alloc: Global, universes: &[u16]) -> Result<Self, TableFault>
@@ -84,10 +85,25 @@ impl Tables {
         ensures answer { result ≡ core_reply packet.now.universe (packet_of packet.now) now self.old }
         ensures core { self.new ≡ core_after packet.now.universe (packet_of packet.now) now self.old }
     {
-        self.expire(now);
-        match self.search(packet.universe()) {
-            Ok(at) => NodeTaken::FromTable(self.take_at(at, packet)),
-            Err(_) => NodeTaken::OtherUniverse,
+        self.take_and_tell(now, packet).taken
+    }
+
+    /// Takes a data packet, and says what it may have changed.
+    pub(crate) fn take_and_tell(&mut self, now: u64, packet: &DataView<'_>) -> NodeChange
+        ensures taken { result.taken ≡ core_reply packet.now.universe (packet_of packet.now) now self.old }
+        ensures lost { result.lost ≡ core_lost now self.old }
+        ensures universe { result.universe ≡ universe_by packet.now.universe (core_reply packet.now.universe (packet_of packet.now) now self.old) }
+        ensures core { self.new ≡ core_after packet.now.universe (packet_of packet.now) now self.old }
+    {
+        let lost = self.expire(now);
+        let universe = packet.universe();
+        match self.search(universe) {
+            Ok(at) => told(
+                NodeTaken::FromTable(self.take_at(at, packet)),
+                lost,
+                universe,
+            ),
+            Err(_) => told(NodeTaken::OtherUniverse, lost, universe),
         }
     }
 

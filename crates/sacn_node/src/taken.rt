@@ -1,5 +1,8 @@
 //! What became of a datagram.
 
+ghost use Rattle.std.specs.Prelude.{◌≡◌};
+ghost use Rattle.sacn_node.specs.Changes.{universe_by};
+
 use sacn_root::PacketFault;
 use sacn_sources::Taken;
 
@@ -16,6 +19,46 @@ pub enum NodeTaken {
     Sync,
     /// No packet: the first check of the octets that fails.
     Refused(PacketFault),
+}
+
+/// What a datagram did to a node. Where no source was lost, only slots of `universe` may have changed.
+#[derive(Clone, Copy, Debug, PartialEq, Eq)]
+pub struct NodeChange {
+    /// What became of the datagram.
+    pub taken: NodeTaken,
+    /// How many sources were lost at its moment, in all tables, ended ones too.
+    pub lost: usize,
+    /// The universe whose table took it (`Held`, `EndedNow` or `Observed`), and `None` where none did.
+    pub universe: Option<u16>,
+}
+
+/// What a data packet of a universe did, that became this.
+pub(crate) fn told(taken: NodeTaken, lost: usize, universe: u16) -> NodeChange
+    ensures { result ≡ record { taken = taken; lost = lost; universe = universe_by universe taken } }
+{
+    NodeChange {
+        taken,
+        lost,
+        universe: universe_by(taken, universe),
+    }
+}
+
+/// The universe of a packet that became this, where its table took it.
+fn universe_by(taken: NodeTaken, universe: u16) -> Option<u16>
+    ensures { result ≡ universe_by universe taken }
+{
+    match taken {
+        NodeTaken::FromTable(Taken::Held) => Some(universe),
+        NodeTaken::FromTable(Taken::EndedNow) => Some(universe),
+        NodeTaken::FromTable(Taken::Observed) => Some(universe),
+        NodeTaken::FromTable(Taken::OutOfSequence) => None,
+        NodeTaken::FromTable(Taken::SourcesExceeded) => None,
+        NodeTaken::FromTable(Taken::UnknownIgnored) => None,
+        NodeTaken::OtherUniverse => None,
+        NodeTaken::Discovery => None,
+        NodeTaken::Sync => None,
+        NodeTaken::Refused(_) => None,
+    }
 }
 
 /// The node has no port of this number.

@@ -2,12 +2,15 @@
 ghost use Rattle.std.specs.Prelude.{◌≤◌};
 
 use crate::fault::SpeedFault;
+use crate::plain_codec::{plain_read, plain_write};
 use crate::turn::{self, Turn};
 use sacn_framing::{DataFields, Packet, read_packet, write_data};
 use std::io::Write;
 use std::time::Clock;
 
 pub const READ: &str = "read a data packet of 512 slots";
+
+pub const REFUSE: &str = "refuse a data packet of priority 201";
 
 pub const WRITE: &str = "write a data packet of 512 slots";
 
@@ -36,7 +39,7 @@ pub fn written(
     write_data(&fields, out)
 }
 
-#[derive(Drop)]
+#[derive(Clone, Copy)]
 struct Reading {
     octets: [u8; 638],
 }
@@ -51,7 +54,22 @@ impl Turn for Reading {
     }
 }
 
-#[derive(Drop)]
+#[derive(Clone, Copy)]
+struct PlainReading {
+    octets: [u8; 638],
+}
+
+impl Turn for PlainReading {
+    fn turn(&mut self, number: u64) -> u64 {
+        self.octets[111] = (number % 256) as u8;
+        match plain_read(&self.octets) {
+            Some(packet) => u64::from(packet.number),
+            None => 0,
+        }
+    }
+}
+
+#[derive(Clone, Copy)]
 struct Writing {
     slots: [u8; 512],
     out: [u8; 638],
@@ -65,14 +83,57 @@ impl Turn for Writing {
     }
 }
 
-pub fn measured<C: Clock, O: Write>(clock: &C, out: &mut O, calls: u64) -> Result<(), SpeedFault> {
+#[derive(Clone, Copy)]
+struct PlainWriting {
+    slots: [u8; 512],
+    out: [u8; 638],
+}
+
+impl Turn for PlainWriting {
+    fn turn(&mut self, number: u64) -> u64 {
+        self.slots[0] = (number % 256) as u8;
+        let length = plain_write(&[1; 16], &[0; 64], 1, &self.slots, &mut self.out);
+        u64::from(self.out[126]).wrapping_add(length as u64)
+    }
+}
+
+/// A full packet of this priority.
+fn packet(priority: u8) -> [u8; 638] {
     let mut octets = [0; 638];
     written(1, 1, 0, &[7; 512], &mut octets);
-    let mut reading = Reading { octets };
-    turn::measured(clock, out, READ, calls, &mut reading)?;
-    let mut writing = Writing {
-        slots: [7; 512],
-        out: [0; 638],
+    octets[108] = priority;
+    octets
+}
+
+fn read<C: Clock, O: Write>(
+    clock: &C,
+    out: &mut O,
+    calls: u64,
+    name: &str,
+    priority: u8,
+) -> Result<(), SpeedFault> {
+    let octets = packet(priority);
+    let mut work = Reading { octets };
+    let mut plain = PlainReading { octets };
+    turn::compared(clock, out, name, calls, (&mut work, &mut plain))
+}
+
+fn write<C: Clock, O: Write>(clock: &C, out: &mut O, calls: u64) -> Result<(), SpeedFault> {
+    let slots = [7; 512];
+    let out_octets = [0; 638];
+    let mut work = Writing {
+        slots,
+        out: out_octets,
     };
-    turn::measured(clock, out, WRITE, calls, &mut writing)
+    let mut plain = PlainWriting {
+        slots,
+        out: out_octets,
+    };
+    turn::compared(clock, out, WRITE, calls, (&mut work, &mut plain))
+}
+
+pub fn measured<C: Clock, O: Write>(clock: &C, out: &mut O, calls: u64) -> Result<(), SpeedFault> {
+    read(clock, out, calls, READ, 100)?;
+    read(clock, out, calls, REFUSE, 201)?;
+    write(clock, out, calls)
 }

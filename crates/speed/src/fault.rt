@@ -21,6 +21,8 @@ pub enum SpeedFault {
     Show(#[from] ShowFault),
     #[error("a command is refused")]
     Command,
+    #[error("the plain work answers otherwise")]
+    Apart,
     #[error("the word is no number")]
     Word,
 }

@@ -3,6 +3,7 @@ ghost use Rattle.std.specs.Prelude.{◌≤◌};
 
 use crate::codec::written;
 use crate::fault::SpeedFault;
+use crate::plain_table::PlainNode;
 use crate::turn::{self, Turn};
 use sacn_node::{NodeCore, NodeTaken, read_node};
 use std::alloc::{AllocError, AllocGlobal, Global};
@@ -63,6 +64,23 @@ impl Turn for Showing {
     }
 }
 
+/// The plain node's work beside `Showing`.
+#[derive(Drop)]
+struct PlainShowing {
+    node: PlainNode,
+    octets: [u8; 638],
+    frame: [u8; 513],
+}
+
+impl Turn for PlainShowing {
+    fn turn(&mut self, number: u64) -> u64 {
+        self.octets[111] = (number % 256) as u8;
+        self.node.take(number / 1000, &self.octets);
+        self.node.frame(number / 1000, 1, &mut self.frame);
+        u64::from(self.frame[512])
+    }
+}
+
 fn fed(rt: &impl AllocGlobal, universe: u16) -> Result<Hearing, SpeedFault>
     requires least { 1 ≤ universe }
     requires most { universe ≤ 63999 }
@@ -119,6 +137,27 @@ impl Turn for Full {
     }
 }
 
+/// The plain node's work beside `Full`.
+#[derive(Drop)]
+struct PlainFull {
+    node: PlainNode,
+    octets: [[u8; 638]; 16],
+    frame: [u8; 513],
+}
+
+impl Turn for PlainFull {
+    fn turn(&mut self, number: u64) -> u64 {
+        let universe = (number % 16) as u8;
+        let source = (number / 16 % 16) as usize;
+        self.octets[source][111] = (number / 256 % 256) as u8;
+        self.octets[source][114] = universe + 1;
+        let now = number / 256;
+        self.node.take(now, &self.octets[source]);
+        self.node.frame(now, universe + 1, &mut self.frame);
+        u64::from(self.frame[512])
+    }
+}
+
 #[derive(Drop)]
 struct Other {
     full: Full,
@@ -149,18 +188,23 @@ impl Turn for Ticking {
     }
 }
 
-fn empty(rt: &impl AllocGlobal) -> Result<Full, SpeedFault> {
-    let text = full_setup(rt.alloc())?;
-    let setup = read_node(rt.alloc(), text.as_str())?;
+/// Packets of sixteen sources.
+fn packets() -> [[u8; 638]; 16] {
     let mut octets = [[0; 638]; 16];
     let mut source = 0u8;
     for packet in octets.iter_mut() {
         source = source.wrapping_add(1);
         written(source, 1, 0, &[source; 512], packet);
     }
+    octets
+}
+
+fn empty(rt: &impl AllocGlobal) -> Result<Full, SpeedFault> {
+    let text = full_setup(rt.alloc())?;
+    let setup = read_node(rt.alloc(), text.as_str())?;
     Ok(Full {
         node: NodeCore::new(rt.alloc(), &setup)?,
-        octets,
+        octets: packets(),
         frame: [0; 513],
     })
 }
@@ -174,20 +218,55 @@ fn filled(rt: &impl AllocGlobal) -> Result<Full, SpeedFault> {
     Ok(full)
 }
 
+fn show<R: AllocGlobal + Clock, O: Write>(
+    rt: &R,
+    out: &mut O,
+    calls: u64,
+) -> Result<(), SpeedFault> {
+    let hearing = fed(rt, 7)?;
+    let octets = hearing.octets;
+    let frame = [0; 513];
+    let mut work = Showing { hearing, frame };
+    let mut plain = PlainShowing {
+        node: PlainNode::new(rt.alloc(), 1, 7)?,
+        octets,
+        frame,
+    };
+    turn::compared(rt, out, SHOW, calls, (&mut work, &mut plain))
+}
+
+fn show_full<R: AllocGlobal + Clock, O: Write>(
+    rt: &R,
+    out: &mut O,
+    calls: u64,
+) -> Result<(), SpeedFault> {
+    let mut work = empty(rt)?;
+    let mut plain = PlainFull {
+        node: PlainNode::new(rt.alloc(), 16, 1)?,
+        octets: packets(),
+        frame: [0; 513],
+    };
+    turn::compared(rt, out, FULL, calls, (&mut work, &mut plain))
+}
+
+fn pass<R: AllocGlobal + Clock, O: Write>(
+    rt: &R,
+    out: &mut O,
+    calls: u64,
+) -> Result<(), SpeedFault> {
+    let mut other = Other { full: filled(rt)? };
+    other.full.octets[0][114] = 17;
+    turn::measured(rt, out, OTHER, calls, &mut other)
+}
+
 pub fn measured<R: AllocGlobal + Clock, O: Write>(
     rt: &R,
     out: &mut O,
     calls: u64,
 ) -> Result<(), SpeedFault> {
     turn::measured(rt, out, IGNORE, calls, &mut fed(rt, 8)?)?;
-    let mut showing = Showing {
-        hearing: fed(rt, 7)?,
-        frame: [0; 513],
-    };
-    turn::measured(rt, out, SHOW, calls, &mut showing)?;
-    turn::measured(rt, out, FULL, calls, &mut empty(rt)?)?;
-    let mut other = Other { full: filled(rt)? };
-    other.full.octets[0][114] = 17;
-    turn::measured(rt, out, OTHER, calls, &mut other)?;
+    show(rt, out, calls)?;
+    show_full(rt, out, calls)?;
+    pass(rt, out, calls)?;
     turn::measured(rt, out, TICK, calls, &mut Ticking { full: filled(rt)? })
 }

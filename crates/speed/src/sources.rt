@@ -1,6 +1,8 @@
 //! The source table of one universe, with one, four and sixteen sources.
 use crate::codec::written;
 use crate::fault::SpeedFault;
+use crate::plain_codec::plain_read;
+use crate::plain_table::PlainTable;
 use crate::turn::{self, Turn};
 use sacn_framing::{Packet, read_packet};
 use sacn_sources::{SourceTable, Taken};
@@ -20,11 +22,27 @@ pub const MERGE_FOUR: &str = "take from 4 sources and merge them";
 
 pub const MERGE: &str = "take from 16 sources and merge them";
 
+/// Packets of sixteen sources, of which the first few send in turn.
+#[derive(Clone, Copy)]
+struct Sending {
+    sources: u64,
+    octets: [[u8; 638]; 16],
+}
+
+impl Sending {
+    // The next packet of the source whose turn it is.
+    fn next(&mut self, number: u64) -> &[u8; 638] {
+        let turn = number.checked_div(self.sources).unwrap_or(0);
+        let source = (number.checked_rem(self.sources).unwrap_or(0) % 16) as usize;
+        self.octets[source][111] = (turn % 256) as u8;
+        &self.octets[source]
+    }
+}
+
 #[derive(Drop)]
 struct Taking {
     table: SourceTable,
-    sources: u64,
-    octets: [[u8; 638]; 16],
+    sending: Sending,
 }
 
 // Whether the table holds a packet.
@@ -35,19 +53,26 @@ fn is_held(table: &mut SourceTable, now: u64, octets: &[u8]) -> bool {
     }
 }
 
-impl Taking {
-    // Takes the next packet of the source whose turn it is: whether it is held.
-    fn take(&mut self, number: u64) -> bool {
-        let turn = number.checked_div(self.sources).unwrap_or(0);
-        let source = (number.checked_rem(self.sources).unwrap_or(0) % 16) as usize;
-        self.octets[source][111] = (turn % 256) as u8;
-        is_held(&mut self.table, number / 1000, &self.octets[source])
+impl Turn for Taking {
+    fn turn(&mut self, number: u64) -> u64 {
+        let octets = self.sending.next(number);
+        u64::from(is_held(&mut self.table, number / 1000, octets))
     }
 }
 
-impl Turn for Taking {
+#[derive(Drop)]
+struct PlainTaking {
+    table: PlainTable,
+    sending: Sending,
+}
+
+impl Turn for PlainTaking {
     fn turn(&mut self, number: u64) -> u64 {
-        u64::from(self.take(number))
+        let octets = self.sending.next(number);
+        match plain_read(octets) {
+            Some(packet) => u64::from(self.table.take(number / 1000, &packet)),
+            None => 0,
+        }
     }
 }
 
@@ -59,41 +84,79 @@ struct Merging {
 
 impl Turn for Merging {
     fn turn(&mut self, number: u64) -> u64 {
-        self.taking.take(number);
+        self.taking.turn(number);
         self.taking.table.merged(number / 1000, &mut self.slots);
         u64::from(self.slots[511])
     }
 }
 
-// Packets of sixteen sources, of which the first few are taken.
-fn sending(rt: &impl AllocGlobal, sources: u64) -> Result<Taking, SpeedFault> {
+#[derive(Drop)]
+struct PlainMerging {
+    taking: PlainTaking,
+    slots: [u8; 512],
+}
+
+impl Turn for PlainMerging {
+    fn turn(&mut self, number: u64) -> u64 {
+        self.taking.turn(number);
+        self.slots = *self.taking.table.merged(number / 1000);
+        u64::from(self.slots[511])
+    }
+}
+
+fn packets_of(sources: u64) -> Sending {
     let mut octets = [[0; 638]; 16];
     let mut source = 0u8;
     for packet in octets.iter_mut() {
         source = source.wrapping_add(1);
         written(source, 1, 0, &[source; 512], packet);
     }
+    Sending { sources, octets }
+}
+
+fn table_with(rt: &impl AllocGlobal, sources: u64) -> Result<Taking, SpeedFault> {
     Ok(Taking {
         table: SourceTable::new(rt.alloc())?,
-        sources,
-        octets,
+        sending: packets_of(sources),
     })
 }
 
-// Both measures of a table with so many sources.
-fn measured_with<R: AllocGlobal + Clock, O: Write>(
+fn plain_table_with(rt: &impl AllocGlobal, sources: u64) -> Result<PlainTaking, SpeedFault> {
+    Ok(PlainTaking {
+        table: PlainTable::new(rt.alloc())?,
+        sending: packets_of(sources),
+    })
+}
+
+fn take<R: AllocGlobal + Clock, O: Write>(
     rt: &R,
     out: &mut O,
     calls: u64,
     sources: u64,
-    names: (&str, &str),
+    name: &str,
 ) -> Result<(), SpeedFault> {
-    turn::measured(rt, out, names.0, calls, &mut sending(rt, sources)?)?;
-    let mut merging = Merging {
-        taking: sending(rt, sources)?,
-        slots: [0; 512],
+    let mut work = table_with(rt, sources)?;
+    let mut plain = plain_table_with(rt, sources)?;
+    turn::compared(rt, out, name, calls, (&mut work, &mut plain))
+}
+
+fn merge<R: AllocGlobal + Clock, O: Write>(
+    rt: &R,
+    out: &mut O,
+    calls: u64,
+    sources: u64,
+    name: &str,
+) -> Result<(), SpeedFault> {
+    let slots = [0; 512];
+    let mut work = Merging {
+        taking: table_with(rt, sources)?,
+        slots,
     };
-    turn::measured(rt, out, names.1, calls, &mut merging)
+    let mut plain = PlainMerging {
+        taking: plain_table_with(rt, sources)?,
+        slots,
+    };
+    turn::compared(rt, out, name, calls, (&mut work, &mut plain))
 }
 
 pub fn measured<R: AllocGlobal + Clock, O: Write>(
@@ -101,7 +164,10 @@ pub fn measured<R: AllocGlobal + Clock, O: Write>(
     out: &mut O,
     calls: u64,
 ) -> Result<(), SpeedFault> {
-    measured_with(rt, out, calls, 1, (TAKE_ONE, MERGE_ONE))?;
-    measured_with(rt, out, calls, 4, (TAKE_FOUR, MERGE_FOUR))?;
-    measured_with(rt, out, calls, 16, (TAKE, MERGE))
+    take(rt, out, calls, 1, TAKE_ONE)?;
+    merge(rt, out, calls, 1, MERGE_ONE)?;
+    take(rt, out, calls, 4, TAKE_FOUR)?;
+    merge(rt, out, calls, 4, MERGE_FOUR)?;
+    take(rt, out, calls, 16, TAKE)?;
+    merge(rt, out, calls, 16, MERGE)
 }

@@ -1,6 +1,6 @@
-use Rattle.std.proofs.Common.{arith, ◌∷◌, [], ◌∙◌, refl, sym}
-use Rattle.std.proofs.lemmas.Bool.{and_parts}
+use Rattle.std.proofs.Common.{arith, ◌∷◌, [], refl, sym}
 use Rattle.sacn_edge.proofs.NodeLemmas.{Extends-append}
+use Rattle.sacn_edge.proofs.Changing.{grown, more_told}
 use Rattle.sacn_live.specs.Hearings.{hearing_in, came_of, heard_of, in_order}
 use Rattle.sacn_live.proofs.Draining.{settled_by, node_more, emptied_more, no_more}
 use Rattle.sacn_live.proofs.gateway.drain.Goals as goal
@@ -12,7 +12,8 @@ loop-count-init g c =
     let came = came_of r.arrival c.hear-step.new.buffer in
     record {
       settled = settled_by r.now (heard_of c.args.senders.now c.args.emptied r.now came) c.args.core.now c.hear-step.new.core e.core;
-      still = e.still;
+      grows = e.grows;
+      changed = e.changed;
       run = (hearing_in r.now r.arrival c.hear-step.new.buffer ∷ [], refl, sym e.more, e.told, e.core, e.emptied, refl);
     }
 
@@ -24,8 +25,11 @@ returns-then-not-step-clause-heard g c =
 pub returns-then-not-step-clause-settled : goal.returns-then-not-step-clause-settled
 returns-then-not-step-clause-settled g c = c.loop-count.invariant.settled
 
-pub returns-then-not-step-clause-still : goal.returns-then-not-step-clause-still
-returns-then-not-step-clause-still g c = c.loop-count.invariant.still
+pub returns-then-not-step-clause-grows : goal.returns-then-not-step-clause-grows
+returns-then-not-step-clause-grows g c = c.loop-count.invariant.grows
+
+pub returns-then-not-step-clause-changed : goal.returns-then-not-step-clause-changed
+returns-then-not-step-clause-changed g c = c.loop-count.invariant.changed
 
 pub loop-count-preserved : goal.loop-count-preserved
 loop-count-preserved g c =
@@ -37,9 +41,8 @@ loop-count-preserved g c =
     let old = c.loop-count.core in
     record {
       settled = settled_by r.now (heard_of c.args.senders.now c.loop-count.step.emptied r.now came) old new.core e.core;
-      still = λ both.
-          let parts = and_parts c.loop-count.is_still r.is_still both in
-          e.still parts.1 ∙ c.loop-count.invariant.still parts.0;
+      grows = grown c.args.changes.now c.loop-count.changes new.changes c.loop-count.invariant.grows e.grows;
+      changed = more_told c.loop-count.changes new.changes c.args.core.now.core old.core new.core.core e.grows c.loop-count.invariant.changed e.changed;
       run = (
         hearing_in r.now r.arrival new.buffer ∷ run.0,
         omega (arith, run.1),
@@ -59,5 +62,8 @@ returns-clause-heard g c =
 pub returns-clause-settled : goal.returns-clause-settled
 returns-clause-settled g c = c.loop-count.invariant.settled
 
-pub returns-clause-still : goal.returns-clause-still
-returns-clause-still g c = c.loop-count.invariant.still
+pub returns-clause-grows : goal.returns-clause-grows
+returns-clause-grows g c = c.loop-count.invariant.grows
+
+pub returns-clause-changed : goal.returns-clause-changed
+returns-clause-changed g c = c.loop-count.invariant.changed

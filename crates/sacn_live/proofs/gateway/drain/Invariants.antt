@@ -1,7 +1,8 @@
-use Rattle.std.proofs.Common.{◌≡◌, List, length, true}
+use Rattle.std.proofs.Common.{◌≡◌, List, length}
 use Rattle.sacn_node.specs.Cores.{core_at}
 use Rattle.sacn_edge.specs.Told.{Extends}
 use Rattle.sacn_edge.specs.NodeText.{node_after}
+use Rattle.sacn_edge.specs.Changing.{Grows, IsTold}
 use Rattle.sacn_live.specs.Hearings.{Hearing, turns_of, emptied_after, in_order}
 use Rattle.sacn_live.specs.GatewayRun.{latest_reading, ends_with_datagram}
 use Rattle.sacn_live.proofs.gateway.drain.Given as goal
@@ -10,7 +11,8 @@ use Rattle.sacn_live.proofs.gateway.drain.Given as goal
 abbrev pub invariant-loop-count : goal.invariant-loop-count
 invariant-loop-count g l = record {
   settled : core_at l.step.now l.core.core ≡ l.core.core;
-  still : l.is_still ≡ true → l.core.core.tables ≡ l.fn.core.core.tables;
+  grows : Grows l.fn.changes l.changes;
+  changed : IsTold l.changes l.fn.core.core l.core.core;
   run :
       (hs : List Hearing)
       × (length hs ≡ l._count)

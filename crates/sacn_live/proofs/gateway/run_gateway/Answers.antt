@@ -1,11 +1,12 @@
-use Rattle.std.proofs.Common.{nat_lt, arith, ◌≡◌, ◌∷◌, [], length, map, refl, sym, ap, subst, ◌∙◌}
+use Rattle.std.proofs.Common.{arith, ◌≡◌, ◌∷◌, [], length, map, refl, sym, ap, subst, ◌∙◌}
 use Rattle.std.proofs.lemmas.List.{length-map}
-use Rattle.std.proofs.lemmas.Bool.{and_parts, ltb-true}
 use Rattle.std.proofs.lemmas.Result.{err_from_is_err_and}
 use Rattle.sacn_node.specs.Setup.{port_numbers}
 use Rattle.sacn_edge.specs.Told.{Extends}
-use Rattle.sacn_edge.specs.Shown.{port_after, AreCurrent}
-use Rattle.sacn_edge.proofs.ShownLemmas.{Adds-nil, current_after, still_current}
+use Rattle.sacn_edge.specs.Shown.{port_after}
+use Rattle.sacn_edge.specs.Changing.{AreCurrentBut}
+use Rattle.sacn_edge.proofs.Changing.{all_but, still_but, current_but}
+use Rattle.sacn_edge.proofs.ShownLemmas.{Adds-nil}
 use Rattle.sacn_edge.proofs.NodeLemmas.{rising_distinct, numbers, numbers_unshown, nothing_shown, Remembers, put_back}
 use Rattle.sacn_live.specs.Hearings.{in_order}
 use Rattle.sacn_live.specs.GatewayText.{gateway_lines}
@@ -19,7 +20,7 @@ loop-turn-init g c =
     record {
       works = c.requires;
       distinct = rising_distinct ports c.ports_of-ports.ensures.rising;
-      current = λ lt. absurd (omega (arith, lt));
+      current = all_but c.all-changes.result c.args.core.now c.ports_of-ports.result.items c.all-changes.ensures;
       run = (
         [],
         refl,
@@ -34,20 +35,19 @@ loop-turn-init g c =
       );
     }
 
-pub show-requires-clause-works : goal.show-requires-clause-works
-show-requires-clause-works g c = c.loop-turn.invariant.works
+pub show_changed-requires-clause-works : goal.show_changed-requires-clause-works
+show_changed-requires-clause-works g c = c.loop-turn.invariant.works
 
-pub show-requires-clause-still : goal.show-requires-clause-still
-show-requires-clause-still g c = λ both.
-    let parts = and_parts c.drain-drained.result.is_still (nat_lt 0 c.loop-turn.turn) both in
-    let current = c.loop-turn.invariant.current (ltb-true 0 c.loop-turn.turn parts.1) in
-    let heard = c.drain-drained.ensures.heard in
-    let ports = ports_kept c.args.senders.now c.loop-turn.emptied heard.0 c.loop-turn.core c.drain-drained.new.core heard.3 in
-    subst (AreCurrent c.drain-drained.new.core) (sym c.as_mut_slice.ensures.value)
-    (still_current c.loop-turn.core c.drain-drained.new.core c.loop-turn.ports.items ports (c.drain-drained.ensures.still parts.0) current)
+pub show_changed-requires-clause-current : goal.show_changed-requires-clause-current
+show_changed-requires-clause-current g c =
+    let e = c.drain-drained.ensures in
+    let n = c.drain-drained.new.core in
+    let ports = ports_kept c.args.senders.now c.loop-turn.emptied e.heard.0 c.loop-turn.core n e.heard.3 in
+    subst (AreCurrentBut c.drain-drained.new.changes n) (sym c.as_mut_slice.ensures.value)
+    (still_but c.loop-turn.changes c.drain-drained.new.changes c.loop-turn.core n ports e.grows e.changed c.loop-turn.ports.items c.loop-turn.invariant.current)
 
-pub returns-in_err-show-clause-err : goal.returns-in_err-show-clause-err
-returns-in_err-show-clause-err g c =
+pub returns-in_err-show_changed-clause-err : goal.returns-in_err-show_changed-clause-err
+returns-in_err-show_changed-clause-err g c =
     let p = err_from_is_err_and c.from_residual.result c.from_residual.ensures.1 in
     let heard = c.drain-drained.ensures.heard in
     let hs = heard.0 in
@@ -64,11 +64,11 @@ returns-in_err-show-clause-err g c =
       hs,
       turns,
       run.2,
-      omega (arith, run.1, c.loop-turn-test.true, c.loop-turn.auto.turn-end),
+      omega (arith, run.1, c.loop-turn-test.true, c.loop-turn.auto._turn-end),
       (heard.1, run.3),
       heard_more _ _ _ hs turns run.4 told,
-      stops_in first n senders ss hs turns is (ap numbers same ∙ run.8) c.loop-turn.invariant.distinct (subst (Remembers (gateway_lines first senders turns)) (sym same) run.9) _ _ _ run.5 c.in_err-show.ensures.err.1,
-      c.in_err-show.ensures.core ∙ is,
+      stops_in first n senders ss hs turns is (ap numbers same ∙ run.8) c.loop-turn.invariant.distinct (subst (Remembers (gateway_lines first senders turns)) (sym same) run.9) _ _ _ run.5 c.in_err-show_changed.ensures.err.1,
+      c.in_err-show_changed.ensures.core ∙ is,
     )
 
 pub returns-then-now-span-clause-ok : goal.returns-then-now-span-clause-ok
@@ -85,11 +85,11 @@ returns-then-now-span-clause-ok g c =
     let same : ss ≡ c.loop-turn.ports.items = c.as_mut_slice.ensures.value in
     let told = subst (λ t. Extends t (g.G.Receiver.told c.drain-drained.new.receiver) (in_order hs)) c.wait.ensures.told heard.2 in (
       hs ∷ turns,
-      (run.2, omega (arith, run.1, c.loop-turn-test.true, c.loop-turn.auto.turn-end), λ before. absurd (omega (arith, before, heard.5, c.if-now-span.true))),
+      (run.2, omega (arith, run.1, c.loop-turn-test.true, c.loop-turn.auto._turn-end), λ before. absurd (omega (arith, before, heard.5, c.if-now-span.true))),
       (heard.1, run.3),
       heard_more _ _ _ hs turns run.4 told,
-      more_text first n senders ss hs turns is (ap numbers same ∙ run.8) c.loop-turn.invariant.distinct (subst (Remembers (gateway_lines first senders turns)) (sym same) run.9) _ _ _ run.5 c.in_ok-show.ensures.ok.1,
-      c.in_ok-show.ensures.core ∙ is,
+      more_text first n senders ss hs turns is (ap numbers same ∙ run.8) c.loop-turn.invariant.distinct (subst (Remembers (gateway_lines first senders turns)) (sym same) run.9) _ _ _ run.5 c.in_ok-show_changed.ensures.ok.1,
+      c.in_ok-show_changed.ensures.core ∙ is,
     )
 
 pub loop-turn-preserved : goal.loop-turn-preserved
@@ -109,14 +109,14 @@ loop-turn-preserved g c =
     let own = ap numbers same ∙ run.8 in
     let kept = subst (Remembers (gateway_lines first senders turns)) (sym same) run.9 in
     let distinct = c.loop-turn.invariant.distinct in
-    let ok = c.in_ok-show.ensures.ok in
-    let new : c.show.new.ports ≡ map (port_after n) ss = ok.2 in
-    let long : length c.show.new.ports ≡ length old = ap length new ∙ length-map ss (port_after n) ∙ ap length same in
-    let back = put_back old c.show.new.ports long ∙ new in
+    let ok = c.in_ok-show_changed.ensures.ok in
+    let new : c.show_changed.new.ports ≡ map (port_after n) ss = ok.2 in
+    let long : length c.show_changed.new.ports ≡ length old = ap length new ∙ length-map ss (port_after n) ∙ ap length same in
+    let back = put_back old c.show_changed.new.ports long ∙ new in
     record {
       works = ok.0;
       distinct = distinct;
-      current = λ lt. current_after n c.show.new.core ss _ c.in_ok-show.ensures.core back;
+      current = current_but c.clear.new.self n c.show_changed.new.core ss _ c.in_ok-show_changed.ensures.core back;
       run = (
         hs ∷ turns,
         omega (arith, run.1),
@@ -124,7 +124,7 @@ loop-turn-preserved g c =
         (heard.1, run.3),
         heard_more _ _ _ hs turns run.4 told,
         more_text first n senders ss hs turns is own distinct kept _ _ _ run.5 ok.1,
-        c.in_ok-show.ensures.core ∙ is,
+        c.in_ok-show_changed.ensures.core ∙ is,
         emptied_later first senders hs turns c.loop-turn.emptied _ run.7 heard.4,
         ap numbers back ∙ more_numbers first n senders ss hs turns is own distinct kept,
         subst (Remembers (gateway_lines first senders (hs ∷ turns))) (sym back) (more_remembered first n senders ss hs turns is own distinct kept),
@@ -134,7 +134,7 @@ loop-turn-preserved g c =
 pub returns-clause-ok : goal.returns-clause-ok
 returns-clause-ok g c =
     let run = c.loop-turn.invariant.run in
-    (run.0, run_ends _ _ run.0 run.2 (omega (arith, run.1, c.loop-turn-test.false, c.loop-turn.auto.turn-end)), run.3, run.4, run.5, run.6)
+    (run.0, run_ends _ _ run.0 run.2 (omega (arith, run.1, c.loop-turn-test.false, c.loop-turn.auto._turn-end)), run.3, run.4, run.5, run.6)
 
 pub returns-clause-works : goal.returns-clause-works
 returns-clause-works g c = c.loop-turn.invariant.works

@@ -1,7 +1,7 @@
-use Rattle.std.proofs.Common.{◌≡◌, ◌<◌, List, length, false}
+use Rattle.std.proofs.Common.{◌≡◌, List, length, false}
 use Rattle.sacn_node.specs.Setup.{port_numbers}
 use Rattle.sacn_edge.specs.Told.{Adds, Extends}
-use Rattle.sacn_edge.specs.Shown.{AreCurrent}
+use Rattle.sacn_edge.specs.Changing.{AreCurrentBut}
 use Rattle.sacn_edge.proofs.NodeLemmas.{Distinct, numbers, Remembers}
 use Rattle.sacn_live.specs.Hearings.{Hearing}
 use Rattle.sacn_live.specs.GatewayText.{gateway_after, gateway_text, gateway_lines}
@@ -13,10 +13,10 @@ abbrev pub invariant-loop-turn : goal.invariant-loop-turn
 invariant-loop-turn g l = record {
   works : g.O.Out.failed l.out ≡ false;
   distinct : Distinct (port_numbers l.fn.core.ports);
-  current : 0 < l.turn → AreCurrent l.core l.ports.items;
+  current : AreCurrentBut l.changes l.core l.ports.items;
   run :
       (turns : List (List Hearing))
-      × (length turns ≡ l.turn)
+      × (length turns ≡ l._turn)
       × AllBefore l.span.until turns
       × AreWhole turns
       × Extends (g.G.Receiver.told l.fn.receiver) (g.G.Receiver.told l.receiver) (all_heard turns)
