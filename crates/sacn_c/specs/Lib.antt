@@ -1,0 +1,3 @@
+pub mod Kinds
+pub mod Numbers
+pub mod Owned
