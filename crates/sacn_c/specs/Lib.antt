@@ -1,3 +1,6 @@
 pub mod Kinds
+pub mod Merging
 pub mod Numbers
 pub mod Owned
+pub mod Packets
+pub mod Sending

@@ -1,5 +1,6 @@
 -- The numbers by which C is told what became of a datagram.
-use Rattle.std.specs.Prelude.{ℕ}
+use Rattle.std.specs.Prelude.{ℕ, List, Option, Some, None}
+use Rattle.sacn_c.specs.declared.status.TheConstants.{DONE, RANGE}
 use Rattle.sacn_root.specs.FaultNumbers.{fault_number}
 use Rattle.sacn_sources.specs.declared.taken.Taken.{Taken}
 use Rattle.sacn_sources.specs.declared.taken.Taken.TheVariants.{Held, Observed, EndedNow, OutOfSequence, SourcesExceeded, UnknownIgnored}
@@ -29,3 +30,13 @@ node_taken_status OtherUniverse = 0
 node_taken_status Discovery = 0
 node_taken_status Sync = 0
 node_taken_status (Refused fault) = fault_number fault
+
+-- the status of a call that has a frame to give, or has none
+abbrev pub frame_status : Option (List ℕ) → ℕ
+frame_status None = RANGE
+frame_status (Some frame) = DONE
+
+-- the frame, or what was there before
+abbrev pub frame_or : List ℕ → Option (List ℕ) → List ℕ
+frame_or before None = before
+frame_or before (Some frame) = frame

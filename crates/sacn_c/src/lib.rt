@@ -1,9 +1,13 @@
 //! The calls of the C library, whose header is `include/sacn.h`.
 #![tactic(auto)]
 
+mod console;
 mod handle;
 mod held;
 mod loose;
 mod node;
 mod numbers;
+mod packets;
+mod release;
+mod sources;
 mod status;
