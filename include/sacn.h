@@ -1,7 +1,7 @@
 /*
- * Streaming ACN (ANSI E1.31-2018) for C and C++: packets, a node and a console, over cores whose contracts are proved.
+ * Streaming ACN (ANSI E1.31-2018) for C and C++: packets, a node, the sources of one universe and a console, over cores whose contracts are proved.
  *
- * Handles. A `struct sacn_node` or `struct sacn_console` is memory of the caller's: set it to zero, make it by `.._new`, end it by
+ * Handles. A `struct sacn_node`, `sacn_sources` or `sacn_console` is memory of the caller's: set it to zero, make it by `.._new`, end it by
  * `.._free`. A handle is used by one thread at a time, and is never copied: two copies of one handle are one handle that is ended twice.
  *
  * Memory. Only the calls `.._new` take memory, by the program's malloc, and `.._free` gives all of it back. No call keeps a pointer that it
@@ -198,6 +198,26 @@ int sacn_node_frame(struct sacn_node *node, uint64_t now, uint8_t port, uint8_t 
 
 /* The first moment at which a source is lost if no datagram comes, UINT64_MAX where there is none. */
 int sacn_node_wakes(struct sacn_node *node, uint64_t *moment);
+
+/* ---- the sources of one universe, where the caller has the rest of a receiver ---- */
+
+/* The sources of one universe, and the merge of what they show. */
+struct sacn_sources {
+    void *behind;
+};
+
+/* Makes an empty table, with the room for all its sources. It must be empty. Status: 1 where there is no memory. */
+int sacn_sources_new(struct sacn_sources *sources);
+
+/* Gives back all memory of a table, which is then empty. Status: SACN_NULL where it is already. */
+int sacn_sources_free(struct sacn_sources *sources);
+
+/* Takes a datagram; a data packet counts whatever universe it names. `taken` is 0 to 6, SACN_TAKEN_DISCOVERY or SACN_TAKEN_SYNC. Status: enum
+   sacn_packet_fault, with `taken` 0 then. */
+int sacn_sources_take(struct sacn_sources *sources, uint64_t now, const uint8_t *octets, size_t count, uint8_t *taken);
+
+/* Writes the merge: slot by slot the highest level of the sources of the highest priority, and 0 where no source is live. */
+int sacn_sources_merged(struct sacn_sources *sources, uint64_t now, uint8_t slots[SACN_SLOTS]);
 
 /* ---- console ---- */
 

@@ -16,8 +16,8 @@ static void check(int holds, const char *what, int line) {
 
 static const char setup[] = "version = 1\n[[port]]\nnumber = 1\nuniverse = 7\n";
 static const char show[] =
-    "version = 1\ncid = \"00010203-0405-0607-0809-0a0b0c0d0e0f\"\nname = \"Desk\"\nuniverses = [7]\n"
-    "[[cue]]\nnumber = 1\nfade_ms = 0\nlevels = [[1, 65535]]\n[[patch]]\nchannel = 1\nuniverse = 7\nslot = 1\n";
+    "version = 2\ncid = \"00010203-0405-0607-0809-0a0b0c0d0e0f\"\nname = \"Desk\"\nuniverses = [7]\n"
+    "[[cue]]\nnumber = 1\nup = 0\ndown = 0\nlevels = [[1, 65535]]\n[[patch]]\nchannel = 1\nuniverse = 7\nslot = 1\n";
 
 static struct sacn_packet fields(uint8_t number) {
     struct sacn_packet packet;
@@ -86,7 +86,7 @@ static size_t packet_of(uint8_t number, uint8_t level, uint8_t terminated, uint8
 static void node(void) {
     struct sacn_node node = {0}, empty = {0};
     struct sacn_console console = {0};
-    uint8_t out[SACN_DATA_OCTETS], frame[SACN_FRAME_OCTETS], taken = 77;
+    uint8_t out[SACN_MOST_OCTETS], frame[SACN_FRAME_OCTETS], taken = 77;
     uint16_t port = 0;
     uint64_t wakes = 0;
     size_t lost = 77;
@@ -120,6 +120,25 @@ static void node(void) {
     CHECK(sacn_node_new(&node, "x", 1, &port) == SACN_SETUP_TOML && sacn_node_new(&node, "\xff", 1, &port) == SACN_SETUP_TOML);
     CHECK(sacn_node_new(&node, NULL, 0, &port) == SACN_SETUP_MISSING_KEY);
     CHECK(sacn_node_new(&node, "version = 3", 11, &port) == SACN_SETUP_VERSION && !node.behind);
+}
+
+static void sources(void) {
+    struct sacn_sources sources = {0}, empty = {0};
+    struct sacn_node node = {0};
+    uint8_t out[SACN_DATA_OCTETS], slots[SACN_SLOTS], taken = 77;
+    size_t lost;
+    CHECK(sacn_sources_new(&sources) == SACN_DONE && sacn_sources_new(&sources) == SACN_NOT_EMPTY && sacn_sources_new(NULL) == SACN_NULL);
+    CHECK(sacn_sources_take(&sources, 5, out, packet_of(1, 30, 0, out), &taken) == SACN_DONE && taken == SACN_TAKEN_HELD);
+    CHECK(sacn_sources_merged(&sources, 5, slots) == SACN_DONE && slots[0] == 30 && slots[1] == 0);
+    CHECK(sacn_sources_take(&sources, 6, out, packet_of(2, 0, 1, out), &taken) == SACN_DONE && taken == SACN_TAKEN_ENDED);
+    CHECK(sacn_sources_merged(&sources, 6, slots) == SACN_DONE && slots[0] == 0);
+    CHECK(sacn_sources_take(&sources, 6, NULL, 0, &taken) == SACN_PACKET_TOO_SHORT && taken == SACN_TAKEN_REFUSED);
+    CHECK(sacn_sources_take(&sources, 6, NULL, 1, &taken) == SACN_NULL && sacn_sources_take(&sources, 6, out, SIZE_MAX, &taken) == SACN_LENGTH);
+    CHECK(sacn_sources_take(&sources, 6, out, 1, NULL) == SACN_NULL && sacn_sources_take(&empty, 6, out, 1, &taken) == SACN_NULL);
+    CHECK(sacn_sources_merged(&empty, 6, slots) == SACN_NULL && sacn_sources_merged(&sources, 6, NULL) == SACN_NULL);
+    node.behind = sources.behind;
+    CHECK(sacn_node_tick(&node, 0, &lost) == SACN_WRONG_HANDLE);
+    CHECK(sacn_sources_free(&sources) == SACN_DONE && sacn_sources_free(&sources) == SACN_NULL && sacn_sources_free(NULL) == SACN_NULL);
 }
 
 static void console(void) {
@@ -165,6 +184,7 @@ static void console(void) {
 int main(void) {
     packets();
     node();
+    sources();
     console();
     return failed > 100 ? 100 : failed;
 }

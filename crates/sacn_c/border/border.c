@@ -13,6 +13,9 @@ uint32_t sacn_proved_node_take(void **handle, uint64_t now, const uint8_t *octet
 uint32_t sacn_proved_node_tick(void **handle, uint64_t now, size_t *lost);
 uint32_t sacn_proved_node_frame(void **handle, uint64_t now, uint8_t port, uint8_t *frame);
 uint32_t sacn_proved_node_wakes(void **handle, uint64_t *moment);
+uint32_t sacn_proved_sources_new(void **handle);
+uint32_t sacn_proved_sources_take(void **handle, uint64_t now, const uint8_t *octets, size_t count, uint8_t *taken);
+uint32_t sacn_proved_sources_merged(void **handle, uint64_t now, uint8_t *slots);
 uint32_t sacn_proved_console_new(void **handle, const uint8_t *text, size_t length, uint8_t first);
 uint32_t sacn_proved_console_command(void **handle, uint64_t now, uint8_t command, uint16_t number, uint16_t level);
 uint32_t sacn_proved_console_poll(void **handle, uint64_t now, uint8_t *out, size_t *count);
@@ -81,6 +84,29 @@ int sacn_node_frame(struct sacn_node *node, uint64_t now, uint8_t port, uint8_t 
 int sacn_node_wakes(struct sacn_node *node, uint64_t *moment) {
     if (!node || !node->behind || !moment) return SACN_NULL;
     return (int)sacn_proved_node_wakes(&node->behind, moment);
+}
+
+int sacn_sources_new(struct sacn_sources *sources) {
+    if (!sources) return SACN_NULL;
+    if (sources->behind) return SACN_NOT_EMPTY;
+    return (int)sacn_proved_sources_new(&sources->behind);
+}
+
+int sacn_sources_free(struct sacn_sources *sources) {
+    if (!sources || !sources->behind) return SACN_NULL;
+    sacn_proved_free(&sources->behind);
+    return SACN_DONE;
+}
+
+int sacn_sources_take(struct sacn_sources *sources, uint64_t now, const uint8_t *octets, size_t count, uint8_t *taken) {
+    if (!sources || !sources->behind || is_bad(octets, count) || !taken) return SACN_NULL;
+    if (is_long(count)) return SACN_LENGTH;
+    return (int)sacn_proved_sources_take(&sources->behind, now, start(octets), count, taken);
+}
+
+int sacn_sources_merged(struct sacn_sources *sources, uint64_t now, uint8_t slots[SACN_SLOTS]) {
+    if (!sources || !sources->behind || !slots) return SACN_NULL;
+    return (int)sacn_proved_sources_merged(&sources->behind, now, slots);
 }
 
 int sacn_console_new(struct sacn_console *console, const char *show, size_t length, uint8_t first) {

@@ -155,7 +155,11 @@ fn wakes(held: &mut Held, moment: &mut u64) -> u32
 
 /// The first moment at which something can be due, as `ConsoleCore::wakes`.
 #[unsafe(no_mangle)]
-pub extern "C" fn sacn_proved_console_wakes(alloc: Global, handle: &mut Handle, moment: &mut u64) -> u32
+pub extern "C" fn sacn_proved_console_wakes(
+    alloc: Global,
+    handle: &mut Handle,
+    moment: &mut u64,
+) -> u32
     requires { is_some handle.old.value ≡ true }
     ensures status { IfSome handle.old.value (λ held. result ≡ of_console WRONG_HANDLE (λ c. DONE) held) }
     ensures quiet { IfSome handle.old.value (λ held. (t : ℕ) → t < moment.new → of_console None (λ c. due (at t c)) held ≡ None) }

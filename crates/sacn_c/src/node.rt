@@ -169,7 +169,11 @@ fn wakes(held: &Held, moment: &mut u64) -> u32
 
 /// The first moment at which a tick drops a source, as `NodeCore::wakes`, and `u64::MAX` where none does.
 #[unsafe(no_mangle)]
-pub extern "C" fn sacn_proved_node_wakes(alloc: Global, handle: &mut Handle, moment: &mut u64) -> u32
+pub extern "C" fn sacn_proved_node_wakes(
+    alloc: Global,
+    handle: &mut Handle,
+    moment: &mut u64,
+) -> u32
     requires { is_some handle.old.value ≡ true }
     ensures status { IfSome handle.old.value (λ held. result ≡ of_node WRONG_HANDLE (λ n. DONE) held) }
     ensures asleep { IfSome handle.old.value (λ held. (t : ℕ) → t < moment.new → of_node 0 (λ n. core_lost t n.core) held ≡ 0) }

@@ -8,10 +8,10 @@ use prog.Wp.{WpFn}
 use contract.Monad.{fact, fact_i}
 use contract.Running.{tables}
 use types.Kit.{‵, raw, ◌⊛◌, ◌$◌, ◌∵◌, !, qed, by, move, drop, keep, use0, split, suffices, fsplit, fjoin}
-use types.Part.{whole, sub, agg}
+use types.Part.{agg}
 use types.Run.{lit, no_more, and_then, returns, enter}
-use types.ByLocal.{alloc_all, pass_all, free_all, look_at, get, get_in, sets}
-use denote.RattleType.{RattleType, owns}
+use types.ByLocal.{alloc_all, pass_all, free_all, look_at, get, sets}
+use denote.RattleType.{owns}
 use denote.RawPtr.{null_ptr, ptr_val}
 use denote.Param.{layout}
 use denote.Signature.{types_at, plain}
@@ -23,7 +23,6 @@ use Rattle.std_alloc.proofs.ResultValues.{and_tt}
 use Rattle.std.proofs.raw_atomic.Walks.{proved_at, leaves}
 use Rattle.std_heap.specs.contracts.Global as Heap
 use Rattle.sacn_c.specs.contracts.held.Held as Held
-use Rattle.sacn_c.specs.contracts.handle.Handle as Handle
 use Rattle.sacn_c.proofs.Values.{both}
 use Rattle.sacn_c.proofs.Handles.{al, handle_in}
 use Rattle.sacn_c.specs.contracts.handle.Handle.empty.{ended, clauses}

@@ -23,10 +23,9 @@ use Rattle.std_heap.specs.contracts.Global as Heap
 use Rattle.std_heap.specs.contracts.GlobalAllocator.TheImpl.{ghosts}
 use Rattle.std_heap.proofs.Global.TheLaws as heap
 use Rattle.sacn_c.specs.contracts.held.Held as Held
-use Rattle.sacn_c.specs.contracts.handle.Handle as Handle
 use Rattle.sacn_c.specs.contracts.loose.Loose as Loose
-use Rattle.sacn_c.proofs.Values.{both, loose_good, loose_out, loose_in}
-use Rattle.sacn_c.proofs.Handles.{handle_out, handle_in}
+use Rattle.sacn_c.proofs.Values.{both, loose_good, loose_out}
+use Rattle.sacn_c.proofs.Handles.{handle_in}
 use Rattle.sacn_c.specs.contracts.handle.Handle.from_loose.{ended, clauses}
 use Rattle.sacn_c.specs.contracts.handle.Handle.from_loose.Key.{name as #self}
 use Rattle.sacn_c.proofs.handle.Handle.from_loose.Statement.{statement}

@@ -3,11 +3,10 @@ use Rattle.std.proofs.Common.{◌≡◌, List, [], ◌∷◌, ◌++◌, refl, sy
 use mir.Syntax.{Fn}
 use mir.Val.{Val, vptr}
 use base.Logic.{SProp, ent, emp, id⊢}
-use base.Fml.{ftrue}
 use prog.Wp.{WpFn}
 use contract.Monad.{fact, fact_i}
 use contract.Running.{tables}
-use types.Kit.{‵, raw, ◌⊛◌, ◌$◌, ◌∵◌, !, qed, by, move, drop, keep, use0, split, suffices, fsplit, fjoin}
+use types.Kit.{‵, raw, ◌⊛◌, ◌$◌, ◌∵◌, !, qed, by, move, keep, use0, split, suffices, fsplit, fjoin}
 use types.Part.{whole, sub, agg}
 use types.Run.{stop, fld, of_opd, no_more, and_then, returns, enter}
 use types.ByLocal.{alloc_all, pass_all, free_all, look_at, get, get_in, sets}
@@ -24,9 +23,8 @@ use Rattle.std_heap.specs.contracts.GlobalAllocator.TheImpl.{ghosts}
 use Rattle.std_heap.proofs.Global.TheLaws as heap
 use Rattle.sacn_c.specs.contracts.held.Held as Held
 use Rattle.sacn_c.specs.contracts.handle.Handle as Handle
-use Rattle.sacn_c.specs.contracts.loose.Loose as Loose
-use Rattle.sacn_c.proofs.Values.{both, loose_good, loose_out, loose_in}
-use Rattle.sacn_c.proofs.Handles.{handle_out, handle_in}
+use Rattle.sacn_c.proofs.Values.{both, loose_good, loose_in}
+use Rattle.sacn_c.proofs.Handles.{handle_out}
 use Rattle.sacn_c.specs.contracts.handle.Handle.into_loose.{ended, clauses}
 use Rattle.sacn_c.specs.contracts.handle.Handle.into_loose.Key.{name as #self}
 use Rattle.sacn_c.proofs.handle.Handle.into_loose.Statement.{statement}
