@@ -1,10 +1,11 @@
 /*
- * Streaming ACN (ANSI E1.31-2018) for C and C++: packets, a node, the sources of one universe and a console, over cores whose contracts are proved.
+ * Streaming ACN (ANSI E1.31-2018) for C and C++: packets, a node, the sources of one universe, a collector of
+ * universe discovery and a console, over cores whose contracts are proved.
  *
- * Handles. A `struct sacn_node`, `sacn_sources` or `sacn_console` is memory of the caller's: set it to zero, make it by `.._new`, end it by
+ * Handles. A `struct sacn_node`, `sacn_sources`, `sacn_collector` or `sacn_console` is memory of the caller's: set it to zero, make it by `.._new`, end it by
  * `.._free`. A handle is used by one thread at a time, and is never copied: two copies of one handle are one handle that is ended twice.
  *
- * Memory. Only the calls `.._new` take memory, by the program's malloc, and `.._free` gives all of it back. No call keeps a pointer that it
+ * Memory. Only the calls `.._new` (and a collector's others) take memory, by the program's malloc, and `.._free` gives all of it back. No call keeps a pointer that it
  * was given, and no call prints, waits, opens anything, reads a clock, aborts or jumps out.
  *
  * Pointers. A pointer with a count points to so many elements and may be null where the count is 0. Every other pointer points to what its
@@ -37,7 +38,9 @@ enum sacn_status {
     /* An argument is out of range, or there is nothing of this number. */
     SACN_RANGE = 1004,
     /* A handle that is to be made is one already. */
-    SACN_NOT_EMPTY = 1005
+    SACN_NOT_EMPTY = 1005,
+    /* A request for memory was refused, where the call has no fault of its own for that. */
+    SACN_OUT_OF_MEMORY = 1006
 };
 
 /* Why octets are no packet: the first check that fails, in the order of the layers (E1.31, 5 to 8). */
@@ -218,6 +221,27 @@ int sacn_sources_take(struct sacn_sources *sources, uint64_t now, const uint8_t 
 
 /* Writes the merge: slot by slot the highest level of the sources of the highest priority, and 0 where no source is live. */
 int sacn_sources_merged(struct sacn_sources *sources, uint64_t now, uint8_t slots[SACN_SLOTS]);
+
+/* ---- universe discovery ---- */
+
+/* Collects the pages of any number of sources, and has the list of universes of each (E1.31, 8). Its call `.._take` takes memory too. */
+struct sacn_collector {
+    void *behind;
+};
+
+/* Makes a collector that knows nothing. It must be empty. Status: SACN_OUT_OF_MEMORY. */
+int sacn_collector_new(struct sacn_collector *collector);
+
+/* Gives back all memory of a collector, which is then empty. Status: SACN_NULL where it is already. */
+int sacn_collector_free(struct sacn_collector *collector);
+
+/* Takes a datagram: a page is kept, and any other packet changes nothing. Status: enum sacn_packet_fault, or SACN_OUT_OF_MEMORY, and then the page
+   isn't kept. */
+int sacn_collector_take(struct sacn_collector *collector, uint64_t now, const uint8_t *octets, size_t count);
+
+/* Copies the list of a source, ascending and each universe once, to a room of `room` numbers, and tells its length in `count`. Status: SACN_RANGE where
+   the source isn't known or a page of it is lacking; SACN_LENGTH where the list is longer than the room, with `count` told; SACN_OUT_OF_MEMORY. */
+int sacn_collector_list(struct sacn_collector *collector, uint64_t now, const uint8_t cid[16], uint16_t *universes, size_t room, size_t *count);
 
 /* ---- console ---- */
 

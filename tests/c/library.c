@@ -141,6 +141,35 @@ static void sources(void) {
     CHECK(sacn_sources_free(&sources) == SACN_DONE && sacn_sources_free(&sources) == SACN_NULL && sacn_sources_free(NULL) == SACN_NULL);
 }
 
+static void collector(void) {
+    struct sacn_collector collector = {0}, empty = {0};
+    struct sacn_console console = {0};
+    struct sacn_packet packet;
+    uint8_t out[SACN_MOST_OCTETS];
+    uint16_t universes[2] = {0, 77};
+    size_t page = 0, count = 77;
+    /* (the second datagram of a console is its page) */
+    CHECK(sacn_console_new(&console, show, strlen(show), 0) == SACN_DONE);
+    CHECK(sacn_console_poll(&console, 0, out, &page) == SACN_DONE && sacn_console_poll(&console, 0, out, &page) == SACN_DONE);
+    CHECK(sacn_read_packet(out, page, &packet, NULL) == SACN_DONE && packet.kind == SACN_PAGE);
+    CHECK(sacn_collector_new(&collector) == SACN_DONE && sacn_collector_new(&collector) == SACN_NOT_EMPTY && sacn_collector_new(NULL) == SACN_NULL);
+    CHECK(sacn_collector_list(&collector, 0, packet.cid, universes, 2, &count) == SACN_RANGE);
+    CHECK(sacn_collector_take(&collector, 0, out, page) == SACN_DONE);
+    CHECK(sacn_collector_list(&collector, 0, packet.cid, universes, 2, &count) == SACN_DONE && count == 1 && universes[0] == 7 && universes[1] == 77);
+    CHECK(sacn_collector_list(&collector, 0, packet.cid, NULL, 0, &count) == SACN_LENGTH && count == 1);
+    CHECK(sacn_collector_list(&collector, 25000, packet.cid, universes, 2, &count) == SACN_RANGE);
+    CHECK(sacn_collector_take(&collector, 0, out, 10) == SACN_PACKET_TOO_SHORT && sacn_collector_take(&collector, 0, NULL, 1) == SACN_NULL);
+    CHECK(sacn_collector_take(&collector, 0, out, SIZE_MAX) == SACN_LENGTH && sacn_collector_take(&empty, 0, out, page) == SACN_NULL);
+    CHECK(sacn_collector_list(&empty, 0, packet.cid, universes, 2, &count) == SACN_NULL);
+    CHECK(sacn_collector_list(&collector, 0, NULL, universes, 2, &count) == SACN_NULL);
+    CHECK(sacn_collector_list(&collector, 0, packet.cid, NULL, 2, &count) == SACN_NULL);
+    CHECK(sacn_collector_list(&collector, 0, packet.cid, universes, 2, NULL) == SACN_NULL);
+    CHECK(sacn_collector_list(&collector, 0, packet.cid, universes, SIZE_MAX, &count) == SACN_LENGTH);
+    console.behind = (sacn_console_free(&console), collector.behind);
+    CHECK(sacn_console_command(&console, 0, SACN_GO, 0, 0) == SACN_WRONG_HANDLE);
+    CHECK(sacn_collector_free(&collector) == SACN_DONE && sacn_collector_free(&collector) == SACN_NULL && sacn_collector_free(NULL) == SACN_NULL);
+}
+
 static void console(void) {
     struct sacn_console console = {0}, empty = {0};
     struct sacn_node node = {0};
@@ -185,6 +214,7 @@ int main(void) {
     packets();
     node();
     sources();
+    collector();
     console();
     return failed > 100 ? 100 : failed;
 }

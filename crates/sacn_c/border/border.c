@@ -16,6 +16,9 @@ uint32_t sacn_proved_node_wakes(void **handle, uint64_t *moment);
 uint32_t sacn_proved_sources_new(void **handle);
 uint32_t sacn_proved_sources_take(void **handle, uint64_t now, const uint8_t *octets, size_t count, uint8_t *taken);
 uint32_t sacn_proved_sources_merged(void **handle, uint64_t now, uint8_t *slots);
+uint32_t sacn_proved_collector_new(void **handle);
+uint32_t sacn_proved_collector_take(void **handle, uint64_t now, const uint8_t *octets, size_t count);
+uint32_t sacn_proved_collector_list(void **handle, uint64_t now, const uint8_t *cid, uint16_t *universes, size_t room, size_t *count);
 uint32_t sacn_proved_console_new(void **handle, const uint8_t *text, size_t length, uint8_t first);
 uint32_t sacn_proved_console_command(void **handle, uint64_t now, uint8_t command, uint16_t number, uint16_t level);
 uint32_t sacn_proved_console_poll(void **handle, uint64_t now, uint8_t *out, size_t *count);
@@ -107,6 +110,31 @@ int sacn_sources_take(struct sacn_sources *sources, uint64_t now, const uint8_t 
 int sacn_sources_merged(struct sacn_sources *sources, uint64_t now, uint8_t slots[SACN_SLOTS]) {
     if (!sources || !sources->behind || !slots) return SACN_NULL;
     return (int)sacn_proved_sources_merged(&sources->behind, now, slots);
+}
+
+int sacn_collector_new(struct sacn_collector *collector) {
+    if (!collector) return SACN_NULL;
+    if (collector->behind) return SACN_NOT_EMPTY;
+    return (int)sacn_proved_collector_new(&collector->behind);
+}
+
+int sacn_collector_free(struct sacn_collector *collector) {
+    if (!collector || !collector->behind) return SACN_NULL;
+    sacn_proved_free(&collector->behind);
+    return SACN_DONE;
+}
+
+int sacn_collector_take(struct sacn_collector *collector, uint64_t now, const uint8_t *octets, size_t count) {
+    if (!collector || !collector->behind || is_bad(octets, count)) return SACN_NULL;
+    if (is_long(count)) return SACN_LENGTH;
+    return (int)sacn_proved_collector_take(&collector->behind, now, start(octets), count);
+}
+
+int sacn_collector_list(struct sacn_collector *collector, uint64_t now, const uint8_t cid[16], uint16_t *universes, size_t room, size_t *count) {
+    static uint16_t none[1];
+    if (!collector || !collector->behind || !cid || is_bad(universes, room) || !count) return SACN_NULL;
+    if (is_long(room) || is_long(2 * room)) return SACN_LENGTH;
+    return (int)sacn_proved_collector_list(&collector->behind, now, cid, universes ? universes : none, room, count);
 }
 
 int sacn_console_new(struct sacn_console *console, const char *show, size_t length, uint8_t first) {

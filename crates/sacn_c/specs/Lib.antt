@@ -1,3 +1,4 @@
+pub mod Collecting
 pub mod Kinds
 pub mod Merging
 pub mod Numbers

@@ -1,6 +1,7 @@
 //! The calls of the C library, whose header is `include/sacn.h`.
 #![tactic(auto)]
 
+mod collector;
 mod console;
 mod handle;
 mod held;

@@ -11,3 +11,6 @@ pub const WRONG_HANDLE: u32 = 1003;
 
 /// An argument is out of the range that the call documents, or there is nothing of this number.
 pub const RANGE: u32 = 1004;
+
+/// A request for memory was refused.
+pub const OUT_OF_MEMORY: u32 = 1006;
