@@ -28,7 +28,7 @@ ok "install"
 # The flags as a user gets them: by the installed file where pkg-config is there, and else by hand.
 flags=(-I"$prefix/include" -L"$prefix/lib")
 if command -v pkg-config >/dev/null; then
-  if [ "$(pkg-config --cflags sacn)" = "-I$prefix/include" ]; then ok "pkg-config"; else fails "pkg-config" "$(pkg-config --cflags sacn 2>&1)"; fi
+  if [ "$(pkg-config --cflags sacn | tr -d ' ')" = "-I$prefix/include" ]; then ok "pkg-config"; else fails "pkg-config" "$(pkg-config --cflags sacn 2>&1)"; fi
 else
   echo "skipped library: pkg-config: it isn't there"
 fi
