@@ -1,7 +1,6 @@
 //! What a handle stands for.
 use sacn_console::ConsoleCore;
 use sacn_discovery::Collector;
-use sacn_monitor::Monitor;
 use sacn_node::NodeCore;
 use sacn_sources::SourceTable;
 
@@ -16,6 +15,4 @@ pub enum Held {
     Sources(SourceTable),
     /// A collector of universe discovery.
     Collector(Collector),
-    /// A monitor.
-    Monitor(Monitor),
 }
