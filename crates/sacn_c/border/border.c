@@ -1,0 +1,166 @@
+/* The C side of the border: it refuses null pointers, and hands all else to the proved calls of the crate `sacn_c`. */
+#include "sacn.h"
+
+/* The proved calls. A handle is passed by reference, a slice as a pointer and a count. */
+uint32_t sacn_proved_read_packet(const uint8_t *octets, size_t count, struct sacn_packet *packet);
+uint32_t sacn_proved_read_data(const uint8_t *octets, size_t count, struct sacn_packet *packet, uint8_t *frame);
+uint32_t sacn_proved_write_data(const struct sacn_packet *packet, const uint8_t *slots, size_t slot_count, uint8_t *out, size_t *length);
+uint8_t sacn_proved_in_sequence(uint8_t held, uint8_t arrived);
+void sacn_proved_multicast_group(uint16_t universe, uint8_t *group);
+void sacn_proved_free(void **handle);
+uint32_t sacn_proved_node_new(void **handle, const uint8_t *text, size_t length, uint16_t *udp_port);
+uint32_t sacn_proved_node_take(void **handle, uint64_t now, const uint8_t *octets, size_t count, uint8_t *taken);
+uint32_t sacn_proved_node_tick(void **handle, uint64_t now, size_t *lost);
+uint32_t sacn_proved_node_frame(void **handle, uint64_t now, uint8_t port, uint8_t *frame);
+uint32_t sacn_proved_node_wakes(void **handle, uint64_t *moment);
+uint32_t sacn_proved_sources_new(void **handle);
+uint32_t sacn_proved_sources_take(void **handle, uint64_t now, const uint8_t *octets, size_t count, uint8_t *taken);
+uint32_t sacn_proved_sources_merged(void **handle, uint64_t now, uint8_t *slots);
+uint32_t sacn_proved_collector_new(void **handle);
+uint32_t sacn_proved_collector_take(void **handle, uint64_t now, const uint8_t *octets, size_t count);
+uint32_t sacn_proved_collector_list(void **handle, uint64_t now, const uint8_t *cid, uint16_t *universes, size_t room, size_t *count);
+uint32_t sacn_proved_console_new(void **handle, const uint8_t *text, size_t length, uint8_t first);
+uint32_t sacn_proved_console_command(void **handle, uint64_t now, uint8_t command, uint16_t number, uint16_t level);
+uint32_t sacn_proved_console_poll(void **handle, uint64_t now, uint8_t *out, size_t *count);
+uint32_t sacn_proved_console_wakes(void **handle, uint64_t *moment);
+
+/* A slice of no elements has some address of this. */
+static const uint8_t nothing[1] = {0};
+
+/* Whether a pointer and its count are no slice. */
+static int is_bad(const void *at, size_t count) { return !at && count; }
+
+/* A count that no object has, which would be no slice either. */
+static int is_long(size_t count) { return count > PTRDIFF_MAX; }
+
+static const uint8_t *start(const void *at) { return at ? at : nothing; }
+
+int sacn_read_packet(const uint8_t *octets, size_t count, struct sacn_packet *packet, uint8_t frame[SACN_FRAME_OCTETS]) {
+    if (is_bad(octets, count) || !packet) return SACN_NULL;
+    if (is_long(count)) return SACN_LENGTH;
+    return (int)(frame ? sacn_proved_read_data(start(octets), count, packet, frame) : sacn_proved_read_packet(start(octets), count, packet));
+}
+
+int sacn_write_data(const struct sacn_packet *packet, const uint8_t *slots, size_t slot_count, uint8_t out[SACN_DATA_OCTETS], size_t *length) {
+    if (!packet || is_bad(slots, slot_count) || !out || !length) return SACN_NULL;
+    if (is_long(slot_count)) return SACN_LENGTH;
+    return (int)sacn_proved_write_data(packet, start(slots), slot_count, out, length);
+}
+
+int sacn_in_sequence(uint8_t held, uint8_t arrived) { return sacn_proved_in_sequence(held, arrived); }
+
+int sacn_multicast_group(uint16_t universe, uint8_t group[4]) {
+    if (!group) return SACN_NULL;
+    sacn_proved_multicast_group(universe, group);
+    return SACN_DONE;
+}
+
+int sacn_node_new(struct sacn_node *node, const char *setup, size_t length, uint16_t *udp_port) {
+    if (!node || is_bad(setup, length) || !udp_port) return SACN_NULL;
+    if (is_long(length)) return SACN_LENGTH;
+    if (node->behind) return SACN_NOT_EMPTY;
+    return (int)sacn_proved_node_new(&node->behind, start(setup), length, udp_port);
+}
+
+int sacn_node_free(struct sacn_node *node) {
+    if (!node || !node->behind) return SACN_NULL;
+    sacn_proved_free(&node->behind);
+    return SACN_DONE;
+}
+
+int sacn_node_take(struct sacn_node *node, uint64_t now, const uint8_t *octets, size_t count, uint8_t *taken) {
+    if (!node || !node->behind || is_bad(octets, count) || !taken) return SACN_NULL;
+    if (is_long(count)) return SACN_LENGTH;
+    return (int)sacn_proved_node_take(&node->behind, now, start(octets), count, taken);
+}
+
+int sacn_node_tick(struct sacn_node *node, uint64_t now, size_t *lost) {
+    if (!node || !node->behind || !lost) return SACN_NULL;
+    return (int)sacn_proved_node_tick(&node->behind, now, lost);
+}
+
+int sacn_node_frame(struct sacn_node *node, uint64_t now, uint8_t port, uint8_t frame[SACN_FRAME_OCTETS]) {
+    if (!node || !node->behind || !frame) return SACN_NULL;
+    return (int)sacn_proved_node_frame(&node->behind, now, port, frame);
+}
+
+int sacn_node_wakes(struct sacn_node *node, uint64_t *moment) {
+    if (!node || !node->behind || !moment) return SACN_NULL;
+    return (int)sacn_proved_node_wakes(&node->behind, moment);
+}
+
+int sacn_sources_new(struct sacn_sources *sources) {
+    if (!sources) return SACN_NULL;
+    if (sources->behind) return SACN_NOT_EMPTY;
+    return (int)sacn_proved_sources_new(&sources->behind);
+}
+
+int sacn_sources_free(struct sacn_sources *sources) {
+    if (!sources || !sources->behind) return SACN_NULL;
+    sacn_proved_free(&sources->behind);
+    return SACN_DONE;
+}
+
+int sacn_sources_take(struct sacn_sources *sources, uint64_t now, const uint8_t *octets, size_t count, uint8_t *taken) {
+    if (!sources || !sources->behind || is_bad(octets, count) || !taken) return SACN_NULL;
+    if (is_long(count)) return SACN_LENGTH;
+    return (int)sacn_proved_sources_take(&sources->behind, now, start(octets), count, taken);
+}
+
+int sacn_sources_merged(struct sacn_sources *sources, uint64_t now, uint8_t slots[SACN_SLOTS]) {
+    if (!sources || !sources->behind || !slots) return SACN_NULL;
+    return (int)sacn_proved_sources_merged(&sources->behind, now, slots);
+}
+
+int sacn_collector_new(struct sacn_collector *collector) {
+    if (!collector) return SACN_NULL;
+    if (collector->behind) return SACN_NOT_EMPTY;
+    return (int)sacn_proved_collector_new(&collector->behind);
+}
+
+int sacn_collector_free(struct sacn_collector *collector) {
+    if (!collector || !collector->behind) return SACN_NULL;
+    sacn_proved_free(&collector->behind);
+    return SACN_DONE;
+}
+
+int sacn_collector_take(struct sacn_collector *collector, uint64_t now, const uint8_t *octets, size_t count) {
+    if (!collector || !collector->behind || is_bad(octets, count)) return SACN_NULL;
+    if (is_long(count)) return SACN_LENGTH;
+    return (int)sacn_proved_collector_take(&collector->behind, now, start(octets), count);
+}
+
+int sacn_collector_list(struct sacn_collector *collector, uint64_t now, const uint8_t cid[16], uint16_t *universes, size_t room, size_t *count) {
+    static uint16_t none[1];
+    if (!collector || !collector->behind || !cid || is_bad(universes, room) || !count) return SACN_NULL;
+    if (is_long(room) || is_long(2 * room)) return SACN_LENGTH;
+    return (int)sacn_proved_collector_list(&collector->behind, now, cid, universes ? universes : none, room, count);
+}
+
+int sacn_console_new(struct sacn_console *console, const char *show, size_t length, uint8_t first) {
+    if (!console || is_bad(show, length)) return SACN_NULL;
+    if (is_long(length)) return SACN_LENGTH;
+    if (console->behind) return SACN_NOT_EMPTY;
+    return (int)sacn_proved_console_new(&console->behind, start(show), length, first);
+}
+
+int sacn_console_free(struct sacn_console *console) {
+    if (!console || !console->behind) return SACN_NULL;
+    sacn_proved_free(&console->behind);
+    return SACN_DONE;
+}
+
+int sacn_console_command(struct sacn_console *console, uint64_t now, uint8_t command, uint16_t number, uint16_t level) {
+    if (!console || !console->behind) return SACN_NULL;
+    return (int)sacn_proved_console_command(&console->behind, now, command, number, level);
+}
+
+int sacn_console_poll(struct sacn_console *console, uint64_t now, uint8_t out[SACN_MOST_OCTETS], size_t *count) {
+    if (!console || !console->behind || !out || !count) return SACN_NULL;
+    return (int)sacn_proved_console_poll(&console->behind, now, out, count);
+}
+
+int sacn_console_wakes(struct sacn_console *console, uint64_t *moment) {
+    if (!console || !console->behind || !moment) return SACN_NULL;
+    return (int)sacn_proved_console_wakes(&console->behind, moment);
+}

@@ -1,0 +1,62 @@
+-- What C is told of a packet, and what it tells to a writer.
+use Rattle.std.specs.Prelude.{◌≡◌, ℕ, Bool, true, false, not, ◌==◌, List, length, Result, Ok, Err}
+use Rattle.sacn_root.specs.FaultNumbers.{fault_number}
+use Rattle.sacn_root.specs.declared.fault.PacketFault.{PacketFault}
+use Rattle.sacn_framing.specs.Data.{Data, frame_of}
+use Rattle.sacn_framing.specs.Page.{Page}
+use Rattle.sacn_framing.specs.declared.packet.Packet.{Packet}
+use Rattle.sacn_framing.specs.declared.packet.Packet.TheVariants.{DataPacket, PagePacket, SyncPacket}
+use Rattle.sacn_c.specs.declared.packets.PacketFields.{PacketFields}
+
+abbrev pub packet_status : Result Packet PacketFault → ℕ
+packet_status (Ok packet) = 0
+packet_status (Err fault) = fault_number fault
+
+-- a bit, as C has it
+abbrev pub bit_of : Bool → ℕ
+bit_of true = 1
+bit_of false = 0
+
+pub record TellsData (f : PacketFields) (d : Data) : Type 0 where
+  pub kind : f.kind ≡ 1
+  pub cid : f.cid ≡ d.cid
+  pub priority : f.priority ≡ d.priority
+  pub number : f.number ≡ d.number
+  pub preview : f.preview ≡ bit_of d.preview
+  pub terminated : f.terminated ≡ bit_of d.terminated
+  pub universe : f.universe ≡ d.universe
+  pub start : f.start ≡ d.start
+  pub count : f.count ≡ length d.slots
+
+pub record TellsPage (f : PacketFields) (p : Page) : Type 0 where
+  pub kind : f.kind ≡ 2
+  pub cid : f.cid ≡ p.cid
+  pub page : f.page ≡ p.page
+  pub last : f.last ≡ p.last
+  pub count : f.count ≡ length p.numbers
+
+-- the fields are those of the packet
+abbrev pub Tells : PacketFields → Packet → Type 0
+Tells f (DataPacket d) = TellsData f d
+Tells f (PagePacket p) = TellsPage f p
+Tells f SyncPacket = f.kind ≡ 3
+
+-- the frame is that of a data packet, and else as it was
+abbrev pub ShowsFrame : List ℕ → List ℕ → Packet → Type 0
+ShowsFrame before frame (DataPacket d) = frame ≡ frame_of d
+ShowsFrame before frame (PagePacket p) = frame ≡ before
+ShowsFrame before frame SyncPacket = frame ≡ before
+
+-- the packet that C's fields and slots ask for
+abbrev pub written : PacketFields → List ℕ → Data
+written f slots = record {
+  cid = f.cid;
+  name = f.name;
+  priority = f.priority;
+  number = f.number;
+  preview = not (f.preview == 0);
+  terminated = not (f.terminated == 0);
+  universe = f.universe;
+  start = f.start;
+  slots = slots;
+}

@@ -1,0 +1,290 @@
+/*
+ * Streaming ACN (ANSI E1.31-2018) for C and C++: packets, a node, the sources of one universe, a collector of
+ * universe discovery and a console, over cores whose contracts are proved.
+ *
+ * Handles. A `struct sacn_node`, `sacn_sources`, `sacn_collector` or `sacn_console` is memory of the caller's: set it to zero, make it by `.._new`, end it by
+ * `.._free`. A handle is used by one thread at a time, and is never copied: two copies of one handle are one handle that is ended twice.
+ *
+ * Memory. Only the calls `.._new` (and a collector's others) take memory, by the program's malloc, and `.._free` gives all of it back. No call keeps a pointer that it
+ * was given, and no call prints, waits, opens anything, reads a clock, aborts or jumps out.
+ *
+ * Pointers. A pointer with a count points to so many elements and may be null where the count is 0. Every other pointer points to what its
+ * type says; arrays have the length that stands in the declaration. What a call writes does not overlap what it reads.
+ *
+ * Statuses. 0 is SACN_DONE. 1 to 18 are the fault's own number, of the family that the call names. From 1001 on they are the border's.
+ * Where a status isn't SACN_DONE nothing is written, but where the call says otherwise.
+ *
+ * Moments are milliseconds of a clock of the caller's. A handle uses the greatest moment that it was handed.
+ */
+#ifndef SACN_H
+#define SACN_H
+
+#include <stddef.h>
+#include <stdint.h>
+
+#ifdef __cplusplus
+extern "C" {
+#endif
+
+/* What every call can answer. */
+enum sacn_status {
+    SACN_DONE = 0,
+    /* A pointer is null, or a handle is empty. */
+    SACN_NULL = 1001,
+    /* A count is out of the range that the call names. */
+    SACN_LENGTH = 1002,
+    /* The handle stands for something else, as where one was cast. */
+    SACN_WRONG_HANDLE = 1003,
+    /* An argument is out of range, or there is nothing of this number. */
+    SACN_RANGE = 1004,
+    /* A handle that is to be made is one already. */
+    SACN_NOT_EMPTY = 1005,
+    /* A request for memory was refused, where the call has no fault of its own for that. */
+    SACN_OUT_OF_MEMORY = 1006
+};
+
+/* Why octets are no packet: the first check that fails, in the order of the layers (E1.31, 5 to 8). */
+enum sacn_packet_fault {
+    SACN_PACKET_TOO_SHORT = 1,
+    SACN_PACKET_PREAMBLE = 2,
+    SACN_PACKET_POSTAMBLE = 3,
+    SACN_PACKET_IDENTIFIER = 4,
+    SACN_PACKET_FLAGS = 5,
+    SACN_PACKET_LENGTH = 6,
+    SACN_PACKET_ROOT_VECTOR = 7,
+    SACN_PACKET_FRAMING_VECTOR = 8,
+    SACN_PACKET_DMP_VECTOR = 9,
+    SACN_PACKET_ADDRESS_TYPE = 10,
+    SACN_PACKET_FIRST_ADDRESS = 11,
+    SACN_PACKET_INCREMENT = 12,
+    SACN_PACKET_VALUE_COUNT = 13,
+    SACN_PACKET_PRIORITY = 14,
+    SACN_PACKET_UNIVERSE = 15,
+    SACN_PACKET_DISCOVERY_VECTOR = 16,
+    SACN_PACKET_PAGE_RANGE = 17,
+    SACN_PACKET_TOO_MANY_UNIVERSES = 18
+};
+
+/* Why a node's setup is refused: the first phase of reading that fails. */
+enum sacn_setup_fault {
+    SACN_SETUP_OUT_OF_MEMORY = 1,
+    SACN_SETUP_TOML = 2,
+    SACN_SETUP_MISSING_KEY = 3,
+    SACN_SETUP_UNKNOWN_KEY = 4,
+    SACN_SETUP_KEY_VALUE = 5,
+    SACN_SETUP_VERSION = 6,
+    SACN_SETUP_PORT_TAKEN = 7,
+    SACN_SETUP_LIMIT = 8,
+    SACN_SETUP_RANGE_END = 9,
+    SACN_SETUP_OVERLAP = 10
+};
+
+/* Why a console's show is refused: the first phase of reading that fails. */
+enum sacn_show_fault {
+    SACN_SHOW_OUT_OF_MEMORY = 1,
+    SACN_SHOW_TOML = 2,
+    SACN_SHOW_MISSING_KEY = 3,
+    SACN_SHOW_UNKNOWN_KEY = 4,
+    SACN_SHOW_KEY_VALUE = 5,
+    SACN_SHOW_VERSION = 6,
+    SACN_SHOW_CUE = 7,
+    SACN_SHOW_PATCH = 8
+};
+
+/* Why a console refuses a command. Only its clock has then moved. */
+enum sacn_console_fault {
+    SACN_CONSOLE_NO_CUE = 1,
+    SACN_CONSOLE_CHANNEL_RANGE = 2,
+    SACN_CONSOLE_NO_UNIVERSE = 3,
+    SACN_CONSOLE_ENDING = 4,
+    SACN_CONSOLE_RUNNING = 5,
+    SACN_CONSOLE_STOPPED = 6
+};
+
+/* ---- packets ---- */
+
+enum sacn_packet_kind {
+    /* Levels of one universe (E1.31, 6.2). */
+    SACN_DATA = 1,
+    /* A page of a source's list of universes (6.4, 8). */
+    SACN_PAGE = 2,
+    /* A synchronization packet (6.3), of which no other field is told. */
+    SACN_SYNC = 3
+};
+
+#define SACN_SLOTS 512
+/* The start code, and then the slots. */
+#define SACN_FRAME_OCTETS 513
+/* The octets of the longest data packet, and of the longest packet that a console gives. */
+#define SACN_DATA_OCTETS 638
+#define SACN_MOST_OCTETS 1144
+#define SACN_UDP_PORT 5568
+
+struct sacn_packet {
+    /* enum sacn_packet_kind */
+    uint8_t kind;
+    /* Of data: 0 to 200 (6.2.3), the sequence number (6.2.5), the two options of 6.2.6 as 0 or 1, and the start code (7.7). */
+    uint8_t priority;
+    uint8_t number;
+    uint8_t preview;
+    uint8_t terminated;
+    uint8_t start;
+    /* Of a page: its number, 0 to that of the last, and that of the last (8.3, 8.4). */
+    uint8_t page;
+    uint8_t last;
+    /* Of data: 1 to 63999 (6.2.7). */
+    uint16_t universe;
+    /* How many slots the data packet gives, or universe numbers the page has: 0 to 512. */
+    uint16_t count;
+    /* Of both: the component identifier (5.6), and the name (6.2.2): up to 64 octets, and NUL to the end. */
+    uint8_t cid[16];
+    uint8_t name[64];
+};
+
+/* Reads the packet at the front of `count` octets. Fields that its kind doesn't have stay as they were. `frame` may be null; a data packet's start
+   code and 512 slots go there, 0 in each that isn't given. Status: enum sacn_packet_fault. */
+int sacn_read_packet(const uint8_t *octets, size_t count, struct sacn_packet *packet, uint8_t frame[SACN_FRAME_OCTETS]);
+
+/* Writes a data packet of these fields (cid, name, priority, number, preview, terminated, universe, start) and of 0 to 512 slots, and its
+   length: 126, and one for each slot. What is written is read back as these fields. Status: SACN_PACKET_PRIORITY, SACN_PACKET_UNIVERSE or
+   SACN_PACKET_VALUE_COUNT where one is out of range. */
+int sacn_write_data(const struct sacn_packet *packet, const uint8_t *slots, size_t slot_count, uint8_t out[SACN_DATA_OCTETS], size_t *length);
+
+/* 1 where a packet with the number `arrived` is in sequence after one with the number `held`, else 0 (6.7.2). */
+int sacn_in_sequence(uint8_t held, uint8_t arrived);
+
+/* The IPv4 group of a universe (9.3.1). Status: SACN_NULL. */
+int sacn_multicast_group(uint16_t universe, uint8_t group[4]);
+
+/* ---- node ---- */
+
+/* What became of a node's datagram. */
+enum sacn_taken {
+    /* It is no packet; the status says why. */
+    SACN_TAKEN_REFUSED = 0,
+    /* A live packet, which is shown. */
+    SACN_TAKEN_HELD = 1,
+    /* A preview or another start code of a known source: its number alone counts. */
+    SACN_TAKEN_OBSERVED = 2,
+    /* A termination of a known source. */
+    SACN_TAKEN_ENDED = 3,
+    SACN_TAKEN_OUT_OF_SEQUENCE = 4,
+    /* A new source, for which there is no room (6.2.3.3). */
+    SACN_TAKEN_SOURCES_EXCEEDED = 5,
+    /* A termination, a preview or another start code of a source that isn't known. */
+    SACN_TAKEN_UNKNOWN_IGNORED = 6,
+    SACN_TAKEN_OTHER_UNIVERSE = 7,
+    SACN_TAKEN_DISCOVERY = 8,
+    SACN_TAKEN_SYNC = 9
+};
+
+/* A node: it takes datagrams, merges its sources by priority and highest level, and shows the frames of its ports. */
+struct sacn_node {
+    void *behind;
+};
+
+/* Makes a node of a setup: `length` octets of TOML, as docs/FILES.md has them. The node must be empty (zero, or freed). `udp_port` is the port that
+   it is to hear. Status: enum sacn_setup_fault. */
+int sacn_node_new(struct sacn_node *node, const char *setup, size_t length, uint16_t *udp_port);
+
+/* Gives back all memory of a node, which is then empty. Status: SACN_NULL where it is already. */
+int sacn_node_free(struct sacn_node *node);
+
+/* Takes a datagram, whatever its octets are; `taken` is one of enum sacn_taken. Status: enum sacn_packet_fault, with `taken` 0 then. */
+int sacn_node_take(struct sacn_node *node, uint64_t now, const uint8_t *octets, size_t count, uint8_t *taken);
+
+/* Drops the sources that are lost, and tells how many those were. */
+int sacn_node_tick(struct sacn_node *node, uint64_t now, size_t *lost);
+
+/* Writes the frame of a port: start code 0 and 512 slots. Status: SACN_RANGE where the node has no such port. */
+int sacn_node_frame(struct sacn_node *node, uint64_t now, uint8_t port, uint8_t frame[SACN_FRAME_OCTETS]);
+
+/* The first moment at which a source is lost if no datagram comes, UINT64_MAX where there is none. */
+int sacn_node_wakes(struct sacn_node *node, uint64_t *moment);
+
+/* ---- the sources of one universe, where the caller has the rest of a receiver ---- */
+
+/* The sources of one universe, and the merge of what they show. */
+struct sacn_sources {
+    void *behind;
+};
+
+/* Makes an empty table, with the room for all its sources. It must be empty. Status: 1 where there is no memory. */
+int sacn_sources_new(struct sacn_sources *sources);
+
+/* Gives back all memory of a table, which is then empty. Status: SACN_NULL where it is already. */
+int sacn_sources_free(struct sacn_sources *sources);
+
+/* Takes a datagram; a data packet counts whatever universe it names. `taken` is 0 to 6, SACN_TAKEN_DISCOVERY or SACN_TAKEN_SYNC. Status: enum
+   sacn_packet_fault, with `taken` 0 then. */
+int sacn_sources_take(struct sacn_sources *sources, uint64_t now, const uint8_t *octets, size_t count, uint8_t *taken);
+
+/* Writes the merge: slot by slot the highest level of the sources of the highest priority, and 0 where no source is live. */
+int sacn_sources_merged(struct sacn_sources *sources, uint64_t now, uint8_t slots[SACN_SLOTS]);
+
+/* ---- universe discovery ---- */
+
+/* Collects the pages of any number of sources, and has the list of universes of each (E1.31, 8). Its call `.._take` takes memory too. */
+struct sacn_collector {
+    void *behind;
+};
+
+/* Makes a collector that knows nothing. It must be empty. Status: SACN_OUT_OF_MEMORY. */
+int sacn_collector_new(struct sacn_collector *collector);
+
+/* Gives back all memory of a collector, which is then empty. Status: SACN_NULL where it is already. */
+int sacn_collector_free(struct sacn_collector *collector);
+
+/* Takes a datagram: a page is kept, and any other packet changes nothing. Status: enum sacn_packet_fault, or SACN_OUT_OF_MEMORY, and then the page
+   isn't kept. */
+int sacn_collector_take(struct sacn_collector *collector, uint64_t now, const uint8_t *octets, size_t count);
+
+/* Copies the list of a source, ascending and each universe once, to a room of `room` numbers, and tells its length in `count`. Status: SACN_RANGE where
+   the source isn't known or a page of it is lacking; SACN_LENGTH where the list is longer than the room, with `count` told; SACN_OUT_OF_MEMORY. */
+int sacn_collector_list(struct sacn_collector *collector, uint64_t now, const uint8_t cid[16], uint16_t *universes, size_t room, size_t *count);
+
+/* ---- console ---- */
+
+enum sacn_command {
+    /* To the next cue. */
+    SACN_GO = 1,
+    /* To the cue of this number. */
+    SACN_GO_TO = 2,
+    /* A channel, 1 to 2048, to a level, 0 to 65535. */
+    SACN_SET_LEVEL = 3,
+    /* The grand master to a level, 0 to 65535. */
+    SACN_MASTER = 4,
+    /* Ends a universe (6.2.6). */
+    SACN_END_UNIVERSE = 5,
+    /* Starts a stopped one anew. */
+    SACN_START_UNIVERSE = 6
+};
+
+/* A console: it plays a show's cues, and gives the datagrams that are due. */
+struct sacn_console {
+    void *behind;
+};
+
+/* Makes a console of a show: `length` octets of TOML, as docs/FILES.md has them. The console must be empty. The first packet on each universe has the
+   number `first`. Status: enum sacn_show_fault. */
+int sacn_console_new(struct sacn_console *console, const char *show, size_t length, uint8_t first);
+
+/* Gives back all memory of a console, which is then empty. Status: SACN_NULL where it is already. */
+int sacn_console_free(struct sacn_console *console);
+
+/* Takes one of enum sacn_command, with the number of its cue, channel or universe, and its level; those that it doesn't have are ignored.
+   Status: enum sacn_console_fault, or SACN_RANGE where there is no such command. */
+int sacn_console_command(struct sacn_console *console, uint64_t now, uint8_t command, uint16_t number, uint16_t level);
+
+/* Gives the datagram that is due, if one is: its octets at the front of `out`, and their number in `count`, 0 where none is. Poll until none is.
+   Octets 113 and 114 of a data packet (from 0 on) have its universe; a page goes to universe 64214. */
+int sacn_console_poll(struct sacn_console *console, uint64_t now, uint8_t out[SACN_MOST_OCTETS], size_t *count);
+
+/* The first moment at which something can be due as long as no command comes: no earlier poll gives anything. */
+int sacn_console_wakes(struct sacn_console *console, uint64_t *moment);
+
+#ifdef __cplusplus
+}
+#endif
+
+#endif

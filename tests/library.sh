@@ -1,0 +1,130 @@
+#!/usr/bin/env bash
+# Installs the C library outside the repository, and runs what uses it: the smoke test of every call and refusal, with the compiler's sanitizers and
+# under valgrind where it is there; the examples in C against the built program on loopback, and the one in Python through the shared object.
+# Prints 'ok NAME', 'not ok NAME: why' or 'skipped NAME: why' for each, as ./test counts them.
+set -u
+top=$(cd "$(dirname "$(readlink -f "$0")")/.." && pwd)
+sacn=${SACN:-$top/crates/sacn/out/sacn}
+compiler=$(command -v "${CC:-cc}" || command -v gcc || command -v clang || true)
+if [ -z "$compiler" ]; then
+  echo "skipped library: this machine has no C compiler"
+  exit 0
+fi
+room=$(mktemp -d)
+running=()
+trap 'for it in "${running[@]}"; do kill "$it" 2>/dev/null; done; rm -rf "$room"' EXIT
+prefix=$room/prefix
+export PKG_CONFIG_PATH=$prefix/lib/pkgconfig
+
+ok() { echo "ok library: $1"; }
+fails() { echo "not ok library: $1: $2"; }
+
+if ! "$top/tools/library.sh" "$prefix" >"$room/said" 2>&1; then
+  fails "install" "$(tail -n 1 "$room/said")"
+  exit 0
+fi
+ok "install"
+
+# The flags as a user gets them: by the installed file where pkg-config is there, and else by hand.
+flags=(-I"$prefix/include" -L"$prefix/lib")
+if command -v pkg-config >/dev/null; then
+  if [ "$(pkg-config --cflags sacn | tr -d ' ')" = "-I$prefix/include" ]; then ok "pkg-config"; else fails "pkg-config" "$(pkg-config --cflags sacn 2>&1)"; fi
+else
+  echo "skipped library: pkg-config: it isn't there"
+fi
+# (the archive, by name: the shared object stands beside it)
+library=$prefix/lib/libsacn.a
+
+# built NAME [FLAG..]: builds a C file against the prefix, without a warning
+built() {
+  local name=$1 file=$2
+  shift 2
+  if "$compiler" -D_DEFAULT_SOURCE -Wall -Wextra -Werror "${flags[@]}" "$@" -o "$room/$name" "$file" "$library" 2>"$room/said"; then return 0; fi
+  fails "$name" "$(grep -m 1 error "$room/said")"
+  return 1
+}
+
+if built smoke "$top/tests/c/library.c" -std=c99 -Wpedantic -O2; then
+  if "$room/smoke" >"$room/said"; then ok "each call and each refusal"; else fails "each call and each refusal" "$(head -n 1 "$room/said")"; fi
+  if command -v valgrind >/dev/null; then
+    if valgrind -q --error-exitcode=99 --leak-check=full "$room/smoke" >"$room/said" 2>&1; then ok "under valgrind"; else fails "under valgrind" "$(head -n 1 "$room/said")"; fi
+  else
+    echo "skipped library: under valgrind: it isn't there"
+  fi
+fi
+if "$compiler" -fsanitize=address,undefined -x c - -o "$room/try" <<<'int main(void) { return 0; }' 2>/dev/null && "$room/try"; then
+  if built sanitized "$top/tests/c/library.c" -std=c99 -g -fsanitize=address,undefined; then
+    if "$room/sanitized" >"$room/said" 2>&1; then ok "with sanitizers"; else fails "with sanitizers" "$(head -n 1 "$room/said")"; fi
+  fi
+else
+  echo "skipped library: with sanitizers: this compiler has none"
+fi
+if command -v c++ >/dev/null; then
+  printf '#include <sacn.h>\nint main() { struct sacn_node node = {}; return sacn_node_free(&node) == SACN_NULL ? 0 : 1; }\n' >"$room/plus.cpp"
+  if c++ -Wall -Wextra -Werror "${flags[@]}" -o "$room/plus" "$room/plus.cpp" "$library" 2>"$room/said" && "$room/plus"; then ok "C++"; else fails "C++" "$(head -n 1 "$room/said")"; fi
+else
+  echo "skipped library: C++: there is no compiler"
+fi
+
+# Against the program, each on a UDP port of its own.
+show() {
+  cat <<TOML
+version = 2
+cid = "00010203-0405-0607-0809-0a0b0c0d0e0f"
+name = "Desk"
+universes = [1]
+send_to = [$1]
+[[cue]]
+number = 1
+up = 0
+down = 0
+levels = [[1, 65535]]
+[[patch]]
+channel = 1
+universe = 1
+slot = 1
+TOML
+}
+setup() { printf 'version = 1\nudp_port = %s\n[[port]]\nnumber = 1\nuniverse = 1\n' "$1"; }
+lit='^1 [0-9]+ 00ff00'
+
+# hears NAME PORT COMMAND..: the command shows what a desk sends, which then ends its universe: lit, and dark
+hears() {
+  local name=$1 port=$2
+  shift 2
+  show "$port" >"$room/show$port.toml"
+  "$@" >"$room/heard" 2>"$room/said" &
+  running=($!)
+  sleep 1
+  printf 'go\n' | { cat; sleep 1; } | timeout 10 "$sacn" desk "$room/show$port.toml" >/dev/null 2>&1
+  wait "${running[0]}"
+  running=()
+  if grep -qE "$lit" "$room/heard" && tail -n 1 "$room/heard" | grep -qE '^1 [0-9]+ 0000'; then ok "$name"; else fails "$name" "$(head -n 1 "$room/said" "$room/heard" | tr '\n' ' ')"; fi
+}
+
+if [ ! -x "$sacn" ]; then
+  echo "skipped library: receive.c, send.c and receive.py beside the program: sacn isn't built"
+else
+  setup 25971 >"$room/node25971.toml"
+  if built receive "$top/examples/c/receive.c" -std=c99 -O2; then hears "receive.c hears a desk" 25971 "$room/receive" "$room/node25971.toml" 4; fi
+  if command -v python3 >/dev/null && [ -f "$prefix/lib/libsacn.so" ]; then
+    setup 25972 >"$room/node25972.toml"
+    hears "receive.py hears a desk" 25972 python3 "$top/examples/python/receive.py" "$prefix/lib/libsacn.so" "$room/node25972.toml" 4
+  else
+    echo "skipped library: receive.py: no python3, or no shared object"
+  fi
+  if built send "$top/examples/c/send.c" -std=c99 -O2; then
+    setup 25973 >"$room/node25973.toml"
+    show 25973 >"$room/show25973.toml"
+    timeout 20 "$sacn" gateway "$room/node25973.toml" --listen 127.0.0.1 --seconds 3 >"$room/heard" 2>"$room/said" </dev/null &
+    running=($!)
+    sleep 1
+    "$room/send" "$room/show25973.toml" 25973 500 >"$room/sent"
+    wait "${running[0]}"
+    running=()
+    if grep -qE "$lit" "$room/heard" && grep -q 'ended' "$room/said"; then ok "a gateway hears send.c: $(cat "$room/sent")"; else fails "a gateway hears send.c" "$(head -n 1 "$room/said")"; fi
+  fi
+fi
+if built bench "$top/examples/c/bench.c" -std=c99 -O2; then
+  if "$room/bench" 2000 >"$room/said"; then ok "bench.c: $(tr '\n' ';' <"$room/said")"; else fails "bench.c" "$(head -n 1 "$room/said")"; fi
+fi

@@ -1,0 +1,53 @@
+#!/usr/bin/env bash
+# Proves the cores and the calls for C, builds the archive and installs all that a C program needs.
+#
+#   tools/library.sh PREFIX     installs PREFIX/include/sacn.h, PREFIX/lib/libsacn.a, PREFIX/lib/libsacn.so and PREFIX/lib/pkgconfig/sacn.pc
+#
+# SACN_CPU names the processor to build for, as rt's --cpu does; where it is empty the default is taken, on which any x86-64 of the last ten years runs.
+set -eu
+top=$(cd "$(dirname "$(readlink -f "$0")")/.." && pwd)
+if [ $# != 1 ] || [ -z "$1" ]; then
+  echo "usage: library.sh PREFIX" >&2
+  exit 2
+fi
+mkdir -p "$1/include" "$1/lib/pkgconfig"
+prefix=$(cd "$1" && pwd)
+compiler=$(command -v "${CC:-cc}" || command -v gcc || command -v clang || true)
+if [ -z "$compiler" ]; then
+  echo "sacn: this machine has no C compiler" >&2
+  exit 1
+fi
+rt=$(readlink -f "$(command -v rt || true)" || true)
+if [ -z "$rt" ]; then
+  echo "sacn: the kit's command rt isn't on the PATH" >&2
+  exit 1
+fi
+# The kit's own part of the heap: what the proved code calls for malloc, realloc and free.
+heap=$(dirname "$(dirname "$rt")")/c/liblibc_c.a
+archive=$top/crates/sacn_c/out/libsacn_c.a
+
+(cd "$top/crates/sacn_c" && rt lib --jobs "${SACN_JOBS:-2}" ${SACN_CPU:+--cpu "$SACN_CPU"}) >&2
+
+room=$(mktemp -d)
+trap 'rm -rf "$room"' EXIT
+"$compiler" -std=c99 -O2 -fPIC -Wall -Wextra -I"$top/include" -c -o "$room/border.o" "$top/crates/sacn_c/border/border.c"
+(cd "$room" && ar x "$heap" && ar x "$archive" && ar rcs libsacn.a ./*.o)
+printf '{ global: sacn_*; local: *; };\n' >"$room/names"
+"$compiler" -shared -o "$room/libsacn.so" -Wl,--whole-archive "$room/libsacn.a" -Wl,--no-whole-archive -Wl,--version-script="$room/names" -Wl,-soname,libsacn.so ||
+  echo "sacn: the archive makes no shared object here" >&2
+
+install -m 644 "$top/include/sacn.h" "$prefix/include/sacn.h"
+install -m 644 "$room/libsacn.a" "$prefix/lib/libsacn.a"
+if [ -f "$room/libsacn.so" ]; then install -m 755 "$room/libsacn.so" "$prefix/lib/libsacn.so"; fi
+cat >"$prefix/lib/pkgconfig/sacn.pc" <<PC
+prefix=$prefix
+includedir=\${prefix}/include
+libdir=\${prefix}/lib
+
+Name: sacn
+Description: Streaming ACN (ANSI E1.31-2018) over proved cores
+Version: 1
+Cflags: -I\${includedir}
+Libs: -L\${libdir} -lsacn
+PC
+echo "sacn: installed in $prefix" >&2
