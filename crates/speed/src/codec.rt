@@ -39,15 +39,17 @@ pub fn written(
     write_data(&fields, out)
 }
 
+/// Sixteen packets, read in turn, so that no compiler reads one for all.
 #[derive(Clone, Copy)]
 struct Reading {
-    octets: [u8; 638],
+    octets: [[u8; 638]; 16],
 }
 
 impl Turn for Reading {
     fn turn(&mut self, number: u64) -> u64 {
-        self.octets[111] = (number % 256) as u8;
-        match read_packet(&self.octets) {
+        let at = (number % 16) as usize;
+        self.octets[at][111] = (number % 256) as u8;
+        match read_packet(&self.octets[at]) {
             Ok(Packet::DataPacket(packet)) => u64::from(packet.number()),
             _ => 0,
         }
@@ -56,13 +58,14 @@ impl Turn for Reading {
 
 #[derive(Clone, Copy)]
 struct PlainReading {
-    octets: [u8; 638],
+    octets: [[u8; 638]; 16],
 }
 
 impl Turn for PlainReading {
     fn turn(&mut self, number: u64) -> u64 {
-        self.octets[111] = (number % 256) as u8;
-        match plain_read(&self.octets) {
+        let at = (number % 16) as usize;
+        self.octets[at][111] = (number % 256) as u8;
+        match plain_read(&self.octets[at]) {
             Some(packet) => u64::from(packet.number),
             None => 0,
         }
@@ -112,7 +115,7 @@ fn read<C: Clock, O: Write>(
     name: &str,
     priority: u8,
 ) -> Result<(), SpeedFault> {
-    let octets = packet(priority);
+    let octets = [packet(priority); 16];
     let mut work = Reading { octets };
     let mut plain = PlainReading { octets };
     turn::compared(clock, out, name, calls, (&mut work, &mut plain))
