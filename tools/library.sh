@@ -1,9 +1,7 @@
 #!/usr/bin/env bash
-# Proves the cores and the calls for C, builds the archive and installs all that a C program needs.
+# Installs all that a C program needs, from the archive that ./sacn library has proved and built.
 #
 #   tools/library.sh PREFIX     installs PREFIX/include/sacn.h, PREFIX/lib/libsacn.a, PREFIX/lib/libsacn.so and PREFIX/lib/pkgconfig/sacn.pc
-#
-# SACN_CPU names the processor to build for, as rt's --cpu does; where it is empty the default is taken, on which any x86-64 of the last ten years runs.
 set -eu
 top=$(cd "$(dirname "$(readlink -f "$0")")/.." && pwd)
 if [ $# != 1 ] || [ -z "$1" ]; then
@@ -26,7 +24,10 @@ fi
 heap=$(dirname "$(dirname "$rt")")/c/liblibc_c.a
 archive=$top/crates/sacn_c/out/libsacn_c.a
 
-(cd "$top/crates/sacn_c" && rt lib --jobs "${SACN_JOBS:-2}" ${SACN_CPU:+--cpu "$SACN_CPU"}) >&2
+if [ ! -f "$archive" ]; then
+  echo "sacn: the archive isn't built: ./sacn library PREFIX proves and builds it first" >&2
+  exit 1
+fi
 
 room=$(mktemp -d)
 trap 'rm -rf "$room"' EXIT

@@ -1,5 +1,5 @@
 #!/usr/bin/env python3
-"""Proves the crates that a program stands on, side by side, and then builds the program.
+"""Proves the crates that a program or a static library stands on, side by side, and then builds it.
 
 usage: prove.py PROGRAM SUM [--cpu NAME]
 
@@ -44,6 +44,12 @@ def libraries():
             if colon:
                 found[name.split()[0]] = below.split()
     return {name: [it for it in below if it in found] for name, below in found.items()}
+
+
+def is_static(name):
+    """Whether crates.txt calls a crate a static library, which has nothing to run."""
+    with open(f"{TOP}/crates.txt", encoding="utf-8") as lines:
+        return any(line.partition(":")[0].split() == [name, "staticlib"] for line in lines)
 
 
 def below(crates, name):
@@ -177,7 +183,8 @@ def prove(crates, program, cpu):
             for name in ready:
                 words = ["rt", "lib", "--jobs", jobs]
                 if name == program:
-                    words = ["rt", "run", "--jobs", jobs, *(["--cpu", cpu] if cpu else []), "--", "--help"]
+                    for_cpu = ["--cpu", cpu] if cpu else []
+                    words = [*words, *for_cpu] if is_static(name) else ["rt", "run", "--jobs", jobs, *for_cpu, "--", "--help"]
                 running.append(Proof(name, below(crates, name), words))
                 left.remove(name)
             progress.show(len(done), running)
