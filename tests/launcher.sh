@@ -9,9 +9,11 @@ tree=$room/tree
 mkdir -p "$tree/tools" "$room/bin" "$room/rooms"
 cp "$top/sacn" "$tree/"
 cp "$top/tools/prove.py" "$top/tools/kit" "$tree/tools/"
+printf '#!/bin/sh\necho installed in "$1"\n' >"$tree/tools/library.sh"
+chmod +x "$tree/tools/library.sh"
 echo "Handles allowed: Net." >"$tree/HANDLES"
-printf '%s\n' "low:" "left: low" "right: low" "sacn: left right" "apart: low" >"$tree/crates.txt"
-for name in low left right sacn apart; do
+printf '%s\n' "low:" "left: low" "right: low" "sacn: left right" "apart: low" "sacn_c staticlib: right" >"$tree/crates.txt"
+for name in low left right sacn apart sacn_c; do
   mkdir -p "$tree/crates/$name/src"
   echo "//! $name" >"$tree/crates/$name/src/lib.rt"
 done
@@ -81,6 +83,15 @@ check "a build of this very tree is used" built_is_used
 
 changed_is_not_used() { echo "//! more" >>"$tree/crates/left/src/lib.rt"; launch decode; [ "$status" = 3 ] && prints tried; }
 check "a build of another tree isn't" changed_is_not_used
+
+library_is_proved() { anew; launch library /x && prints "installed in /x" && [ "$(tail -n 1 "$KIT_LOG")" = sacn_c ] && ! grep -qx -e left -e sacn "$KIT_LOG" && [ ! -e "$tree/crates/sacn_c/out/sacn" ]; }
+check "the library is proved with what it stands on, and installed" library_is_proved
+
+library_once() { launch library /x && prints "installed in /x" && [ ! -s "$KIT_LOG" ]; }
+check "a library of this very tree is installed at once" library_once
+
+library_wants_a_folder() { launch library; [ "$status" = 2 ] && says "library wants one word"; }
+check "a library without a folder is refused" library_wants_a_folder
 
 failing_crate() { anew; KIT_FAILS=left launch prove; refused "left was not proved" && says "fn left::wrong: not proved" && [ ! -e "$tree/crates/sacn/out/sacn" ]; }
 check "a crate that isn't proved is named, with the end of its log" failing_crate
