@@ -3,9 +3,7 @@ use crate::command::{Asked, parse};
 use crate::ending::{DONE, Ending, ended, explained};
 use crate::files::{octets_of_files, text_of_file};
 use crate::{explain, live, network};
-use sacn_text::{
-    MOST_OCTETS, Printed, octets_of_digits, print_looks, print_packets, read_limited,
-};
+use sacn_text::{MOST_OCTETS, Printed, octets_of_digits, print_looks, print_packets, read_limited};
 use std::alloc::Global;
 use std::io::{Read, Write};
 use std::net::Net;
@@ -49,13 +47,7 @@ fn run<R: AllocGlobal + Files + Net + Clock, I: Read + Drop, O: Write + Drop, E:
         } => {
             let show = text_of_file(rt, show)?;
             let script = text_of_file(rt, script)?;
-            network::console(
-                rt,
-                (show.as_str(), script.as_str()),
-                first,
-                turns,
-                &mut out,
-            )
+            network::console(rt, (show.as_str(), script.as_str()), first, turns, &mut out)
         }
         Asked::Node { setup, turns } => {
             let setup = text_of_file(rt, setup)?;
