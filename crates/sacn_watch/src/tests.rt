@@ -1,0 +1,58 @@
+use super::*;
+use sacn_explain::{Form, Options};
+use sacn_live::memory::{Incoming, MemoryReceiver};
+use std::alloc::{AllocError, Global};
+use std::test::*;
+
+/// A data packet of universe 1 with two slots (E1.31, 5, 6.2 and 7): 128 octets.
+fn packet(alloc: Global, name: &[u8], cid: u8, number: u8, levels: [u8; 2]) -> Result<Vec<u8>, AllocError> {
+    let mut octets = Vec::new(alloc);
+    octets.extend_from_slice(b"\0\x10\0\0ASC-E1.17\0\0\0\x70\x70\0\0\0\x04")?;
+    octets.extend_from_slice(&[cid; 16])?;
+    octets.extend_from_slice(b"\x70\x5a\0\0\0\x02")?;
+    octets.extend_from_slice(name)?;
+    for _ in name.len()..64 {
+        octets.push(0)?;
+    }
+    octets.extend_from_slice(&[100, 0, 0, number, 0, 0, 1])?;
+    octets.extend_from_slice(b"\x70\x0d\x02\xa1\0\0\0\x01\0\x03\0")?;
+    octets.extend_from_slice(&levels)?;
+    Ok(octets)
+}
+
+/// A packet of a desk at 10 ms, and a datagram that is none at 20 ms.
+fn incoming(alloc: Global) -> Result<Vec<Incoming>, AllocError> {
+    let mut list = Vec::new(alloc);
+    list.push(Incoming::Datagram(10, [10, 0, 0, 1], packet(alloc, b"Desk", 0xaa, 7, [255, 128])?))?;
+    list.push(Incoming::Nothing(15))?;
+    let mut other = Vec::new(alloc);
+    other.push(b'x')?;
+    list.push(Incoming::Datagram(20, [10, 0, 0, 9], other))?;
+    Ok(list)
+}
+
+/// What a watch of 3 s tells.
+fn told(alloc: Global, form: Form) -> Result<String, Fail> {
+    let mut listener = MemoryReceiver::new(incoming(alloc)?, 3000);
+    let mut text = Vec::new(alloc);
+    let options = Options { port: 5568, universes: &[], form };
+    let mut lines = Lines::new(alloc, options, &mut text)?;
+    run_watch(&mut listener, &mut lines, 3000)?;
+    Ok(String::from_utf8(text)?)
+}
+
+const OBJECTS: &str = r#"{"ms":10,"event":"appeared","universe":1,"cid":"aaaaaaaaaaaaaaaaaaaaaaaaaaaaaaaa","name":"Desk","address":"10.0.0.1","port":0,"priority":100}
+{"ms":20,"event":"refused","address":"10.0.0.9","port":0,"fault":1}
+{"ms":2510,"event":"lost","universe":1,"cid":"aaaaaaaaaaaaaaaaaaaaaaaaaaaaaaaa","name":"Desk","since":10}
+{"row":"source","universe":1,"cid":"aaaaaaaaaaaaaaaaaaaaaaaaaaaaaaaa","name":"Desk","address":"10.0.0.1","port":0,"state":"lost","priority":100,"first":10,"last":10,"live":1,"preview":0,"terminated":0,"other":0,"skipped":0,"late":0,"repeated":0,"gap":0,"last_second":0}
+{"row":"universe","universe":1,"sources":1,"sending":0,"taken":1,"skipped":0,"discarded":0}
+{"row":"refused","fault":1,"name":"TooShort","count":1}
+{"row":"counts","datagrams":2,"refused":1,"pages":0,"pages_untracked":0,"synchronization":0,"untracked":0,"other_ports":0,"other_frames":0,"went_back":0,"ms":3000}
+"#;
+
+#[test]
+fn lines_are_told(rt: HostRuntime) -> Result<(), Fail> {
+    let a = rt.alloc();
+    assert_eq!(rt; told(a, Form::Json)?.as_str(), OBJECTS);
+    Ok(())
+}
