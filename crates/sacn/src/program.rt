@@ -3,10 +3,9 @@ use crate::command::{Asked, parse};
 use crate::ending::{DONE, Ending, ended, explained};
 use crate::files::{octets_of_files, text_of_file};
 use crate::{explain, live, network, watch};
-use sacn_text::{
-    MOST_OCTETS, Printed, octets_of_digits, print_looks, print_packets, read_limited,
-};
+use sacn_text::{MOST_OCTETS, Printed, octets_of_digits, print_looks, print_packets, read_limited};
 use std::alloc::Global;
+use std::env::Env;
 use std::io::{Read, Write};
 use std::net::Net;
 use std::rt::{Clock, Files};
@@ -14,7 +13,7 @@ use std::rt::{Clock, Files};
 /// Runs the program on its words, of which the first is its name, and answers the exit status: 0, 2
 /// for bad words, 3 for input that is refused, 4 for a device that fails.
 pub fn run_program<
-    R: AllocGlobal + Files + Net + Clock,
+    R: AllocGlobal + Files + Env + Net + Clock,
     I: Read + Drop,
     O: Write + Drop,
     E: Write + Drop,
@@ -30,7 +29,7 @@ pub fn run_program<
 }
 
 // Does what is asked for. What prints packets and looks owns the output, and promises what it then has.
-fn run<R: AllocGlobal + Files + Net + Clock, I: Read + Drop, O: Write + Drop, E: Write>(
+fn run<R: AllocGlobal + Files + Env + Net + Clock, I: Read + Drop, O: Write + Drop, E: Write>(
     rt: &R,
     asked: Asked<'_>,
     input: I,
@@ -49,13 +48,7 @@ fn run<R: AllocGlobal + Files + Net + Clock, I: Read + Drop, O: Write + Drop, E:
         } => {
             let show = text_of_file(rt, show)?;
             let script = text_of_file(rt, script)?;
-            network::console(
-                rt,
-                (show.as_str(), script.as_str()),
-                first,
-                turns,
-                &mut out,
-            )
+            network::console(rt, (show.as_str(), script.as_str()), first, turns, &mut out)
         }
         Asked::Node { setup, turns } => {
             let setup = text_of_file(rt, setup)?;

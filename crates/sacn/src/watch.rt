@@ -6,15 +6,20 @@ use crate::live::{clock_of, said_of_socket, say_hearing};
 use crate::live_words::{flag, host, seconds, seconds_in, word, words};
 use clap::{ArgMatches, Command, Error};
 use sacn_explain::{Form, Options};
-use sacn_live::{SACN_PORT, UdpReceiver, guard_standard_descriptors};
-use sacn_watch::{Lines, WatchFault, run_watch};
+use sacn_files::words::short_in;
+use sacn_live::{SACN_PORT, UdpReceiver, guard_standard_descriptors, output_is_terminal};
+use sacn_watch::{Listener, Size, WatchFault, watch_lines, watch_terminal};
 use std::alloc::Global;
+use std::env::{self, Env};
 use std::io::Write;
 use std::net::{Ipv4Addr, Net, SocketAddrV4};
 use std::rt::Clock;
 
 const ABOUT: &str =
     "Hears a network until it is stopped, and tells each thing that happens, then tables; in a terminal it shows a screen";
+
+/// The most columns and rows that a terminal is taken to have.
+const MOST_EXTENT: u16 = 1000;
 
 /// What a watch is asked.
 #[derive(Drop)]
@@ -31,8 +36,18 @@ pub fn command<'a>(alloc: Global) -> Result<Command<'a>, Error> {
     let universe = "A universe that is told, and the first one shown; else all";
     let plain = "Prints lines in a terminal too";
     let args = vec![in alloc;
-        word(alloc, "listen", "ADDRESS", "The address that it hears at; else all"),
-        word(alloc, "port", "P", "The UDP port that it hears at; else 5568"),
+        word(
+            alloc,
+            "listen",
+            "ADDRESS",
+            "The address that it hears at; else all"
+        ),
+        word(
+            alloc,
+            "port",
+            "P",
+            "The UDP port that it hears at; else 5568"
+        ),
         words(alloc, "universe", "U", universe),
         seconds(alloc),
         flag(alloc, "json", "Prints an object of JSON on each line"),
@@ -62,7 +77,7 @@ pub fn asked<'a>(alloc: Global, matches: &ArgMatches<'a>) -> Result<Asked<'a>, E
 }
 
 /// Watches a network.
-pub fn watch<R: AllocGlobal + Net + Clock, O: Write, E: Write>(
+pub fn watch<R: AllocGlobal + Env + Net + Clock, O: Write, E: Write>(
     rt: &R,
     asked: &WatchAsked,
     out: &mut O,
@@ -80,17 +95,17 @@ pub fn watch<R: AllocGlobal + Net + Clock, O: Write, E: Write>(
         Some(seconds) => seconds.saturating_mul(1000),
         None => u64::MAX,
     };
-    match tell(rt.alloc(), &mut receiver, asked, until, out) {
+    match tell(rt, &mut receiver, asked, until, out) {
         Ok(()) => Ok(()),
         Err(WatchFault::OutOfMemory) => Err(Ending::OutOfMemory),
         Err(WatchFault::Device) => Err(Ending::DeviceWrite),
     }
 }
 
-// Tells what a receiver hears, line by line.
-fn tell<R: Net + Clock, O: Write>(
-    alloc: Global,
-    receiver: &mut UdpReceiver<'_, R>,
+// Tells what a receiver hears, line by line, or shows it on a terminal.
+fn tell<R: AllocGlobal + Env, L: Listener, O: Write>(
+    rt: &R,
+    listener: &mut L,
     asked: &WatchAsked,
     until: u64,
     out: &mut O,
@@ -100,6 +115,41 @@ fn tell<R: Net + Clock, O: Write>(
         universes: asked.universes.as_slice(),
         form: asked.form,
     };
-    let mut lines = Lines::new(alloc, options, out)?;
-    run_watch(receiver, &mut lines, until)
+    if asked.is_plain | (asked.form == Form::Json) || !output_is_terminal() {
+        return watch_lines(rt.alloc(), listener, &options, until, out);
+    }
+    let size = Size {
+        width: extent(rt, "COLUMNS", 80),
+        height: extent(rt, "LINES", 24),
+    };
+    let universe = asked.universes.first().copied();
+    let has_colours = !is_set(rt, "NO_COLOR");
+    watch_terminal(
+        rt.alloc(),
+        listener,
+        universe,
+        size,
+        has_colours,
+        until,
+        out,
+    )
+}
+
+// Whether a variable of the environment says something.
+fn is_set<R: AllocGlobal + Env>(rt: &R, name: &str) -> bool {
+    match env::var(rt, name) {
+        Ok(value) => !value.is_empty(),
+        Err(_) => false,
+    }
+}
+
+// A number of columns or rows in the environment, or this one where none is there.
+fn extent<R: AllocGlobal + Env>(rt: &R, name: &str, otherwise: usize) -> usize {
+    match env::var(rt, name) {
+        Ok(value) => match short_in(value.as_str()) {
+            Some(number) if (number > 0) & (number <= MOST_EXTENT) => usize::from(number),
+            _ => otherwise,
+        },
+        Err(_) => otherwise,
+    }
 }

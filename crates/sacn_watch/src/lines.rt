@@ -3,62 +3,45 @@
 use crate::fault::WatchFault;
 use crate::watch::Watcher;
 use sacn_capture::Counts;
-use sacn_explain::{Follower, Options, Report};
+use sacn_explain::{Follower, Report};
 use sacn_monitor::{Sender, Stream};
 use sacn_sources::NETWORK_DATA_LOSS;
-use std::alloc::Global;
 use std::io::Write;
 
-/// Tells each thing as it happens, and tables at the end, as `sacn_explain` tells a recording.
-#[derive(Drop)]
-pub struct Lines<'a, O> {
-    follower: Follower<'a, O>,
-}
-
-impl<'a, O: Write> Lines<'a, O> {
-    /// Lines of a network of which nothing was heard.
-    ///
-    /// Errors: OutOfMemory.
-    pub fn new(alloc: Global, options: Options<'a>, out: &'a mut O) -> Result<Self, WatchFault> {
-        Ok(Lines {
-            follower: Follower::new(alloc, options, None, out)?,
-        })
-    }
-}
-
-impl<'a, O: Write> Watcher for Lines<'a, O> {
+/// Tells each thing as it happens, and tables at the end, as a recording is told.
+impl<'a, O: Write> Watcher for Follower<'a, O> {
     fn take(&mut self, now: u64, sender: Sender, octets: &[u8]) -> Result<(), WatchFault> {
-        self.follower.take(now, sender, octets)?;
+        self.take(now, sender, octets)?;
         Ok(())
     }
 
     fn show(&mut self, now: u64) -> Result<(), WatchFault> {
-        self.follower.tick(now)?;
+        self.tick(now)?;
         Ok(())
     }
 
     fn wakes(&self) -> u64 {
         let mut least = u64::MAX;
-        for stream in self.follower.streams() {
+        for stream in self.streams() {
             least = least.min(loss(stream));
         }
         least
     }
 
-    fn finish(&mut self, now: u64) -> Result<(), WatchFault> {
-        self.follower.tick(now)?;
+    fn end(&mut self, now: u64) -> Result<(), WatchFault> {
+        self.tick(now)?;
         let mut frames = Counts::new();
-        frames.datagrams = self.follower.tally().datagrams;
+        frames.datagrams = self.tally().datagrams;
         let report = Report {
             frames,
-            tally: *self.follower.tally(),
-            pages_passed: self.follower.pages_passed(),
+            tally: *self.tally(),
+            pages_passed: self.pages_passed(),
             other_ports: 0,
             went_back: 0,
-            streams: self.follower.streams().len(),
+            streams: self.streams().len(),
             length: now,
         };
-        self.follower.finish(&report)?;
+        self.finish(&report)?;
         Ok(())
     }
 }

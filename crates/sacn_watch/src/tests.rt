@@ -5,7 +5,13 @@ use std::alloc::{AllocError, Global};
 use std::test::*;
 
 /// A data packet of universe 1 with two slots (E1.31, 5, 6.2 and 7): 128 octets.
-fn packet(alloc: Global, name: &[u8], cid: u8, number: u8, levels: [u8; 2]) -> Result<Vec<u8>, AllocError> {
+fn packet(
+    alloc: Global,
+    name: &[u8],
+    cid: u8,
+    number: u8,
+    levels: [u8; 2],
+) -> Result<Vec<u8>, AllocError> {
     let mut octets = Vec::new(alloc);
     octets.extend_from_slice(b"\0\x10\0\0ASC-E1.17\0\0\0\x70\x70\0\0\0\x04")?;
     octets.extend_from_slice(&[cid; 16])?;
@@ -23,7 +29,11 @@ fn packet(alloc: Global, name: &[u8], cid: u8, number: u8, levels: [u8; 2]) -> R
 /// A packet of a desk at 10 ms, and a datagram that is none at 20 ms.
 fn incoming(alloc: Global) -> Result<Vec<Incoming>, AllocError> {
     let mut list = Vec::new(alloc);
-    list.push(Incoming::Datagram(10, [10, 0, 0, 1], packet(alloc, b"Desk", 0xaa, 7, [255, 128])?))?;
+    list.push(Incoming::Datagram(
+        10,
+        [10, 0, 0, 1],
+        packet(alloc, b"Desk", 0xaa, 7, [255, 128])?,
+    ))?;
     list.push(Incoming::Nothing(15))?;
     let mut other = Vec::new(alloc);
     other.push(b'x')?;
@@ -35,13 +45,17 @@ fn incoming(alloc: Global) -> Result<Vec<Incoming>, AllocError> {
 fn told(alloc: Global, form: Form) -> Result<String, Fail> {
     let mut listener = MemoryReceiver::new(incoming(alloc)?, 3000);
     let mut text = Vec::new(alloc);
-    let options = Options { port: 5568, universes: &[], form };
-    let mut lines = Lines::new(alloc, options, &mut text)?;
-    run_watch(&mut listener, &mut lines, 3000)?;
+    let options = Options {
+        port: 5568,
+        universes: &[],
+        form,
+    };
+    watch_lines(alloc, &mut listener, &options, 3000, &mut text)?;
     Ok(String::from_utf8(text)?)
 }
 
-const OBJECTS: &str = r#"{"ms":10,"event":"appeared","universe":1,"cid":"aaaaaaaaaaaaaaaaaaaaaaaaaaaaaaaa","name":"Desk","address":"10.0.0.1","port":0,"priority":100}
+const OBJECTS: &str =
+    r#"{"ms":10,"event":"appeared","universe":1,"cid":"aaaaaaaaaaaaaaaaaaaaaaaaaaaaaaaa","name":"Desk","address":"10.0.0.1","port":0,"priority":100}
 {"ms":20,"event":"refused","address":"10.0.0.9","port":0,"fault":1}
 {"ms":2510,"event":"lost","universe":1,"cid":"aaaaaaaaaaaaaaaaaaaaaaaaaaaaaaaa","name":"Desk","since":10}
 {"row":"source","universe":1,"cid":"aaaaaaaaaaaaaaaaaaaaaaaaaaaaaaaa","name":"Desk","address":"10.0.0.1","port":0,"state":"lost","priority":100,"first":10,"last":10,"live":1,"preview":0,"terminated":0,"other":0,"skipped":0,"late":0,"repeated":0,"gap":0,"last_second":0}

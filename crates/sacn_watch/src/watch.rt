@@ -19,7 +19,7 @@ pub trait Watcher {
     fn wakes(&self) -> u64;
 
     /// Ends.
-    fn finish(&mut self, now: u64) -> Result<(), WatchFault>;
+    fn end(&mut self, now: u64) -> Result<(), WatchFault>;
 }
 
 /// Hears until a moment, or until the listener has ended, and hands each datagram to a watcher, at the reading of the listener's
@@ -33,7 +33,7 @@ pub fn run_watch<L: Listener, W: Watcher>(
 ) -> Result<(), WatchFault> {
     let mut heard = Heard { now: 0 };
     let watched = watch(listener, watcher, until, &mut heard);
-    let finished = watcher.finish(heard.now);
+    let finished = watcher.end(heard.now);
     watched?;
     finished
 }
