@@ -1,5 +1,6 @@
 use super::*;
 use sacn_explain::{Form, Options};
+use sacn_monitor::Sender;
 use sacn_live::memory::{Incoming, MemoryReceiver};
 use std::alloc::{AllocError, Global};
 use std::test::*;
@@ -68,5 +69,59 @@ const OBJECTS: &str =
 fn lines_are_told(rt: HostRuntime) -> Result<(), Fail> {
     let a = rt.alloc();
     assert_eq!(rt; told(a, Form::Json)?.as_str(), OBJECTS);
+    Ok(())
+}
+
+/// A screen of two sources of universe 1, of which the second has a name that would steer a terminal.
+fn page(alloc: Global, size: Size, has_colours: bool) -> Result<String, Fail> {
+    let mut view = View::new(alloc, None)?;
+    let sender = Sender {
+        address: [10, 0, 0, 1],
+        port: 5000,
+    };
+    let desk = packet(alloc, b"Desk", 0xaa, 7, [255, 128])?;
+    let other = packet(alloc, b"\x1b[2Jx\x9b", 0xbb, 7, [64, 129])?;
+    view.take(10, sender, desk.as_slice());
+    view.take(20, sender, other.as_slice());
+    view.refresh(20);
+    let page = screen(alloc, &view, size)?;
+    Ok(page.text(alloc, has_colours)?)
+}
+
+const WIDE: Size = Size {
+    width: 80,
+    height: 24,
+};
+
+const SCREEN: &str =
+    "\u{1b}[1;1Hsacn watch  sources on universes 2  datagrams 2\u{1b}[K\
+\u{1b}[2;1H! universe 1: one of 2 at top priority 100: Desk                \u{1b}[K\
+\u{1b}[3;1H! universe 1: one of 2 at top priority 100: ?[2Jx?              \u{1b}[K\
+\u{1b}[4;1H\u{1b}[K\
+\u{1b}[5;1H  universe state   prio  rate   lost  late name                 address\u{1b}[K\
+\u{1b}[6;1HA        1 sending  100     0      0     0 Desk                 10.0.0.1:5000\u{1b}[K\
+\u{1b}[7;1HB        1 sending  100     0      0     0 ?[2Jx?               10.0.0.1:5000\u{1b}[K\
+\u{1b}[8;1H\u{1b}[K\
+\u{1b}[9;1Huniverse 1: slots above 0, the source's letter and the level, 00 to ff\u{1b}[K\
+\u{1b}[10;1H   1 Aff B81 .00 .00 .00 .00 .00 .00 .00 .00 .00 .00 .00 .00 .00 .00 \u{1b}[K\
+\u{1b}[11;1H\u{1b}[J";
+
+#[test]
+fn sources_and_levels_are_shown(rt: HostRuntime) -> Result<(), Fail> {
+    let a = rt.alloc();
+    assert_eq!(rt; page(a, WIDE, false)?.as_str(), SCREEN);
+    Ok(())
+}
+
+const NARROW: Size = Size {
+    width: 10,
+    height: 2,
+};
+
+#[test]
+fn a_small_terminal_has_the_beginnings_of_the_first_rows(rt: HostRuntime) -> Result<(), Fail> {
+    let a = rt.alloc();
+    let wanted = "\u{1b}[1;1H\u{1b}[0;1msacn watch\u{1b}[0m\u{1b}[K\u{1b}[2;1H\u{1b}[0;1;31m! universe\u{1b}[0m\u{1b}[K";
+    assert_eq!(rt; page(a, NARROW, true)?.as_str(), wanted);
     Ok(())
 }
