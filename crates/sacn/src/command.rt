@@ -1,6 +1,7 @@
 //! The command line.
 use crate::explain::{self, ExplainAsked};
 use crate::live_words::{self, DeskAsked, GatewayAsked};
+use crate::watch::{self, WatchAsked};
 use clap::error::ErrorKind;
 use clap::{Arg, ArgAction, ArgMatches, Command, Error, value_parser};
 use std::alloc::{AllocError, Global};
@@ -22,6 +23,7 @@ const EXAMPLE: &str = "Examples, in a clone of the repository:
   ./sacn desk examples/show.toml --to 127.0.0.1
   ./sacn groups examples/node.toml --device eth0
   ./sacn explain examples/ola.pcap
+  ./sacn watch --seconds 60
 
 docs/FILES.md tells what stands in the files, and what is printed.
 
@@ -87,6 +89,7 @@ pub enum Asked<'a> {
         device: &'a str,
     },
     Explain(ExplainAsked<'a>),
+    Watch(WatchAsked),
 }
 
 fn files<'a>(alloc: Global) -> Arg<'a> {
@@ -179,7 +182,8 @@ fn command<'a>(alloc: Global) -> Result<Command<'a>, Error> {
     let command = with(command, live_words::gateway(alloc));
     let command = with(command, live_words::desk(alloc));
     let command = with(command, live_words::groups(alloc));
-    with(command, explain::command(alloc))
+    let command = with(command, explain::command(alloc));
+    with(command, watch::command(alloc))
 }
 
 // The call of clap's parser stands alone: checking it takes longest.
@@ -278,6 +282,7 @@ fn asked_of<'a>(alloc: Global, matches: &ArgMatches<'a>) -> Result<Asked<'a>, Er
         Some(("desk", desk)) => live_words::desk_asked(alloc, desk),
         Some(("groups", groups)) => Ok(live_words::groups_asked(groups)),
         Some(("explain", words)) => explain::asked(alloc, words),
+        Some(("watch", words)) => watch::asked(alloc, words),
         Some((_, decode)) => decode_asked(alloc, decode),
     }
 }

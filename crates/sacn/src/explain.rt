@@ -49,7 +49,7 @@ pub fn command<'a>(alloc: Global) -> Result<Command<'a>, Error> {
     subcommand(alloc, "explain", ABOUT, args)
 }
 
-fn port_in<'a>(alloc: Global, matches: &ArgMatches<'a>) -> Result<Option<u16>, Error> {
+pub fn port_in<'a>(alloc: Global, matches: &ArgMatches<'a>) -> Result<Option<u16>, Error> {
     let Some(word) = matches.get_str("port") else {
         return Ok(None);
     };
@@ -59,7 +59,7 @@ fn port_in<'a>(alloc: Global, matches: &ArgMatches<'a>) -> Result<Option<u16>, E
     }
 }
 
-fn universes_in<'a>(alloc: Global, matches: &ArgMatches<'a>) -> Result<Vec<u16>, Error> {
+pub fn universes_in<'a>(alloc: Global, matches: &ArgMatches<'a>) -> Result<Vec<u16>, Error> {
     let mut universes = Vec::new(alloc);
     if let Some(words) = matches.get_strs("universe") {
         for word in words {

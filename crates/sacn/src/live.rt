@@ -42,8 +42,8 @@ fn said_of_line<E: Write>(path: &str, fault: TextFault, err: &mut E) -> std::io:
     }
 }
 
-// Says why the machine refused a socket.
-fn said_of_socket<E: Write>(address: SocketAddrV4, kind: ErrorKind, err: &mut E) -> Ending {
+/// Says why the machine refused a socket.
+pub fn said_of_socket<E: Write>(address: SocketAddrV4, kind: ErrorKind, err: &mut E) -> Ending {
     let [a, b, c, d] = address.ip().octets();
     let _ = writeln!(
         err,
@@ -72,7 +72,8 @@ fn script_of_file<R: AllocGlobal + Files>(
     Ok(read_script(rt.alloc(), text.as_str())?)
 }
 
-fn clock_of<'a, R: Clock>(rt: &'a R) -> Result<RigClock<'a, R>, Ending> {
+/// A clock that starts now.
+pub fn clock_of<'a, R: Clock>(rt: &'a R) -> Result<RigClock<'a, R>, Ending> {
     match RigClock::start(rt) {
         Ok(clock) => Ok(clock),
         Err(_) => Err(Ending::DeviceRead),
@@ -96,8 +97,8 @@ fn universes_of_setup<R: AllocGlobal>(rt: &R, setup: &NodeSetup) -> Result<Vec<u
     Ok(universes)
 }
 
-// Where a gateway hears, and the groups that it should hear.
-fn say_gateway<E: Write>(address: SocketAddrV4, room: Option<u32>, universes: &[u16], err: &mut E) {
+/// Says where is heard.
+pub fn say_hearing<E: Write>(address: SocketAddrV4, room: Option<u32>, err: &mut E) {
     let [a, b, c, d] = address.ip().octets();
     let _ = writeln!(err, "hears {a}.{b}.{c}.{d}:{}", address.port());
     if let Some(room) = room {
@@ -105,6 +106,11 @@ fn say_gateway<E: Write>(address: SocketAddrV4, room: Option<u32>, universes: &[
             let _ = writeln!(err, "receive buffer {} of {RECEIVE_ROOM}", room / 2);
         }
     }
+}
+
+// Where a gateway hears, and the groups that it should hear.
+fn say_gateway<E: Write>(address: SocketAddrV4, room: Option<u32>, universes: &[u16], err: &mut E) {
+    say_hearing(address, room, err);
     for universe in universes {
         let [a, b, c, d] = multicast_group(*universe);
         let _ = writeln!(err, "group {a}.{b}.{c}.{d} universe {universe}");

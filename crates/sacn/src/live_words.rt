@@ -63,7 +63,7 @@ pub fn flag<'a>(alloc: Global, name: &'a str, help: &'a str) -> Arg<'a> {
         .action(ArgAction::SetTrue)
 }
 
-fn seconds<'a>(alloc: Global) -> Arg<'a> {
+pub fn seconds<'a>(alloc: Global) -> Arg<'a> {
     let help = "How many seconds it runs, 1 to 1000000000";
     word(alloc, "seconds", "S", help).value_parser(value_parser!(u64).range(1..=MOST_SECONDS))
 }
@@ -117,8 +117,8 @@ fn fault_name(fault: AddressFault) -> &'static str {
     }
 }
 
-// The address of an option, or this one where it isn't given.
-fn host<'a>(
+/// The address of an option, or this one where it isn't given.
+pub fn host<'a>(
     alloc: Global,
     matches: &ArgMatches<'a>,
     name: &str,
@@ -170,11 +170,16 @@ fn widgets<'a>(alloc: Global, matches: &ArgMatches<'a>) -> Result<Vec<(u8, &'a s
     Ok(widgets)
 }
 
+/// How many seconds a run takes, where that is said.
+pub fn seconds_in<'a>(alloc: Global, matches: &ArgMatches<'a>) -> Result<Option<u64>, Error> {
+    match matches.get_str("seconds") {
+        Some(_) => Ok(Some(number(alloc, matches, "seconds")?)),
+        None => Ok(None),
+    }
+}
+
 pub fn gateway_asked<'a>(alloc: Global, matches: &ArgMatches<'a>) -> Result<Asked<'a>, Error> {
-    let seconds = match matches.get_str("seconds") {
-        Some(_) => Some(number(alloc, matches, "seconds")?),
-        None => None,
-    };
+    let seconds = seconds_in(alloc, matches)?;
     Ok(Asked::Gateway(GatewayAsked {
         setup: text(matches, "SETUP"),
         listen: host(alloc, matches, "listen", Ipv4Addr::UNSPECIFIED)?,

@@ -9,6 +9,7 @@ mod live;
 mod live_words;
 mod network;
 mod program;
+mod watch;
 
 use std::io::{ErrorKind, Write};
 use std::process::ExitCode;

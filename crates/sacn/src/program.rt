@@ -2,9 +2,10 @@
 use crate::command::{Asked, parse};
 use crate::ending::{DONE, Ending, ended, explained};
 use crate::files::{octets_of_files, text_of_file};
-use crate::{explain, live, network};
+use crate::{explain, live, network, watch};
 use sacn_text::{MOST_OCTETS, Printed, octets_of_digits, print_looks, print_packets, read_limited};
 use std::alloc::Global;
+use std::env::Env;
 use std::io::{Read, Write};
 use std::net::Net;
 use std::rt::{Clock, Files};
@@ -12,7 +13,7 @@ use std::rt::{Clock, Files};
 /// Runs the program on its words, of which the first is its name, and answers the exit status: 0, 2
 /// for bad words, 3 for input that is refused, 4 for a device that fails.
 pub fn run_program<
-    R: AllocGlobal + Files + Net + Clock,
+    R: AllocGlobal + Files + Env + Net + Clock,
     I: Read + Drop,
     O: Write + Drop,
     E: Write + Drop,
@@ -28,7 +29,7 @@ pub fn run_program<
 }
 
 // Does what is asked for. What prints packets and looks owns the output, and promises what it then has.
-fn run<R: AllocGlobal + Files + Net + Clock, I: Read + Drop, O: Write + Drop, E: Write>(
+fn run<R: AllocGlobal + Files + Env + Net + Clock, I: Read + Drop, O: Write + Drop, E: Write>(
     rt: &R,
     asked: Asked<'_>,
     input: I,
@@ -57,6 +58,7 @@ fn run<R: AllocGlobal + Files + Net + Clock, I: Read + Drop, O: Write + Drop, E:
         Asked::Desk(asked) => live::desk(rt, &asked, &mut out, err),
         Asked::Groups { file, device } => live::groups(rt, file, device, &mut out, err),
         Asked::Explain(asked) => explain::tell(rt, &asked, &mut out, err),
+        Asked::Watch(asked) => watch::watch(rt, &asked, &mut out, err),
     }
 }
 

@@ -2,11 +2,11 @@
 use crate::clock::RigClock;
 use crate::limits::FAILED_WAIT;
 use crate::receiver::{Arrival, Octets4, Receipt, Receiver};
-use crate::sys::{NO_DESCRIPTOR, bind_shared, room_of, wait_readable};
+use crate::sys::{NO_DESCRIPTOR, STDIN, bind_shared, read_input, room_of, wait_readable};
 use sacn_edge::{BUFFER_OCTETS, Clock};
 use std::io::ErrorKind;
 use std::net::{Net, SocketAddr, SocketAddrV4, UdpSocket};
-use std::os::fd::AsRawFd;
+use std::os::fd::{AsRawFd, RawFd};
 use std::rt::Clock as MachineClock;
 
 /// A UDP socket whose port others may share, and a clock. It tells nothing.
@@ -18,7 +18,14 @@ pub struct UdpReceiver<'a, R> {
     clock: RigClock<'a, R>,
     // The latest receive failed: the socket may be readable for ever.
     is_failing: bool,
+    // The UDP port of the sender of the latest datagram.
+    sender_port: u16,
+    // Standard input, where it is waited for too.
+    input: RawFd,
 }
+
+/// The most octets of standard input that are passed over at once.
+const PASSED_OCTETS: usize = 256;
 
 impl<'a, R: Net + MachineClock> UdpReceiver<'a, R> {
     /// A receiver at this address. The error is the machine's where it refuses the socket.
@@ -31,7 +38,34 @@ impl<'a, R: Net + MachineClock> UdpReceiver<'a, R> {
             socket: bind_shared(rt, address)?,
             clock,
             is_failing: false,
+            sender_port: 0,
+            input: NO_DESCRIPTOR,
         })
+    }
+
+    /// The UDP port that the latest datagram came from, 0 where none came.
+    pub fn sender_port(&self) -> u16 {
+        self.sender_port
+    }
+
+    /// From now on a wait ends at the end of standard input too; where this has ended already, it isn't waited for.
+    pub fn wait_for_input(&mut self) {
+        self.input = STDIN;
+        if self.input_ended() {
+            self.input = NO_DESCRIPTOR;
+        }
+    }
+
+    /// Whether standard input is waited for and has ended or failed. What is there of it is passed over.
+    pub fn input_ended(&mut self) -> bool {
+        if self.input == NO_DESCRIPTOR || !wait_readable(self.input, NO_DESCRIPTOR, 0).first {
+            return false;
+        }
+        let mut passed = [0; PASSED_OCTETS];
+        match read_input(&mut passed) {
+            Some(count) => count == 0,
+            None => true,
+        }
     }
 
     /// The room for datagrams that wait, in octets, as the machine tells it; None where it doesn't.
@@ -40,11 +74,11 @@ impl<'a, R: Net + MachineClock> UdpReceiver<'a, R> {
     }
 }
 
-/// The IPv4 address of a sender.
-fn octets_of(sender: SocketAddr) -> Octets4 {
+/// The IPv4 address and the UDP port of a sender.
+fn place_of(sender: SocketAddr) -> (Octets4, u16) {
     match sender {
-        SocketAddr::V4(sender) => sender.ip().octets(),
-        SocketAddr::V6(_) => [0; 4],
+        SocketAddr::V4(sender) => (sender.ip().octets(), sender.port()),
+        SocketAddr::V6(sender) => ([0; 4], sender.port()),
     }
 }
 
@@ -52,19 +86,20 @@ impl<'a, R: Net + MachineClock> Receiver for UdpReceiver<'a, R> {
     fn wait(&mut self, until: u64) {
         let millis = self.clock.left(until);
         if self.is_failing {
-            let _ = wait_readable(NO_DESCRIPTOR, NO_DESCRIPTOR, millis.max(1).min(FAILED_WAIT));
+            let _ = wait_readable(self.input, NO_DESCRIPTOR, millis.max(1).min(FAILED_WAIT));
             return;
         }
-        let _ = wait_readable(self.socket.as_raw_fd(), NO_DESCRIPTOR, millis);
+        let _ = wait_readable(self.socket.as_raw_fd(), self.input, millis);
     }
 
     fn receive(&mut self, buffer: &mut [u8; BUFFER_OCTETS]) -> Receipt {
         let now = self.clock.now();
         let arrival = match self.socket.recv_from(buffer) {
-            Ok((octets, sender)) => Arrival::Datagram {
-                octets,
-                sender: octets_of(sender),
-            },
+            Ok((octets, sender)) => {
+                let (sender, port) = place_of(sender);
+                self.sender_port = port;
+                Arrival::Datagram { octets, sender }
+            }
             Err(error) => match error.kind() {
                 ErrorKind::WouldBlock => Arrival::Nothing,
                 ErrorKind::Interrupted => Arrival::Nothing,

@@ -37,7 +37,7 @@ pub use lines::{Gathered, LONGEST_LINE, LineBuffer};
 pub use mouth::{DISCOVERY_UNIVERSE, Destinations, MOST_DESTINATIONS, UdpSender, group_for};
 pub use orders::Orders;
 pub use receiver::{Arrival, Octets4, Receipt, Receiver};
-pub use sys::guard_standard_descriptors;
+pub use sys::{guard_standard_descriptors, output_is_terminal};
 pub use typed::{DeskOrders, Plan};
 pub use watch::Watch;
 pub use widget::{WIDGET_OCTETS, Widget, widget_packet};

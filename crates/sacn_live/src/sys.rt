@@ -12,6 +12,9 @@ use std::os::fd::{AsRawFd, OwnedFd, RawFd};
 /// Standard input.
 pub(crate) const STDIN: RawFd = 0;
 
+/// Standard output.
+const STDOUT: RawFd = 1;
+
 /// No descriptor: `poll` passes it over.
 pub(crate) const NO_DESCRIPTOR: RawFd = -1;
 
@@ -134,6 +137,11 @@ pub fn guard_standard_descriptors() {
             return;
         }
     }
+}
+
+/// Whether standard output is a terminal.
+pub fn output_is_terminal() -> bool {
+    libc::isatty(STDOUT) == 1
 }
 
 /// A device file that is there, for reading and writing.

@@ -1,0 +1,45 @@
+//! Why a watch ends before its time.
+
+use sacn_explain::ExplainFault;
+use sacn_sources::TableFault;
+use std::alloc::AllocError;
+use std::io;
+use thiserror::Error;
+
+/// Why a watch ends before its time.
+#[derive(Clone, Copy, Debug, Drop, PartialEq, Eq, Error)]
+pub enum WatchFault {
+    /// A growth was refused.
+    #[error("there isn't enough memory")]
+    OutOfMemory,
+    /// What is seen can't be written.
+    #[error("the text can't be written")]
+    Device,
+}
+
+impl From<AllocError> for WatchFault {
+    fn from(_fault: AllocError) -> Self {
+        WatchFault::OutOfMemory
+    }
+}
+
+impl From<TableFault> for WatchFault {
+    fn from(_fault: TableFault) -> Self {
+        WatchFault::OutOfMemory
+    }
+}
+
+impl From<io::Error> for WatchFault {
+    fn from(_fault: io::Error) -> Self {
+        WatchFault::Device
+    }
+}
+
+impl From<ExplainFault> for WatchFault {
+    fn from(fault: ExplainFault) -> Self {
+        match fault {
+            ExplainFault::OutOfMemory => WatchFault::OutOfMemory,
+            _ => WatchFault::Device,
+        }
+    }
+}

@@ -1,0 +1,24 @@
+//! What happens on a network of streaming ACN (ANSI E1.31-2018), watched as it happens: as lines, or as a screen of a terminal.
+#![tactic(auto)]
+
+mod fault;
+mod layout;
+mod lines;
+mod listener;
+mod page;
+mod run;
+mod terminal;
+mod view;
+mod watch;
+
+pub use fault::WatchFault;
+pub use layout::screen;
+pub use listener::Listener;
+pub use page::{Cell, Ink, Page, Row, Size, is_shown, shown};
+pub use run::{watch_lines, watch_terminal};
+pub use terminal::{LEAST_WAIT, Terminal};
+pub use view::{SLOTS, View};
+pub use watch::{Watcher, run_watch};
+
+#[cfg(test)]
+mod tests;

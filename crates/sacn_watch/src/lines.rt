@@ -1,0 +1,56 @@
+//! A line for each thing that happens.
+
+use crate::fault::WatchFault;
+use crate::watch::Watcher;
+use sacn_capture::Counts;
+use sacn_explain::{Follower, Report};
+use sacn_monitor::{Sender, Stream};
+use sacn_sources::NETWORK_DATA_LOSS;
+use std::io::Write;
+
+/// Tells each thing as it happens, and tables at the end, as a recording is told.
+impl<'a, O: Write> Watcher for Follower<'a, O> {
+    fn take(&mut self, now: u64, sender: Sender, octets: &[u8]) -> Result<(), WatchFault> {
+        self.take(now, sender, octets)?;
+        Ok(())
+    }
+
+    fn show(&mut self, now: u64) -> Result<(), WatchFault> {
+        self.tick(now)?;
+        Ok(())
+    }
+
+    fn wakes(&self) -> u64 {
+        let mut least = u64::MAX;
+        for stream in self.streams() {
+            least = least.min(loss(stream));
+        }
+        least
+    }
+
+    fn end(&mut self, now: u64) -> Result<(), WatchFault> {
+        self.tick(now)?;
+        let mut frames = Counts::new();
+        frames.datagrams = self.tally().datagrams;
+        let report = Report {
+            frames,
+            tally: *self.tally(),
+            pages_passed: self.pages_passed(),
+            other_ports: 0,
+            went_back: 0,
+            streams: self.streams().len(),
+            length: now,
+        };
+        self.finish(&report)?;
+        Ok(())
+    }
+}
+
+// The moment at which a source that isn't told lost is lost where it stays silent.
+fn loss(stream: &Stream) -> u64 {
+    if stream.told | stream.account.ended {
+        u64::MAX
+    } else {
+        stream.account.latest.saturating_add(NETWORK_DATA_LOSS)
+    }
+}

@@ -1,0 +1,188 @@
+//! Rows of letters, and how they are written to a terminal.
+
+ghost use Rattle.std.specs.Prelude.{◌≡◌, ◌≤◌, [], true, length};
+ghost use Rattle.sacn_watch.specs.Pages.{is_shown};
+
+use std::alloc::{AllocError, Global};
+use std::fmt::Write;
+use std::marker::Model;
+
+/// The number of colours that tell sources apart.
+const COLOURS: usize = 6;
+
+/// Stands for a letter that isn't shown.
+const UNKNOWN: u32 = '?' as u32;
+
+/// How many columns and rows a terminal has.
+#[derive(Clone, Copy, Debug, PartialEq, Eq)]
+pub struct Size {
+    pub width: usize,
+    pub height: usize,
+}
+
+/// How a letter is written.
+#[derive(Clone, Copy, Debug, PartialEq, Eq)]
+pub enum Ink {
+    Plain,
+    Heading,
+    Alarm,
+    /// In the colour of the source at this place.
+    Source(usize),
+}
+
+/// A letter of one column, and its ink.
+#[derive(Clone, Copy, Debug, PartialEq, Eq)]
+pub struct Cell {
+    /// Its number in Unicode.
+    pub code: u32,
+    pub ink: Ink,
+}
+
+/// Whether a letter takes one column and steers no terminal.
+pub fn is_shown(code: u32) -> bool
+    ensures { result ≡ is_shown code }
+{
+    ((32 <= code) & (code <= 126)) | (((161 <= code) & (code <= 591)) & !(code == 173))
+}
+
+/// The letter, or a question mark where it can't be shown.
+pub fn shown(code: u32) -> u32
+    ensures { is_shown result ≡ true }
+{
+    if is_shown(code) { code } else { UNKNOWN }
+}
+
+/// A row of a screen: never more letters than its width, each of one column.
+#[derive(Drop)]
+pub struct Row {
+    width: usize,
+    cells: Vec<Cell>,
+}
+
+impl Model for Row {
+    ghost use Rattle.std.specs.Prelude.{◌≤◌, length};
+    ghost use Rattle.sacn_watch.specs.Pages.{Line};
+
+    ghost Value = { Line };
+
+    ghost view = { λ r. record { width = r.width; cells = r.cells.items } };
+
+    ghost invariant = { λ r. length r.cells.items ≤ r.width };
+}
+
+impl Row {
+    /// An empty row of this width.
+    pub fn new(alloc: Global, width: usize) -> Self
+        ensures { result ≡ record { width = width; cells = [] } }
+    {
+        Row {
+            width,
+            cells: Vec::new(alloc),
+        }
+    }
+
+    /// The letters so far: at most the width.
+    pub fn cells(&self) -> &[Cell]
+        ensures cells { result.now ≡ self.now.cells }
+        ensures few { length result.now ≤ self.now.width }
+    {
+        self.cells.as_slice()
+    }
+
+    /// A letter more, where there is room for it.
+    pub fn put(&mut self, code: u32, ink: Ink) -> Result<(), AllocError>
+        ensures width { self.new.width ≡ self.old.width }
+    {
+        if self.cells.len() < self.width {
+            self.cells.push(Cell {
+                code: shown(code),
+                ink,
+            })?;
+        }
+        Ok(())
+    }
+
+    /// A text more, as much of it as there is room for.
+    pub fn put_text(&mut self, text: &str, ink: Ink) -> Result<(), AllocError> {
+        for letter in text.chars() {
+            self.put(letter as u32, ink)?;
+        }
+        Ok(())
+    }
+}
+
+/// The rows of a screen, at most as many as the terminal has.
+#[derive(Drop)]
+pub struct Page {
+    pub size: Size,
+    pub rows: Vec<Row>,
+}
+
+impl Page {
+    pub fn new(alloc: Global, size: Size) -> Self {
+        Page {
+            size,
+            rows: Vec::new(alloc),
+        }
+    }
+
+    /// A row more, where there is room for it.
+    pub fn push(&mut self, row: Row) -> Result<(), AllocError> {
+        if self.rows.len() < self.size.height {
+            self.rows.push(row)?;
+        }
+        Ok(())
+    }
+
+    /// A row of one ink more, where there is room for it.
+    pub fn push_text(&mut self, alloc: Global, text: &str, ink: Ink) -> Result<(), AllocError> {
+        let mut row = Row::new(alloc, self.size.width);
+        row.put_text(text, ink)?;
+        self.push(row)
+    }
+
+    /// The text that draws the page over whatever a terminal shows, in colours or without them.
+    pub fn text(&self, alloc: Global, has_colours: bool) -> Result<String, AllocError> {
+        let mut text = String::new(alloc);
+        let mut number = 1_usize;
+        for row in self.rows.iter() {
+            write!(text, "\u{1b}[{number};1H")?;
+            push_row(&mut text, row, has_colours)?;
+            text.push_str("\u{1b}[K")?;
+            number = number.saturating_add(1);
+        }
+        if self.rows.len() < self.size.height {
+            write!(text, "\u{1b}[{number};1H\u{1b}[J")?;
+        }
+        Ok(text)
+    }
+}
+
+fn push_row(text: &mut String, row: &Row, has_colours: bool) -> Result<(), AllocError> {
+    let mut ink = Ink::Plain;
+    for cell in row.cells() {
+        if has_colours && cell.ink != ink {
+            ink = cell.ink;
+            push_ink(text, ink)?;
+        }
+        if let Some(letter) = char::from_u32(cell.code) {
+            text.push(letter)?;
+        }
+    }
+    if ink != Ink::Plain {
+        push_ink(text, Ink::Plain)?;
+    }
+    Ok(())
+}
+
+fn push_ink(text: &mut String, ink: Ink) -> Result<(), AllocError> {
+    match ink {
+        Ink::Plain => text.push_str("\u{1b}[0m"),
+        Ink::Heading => text.push_str("\u{1b}[0;1m"),
+        Ink::Alarm => text.push_str("\u{1b}[0;1;31m"),
+        Ink::Source(place) => {
+            let colour = 31 + place % COLOURS;
+            write!(text, "\u{1b}[0;{colour}m")
+        }
+    }
+}

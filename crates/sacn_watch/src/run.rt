@@ -1,0 +1,40 @@
+//! Watches of each kind.
+
+use crate::fault::WatchFault;
+use crate::listener::Listener;
+use crate::page::Size;
+use crate::terminal::Terminal;
+use crate::watch::run_watch;
+use sacn_explain::{Follower, Options};
+use std::alloc::Global;
+use std::io::Write;
+
+/// Tells what a listener hears until a moment in milliseconds: a line for each thing as it happens, and tables at the end.
+///
+/// Errors: OutOfMemory; Device where a line can't be written.
+pub fn watch_lines<L: Listener, O: Write>(
+    alloc: Global,
+    listener: &mut L,
+    options: &Options<'_>,
+    until: u64,
+    out: &mut O,
+) -> Result<(), WatchFault> {
+    let mut follower = Follower::new(alloc, *options, None, out)?;
+    run_watch(listener, &mut follower, until)
+}
+
+/// Shows what a listener hears until a moment in milliseconds, on a terminal.
+///
+/// Errors: OutOfMemory; Device where the terminal can't be written.
+pub fn watch_terminal<L: Listener, O: Write>(
+    alloc: Global,
+    listener: &mut L,
+    universe: Option<u16>,
+    size: Size,
+    has_colours: bool,
+    until: u64,
+    out: &mut O,
+) -> Result<(), WatchFault> {
+    let mut terminal = Terminal::new(alloc, universe, size, has_colours, out)?;
+    run_watch(listener, &mut terminal, until)
+}

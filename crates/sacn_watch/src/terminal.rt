@@ -1,0 +1,120 @@
+//! A screen on a terminal.
+
+use crate::fault::WatchFault;
+use crate::layout::screen;
+use crate::page::Size;
+use crate::view::View;
+use crate::watch::Watcher;
+use sacn_monitor::Sender;
+use std::alloc::Global;
+use std::io::Write;
+
+/// The least milliseconds between two drawings.
+pub const LEAST_WAIT: u64 = 250;
+
+/// The milliseconds after which rates are looked at anew.
+const SECOND: u64 = 1000;
+
+// The alternate screen, no cursor, rows cut at the edge.
+const BEGIN: &[u8] = b"\x1b[?1049h\x1b[?25l\x1b[?7l\x1b[2J";
+
+const END: &[u8] = b"\x1b[0m\x1b[?7h\x1b[?25h\x1b[?1049l";
+
+/// Shows a network on a terminal, drawn at most four times a second, and only where something changed. At its end the terminal
+/// shows what it showed before.
+#[derive(Drop)]
+pub struct Terminal<'a, O> {
+    alloc: Global,
+    view: View,
+    size: Size,
+    has_colours: bool,
+    out: &'a mut O,
+    /// What was drawn last; empty where nothing was.
+    drawn: String,
+    /// Nothing is drawn before this moment.
+    next: u64,
+    /// Something came since.
+    is_stale: bool,
+}
+
+impl<'a, O: Write> Terminal<'a, O> {
+    /// A terminal of this size, of which nothing is drawn yet. The universe is the one whose levels are shown; where none is
+    /// named it is the first heard.
+    ///
+    /// Errors: OutOfMemory.
+    pub fn new(
+        alloc: Global,
+        universe: Option<u16>,
+        size: Size,
+        has_colours: bool,
+        out: &'a mut O,
+    ) -> Result<Self, WatchFault> {
+        Ok(Terminal {
+            alloc,
+            view: View::new(alloc, universe)?,
+            size,
+            has_colours,
+            out,
+            drawn: String::new(alloc),
+            next: 0,
+            is_stale: true,
+        })
+    }
+
+    // Draws the screen where it isn't the one that was drawn last.
+    fn draw(&mut self, now: u64) -> Result<(), WatchFault> {
+        self.view.refresh(now);
+        let page = screen(self.alloc, &self.view, self.size)?;
+        let text = page.text(self.alloc, self.has_colours)?;
+        if self.drawn.len() == 0 {
+            self.out.write_all(BEGIN)?;
+        }
+        if text.as_str() != self.drawn.as_str() {
+            self.out.write_all(text.as_bytes())?;
+            self.out.flush()?;
+            self.drawn = text;
+        }
+        Ok(())
+    }
+}
+
+impl<'a, O: Write> Watcher for Terminal<'a, O> {
+    fn take(&mut self, now: u64, sender: Sender, octets: &[u8]) -> Result<(), WatchFault> {
+        self.view.take(now, sender, octets);
+        self.is_stale = true;
+        Ok(())
+    }
+
+    fn show(&mut self, now: u64) -> Result<(), WatchFault> {
+        if self.view.tick(now) {
+            self.is_stale = true;
+        }
+        if (now < self.next)
+            | (!self.is_stale & (now < self.next.saturating_add(SECOND - LEAST_WAIT)))
+        {
+            return Ok(());
+        }
+        self.is_stale = false;
+        self.next = now.saturating_add(LEAST_WAIT);
+        self.draw(now)
+    }
+
+    fn wakes(&self) -> u64 {
+        if self.is_stale {
+            return self.next;
+        }
+        if self.view.monitor.streams().is_empty() {
+            return u64::MAX;
+        }
+        let next = self.next.saturating_add(SECOND - LEAST_WAIT);
+        next.min(self.view.monitor.next_loss())
+    }
+
+    fn end(&mut self, _now: u64) -> Result<(), WatchFault> {
+        if self.drawn.len() > 0 {
+            self.out.write_all(END)?;
+            self.out.flush()?;
+        }
+        Ok(())
+    }
+}

@@ -1,0 +1,190 @@
+#!/usr/bin/env bash
+# Watches loopback with the built program: a desk's lines as text and as JSON, bad words, a taken address, and the screen in a terminal made here.
+# Prints 'ok NAME', 'not ok NAME: why' or 'skipped NAME: why' for each, as ./test counts them.
+set -u
+top=$(cd "$(dirname "$(readlink -f "$0")")/.." && pwd)
+sacn=${SACN:-$top/crates/sacn/out/sacn}
+if [ ! -x "$sacn" ]; then
+  echo "skipped watch: sacn isn't built"
+  exit 0
+fi
+room=$(mktemp -d)
+started=()
+cleanup() {
+  for pid in "${started[@]:-}"; do [ -z "$pid" ] || kill "$pid" 2>/dev/null; done
+  rm -rf "$room"
+}
+trap cleanup EXIT
+cd "$room" || exit 1
+
+# verdict NAME STATUS: says whether a run went well
+verdict() { if [ "$2" = 0 ]; then echo "ok watch: $1"; else echo "not ok watch: $1: ${3-}"; fi; }
+
+# ends NAME STATUS WANTED-ERRORS WORD..: a run of watch ends so
+ends() {
+  local name=$1 wanted=$2 said=$3 status=0 first
+  shift 3
+  timeout 20 "$sacn" watch "$@" </dev/null >out 2>err || status=$?
+  first=$(head -n 1 err)
+  # shellcheck disable=SC2053
+  if [ "$status" != "$wanted" ]; then
+    echo "not ok watch: $name: status $status, '$first'"
+  elif ! [[ $first == $said ]]; then
+    echo "not ok watch: $name: '$first'"
+  else
+    echo "ok watch: $name"
+  fi
+}
+
+ends "a second of silence" 0 "hears 0.0.0.0:25830" --port 25830 --seconds 1
+ends "an address of the machine" 0 "hears 127.0.0.1:25830" --listen 127.0.0.1 --port 25830 --seconds 1 --json
+ends "an address of another machine" 4 "device socket 192.0.2.1:25830 *" --listen 192.0.2.1 --port 25830 --seconds 1
+ends "an address in words" 2 "error: here: Address" --listen here
+ends "port 0" 2 "error: 0: Port" --port 0
+ends "universe 0" 2 "error: 0: Universe" --universe 0
+ends "no seconds" 2 "error: *" --seconds 0
+ends "a file" 2 "error: *" file
+# (Input that ends while it runs ends it; one that had ended before doesn't.)
+start=$SECONDS
+status=0
+sleep 1 | timeout 20 "$sacn" watch --port 25830 >out 2>err || status=$?
+[ "$status" = 0 ] && [ $((SECONDS - start)) -lt 5 ] && grep -q '^datagrams to the port          0$' out
+verdict "the end of standard input" $? "status $status"
+
+cat >show.toml <<'T'
+version = 2
+cid = "00010203-0405-0607-0809-0a0b0c0d0e0f"
+name = "Desk"
+universes = [1, 2]
+send_to = [25831]
+[[cue]]
+number = 1
+up = 0
+down = 0
+levels = [[1, 65535]]
+[[patch]]
+channel = 1
+universe = 1
+slot = 1
+T
+printf '0 go\n1500 go\n' >script.txt
+C=000102030405060708090a0b0c0d0e0f
+
+# tells NAME FORM PATTERN..: a watch beside a desk tells lines of these patterns, in this order
+tells() {
+  local name=$1 form=$2 place=0 at line watch
+  shift 2
+  timeout 20 "$sacn" watch --port 25831 --seconds 4 $form </dev/null >out 2>err &
+  watch=$!
+  started+=("$watch")
+  for _ in $(seq 50); do grep -q '^hears' err && break; sleep 0.1; done
+  "$sacn" desk show.toml --script script.txt </dev/null >desk.out 2>&1
+  wait "$watch" || { echo "not ok watch: $name: it fails"; return; }
+  for line in "$@"; do
+    at=$(tail -n "+$((place + 1))" out | grep -nE -m 1 "$line" | cut -d : -f 1)
+    if [ -z "$at" ]; then
+      echo "not ok watch: $name: no $line after line $place"
+      return
+    fi
+    place=$((place + at))
+  done
+  echo "ok watch: $name"
+}
+tells "a desk, as text" --plain "universe     1  $C \"Desk\"  appears at 127\.0\.0\.1:[0-9]+, priority 100$" \
+  "universe     1  $C \"Desk\"  ends its stream$" "^universe state " "^       1 ended  .* $C \"Desk\" at 127" "^datagrams to the port  "
+tells "a desk, without a terminal" "" "universe     2  $C \"Desk\"  appears" "universe     2  $C \"Desk\"  ends its stream$"
+tells "a desk, as JSON" --json "^{\"ms\":[0-9]+,\"event\":\"appeared\",\"universe\":1,\"cid\":\"$C\",\"name\":\"Desk\",\"address\":\"127.0.0.1\"" \
+  '"event":"ended","universe":1' '^{"row":"source","universe":1,.*"state":"ended"' '^{"row":"counts",'
+tells "one universe" "--plain --universe 2" 'universe     2  ' '^       2 ended '
+if grep -qE 'universe     1  |^       1 ' out; then echo "not ok watch: one universe alone"; else echo "ok watch: one universe alone"; fi
+
+if ! command -v python3 >/dev/null; then
+  echo "skipped watch: a terminal: no python3"
+  exit 0
+fi
+# A terminal of so many columns and rows: hands a run of these words its end, sends packets to it, and writes what it drew.
+cat >terminal.py <<'P'
+import os, pty, select, signal, socket, struct, sys, time, fcntl, termios
+
+path, port, stop, *words = sys.argv[1:]
+
+def data(cid, name, number, slots):
+    dmp = struct.pack(">HBBHHHB", 0x7000 | 11 + len(slots), 2, 0xa1, 0, 1, 1 + len(slots), 0) + slots
+    head = struct.pack(">I64sBHBBH", 2, name, 100, 0, number, 0, 1)
+    framing = struct.pack(">H", 0x7000 | 2 + len(head) + len(dmp)) + head + dmp
+    return b"\0\x10\0\0ASC-E1.17\0\0\0" + struct.pack(">HI", 0x7000 | 22 + len(framing), 4) + bytes([cid]) * 16 + framing
+
+pid, terminal = pty.fork()
+if pid == 0:
+    fcntl.ioctl(1, termios.TIOCSWINSZ, struct.pack("HHHH", int(os.environ["ROWS"]), int(os.environ["COLUMNS"]), 0, 0))
+    os.environ["LINES"] = os.environ["ROWS"]
+    os.execvp(words[0], words)
+out = socket.socket(socket.AF_INET, socket.SOCK_DGRAM)
+drawn = b""
+start, number, stopped = time.time(), 0, False
+while True:
+    now = time.time() - start
+    if now > 15:
+        os.kill(pid, signal.SIGKILL)
+        break
+    if 1 < now < 2.5 and number < (now - 1) * 20:
+        out.sendto(data(0xaa, b"Desk", number % 256, b"\xff\x80"), ("127.0.0.1", int(port)))
+        out.sendto(data(0xbb, b"\x1b]0;evil\x07\x1b[2Jx", number % 256, b"\x40\x81"), ("127.0.0.1", int(port)))
+        number += 1
+    if stop == "stop" and now > 3 and not stopped:
+        stopped = True
+        os.write(terminal, b"\x03")
+    if select.select([terminal], [], [], 0.02)[0]:
+        try:
+            octets = os.read(terminal, 65536)
+        except OSError:
+            break
+        if not octets:
+            break
+        drawn += octets
+status = os.waitstatus_to_exitcode(os.waitpid(pid, 0)[1])
+open(path, "wb").write(drawn)
+sys.exit(status if 0 <= status < 100 else 99)
+P
+# draws NAME COLUMNS ROWS [VARIABLE=VALUE..]: the screen is drawn and taken away again
+draws() {
+  local name=$1 columns=$2 rows=$3 status=0
+  shift 3
+  env -u NO_COLOR COLUMNS="$columns" ROWS="$rows" "$@" timeout 20 python3 terminal.py drawn 25832 go "$sacn" watch --port 25832 --seconds 4 || status=$?
+  python3 - "$columns" "$rows" "$status" <<'P'
+import re, sys
+columns, rows, status = map(int, sys.argv[1:])
+text = open("drawn", "rb").read().decode()
+begin, end = "\x1b[?1049h\x1b[?25l\x1b[?7l\x1b[2J", "\x1b[0m\x1b[?7h\x1b[?25h\x1b[?1049l"
+assert status == 0, f"status {status}"
+assert text.count(begin) == 1 and text.endswith(end), "the terminal isn't as it was"
+inner = text[text.index(begin) + len(begin):-len(end)]
+places = re.findall(r"\x1b\[(\d+);1H((?:[^\x1b]|\x1b\[[0-9;]*m)*)", inner)
+letters = [re.sub(r"\x1b\[[0-9;]*m", "", row) for _, row in places]
+assert all(0 < int(at) <= rows for at, _ in places), "a row past the end"
+assert all(len(row) <= columns for row in letters), "a row past the edge"
+rest = re.sub(r"\x1b\[[0-9;]*[mHKJ]", "", inner)
+assert not re.search(r"[\x00-\x1f\x7f-\x9f]", rest), "a control letter"
+if rows >= 20:
+    assert any(row.startswith("A        1 sending  100") for row in letters), "no source"
+    assert any(row.startswith("   1 Aff B81") for row in letters), "no levels"
+if columns >= 80:
+    assert any("?]0;evil??[2Jx" in row for row in letters), "no name"
+P
+}
+problem=$(draws terminal 80 24 2>&1) && grep -q $'\x1b\[0;3[12]m' drawn
+verdict "a screen in a terminal" $? "$(tail -n 1 <<<"$problem")"
+problem=$(draws narrow 40 24 2>&1)
+verdict "40 columns" $? "$(tail -n 1 <<<"$problem")"
+problem=$(draws short 80 3 2>&1)
+verdict "three rows" $? "$(tail -n 1 <<<"$problem")"
+problem=$(draws plain 80 24 NO_COLOR=1 2>&1) && ! grep -q $'\x1b\[0;3[0-9]m' drawn
+verdict "NO_COLOR" $? "$(tail -n 1 <<<"$problem")"
+
+# Ctrl-C under the launcher: the terminal is left as it was, and the status is 0.
+sed -n '/^feed()/,/^}/p' "$top/sacn" >launcher
+printf 'feed "%s" watch --port 25833\n' "$sacn" >>launcher
+status=0
+problem=$(COLUMNS=80 ROWS=24 timeout 20 python3 terminal.py drawn 25833 stop bash launcher 2>&1) || status=$?
+[ "$status" = 0 ] && grep -q 'Aff' drawn && [ "$(tail -c 8 drawn)" = $'\x1b[?1049l' ]
+verdict "Ctrl-C under the launcher" $? "status $status $(tail -n 1 <<<"$problem")"
