@@ -5,3 +5,5 @@
 mod discovery;
 #[cfg(test)]
 mod framing;
+#[cfg(test)]
+mod layers;

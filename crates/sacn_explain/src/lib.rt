@@ -26,6 +26,3 @@ pub use follower::Follower;
 pub use listings::MOST_LISTINGS;
 pub use options::{Form, Options};
 pub use report::Report;
-
-#[cfg(test)]
-mod tests;

@@ -15,7 +15,5 @@ pub mod limits;
 pub mod lines;
 pub mod numbered;
 pub mod rows;
-#[cfg(test)]
-mod tests;
 pub mod values;
 pub mod words;

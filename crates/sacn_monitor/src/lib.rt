@@ -24,6 +24,3 @@ pub use news::{Change, Event, News, Noted};
 pub use rate::Rate;
 pub use stream::{State, Stream};
 pub use tally::Tally;
-
-#[cfg(test)]
-mod tests;

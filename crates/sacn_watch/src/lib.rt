@@ -19,6 +19,3 @@ pub use run::{watch_lines, watch_terminal};
 pub use terminal::{LEAST_WAIT, Terminal};
 pub use view::{SLOTS, View};
 pub use watch::{Watcher, run_watch};
-
-#[cfg(test)]
-mod tests;

@@ -1,4 +1,5 @@
-use super::*;
+//! A recording written octet by octet, and what is told of it.
+use sacn_explain::*;
 use std::alloc::{AllocError, Global};
 use std::test::*;
 

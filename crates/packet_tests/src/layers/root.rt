@@ -1,4 +1,5 @@
-use super::*;
+//! The root layer.
+use sacn_root::*;
 use std::test::*;
 
 const CID: [u8; 16] = [0, 1, 2, 3, 4, 5, 6, 7, 8, 9, 10, 11, 12, 13, 14, 15];

@@ -1,4 +1,5 @@
-use super::*;
+//! What a monitor accounts for.
+use sacn_monitor::*;
 use std::alloc::{AllocError, Global};
 use std::test::*;
 

@@ -1,4 +1,5 @@
-use super::*;
+//! What a watch tells, and its page.
+use sacn_watch::*;
 use sacn_explain::{Form, Options};
 use sacn_live::memory::{Incoming, MemoryReceiver};
 use sacn_monitor::Sender;

@@ -1,11 +1,11 @@
 //! Words and lines of texts, numbers in their ranges, and lists in order.
-use crate::document::{read_table, version_in};
-use crate::faults::FileFault;
-use crate::lines::said_lines;
-use crate::numbered::{has_repeat, in_order};
-use crate::rows::{Numbers, read_rows};
-use crate::values::{array_values, number_in, value_at};
-use crate::words::{byte_in, index_in, number_in as decimal_in, short_in, words};
+use sacn_files::document::{read_table, version_in};
+use sacn_files::faults::FileFault;
+use sacn_files::lines::said_lines;
+use sacn_files::numbered::{has_repeat, in_order};
+use sacn_files::rows::{Numbers, read_rows};
+use sacn_files::values::{array_values, number_in, value_at};
+use sacn_files::words::{byte_in, index_in, number_in as decimal_in, short_in, words};
 use std::alloc::Global;
 use std::test::Fail;
 use toml::Table;

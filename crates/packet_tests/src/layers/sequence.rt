@@ -1,4 +1,5 @@
-use super::*;
+//! The sequence rule.
+use sacn_sequence::*;
 
 // A held number, the one that arrives, their step, and whether the packet is taken.
 const CASES: [(u8, u8, i8, bool); 8] = [

@@ -1,4 +1,5 @@
-use super::*;
+//! The DMP layer.
+use sacn_dmp::*;
 use sacn_root::PacketFault;
 use std::test::*;
 
