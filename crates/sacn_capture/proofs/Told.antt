@@ -12,7 +12,8 @@ use Rattle.sacn_capture.specs.Files.{Place, Does, IsOutside, place_at}
 use Rattle.sacn_capture.specs.Inputs.{TellsEnd}
 use Rattle.sacn_capture.specs.Recordings.{State, Piece, Shown, Told, piece, ends, faulted, rest_of, told_by, with_frame}
 use Rattle.sacn_capture.specs.Kept.{content_in}
-use Rattle.sacn_capture.specs.Streams.{Gives, ReadsRecord, Stays, Steps, frame_shown, state_of, to_come_by}
+use Rattle.sacn_capture.specs.declared.stream.Capture.{Capture}
+use Rattle.sacn_capture.specs.Streams.{Gives, ReadsRecord, Stays, Steps, file_place, frame_shown, state_of, to_come, to_come_by}
 use Rattle.sacn_capture.proofs.Enough.{told_first}
 
 pub false_true : false ≡ true → ⊥
@@ -94,3 +95,7 @@ stays (Some told) = refl
 
 pub shown_is : {R : Type 0} (pieces : Pieces R) (frame : Frame) (shown : Shown) → pieces.moment ≡ shown.moment → content_in frame pieces.buffer.octets.items ≡ shown.content → frame_shown frame pieces ≡ shown
 shown_is pieces frame shown m e = λ i. record { moment = m i; content = e i }
+
+-- what is to come goes by the pieces and the fault alone
+pub same_to_come : {R : Type 0} (remaining : R → Option (List ℕ)) (a b : Capture R) → a.pieces ≡ b.pieces → a.stopped ≡ b.stopped → to_come remaining a ≡ to_come remaining b
+same_to_come remaining a b p s = λ i. to_come_by (s i) (state_of (p i)) (file_place remaining (p i))

@@ -20,6 +20,7 @@ use Rattle.sacn_capture.specs.Pcap.{reading_record}
 use Rattle.sacn_capture.specs.Kept.{content_in}
 use Rattle.sacn_capture.specs.Frames.{Sent, sent_of}
 use Rattle.sacn_capture.specs.Check.{map_ok}
+use Rattle.sacn_capture.specs.Counting.{passed_by}
 use Rattle.sacn_capture.specs.Pcapng.{interface_of}
 use Rattle.sacn_capture.specs.Files.{Place, IsOutside}
 use Rattle.sacn_capture.specs.Inputs.{place_of}
@@ -144,3 +145,7 @@ StepReads header Nothing old new pieces = ⊥
 abbrev pub Stays : Option Told → Option Told → Type 0
 Stays None new = ⊤
 Stays (Some all) new = new ≡ Some all
+
+-- why the frame that was read last is passed over
+abbrev pub passed_in : {R : Type 0} → Frame → Pieces R → Option Passed
+passed_in frame pieces = passed_by (content_in frame pieces.buffer.octets.items)

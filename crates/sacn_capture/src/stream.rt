@@ -1,11 +1,14 @@
 //! A recording as a stream of frames.
 
 ghost use Rattle.std.specs.Prelude.{◌≡◌, IfErr, IfNone, IfOk, IfSome, Err, None, Some, [], option_map};
+ghost use types.Logic.{sem};
+ghost use Rattle.std.specs.Io.BufRead.{Rests};
+ghost use Rattle.sacn_capture.specs.contracts.stream.Capture.{the_row};
 ghost use Rattle.sacn_capture.specs.Check.{map_ok};
-ghost use Rattle.sacn_capture.specs.Counting.{none_counted};
+ghost use Rattle.sacn_capture.specs.Counting.{none_counted, counted};
 ghost use Rattle.sacn_capture.specs.Frames.{sent_of};
 ghost use Rattle.sacn_capture.specs.Kept.{content_in};
-ghost use Rattle.sacn_capture.specs.Streams.{Gives, GivesFirst, GivesRecord, IsPcap, Opens, ReadsRecord, StepReads, Steps, counts_of, frame_shown, left_in, place_of_reading, shown_of, stopped_by, to_come};
+ghost use Rattle.sacn_capture.specs.Streams.{passed_in, Gives, GivesFirst, GivesRecord, IsPcap, Opens, ReadsRecord, StepReads, Steps, counts_of, frame_shown, left_in, place_of_reading, shown_of, stopped_by, to_come};
 
 use crate::buffer::Frame;
 use crate::counts::Counts;
@@ -80,11 +83,15 @@ impl<R: BufRead> Capture<R> {
         ensures stopped { IfSome (stopped_by self.old) (λ fault. result ≡ Err fault) }
         ensures end { (header : PcapHeader) → IsPcap header self.old → IfOk result (λ found. IfNone found (IfSome (left_in R.Read.remaining self.old) (λ octets. octets ≡ []))) }
         ensures given { (header : PcapHeader) → IsPcap header self.old → IfOk result (λ found. IfSome found (λ given. GivesRecord header given.moment (map_ok sent_of given.content) (left_in R.Read.remaining self.old))) }
+        ensures* rests { sem 𝓛 (Rests (the_row R.row) self.entry (λ new. Gives (map_ok (λ found. option_map shown_of found) result) (to_come R.Read.remaining self.old) (to_come R.Read.remaining new))) }
         ensures told { GivesFirst (map_ok (λ found. option_map shown_of found) result) (to_come R.Read.remaining self.old) }
     {
         match self.advance() {
             Ok(None) => Ok(None),
-            Ok(Some(frame)) => Ok(Some(self.shown(frame))),
+            Ok(Some(frame)) => {
+                self.count(frame);
+                Ok(Some(self.shown(frame)))
+            }
             Err(fault) => Err(fault),
         }
     }
@@ -156,16 +163,24 @@ impl<R: BufRead> Capture<R> {
         fault
     }
 
-    // The frame with what stands in it, which is counted.
-    fn shown(&mut self, frame: Frame) -> Record<'_>
-        ensures content { map_ok sent_of result.content ≡ content_in frame self.old.pieces.buffer.octets.items }
-        ensures moment { result.moment ≡ self.old.pieces.moment }
+    // One more frame.
+    fn count(&mut self, frame: Frame)
+        ensures pieces { self.new.pieces ≡ self.old.pieces }
+        ensures stopped { self.new.stopped ≡ self.old.stopped }
+        ensures counts { self.new.counts ≡ counted (passed_in frame self.old.pieces) self.old.counts }
     {
         let content = self.pieces.buffer.content(frame);
         self.counts.add(&content);
+    }
+
+    // The frame that was read last, with what stands in it.
+    fn shown(&self, frame: Frame) -> Record<'_>
+        ensures content { map_ok sent_of result.content ≡ content_in frame self.now.pieces.buffer.octets.items }
+        ensures moment { result.moment ≡ self.now.pieces.moment }
+    {
         Record {
             moment: self.pieces.moment,
-            content,
+            content: self.pieces.buffer.content(frame),
         }
     }
 }
