@@ -6,3 +6,4 @@ pub mod Filled
 pub mod Readings
 pub mod Enough
 pub mod Told
+pub mod Calls

@@ -11,3 +11,4 @@ pub mod Frames
 pub mod Kept
 pub mod Files
 pub mod Recordings
+pub mod Calls

@@ -12,6 +12,7 @@ mod frame;
 mod headers;
 mod input;
 mod interface;
+pub mod laws;
 mod links;
 mod octets;
 mod pcap;
