@@ -4,7 +4,7 @@ use Rattle.std.specs.Prelude.{◌⊎◌, ⊤, IfSome}
 use Rattle.sacn_capture.specs.declared.faults.CaptureFault.{CaptureFault}
 use Rattle.sacn_capture.specs.Files.{IsOutside}
 use Rattle.sacn_capture.specs.Recordings.{Shown, Told, ends, faulted}
-use Rattle.sacn_capture.specs.Calls.{Calls, AreOf, SaysEnd, frames_given, fault_given}
+use Rattle.sacn_capture.specs.Calls.{Calls, AreOf, frames_given, fault_given}
 
 abbrev IsFound : Option CaptureFault → Type 0
 IsFound None = ⊥

@@ -1,5 +1,5 @@
 -- No piece is empty, so there are no more pieces than octets.
-use Rattle.std.proofs.Common.{◌≡◌, ℕ, ◌+◌, ◌≤◌, ◌<◌, ◌-◌, zero, suc, Bool, true, false, List, [], ◌∷◌, ◌++◌, length, take, drop, Option, None, Some, Result, Ok, Err, refl, sym, ap, subst, ◌∙◌, length-drop, arith}
+use Rattle.std.proofs.Common.{◌≡◌, ℕ, ◌+◌, ◌≤◌, ◌-◌, zero, suc, Bool, true, false, List, [], ◌∷◌, ◌++◌, length, take, drop, Option, None, Some, Result, Ok, Err, refl, sym, ap, length-drop, arith}
 use Rattle.std.specs.Prelude.{◌==◌, IfOk, nat_le, if◌then◌else◌}
 use Rattle.sacn_capture.specs.declared.faults.FaultKind.{FaultKind}
 use Rattle.sacn_capture.specs.declared.faults.FaultKind.TheVariants.{CutShort}
@@ -17,7 +17,7 @@ use Rattle.sacn_capture.specs.Files.{Place, Reading, octets, says, gives, ◌▷
 use Rattle.sacn_capture.specs.Clocks.{milliseconds}
 use Rattle.sacn_capture.specs.declared.pcapng.EnhancedHead.{EnhancedHead}
 use Rattle.sacn_capture.specs.Pcapng.{Taken, section_type, reading_block, reading_enhanced, reading_simple}
-use Rattle.sacn_capture.specs.Recordings.{State, Piece, Told, interface_at, framed, piece, piece_by, pieces, rest_of, told_by, with_frame, unless_ended, ends, record_behind, block_behind, other_behind, block_piece, section_piece, section_behind, skipped, closed, interface_piece, described_by, interface_body, interface_end, packet_behind, enhanced_piece, enhanced_behind, simple_piece, simple_behind}
+use Rattle.sacn_capture.specs.Recordings.{State, Piece, Told, interface_at, framed, piece, piece_by, pieces, rest_of, told_by, with_frame, unless_ended, ends, record_behind, other_behind, block_piece, section_piece, section_behind, skipped, closed, interface_piece, packet_behind, enhanced_piece, enhanced_behind, simple_piece, simple_behind}
 use Rattle.std.proofs.lemmas.Bool.{leb-true}
 
 weaker : {A F : Type 0} (P Q : A → Type 0) (z : Result A F) → ((a : A) → P a → Q a) → IfOk z P → IfOk z Q

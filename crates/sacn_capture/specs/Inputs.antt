@@ -5,7 +5,7 @@ use Rattle.sacn_capture.specs.declared.faults.FaultKind.{FaultKind}
 use Rattle.sacn_capture.specs.declared.faults.FaultKind.TheVariants.{CutShort, Device}
 use Rattle.sacn_capture.specs.declared.input.Input.{Input}
 use Rattle.sacn_capture.specs.Check.{map_ok}
-use Rattle.sacn_capture.specs.Files.{Place, Does, IsOutside, octets, place_at}
+use Rattle.sacn_capture.specs.Files.{Place, Reading, Does, IsOutside, octets, place_at}
 
 -- so many of the octets that a reader will give are gone, where they are known
 abbrev pub LeavesOut : Option (List ℕ) → Option (List ℕ) → ℕ → Type 0
@@ -28,3 +28,7 @@ abbrev pub TellsEnd : Option Place → Option Place → Result Bool FaultKind �
 TellsEnd None new result = ⊤
 TellsEnd (Some place) new (Ok ended) = (new ≡ Some place) × (ended ≡ true ↔ (place.left ≡ []))
 TellsEnd (Some place) new (Err kind) = IsOutside kind
+
+-- a call on a reader did what a reading of its octets says
+abbrev pub ReadsInput : {R A : Type 0} → (R → Option (List ℕ)) → Reading A → Input R → Input R → Result A FaultKind → Type 0
+ReadsInput remaining reading old new result = Does reading (place_of remaining old) (place_of remaining new) result

@@ -1,5 +1,5 @@
 -- Where a frame that was read is.
-use Rattle.std.specs.Prelude.{ℕ, List, length, take, nat_le, Result, Ok, Err, if◌then◌else◌}
+use Rattle.std.specs.Prelude.{ℕ, List, length, take, nat_le, Result, Err, if◌then◌else◌}
 use Rattle.sacn_capture.specs.declared.links.Passed.{Passed}
 use Rattle.sacn_capture.specs.declared.links.Passed.TheVariants.{TooLong}
 use Rattle.sacn_capture.specs.declared.buffer.Frame.{Frame}

@@ -1,5 +1,5 @@
 -- What a whole recording gives: its format, piece by piece, over the octets of the file.
-use Rattle.std.specs.Prelude.{ℕ, ◌+◌, ◌-◌, ◌==◌, List, [], ◌∷◌, ◌++◌, length, zero, suc, nat_le, nat_lt, slice_get, Option, None, Some, Result, Ok, Err, if◌then◌else◌}
+use Rattle.std.specs.Prelude.{ℕ, ◌-◌, ◌==◌, List, [], ◌∷◌, ◌++◌, length, zero, suc, nat_le, nat_lt, slice_get, Option, None, Some, Result, Ok, Err, if◌then◌else◌}
 use Rattle.sacn_capture.specs.declared.faults.FaultKind.{FaultKind}
 use Rattle.sacn_capture.specs.declared.faults.FaultKind.TheVariants.{NotACapture, Length, Interface as UnknownInterface}
 use Rattle.sacn_capture.specs.declared.faults.CaptureFault.{CaptureFault}

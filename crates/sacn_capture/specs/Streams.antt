@@ -1,5 +1,5 @@
 -- What a recording that is read shows of itself.
-use Rattle.std.specs.Prelude.{◌≡◌, ℕ, ◌<◌, ◌⊎◌, List, [], length, take, map, nat_le, ⊤, IfSome, option_map, Option, None, Some, Result, Ok, Err, if◌then◌else◌}
+use Rattle.std.specs.Prelude.{◌≡◌, ℕ, ◌<◌, ◌⊎◌, List, [], length, take, map, ⊤, IfSome, option_map, Option, None, Some, Result, Ok, Err}
 use Rattle.std.specs.Io.KnownBytes.{Consumes}
 use Rattle.sacn_capture.specs.declared.counts.Counts.{Counts}
 use Rattle.sacn_capture.specs.declared.faults.CaptureFault.{CaptureFault}
@@ -22,7 +22,7 @@ use Rattle.sacn_capture.specs.Frames.{Sent, sent_of}
 use Rattle.sacn_capture.specs.Check.{map_ok}
 use Rattle.sacn_capture.specs.Counting.{passed_by}
 use Rattle.sacn_capture.specs.Pcapng.{interface_of}
-use Rattle.sacn_capture.specs.Files.{Place, IsOutside}
+use Rattle.sacn_capture.specs.Files.{Place, Reading, Does, IsOutside}
 use Rattle.sacn_capture.specs.Inputs.{place_of}
 use Rattle.sacn_capture.specs.Recordings.{Shown, State, Piece, Told, begun, ends, faulted, recording, rest_of, with_frame}
 
@@ -89,6 +89,14 @@ frame_shown frame pieces = record { moment = pieces.moment; content = content_in
 abbrev pub gives_piece : {R : Type 0} → Option Frame → Pieces R → Piece
 gives_piece None pieces = record { frame = None; next = state_of pieces }
 gives_piece (Some frame) pieces = record { frame = Some (frame_shown frame pieces); next = state_of pieces }
+
+-- a call on a recording did what a reading of its octets says
+abbrev pub Reads : {R A : Type 0} → (R → Option (List ℕ)) → Reading A → Pieces R → Pieces R → Result A FaultKind → Type 0
+Reads remaining reading old new result = Does reading (file_place remaining old) (file_place remaining new) result
+
+-- a call read a piece of a recording
+abbrev pub ReadsPiece : {R : Type 0} → (R → Option (List ℕ)) → Reading Piece → Pieces R → Pieces R → Result (Option Frame) FaultKind → Type 0
+ReadsPiece remaining reading old new result = Reads remaining reading old new (map_ok (λ found. gives_piece found new) result)
 
 -- nothing but the first header was read
 abbrev pub IsBegun : {R : Type 0} → Pieces R → Type 0

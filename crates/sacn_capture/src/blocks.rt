@@ -3,12 +3,12 @@
 ghost use Rattle.std.specs.Prelude.{◌≡◌, ◌+◌, ◌-◌, ◌≤◌, length, take, IfOk, OnOk};
 ghost use Rattle.sacn_capture.specs.Check.{map_ok};
 ghost use Rattle.sacn_capture.specs.declared.buffer.Frame.TheVariants.{LeftOut};
-ghost use Rattle.sacn_capture.specs.Files.{Does, octets as so_many, gives, ◌▷◌};
+ghost use Rattle.sacn_capture.specs.Files.{octets as so_many, gives, ◌▷◌};
 ghost use Rattle.sacn_capture.specs.Inputs.{LeavesOut, Passes};
 ghost use Rattle.sacn_capture.specs.Pcapng.{interface_of};
 ghost use Rattle.sacn_capture.specs.Recordings.{described_by, enhanced_behind, enhanced_piece, frame_content, interface_at, interface_body, interface_end, interface_piece, interface_size, packet_behind, simple_behind, simple_piece};
 ghost use Rattle.sacn_capture.specs.Kept.{content_in};
-ghost use Rattle.sacn_capture.specs.Streams.{TakesFrame, gives_piece, file_place, state_of};
+ghost use Rattle.sacn_capture.specs.Streams.{TakesFrame, Reads, ReadsPiece, file_place, state_of};
 
 use crate::buffer::{Frame, LONGEST_KEPT};
 use crate::clock::milliseconds_of;
@@ -27,7 +27,7 @@ impl<R: BufRead> Pieces<R> {
     // An interface of the section.
     pub fn described(&mut self, order: ByteOrder, size: u32) -> Result<Option<Frame>, FaultKind>
         requires { 12 ≤ size }
-        ensures { Does (interface_piece order size (state_of self.old)) (file_place R.Read.remaining self.old) (file_place R.Read.remaining self.new) (map_ok (λ found. gives_piece found self.new) result) }
+        ensures { ReadsPiece R.Read.remaining (interface_piece order size (state_of self.old)) self.old self.new result }
     {
         match self.interface_len(size) {
             Ok(len) => self.described_in(order, size, len),
@@ -59,7 +59,7 @@ impl<R: BufRead> Pieces<R> {
         len: usize,
     ) -> Result<Option<Frame>, FaultKind>
         requires { len ≤ 65535 }
-        ensures { Does (described_by len order size (state_of self.old)) (file_place R.Read.remaining self.old) (file_place R.Read.remaining self.new) (map_ok (λ found. gives_piece found self.new) result) }
+        ensures { ReadsPiece R.Read.remaining (described_by len order size (state_of self.old)) self.old self.new result }
     {
         match self.buffer.fill(&mut self.input, len) {
             Ok(()) => self.added(order, size, len),
@@ -70,7 +70,7 @@ impl<R: BufRead> Pieces<R> {
     // An interface whose description was read, and its block's end.
     fn added(&mut self, order: ByteOrder, size: u32, len: usize) -> Result<Option<Frame>, FaultKind>
         requires { len ≤ 65535 }
-        ensures { Does (interface_body order size (state_of self.old) (take len self.old.buffer.octets.items)) (file_place R.Read.remaining self.old) (file_place R.Read.remaining self.new) (map_ok (λ found. gives_piece found self.new) result) }
+        ensures { ReadsPiece R.Read.remaining (interface_body order size (state_of self.old) (take len self.old.buffer.octets.items)) self.old self.new result }
     {
         match interface_in(order, self.buffer.front(len)) {
             Ok(interface) => self.pushed(order, size, interface),
@@ -85,7 +85,7 @@ impl<R: BufRead> Pieces<R> {
         size: u32,
         interface: Described,
     ) -> Result<Option<Frame>, FaultKind>
-        ensures { Does (interface_end order size (state_of self.old) (interface_of interface)) (file_place R.Read.remaining self.old) (file_place R.Read.remaining self.new) (map_ok (λ found. gives_piece found self.new) result) }
+        ensures { ReadsPiece R.Read.remaining (interface_end order size (state_of self.old) (interface_of interface)) self.old self.new result }
     {
         match end_of_block(&mut self.input, order, size) {
             Ok(()) => match self.interfaces.push(interface) {
@@ -98,7 +98,7 @@ impl<R: BufRead> Pieces<R> {
 
     // The frame of an enhanced packet block.
     pub fn enhanced(&mut self, order: ByteOrder, size: u32) -> Result<Option<Frame>, FaultKind>
-        ensures { Does (enhanced_piece order size (state_of self.old)) (file_place R.Read.remaining self.old) (file_place R.Read.remaining self.new) (map_ok (λ found. gives_piece found self.new) result) }
+        ensures { ReadsPiece R.Read.remaining (enhanced_piece order size (state_of self.old)) self.old self.new result }
     {
         let mut octets = [0; ENHANCED_HEAD];
         match self.input.fill(&mut octets) {
@@ -118,7 +118,7 @@ impl<R: BufRead> Pieces<R> {
         head: EnhancedHead,
     ) -> Result<Option<Frame>, FaultKind>
         requires { head.captured + 32 ≤ size }
-        ensures { Does (enhanced_behind order size (state_of self.old) head) (file_place R.Read.remaining self.old) (file_place R.Read.remaining self.new) (map_ok (λ found. gives_piece found self.new) result) }
+        ensures { ReadsPiece R.Read.remaining (enhanced_behind order size (state_of self.old) head) self.old self.new result }
     {
         match self.interface_at(head.interface as usize) {
             Ok(interface) => {
@@ -142,7 +142,7 @@ impl<R: BufRead> Pieces<R> {
 
     // The frame of a simple packet block, which is of the section's first interface.
     pub fn simple(&mut self, order: ByteOrder, size: u32) -> Result<Option<Frame>, FaultKind>
-        ensures { Does (simple_piece order size (state_of self.old)) (file_place R.Read.remaining self.old) (file_place R.Read.remaining self.new) (map_ok (λ found. gives_piece found self.new) result) }
+        ensures { ReadsPiece R.Read.remaining (simple_piece order size (state_of self.old)) self.old self.new result }
     {
         match self.interface_at(0) {
             Ok(interface) => self.of_first(order, size, interface),
@@ -157,7 +157,7 @@ impl<R: BufRead> Pieces<R> {
         size: u32,
         interface: Described,
     ) -> Result<Option<Frame>, FaultKind>
-        ensures { Does (simple_behind order size (state_of self.old) (interface_of interface)) (file_place R.Read.remaining self.old) (file_place R.Read.remaining self.new) (map_ok (λ found. gives_piece found self.new) result) }
+        ensures { ReadsPiece R.Read.remaining (simple_behind order size (state_of self.old) (interface_of interface)) self.old self.new result }
     {
         let mut octets = [0; SIMPLE_HEAD];
         match self.input.fill(&mut octets) {
@@ -182,7 +182,7 @@ impl<R: BufRead> Pieces<R> {
         order: ByteOrder,
         size: u32,
     ) -> Result<Option<Frame>, FaultKind>
-        ensures { Does (packet_behind link captured moment rest order size (state_of self.old)) (file_place R.Read.remaining self.old) (file_place R.Read.remaining self.new) (map_ok (λ found. gives_piece found self.new) result) }
+        ensures { ReadsPiece R.Read.remaining (packet_behind link captured moment rest order size (state_of self.old)) self.old self.new result }
     {
         match self.taken(link, captured) {
             Ok(frame) => match skip_to_end(&mut self.input, rest, order, size) {
@@ -200,7 +200,7 @@ impl<R: BufRead> Pieces<R> {
     pub fn taken(&mut self, link: Option<LinkType>, captured: u32) -> Result<Frame, FaultKind>
         ensures frame { IfOk result (λ frame. TakesFrame link captured frame (R.Read.remaining self.old.input.reader) (R.Read.remaining self.new.input.reader) self.new.buffer.octets.items) }
         ensures state { state_of self.new ≡ state_of self.old }
-        ensures exact { Does (so_many captured ▷ λ frame. gives (frame_content link frame)) (file_place R.Read.remaining self.old) (file_place R.Read.remaining self.new) (map_ok (λ frame. content_in frame self.new.buffer.octets.items) result) }
+        ensures exact { Reads R.Read.remaining (so_many captured ▷ λ frame. gives (frame_content link frame)) self.old self.new (map_ok (λ frame. content_in frame self.new.buffer.octets.items) result) }
     {
         let Some(link) = link else {
             return self.left_out(captured, Passed::OtherLink);

@@ -4,9 +4,9 @@ ghost use Rattle.std.specs.Prelude.{◌≡◌, ◌≤◌, take, vec_len, IfErr, 
 ghost use Rattle.std.specs.Io.KnownBytes.{Consumes};
 ghost use Rattle.sacn_capture.specs.declared.faults.FaultKind.TheVariants.{OutOfMemory};
 ghost use Rattle.sacn_capture.specs.Check.{map_ok};
-ghost use Rattle.sacn_capture.specs.Files.{Does, octets as so_many};
+ghost use Rattle.sacn_capture.specs.Files.{octets as so_many};
 ghost use Rattle.sacn_capture.specs.Frames.{sent_of};
-ghost use Rattle.sacn_capture.specs.Inputs.{place_of};
+ghost use Rattle.sacn_capture.specs.Inputs.{ReadsInput};
 ghost use Rattle.sacn_capture.specs.Kept.{content_in};
 
 use crate::faults::FaultKind;
@@ -48,7 +48,7 @@ impl Buffer {
     pub fn fill<R: BufRead>(&mut self, input: &mut Input<R>, len: usize) -> Result<(), FaultKind>
         requires { len ≤ 65535 }
         ensures octets { OnOk result (Consumes (R.Read.remaining input.old.reader) (R.Read.remaining input.new.reader) (take len self.new.octets.items)) }
-        ensures exact { Does (so_many len) (place_of R.Read.remaining input.old) (place_of R.Read.remaining input.new) (map_ok (λ _. take len self.new.octets.items) result) }
+        ensures exact { ReadsInput R.Read.remaining (so_many len) input.old input.new (map_ok (λ _. take len self.new.octets.items) result) }
     {
         read_front(input, &mut self.octets, len)
     }
@@ -78,7 +78,7 @@ fn read_front<R: BufRead>(
     requires { len ≤ vec_len buffer.old }
     ensures octets { OnOk result (Consumes (R.Read.remaining input.old.reader) (R.Read.remaining input.new.reader) (take len buffer.new.items)) }
     ensures len { vec_len buffer.new ≡ vec_len buffer.old }
-    ensures exact { Does (so_many len) (place_of R.Read.remaining input.old) (place_of R.Read.remaining input.new) (map_ok (λ _. take len buffer.new.items) result) }
+    ensures exact { ReadsInput R.Read.remaining (so_many len) input.old input.new (map_ok (λ _. take len buffer.new.items) result) }
 {
     input.fill_front(buffer, len)
 }

@@ -2,8 +2,8 @@
 
 ghost use Rattle.std.specs.Prelude.{◌≡◌, ◌-◌, ◌≤◌, ◌++◌, length, take};
 ghost use Rattle.sacn_capture.specs.Check.{map_ok};
-ghost use Rattle.sacn_capture.specs.Files.{Does, octets as so_many, gives, ◌▷◌};
-ghost use Rattle.sacn_capture.specs.Inputs.{place_of};
+ghost use Rattle.sacn_capture.specs.Files.{octets as so_many, gives, ◌▷◌};
+ghost use Rattle.sacn_capture.specs.Inputs.{ReadsInput};
 ghost use Rattle.sacn_capture.specs.Recordings.{opening, opening_behind, pcap_behind, header_behind, first_octets, section_behind, closed, skipped};
 
 use crate::faults::FaultKind;
@@ -22,7 +22,7 @@ pub enum Format {
 
 /// The first header, which says how the file is written.
 pub fn first_header<R: BufRead>(input: &mut Input<R>) -> Result<Format, FaultKind>
-    ensures { Does opening (place_of R.Read.remaining input.old) (place_of R.Read.remaining input.new) result }
+    ensures { ReadsInput R.Read.remaining opening input.old input.new result }
 {
     match front_of(input) {
         Ok(front) => by_front(input, front),
@@ -32,7 +32,7 @@ pub fn first_header<R: BufRead>(input: &mut Input<R>) -> Result<Format, FaultKin
 
 // The first header, whose first octets were read.
 fn by_front<R: BufRead>(input: &mut Input<R>, front: [u8; BLOCK_HEAD]) -> Result<Format, FaultKind>
-    ensures { Does (opening_behind front) (place_of R.Read.remaining input.old) (place_of R.Read.remaining input.new) result }
+    ensures { ReadsInput R.Read.remaining (opening_behind front) input.old input.new result }
 {
     if is_section(&front) {
         return match section(input, front) {
@@ -45,7 +45,7 @@ fn by_front<R: BufRead>(input: &mut Input<R>, front: [u8; BLOCK_HEAD]) -> Result
 
 // The header of a pcap file, whose first octets were read.
 fn by_stamp<R: BufRead>(input: &mut Input<R>, front: [u8; BLOCK_HEAD]) -> Result<Format, FaultKind>
-    ensures { Does (pcap_behind front) (place_of R.Read.remaining input.old) (place_of R.Read.remaining input.new) result }
+    ensures { ReadsInput R.Read.remaining (pcap_behind front) input.old input.new result }
 {
     match stamp_in(&front) {
         Some(stamp) => stamped_header(input, stamp, front),
@@ -58,7 +58,7 @@ fn stamped_header<R: BufRead>(
     stamp: Stamp,
     front: [u8; BLOCK_HEAD],
 ) -> Result<Format, FaultKind>
-    ensures { Does (header_behind stamp front) (place_of R.Read.remaining input.old) (place_of R.Read.remaining input.new) result }
+    ensures { ReadsInput R.Read.remaining (header_behind stamp front) input.old input.new result }
 {
     let mut octets = [0; HEADER];
     match continued(input, front, &mut octets) {
@@ -72,7 +72,7 @@ fn stamped_header<R: BufRead>(
 
 // The first octets. A file that ends before is no recording.
 fn front_of<R: BufRead>(input: &mut Input<R>) -> Result<[u8; BLOCK_HEAD], FaultKind>
-    ensures { Does first_octets (place_of R.Read.remaining input.old) (place_of R.Read.remaining input.new) result }
+    ensures { ReadsInput R.Read.remaining first_octets input.old input.new result }
 {
     let mut front = [0; BLOCK_HEAD];
     match input.fill(&mut front) {
@@ -87,7 +87,7 @@ pub fn section<R: BufRead>(
     input: &mut Input<R>,
     front: [u8; BLOCK_HEAD],
 ) -> Result<ByteOrder, FaultKind>
-    ensures { Does (section_behind front) (place_of R.Read.remaining input.old) (place_of R.Read.remaining input.new) result }
+    ensures { ReadsInput R.Read.remaining (section_behind front) input.old input.new result }
 {
     let mut octets = [0; SECTION_HEAD];
     match continued(input, front, &mut octets) {
@@ -102,7 +102,7 @@ pub fn section<R: BufRead>(
 // A section header's options and its end; its order.
 fn section_end<R: BufRead>(input: &mut Input<R>, section: Section) -> Result<ByteOrder, FaultKind>
     requires { 28 ≤ section.length }
-    ensures { Does (skipped (section.length - 20) section.order section.length ▷ λ _. gives section.order) (place_of R.Read.remaining input.old) (place_of R.Read.remaining input.new) result }
+    ensures { ReadsInput R.Read.remaining (skipped (section.length - 20) section.order section.length ▷ λ _. gives section.order) input.old input.new result }
 {
     match skip_to_end(input, section.length - 20, section.order, section.length) {
         Ok(()) => Ok(section.order),
@@ -117,7 +117,7 @@ fn continued<R: BufRead>(
     octets: &mut [u8],
 ) -> Result<(), FaultKind>
     requires { 8 ≤ length octets.old }
-    ensures { Does (so_many (length octets.old - 8) ▷ λ more. gives (front ++ more)) (place_of R.Read.remaining input.old) (place_of R.Read.remaining input.new) (map_ok (λ _. octets.new) result) }
+    ensures { ReadsInput R.Read.remaining (so_many (length octets.old - 8) ▷ λ more. gives (front ++ more)) input.old input.new (map_ok (λ _. octets.new) result) }
 {
     put_front(front, octets);
     input.fill_from(octets, BLOCK_HEAD)
@@ -139,7 +139,7 @@ pub fn skip_to_end<R: BufRead>(
     order: ByteOrder,
     size: u32,
 ) -> Result<(), FaultKind>
-    ensures { Does (skipped count order size) (place_of R.Read.remaining input.old) (place_of R.Read.remaining input.new) (map_ok (λ _. size) result) }
+    ensures { ReadsInput R.Read.remaining (skipped count order size) input.old input.new (map_ok (λ _. size) result) }
 {
     match input.skip(u64::from(count)) {
         Ok(()) => end_of_block(input, order, size),
@@ -153,7 +153,7 @@ pub fn end_of_block<R: BufRead>(
     order: ByteOrder,
     size: u32,
 ) -> Result<(), FaultKind>
-    ensures { Does (closed order size) (place_of R.Read.remaining input.old) (place_of R.Read.remaining input.new) (map_ok (λ _. size) result) }
+    ensures { ReadsInput R.Read.remaining (closed order size) input.old input.new (map_ok (λ _. size) result) }
 {
     let mut octets = [0; 4];
     match input.fill(&mut octets) {

@@ -3,8 +3,8 @@
 ghost use Rattle.std.specs.Prelude.{◌≡◌, ◌+◌, ◌-◌, ◌^◌, ◌≤◌, ◌↔◌, length, take, drop, min, IfErr, IfOk, IfSome, IsTrue, OnOk, []};
 ghost use Rattle.std.specs.Io.KnownBytes.{Consumes, Keeps};
 ghost use Rattle.sacn_capture.specs.Check.{map_ok};
-ghost use Rattle.sacn_capture.specs.Files.{Does, octets as so_many};
-ghost use Rattle.sacn_capture.specs.Inputs.{LeavesOut, Passes, TellsEnd, IsShort, place_of};
+ghost use Rattle.sacn_capture.specs.Files.{octets as so_many};
+ghost use Rattle.sacn_capture.specs.Inputs.{LeavesOut, Passes, ReadsInput, TellsEnd, IsShort, place_of};
 
 use crate::faults::FaultKind;
 use std::io::{BufRead, ErrorKind};
@@ -37,7 +37,7 @@ impl<R: BufRead> Input<R> {
     pub fn fill(&mut self, buffer: &mut [u8]) -> Result<(), FaultKind>
         ensures octets { OnOk result (Consumes (R.Read.remaining self.old.reader) (R.Read.remaining self.new.reader) buffer.new) }
         ensures place { OnOk result (self.new.at ≡ min (self.old.at + length buffer.new) (2 ^ 64 - 1)) }
-        ensures exact { Does (so_many (length buffer.old)) (place_of R.Read.remaining self.old) (place_of R.Read.remaining self.new) (map_ok (λ _. buffer.new) result) }
+        ensures exact { ReadsInput R.Read.remaining (so_many (length buffer.old)) self.old self.new (map_ok (λ _. buffer.new) result) }
     {
         match read_full(&mut self.reader, buffer) {
             Ok(()) => {
@@ -53,7 +53,7 @@ impl<R: BufRead> Input<R> {
         requires { count ≤ length buffer.old }
         ensures octets { OnOk result (Consumes (R.Read.remaining self.old.reader) (R.Read.remaining self.new.reader) (take count buffer.new)) }
         ensures len { length buffer.new ≡ length buffer.old }
-        ensures exact { Does (so_many count) (place_of R.Read.remaining self.old) (place_of R.Read.remaining self.new) (map_ok (λ _. take count buffer.new) result) }
+        ensures exact { ReadsInput R.Read.remaining (so_many count) self.old self.new (map_ok (λ _. take count buffer.new) result) }
     {
         self.fill(&mut buffer[..count])
     }
@@ -63,7 +63,7 @@ impl<R: BufRead> Input<R> {
         requires { from ≤ length buffer.old }
         ensures front { take from buffer.new ≡ take from buffer.old }
         ensures len { length buffer.new ≡ length buffer.old }
-        ensures exact { Does (so_many (length buffer.old - from)) (place_of R.Read.remaining self.old) (place_of R.Read.remaining self.new) (map_ok (λ _. drop from buffer.new) result) }
+        ensures exact { ReadsInput R.Read.remaining (so_many (length buffer.old - from)) self.old self.new (map_ok (λ _. drop from buffer.new) result) }
     {
         self.fill(&mut buffer[from..])
     }

@@ -7,7 +7,7 @@ ghost use Rattle.sacn_capture.specs.declared.headers.Format.TheVariants.{Pcap};
 ghost use Rattle.sacn_capture.specs.Files.{Does, octets as so_many, place_at, ◌▷◌};
 ghost use Rattle.sacn_capture.specs.Inputs.{TellsEnd};
 ghost use Rattle.sacn_capture.specs.Recordings.{block_behind, block_piece, opening, other_behind, piece, record_behind, record_piece, section_piece};
-ghost use Rattle.sacn_capture.specs.Streams.{IsBegun, opened_place, ReadsFrame, ReadsRecord, gives_piece, file_place, state_of};
+ghost use Rattle.sacn_capture.specs.Streams.{IsBegun, opened_place, ReadsFrame, ReadsRecord, Reads, ReadsPiece, file_place, state_of};
 
 use crate::buffer::{Buffer, Frame};
 use crate::faults::FaultKind;
@@ -78,7 +78,7 @@ impl<R: BufRead> Pieces<R> {
     pub fn next(&mut self) -> Result<Option<Frame>, FaultKind>
         ensures record { (header : PcapHeader) → self.old.format ≡ Pcap header → IfOk result (λ found. IfSome found (λ frame. ReadsRecord header frame self.new.moment (R.Read.remaining self.old.input.reader) (R.Read.remaining self.new.input.reader) self.new.buffer.octets.items)) }
         ensures some { (header : PcapHeader) → self.old.format ≡ Pcap header → IfOk result (λ found. IsSome found) }
-        ensures exact { Does (piece (state_of self.old)) (file_place R.Read.remaining self.old) (file_place R.Read.remaining self.new) (map_ok (λ found. gives_piece found self.new) result) }
+        ensures exact { ReadsPiece R.Read.remaining (piece (state_of self.old)) self.old self.new result }
     {
         match self.format {
             Format::Pcap(header) => self.record(header),
@@ -90,7 +90,7 @@ impl<R: BufRead> Pieces<R> {
     fn record(&mut self, header: PcapHeader) -> Result<Option<Frame>, FaultKind>
         ensures some { IfOk result (λ found. IsSome found) }
         ensures record { IfOk result (λ found. IfSome found (λ frame. ReadsRecord header frame self.new.moment (R.Read.remaining self.old.input.reader) (R.Read.remaining self.new.input.reader) self.new.buffer.octets.items)) }
-        ensures exact { Does (record_piece header (state_of self.old)) (file_place R.Read.remaining self.old) (file_place R.Read.remaining self.new) (map_ok (λ found. gives_piece found self.new) result) }
+        ensures exact { ReadsPiece R.Read.remaining (record_piece header (state_of self.old)) self.old self.new result }
     {
         let mut octets = [0; RECORD_HEAD];
         match self.input.fill(&mut octets) {
@@ -103,7 +103,7 @@ impl<R: BufRead> Pieces<R> {
     fn framed(&mut self, header: PcapHeader, octets: &[u8]) -> Result<Option<Frame>, FaultKind>
         ensures some { IfOk result (λ found. IsSome found) }
         ensures frame { IfOk result (λ found. IfSome found (λ frame. ReadsFrame header octets.now frame self.new.moment (R.Read.remaining self.old.input.reader) (R.Read.remaining self.new.input.reader) self.new.buffer.octets.items)) }
-        ensures exact { Does (record_behind header (state_of self.old) octets.now) (file_place R.Read.remaining self.old) (file_place R.Read.remaining self.new) (map_ok (λ found. gives_piece found self.new) result) }
+        ensures exact { ReadsPiece R.Read.remaining (record_behind header (state_of self.old) octets.now) self.old self.new result }
     {
         match pcap_record_head(header.stamp, octets) {
             Ok(head) => match self.taken(Some(header.link), head.captured) {
@@ -119,7 +119,7 @@ impl<R: BufRead> Pieces<R> {
 
     // A block of a pcapng file.
     fn block(&mut self, order: ByteOrder) -> Result<Option<Frame>, FaultKind>
-        ensures { Does (so_many 8 ▷ λ head. block_behind order (state_of self.old) head) (file_place R.Read.remaining self.old) (file_place R.Read.remaining self.new) (map_ok (λ found. gives_piece found self.new) result) }
+        ensures { ReadsPiece R.Read.remaining (so_many 8 ▷ λ head. block_behind order (state_of self.old) head) self.old self.new result }
     {
         let mut octets = [0; BLOCK_HEAD];
         match self.input.fill(&mut octets) {
@@ -134,7 +134,7 @@ impl<R: BufRead> Pieces<R> {
         order: ByteOrder,
         octets: [u8; BLOCK_HEAD],
     ) -> Result<Option<Frame>, FaultKind>
-        ensures { Does (block_behind order (state_of self.old) octets) (file_place R.Read.remaining self.old) (file_place R.Read.remaining self.new) (map_ok (λ found. gives_piece found self.new) result) }
+        ensures { ReadsPiece R.Read.remaining (block_behind order (state_of self.old) octets) self.old self.new result }
     {
         if is_section(&octets) {
             return self.section(octets);
@@ -148,7 +148,7 @@ impl<R: BufRead> Pieces<R> {
         order: ByteOrder,
         octets: [u8; BLOCK_HEAD],
     ) -> Result<Option<Frame>, FaultKind>
-        ensures { Does (other_behind order (state_of self.old) octets) (file_place R.Read.remaining self.old) (file_place R.Read.remaining self.new) (map_ok (λ found. gives_piece found self.new) result) }
+        ensures { ReadsPiece R.Read.remaining (other_behind order (state_of self.old) octets) self.old self.new result }
     {
         match pcapng_block_head(order, &octets) {
             Ok(head) => self.by_kind(order, head),
@@ -158,7 +158,7 @@ impl<R: BufRead> Pieces<R> {
 
     // A section header: the interfaces before it are forgotten.
     fn section(&mut self, octets: [u8; BLOCK_HEAD]) -> Result<Option<Frame>, FaultKind>
-        ensures { Does (section_piece (state_of self.old) octets) (file_place R.Read.remaining self.old) (file_place R.Read.remaining self.new) (map_ok (λ found. gives_piece found self.new) result) }
+        ensures { ReadsPiece R.Read.remaining (section_piece (state_of self.old) octets) self.old self.new result }
     {
         match section(&mut self.input, octets) {
             Ok(order) => {
@@ -172,7 +172,7 @@ impl<R: BufRead> Pieces<R> {
 
     fn by_kind(&mut self, order: ByteOrder, head: BlockHead) -> Result<Option<Frame>, FaultKind>
         requires { 12 ≤ head.length }
-        ensures { Does (block_piece order head.length (state_of self.old) head.kind) (file_place R.Read.remaining self.old) (file_place R.Read.remaining self.new) (map_ok (λ found. gives_piece found self.new) result) }
+        ensures { ReadsPiece R.Read.remaining (block_piece order head.length (state_of self.old) head.kind) self.old self.new result }
     {
         match head.kind {
             BlockKind::Interface => self.described(order, head.length),

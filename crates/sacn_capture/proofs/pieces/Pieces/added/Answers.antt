@@ -2,8 +2,6 @@ use Rattle.std.proofs.Common.{sym, ap, ◌∙◌, take}
 use Rattle.sacn_capture.specs.Pcapng.{interface_of, reading_interface}
 use Rattle.sacn_capture.proofs.Readings.{said, refused}
 use Rattle.sacn_capture.specs.Check.{map_ok}
-use Rattle.sacn_capture.specs.Files.{Does, octets}
-use Rattle.sacn_capture.specs.Inputs.{place_of}
 use Rattle.sacn_capture.specs.Streams.{gives_piece, file_place, state_of}
 use Rattle.sacn_capture.specs.Recordings.{interface_end}
 use Rattle.sacn_capture.proofs.pieces.Pieces.added.Goals as goal

@@ -1,10 +1,8 @@
 use Rattle.std.proofs.Common.{sym, length}
 use Rattle.sacn_capture.proofs.Readings.{said, refused}
 use Rattle.sacn_capture.specs.Check.{map_ok}
-use Rattle.sacn_capture.specs.Files.{Does, octets}
-use Rattle.sacn_capture.specs.Inputs.{place_of}
 use Rattle.sacn_capture.specs.Streams.{gives_piece, file_place, state_of}
-use Rattle.sacn_capture.specs.Recordings.{State, interface_size, interface_body, described_by}
+use Rattle.sacn_capture.specs.Recordings.{interface_size, described_by}
 use Rattle.sacn_capture.proofs.pieces.Pieces.described.Goals as goal
 
 pub returns-in-Ok : goal.returns-in-Ok

@@ -1,7 +1,7 @@
 use Rattle.std.proofs.Common.{take}
 use Rattle.sacn_capture.proofs.Readings.{then_did}
 use Rattle.sacn_capture.specs.Check.{map_ok}
-use Rattle.sacn_capture.specs.Files.{Does, octets}
+use Rattle.sacn_capture.specs.Files.{octets}
 use Rattle.sacn_capture.specs.Inputs.{place_of}
 use Rattle.sacn_capture.specs.Streams.{gives_piece, file_place, state_of}
 use Rattle.sacn_capture.specs.Recordings.{interface_body}

@@ -2,8 +2,6 @@ use Rattle.std.proofs.Common.{sym}
 use Rattle.sacn_capture.specs.Pcapng.{reading_block}
 use Rattle.sacn_capture.proofs.Readings.{said, refused}
 use Rattle.sacn_capture.specs.Check.{map_ok}
-use Rattle.sacn_capture.specs.Files.{Does, octets}
-use Rattle.sacn_capture.specs.Inputs.{place_of}
 use Rattle.sacn_capture.specs.Streams.{gives_piece, file_place, state_of}
 use Rattle.sacn_capture.specs.Recordings.{block_piece}
 use Rattle.sacn_capture.proofs.pieces.Pieces.other.Goals as goal

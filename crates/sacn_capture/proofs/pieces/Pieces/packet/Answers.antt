@@ -3,8 +3,7 @@ use Rattle.sacn_capture.specs.Clocks.{milliseconds}
 use Rattle.sacn_capture.specs.Pcapng.{interface_of}
 use Rattle.sacn_capture.proofs.Readings.{said, refused}
 use Rattle.sacn_capture.specs.Check.{map_ok}
-use Rattle.sacn_capture.specs.Files.{Does, octets}
-use Rattle.sacn_capture.specs.Inputs.{place_of}
+use Rattle.sacn_capture.specs.Files.{Does}
 use Rattle.sacn_capture.specs.Streams.{gives_piece, file_place, state_of}
 use Rattle.sacn_capture.specs.Recordings.{interface_at, packet_behind}
 use Rattle.sacn_capture.proofs.pieces.Pieces.packet.Goals as goal

@@ -5,7 +5,7 @@ use Rattle.sacn_capture.specs.Files.{gives}
 use Rattle.sacn_capture.specs.Inputs.{place_of}
 use Rattle.sacn_capture.specs.Pcapng.{Taken, interface_of}
 use Rattle.sacn_capture.specs.Recordings.{Piece, closed}
-use Rattle.sacn_capture.specs.Streams.{file_place, state_of}
+use Rattle.sacn_capture.specs.Streams.{file_place}
 use Rattle.sacn_capture.proofs.pieces.Pieces.pushed.Goals as goal
 
 pub returns-in-Ok-push : goal.returns-in-Ok-push

@@ -1,7 +1,7 @@
 use Rattle.std.proofs.Common.{sym, subst}
 use Rattle.sacn_capture.proofs.Told.{stays_on}
 use Rattle.sacn_capture.specs.declared.stream.Capture.{Capture}
-use Rattle.sacn_capture.specs.declared.stream.Step.TheVariants.{Ended, Found, Nothing}
+use Rattle.sacn_capture.specs.declared.stream.Step.TheVariants.{Ended, Found}
 use Rattle.sacn_capture.specs.Streams.{IsPcap, StepReads, left_in, to_come}
 use Rattle.sacn_capture.proofs.stream.Capture.advance.Goals as goal
 

@@ -1,8 +1,8 @@
-use Rattle.std.proofs.Common.{rules, ℕ, Ok, Some, refl, sym, subst, ap, ◌∙◌, ◌≡◌}
+use Rattle.std.proofs.Common.{rules, ℕ, Ok, Some, refl, sym, subst, ap, ◌∙◌}
 use Rattle.sacn_capture.specs.declared.pieces.Pieces.{Pieces}
 use Rattle.sacn_capture.specs.Kept.{content_in}
-use Rattle.sacn_capture.specs.Recordings.{Shown, Told}
-use Rattle.sacn_capture.specs.Streams.{Gives, ReadsRecord, frame_shown, shown_of, to_come}
+use Rattle.sacn_capture.specs.Recordings.{Shown}
+use Rattle.sacn_capture.specs.Streams.{Gives, ReadsRecord, shown_of, to_come}
 use Rattle.sacn_capture.proofs.Told.{shown_is, same_to_come}
 use Rattle.sacn_capture.proofs.stream.Capture.next.Goals as goal
 

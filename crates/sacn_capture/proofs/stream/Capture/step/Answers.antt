@@ -1,4 +1,4 @@
-use Rattle.std.proofs.Common.{None, Some, Ok, Err, Option, ap, sym, subst, ◌∙◌}
+use Rattle.std.proofs.Common.{None, Ok, Err, Option, ap, sym, subst, ◌∙◌}
 use Rattle.sacn_capture.proofs.Told.{record_kept, step_found, step_nothing, step_failed}
 use Rattle.sacn_capture.specs.declared.faults.CaptureFault.{CaptureFault}
 use Rattle.sacn_capture.specs.declared.stream.Step.TheVariants.{Found, Nothing}
