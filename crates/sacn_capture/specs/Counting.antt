@@ -2,6 +2,7 @@
 use Rattle.std.specs.Prelude.{ℕ, ◌+◌, ◌-◌, ◌^◌, min, Option, None, Some, Result, Ok, Err}
 use Rattle.sacn_capture.specs.declared.counts.Counts.{Counts}
 use Rattle.sacn_capture.specs.declared.frame.Datagram.{Datagram}
+use Rattle.sacn_capture.specs.Frames.{Sent}
 use Rattle.sacn_capture.specs.declared.links.Passed.{Passed}
 use Rattle.sacn_capture.specs.declared.links.Passed.TheVariants.{NotIp, NotIpv4, NotUdp, Fragment, Cut, OtherLink, TooLong}
 
@@ -12,6 +13,11 @@ none_counted = record { datagrams = 0; not_ip = 0; not_ipv4 = 0; not_udp = 0; fr
 abbrev pub passed_of : Result Datagram Passed → Option Passed
 passed_of (Ok datagram) = None
 passed_of (Err passed) = Some passed
+
+-- the same of what a datagram is
+abbrev pub passed_by : Result Sent Passed → Option Passed
+passed_by (Ok sent) = None
+passed_by (Err passed) = Some passed
 
 -- one more, at most what 64 bits hold
 abbrev pub more : ℕ → ℕ

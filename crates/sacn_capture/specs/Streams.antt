@@ -1,5 +1,5 @@
 -- What a recording that is read shows of itself.
-use Rattle.std.specs.Prelude.{◌≡◌, ℕ, ◌<◌, ◌⊎◌, List, length, take, nat_le, Option, None, Some, Result, Ok, Err, if◌then◌else◌}
+use Rattle.std.specs.Prelude.{◌≡◌, ℕ, ◌<◌, ◌⊎◌, List, [], length, take, map, ⊤, IfSome, option_map, Option, None, Some, Result, Ok, Err}
 use Rattle.std.specs.Io.KnownBytes.{Consumes}
 use Rattle.sacn_capture.specs.declared.counts.Counts.{Counts}
 use Rattle.sacn_capture.specs.declared.faults.CaptureFault.{CaptureFault}
@@ -9,15 +9,22 @@ use Rattle.sacn_capture.specs.declared.links.LinkType.{LinkType}
 use Rattle.sacn_capture.specs.declared.pcap.PcapHeader.{PcapHeader}
 use Rattle.sacn_capture.specs.declared.headers.Format.TheVariants.{Pcap}
 use Rattle.sacn_capture.specs.declared.stream.Capture.{Capture}
-use Rattle.sacn_capture.specs.declared.stream.Frame.{Frame}
-use Rattle.sacn_capture.specs.declared.stream.Frame.TheVariants.{Kept, LeftOut}
+use Rattle.sacn_capture.specs.declared.stream.Record.{Record}
+use Rattle.sacn_capture.specs.declared.stream.Step.{Step}
+use Rattle.sacn_capture.specs.declared.stream.Step.TheVariants.{Ended, Found, Nothing}
+use Rattle.sacn_capture.specs.declared.faults.FaultKind.{FaultKind}
+use Rattle.sacn_capture.specs.declared.pieces.Pieces.{Pieces}
+use Rattle.sacn_capture.specs.declared.buffer.Frame.{Frame}
+use Rattle.sacn_capture.specs.declared.buffer.Frame.TheVariants.{Kept, LeftOut}
 use Rattle.sacn_capture.specs.Pcap.{reading_record}
-use Rattle.sacn_capture.specs.Frames.{Sent, reading_datagram}
-
--- what stands in a frame, which is at the buffer's front where it was kept
-abbrev pub content_in : Frame → List ℕ → Result Sent Passed
-content_in (Kept link len) buffer = if nat_le len (length buffer) then reading_datagram link (take len buffer) else Err TooLong
-content_in (LeftOut passed) buffer = Err passed
+use Rattle.sacn_capture.specs.Kept.{content_in}
+use Rattle.sacn_capture.specs.Frames.{Sent, sent_of}
+use Rattle.sacn_capture.specs.Check.{map_ok}
+use Rattle.sacn_capture.specs.Counting.{passed_by}
+use Rattle.sacn_capture.specs.Pcapng.{interface_of}
+use Rattle.sacn_capture.specs.Files.{Place, Reading, Does, IsOutside}
+use Rattle.sacn_capture.specs.Inputs.{place_of}
+use Rattle.sacn_capture.specs.Recordings.{Shown, State, Piece, Told, begun, ends, faulted, recording, rest_of, with_frame}
 
 -- what the frames so far were
 abbrev pub counts_of : {R : Type 0} → Capture R → Counts
@@ -25,7 +32,7 @@ counts_of capture = capture.counts
 
 -- how many octets of the file were read
 abbrev pub place_of_reading : {R : Type 0} → Capture R → ℕ
-place_of_reading capture = capture.input.at
+place_of_reading capture = capture.pieces.input.at
 
 -- the fault that ended the reading
 abbrev pub stopped_by : {R : Type 0} → Capture R → Option CaptureFault
@@ -55,13 +62,98 @@ pub record ReadsRecord (header : PcapHeader) (frame : Frame) (moment : ℕ) (old
 
 -- the file is of the format pcap, and this is its header
 abbrev pub IsPcap : {R : Type 0} → PcapHeader → Capture R → Type 0
-IsPcap header capture = capture.format ≡ Pcap header
+IsPcap header capture = capture.pieces.format ≡ Pcap header
 
 -- what is left of the file, where its reader tells
 abbrev pub left_in : {R : Type 0} → (R → Option (List ℕ)) → Capture R → Option (List ℕ)
-left_in remaining capture = remaining capture.input.reader
+left_in remaining capture = remaining capture.pieces.input.reader
 
 -- a record stands at the front of what was left, its moment is that of its head, and this is what stands in its frame
 abbrev pub GivesRecord : PcapHeader → ℕ → Result Sent Passed → Option (List ℕ) → Type 0
 GivesRecord header moment content old =
     (new : Option (List ℕ)) × (frame : Frame) × (buffer : List ℕ) × ReadsRecord header frame moment old new buffer × (content ≡ content_in frame buffer)
+
+-- what a recording that is read says so far of what comes
+abbrev pub state_of : {R : Type 0} → Pieces R → State
+state_of pieces = record { format = pieces.format; interfaces = map interface_of pieces.interfaces.items; moment = pieces.moment }
+
+-- where it stands, where the reader tells what is left
+abbrev pub file_place : {R : Type 0} → (R → Option (List ℕ)) → Pieces R → Option Place
+file_place remaining pieces = place_of remaining pieces.input
+
+-- the frame that was read last
+abbrev pub frame_shown : {R : Type 0} → Frame → Pieces R → Shown
+frame_shown frame pieces = record { moment = pieces.moment; content = content_in frame pieces.buffer.octets.items }
+
+-- the piece that was read last
+abbrev pub gives_piece : {R : Type 0} → Option Frame → Pieces R → Piece
+gives_piece None pieces = record { frame = None; next = state_of pieces }
+gives_piece (Some frame) pieces = record { frame = Some (frame_shown frame pieces); next = state_of pieces }
+
+-- a call on a recording did what a reading of its octets says
+abbrev pub Reads : {R A : Type 0} → (R → Option (List ℕ)) → Reading A → Pieces R → Pieces R → Result A FaultKind → Type 0
+Reads remaining reading old new result = Does reading (file_place remaining old) (file_place remaining new) result
+
+-- a call read a piece of a recording
+abbrev pub ReadsPiece : {R : Type 0} → (R → Option (List ℕ)) → Reading Piece → Pieces R → Pieces R → Result (Option Frame) FaultKind → Type 0
+ReadsPiece remaining reading old new result = Reads remaining reading old new (map_ok (λ found. gives_piece found new) result)
+
+-- nothing but the first header was read
+abbrev pub IsBegun : {R : Type 0} → Pieces R → Type 0
+IsBegun pieces = state_of pieces ≡ begun pieces.format
+
+abbrev pub opened_place : {R : Type 0} → (R → Option (List ℕ)) → Result (Pieces R) FaultKind → Option Place
+opened_place remaining (Ok pieces) = file_place remaining pieces
+opened_place remaining (Err fault) = None
+
+-- what the rest of a recording gives, where the reader tells what is left: nothing but its fault, once there was one
+abbrev pub to_come_by : Option CaptureFault → State → Option Place → Option Told
+to_come_by (Some fault) state place = Some (faulted fault)
+to_come_by None state place = option_map (rest_of state) place
+
+abbrev pub to_come : {R : Type 0} → (R → Option (List ℕ)) → Capture R → Option Told
+to_come remaining capture = to_come_by capture.stopped (state_of capture.pieces) (file_place remaining capture.pieces)
+
+-- what a frame that is given shows
+abbrev pub shown_of : Record → Shown
+shown_of given = record { moment = given.moment; content = map_ok sent_of given.content }
+
+-- a call gave what came first of what was to come, or what is wrong with it, and the rest is still to come
+abbrev pub Gives : Result (Option Shown) CaptureFault → Option Told → Option Told → Type 0
+Gives result None after = ⊤
+Gives (Ok None) (Some all) after = (all ≡ ends) × (after ≡ Some ends)
+Gives (Ok (Some frame)) (Some all) after = (rest : Told) × (after ≡ Some rest) × (all ≡ with_frame (Some frame) rest)
+Gives (Err fault) (Some all) after = (after ≡ Some (faulted fault)) × (IsOutside fault.kind ⊎ (all ≡ faulted fault))
+
+-- a recording was opened at its first octet, and all that it gives is to come; or this is what is wrong with it
+abbrev pub Opens : {R : Type 0} → (R → Option (List ℕ)) → Option (List ℕ) → Result (Capture R) CaptureFault → Type 0
+Opens remaining None result = ⊤
+Opens remaining (Some file) (Ok capture) = to_come remaining capture ≡ Some (recording file)
+Opens remaining (Some file) (Err fault) = IsOutside fault.kind ⊎ (recording file ≡ faulted fault)
+
+-- what a call gave came first of what was to come
+abbrev pub GivesFirst : Result (Option Shown) CaptureFault → Option Told → Type 0
+GivesFirst result all = (after : Option Told) × Gives result all after
+
+-- a piece was read: its frame was to come first, if it has one; a fault begins where the piece does
+abbrev pub Steps : {R : Type 0} → Result Step FaultKind → ℕ → Pieces R → Option Told → Option Told → Type 0
+Steps result at pieces None after = ⊤
+Steps (Ok Ended) at pieces (Some all) after = (all ≡ ends) × (after ≡ Some ends)
+Steps (Ok (Found frame)) at pieces (Some all) after = (rest : Told) × (after ≡ Some rest) × (all ≡ with_frame (Some (frame_shown frame pieces)) rest)
+Steps (Ok Nothing) at pieces (Some all) after = after ≡ Some all
+Steps (Err kind) at pieces (Some all) after = IsOutside kind ⊎ (all ≡ faulted (record { at = at; kind = kind }))
+
+-- a step of a pcap file reads a record, or finds that nothing is left
+abbrev pub StepReads : {R : Type 0} → PcapHeader → Step → Option (List ℕ) → Option (List ℕ) → Pieces R → Type 0
+StepReads header Ended old new pieces = IfSome old (λ octets. octets ≡ [])
+StepReads header (Found frame) old new pieces = ReadsRecord header frame pieces.moment old new pieces.buffer.octets.items
+StepReads header Nothing old new pieces = ⊥
+
+-- what was to come still is, and nothing else, where it is known
+abbrev pub Stays : Option Told → Option Told → Type 0
+Stays None new = ⊤
+Stays (Some all) new = new ≡ Some all
+
+-- why the frame that was read last is passed over
+abbrev pub passed_in : {R : Type 0} → Frame → Pieces R → Option Passed
+passed_in frame pieces = passed_by (content_in frame pieces.buffer.octets.items)

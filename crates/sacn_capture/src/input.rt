@@ -1,8 +1,10 @@
 //! A file as octets: read in full or skipped, with the place in it.
 
-ghost use Rattle.std.specs.Prelude.{◌≡◌, ◌+◌, ◌-◌, ◌^◌, ◌≤◌, length, take, min, IfOk, IfSome, IsTrue, OnOk, []};
+ghost use Rattle.std.specs.Prelude.{◌≡◌, ◌+◌, ◌-◌, ◌^◌, ◌≤◌, ◌↔◌, length, take, drop, min, IfErr, IfOk, IfSome, IsTrue, OnOk, []};
 ghost use Rattle.std.specs.Io.KnownBytes.{Consumes, Keeps};
-ghost use Rattle.sacn_capture.specs.Inputs.{LeavesOut};
+ghost use Rattle.sacn_capture.specs.Check.{map_ok};
+ghost use Rattle.sacn_capture.specs.Files.{octets as so_many};
+ghost use Rattle.sacn_capture.specs.Inputs.{LeavesOut, Passes, ReadsInput, TellsEnd, IsShort, place_of};
 
 use crate::faults::FaultKind;
 use std::io::{BufRead, ErrorKind};
@@ -20,6 +22,7 @@ pub struct Input<R> {
 impl<R: BufRead> Input<R> {
     /// Whether the file has ended. Error: Device.
     pub fn is_ended(&mut self) -> Result<bool, FaultKind>
+        ensures told { TellsEnd (place_of R.Read.remaining self.old) (place_of R.Read.remaining self.new) result }
         ensures place { self.new.at ≡ self.old.at }
         ensures kept { OnOk result (Keeps (R.Read.remaining self.old.reader) (R.Read.remaining self.new.reader)) }
         ensures end { IfOk result (λ ended. IsTrue ended → IfSome (R.Read.remaining self.old.reader) (λ octets. octets ≡ [])) }
@@ -34,10 +37,15 @@ impl<R: BufRead> Input<R> {
     pub fn fill(&mut self, buffer: &mut [u8]) -> Result<(), FaultKind>
         ensures octets { OnOk result (Consumes (R.Read.remaining self.old.reader) (R.Read.remaining self.new.reader) buffer.new) }
         ensures place { OnOk result (self.new.at ≡ min (self.old.at + length buffer.new) (2 ^ 64 - 1)) }
+        ensures exact { ReadsInput R.Read.remaining (so_many (length buffer.old)) self.old self.new (map_ok (λ _. buffer.new) result) }
     {
-        read_full(&mut self.reader, buffer)?;
-        self.at = self.at.saturating_add(buffer.len() as u64);
-        Ok(())
+        match read_full(&mut self.reader, buffer) {
+            Ok(()) => {
+                self.at = self.at.saturating_add(buffer.len() as u64);
+                Ok(())
+            }
+            Err(fault) => Err(fault),
+        }
     }
 
     /// Reads so many octets to the buffer's front. Errors: CutShort where the file ends before, Device.
@@ -45,36 +53,61 @@ impl<R: BufRead> Input<R> {
         requires { count ≤ length buffer.old }
         ensures octets { OnOk result (Consumes (R.Read.remaining self.old.reader) (R.Read.remaining self.new.reader) (take count buffer.new)) }
         ensures len { length buffer.new ≡ length buffer.old }
+        ensures exact { ReadsInput R.Read.remaining (so_many count) self.old self.new (map_ok (λ _. take count buffer.new) result) }
     {
         self.fill(&mut buffer[..count])
+    }
+
+    /// Reads octets to the buffer's end, from a place on. Errors: CutShort where the file ends before, Device.
+    pub fn fill_from(&mut self, buffer: &mut [u8], from: usize) -> Result<(), FaultKind>
+        requires { from ≤ length buffer.old }
+        ensures front { take from buffer.new ≡ take from buffer.old }
+        ensures len { length buffer.new ≡ length buffer.old }
+        ensures exact { ReadsInput R.Read.remaining (so_many (length buffer.old - from)) self.old self.new (map_ok (λ _. drop from buffer.new) result) }
+    {
+        self.fill(&mut buffer[from..])
     }
 
     /// Leaves out so many octets. Errors: CutShort where the file ends before, Device.
     pub fn skip(&mut self, count: u64) -> Result<(), FaultKind>
         ensures octets { OnOk result (LeavesOut (R.Read.remaining self.old.reader) (R.Read.remaining self.new.reader) count) }
         ensures place { OnOk result (self.new.at ≡ min (self.old.at + count) (2 ^ 64 - 1)) }
+        ensures exact { Passes count (place_of R.Read.remaining self.old) (place_of R.Read.remaining self.new) result }
     {
-        leave_out(&mut self.reader, count)?;
-        self.at = self.at.saturating_add(count);
-        Ok(())
+        match leave_out(&mut self.reader, count) {
+            Ok(()) => {
+                self.at = self.at.saturating_add(count);
+                Ok(())
+            }
+            Err(fault) => Err(fault),
+        }
     }
 }
 
+// Fills the buffer, by as many reads as it takes.
 fn read_full<R: BufRead>(reader: &mut R, buffer: &mut [u8]) -> Result<(), FaultKind>
     ensures octets { OnOk result (Consumes (R.Read.remaining reader.old) (R.Read.remaining reader.new) buffer.new) }
     ensures len { length buffer.new ≡ length buffer.old }
+    ensures short { IfErr result (IsShort (R.Read.remaining reader.old) (length buffer.old)) }
 {
-    match reader.read_exact(buffer) {
-        Ok(()) => Ok(()),
-        Err(error) => match error.kind() {
-            ErrorKind::UnexpectedEof => Err(FaultKind::CutShort),
-            _ => Err(FaultKind::Device),
-        },
+    let mut at = 0;
+    for _ in 0..u64::MAX {
+        if at >= buffer.len() {
+            return Ok(());
+        }
+        match reader.read(&mut buffer[at..]) {
+            Ok(0) => return Err(FaultKind::CutShort),
+            Ok(n) => at += n,
+            Err(error) if error.kind() == ErrorKind::Interrupted => continue,
+            Err(_) => return Err(FaultKind::Device),
+        }
     }
+    Err(FaultKind::Device)
 }
 
 fn leave_out<R: BufRead>(reader: &mut R, count: u64) -> Result<(), FaultKind>
-    ensures { OnOk result (LeavesOut (R.Read.remaining reader.old) (R.Read.remaining reader.new) count) }
+    ensures octets { OnOk result (LeavesOut (R.Read.remaining reader.old) (R.Read.remaining reader.new) count) }
+    ensures short { IfErr result (IsShort (R.Read.remaining reader.old) count) }
 {
     let mut left = count;
     while left > 0 {
@@ -89,7 +122,8 @@ fn leave_out<R: BufRead>(reader: &mut R, count: u64) -> Result<(), FaultKind>
 
 fn leave_piece<R: BufRead>(reader: &mut R, count: usize) -> Result<(), FaultKind>
     requires { count ≤ 512 }
-    ensures { OnOk result (LeavesOut (R.Read.remaining reader.old) (R.Read.remaining reader.new) count) }
+    ensures octets { OnOk result (LeavesOut (R.Read.remaining reader.old) (R.Read.remaining reader.new) count) }
+    ensures short { IfErr result (IsShort (R.Read.remaining reader.old) count) }
 {
     let mut piece = [0; PIECE as usize];
     leave_front(reader, &mut piece, count)
@@ -97,7 +131,8 @@ fn leave_piece<R: BufRead>(reader: &mut R, count: usize) -> Result<(), FaultKind
 
 fn leave_front<R: BufRead>(reader: &mut R, piece: &mut [u8], count: usize) -> Result<(), FaultKind>
     requires { count ≤ length piece.old }
-    ensures { OnOk result (LeavesOut (R.Read.remaining reader.old) (R.Read.remaining reader.new) count) }
+    ensures octets { OnOk result (LeavesOut (R.Read.remaining reader.old) (R.Read.remaining reader.new) count) }
+    ensures short { IfErr result (IsShort (R.Read.remaining reader.old) count) }
 {
     read_full(reader, &mut piece[..count])
 }

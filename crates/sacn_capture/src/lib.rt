@@ -3,6 +3,8 @@
 //! Below is the pure layer: what stands in a frame, in a file's header and in a block, octets to values, each exact.
 #![tactic(auto)]
 
+mod blocks;
+mod buffer;
 mod clock;
 mod counts;
 mod faults;
@@ -10,10 +12,12 @@ mod frame;
 mod headers;
 mod input;
 mod interface;
+pub mod laws;
 mod links;
 mod octets;
 mod pcap;
 mod pcapng;
+mod pieces;
 mod stream;
 
 pub use clock::{milliseconds_of, units_in};

@@ -1,7 +1,7 @@
 //! The headers of a pcap file and of its records.
 
 ghost use Rattle.std.specs.Prelude.{◌≡◌, ◌≤◌, length};
-ghost use Rattle.sacn_capture.specs.Pcap.{fraction_of, stamp_of, link_number, reading_header, reading_record, record_milliseconds};
+ghost use Rattle.sacn_capture.specs.Pcap.{fraction_of, header_at, stamp_of, link_number, reading_header, reading_record, record_milliseconds};
 
 use crate::faults::FaultKind;
 use crate::links::{LinkType, link_type};
@@ -63,9 +63,18 @@ pub fn pcap_header(octets: &[u8]) -> Result<PcapHeader, FaultKind>
     if octets.len() < 4 {
         return Err(FaultKind::NotACapture);
     }
-    let Some(stamp) = stamp_in(octets) else {
-        return Err(FaultKind::NotACapture);
-    };
+    match stamp_in(octets) {
+        Some(stamp) => header_in(stamp, octets),
+        None => Err(FaultKind::NotACapture),
+    }
+}
+
+/// The header of a pcap file whose first number is known.
+///
+/// Errors, the first that holds: CutShort (fewer than 24 octets), Version, LinkType.
+pub fn header_in(stamp: Stamp, octets: &[u8]) -> Result<PcapHeader, FaultKind>
+    ensures { result ≡ header_at stamp octets.now }
+{
     if octets.len() < HEADER {
         return Err(FaultKind::CutShort);
     }
@@ -110,8 +119,8 @@ fn record_moment(kind: Fraction, seconds: u32, fraction: u32) -> u64
     u64::from(seconds) * 1000 + u64::from(part)
 }
 
-// How the numbers are written, by the first four octets.
-fn stamp_in(octets: &[u8]) -> Option<Stamp>
+/// How the numbers are written, by the first four octets.
+pub fn stamp_in(octets: &[u8]) -> Option<Stamp>
     requires { 4 ≤ length octets.now }
     ensures { result ≡ stamp_of octets.now }
 {

@@ -2,7 +2,7 @@ use Rattle.std.proofs.Common.{List, ℕ, subst, sym, arith}
 use Rattle.std.specs.Prelude.{OnOk}
 use Rattle.std.specs.Io.KnownBytes.{Consumes}
 use Rattle.sacn_capture.proofs.Fronts.{front_again}
-use Rattle.sacn_capture.proofs.stream.read_front.Goals as goal
+use Rattle.sacn_capture.proofs.buffer.read_front.Goals as goal
 
 pub returns-clause-octets : goal.returns-clause-octets
 returns-clause-octets g c =
