@@ -1,5 +1,9 @@
 //! What happens, told as it happens.
 
+ghost use Rattle.std.specs.Prelude.{◌≡◌, ◌≤◌, ◌⊎◌, IfOk, IfSome, OnOk, max};
+ghost use Rattle.sacn_monitor.specs.Books.{new_book, after_take, after_tick};
+ghost use Rattle.sacn_explain.specs.Following.{IsTicked, IsTaken};
+
 use crate::cause::Cause;
 use crate::contests::Contests;
 use crate::fault::ExplainFault;
@@ -30,6 +34,8 @@ pub struct Follower<'a, O> {
     stage: Option<Stage>,
     options: Options<'a>,
     teller: Teller<'a, O>,
+    /// The greatest moment that was handed in.
+    moment: u64,
     /// Nothing ends by silence before this moment.
     wake: u64,
 }
@@ -43,7 +49,10 @@ impl<'a, O: Write> Follower<'a, O> {
         options: Options<'a>,
         setup: Option<&NodeSetup>,
         out: &'a mut O,
-    ) -> Result<Self, ExplainFault> {
+    ) -> Result<Self, ExplainFault>
+        ensures nothing { IfOk result (λ f. f.monitor ≡ new_book) }
+        ensures moment { IfOk result (λ f. f.moment ≡ 0) }
+    {
         let monitor = Monitor::new(alloc)?;
         let contests = Contests::new(alloc)?;
         let mut teller = Teller::new(alloc, options.form, out);
@@ -58,16 +67,21 @@ impl<'a, O: Write> Follower<'a, O> {
             stage,
             options,
             teller,
+            moment: 0,
             wake: 0,
         })
     }
 
-    /// Takes a datagram that came at a moment from a sender, and tells what it changed, after what had ended by silence.
+    /// Takes a datagram that came at a moment from a sender, and tells what it changed, after what had ended by silence: the
+    /// accounts are then those that the monitor has after this datagram, once.
     ///
     /// Errors: OutOfMemory; Device where a line can't be written.
-    pub fn take(&mut self, now: u64, sender: Sender, octets: &[u8]) -> Result<(), ExplainFault> {
+    pub fn take(&mut self, now: u64, sender: Sender, octets: &[u8]) -> Result<(), ExplainFault>
+        ensures moment { self.new.moment ≡ max self.old.moment now }
+        ensures taken { OnOk result (IsTaken (max self.old.moment now) sender octets.now self.old.monitor self.new.monitor) }
+    {
         self.tick(now)?;
-        let noted = self.monitor.take(now, sender, octets);
+        let noted = self.monitor.take(self.moment, sender, octets);
         self.tell(&sender, octets, noted)?;
         self.show_turn(octets, noted)
     }
@@ -75,31 +89,52 @@ impl<'a, O: Write> Follower<'a, O> {
     /// Tells what has ended by silence up to a moment, each thing at its own moment.
     ///
     /// Errors: OutOfMemory; Device where a line can't be written.
-    pub fn tick(&mut self, now: u64) -> Result<(), ExplainFault> {
-        if now < self.wake {
+    pub fn tick(&mut self, now: u64) -> Result<(), ExplainFault>
+        ensures moment { self.new.moment ≡ max self.old.moment now }
+        ensures ticked { OnOk result (IsTicked (max self.old.moment now) self.old.monitor self.new.monitor) }
+    {
+        self.moment = self.moment.max(now);
+        if self.moment < self.wake {
             return Ok(());
         }
+        self.tell_silence()
+    }
+
+    // Tells what has ended by silence by now.
+    fn tell_silence(&mut self) -> Result<(), ExplainFault>
+        ensures moment { self.new.moment ≡ self.old.moment }
+        ensures ticked { OnOk result (IsTicked self.old.moment self.old.monitor self.new.monitor) }
+    {
+        let now = self.moment;
         for _ in 0..u64::MAX {
             let lost = self.monitor.next_loss();
             let dark = self.next_dark();
-            let at = lost.min(dark);
-            if (now < at) | (at == u64::MAX) {
-                self.wake = at.min(now.saturating_add(NETWORK_DATA_LOSS));
+            let Some(at) = end_by(now, lost, dark) else {
+                self.wake = lost.min(dark).min(now.saturating_add(NETWORK_DATA_LOSS));
                 break;
-            }
-            if lost <= dark {
-                self.tell_loss(lost)?;
-            } else {
-                self.show_dark(dark)?;
-            }
+            };
+            self.tell_end(at, lost <= dark)?;
         }
         Ok(())
+    }
+
+    // Tells what ends by silence at a moment: a stream, or else what the node loses.
+    fn tell_end(&mut self, at: u64, is_stream: bool) -> Result<(), ExplainFault>
+        ensures monitor { (self.new.monitor ≡ self.old.monitor) ⊎ (self.new.monitor ≡ after_tick at self.old.monitor) }
+        ensures moment { self.new.moment ≡ self.old.moment }
+    {
+        if is_stream {
+            return self.tell_loss(at);
+        }
+        self.show_dark(at)
     }
 
     /// Tells the tables of sources, universes and lists, and these counts.
     ///
     /// Errors: OutOfMemory; Device where a line can't be written.
-    pub fn finish(&mut self, report: &Report) -> Result<(), ExplainFault> {
+    pub fn finish(&mut self, report: &Report) -> Result<(), ExplainFault>
+        ensures { self.new.monitor ≡ self.old.monitor }
+    {
         tables::tell(
             &mut self.teller,
             &self.options,
@@ -110,12 +145,16 @@ impl<'a, O: Write> Follower<'a, O> {
     }
 
     /// The datagrams so far, by what they were.
-    pub fn tally(&self) -> &Tally {
+    pub fn tally(&self) -> &Tally
+        ensures { result.now ≡ self.now.monitor.tally }
+    {
         self.monitor.tally()
     }
 
     /// The sources on universes so far, in the order in which they appeared.
-    pub fn streams(&self) -> &[Stream] {
+    pub fn streams(&self) -> &[Stream]
+        ensures { result.now ≡ self.now.monitor.streams }
+    {
         self.monitor.streams()
     }
 
@@ -125,7 +164,10 @@ impl<'a, O: Write> Follower<'a, O> {
     }
 
     // What a datagram tells.
-    fn tell(&mut self, sender: &Sender, octets: &[u8], noted: Noted) -> Result<(), ExplainFault> {
+    fn tell(&mut self, sender: &Sender, octets: &[u8], noted: Noted) -> Result<(), ExplainFault>
+        ensures monitor { self.new.monitor ≡ self.old.monitor }
+        ensures moment { self.new.moment ≡ self.old.moment }
+    {
         let now = self.monitor.moment();
         match noted {
             Noted::Refused(fault) => self.teller.refused(now, sender, fault),
@@ -137,7 +179,10 @@ impl<'a, O: Write> Follower<'a, O> {
     }
 
     // What a data packet tells of its source on its universe.
-    fn tell_news(&mut self, place: usize, news: &News) -> Result<(), ExplainFault> {
+    fn tell_news(&mut self, place: usize, news: &News) -> Result<(), ExplainFault>
+        ensures monitor { self.new.monitor ≡ self.old.monitor }
+        ensures moment { self.new.moment ≡ self.old.moment }
+    {
         let now = self.monitor.moment();
         let Some(stream) = self.monitor.streams().get(place) else {
             return Ok(());
@@ -154,7 +199,10 @@ impl<'a, O: Write> Follower<'a, O> {
     }
 
     // Whether two sources begin or cease to send at the same top priority on a universe.
-    fn tell_rivals(&mut self, universe: u16) -> Result<(), ExplainFault> {
+    fn tell_rivals(&mut self, universe: u16) -> Result<(), ExplainFault>
+        ensures monitor { self.new.monitor ≡ self.old.monitor }
+        ensures moment { self.new.moment ≡ self.old.moment }
+    {
         let sources = self.monitor.rivals(universe);
         if !self.contests.note(universe, sources >= 2)? {
             return Ok(());
@@ -165,7 +213,10 @@ impl<'a, O: Write> Follower<'a, O> {
     }
 
     // The list of a source, where it is another one than before.
-    fn tell_page(&mut self, octets: &[u8]) -> Result<(), ExplainFault> {
+    fn tell_page(&mut self, octets: &[u8]) -> Result<(), ExplainFault>
+        ensures monitor { self.new.monitor ≡ self.old.monitor }
+        ensures moment { self.new.moment ≡ self.old.moment }
+    {
         let Ok(Packet::PagePacket(page)) = read_packet(octets) else {
             return Ok(());
         };
@@ -182,7 +233,10 @@ impl<'a, O: Write> Follower<'a, O> {
     }
 
     // A stream that is lost at a moment.
-    fn tell_loss(&mut self, at: u64) -> Result<(), ExplainFault> {
+    fn tell_loss(&mut self, at: u64) -> Result<(), ExplainFault>
+        ensures monitor { self.new.monitor ≡ after_tick at self.old.monitor }
+        ensures moment { self.new.moment ≡ self.old.moment }
+    {
         let Some(place) = self.monitor.tick(at) else {
             return Ok(());
         };
@@ -206,7 +260,10 @@ impl<'a, O: Write> Follower<'a, O> {
     }
 
     // The frames of the node, where a source is lost at a moment.
-    fn show_dark(&mut self, at: u64) -> Result<(), ExplainFault> {
+    fn show_dark(&mut self, at: u64) -> Result<(), ExplainFault>
+        ensures monitor { self.new.monitor ≡ self.old.monitor }
+        ensures moment { self.new.moment ≡ self.old.moment }
+    {
         match &mut self.stage {
             Some(stage) => stage.show(at, &Cause::Lost, &mut self.teller),
             None => Ok(()),
@@ -214,7 +271,10 @@ impl<'a, O: Write> Follower<'a, O> {
     }
 
     // The frames of the node after a datagram.
-    fn show_turn(&mut self, octets: &[u8], noted: Noted) -> Result<(), ExplainFault> {
+    fn show_turn(&mut self, octets: &[u8], noted: Noted) -> Result<(), ExplainFault>
+        ensures monitor { self.new.monitor ≡ self.old.monitor }
+        ensures moment { self.new.moment ≡ self.old.moment }
+    {
         let now = self.monitor.moment();
         let Some(stage) = &mut self.stage else {
             return Ok(());
@@ -225,6 +285,17 @@ impl<'a, O: Write> Follower<'a, O> {
         let cause = cause_of(self.monitor.streams(), noted);
         stage.show(now, &cause, &mut self.teller)
     }
+}
+
+// The earlier of two moments, where it is no later than now; the last moment of all never comes.
+fn end_by(now: u64, lost: u64, dark: u64) -> Option<u64>
+    ensures { IfSome result (λ at. at ≤ now) }
+{
+    let at = lost.min(dark);
+    if (now < at) | (at == u64::MAX) {
+        return None;
+    }
+    Some(at)
 }
 
 // A node, whose first frames are told.

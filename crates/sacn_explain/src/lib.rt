@@ -9,6 +9,7 @@ mod fault;
 mod follow;
 mod follower;
 mod json;
+pub mod laws;
 mod lines;
 mod listings;
 mod options;

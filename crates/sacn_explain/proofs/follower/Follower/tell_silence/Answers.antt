@@ -1,0 +1,10 @@
+use Rattle.std.proofs.Common.{◌≡◌, ◌≤◌, arith}
+use Rattle.sacn_explain.proofs.Following.{none_told, one_more_told}
+use Rattle.sacn_explain.proofs.follower.Follower.tell_silence.Goals as goal
+
+pub loop-preserved : goal.loop-preserved
+loop-preserved g c = record {
+  now = search;
+  moment = search;
+  ticked = one_more_told _ _ _ _ _ c.in-Some.ensures c.loop.invariant.ticked c.tell_end.ensures.monitor;
+}

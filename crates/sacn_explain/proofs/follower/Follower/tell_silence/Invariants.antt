@@ -1,0 +1,11 @@
+use Rattle.std.proofs.Common.{◌≡◌}
+use Rattle.sacn_explain.specs.Following.{IsTicked}
+use Rattle.sacn_explain.proofs.follower.Follower.tell_silence.Given as goal
+
+-- the losses that were told so far
+abbrev pub invariant-loop : goal.invariant-loop
+invariant-loop g l = record {
+  now : l.now ≡ l.fn.self.moment;
+  moment : l.self.moment ≡ l.fn.self.moment;
+  ticked : IsTicked l.now l.fn.self.monitor l.self.monitor;
+}
