@@ -13,3 +13,4 @@ mod Bounds
 mod PlainEdits
 mod PlainLayers
 pub mod Wakes
+mod Young
