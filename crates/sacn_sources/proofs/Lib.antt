@@ -13,4 +13,3 @@ mod Bounds
 mod PlainEdits
 mod PlainLayers
 pub mod Wakes
-mod Young

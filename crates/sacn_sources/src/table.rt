@@ -1,6 +1,6 @@
 //! The table of sources, with its latest merge.
 
-ghost use Rattle.std.specs.Prelude.{◌≡◌, ◌↔◌, ◌+◌, ◌-◌, ◌<◌, ◌≤◌, ◌^◌, IsTrue, ℕ, length, take, drop, max, IfOk, IfSome, IfNone};
+ghost use Rattle.std.specs.Prelude.{◌≡◌, ◌+◌, ◌<◌, ◌≤◌, ◌^◌, ℕ, length, take, drop, max, IfOk, IfSome, IfNone};
 
 use crate::fault::TableFault;
 use crate::held::HeldView;
@@ -70,7 +70,8 @@ impl SourceTable {
         ensures few { result ≤ MAX_SOURCES }
         ensures table { self.new ≡ kept_after_expire now self.old }
     {
-        if is_young(self.earliest, self.store.moment(), now) {
+        let moment = self.store.moment().max(now);
+        if moment.saturating_sub(self.earliest) < NETWORK_DATA_LOSS {
             self.store.advance(now);
             return 0;
         }
@@ -82,7 +83,7 @@ impl SourceTable {
         ensures answer { result ≡ answer now (packet_of packet.now) self.old.table }
         ensures table { self.new ≡ kept_after_take now (packet_of packet.now) self.old }
     {
-        self.settle(now);
+        self.expire(now);
         let taken = self.store.take(packet);
         self.due |= taken.renews();
         taken
@@ -141,18 +142,8 @@ impl SourceTable {
         self.renewals
     }
 
-    /// Moves the clock, and drops the sources that are lost. Where none can be, this is a comparison, which is made in the caller.
-    fn settle(&mut self, now: u64)
-        ensures { self.new ≡ kept_after_expire now self.old }
-    {
-        if is_young(self.earliest, self.store.moment(), now) {
-            self.store.advance(now);
-        } else {
-            self.sweep(now);
-        }
-    }
-
-    /// Looks at every source, and drops those that are lost.
+    /// Looks at every source, and drops those that are lost. Out of line, so that the test before it is made in the caller.
+    #[inline(never)]
     fn sweep(&mut self, now: u64) -> usize
         ensures gone { result ≡ rows_lost (max self.old.table.moment now) self.old.table.rows }
         ensures few { result ≤ MAX_SOURCES }
@@ -168,18 +159,11 @@ impl SourceTable {
     fn renew(&mut self, now: u64)
         ensures { self.new ≡ kept_after_merged now self.old }
     {
-        self.settle(now);
+        self.expire(now);
         if self.due {
             self.store.merge(&mut self.slots);
             self.renewals = self.renewals.saturating_add(1);
             self.due = false;
         }
     }
-}
-
-// Whether nothing that was renewed at this moment is lost yet, by a table's moment and the one that it is handed.
-fn is_young(earliest: u64, moment: u64, now: u64) -> bool
-    ensures { IsTrue result ↔ (max moment now - earliest < NETWORK_DATA_LOSS) }
-{
-    moment.max(now).saturating_sub(earliest) < NETWORK_DATA_LOSS
 }
