@@ -1,6 +1,6 @@
 //! An entry of a table, and what is read and written of entries.
 
-ghost use Rattle.std.specs.Prelude.{◌≡◌, ◌<◌, slice_index_or, slice_set};
+ghost use Rattle.std.specs.Prelude.{◌≡◌, ◌↔◌, ◌<◌, IfSome, IsTrue, length, slice_index_or, slice_set};
 ghost use Rattle.arrayvec.specs.ArrayVec.{array_vec_len};
 ghost use Rattle.sacn_sources.specs.declared.entry.Entry.{Entry as Stored};
 ghost use Rattle.sacn_sources.specs.Wakes.{oldest_by};
@@ -28,6 +28,26 @@ pub(crate) fn oldest_entry(entries: &[Entry]) -> u64
         oldest = oldest.min(entry.moment);
     }
     oldest
+}
+
+/// The place of an entry of this CID, if there is one.
+pub(crate) fn place_of(entries: &[Entry], cid: &[u8; 16]) -> Option<usize>
+    ensures within { IfSome result (λ at. at < length entries.now) }
+    ensures here { IfSome result (λ at. (d : Stored) → (slice_index_or entries.now at d).cid ≡ cid.now) }
+{
+    for at in 0..entries.len() {
+        if is_of(&entries[at], cid) {
+            return Some(at);
+        }
+    }
+    None
+}
+
+// Whether the entry has this CID. It compares two numbers of eight octets.
+fn is_of(entry: &Entry, cid: &[u8; 16]) -> bool
+    ensures { IsTrue result ↔ (entry.now.cid ≡ cid.now) }
+{
+    entry.cid == *cid
 }
 
 /// The entry at this place.

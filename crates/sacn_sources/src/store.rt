@@ -2,7 +2,7 @@
 
 ghost use Rattle.std.specs.Prelude.{◌≡◌, ◌↔◌, ◌<◌, ◌≤◌, IsTrue, false, not, remove, ℕ, [], length, is_some, slice_index_or, slice_set, max, IfOk, IfErr};
 
-use crate::entry::{Entry, entry_at, oldest_entry, renew, renumber};
+use crate::entry::{Entry, entry_at, oldest_entry, place_of, renew, renumber};
 use crate::fault::TableFault;
 use crate::held::HeldView;
 use crate::kind::{Kind, kind_of};
@@ -272,8 +272,19 @@ impl Store {
         entry.priority.is_some()
     }
 
-    // Where the source is, or where it would go.
+    // Where the source is, or where it would go. A source that is held is found by comparing CIDs as a whole.
     fn search(&self, cid: &[u8; 16]) -> Result<usize, usize>
+        ensures found { IfOk result (IsAt self.now.rows cid.now) }
+        ensures absent { IfErr result (IsGap self.now.rows cid.now) }
+    {
+        match place_of(self.entries.as_slice(), cid) {
+            Some(at) => Ok(at),
+            None => self.search_in_order(cid),
+        }
+    }
+
+    // The same by the order of CIDs.
+    fn search_in_order(&self, cid: &[u8; 16]) -> Result<usize, usize>
         ensures found { IfOk result (IsAt self.now.rows cid.now) }
         ensures absent { IfErr result (IsGap self.now.rows cid.now) }
     {

@@ -142,7 +142,8 @@ impl SourceTable {
         self.renewals
     }
 
-    /// Looks at every source, and drops those that are lost.
+    /// Looks at every source, and drops those that are lost. Out of line, so that the test before it is made in the caller.
+    #[inline(never)]
     fn sweep(&mut self, now: u64) -> usize
         ensures gone { result ≡ rows_lost (max self.old.table.moment now) self.old.table.rows }
         ensures few { result ≤ MAX_SOURCES }
