@@ -43,6 +43,8 @@ pub struct Capture<R> {
 impl<R: BufRead + Drop> Capture<R> {
     /// A recording, whose first header is read.
     ///
+    /// Where the reader tells its octets, all that they give by the file's format is then to come.
+    ///
     /// Errors, at octet 0: OutOfMemory, Device, and those of `pcap_header` and `section_in`.
     pub fn open(alloc: Global, reader: R) -> Result<Self, CaptureFault>
         ensures begun { IfOk result (λ capture. (counts_of capture ≡ none_counted) × (stopped_by capture ≡ None)) }
@@ -74,11 +76,12 @@ enum Step {
 impl<R: BufRead> Capture<R> {
     /// The next frame, or none at the file's end.
     ///
-    /// Of a file of the format pcap the frame is that of the record at the front of what was left, and at the end nothing
-    /// was left, where the reader tells what is left.
+    /// Where the reader tells its octets, the calls give one after another what those octets give by the file's format
+    /// (`recording` of `specs/Recordings.antt`): its frames in order, and at last its end, or what is wrong and where. What
+    /// a call leaves to come is what the next call begins with; `laws::calls_give_the_recording` says it of any number of calls.
     ///
-    /// Errors: what is wrong with the file, and where the header, the block or the record begins that is. What was
-    /// read before stays valid; each later call gives the same fault.
+    /// Errors: what is wrong with the file, and where the header, the block or the record begins that is; Device and
+    /// OutOfMemory, which no octet tells. What was read before stays valid; each later call gives the same fault.
     pub fn next(&mut self) -> Result<Option<Record<'_>>, CaptureFault>
         ensures stopped { IfSome (stopped_by self.old) (λ fault. result ≡ Err fault) }
         ensures end { (header : PcapHeader) → IsPcap header self.old → IfOk result (λ found. IfNone found (IfSome (left_in R.Read.remaining self.old) (λ octets. octets ≡ []))) }
