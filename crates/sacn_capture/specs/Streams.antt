@@ -20,7 +20,7 @@ use Rattle.sacn_capture.specs.Pcap.{reading_record}
 use Rattle.sacn_capture.specs.Kept.{content_in}
 use Rattle.sacn_capture.specs.Frames.{Sent, sent_of}
 use Rattle.sacn_capture.specs.Check.{map_ok}
-use Rattle.sacn_capture.specs.Counting.{passed_by}
+use Rattle.sacn_capture.specs.Counting.{counted, passed_by}
 use Rattle.sacn_capture.specs.Pcapng.{interface_of}
 use Rattle.sacn_capture.specs.Files.{Place, Reading, Does, IsOutside}
 use Rattle.sacn_capture.specs.Inputs.{place_of}
@@ -157,3 +157,13 @@ Stays (Some all) new = new ≡ Some all
 -- why the frame that was read last is passed over
 abbrev pub passed_in : {R : Type 0} → Frame → Pieces R → Option Passed
 passed_in frame pieces = passed_by (content_in frame pieces.buffer.octets.items)
+
+-- a call counts the frame that it gives
+abbrev pub counted_with : Result (Option Shown) CaptureFault → Counts → Counts
+counted_with (Ok None) counts = counts
+counted_with (Ok (Some frame)) counts = counted (passed_by frame.content) counts
+counted_with (Err fault) counts = counts
+
+-- what a call gave came first of what was to come, what was behind it is still to come, and the frame is counted
+abbrev pub GivesNext : {R : Type 0} → (R → Option (List ℕ)) → Result (Option Shown) CaptureFault → Capture R → Capture R → Type 0
+GivesNext remaining result old new = Gives result (to_come remaining old) (to_come remaining new) × (counts_of new ≡ counted_with result (counts_of old))

@@ -1,6 +1,7 @@
 //! Datagrams out of a recording of a network: `pcap` and `pcapng` read as a stream.
 //!
-//! Below is the pure layer: what stands in a frame, in a file's header and in a block, octets to values, each exact.
+//! Below is the pure layer: what stands in a frame, in a file's header and in a block, octets to values, each exact. Above it
+//! `Capture` reads a whole file, and gives what `specs/Recordings.antt` says that its octets give.
 #![tactic(auto)]
 
 mod blocks;

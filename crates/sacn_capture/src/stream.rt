@@ -8,7 +8,7 @@ ghost use Rattle.sacn_capture.specs.Check.{map_ok};
 ghost use Rattle.sacn_capture.specs.Counting.{none_counted, counted};
 ghost use Rattle.sacn_capture.specs.Frames.{sent_of};
 ghost use Rattle.sacn_capture.specs.Kept.{content_in};
-ghost use Rattle.sacn_capture.specs.Streams.{passed_in, Gives, GivesFirst, GivesRecord, IsPcap, Opens, ReadsRecord, StepReads, Steps, counts_of, frame_shown, left_in, place_of_reading, shown_of, stopped_by, to_come};
+ghost use Rattle.sacn_capture.specs.Streams.{passed_in, Gives, GivesFirst, GivesNext, GivesRecord, IsPcap, Opens, ReadsRecord, StepReads, Steps, counts_of, frame_shown, left_in, place_of_reading, shown_of, stopped_by, to_come};
 
 use crate::buffer::Frame;
 use crate::counts::Counts;
@@ -43,6 +43,8 @@ pub struct Capture<R> {
 impl<R: BufRead + Drop> Capture<R> {
     /// A recording, whose first header is read.
     ///
+    /// Where the reader tells its octets, all that they give by the file's format is then to come.
+    ///
     /// Errors, at octet 0: OutOfMemory, Device, and those of `pcap_header` and `section_in`.
     pub fn open(alloc: Global, reader: R) -> Result<Self, CaptureFault>
         ensures begun { IfOk result (λ capture. (counts_of capture ≡ none_counted) × (stopped_by capture ≡ None)) }
@@ -74,16 +76,18 @@ enum Step {
 impl<R: BufRead> Capture<R> {
     /// The next frame, or none at the file's end.
     ///
-    /// Of a file of the format pcap the frame is that of the record at the front of what was left, and at the end nothing
-    /// was left, where the reader tells what is left.
+    /// Where the reader tells its octets, the calls give one after another what those octets give by the file's format
+    /// (`recording` of `specs/Recordings.antt`): its frames in order, and at last its end, or what is wrong and where. What
+    /// a call leaves to come is what the next call begins with; `laws::calls_give_the_recording` says it of any number of calls.
+    /// A frame that is given is counted, and nothing else is.
     ///
-    /// Errors: what is wrong with the file, and where the header, the block or the record begins that is. What was
-    /// read before stays valid; each later call gives the same fault.
+    /// Errors: what is wrong with the file, and where the header, the block or the record begins that is; Device and
+    /// OutOfMemory, which no octet tells. What was read before stays valid; each later call gives the same fault.
     pub fn next(&mut self) -> Result<Option<Record<'_>>, CaptureFault>
         ensures stopped { IfSome (stopped_by self.old) (λ fault. result ≡ Err fault) }
         ensures end { (header : PcapHeader) → IsPcap header self.old → IfOk result (λ found. IfNone found (IfSome (left_in R.Read.remaining self.old) (λ octets. octets ≡ []))) }
         ensures given { (header : PcapHeader) → IsPcap header self.old → IfOk result (λ found. IfSome found (λ given. GivesRecord header given.moment (map_ok sent_of given.content) (left_in R.Read.remaining self.old))) }
-        ensures* rests { sem 𝓛 (Rests (the_row R.row) self.entry (λ new. Gives (map_ok (λ found. option_map shown_of found) result) (to_come R.Read.remaining self.old) (to_come R.Read.remaining new))) }
+        ensures* rests { sem 𝓛 (Rests (the_row R.row) self.entry (λ new. GivesNext R.Read.remaining (map_ok (λ found. option_map shown_of found) result) self.old new)) }
         ensures told { GivesFirst (map_ok (λ found. option_map shown_of found) result) (to_come R.Read.remaining self.old) }
     {
         match self.advance() {
@@ -115,6 +119,7 @@ impl<R: BufRead> Capture<R> {
         ensures stopped { IfSome (stopped_by self.old) (λ fault. result ≡ Err fault) }
         ensures end { (header : PcapHeader) → IsPcap header self.old → IfOk result (λ found. IfNone found (IfSome (left_in R.Read.remaining self.old) (λ octets. octets ≡ []))) }
         ensures given { (header : PcapHeader) → IsPcap header self.old → IfOk result (λ found. IfSome found (λ frame. ReadsRecord header frame self.new.pieces.moment (left_in R.Read.remaining self.old) (left_in R.Read.remaining self.new) self.new.pieces.buffer.octets.items)) }
+        ensures counts { self.new.counts ≡ self.old.counts }
         ensures told { Gives (map_ok (λ found. option_map (λ frame. frame_shown frame self.new.pieces) found) result) (to_come R.Read.remaining self.old) (to_come R.Read.remaining self.new) }
     {
         if let Some(fault) = self.stopped {
@@ -135,6 +140,7 @@ impl<R: BufRead> Capture<R> {
     fn step(&mut self) -> Result<Step, FaultKind>
         requires { self.old.stopped ≡ None }
         ensures going { self.new.stopped ≡ None }
+        ensures counts { self.new.counts ≡ self.old.counts }
         ensures record { (header : PcapHeader) → IsPcap header self.old → IfOk result (λ step. StepReads header step (left_in R.Read.remaining self.old) (left_in R.Read.remaining self.new) self.new.pieces) }
         ensures told { Steps result self.new.mark self.new.pieces (to_come R.Read.remaining self.old) (to_come R.Read.remaining self.new) }
     {
@@ -154,6 +160,7 @@ impl<R: BufRead> Capture<R> {
     fn stop(&mut self, kind: FaultKind) -> CaptureFault
         ensures fault { result ≡ record { at = self.old.mark; kind = kind } }
         ensures stopped { self.new.stopped ≡ Some (record { at = self.old.mark; kind = kind }) }
+        ensures counts { self.new.counts ≡ self.old.counts }
     {
         let fault = CaptureFault {
             at: self.mark,

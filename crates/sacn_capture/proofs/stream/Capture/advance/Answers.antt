@@ -1,4 +1,4 @@
-use Rattle.std.proofs.Common.{sym, subst}
+use Rattle.std.proofs.Common.{sym, subst, ◌∙◌}
 use Rattle.sacn_capture.proofs.Told.{stays_on}
 use Rattle.sacn_capture.specs.declared.stream.Capture.{Capture}
 use Rattle.sacn_capture.specs.declared.stream.Step.TheVariants.{Ended, Found}
@@ -26,4 +26,5 @@ loop-preserved g c = (
       c.loop.invariant.1 (rw c.in-Ok-Nothing.field-0-is at c.in-Ok-Nothing.ensures.told),
   λ header is.
       absurd (rw c.in-Ok-Nothing.field-0-is at (c.in-Ok-Nothing.ensures.record header (subst (λ (s : Capture _). IsPcap header s) (sym (c.loop.invariant.2 header is)) is))),
+  c.in-Ok-Nothing.ensures.counts ∙ c.loop.invariant.3,
 )
