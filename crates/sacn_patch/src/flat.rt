@@ -6,7 +6,6 @@ ghost use Rattle.sacn_patch.specs.Flat.{Row, Sorted, AllBelow, is_within};
 use crate::level::{LevelOf, RestOf};
 use crate::limits::SLOTS;
 use crate::part::{Part, byte_of};
-use crate::patch::level_once;
 use std::marker::Model;
 
 /// A patch that takes no more slots: its entries stand in one row, so that a frame costs little more
@@ -37,22 +36,20 @@ impl Model for FlatPatch {
 impl FlatPatch {
     ghost use Rattle.sacn_patch.specs.Patch.{universe_frame, EachShown};
 
-    /// Writes the slots of a universe as `Patch::fill` does.
+    /// Writes the slots of a universe as `Patch::fill` does. It asks for a level once for each slot that
+    /// is patched in the universe.
     pub fn fill<L: LevelOf>(&self, universe: u16, levels: &L, slots: &mut [u8; SLOTS])
         ensures { slots.new ≡ universe_frame (L.level levels.now) self.now universe }
     {
         slots.fill(0);
         let row = self.row.as_slice();
-        let mut asked = None;
         for place in start_of(row, universe)..row.len() {
             let (at, part) = row[place];
             if universe < at.0 {
                 return;
             }
             if is_within(at, universe) {
-                let level = level_once(asked, part.channel, levels);
-                asked = Some((part.channel, level));
-                slots[at.1 as usize - 1] = byte_of(part, level);
+                slots[at.1 as usize - 1] = byte_of(part, levels.level_of(part.channel));
             }
         }
     }

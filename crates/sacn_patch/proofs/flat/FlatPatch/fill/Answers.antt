@@ -13,7 +13,6 @@ loop-place-init g c =
     let zeros : c.fill.new.self ≡ replicate 512 0 = c.fill.ensures.after (λ y same. same) ∙ ap {B = List ℕ} (λ n. replicate n 0) long in
     record {
       told = ap (λ (es : Row). written level es c.fill.new.self) (skip_below c.args.universe c.start_of-place.result c.as_slice-row.result.now c.start_of-place.ensures.below) ∙ ap (written level (of_universe c.args.universe c.as_slice-row.result.now)) zeros;
-      asked = λ x never. absurd (cc);
     }
 
 pub returns-then-universe-at : goal.returns-then-universe-at
