@@ -8,7 +8,7 @@ ghost use Rattle.sacn_cues.specs.Targets.{aimed_everywhere};
 ghost use Rattle.std.specs.FinMap.{entries};
 
 use crate::channel::is_channel;
-use crate::fade::{Fade, Times, begin_all, fill_levels, set_one};
+use crate::fade::{Fade, Times, begin_all, fill_octets, set_one};
 use crate::list::CueList;
 use crate::scene::Scene;
 use sacn_patch::MAX_CHANNELS;
@@ -43,11 +43,12 @@ impl Model for Fades {
 
 impl Fades {
     ghost use Rattle.std.specs.Prelude.{◌≡◌, ◌≤◌, ◌<◌, true};
-    ghost use Rattle.std.specs.Prelude.{ℕ, ◌*◌, ◌/◌, ◌-◌, get_or};
-    ghost use Rattle.sacn_patch.specs.declared.limits.TheConstants.{MAX_CHANNELS};
+    ghost use Rattle.std.specs.Prelude.{◌*◌, ◌/◌};
+    ghost use Rattle.sacn_patch.specs.Parts.{AreOctets};
+    ghost use Rattle.sacn_cues.specs.declared.shown.TheConstants.{OCTETS};
     ghost use Rattle.sacn_cues.specs.declared.limits.TheConstants.{FULL};
     ghost use Rattle.sacn_cues.specs.Levels.{last_moment, StaysLit, StaysAt};
-    ghost use Rattle.sacn_cues.specs.Shown.{zeros_of};
+    ghost use Rattle.sacn_cues.specs.Shown.{zeros_of, IsBlankBefore};
 
     /// The fades of channels that all rest at level 0.
     pub(crate) fn new(alloc: Global) -> Result<Fades, AllocError>
@@ -106,13 +107,15 @@ impl Fades {
         self.rest = self.rest.max(now);
     }
 
-    /// Writes the level of each channel at a moment, after the master.
-    pub(crate) fn fill_levels(&self, now: u64, master: u16, levels: &mut [u16])
-        requires { length levels.old ≡ MAX_CHANNELS }
-        ensures length { length levels.new ≡ MAX_CHANNELS }
-        ensures levels { (channel : ℕ) → is_channel channel ≡ true → get_or levels.new (channel - 1) 0 ≡ level_at self.now.fades channel now * master / FULL }
+    /// Writes the octets of the level of each channel at a moment, after the master.
+    pub(crate) fn fill_octets(&self, now: u64, master: u16, octets: &mut [u8])
+        requires length { length octets.old ≡ OCTETS }
+        requires before { IsBlankBefore octets.old }
+        ensures length { length octets.new ≡ OCTETS }
+        ensures before { IsBlankBefore octets.new }
+        ensures levels { AreOctets (λ channel. level_at self.now.fades channel now * master / FULL) octets.new }
     {
-        fill_levels(&self.fades, now, master, levels);
+        fill_octets(&self.fades, now, master, octets);
     }
 
     /// The level of a channel at a moment, 0 outside the channels.

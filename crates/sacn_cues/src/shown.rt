@@ -1,17 +1,18 @@
 //! The levels of all channels at one moment.
-ghost use Rattle.std.specs.Prelude.{◌≡◌, ◌*◌, ◌/◌, ◌-◌, length, get_or, if◌then◌else◌};
-ghost use Rattle.sacn_patch.specs.declared.limits.TheConstants.{MAX_CHANNELS};
+ghost use Rattle.std.specs.Prelude.{◌≡◌, ◌<◌, ◌+◌, ◌*◌, ◌/◌, ◌%◌, length, set};
 ghost use Rattle.sacn_cues.specs.declared.limits.TheConstants as limits;
-ghost use Rattle.sacn_cues.specs.Channels.{is_channel};
 
-use crate::channel::is_channel;
 use crate::limits::FULL;
+use sacn_patch::MAX_CHANNELS;
 
-/// Room for the level of each channel after the master, and whether they stand in it.
+/// The places of the octets of all levels: two for each channel, and two before them.
+pub(crate) const OCTETS: usize = 2 * MAX_CHANNELS as usize + 2;
+
+/// Room for the octets of all levels after the master, and whether they stand in it.
 #[derive(Drop)]
 pub(crate) struct Shown {
-    // Place i is for channel i + 1.
-    pub(crate) levels: Vec<u16>,
+    // Those of channel c at 2 c and 2 c + 1, the high one first, and 0 before them.
+    pub(crate) octets: Vec<u8>,
     pub(crate) is_ready: bool,
 }
 
@@ -22,14 +23,11 @@ pub(crate) fn mastered(level: u16, master: u16) -> u16
     (level as u32 * master as u32 / FULL as u32) as u16
 }
 
-/// The level that stands there for a channel, 0 outside the channels.
-pub(crate) fn level_in_place(levels: &[u16], channel: u16) -> u16
-    requires { length levels.now ≡ MAX_CHANNELS }
-    ensures { result ≡ (if is_channel channel then get_or levels.now (channel - 1) 0 else 0) }
+/// Writes the octets of a channel's level; channels count from 0 here.
+pub(crate) fn put_level(octets: &mut [u8], at: usize, level: u16)
+    requires { 2 * at + 3 < length octets.old }
+    ensures { octets.new ≡ set (set octets.old (2 * at + 2) (level / 256)) (2 * at + 3) (level % 256) }
 {
-    if is_channel(channel) {
-        levels[channel as usize - 1]
-    } else {
-        0
-    }
+    octets[2 * at + 2] = (level / 256) as u8;
+    octets[2 * at + 3] = (level % 256) as u8;
 }

@@ -104,7 +104,10 @@ impl Patch {
                 Err(_) => return Err(PatchFault::OutOfMemory),
             }
         }
-        Ok(FlatPatch { row })
+        match FlatPatch::of(alloc, row) {
+            Ok(flat) => Ok(flat),
+            Err(_) => Err(PatchFault::OutOfMemory),
+        }
     }
 
     /// Writes the slots of a universe, each in its place: slot `s` at index `s - 1`. A slot that

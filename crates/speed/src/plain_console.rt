@@ -175,7 +175,7 @@ impl PlainConsole {
             self.light(now);
         }
         for place in self.from..self.lines.len() {
-            let line = &mut self.lines[place];
+            let line = self.lines.get_mut(place)?;
             if !line.has_passed(25, now) {
                 continue;
             }
