@@ -1,12 +1,11 @@
 -- The octets of all levels in one row.
-use Rattle.std.proofs.Common.{◌≡◌, ℕ, suc, ◌+◌, ◌-◌, ◌*◌, ◌/◌, ◌%◌, ◌<◌, ◌≤◌, Bool, true, false, List, length, set, get_or, refl, sym, ap, ◌∙◌, arith, inl, inr, if◌then◌else◌}
+use Rattle.std.proofs.Common.{◌≡◌, ℕ, ◌+◌, ◌-◌, ◌*◌, ◌/◌, ◌%◌, ◌<◌, Bool, true, false, List, length, set, get_or, refl, sym, ap, ◌∙◌, arith, inl, inr, if◌then◌else◌}
 use Rattle.std.proofs.lemmas.Bool.{cases_eq}
 use Rattle.std.proofs.lemmas.Bool.Decides.{nat_tests}
 use Rattle.std.proofs.lemmas.List.{length-set, get_or-set_same, get_or-set_other, get_or_past}
-use Rattle.sacn_patch.specs.declared.part.Part.{Part}
 use Rattle.sacn_patch.specs.declared.part.LevelByte.{LevelByte}
 use Rattle.sacn_patch.specs.declared.part.LevelByte.TheVariants.{High, Low}
-use Rattle.sacn_patch.specs.Parts.{AreOctets, octet_place, place_in_pair, byte_of_level}
+use Rattle.sacn_patch.specs.Parts.{AreOctets, place_in_pair, byte_of_level}
 use Rattle.sacn_cues.specs.declared.limits.TheConstants.{FULL}
 use Rattle.sacn_cues.specs.Channels.{is_channel}
 use Rattle.sacn_cues.specs.Levels.{Ramp, level_in, level_at, still}

@@ -6,9 +6,9 @@ use Rattle.std.proofs.lemmas.List.{length-append, get_or-map, get_or_append_left
 use Rattle.sacn_patch.specs.declared.part.Part.{Part}
 use Rattle.sacn_patch.specs.declared.part.LevelByte.TheVariants.{High}
 use Rattle.sacn_patch.specs.declared.flat.Mark.{Mark}
-use Rattle.sacn_patch.specs.Parts.{AreOctets, octet_place, part_of_level}
+use Rattle.sacn_patch.specs.Parts.{AreOctets}
 use Rattle.sacn_patch.specs.Patch.{Place}
-use Rattle.sacn_patch.specs.Flat.{Row, AllBelow, AllFrom, IsStart, AreStarts, is_within, mark_of}
+use Rattle.sacn_patch.specs.Flat.{Row, AllBelow, AllFrom, IsStart, AreStarts, mark_of}
 use Rattle.sacn_patch.proofs.Fills.{written, of_universe}
 use Rattle.sacn_patch.proofs.Rows.{step_taken, step_skipped, skipped, outside, higher_out}
 

@@ -13,7 +13,7 @@ use Rattle.std.proofs.lemmas.Bool.Decides.{nat_tests}
 use Rattle.std.proofs.lemmas.Cmp.{ranked}
 use Rattle.sacn_patch.specs.declared.part.Part.{Part}
 use Rattle.sacn_patch.specs.Patch.{Place, place_cmp, universe_frame}
-use Rattle.sacn_patch.specs.Flat.{Row, Sorted, AllBelow, AllFrom, IsStart, AreStarts, is_within}
+use Rattle.sacn_patch.specs.Flat.{Row, Sorted, AllBelow, AllFrom, is_within}
 use Rattle.sacn_patch.proofs.Fills.{written, of_universe, frame_written}
 
 -- ---- order

@@ -1,4 +1,4 @@
-use Rattle.std.proofs.Common.{rules, ◌≡◌, ◌<◌, ◌+◌, ◌-◌, List, ℕ, length, replicate, set, map, drop, get_or, sym, ap, ◌∙◌, arith}
+use Rattle.std.proofs.Common.{rules, ◌≡◌, ◌<◌, ◌+◌, ◌-◌, List, ℕ, length, replicate, set, map, drop, sym, ap, ◌∙◌, arith}
 use Rattle.std.specs.FinMap.{from_entries}
 use Rattle.sacn_patch.specs.Patch.{Patched, universe_frame}
 use Rattle.sacn_patch.specs.Flat.{Row, mark_of}
