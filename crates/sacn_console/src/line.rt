@@ -82,7 +82,10 @@ fn same(a: &[u8; SLOTS], b: &[u8; SLOTS]) -> bool
 fn fill(patch: &FlatPatch, player: &PlayerAt<'_>, universe: u16, slots: &mut [u8; SLOTS])
     ensures { slots.new ≡ frame_now (record { patch = patch.now; player = player.now.player.now }) universe }
 {
-    patch.fill(universe, player, slots);
+    match player.octets() {
+        Some(octets) => patch.fill_octets(universe, octets, slots),
+        None => patch.fill(universe, player, slots),
+    }
 }
 
 // Whether none of the channels that the universe shows fades.

@@ -4,9 +4,11 @@ ghost use Rattle.sacn_cues.specs.Cues.{level_of_channel, level_tracked};
 ghost use Rattle.sacn_cues.specs.Levels.{all_begun, given_to, set_to, end_of, all_still, level_at};
 ghost use Rattle.sacn_cues.specs.Channels.{is_channel};
 ghost use Rattle.sacn_cues.specs.Playing.{longer};
+ghost use Rattle.sacn_cues.specs.Targets.{aimed_everywhere};
+ghost use Rattle.std.specs.FinMap.{entries};
 
 use crate::channel::is_channel;
-use crate::fade::{Fade, Times, set_one};
+use crate::fade::{Fade, Times, begin_all, fill_octets, set_one};
 use crate::list::CueList;
 use crate::scene::Scene;
 use sacn_patch::MAX_CHANNELS;
@@ -41,7 +43,12 @@ impl Model for Fades {
 
 impl Fades {
     ghost use Rattle.std.specs.Prelude.{◌≡◌, ◌≤◌, ◌<◌, true};
+    ghost use Rattle.std.specs.Prelude.{◌*◌, ◌/◌};
+    ghost use Rattle.sacn_patch.specs.Parts.{AreOctets};
+    ghost use Rattle.sacn_cues.specs.declared.shown.TheConstants.{OCTETS};
+    ghost use Rattle.sacn_cues.specs.declared.limits.TheConstants.{FULL};
     ghost use Rattle.sacn_cues.specs.Levels.{last_moment, StaysLit, StaysAt};
+    ghost use Rattle.sacn_cues.specs.Shown.{zeros_of, IsBlankBefore};
 
     /// The fades of channels that all rest at level 0.
     pub(crate) fn new(alloc: Global) -> Result<Fades, AllocError>
@@ -67,11 +74,27 @@ impl Fades {
 
     /// Begins the fades of all channels that the list names, in the times of one cue, to their
     /// levels as if all cues up to this number had been played.
-    pub(crate) fn play_to(&mut self, cues: &CueList, number: u16, scene: &Scene, now: u64)
+    pub(crate) fn play_to(
+        &mut self,
+        cues: &CueList,
+        zeros: &[Option<u16>],
+        number: u16,
+        scene: &Scene,
+        now: u64,
+    )
+        requires { zeros.now ≡ zeros_of cues.now }
         ensures { self.new ≡ record { rest = max self.old.rest (end_of now (longer scene.now)); fades = all_begun (λ channel. given_to scene.now.up scene.now.down (level_tracked number cues.now channel)) now 1 self.old.fades } }
     {
         let times = scene.times();
-        play_list(cues, number, times, &mut self.targets, &mut self.fades, now);
+        play_list(
+            cues,
+            zeros,
+            number,
+            times,
+            &mut self.targets,
+            &mut self.fades,
+            now,
+        );
         self.rest = rest_after(self.rest, now, scene.longer());
     }
 
@@ -82,6 +105,17 @@ impl Fades {
     {
         set_one(&mut self.fades, channel, level, now);
         self.rest = self.rest.max(now);
+    }
+
+    /// Writes the octets of the level of each channel at a moment, after the master.
+    pub(crate) fn fill_octets(&self, now: u64, master: u16, octets: &mut [u8])
+        requires length { length octets.old ≡ OCTETS }
+        requires before { IsBlankBefore octets.old }
+        ensures length { length octets.new ≡ OCTETS }
+        ensures before { IsBlankBefore octets.new }
+        ensures levels { AreOctets (λ channel. level_at self.now.fades channel now * master / FULL) octets.new }
+    {
+        fill_octets(&self.fades, now, master, octets);
     }
 
     /// The level of a channel at a moment, 0 outside the channels.
@@ -129,19 +163,21 @@ fn play_scene(scene: &Scene, targets: &mut [Option<u16>], fades: &mut [Fade], no
 // Begins the fades of the channels that a list names. The targets are room, and left empty.
 fn play_list(
     cues: &CueList,
+    zeros: &[Option<u16>],
     number: u16,
     times: Times,
     targets: &mut [Option<u16>],
     fades: &mut [Fade],
     now: u64,
 )
-    requires { targets.old ≡ replicate (length fades.old) None }
+    requires room { targets.old ≡ replicate (length fades.old) None }
+    requires zeros { zeros.now ≡ aimed_everywhere (entries cues.now) targets.old }
     ensures targets { targets.new ≡ targets.old }
     ensures fades { fades.new ≡ all_begun (λ channel. given_to times.up times.down (level_tracked number cues.now channel)) now 1 fades.old }
 {
-    cues.aim_everywhere(targets);
+    targets.copy_from_slice(zeros);
     cues.aim_upto(number, targets);
-    cues.begin_everywhere(targets, fades, times, now);
+    begin_all(targets, fades, times, now);
 }
 
 // The moment from which the fades rest, once one of this time begins.

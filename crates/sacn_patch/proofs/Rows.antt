@@ -13,7 +13,7 @@ use Rattle.std.proofs.lemmas.Bool.Decides.{nat_tests}
 use Rattle.std.proofs.lemmas.Cmp.{ranked}
 use Rattle.sacn_patch.specs.declared.part.Part.{Part}
 use Rattle.sacn_patch.specs.Patch.{Place, place_cmp, universe_frame}
-use Rattle.sacn_patch.specs.Flat.{Row, Sorted, AllBelow, is_within}
+use Rattle.sacn_patch.specs.Flat.{Row, Sorted, AllBelow, AllFrom, is_within}
 use Rattle.sacn_patch.proofs.Fills.{written, of_universe, frame_written}
 
 -- ---- order
@@ -45,9 +45,16 @@ keys_sorted row (m, is, ordered) = rw (sym is) ordered
 lower_still : (a b u : ℕ) → a ≤ b → b < u → a < u
 lower_still a b u le lt = omega (arith, le, lt)
 
+higher_still : (a b u : ℕ) → a ≤ b → u ≤ a → u ≤ b
+higher_still a b u le high = omega (arith, le, high)
+
 -- what a look in the middle of the row tells
 pub below_more : (universe middle : ℕ) (row : Row) (e : Place × Part) → Sorted row → middle < length row → (get_or row middle e).0.0 < universe → AllBelow universe row (middle + 1)
 below_more universe middle row e sorted lt low = λ i d within _. lower_still (get_or row i d).0.0 (get_or row middle e).0.0 universe (ascends row (keys_sorted row sorted) i middle d e (omega (arith, within)) lt) low
+
+-- and what it tells where the universe there is not lower
+pub from_more : (universe middle : ℕ) (row : Row) (e : Place × Part) → Sorted row → universe ≤ (get_or row middle e).0.0 → AllFrom universe row middle
+from_more universe middle row e sorted high = λ i d within lt. higher_still (get_or row middle e).0.0 (get_or row i d).0.0 universe (ascends row (keys_sorted row sorted) middle i e d within lt) high
 
 -- ---- slots of the universe
 
@@ -59,16 +66,16 @@ range_by Equal u v s is = let e : u ≡ v = ranked u v Equal (sym is) in grind (
 in_range_is : (u : ℕ) (k : Place) → range_contains place_cmp (Included (u, 1)) (Included (u, 512)) k ≡ is_within u k
 in_range_is u k = range_by (nat_cmp u k.0) u k.0 k.1 refl
 
-outside : (u : ℕ) (k : Place) → (k.0 == u) ≡ false → is_within u k ≡ false
+pub outside : (u : ℕ) (k : Place) → (k.0 == u) ≡ false → is_within u k ≡ false
 outside u k e = rw e refl
 
 lower_out : (v u : ℕ) → v < u → (v == u) ≡ false
 lower_out v u lt = grind arith
 
-higher_out : (v u : ℕ) → u < v → (v == u) ≡ false
+pub higher_out : (v u : ℕ) → u < v → (v == u) ≡ false
 higher_out v u lt = grind arith
 
-skipped : (u : ℕ) (e : Place × Part) (es : Row) → is_within u e.0 ≡ false → of_universe u (e ∷ es) ≡ of_universe u es
+pub skipped : (u : ℕ) (e : Place × Part) (es : Row) → is_within u e.0 ≡ false → of_universe u (e ∷ es) ≡ of_universe u es
 skipped u e es out = rw (in_range_is u e.0, out) refl
 
 taken : (u : ℕ) (e : Place × Part) (es : Row) → is_within u e.0 ≡ true → of_universe u (e ∷ es) ≡ e ∷ of_universe u es

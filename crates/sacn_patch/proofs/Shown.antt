@@ -1,6 +1,5 @@
 -- What holds of each channel that a universe shows.
-use Rattle.std.proofs.Common.{◌≡◌, ℕ, ◌+◌, ◌-◌, ◌≤◌, ◌<◌, Bool, true, false, cond, List, [], ◌∷◌, length, get_or, drop, Option, Some, refl, sym, ap, ◌∙◌, arith}
-use Rattle.std.specs.BTreeMap as tree
+use Rattle.std.proofs.Common.{◌≡◌, ℕ, ◌+◌, ◌-◌, ◌<◌, Bool, true, false, cond, [], ◌∷◌, length, get_or, drop, Option, Some, sym, ◌∙◌, arith}
 use Rattle.std.specs.BTreeMap.{BTreeMap, is_at}
 use Rattle.std.specs.BTreeMap.Range.{range_contains}
 use Rattle.std.specs.declared.ops.Bound.TheVariants.{Included}
@@ -13,7 +12,7 @@ use Rattle.sacn_patch.specs.Patch.{Place, Patched, place_cmp, EachShown}
 use Rattle.sacn_patch.specs.Flat.{Row, Sorted, AllBelow, is_within}
 use Rattle.sacn_patch.proofs.Maps.{place_total, place_exact, view_get}
 use Rattle.sacn_patch.proofs.Fills.{Parts, of_universe, in_range}
-use Rattle.sacn_patch.proofs.Rows.{skip_below, none_above, none_after, step_skipped, step_taken}
+use Rattle.sacn_patch.proofs.Rows.{skip_below, step_skipped, step_taken}
 
 abbrev pub EachOf : (ℕ → Type 0) → Parts → Type 0
 EachOf P [] = Unit {0}

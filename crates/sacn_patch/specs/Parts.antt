@@ -1,5 +1,5 @@
 -- Which octet of a level a slot shows.
-use Rattle.std.specs.Prelude.{◌≡◌, ℕ, ◌/◌, ◌%◌, Bool, true, false, refl}
+use Rattle.std.specs.Prelude.{◌≡◌, ℕ, ◌+◌, ◌*◌, ◌/◌, ◌%◌, Bool, true, false, List, get_or, refl}
 use Rattle.std.proofs.Common.{ap}
 use Rattle.std.specs.Coded.{Coded, code_by, coded×, coded_ℕ, coded_bool}
 use Rattle.sacn_patch.specs.declared.part.Part.{Part}
@@ -19,6 +19,20 @@ high_part channel = record { channel = channel; byte = High }
 
 abbrev pub low_part : ℕ → Part
 low_part channel = record { channel = channel; byte = Low }
+
+-- ---- octets of all levels in one row
+
+abbrev pub place_in_pair : LevelByte → ℕ
+place_in_pair High = 0
+place_in_pair Low = 1
+
+-- the octets of channel c stand at 2 c and 2 c + 1, the high one first
+abbrev pub octet_place : Part → ℕ
+octet_place part = 2 * part.channel + place_in_pair part.byte
+
+-- the octets of each channel's level stand in their places, 0 where the row has none
+abbrev pub AreOctets : (ℕ → ℕ) → List ℕ → Type 0
+AreOctets level octets = (part : Part) → get_or octets (octet_place part) 0 ≡ part_of_level (level part.channel) part
 
 -- ---- codes
 

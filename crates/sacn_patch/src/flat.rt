@@ -1,13 +1,21 @@
 //! A patch in one row.
-ghost use Rattle.std.specs.Prelude.{◌≡◌, ◌<◌, ◌≤◌, ℕ, length, slice_index_or, true};
+ghost use Rattle.std.specs.Prelude.{◌≡◌, ◌<◌, ◌≤◌, ◌&&◌, nat_le, ℕ, length, slice_index_or, map, get_or, true, IfOk};
 ghost use Rattle.sacn_patch.specs.declared.limits.TheConstants as limits;
-ghost use Rattle.sacn_patch.specs.Flat.{Row, Sorted, AllBelow, is_within};
+ghost use Rattle.sacn_patch.specs.Flat.{Row, Sorted, AllBelow, AllFrom, IsStart, AreStarts, is_within, mark_of};
 
 use crate::level::{LevelOf, RestOf};
 use crate::limits::SLOTS;
-use crate::part::{Part, byte_of};
-use crate::patch::level_once;
+use crate::part::{Part, byte_of, octet_place};
+use std::alloc::{AllocError, Global};
 use std::marker::Model;
+
+/// What a slot shows, for those that have the octets of all levels in one row.
+#[derive(Clone, Copy)]
+pub(crate) struct Mark {
+    pub(crate) slot: u16,
+    // Where the octet stands in that row.
+    pub(crate) octet: u32,
+}
 
 /// A patch that takes no more slots: its entries stand in one row, so that a frame costs little more
 /// than its levels.
@@ -16,12 +24,17 @@ use std::marker::Model;
 #[derive(Drop)]
 pub struct FlatPatch {
     // By universe, then by slot.
-    pub(crate) row: Vec<((u16, u16), Part)>,
+    row: Vec<((u16, u16), Part)>,
+    // For each entry of the row its mark.
+    marks: Vec<Mark>,
+    // For each universe up to the greatest one where it begins in the row, so that none is searched.
+    starts: Vec<usize>,
 }
 
 impl Model for FlatPatch {
     ghost use Rattle.sacn_patch.specs.Patch.{Patched, patch_code};
-    ghost use Rattle.sacn_patch.specs.Flat.{Sorted};
+    ghost use Rattle.std.specs.Prelude.{◌≡◌, map};
+    ghost use Rattle.sacn_patch.specs.Flat.{Sorted, AreStarts, mark_of};
 
     ghost Value = { Patched };
 
@@ -31,28 +44,59 @@ impl Model for FlatPatch {
 
     ghost view = { λ p. from_entries p.row.items };
 
-    ghost invariant = { λ p. Sorted p.row.items };
+    ghost invariant = { λ p. Sorted p.row.items × (p.marks.items ≡ map mark_of p.row.items) × AreStarts p.row.items p.starts.items };
 }
 
 impl FlatPatch {
     ghost use Rattle.sacn_patch.specs.Patch.{universe_frame, EachShown};
+    ghost use Rattle.sacn_patch.specs.Parts.{AreOctets};
+    ghost use Rattle.std.specs.FinMap.{from_entries};
 
-    /// Writes the slots of a universe as `Patch::fill` does.
+    /// A patch of these entries.
+    pub(crate) fn of(alloc: Global, row: Vec<((u16, u16), Part)>) -> Result<Self, AllocError>
+        requires { Sorted row.items }
+        ensures { IfOk result (λ flat. flat ≡ from_entries row.items) }
+    {
+        let marks = marks_of(alloc, &row)?;
+        let starts = starts_of(alloc, &row)?;
+        Ok(FlatPatch { row, marks, starts })
+    }
+
+    /// Writes the slots of a universe as `Patch::fill` does. It asks for a level once for each slot that
+    /// is patched in the universe.
     pub fn fill<L: LevelOf>(&self, universe: u16, levels: &L, slots: &mut [u8; SLOTS])
         ensures { slots.new ≡ universe_frame (L.level levels.now) self.now universe }
     {
         slots.fill(0);
         let row = self.row.as_slice();
-        let mut asked = None;
-        for place in start_of(row, universe)..row.len() {
+        for place in start_of(row, universe as u32)..row.len() {
             let (at, part) = row[place];
             if universe < at.0 {
                 return;
             }
             if is_within(at, universe) {
-                let level = level_once(asked, part.channel, levels);
-                asked = Some((part.channel, level));
-                slots[at.1 as usize - 1] = byte_of(part, level);
+                slots[at.1 as usize - 1] = byte_of(part, levels.level_of(part.channel));
+            }
+        }
+    }
+
+    /// Writes the slots of a universe as `fill` does, of levels whose octets stand in one row: those of
+    /// channel c at 2 c and 2 c + 1, the high one first, and none or 0 outside the channels.
+    pub fn fill_octets(&self, universe: u16, octets: &[u8], slots: &mut [u8; SLOTS])
+        ensures { (level : ℕ → ℕ) → AreOctets level octets.now → slots.new ≡ universe_frame level self.now universe }
+    {
+        slots.fill(0);
+        let row = self.row.as_slice();
+        let starts = self.starts.as_slice();
+        let marks = self.marks.as_slice();
+        let start = start_in(starts, row, universe as u32);
+        let end = start_in(starts, row, universe as u32 + 1);
+        for place in start..end {
+            // The marks are those of this row.
+            let _row = row;
+            let mark = marks[place];
+            if is_slot(mark.slot) {
+                slots[mark.slot as usize - 1] = octet_at(octets, mark.octet);
             }
         }
     }
@@ -63,7 +107,7 @@ impl FlatPatch {
         ensures { result ≡ true → EachShown self.now universe (R.stays levels.now) }
     {
         let row = self.row.as_slice();
-        for place in start_of(row, universe)..row.len() {
+        for place in start_of(row, universe as u32)..row.len() {
             let (at, part) = row[place];
             if at.0 > universe {
                 return true;
@@ -86,10 +130,77 @@ fn is_within(at: (u16, u16), universe: u16) -> bool
     at.0 == universe && 1 <= at.1 && at.1 as usize <= SLOTS
 }
 
-// A place in the row before which all universes are lower.
-fn start_of(row: &[((u16, u16), Part)], universe: u16) -> usize
+// Whether this is the number of a slot.
+fn is_slot(slot: u16) -> bool
+    ensures slot { result ≡ (nat_le 1 slot && nat_le slot limits.SLOTS) }
+    ensures range { result ≡ true → (1 ≤ slot) × (slot ≤ limits.SLOTS) }
+{
+    1 <= slot && slot as usize <= SLOTS
+}
+
+// The octet at a place, 0 past the end.
+fn octet_at(octets: &[u8], place: u32) -> u8
+    ensures { result ≡ get_or octets.now place 0 }
+{
+    if (place as usize) < octets.len() {
+        octets[place as usize]
+    } else {
+        0
+    }
+}
+
+// The mark of each entry.
+fn marks_of(alloc: Global, row: &[((u16, u16), Part)]) -> Result<Vec<Mark>, AllocError>
+    ensures { IfOk result (λ v. v.items ≡ map mark_of row.now) }
+{
+    let mut marks = Vec::new(alloc);
+    for &(at, part) in row {
+        marks.push(Mark {
+            slot: at.1,
+            octet: octet_place(part),
+        })?;
+    }
+    Ok(marks)
+}
+
+// Where each universe begins in the row, up to the one after the greatest.
+fn starts_of(alloc: Global, row: &[((u16, u16), Part)]) -> Result<Vec<usize>, AllocError>
+    requires { Sorted row.now }
+    ensures { IfOk result (λ v. AreStarts row.now v.items) }
+{
+    let mut starts = Vec::new(alloc);
+    for universe in 0..universes_before(row) {
+        starts.push(start_of(row, universe))?;
+    }
+    Ok(starts)
+}
+
+// How many numbers there are up to the one after the greatest universe.
+fn universes_before(row: &[((u16, u16), Part)]) -> u32 {
+    match row.last() {
+        Some(&(at, _)) => at.0 as u32 + 2,
+        None => 0,
+    }
+}
+
+// Where a universe begins in the row.
+fn start_in(starts: &[usize], row: &[((u16, u16), Part)], universe: u32) -> usize
+    requires sorted { Sorted row.now }
+    requires starts { AreStarts row.now starts.now }
+    ensures { IsStart universe row.now result }
+{
+    if (universe as usize) < starts.len() {
+        starts[universe as usize]
+    } else {
+        start_of(row, universe)
+    }
+}
+
+// Where a universe begins in the row, by a search.
+fn start_of(row: &[((u16, u16), Part)], universe: u32) -> usize
     requires { Sorted row.now }
     ensures below { AllBelow universe row.now result }
+    ensures from { AllFrom universe row.now result }
     ensures bound { result ≤ length row.now }
 {
     let mut low = 0;
@@ -97,7 +208,7 @@ fn start_of(row: &[((u16, u16), Part)], universe: u16) -> usize
     while low < high {
         let middle = low + (high - low) / 2;
         let (at, _) = row[middle];
-        if at.0 < universe {
+        if (at.0 as u32) < universe {
             low = middle + 1;
         } else {
             high = middle;

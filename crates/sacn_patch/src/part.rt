@@ -1,6 +1,6 @@
 //! What one slot shows.
 ghost use Rattle.std.specs.Prelude.{◌≡◌};
-ghost use Rattle.sacn_patch.specs.Parts.{part_of_level, high_part, low_part};
+ghost use Rattle.sacn_patch.specs.Parts.{part_of_level, high_part, low_part, octet_place};
 
 /// Which octet of a level's sixteen bits a slot shows.
 #[derive(Clone, Copy)]
@@ -43,5 +43,15 @@ pub(crate) fn byte_of(part: Part, level: u16) -> u8
     match part.byte {
         LevelByte::High => (level / 256) as u8,
         LevelByte::Low => (level % 256) as u8,
+    }
+}
+
+/// Where that octet stands among the octets of all levels.
+pub(crate) fn octet_place(part: Part) -> u32
+    ensures { result ≡ octet_place part }
+{
+    match part.byte {
+        LevelByte::High => 2 * part.channel as u32,
+        LevelByte::Low => 2 * part.channel as u32 + 1,
     }
 }

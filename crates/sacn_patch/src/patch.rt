@@ -104,7 +104,10 @@ impl Patch {
                 Err(_) => return Err(PatchFault::OutOfMemory),
             }
         }
-        Ok(FlatPatch { row })
+        match FlatPatch::of(alloc, row) {
+            Ok(flat) => Ok(flat),
+            Err(_) => Err(PatchFault::OutOfMemory),
+        }
     }
 
     /// Writes the slots of a universe, each in its place: slot `s` at index `s - 1`. A slot that
@@ -181,7 +184,7 @@ impl Patch {
 }
 
 // The level of a channel. It is asked for only where another channel was asked for just before.
-pub(crate) fn level_once<L: LevelOf>(asked: Option<(u16, u16)>, channel: u16, levels: &L) -> u16
+fn level_once<L: LevelOf>(asked: Option<(u16, u16)>, channel: u16, levels: &L) -> u16
     requires { ForSome asked (λ p. p.1 ≡ L.level levels.now p.0) }
     ensures { result ≡ L.level levels.now channel }
 {

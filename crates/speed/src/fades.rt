@@ -1,5 +1,6 @@
 //! Consoles of which many universes fade.
 use crate::fault::SpeedFault;
+use crate::plain_console::PlainConsole;
 use crate::turn::{self, Turn};
 use sacn_console::{Command, ConsoleCore, read_show};
 use std::alloc::{AllocError, AllocGlobal, Global};
@@ -47,24 +48,55 @@ fn show_text(alloc: Global, universes: u16, slots: u16, fading: u16) -> Result<S
         text.push_str(&format!(in alloc; "[{channel}, 65535], ")?)?;
     }
     text.push_str("]\n")?;
-    let mut number = 0;
     for below in 0..universes {
         let universe = below + 1;
-        let first = if universe > universes / 2 {
-            1
-        } else {
-            HALF_WAY
-        };
         for before in 0..slots {
+            let channel = channel_of(universes, slots, below, before);
             let slot = before + 1;
-            let channel = first.wrapping_add(number);
             text.push_str(&format!(in alloc;
                 "[[patch]]\nchannel = {channel}\nuniverse = {universe}\nslot = {slot}\n"
             )?)?;
-            number = if number < 1023 { number + 1 } else { 0 };
         }
     }
     Ok(text)
+}
+
+/// The channel on a slot of a universe, both counted from 0, of so many universes of so many slots.
+fn channel_of(universes: u16, slots: u16, universe: u16, slot: u16) -> u16 {
+    let first = if universe < universes / 2 {
+        HALF_WAY
+    } else {
+        1
+    };
+    let before = u32::from(universe).wrapping_mul(u32::from(slots));
+    let number = before.wrapping_add(u32::from(slot)) % 1024;
+    first.wrapping_add(number as u16)
+}
+
+/// The same console by hand.
+fn plain(alloc: Global, universes: u16, slots: u16) -> Result<PlainFading, SpeedFault> {
+    let mut console = PlainConsole::new(alloc, CHANNELS, TIME)?;
+    for below in 0..universes {
+        console.add_universe(below + 1)?;
+        for before in 0..slots {
+            console.add_slot(channel_of(universes, slots, below, before), before + 1)?;
+        }
+    }
+    Ok(PlainFading {
+        console,
+        now: 0,
+        out: [0; 1144],
+    })
+}
+
+/// Some of a datagram's octets, and their number.
+fn digest(length: usize, out: &[u8; 1144]) -> u64 {
+    let last = if length == 638 { out[637] } else { 0 };
+    u64::from(out[111])
+        .wrapping_add(u64::from(out[114]))
+        .wrapping_add(u64::from(out[126]))
+        .wrapping_add(u64::from(last))
+        .wrapping_add(length as u64)
 }
 
 /// One datagram; where none is due, the next after 25 ms.
@@ -78,11 +110,34 @@ struct Fading {
 impl Turn for Fading {
     fn turn(&mut self, _number: u64) -> u64 {
         match self.core.poll(self.now, &mut self.out) {
-            Some(length) => length as u64,
+            Some(length) => digest(length, &self.out),
             None => {
                 self.now = self.now.saturating_add(25);
                 match self.core.poll(self.now, &mut self.out) {
-                    Some(length) => length as u64,
+                    Some(length) => digest(length, &self.out),
+                    None => 0,
+                }
+            }
+        }
+    }
+}
+
+/// The plain console's work beside `Fading`.
+#[derive(Drop)]
+struct PlainFading {
+    console: PlainConsole,
+    now: u64,
+    out: [u8; 1144],
+}
+
+impl Turn for PlainFading {
+    fn turn(&mut self, _number: u64) -> u64 {
+        match self.console.poll(self.now, &mut self.out) {
+            Some(length) => digest(length, &self.out),
+            None => {
+                self.now = self.now.saturating_add(25);
+                match self.console.poll(self.now, &mut self.out) {
+                    Some(length) => digest(length, &self.out),
                     None => 0,
                 }
             }
@@ -154,15 +209,26 @@ fn begun(alloc: Global, universes: u16, slots: u16, channels: u16) -> Result<Fad
     })
 }
 
+/// A datagram of a console of which all fades, beside the plain console's; it hands the console on.
+fn faded<R: AllocGlobal + Clock, O: Write>(
+    rt: &R,
+    out: &mut O,
+    name: &str,
+    calls: u64,
+    size: (u16, u16),
+) -> Result<Fading, SpeedFault> {
+    let mut fading = begun(rt.alloc(), size.0, size.1, CHANNELS)?;
+    let mut plain = plain(rt.alloc(), size.0, size.1)?;
+    turn::compared(rt, out, name, calls, (&mut fading, &mut plain))?;
+    Ok(fading)
+}
+
 pub fn measured<R: AllocGlobal + Clock, O: Write>(rt: &R, out: &mut O) -> Result<(), SpeedFault> {
-    let mut four = begun(rt.alloc(), 4, 512, CHANNELS)?;
-    turn::measured(rt, out, FOUR, 3000, &mut four)?;
-    let mut idling = Idling { fading: four };
+    let fading = faded(rt, out, FOUR, 3000, (4, 512))?;
+    let mut idling = Idling { fading };
     turn::measured(rt, out, IDLE, 10_000, &mut idling)?;
-    let mut many = begun(rt.alloc(), 64, 512, CHANNELS)?;
-    turn::measured(rt, out, MANY, 30_000, &mut many)?;
-    let mut most = begun(rt.alloc(), 1024, 27, CHANNELS)?;
-    turn::measured(rt, out, MOST, 100_000, &mut most)?;
+    faded(rt, out, MANY, 30_000, (64, 512))?;
+    faded(rt, out, MOST, 100_000, (1024, 27))?;
     let half = begun(rt.alloc(), 1024, 27, CHANNELS / 2)?;
     let mut passing = Passing { fading: half };
     turn::measured(rt, out, HALF, 5000, &mut passing)?;

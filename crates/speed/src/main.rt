@@ -11,6 +11,7 @@ mod fades;
 mod fault;
 mod nodes;
 mod plain_codec;
+mod plain_console;
 mod plain_table;
 mod sources;
 mod turn;

@@ -92,6 +92,17 @@ const ROOT: [u8; 22] = *b"\0\x10\0\0ASC-E1.17\0\0\0\x72\x6e\0\0\0\x04";
 
 const DMP: [u8; 11] = [0x72, 0x0b, 2, 0xa1, 0, 0, 0, 1, 2, 1, 0];
 
+/// Writes all that stands before the slots of a full data packet.
+pub fn plain_head(cid: &[u8; 16], name: &[u8; 64], universe: u16, number: u8, out: &mut [u8; 638]) {
+    out[..22].copy_from_slice(&ROOT);
+    out[22..38].copy_from_slice(cid);
+    out[38..44].copy_from_slice(&[0x72, 0x58, 0, 0, 0, 2]);
+    out[44..108].copy_from_slice(name);
+    out[108..113].copy_from_slice(&[100, 0, 0, number, 0]);
+    out[113..115].copy_from_slice(&universe.to_be_bytes());
+    out[115..126].copy_from_slice(&DMP);
+}
+
 /// Writes a full data packet.
 pub fn plain_write(
     cid: &[u8; 16],
@@ -100,13 +111,7 @@ pub fn plain_write(
     slots: &[u8; 512],
     out: &mut [u8; 638],
 ) -> usize {
-    out[..22].copy_from_slice(&ROOT);
-    out[22..38].copy_from_slice(cid);
-    out[38..44].copy_from_slice(&[0x72, 0x58, 0, 0, 0, 2]);
-    out[44..108].copy_from_slice(name);
-    out[108..113].copy_from_slice(&[100, 0, 0, 0, 0]);
-    out[113..115].copy_from_slice(&universe.to_be_bytes());
-    out[115..126].copy_from_slice(&DMP);
+    plain_head(cid, name, universe, 0, out);
     out[126..].copy_from_slice(slots);
     638
 }

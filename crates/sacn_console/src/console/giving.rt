@@ -7,6 +7,7 @@ use crate::limits::{DISCOVERY_INTERVAL, MOST_OCTETS};
 use crate::line::{Begun, Line};
 use crate::lines::{first_due, list_standing};
 use crate::sender::Sender;
+use sacn_cues::Player;
 use sacn_discovery::{page_count, write_page};
 use sacn_framing::{DataFields, write_data};
 use sacn_patch::SLOTS;
@@ -105,6 +106,7 @@ impl ConsoleCore {
     {
         let moment = self.moment;
         let is_still = self.player.is_still();
+        prepare(&mut self.player, is_still);
         let player = self.player.at(moment);
         first_due(
             &self.lines,
@@ -207,6 +209,15 @@ impl ConsoleCore {
             &self.sender.name,
             out,
         )
+    }
+}
+
+// While a fade runs, all levels are reckoned at once: many universes are then looked at.
+fn prepare(player: &mut Player, is_still: bool)
+    ensures { player.new ≡ player.old }
+{
+    if !is_still {
+        player.prepare();
     }
 }
 

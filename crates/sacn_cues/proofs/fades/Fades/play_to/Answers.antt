@@ -4,16 +4,20 @@ use Rattle.std.specs.List.{list_all}
 use Rattle.sacn_patch.specs.declared.limits.TheConstants.{MAX_CHANNELS}
 use Rattle.sacn_cues.specs.Levels.{Ramp, Running, Given, given_to, all_begun, is_over_by, end_of}
 use Rattle.sacn_cues.specs.Cues.{level_tracked}
-use Rattle.sacn_cues.specs.Targets.{Targets}
+use Rattle.std.specs.FinMap.{entries}
+use Rattle.sacn_cues.specs.Targets.{Targets, aimed_everywhere}
 use Rattle.sacn_cues.specs.Playing.{longer}
 use Rattle.sacn_cues.proofs.Begun.{length-all_begun}
 use Rattle.sacn_cues.proofs.Stillness.{cue_over}
 use Rattle.sacn_cues.proofs.fades.Fades.play_to.Goals as goal
 
-pub play_list-requires : goal.play_list-requires
-play_list-requires c =
+pub play_list-requires-clause-room : goal.play_list-requires-clause-room
+play_list-requires-clause-room c =
     let width : length c.deref_mut-2.result.now ≡ MAX_CHANNELS = ap length c.deref_mut-2.ensures.value ∙ c.self.invariant.0 in
     c.deref_mut.ensures.value ∙ c.self.invariant.1 ∙ ap {B = Targets} (λ (n : ℕ). replicate n None) (sym width)
+
+pub play_list-requires-clause-zeros : goal.play_list-requires-clause-zeros
+play_list-requires-clause-zeros c = c.requires ∙ ap (λ (ts : Targets). aimed_everywhere (entries c.args.cues.now) ts) (sym (c.deref_mut.ensures.value ∙ c.self.invariant.1))
 
 pub invariant_of-self : goal.invariant_of-self
 invariant_of-self c =

@@ -1,4 +1,4 @@
-use Rattle.std.proofs.Common.{rules, ◌≡◌, sym, ap, ◌∙◌}
+use Rattle.std.proofs.Common.{ap, ◌∙◌}
 use Rattle.std.specs.FinMap.{from_entries}
 use Rattle.sacn_patch.specs.Patch.{Patched}
 use Rattle.sacn_patch.specs.Flat.{Row}
@@ -11,12 +11,12 @@ loop-place-init g c each = each_below (g.R.RestOf.stays c.args.levels.now) c.arg
 
 pub returns-then-at-universe : goal.returns-then-at-universe
 returns-then-at-universe g c told =
-    each_shown (g.R.RestOf.stays c.args.levels.now) c.as_slice-row.result.now c.args.self.now c.args.universe (rw c.as_slice-row.ensures.value c.self.invariant)
+    each_shown (g.R.RestOf.stays c.args.levels.now) c.as_slice-row.result.now c.args.self.now c.args.universe (rw c.as_slice-row.ensures.value c.self.invariant.0)
     (ap (λ (row : Row). let m : Patched = from_entries row in m) c.as_slice-row.ensures.value ∙ c.self.view_is)
-    (c.loop-place.invariant (none_each (g.R.RestOf.stays c.args.levels.now) _ (none_above c.args.universe c.loop-place.place c.as_slice-row.result.now _ (rw c.as_slice-row.ensures.value c.self.invariant) c.loop-place-test.true c.if-at-universe.true)))
+    (c.loop-place.invariant (none_each (g.R.RestOf.stays c.args.levels.now) _ (none_above c.args.universe c.loop-place.place c.as_slice-row.result.now _ (rw c.as_slice-row.ensures.value c.self.invariant.0) c.loop-place-test.true c.if-at-universe.true)))
 
 pub returns : goal.returns
 returns g c told =
-    each_shown (g.R.RestOf.stays c.args.levels.now) c.as_slice-row.result.now c.args.self.now c.args.universe (rw c.as_slice-row.ensures.value c.self.invariant)
+    each_shown (g.R.RestOf.stays c.args.levels.now) c.as_slice-row.result.now c.args.self.now c.args.universe (rw c.as_slice-row.ensures.value c.self.invariant.0)
     (ap (λ (row : Row). let m : Patched = from_entries row in m) c.as_slice-row.ensures.value ∙ c.self.view_is)
     (c.loop-place.invariant (none_each (g.R.RestOf.stays c.args.levels.now) _ (none_after c.args.universe c.loop-place.place c.as_slice-row.result.now c.loop-place-test.false)))

@@ -1,0 +1,18 @@
+use Rattle.std.proofs.Common.{◌≡◌, ℕ, List, length, get_or, sym, ap, ◌∙◌, arith}
+use Rattle.std.proofs.lemmas.List.{with_items_is}
+use Rattle.sacn_patch.specs.Parts.{octet_place}
+use Rattle.sacn_cues.specs.Playing.{level_shown}
+use Rattle.sacn_cues.proofs.player.Player.reckon.Goals as goal
+
+pub invariant_of-self : goal.invariant_of-self
+unfolding level_shown
+invariant_of-self c =
+    let width : length c.fill_octets.new.octets ≡ length c.self.inside.shown.octets.items = c.fill_octets.ensures.length ∙ sym c.self.invariant.1.0 in
+    let items = with_items_is c.self.inside.shown.octets c.fill_octets.new.octets (omega (arith, width, c.self.inside.shown.octets.ok)) in (
+      c.self.invariant.0,
+      (
+        ap length items ∙ c.fill_octets.ensures.length,
+        rw items c.fill_octets.ensures.before,
+        λ told part. ap (λ (octets : List ℕ). get_or octets (octet_place part) 0) items ∙ c.fill_octets.ensures.levels part,
+      ),
+    )
