@@ -9,6 +9,7 @@ mod hosts;
 mod json;
 mod lit;
 mod markup;
+mod outbox;
 mod request;
 mod response;
 mod room;

@@ -5,7 +5,8 @@ use std::alloc::{AllocError, Global};
 use std::fmt::Write;
 
 /// What a page of this server may do in a browser: its own style and script, and questions to this server alone.
-const POLICY: &str = "default-src 'none'; style-src 'unsafe-inline'; script-src 'unsafe-inline'; connect-src 'self'; img-src data:";
+const POLICY: &str =
+    "default-src 'none'; style-src 'unsafe-inline'; script-src 'unsafe-inline'; connect-src 'self'; img-src data:";
 
 /// What an answer is.
 #[derive(Clone, Copy, Debug, PartialEq, Eq)]

@@ -1,9 +1,10 @@
 //! One connection of a browser.
 
-ghost use Rattle.std.specs.Prelude.{◌≤◌, length, vec_len};
+ghost use Rattle.std.specs.Prelude.{◌≤◌, length, IfSome};
 
 use crate::document::Given;
 use crate::hosts::Hosts;
+use crate::outbox::Outbox;
 use crate::request::{MOST_HEAD, Reading, Refusal, read_request};
 use std::alloc::{AllocError, Global};
 use std::io::{ErrorKind, Read, Write};
@@ -53,9 +54,8 @@ pub struct Viewer<C> {
     is_surplus: bool,
     phase: Phase,
     head: Vec<u8>,
-    /// What it is to be sent, and how much of it went.
-    output: Vec<u8>,
-    sent: usize,
+    /// What it is to be sent.
+    output: Outbox,
     /// The other side sends nothing more.
     has_ended: bool,
     /// The moment at which it is closed where nothing happens.
@@ -73,8 +73,7 @@ impl<C: Connection> Viewer<C> {
             is_surplus,
             phase: Phase::Asking,
             head: Vec::new(alloc),
-            output: Vec::new(alloc),
-            sent: 0,
+            output: Outbox::new(alloc),
             has_ended: false,
             deadline: now.saturating_add(HEAD_TIME),
             given: Given::nothing(alloc),
@@ -93,7 +92,7 @@ impl<C: Connection> Viewer<C> {
 
     /// Whether all that it was to be sent went.
     pub fn is_idle(&self) -> bool {
-        self.sent >= self.output.len()
+        self.output.left().is_empty()
     }
 
     /// The moment at which it is closed where nothing happens; `u64::MAX` where it never is.
@@ -147,7 +146,9 @@ impl<C: Connection> Viewer<C> {
     }
 
     // The number of octets that came, 0 at their end; None where there is nothing now.
-    fn receive(&mut self, chunk: &mut [u8; CHUNK]) -> Option<usize> {
+    fn receive(&mut self, chunk: &mut [u8; CHUNK]) -> Option<usize>
+        ensures { IfSome result (λ count. count ≤ length chunk.new) }
+    {
         match self.connection.read(chunk) {
             Ok(count) => Some(count),
             Err(error) => match error.kind() {
@@ -165,9 +166,7 @@ impl<C: Connection> Viewer<C> {
     ///
     /// Errors: OutOfMemory.
     pub fn give(&mut self, octets: &str, after: Phase, now: u64) -> Result<(), AllocError> {
-        self.output.clear();
-        self.sent = 0;
-        self.output.extend_from_slice(octets.as_bytes())?;
+        self.output.fill(octets.as_bytes())?;
         self.phase = after;
         self.deadline = now.saturating_add(STALL_TIME);
         self.send(now);
@@ -180,10 +179,10 @@ impl<C: Connection> Viewer<C> {
             if self.is_idle() {
                 break;
             }
-            match self.connection.write(&self.output[self.sent..]) {
+            match self.connection.write(self.output.left()) {
                 Ok(0) => self.phase = Phase::Gone,
                 Ok(count) => {
-                    self.sent = self.sent.saturating_add(count);
+                    self.output.advance(count);
                     self.deadline = now.saturating_add(STALL_TIME);
                 }
                 Err(error) if error.kind() == ErrorKind::WouldBlock => return,
