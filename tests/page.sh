@@ -189,7 +189,7 @@ none=$(printf '0%.0s' $(seq 2036))
 for part in '"universe":7,"heard":[1,7],' '"name":"\u003cb\u003e\u0022D\u00f6sk\u0022 \u0026 \ud83c\udfad\u005c"' \
   '"sources":[{"place":0,"universe":1,"cid":"000102030405060708090a0b0c0d0e0f",' '{"place":1,"universe":7,"cid":"000102030405060708090a0b0c0d0e0f",' \
   '"address":"127.0.0.1","port":' '"state":"live","priority":100,"first":' '"preview":0,"terminated":0,"other":0,"skipped":0,"late":0,"repeated":0,"gap":' \
-  "\"levels\":\"0000ff$dark\"" "\"winners\":\"000000000002$none\"" '"alarms":[]' '"refused":0,"pages":0,"untracked":0}}'; do
+  "\"levels\":\"0000ff$dark\"" "\"winners\":\"000000000002$none\"" '"alarms":[]' '"refused":0,"pages":' '"untracked":0}}'; do
   grep -qF -- "$part" body
   verdict "the document has ${part:0:60}" $? "$(head -c 600 body)"
 done
@@ -270,8 +270,12 @@ for line in "${lines[@]:0:15}"; do exec {line}>&-; done
   for universe in $(seq 200); do printf '[[patch]]\nchannel = 1\nuniverse = %s\nslot = 1\n' "$universe"; done
 } >many.toml
 printf '0 go\n12000 go\n' >script.txt
+heard() { curl -s -m 5 $at/state | sed -n 's/.*"datagrams":\([0-9]*\).*/\1/p'; }
+before=$(heard)
 exec {deaf}<>"/dev/tcp/127.0.0.1/$tcp"
 ask "$deaf" /events
+curl -sN -m 16 $at/events >events &
+viewer=$!
 timeout 30 "$sacn" desk many.toml --script script.txt </dev/null >desk.out 2>desk.err &
 desk=$!
 started+=("$desk")
@@ -288,10 +292,16 @@ verdict "others are answered beside a viewer that never reads" $? "$slowest ms"
 wait "$desk"
 sleep 0.5
 answers "the document at the end" 200 $at/state
-sent=$(sed -n 's/.*sent \([0-9]*\).*/\1/p' desk.out | head -n 1)
-grep -q '"skipped":[1-9]' body
-[ $? = 1 ]
-verdict "no datagram was lost beside a viewer that never reads" $? "sent ${sent:-?}, $(grep -o '"counts".*' body)"
+sent=$(sed -n 's/^sent \([0-9]*\) failed 0.*/\1/p' desk.out)
+[ $(($(heard) - before)) = "${sent:-0}" ]
+verdict "each datagram was heard beside a viewer that never reads" $? "sent ${sent:-?}, before $before, $(heard)"
+wait "$viewer"
+timeout 3 cat <&"$deaf" >deaf
+count=$(grep -c '^event: change$' deaf)
+[ "$count" -ge 1 ] && [ "$count" -lt "$(grep -c '^event: change$' events)" ]
+verdict "a viewer that never reads is given fewer events" $? "$count of $(grep -c '^event: change$' events)"
+[[ $(grep '^data' deaf | tail -n 1) == 'data: {"ms":'*'}' ]] && grep -q '"state":"ended"' deaf && [ "$(tail -c 1 deaf | od -An -c | tr -d ' ')" = '\n' ]
+verdict "what it missed comes with the next event, whole" $? "$(tail -c 200 deaf)"
 memory=$(sed -n 's/^VmRSS:[^0-9]*\([0-9]*\).*/\1/p' "/proc/$watch/status")
 [ "${memory:-0}" -lt 60000 ]
 verdict "memory stays small" $? "$memory kB"

@@ -1,6 +1,11 @@
 //! The names under which a server is asked.
 
+ghost use Rattle.std.specs.Prelude.{◌≡◌, string_bytes};
+ghost use Rattle.std.specs.List.{list_any};
+ghost use Rattle.sacn_page.specs.Requests.{is_word, is_among};
+
 use std::alloc::{AllocError, Global};
+use std::marker::Model;
 use std::net::{Ipv4Addr, SocketAddrV4};
 
 /// The port that a Host field leaves out (RFC 9110, 4.2.1).
@@ -10,6 +15,14 @@ const DEFAULT_PORT: u16 = 80;
 #[derive(Drop)]
 pub struct Hosts {
     names: Vec<String>,
+}
+
+impl Model for Hosts {
+    ghost use Rattle.std.specs.Prelude.{List, ℕ, map, string_bytes};
+
+    ghost Value = { List (List ℕ) };
+
+    ghost view = { λ h. map string_bytes h.names.items };
 }
 
 impl Hosts {
@@ -37,9 +50,24 @@ impl Hosts {
     }
 
     /// Whether it is one of these, in letters of either case.
-    pub fn has(&self, name: &[u8]) -> bool {
-        self.names
-            .iter()
-            .any(|own| own.as_bytes().eq_ignore_ascii_case(name))
+    #[tactic(auto, using(crate::proofs::Mapped::any_mapped))]
+    pub fn has(&self, name: &[u8]) -> bool
+        ensures { result ≡ is_among self.now name.now }
+    {
+        is_among(self.names.as_slice(), name)
     }
+}
+
+// Whether a text is one of these names.
+fn is_among(names: &[String], name: &[u8]) -> bool
+    ensures { result ≡ list_any (λ own. is_word (string_bytes own) name.now) names.now }
+{
+    names.iter().any(|own| is_word(own.as_bytes(), name))
+}
+
+/// Whether a text is this word, in letters of either case.
+pub(crate) fn is_word(word: &[u8], text: &[u8]) -> bool
+    ensures { result ≡ is_word word.now text.now }
+{
+    word.eq_ignore_ascii_case(text)
 }

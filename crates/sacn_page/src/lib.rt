@@ -26,6 +26,6 @@ pub use lit::{LitUniverse, SLOTS};
 pub use markup::PAGE;
 pub use request::{Asked, MOST_FIELDS, MOST_HEAD, Reading, Refusal, read_request};
 pub use response::{Kind, opened, push_event, refused, whole};
-pub use room::{LEAST_WAIT, MOST_SURPLUS, MOST_VIEWERS, Room};
+pub use room::{LEAST_WAIT, MOST_SURPLUS, MOST_VIEWERS, MOST_WAIT, Room};
 pub use server::Pages;
 pub use viewer::{Connection, HEAD_TIME, LEAVE_TIME, Phase, STALL_TIME, Viewer};

@@ -1,10 +1,12 @@
 //! What a request of a browser asks for (HTTP/1.1, RFC 9112).
 
-ghost use Rattle.std.specs.Prelude.{◌≡◌, ◌≢◌, ◌<◌, length};
-ghost use Rattle.sacn_page.specs.Requests.{status_of};
+ghost use Rattle.std.specs.Prelude.{◌≡◌, ◌≢◌, ◌<◌, length, map, count_by, codes, IsOk, OnOk, IsTrue, Some, option_copied};
+ghost use Rattle.std.specs.List.{list_all};
+ghost use Rattle.httparse.specs.Borrowed.{header_parts};
+ghost use Rattle.sacn_page.specs.Requests.{status_of, is_host, says_own, is_own, IsOwnGet, OnAsked};
 ghost use Rattle.sacn_page.specs.declared.request.Reading.TheVariants.{More};
 
-use crate::hosts::Hosts;
+use crate::hosts::{Hosts, is_word};
 use httparse::{EMPTY_HEADER, Error, Header, Request, Status};
 use std::str;
 
@@ -76,9 +78,10 @@ impl Refusal {
     }
 }
 
-/// What the octets ask for that came of a request so far, of one of these hosts. Only where fewer than `MOST_HEAD` octets came
-/// the answer may be that more have to come.
+/// What the octets ask for that came of a request so far, of one of these hosts. Something is asked for only by a whole head of a
+/// GET that names one of them; and only where fewer than `MOST_HEAD` octets came the answer may be that more have to come.
 pub fn read_request(octets: &[u8], hosts: &Hosts) -> Reading
+    ensures asked { OnAsked result (IsOwnGet hosts.now octets.now) }
     ensures more { result ≡ More → length octets.now < MOST_HEAD }
 {
     let mut fields = [EMPTY_HEADER; MOST_FIELDS];
@@ -103,7 +106,8 @@ pub fn read_request(octets: &[u8], hosts: &Hosts) -> Reading
 }
 
 fn decided(asked: Result<Asked, Refusal>) -> Reading
-    ensures { result ≢ More }
+    ensures open { result ≢ More }
+    ensures asked { OnAsked result (IsOk asked) }
 {
     match asked {
         Ok(asked) => Reading::Asked(asked),
@@ -112,13 +116,17 @@ fn decided(asked: Result<Asked, Refusal>) -> Reading
 }
 
 // What a whole head asks for.
-fn asked_by(request: &Request<'_, '_>, hosts: &Hosts) -> Result<Asked, Refusal> {
+fn asked_by(request: &Request<'_, '_>, hosts: &Hosts) -> Result<Asked, Refusal>
+    ensures own { OnOk result (IsTrue (is_own hosts.now (map header_parts request.now.headers.now))) }
+    ensures method { OnOk result (option_copied request.now.method ≡ Some (codes "GET")) }
+{
     let fields: &[Header<'_>] = request.headers;
     if !is_own(fields, hosts) {
         return Err(Refusal::Foreign);
     }
-    if request.method != Some("GET") {
-        return Err(Refusal::Method);
+    match request.method {
+        Some("GET") => {}
+        _ => return Err(Refusal::Method),
     }
     if has_body(fields) {
         return Err(Refusal::Body);
@@ -130,16 +138,36 @@ fn asked_by(request: &Request<'_, '_>, hosts: &Hosts) -> Result<Asked, Refusal> 
 }
 
 // Whether there is one Host field, and it names one of these hosts.
-fn is_own(fields: &[Header<'_>], hosts: &Hosts) -> bool {
-    let mut count = 0_usize;
-    let mut is_known = true;
-    for field in fields {
-        if field.name.eq_ignore_ascii_case("host") {
-            count = count.saturating_add(1);
-            is_known &= hosts.has(field.value);
-        }
-    }
-    is_known & (count == 1)
+#[tactic(auto, using(crate::proofs::Mapped::own_is))]
+fn is_own(fields: &[Header<'_>], hosts: &Hosts) -> bool
+    ensures { result ≡ is_own hosts.now (map header_parts fields.now) }
+{
+    (count_hosts(fields) == 1) & all_own(fields, hosts)
+}
+
+fn count_hosts(fields: &[Header<'_>]) -> usize
+    ensures { result ≡ count_by (λ f. is_host (header_parts f)) fields.now }
+{
+    fields.iter().filter(|field| is_host(field)).count()
+}
+
+fn all_own(fields: &[Header<'_>], hosts: &Hosts) -> bool
+    ensures { result ≡ list_all (λ f. says_own hosts.now (header_parts f)) fields.now }
+{
+    fields.iter().all(|field| says_own(field, hosts))
+}
+
+fn is_host(field: &Header<'_>) -> bool
+    ensures { result ≡ is_host (header_parts field.now) }
+{
+    is_word(b"host", field.name.as_bytes())
+}
+
+// Whether a field names one of these hosts, if it is a Host field.
+fn says_own(field: &Header<'_>, hosts: &Hosts) -> bool
+    ensures { result ≡ says_own hosts.now (header_parts field.now) }
+{
+    !is_host(field) | hosts.has(field.value)
 }
 
 // Whether a field announces a body.

@@ -23,8 +23,8 @@ const MOST_CONNECTIONS: usize = MOST_VIEWERS + MOST_SURPLUS;
 /// The least milliseconds between two events of a viewer.
 pub const LEAST_WAIT: u64 = 100;
 
-/// The milliseconds after which rates are looked at anew.
-const SECOND: u64 = 1000;
+/// The most milliseconds between two events of a viewer that takes all.
+pub const MOST_WAIT: u64 = 1000;
 
 /// A network, and those who look at it. Moments are milliseconds.
 #[derive(Drop)]
@@ -34,7 +34,9 @@ pub struct Room<C: Drop> {
     viewers: Slab<Viewer<C>>,
     /// No viewer is given a change before this moment.
     next: u64,
-    /// Something came since.
+    /// Each viewer that takes all is given an event at this moment, also where nothing changed but the moment.
+    beat: u64,
+    /// Something came since the latest look.
     is_stale: bool,
 }
 
@@ -48,6 +50,7 @@ impl<C: Connection + Drop> Room<C> {
             board: Board::new(alloc, preferred)?,
             viewers: Slab::with_capacity(alloc, MOST_CONNECTIONS)?,
             next: 0,
+            beat: 0,
             is_stale: false,
         })
     }
@@ -142,31 +145,34 @@ impl<C: Connection + Drop> Room<C> {
         Ok(universes)
     }
 
-    /// Gives each viewer that took all what changed since, at most ten times a second, and closes those whose time is up.
+    /// Gives each viewer that took all what changed since, at most ten times and at least once a second, and closes those whose
+    /// time is up.
     ///
     /// Errors: OutOfMemory.
     pub fn show(&mut self, now: u64) -> Result<(), AllocError> {
         self.close_late(now);
-        if (now < self.next)
-            | (!self.is_stale & (now < self.next.saturating_add(SECOND - LEAST_WAIT)))
-        {
+        let is_beat = now >= self.beat;
+        if (now < self.next) | !(self.is_stale | is_beat) {
             return Ok(());
         }
         self.is_stale = false;
         self.next = now.saturating_add(LEAST_WAIT);
+        if is_beat {
+            self.beat = now.saturating_add(MOST_WAIT);
+        }
         let watched = self.watched()?;
         for universe in watched.as_slice() {
             let _ = self.board.open(*universe, watched.as_slice())?;
         }
         self.board.refresh(now, watched.as_slice());
         for key in 0..MOST_CONNECTIONS {
-            self.push(key, now);
+            self.push(key, is_beat, now);
         }
         Ok(())
     }
 
-    // Gives the viewer of a key what changed, if it took all before.
-    fn push(&mut self, key: usize, now: u64) {
+    // Gives the viewer of a key what changed, if it took all before; at a beat also where nothing did.
+    fn push(&mut self, key: usize, is_beat: bool, now: u64) {
         let Some(viewer) = self.viewers.get_mut(key) else {
             return;
         };
@@ -176,7 +182,7 @@ impl<C: Connection + Drop> Room<C> {
         if !viewer.is_idle() {
             return;
         }
-        let pushed = push_change(self.alloc, &self.board, viewer, named, now);
+        let pushed = push_change(self.alloc, &self.board, viewer, named, is_beat, now);
         if pushed.is_err() || viewer.phase() == Phase::Gone {
             let _ = self.viewers.try_remove(key);
         }
@@ -209,15 +215,13 @@ impl<C: Connection + Drop> Room<C> {
         least
     }
 
-    // The moment at which viewers that watch are given something, if anything changed.
+    // The moment at which viewers that watch are given something.
     fn next_look(&self) -> u64 {
         if self.is_stale {
-            return self.next;
+            self.next
+        } else {
+            self.beat.max(self.next)
         }
-        if self.board.monitor().streams().is_empty() {
-            return u64::MAX;
-        }
-        self.next.saturating_add(SECOND - LEAST_WAIT)
     }
 }
 
@@ -299,12 +303,13 @@ fn prepare(
     Ok(true)
 }
 
-// Gives a viewer what changed since it was given something.
+// Gives a viewer what changed since it was given something, if anything did or it is to be given an event all the same.
 fn push_change<C: Connection + Drop>(
     alloc: Global,
     board: &Board,
     viewer: &mut Viewer<C>,
     named: Option<u16>,
+    is_beat: bool,
     now: u64,
 ) -> Result<(), AllocError> {
     let mut document = String::new(alloc);
@@ -315,7 +320,7 @@ fn push_change<C: Connection + Drop>(
         &mut viewer.given,
         Extent::Changes,
     )?;
-    if !is_more {
+    if !(is_more | is_beat) {
         return Ok(());
     }
     let mut text = String::new(alloc);

@@ -1,0 +1,26 @@
+-- Tests and counts over what is made of each item.
+use Rattle.std.proofs.Common.{◌≡◌, ℕ, ◌+◌, Bool, cond, ◌&&◌, ◌||◌, ◌==◌, List, [], ◌∷◌, map, count_by, refl, ap, ◌∙◌, arith}
+use Rattle.std.specs.List.{list_all, list_any}
+use Rattle.httparse.specs.declared.borrowed.Header.{Header}
+use Rattle.httparse.specs.Borrowed.{header_parts}
+use Rattle.sacn_page.specs.Requests.{is_host, says_own, is_own}
+
+pub any_mapped : {X Y : Type 0} (p : Y → Bool) (h : X → Y) (xs : List X) → list_any (λ x. p (h x)) xs ≡ list_any p (map h xs)
+any_mapped p h [] = refl
+any_mapped p h (x ∷ xs) = ap (λ b. p (h x) || b) (any_mapped p h xs)
+
+pub all_mapped : {X Y : Type 0} (p : Y → Bool) (h : X → Y) (xs : List X) → list_all (λ x. p (h x)) xs ≡ list_all p (map h xs)
+all_mapped p h [] = refl
+all_mapped p h (x ∷ xs) = ap (λ b. p (h x) && b) (all_mapped p h xs)
+
+pub count_mapped : {X Y : Type 0} (p : Y → Bool) (h : X → Y) (xs : List X) → count_by (λ x. p (h x)) xs ≡ count_by p (map h xs)
+count_mapped p h [] = refl
+count_mapped p h (x ∷ xs) = ap {B = ℕ} (λ n. n + cond (p (h x)) 1 0) (count_mapped p h xs)
+
+-- the test of fields, made of a count and a test of headers
+pub own_is : (names : List (List ℕ)) (hs : List Header) (count : ℕ) (all : Bool)
+    → count ≡ count_by (λ f. is_host (header_parts f)) hs → all ≡ list_all (λ f. says_own names (header_parts f)) hs
+    → ((count == 1) && all) ≡ is_own names (map header_parts hs)
+own_is names hs count all counted tested =
+    ap (λ n. (n == 1) && all) (counted ∙ count_mapped is_host header_parts hs)
+    ∙ ap (λ b. (count_by is_host (map header_parts hs) == 1) && b) (tested ∙ all_mapped (says_own names) header_parts hs)
