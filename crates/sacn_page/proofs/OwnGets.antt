@@ -22,7 +22,7 @@ pub own_get : (names : List (List ℕ)) (octets : List ℕ) (r : Request) (len :
     → OnAsked answer (IsOk asked) → OnAsked answer (IsOwnGet names octets)
 own_get names octets r len asked reading.More holds own method ok = tt
 own_get names octets r len asked (reading.Refused refusal) holds own method ok = tt
-own_get names octets r len (Err fault) (reading.Asked asked) holds own method ok = absurd ok
+own_get names octets r len (Err fault) (reading.Asked asked) holds own method ok = absurd cc
 own_get names octets r len (Ok found) (reading.Asked asked) holds own method ok =
     record {
       head = holds.0;

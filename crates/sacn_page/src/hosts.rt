@@ -50,7 +50,6 @@ impl Hosts {
     }
 
     /// Whether it is one of these, in letters of either case.
-    #[tactic(auto, using(crate::proofs::Mapped::any_mapped))]
     pub fn has(&self, name: &[u8]) -> bool
         ensures { result ≡ is_among self.now name.now }
     {
