@@ -29,5 +29,5 @@ own_get names octets r len (Ok found) (reading.Asked asked) holds own method ok 
       rest = drop len octets;
       reads = holds.1.reads;
       method = same holds.0.method (codes "GET") (sym holds.1.method ∙ method);
-      host = subst (λ fields. IsTrue (is_own names fields)) holds.1.fields own
+      host = subst (λ fields. IsTrue (is_own names fields)) holds.1.fields own;
     }

@@ -32,7 +32,7 @@ impl Model for LitUniverse {
 }
 
 impl LitUniverse {
-    ghost use Rattle.sacn_page.specs.Levels.{Lit, nothing_lit};
+    ghost use Rattle.sacn_page.specs.Levels.{nothing_lit};
     ghost use Rattle.std.specs.Prelude.{IfOk};
 
     /// A universe of this number, of which nothing was heard.

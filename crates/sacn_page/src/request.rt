@@ -8,7 +8,6 @@ ghost use Rattle.sacn_page.specs.declared.request.Reading.TheVariants.{More};
 
 use crate::hosts::{Hosts, is_word};
 use httparse::{EMPTY_HEADER, Error, Header, Request, Status};
-use std::str;
 
 /// The most octets of a request's head.
 pub const MOST_HEAD: usize = 4096;

@@ -1,7 +1,6 @@
 -- What a whole head asks for, is asked by a GET that names this server.
 use Rattle.std.proofs.Common.{rules}
 use Rattle.httparse.specs.Borrowed.{HoldsSomeRequest}
-use Rattle.httparse.specs.Outcome.{IfComplete}
 use Rattle.sacn_page.proofs.OwnGets.{own_get}
 use Rattle.sacn_page.proofs.request.read_request.Goals as goal
 
