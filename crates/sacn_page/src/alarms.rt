@@ -136,7 +136,7 @@ fn push_refused(text: &mut String, sender: &Sender, fault: PacketFault) -> Resul
     let [a, b, c, d] = sender.address;
     let port = sender.port;
     write!(text, "a datagram of {a}.{b}.{c}.{d}")?;
-    write!(text, ":{port} is refused: {fault:?}")
+    write!(text, ":{port} is refused: {fault}")
 }
 
 /// An alarm about one of these streams, as an object.
