@@ -110,7 +110,7 @@ pub fn groups<'a>(alloc: Global) -> Result<Command<'a>, Error> {
     subcommand(alloc, "groups", GROUPS_ABOUT, args)
 }
 
-fn fault_name(fault: AddressFault) -> &'static str {
+pub fn fault_name(fault: AddressFault) -> &'static str {
     match fault {
         AddressFault::Address => "Address",
         AddressFault::Port => "Port",

@@ -8,6 +8,7 @@ mod files;
 mod live;
 mod live_words;
 mod network;
+mod page;
 mod program;
 mod watch;
 

@@ -4,6 +4,7 @@ use crate::ending::Ending;
 use crate::explain::{port_in, universes_in};
 use crate::live::{clock_of, said_of_socket, say_hearing};
 use crate::live_words::{flag, host, seconds, seconds_in, word, words};
+use crate::page::{page_in, serve};
 use clap::{ArgMatches, Command, Error};
 use sacn_explain::{Form, Options};
 use sacn_files::words::short_in;
@@ -30,11 +31,15 @@ pub struct WatchAsked {
     seconds: Option<u64>,
     form: Form,
     is_plain: bool,
+    /// Where a page is served in place of what is printed.
+    page: Option<SocketAddrV4>,
 }
 
 pub fn command<'a>(alloc: Global) -> Result<Command<'a>, Error> {
     let universe = "A universe that is told, and the first one shown; else all";
     let plain = "Prints lines in a terminal too";
+    let page =
+        "Serves a page for browsers there, of this machine where only a port is named, and prints nothing";
     let args = vec![in alloc;
         word(
             alloc,
@@ -52,6 +57,7 @@ pub fn command<'a>(alloc: Global) -> Result<Command<'a>, Error> {
         seconds(alloc),
         flag(alloc, "json", "Prints an object of JSON on each line"),
         flag(alloc, "plain", plain),
+        word(alloc, "page", "[ADDRESS:]PORT", page),
     ]?;
     subcommand(alloc, "watch", ABOUT, args)
 }
@@ -61,6 +67,7 @@ pub fn asked<'a>(alloc: Global, matches: &ArgMatches<'a>) -> Result<Asked<'a>, E
     let listen = host(alloc, matches, "listen", Ipv4Addr::UNSPECIFIED)?;
     let seconds = seconds_in(alloc, matches)?;
     let port = port_in(alloc, matches)?;
+    let page = page_in(alloc, matches)?;
     let universes = universes_in(alloc, matches)?;
     Ok(Asked::Watch(WatchAsked {
         listen,
@@ -73,6 +80,7 @@ pub fn asked<'a>(alloc: Global, matches: &ArgMatches<'a>) -> Result<Asked<'a>, E
             Form::Text
         },
         is_plain: matches.get_flag("plain"),
+        page,
     }))
 }
 
@@ -85,16 +93,20 @@ pub fn watch<R: AllocGlobal + Env + Net + Clock, O: Write, E: Write>(
 ) -> Result<(), Ending> {
     guard_standard_descriptors();
     let address = SocketAddrV4::new(asked.listen, asked.port);
+    let until = match asked.seconds {
+        Some(seconds) => seconds.saturating_mul(1000),
+        None => u64::MAX,
+    };
+    if let Some(place) = asked.page {
+        let universe = asked.universes.first().copied();
+        return serve(rt, address, place, universe, until, err);
+    }
     let mut receiver = match UdpReceiver::bind(rt, address, clock_of(rt)?) {
         Ok(receiver) => receiver,
         Err(kind) => return Err(said_of_socket(address, kind, err)),
     };
     receiver.wait_for_input();
     say_hearing(address, receiver.room(), err);
-    let until = match asked.seconds {
-        Some(seconds) => seconds.saturating_mul(1000),
-        None => u64::MAX,
-    };
     match tell(rt, &mut receiver, asked, until, out) {
         Ok(()) => Ok(()),
         Err(WatchFault::OutOfMemory) => Err(Ending::OutOfMemory),

@@ -1,0 +1,174 @@
+//! What a viewer is to look at: the latest things that went wrong.
+
+use crate::json::{push_foreign, push_word};
+use sacn_monitor::{Account, Sender, Stream};
+use sacn_root::PacketFault;
+use std::alloc::{AllocError, Global};
+use std::fmt::Write;
+
+/// The most alarms that are kept: the latest.
+pub const MOST_ALARMS: usize = 32;
+
+/// What happened. A place is that of a source on a universe.
+#[derive(Clone, Copy, Debug, PartialEq, Eq)]
+pub enum Trouble {
+    /// No packet of a source was taken for 2500 ms (E1.31, 6.7.1).
+    Lost(usize),
+    /// A source ended its stream (E1.31, 6.2.6).
+    Ended(usize),
+    /// One that had ended or was lost sends again.
+    CameBack(usize),
+    /// A source skipped so many sequence numbers.
+    Skipped(usize, u8),
+    /// A packet of a source came out of sequence, and was discarded (E1.31, 6.7.2).
+    Late(usize),
+    /// A datagram is no packet of the standard.
+    Refused(Sender, PacketFault),
+    /// So many sources share the top priority of a universe (E1.31, 6.2.3).
+    Rivals {
+        universe: u16,
+        sources: usize,
+        priority: u8,
+    },
+}
+
+/// A thing that happened at a moment, in milliseconds.
+#[derive(Clone, Copy, Debug, PartialEq, Eq)]
+pub struct Alarm {
+    pub moment: u64,
+    pub trouble: Trouble,
+}
+
+/// The latest alarms, the oldest first.
+#[derive(Drop)]
+pub struct Alarms {
+    latest: Vec<Alarm>,
+    /// How many there were.
+    count: u64,
+}
+
+impl Alarms {
+    /// None yet.
+    pub fn new(alloc: Global) -> Self {
+        Alarms {
+            latest: Vec::new(alloc),
+            count: 0,
+        }
+    }
+
+    /// One more, in place of the oldest where there are as many as are kept.
+    ///
+    /// Errors: a growth was refused.
+    pub fn add(&mut self, moment: u64, trouble: Trouble) -> Result<(), AllocError> {
+        if self.latest.len() >= MOST_ALARMS {
+            let _ = self.latest.remove(0);
+        }
+        self.latest.push(Alarm { moment, trouble })?;
+        self.count = self.count.saturating_add(1);
+        Ok(())
+    }
+
+    /// How many there were.
+    pub fn count(&self) -> u64 {
+        self.count
+    }
+
+    /// Those behind the first so many, as far as they are kept.
+    pub fn after(&self, count: u64) -> &[Alarm] {
+        let latest = self.latest.as_slice();
+        let fresh = self.count.saturating_sub(count);
+        match usize::try_from(fresh) {
+            Ok(fresh) if fresh < latest.len() => &latest[latest.len() - fresh..],
+            _ => latest,
+        }
+    }
+}
+
+impl Trouble {
+    // Its word in a document.
+    fn kind(&self) -> &'static str {
+        match self {
+            Trouble::Lost(_) => "lost",
+            Trouble::Ended(_) => "ended",
+            Trouble::CameBack(_) => "came_back",
+            Trouble::Skipped(_, _) => "skipped",
+            Trouble::Late(_) => "late",
+            Trouble::Refused(_, _) => "refused",
+            Trouble::Rivals { .. } => "rivals",
+        }
+    }
+
+    // The place of the source that it is about.
+    fn place(&self) -> Option<usize> {
+        match self {
+            Trouble::Lost(place) => Some(*place),
+            Trouble::Ended(place) => Some(*place),
+            Trouble::CameBack(place) => Some(*place),
+            Trouble::Skipped(place, _) => Some(*place),
+            Trouble::Late(place) => Some(*place),
+            _ => None,
+        }
+    }
+
+    // What a person reads.
+    fn push_words(&self, text: &mut String) -> Result<(), AllocError> {
+        match self {
+            Trouble::Lost(_) => text.push_str(" is lost"),
+            Trouble::Ended(_) => text.push_str(" ended its stream"),
+            Trouble::CameBack(_) => text.push_str(" is back"),
+            Trouble::Skipped(_, 1) => text.push_str(" skipped a number"),
+            Trouble::Skipped(_, count) => write!(text, " skipped {count} numbers"),
+            Trouble::Late(_) => text.push_str(" sent a packet out of sequence"),
+            Trouble::Refused(sender, fault) => push_refused(text, sender, *fault),
+            Trouble::Rivals {
+                universe,
+                sources,
+                priority,
+            } => {
+                write!(text, "universe {universe}: {sources} sources share ")?;
+                write!(text, "the top priority {priority}")
+            }
+        }
+    }
+}
+
+fn push_refused(text: &mut String, sender: &Sender, fault: PacketFault) -> Result<(), AllocError> {
+    let [a, b, c, d] = sender.address;
+    let port = sender.port;
+    write!(text, "a datagram of {a}.{b}.{c}.{d}")?;
+    write!(text, ":{port} is refused: {fault}")
+}
+
+/// An alarm about one of these streams, as an object.
+pub fn push_alarm(text: &mut String, alarm: &Alarm, streams: &[Stream]) -> Result<(), AllocError> {
+    let moment = alarm.moment;
+    write!(text, "{{\"ms\":{moment}")?;
+    push_word(text, "kind", alarm.trouble.kind())?;
+    text.push_str(",\"text\":\"")?;
+    if let Some(place) = alarm.trouble.place() {
+        if let Some(stream) = streams.get(place) {
+            push_source(text, stream)?;
+        }
+    }
+    alarm.trouble.push_words(text)?;
+    text.push_str("\"}")
+}
+
+fn push_source(text: &mut String, stream: &Stream) -> Result<(), AllocError> {
+    let universe = stream.universe;
+    write!(text, "universe {universe}: ")?;
+    push_name(text, &stream.account)
+}
+
+/// The name of a source (E1.31, 6.2.2), within quotes.
+pub fn push_name(text: &mut String, account: &Account) -> Result<(), AllocError> {
+    push_foreign(text, up_to_nul(&account.name))
+}
+
+// A name up to its first NUL.
+fn up_to_nul(name: &[u8; 64]) -> &[u8] {
+    match name.iter().position(|octet| *octet == 0) {
+        Some(len) => &name[..len],
+        None => name,
+    }
+}

@@ -1,0 +1,220 @@
+//! What is known of a network, for all viewers.
+
+use crate::alarms::{Alarms, Trouble};
+use crate::lit::LitUniverse;
+use sacn_framing::{DataView, Packet, read_packet};
+use sacn_monitor::{Event, Monitor, News, Noted, Sender, Stream};
+use std::alloc::{AllocError, Global};
+
+/// The most universes that are merged at once.
+pub const MOST_LIT: usize = 16;
+
+/// What is known of a network. Moments are milliseconds.
+///
+/// Up to `MOST_LIT` universes are merged: the first ones heard, and those that are looked at, which take the room of others.
+#[derive(Drop)]
+pub struct Board {
+    alloc: Global,
+    monitor: Monitor,
+    alarms: Alarms,
+    /// The universe of a viewer that names none, where that isn't the first heard.
+    preferred: Option<u16>,
+    /// The universes heard, ascending.
+    heard: Vec<u16>,
+    /// Those on which several sources send at the top priority.
+    contested: Vec<u16>,
+    lit: Vec<LitUniverse>,
+}
+
+impl Board {
+    /// Nothing heard. A viewer that names no universe is shown this one, else the first heard.
+    ///
+    /// Errors: OutOfMemory.
+    pub fn new(alloc: Global, preferred: Option<u16>) -> Result<Self, AllocError> {
+        Ok(Board {
+            alloc,
+            monitor: Monitor::new(alloc)?,
+            alarms: Alarms::new(alloc),
+            preferred,
+            heard: Vec::new(alloc),
+            contested: Vec::new(alloc),
+            lit: Vec::new(alloc),
+        })
+    }
+
+    /// Takes a datagram.
+    ///
+    /// Errors: OutOfMemory.
+    pub fn take(&mut self, now: u64, sender: Sender, octets: &[u8]) -> Result<(), AllocError> {
+        self.tick(now)?;
+        match self.monitor.take(now, sender, octets) {
+            Noted::Refused(fault) => self.alarms.add(now, Trouble::Refused(sender, fault))?,
+            Noted::Heard(place, news) => self.note(now, place, &news)?,
+            _ => {}
+        }
+        match read_packet(octets) {
+            Ok(Packet::DataPacket(packet)) => self.light(now, &packet),
+            _ => Ok(()),
+        }
+    }
+
+    /// Moves the clock, and answers whether a source was lost.
+    ///
+    /// Errors: OutOfMemory.
+    pub fn tick(&mut self, now: u64) -> Result<bool, AllocError> {
+        let mut is_lost = false;
+        for _ in 0..sacn_monitor::MAX_STREAMS {
+            let Some(place) = self.monitor.tick(now) else {
+                break;
+            };
+            is_lost = true;
+            self.alarms.add(now, Trouble::Lost(place))?;
+            self.note_rivals(now, place)?;
+        }
+        Ok(is_lost)
+    }
+
+    /// The accounts of all sources.
+    pub fn monitor(&self) -> &Monitor {
+        &self.monitor
+    }
+
+    /// The latest alarms.
+    pub fn alarms(&self) -> &Alarms {
+        &self.alarms
+    }
+
+    /// The universes heard, ascending.
+    pub fn heard(&self) -> &[u16] {
+        self.heard.as_slice()
+    }
+
+    /// The universe that is shown to a viewer that names this one, or none.
+    pub fn chosen(&self, named: Option<u16>) -> Option<u16> {
+        if named.is_some() {
+            return named;
+        }
+        if self.preferred.is_some() {
+            return self.preferred;
+        }
+        match self.monitor.streams().first() {
+            Some(stream) => Some(stream.universe),
+            None => None,
+        }
+    }
+
+    /// A universe as it is merged, where it is.
+    pub fn lit(&self, number: u16) -> Option<&LitUniverse> {
+        self.lit.iter().find(|lit| lit.number() == number)
+    }
+
+    /// Sees to it that a universe is merged from now on, in place of one that isn't among those that are looked at. Answers
+    /// whether there is room for it.
+    ///
+    /// Errors: OutOfMemory.
+    pub fn open(&mut self, number: u16, watched: &[u16]) -> Result<bool, AllocError> {
+        if self.lit(number).is_some() {
+            return Ok(true);
+        }
+        if self.lit.len() < MOST_LIT {
+            self.lit.push(unlit(self.alloc, number)?)?;
+            return Ok(true);
+        }
+        for lit in self.lit.iter_mut() {
+            if !watched.contains(&lit.number()) {
+                *lit = unlit(self.alloc, number)?;
+                return Ok(true);
+            }
+        }
+        Ok(false)
+    }
+
+    /// Merges anew the universes that are looked at.
+    pub fn refresh(&mut self, now: u64, watched: &[u16]) {
+        for lit in self.lit.iter_mut() {
+            if watched.contains(&lit.number()) {
+                lit.refresh(now, self.monitor.streams());
+            }
+        }
+    }
+
+    // What a data packet tells of the source at a place.
+    fn note(&mut self, now: u64, place: usize, news: &News) -> Result<(), AllocError> {
+        match news.event {
+            Event::Appeared => self.note_universe(place)?,
+            Event::CameBack => self.alarms.add(now, Trouble::CameBack(place))?,
+            Event::Ended => self.alarms.add(now, Trouble::Ended(place))?,
+            Event::OutOfSequence => self.alarms.add(now, Trouble::Late(place))?,
+            _ => {}
+        }
+        if news.skipped > 0 {
+            self.alarms.add(now, Trouble::Skipped(place, news.skipped))?;
+        }
+        match self.monitor.streams().get(place) {
+            Some(stream) if stirs(stream, news) => self.note_rivals(now, place),
+            _ => Ok(()),
+        }
+    }
+
+    // The universe of a source that is new.
+    fn note_universe(&mut self, place: usize) -> Result<(), AllocError> {
+        if let Some(stream) = self.monitor.streams().get(place) {
+            let universe = stream.universe;
+            if !self.heard.contains(&universe) {
+                self.heard.push(universe)?;
+                self.heard.sort()?;
+            }
+        }
+        Ok(())
+    }
+
+    // Whether several sources send at the top priority from now on, where the source at a place sends.
+    fn note_rivals(&mut self, now: u64, place: usize) -> Result<(), AllocError> {
+        let Some(stream) = self.monitor.streams().get(place) else {
+            return Ok(());
+        };
+        let universe = stream.universe;
+        let sources = self.monitor.rivals(universe);
+        let was_contested = self.contested.contains(&universe);
+        if sources < 2 {
+            self.contested.retain(|contested| *contested != universe);
+        } else if !was_contested {
+            self.contested.push(universe)?;
+            let priority = self.monitor.top_priority(universe);
+            let rivals = Trouble::Rivals {
+                universe,
+                sources,
+                priority,
+            };
+            self.alarms.add(now, rivals)?;
+        }
+        Ok(())
+    }
+
+    // Gives a packet to its universe, where that is merged or there is room for it.
+    fn light(&mut self, now: u64, packet: &DataView<'_>) -> Result<(), AllocError> {
+        let number = packet.universe();
+        if self.lit(number).is_none() && self.lit.len() < MOST_LIT {
+            self.lit.push(unlit(self.alloc, number)?)?;
+        }
+        for lit in self.lit.iter_mut() {
+            if lit.number() == number {
+                lit.take(now, packet);
+            }
+        }
+        Ok(())
+    }
+}
+
+// A universe of which nothing was heard.
+fn unlit(alloc: Global, number: u16) -> Result<LitUniverse, AllocError> {
+    match LitUniverse::new(alloc, number) {
+        Ok(lit) => Ok(lit),
+        Err(_) => Err(AllocError),
+    }
+}
+
+// Whether a packet may change who lights its universe at the top priority.
+fn stirs(stream: &Stream, news: &News) -> bool {
+    (news.event != Event::GoesOn) | news.priority.is_some() | (stream.account.kinds.live == 1)
+}

@@ -1,0 +1,31 @@
+//! A page that shows a rig (ANSI E1.31-2018) to browsers, as a watch hears it. Nothing can be ordered through it.
+#![tactic(auto)]
+
+mod alarms;
+mod board;
+mod document;
+mod ear;
+mod hosts;
+mod json;
+mod lit;
+mod markup;
+mod outbox;
+mod request;
+mod response;
+mod room;
+mod server;
+mod sys;
+mod viewer;
+
+pub use alarms::{Alarm, Alarms, MOST_ALARMS, Trouble};
+pub use board::{Board, MOST_LIT};
+pub use document::{Extent, Given, push_document};
+pub use ear::Ear;
+pub use hosts::Hosts;
+pub use lit::{LitUniverse, SLOTS};
+pub use markup::PAGE;
+pub use request::{Asked, MOST_FIELDS, MOST_HEAD, Reading, Refusal, read_request};
+pub use response::{Kind, opened, push_event, refused, whole};
+pub use room::{LEAST_WAIT, MOST_SURPLUS, MOST_VIEWERS, MOST_WAIT, Room};
+pub use server::Pages;
+pub use viewer::{Connection, HEAD_TIME, LEAVE_TIME, Phase, STALL_TIME, Viewer};

@@ -1,0 +1,210 @@
+//! What a request of a browser asks for (HTTP/1.1, RFC 9112).
+
+ghost use Rattle.std.specs.Prelude.{◌≡◌, ◌≢◌, ◌<◌, length, map, count_by, codes, IsOk, OnOk, IsTrue, Some, option_copied};
+ghost use Rattle.std.specs.List.{list_all};
+ghost use Rattle.httparse.specs.Borrowed.{header_parts};
+ghost use Rattle.sacn_page.specs.Requests.{status_of, is_host, says_own, is_own, IsOwnGet, OnAsked};
+ghost use Rattle.sacn_page.specs.declared.request.Reading.TheVariants.{More};
+
+use crate::hosts::{Hosts, is_word};
+use httparse::{EMPTY_HEADER, Error, Header, Request, Status};
+
+/// The most octets of a request's head.
+pub const MOST_HEAD: usize = 4096;
+
+/// The most header fields of a request.
+pub const MOST_FIELDS: usize = 32;
+
+/// The greatest number of a universe (E1.31, 6.2.7).
+const MOST_UNIVERSE: u16 = 63999;
+
+/// What a request asks for.
+#[derive(Clone, Copy, Debug, PartialEq, Eq)]
+pub enum Asked {
+    /// The page: `/`, whatever its query says.
+    Page,
+    /// The document of a universe, 1 to 63999, or of the first that was heard: `/state`.
+    State(Option<u16>),
+    /// The document, and then what changes in it: `/events`.
+    Events(Option<u16>),
+}
+
+/// Why a request isn't answered as it asks.
+#[derive(Clone, Copy, Debug, PartialEq, Eq)]
+pub enum Refusal {
+    /// The head isn't one of HTTP, is cut off, or names no universe where it should.
+    Malformed,
+    /// A body is announced.
+    Body,
+    /// It isn't asked of this host by name: a page from elsewhere may have asked.
+    Foreign,
+    /// Nothing is there.
+    Missing,
+    /// Another method than GET.
+    Method,
+    /// The head is longer than `MOST_HEAD` octets, or has more than `MOST_FIELDS` fields.
+    TooLarge,
+    /// There is no room for a further viewer, or for a further universe.
+    Busy,
+    /// Another version than HTTP/1.0 and HTTP/1.1.
+    Version,
+}
+
+/// What is known of a request, of which so much came.
+#[derive(Clone, Copy, Debug, PartialEq, Eq)]
+pub enum Reading {
+    /// Its head isn't complete yet.
+    More,
+    Asked(Asked),
+    Refused(Refusal),
+}
+
+impl Refusal {
+    /// The status of the answer (RFC 9110, 15).
+    pub fn status(self) -> u16
+        ensures { result ≡ status_of self }
+    {
+        match self {
+            Refusal::Malformed => 400,
+            Refusal::Body => 400,
+            Refusal::Foreign => 403,
+            Refusal::Missing => 404,
+            Refusal::Method => 405,
+            Refusal::TooLarge => 431,
+            Refusal::Busy => 503,
+            Refusal::Version => 505,
+        }
+    }
+}
+
+/// What the octets ask for that came of a request so far, of one of these hosts. Something is asked for only by a whole head of a
+/// GET that names one of them; and only where fewer than `MOST_HEAD` octets came the answer may be that more have to come.
+pub fn read_request(octets: &[u8], hosts: &Hosts) -> Reading
+    ensures asked { OnAsked result (IsOwnGet hosts.now octets.now) }
+    ensures more { result ≡ More → length octets.now < MOST_HEAD }
+{
+    let mut fields = [EMPTY_HEADER; MOST_FIELDS];
+    let mut request = Request::new(&mut fields);
+    match request.parse(octets) {
+        Ok(Status::Complete(len)) => {
+            if len > MOST_HEAD {
+                return Reading::Refused(Refusal::TooLarge);
+            }
+            decided(asked_by(&request, hosts))
+        }
+        Ok(Status::Partial) => {
+            if octets.len() >= MOST_HEAD {
+                return Reading::Refused(Refusal::TooLarge);
+            }
+            Reading::More
+        }
+        Err(Error::TooManyHeaders) => Reading::Refused(Refusal::TooLarge),
+        Err(Error::Version) => Reading::Refused(Refusal::Version),
+        Err(_) => Reading::Refused(Refusal::Malformed),
+    }
+}
+
+fn decided(asked: Result<Asked, Refusal>) -> Reading
+    ensures open { result ≢ More }
+    ensures asked { OnAsked result (IsOk asked) }
+{
+    match asked {
+        Ok(asked) => Reading::Asked(asked),
+        Err(refusal) => Reading::Refused(refusal),
+    }
+}
+
+// What a whole head asks for.
+fn asked_by(request: &Request<'_, '_>, hosts: &Hosts) -> Result<Asked, Refusal>
+    ensures own { OnOk result (IsTrue (is_own hosts.now (map header_parts request.now.headers.now))) }
+    ensures method { OnOk result (option_copied request.now.method ≡ Some (codes "GET")) }
+{
+    let fields: &[Header<'_>] = request.headers;
+    if !is_own(fields, hosts) {
+        return Err(Refusal::Foreign);
+    }
+    match request.method {
+        Some("GET") => {}
+        _ => return Err(Refusal::Method),
+    }
+    if has_body(fields) {
+        return Err(Refusal::Body);
+    }
+    match request.path {
+        Some(target) => target_asked(target),
+        None => Err(Refusal::Malformed),
+    }
+}
+
+// Whether there is one Host field, and it names one of these hosts.
+#[tactic(auto, using(crate::proofs::Mapped::own_is))]
+fn is_own(fields: &[Header<'_>], hosts: &Hosts) -> bool
+    ensures { result ≡ is_own hosts.now (map header_parts fields.now) }
+{
+    (count_hosts(fields) == 1) & all_own(fields, hosts)
+}
+
+fn count_hosts(fields: &[Header<'_>]) -> usize
+    ensures { result ≡ count_by (λ f. is_host (header_parts f)) fields.now }
+{
+    fields.iter().filter(|field| is_host(field)).count()
+}
+
+fn all_own(fields: &[Header<'_>], hosts: &Hosts) -> bool
+    ensures { result ≡ list_all (λ f. says_own hosts.now (header_parts f)) fields.now }
+{
+    fields.iter().all(|field| says_own(field, hosts))
+}
+
+fn is_host(field: &Header<'_>) -> bool
+    ensures { result ≡ is_host (header_parts field.now) }
+{
+    is_word(b"host", field.name.as_bytes())
+}
+
+// Whether a field names one of these hosts, if it is a Host field.
+fn says_own(field: &Header<'_>, hosts: &Hosts) -> bool
+    ensures { result ≡ says_own hosts.now (header_parts field.now) }
+{
+    !is_host(field) | hosts.has(field.value)
+}
+
+// Whether a field announces a body.
+fn has_body(fields: &[Header<'_>]) -> bool {
+    for field in fields {
+        if field.name.eq_ignore_ascii_case("transfer-encoding") {
+            return true;
+        }
+        if field.name.eq_ignore_ascii_case("content-length") && field.value != b"0".as_slice() {
+            return true;
+        }
+    }
+    false
+}
+
+fn target_asked(target: &str) -> Result<Asked, Refusal> {
+    let (path, query) = match target.split_once('?') {
+        Some((path, query)) => (path, query),
+        None => (target, ""),
+    };
+    match path {
+        "/" => Ok(Asked::Page),
+        "/state" => Ok(Asked::State(universe_in(query)?)),
+        "/events" => Ok(Asked::Events(universe_in(query)?)),
+        _ => Err(Refusal::Missing),
+    }
+}
+
+// The universe that a query names, if any.
+fn universe_in(query: &str) -> Result<Option<u16>, Refusal> {
+    if query.is_empty() {
+        return Ok(None);
+    }
+    let Some(("universe", digits)) = query.split_once('=') else {
+        return Err(Refusal::Malformed);
+    };
+    match sacn_files::words::short_in(digits) {
+        Some(universe) if (universe > 0) & (universe <= MOST_UNIVERSE) => Ok(Some(universe)),
+        _ => Err(Refusal::Malformed),
+    }
+}

@@ -1,0 +1,124 @@
+//! How a request is answered (HTTP/1.1, RFC 9112). Each answer ends its connection.
+
+use crate::request::Refusal;
+use std::alloc::{AllocError, Global};
+use std::fmt::Write;
+
+/// What a page of this server may do in a browser: its own style and script, and questions to this server alone.
+const POLICY: &str =
+    "default-src 'none'; style-src 'unsafe-inline'; script-src 'unsafe-inline'; connect-src 'self'; img-src data:";
+
+/// What an answer is.
+#[derive(Clone, Copy, Debug, PartialEq, Eq)]
+pub enum Kind {
+    Page,
+    Json,
+    Events,
+    Text,
+}
+
+impl Kind {
+    fn media_type(self) -> &'static str {
+        match self {
+            Kind::Page => "text/html; charset=utf-8",
+            Kind::Json => "application/json",
+            Kind::Events => "text/event-stream",
+            Kind::Text => "text/plain; charset=utf-8",
+        }
+    }
+}
+
+impl Refusal {
+    /// The phrase beside its status (RFC 9110, 15).
+    fn reason(self) -> &'static str {
+        match self {
+            Refusal::Malformed => "Bad Request",
+            Refusal::Body => "Bad Request",
+            Refusal::Foreign => "Forbidden",
+            Refusal::Missing => "Not Found",
+            Refusal::Method => "Method Not Allowed",
+            Refusal::TooLarge => "Request Header Fields Too Large",
+            Refusal::Busy => "Service Unavailable",
+            Refusal::Version => "HTTP Version Not Supported",
+        }
+    }
+
+    // What a person reads.
+    fn explanation(self) -> &'static str {
+        match self {
+            Refusal::Malformed => "The request can't be read.",
+            Refusal::Body => "A request with a body isn't taken.",
+            Refusal::Foreign => "This isn't the name of this server.",
+            Refusal::Missing => "There is /, /state and /events.",
+            Refusal::Method => "Nothing can be ordered here: only GET is taken.",
+            Refusal::TooLarge => "The head of the request is too large.",
+            Refusal::Busy => "There is no room for a further viewer or universe.",
+            Refusal::Version => "Only HTTP/1.0 and HTTP/1.1 are spoken.",
+        }
+    }
+}
+
+/// An answer with this body.
+///
+/// Errors: a growth was refused.
+pub fn whole(alloc: Global, kind: Kind, body: &str) -> Result<String, AllocError> {
+    let mut text = begun(alloc, 200, "OK", kind)?;
+    finish(&mut text, body)?;
+    Ok(text)
+}
+
+/// The head of an answer whose events follow.
+///
+/// Errors: a growth was refused.
+pub fn opened(alloc: Global) -> Result<String, AllocError> {
+    let mut text = begun(alloc, 200, "OK", Kind::Events)?;
+    text.push_str("\r\n")?;
+    Ok(text)
+}
+
+/// The answer to a request that is refused.
+///
+/// Errors: a growth was refused.
+pub fn refused(alloc: Global, refusal: Refusal) -> Result<String, AllocError> {
+    let mut text = begun(alloc, refusal.status(), refusal.reason(), Kind::Text)?;
+    match refusal {
+        Refusal::Method => text.push_str("Allow: GET\r\n")?,
+        Refusal::Busy => text.push_str("Retry-After: 5\r\n")?,
+        _ => {}
+    }
+    let mut body = String::new(alloc);
+    let explanation = refusal.explanation();
+    write!(body, "{explanation}\n")?;
+    finish(&mut text, body.as_str())?;
+    Ok(text)
+}
+
+// The front of a head.
+fn begun(alloc: Global, status: u16, reason: &str, kind: Kind) -> Result<String, AllocError> {
+    let mut text = String::new(alloc);
+    let media_type = kind.media_type();
+    write!(text, "HTTP/1.1 {status} {reason}\r\n")?;
+    write!(text, "Content-Type: {media_type}\r\n")?;
+    text.push_str("Connection: close\r\n")?;
+    text.push_str("Cache-Control: no-store\r\n")?;
+    text.push_str("X-Content-Type-Options: nosniff\r\n")?;
+    text.push_str("Referrer-Policy: no-referrer\r\n")?;
+    write!(text, "Content-Security-Policy: {POLICY}\r\n")?;
+    Ok(text)
+}
+
+// The end of a head, and the body.
+fn finish(text: &mut String, body: &str) -> Result<(), AllocError> {
+    let len = body.len();
+    write!(text, "Content-Length: {len}\r\n\r\n")?;
+    text.push_str(body)
+}
+
+/// An event of this name (HTML, server-sent events), of data in one line.
+///
+/// Errors: a growth was refused.
+pub fn push_event(text: &mut String, name: &str, data: &str) -> Result<(), AllocError> {
+    write!(text, "event: {name}\ndata: ")?;
+    text.push_str(data)?;
+    text.push_str("\n\n")
+}

@@ -1,0 +1,168 @@
+//! A server of pages beside a watch.
+
+use crate::room::Room;
+use crate::viewer::Connection;
+use mio::net::{TcpListener, TcpStream};
+use mio::{Events, Interest, Poll, Token};
+use sacn_monitor::Sender;
+use sacn_watch::{WatchFault, Watcher};
+use std::alloc::Global;
+use std::io::{self, ErrorKind};
+use std::net::{Net, Shutdown, SocketAddr, SocketAddrV4};
+use std::os::fd::{AsRawFd, RawFd};
+use std::time::Duration;
+
+const LISTENER: Token = Token(usize::MAX);
+
+/// The most connections that are taken in one turn.
+const MOST_CALLS: usize = 64;
+
+/// The most readinesses that are looked at in one turn.
+const MOST_EVENTS: usize = 64;
+
+/// The milliseconds after which a server that could take no connection tries again.
+const RETRY: u64 = 1000;
+
+impl Connection for TcpStream {
+    fn finish(&mut self) {
+        let _ = self.shutdown(Shutdown::Write);
+    }
+}
+
+/// Serves the page of a watch to browsers.
+#[derive(Drop)]
+pub struct Pages {
+    room: Room<TcpStream>,
+    address: SocketAddrV4,
+    listener: TcpListener,
+    poll: Poll,
+    events: Events,
+    /// Connections may be waiting from this moment on.
+    calls: u64,
+}
+
+impl Pages {
+    /// A server at this address. A viewer that names no universe is shown this one, else the first heard.
+    ///
+    /// Errors: the machine's, where it refuses the socket; OutOfMemory.
+    pub fn bind<R: Net>(
+        rt: &R,
+        alloc: Global,
+        address: SocketAddrV4,
+        preferred: Option<u16>,
+    ) -> Result<Self, ErrorKind> {
+        match Pages::bound(rt, alloc, address, preferred) {
+            Ok(pages) => Ok(pages),
+            Err(error) => Err(error.kind()),
+        }
+    }
+
+    fn bound<R: Net>(
+        rt: &R,
+        alloc: Global,
+        address: SocketAddrV4,
+        preferred: Option<u16>,
+    ) -> io::Result<Self> {
+        let room = Room::new(alloc, preferred)?;
+        let poll = Poll::new(rt)?;
+        let events = Events::with_capacity(alloc, MOST_EVENTS)?;
+        let mut listener = TcpListener::bind(rt, SocketAddr::V4(address))?;
+        poll.registry()
+            .register(&mut listener, LISTENER, Interest::READABLE)?;
+        Ok(Pages {
+            room,
+            address,
+            listener,
+            poll,
+            events,
+            calls: u64::MAX,
+        })
+    }
+
+    /// A descriptor that can be read where a browser calls, or takes what it is sent.
+    pub fn descriptor(&self) -> RawFd {
+        self.poll.as_raw_fd()
+    }
+
+    // Takes the connections that wait.
+    fn accept(&mut self, now: u64) {
+        self.calls = now;
+        for _ in 0..MOST_CALLS {
+            match self.listener.accept() {
+                Ok((stream, _)) => self.admit(stream, now),
+                Err(error) => match error.kind() {
+                    ErrorKind::WouldBlock => {
+                        self.calls = u64::MAX;
+                        return;
+                    }
+                    ErrorKind::Interrupted => {}
+                    ErrorKind::ConnectionAborted => {}
+                    _ => {
+                        self.calls = now.saturating_add(RETRY);
+                        return;
+                    }
+                },
+            }
+        }
+    }
+
+    // Takes a connection, where there is room for it.
+    fn admit(&mut self, mut stream: TcpStream, now: u64) {
+        let Some(key) = self.room.vacancy() else {
+            return;
+        };
+        let address = match stream.local_addr() {
+            Ok(SocketAddr::V4(address)) => address,
+            _ => self.address,
+        };
+        let _ = stream.set_nodelay(true);
+        let interests = Interest::READABLE | Interest::WRITABLE;
+        let registered = self
+            .poll
+            .registry()
+            .register(&mut stream, Token(key), interests);
+        if registered.is_ok() {
+            let _ = self.room.admit(stream, address, now);
+        }
+    }
+
+    // Does what browsers wait for.
+    fn serve(&mut self, now: u64) -> Result<(), WatchFault> {
+        let _ = self.poll.poll(&mut self.events, Some(Duration::ZERO));
+        let mut calls = self.calls <= now;
+        for event in self.events.iter() {
+            let token = event.token();
+            if token == LISTENER {
+                calls = true;
+            } else {
+                self.room.serve(token.0, now);
+            }
+        }
+        if calls {
+            self.accept(now);
+        }
+        Ok(())
+    }
+}
+
+impl Watcher for Pages {
+    fn take(&mut self, now: u64, sender: Sender, octets: &[u8]) -> Result<(), WatchFault> {
+        self.room.take(now, sender, octets)?;
+        Ok(())
+    }
+
+    fn show(&mut self, now: u64) -> Result<(), WatchFault> {
+        self.room.tick(now)?;
+        self.serve(now)?;
+        self.room.show(now)?;
+        Ok(())
+    }
+
+    fn wakes(&self) -> u64 {
+        self.room.wakes().min(self.calls)
+    }
+
+    fn end(&mut self, _now: u64) -> Result<(), WatchFault> {
+        Ok(())
+    }
+}

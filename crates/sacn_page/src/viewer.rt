@@ -1,0 +1,219 @@
+//! One connection of a browser.
+
+ghost use Rattle.std.specs.Prelude.{◌≤◌, length, IfSome};
+
+use crate::document::Given;
+use crate::hosts::Hosts;
+use crate::outbox::Outbox;
+use crate::request::{MOST_HEAD, Reading, Refusal, read_request};
+use std::alloc::{AllocError, Global};
+use std::io::{ErrorKind, Read, Write};
+
+/// The longest time in which the head of a request has to come, in milliseconds.
+pub const HEAD_TIME: u64 = 5000;
+
+/// The longest time in which a viewer that is owed octets takes none, in milliseconds.
+pub const STALL_TIME: u64 = 60_000;
+
+/// The longest time in which an answered viewer closes its end, in milliseconds.
+pub const LEAVE_TIME: u64 = 1000;
+
+/// The octets of one receive.
+const CHUNK: usize = 2048;
+
+/// The most receives of one turn. A viewer that sends more than they take is closed.
+const MOST_RECEIVES: usize = 64;
+
+/// A connection whose reads and writes don't wait.
+pub trait Connection: Read + Write {
+    /// Says that nothing more is written.
+    fn finish(&mut self);
+}
+
+/// How far a connection is.
+#[derive(Clone, Copy, Debug, PartialEq, Eq)]
+pub enum Phase {
+    /// The head of its request isn't complete.
+    Asking,
+    /// It has its last octets to take.
+    Answered,
+    /// It is given events of the universe that it named, if any.
+    Watching(Option<u16>),
+    /// It took all; what it still sends is passed over until it closes its end.
+    Leaving,
+    /// It is over.
+    Gone,
+}
+
+/// A browser's connection, which asks once.
+#[derive(Drop)]
+pub struct Viewer<C> {
+    connection: C,
+    hosts: Hosts,
+    /// Whether it came where there was no room.
+    is_surplus: bool,
+    phase: Phase,
+    head: Vec<u8>,
+    /// What it is to be sent.
+    output: Outbox,
+    /// The other side sends nothing more.
+    has_ended: bool,
+    /// The moment at which it is closed where nothing happens.
+    deadline: u64,
+    /// What it was given last.
+    pub given: Given,
+}
+
+impl<C: Connection> Viewer<C> {
+    /// A connection that came at a moment to a server of these names; a surplus one is answered that there is no room.
+    pub fn new(alloc: Global, connection: C, hosts: Hosts, is_surplus: bool, now: u64) -> Self {
+        Viewer {
+            connection,
+            hosts,
+            is_surplus,
+            phase: Phase::Asking,
+            head: Vec::new(alloc),
+            output: Outbox::new(alloc),
+            has_ended: false,
+            deadline: now.saturating_add(HEAD_TIME),
+            given: Given::nothing(alloc),
+        }
+    }
+
+    /// How far it is.
+    pub fn phase(&self) -> Phase {
+        self.phase
+    }
+
+    /// Whether it came where there was no room.
+    pub fn is_surplus(&self) -> bool {
+        self.is_surplus
+    }
+
+    /// Whether all that it was to be sent went.
+    pub fn is_idle(&self) -> bool {
+        self.output.left().is_empty()
+    }
+
+    /// The moment at which it is closed where nothing happens; `u64::MAX` where it never is.
+    pub fn deadline(&self) -> u64 {
+        self.deadline
+    }
+
+    /// Takes what it sent, and answers what is known of its request, where that is still open. Octets behind the request are
+    /// passed over.
+    ///
+    /// Errors: OutOfMemory.
+    pub fn hear(&mut self) -> Result<Reading, AllocError> {
+        let mut reading = Reading::More;
+        let mut chunk = [0; CHUNK];
+        for _ in 0..MOST_RECEIVES {
+            match self.receive(&mut chunk) {
+                Some(0) => {
+                    self.has_ended = true;
+                    return Ok(self.ended(reading));
+                }
+                Some(count) => {
+                    if (self.phase == Phase::Asking) & (reading == Reading::More) {
+                        self.head.extend_from_slice(&chunk[..count])?;
+                        reading = read_request(self.head.as_slice(), &self.hosts);
+                    }
+                }
+                None => return Ok(reading),
+            }
+        }
+        self.phase = Phase::Gone;
+        Ok(reading)
+    }
+
+    // What is known of its request, where it sends nothing more.
+    fn ended(&mut self, reading: Reading) -> Reading {
+        match self.phase {
+            Phase::Asking => match reading {
+                Reading::More if self.head.is_empty() => {
+                    self.phase = Phase::Gone;
+                    Reading::More
+                }
+                Reading::More => Reading::Refused(Refusal::Malformed),
+                known => known,
+            },
+            Phase::Answered => reading,
+            _ => {
+                self.phase = Phase::Gone;
+                reading
+            }
+        }
+    }
+
+    // The number of octets that came, 0 at their end; None where there is nothing now.
+    fn receive(&mut self, chunk: &mut [u8; CHUNK]) -> Option<usize>
+        ensures { IfSome result (λ count. count ≤ length chunk.new) }
+    {
+        match self.connection.read(chunk) {
+            Ok(count) => Some(count),
+            Err(error) => match error.kind() {
+                ErrorKind::WouldBlock => None,
+                ErrorKind::Interrupted => None,
+                _ => {
+                    self.phase = Phase::Gone;
+                    None
+                }
+            },
+        }
+    }
+
+    /// Gives it octets, and what comes after them: its leave, or events. All that it was given before must have gone.
+    ///
+    /// Errors: OutOfMemory.
+    pub fn give(&mut self, octets: &str, after: Phase, now: u64) -> Result<(), AllocError> {
+        self.output.fill(octets.as_bytes())?;
+        self.phase = after;
+        self.deadline = now.saturating_add(STALL_TIME);
+        self.send(now);
+        Ok(())
+    }
+
+    /// Sends what the connection takes now.
+    pub fn send(&mut self, now: u64) {
+        for _ in 0..u64::MAX {
+            if self.is_idle() {
+                break;
+            }
+            match self.connection.write(self.output.left()) {
+                Ok(0) => self.phase = Phase::Gone,
+                Ok(count) => {
+                    self.output.advance(count);
+                    self.deadline = now.saturating_add(STALL_TIME);
+                }
+                Err(error) if error.kind() == ErrorKind::WouldBlock => return,
+                Err(_) => self.phase = Phase::Gone,
+            }
+            if self.phase == Phase::Gone {
+                return;
+            }
+        }
+        self.rest(now);
+    }
+
+    // All went.
+    fn rest(&mut self, now: u64) {
+        match self.phase {
+            Phase::Answered => {
+                self.connection.finish();
+                self.deadline = now.saturating_add(LEAVE_TIME);
+                self.phase = if self.has_ended {
+                    Phase::Gone
+                } else {
+                    Phase::Leaving
+                };
+            }
+            Phase::Watching(_) => {
+                self.deadline = u64::MAX;
+                if self.has_ended {
+                    self.phase = Phase::Gone;
+                }
+            }
+            _ => {}
+        }
+    }
+}

@@ -1,0 +1,311 @@
+#!/usr/bin/env bash
+# The page of a watch, asked with curl and with bash alone: each refusal, the document, events beside a desk on loopback, a viewer that never reads, and
+# more viewers and universes than there is room for. Prints 'ok NAME', 'not ok NAME: why' or 'skipped NAME: why' for each, as ./test counts them.
+set -u
+top=$(cd "$(dirname "$(readlink -f "$0")")/.." && pwd)
+sacn=${SACN:-$top/crates/sacn/out/sacn}
+if [ ! -x "$sacn" ]; then
+  echo "skipped page: sacn isn't built"
+  exit 0
+fi
+if ! command -v curl >/dev/null; then
+  echo "skipped page: there is no curl"
+  exit 0
+fi
+room=$(mktemp -d)
+started=()
+cleanup() {
+  for pid in "${started[@]:-}"; do [ -z "$pid" ] || kill "$pid" 2>/dev/null; done
+  rm -rf "$room"
+}
+trap cleanup EXIT
+cd "$room" || exit 1
+udp=25845
+tcp=25846
+at=http://127.0.0.1:$tcp
+CR=$'\r'
+
+# verdict NAME STATUS [WHY]: says whether a look went well
+verdict() { if [ "$2" = 0 ]; then echo "ok page: $1"; else echo "not ok page: $1: ${3-}"; fi; }
+
+# refused STATUS WANTED WORD..: a run ends so, and prints nothing
+refused() {
+  local wanted=$1 said=$2 status=0 first
+  shift 2
+  timeout 20 "$sacn" watch "$@" </dev/null >out 2>err || status=$?
+  first=$(head -n 1 err)
+  # shellcheck disable=SC2053
+  [ "$status" = "$wanted" ] && [[ $first == $said ]] && [ ! -s out ]
+  verdict "watch $*" $? "status $status, '$first'"
+}
+
+refused 2 "error: 0: Port" --page 0
+refused 2 "error: 65536: Port" --page 65536
+refused 2 "error: 127.0.0.1:0: Port" --page 127.0.0.1:0
+refused 2 "error: 127.0.0.1: Address" --page 127.0.0.1
+refused 2 "error: here:80: Address" --page here:80
+refused 2 "error: --page: beside --plain" --page $tcp --plain
+refused 2 "error: --page: beside --json" --page $tcp --json
+refused 2 "error: *" --page
+refused 4 "device socket 192.0.2.1:$tcp AddrNotAvailable" --page 192.0.2.1:$tcp --port $udp
+
+# serves WORD..: a watch whose page is served, until the script ends it
+serves() {
+  "$sacn" watch --listen 127.0.0.1 --port $udp --page "$@" </dev/null >watch.out 2>watch.err &
+  watch=$!
+  started+=("$watch")
+  for _ in $(seq 100); do grep -q '^page' watch.err && return; sleep 0.1; done
+  echo "not ok page: it serves none: $(head -n 1 watch.err)"
+  exit 1
+}
+serves $tcp
+[ "$(tail -n 1 watch.err)" = "page http://127.0.0.1:$tcp/" ]
+verdict "where it serves" $? "$(cat watch.err)"
+refused 4 "device socket 127.0.0.1:$tcp AddrInUse" --page $tcp --port $udp
+
+# answers NAME STATUS WORD..: curl is answered so; the answer is in head and body
+answers() {
+  local name=$1 wanted=$2 status
+  shift 2
+  status=$(curl -s -m 10 -o body -D head -w '%{http_code}' "$@")
+  [ "$status" = "$wanted" ]
+  verdict "$name" $? "$status"
+}
+
+# sends NAME STATUS OCTETS: octets of a head as they stand are answered so
+sends() {
+  local first=
+  exec {line}<>"/dev/tcp/127.0.0.1/$tcp"
+  printf '%b' "$3" >&"$line"
+  read -r -t 10 -u "$line" first
+  exec {line}>&-
+  [[ $first == "HTTP/1.1 $2 "* ]]
+  verdict "$1" $? "$first"
+}
+own="Host: 127.0.0.1:$tcp\r\n"
+long=$(head -c 5000 /dev/zero | tr '\0' a)
+fields=$(for number in $(seq 32); do printf 'X-%s: 1\\r\\n' "$number"; done)
+
+answers "the page" 200 $at/
+grep -qi '<!doctype html>' body && grep -q "^Content-Type: text/html; charset=utf-8$CR" head
+verdict "the page is HTML" $? "$(head -n 3 body)"
+for field in "Cache-Control: no-store" "X-Content-Type-Options: nosniff" "Referrer-Policy: no-referrer" \
+  "Content-Security-Policy: default-src 'none'; style-src 'unsafe-inline'; script-src 'unsafe-inline'; connect-src 'self'; img-src data:" \
+  "Content-Length: $(wc -c <body)"; do
+  grep -qxF "$field$CR" head
+  verdict "the page has $field" $? "$(cat head)"
+done
+! grep -qE '(src|href) *= *["'\'']?(https?:)?//' body
+verdict "the page asks no other server" $?
+answers "the page with a query" 200 "$at/?universe=7"
+answers "no such path" 404 $at/favicon.ico
+answers "a path above" 404 --path-as-is $at/../state
+answers "a post" 405 -d go=1 $at/
+grep -qxF "Allow: GET$CR" head
+verdict "a post is told what is allowed" $? "$(cat head)"
+answers "a put" 405 -X PUT $at/state
+answers "a deletion" 405 -X DELETE $at/events
+answers "a question for options" 405 -X OPTIONS $at/
+sends "a head alone" 405 "HEAD / HTTP/1.1\r\n$own\r\n"
+answers "a body" 400 -X GET -d go=1 $at/
+answers "a body in chunks" 400 -X GET -H 'Transfer-Encoding: chunked' -d go=1 $at/
+sends "a body of no octets" 200 "GET / HTTP/1.1\r\n${own}Content-Length: 0\r\n\r\n"
+answers "another host" 403 -H 'Host: rig.example' $at/state
+answers "another host with the port" 403 -H "Host: rig.example:$tcp" $at/events
+answers "another port" 403 -H "Host: 127.0.0.1:1" $at/state
+answers "no port" 403 -H "Host: 127.0.0.1" $at/state
+answers "this machine by name" 200 -H "Host: LocalHost:$tcp" $at/state
+answers "no host" 403 -H 'Host:' $at/state
+sends "no host in HTTP/1.0" 403 "GET /state HTTP/1.0\r\n\r\n"
+sends "two hosts" 403 "GET /state HTTP/1.1\r\n${own}Host: rig.example\r\n\r\n"
+sends "a host twice" 403 "GET /state HTTP/1.1\r\n$own$own\r\n"
+sends "HTTP/1.0" 200 "GET /state HTTP/1.0\r\n$own\r\n"
+sends "HTTP/2.0" 505 "GET /state HTTP/2.0\r\n$own\r\n"
+sends "no version" 400 "GET /state\r\n$own\r\n"
+sends "a field without a colon" 400 "GET / HTTP/1.1\r\n${own}nothing\r\n\r\n"
+sends "a field with a control letter" 400 "GET / HTTP/1.1\r\n${own}X: \001\r\n\r\n"
+sends "no words" 400 "\001\002\003\r\n\r\n"
+sends "a head of 5000 octets" 431 "GET / HTTP/1.1\r\n${own}X: $long\r\n\r\n"
+sends "a head of 5000 octets without an end" 431 "GET / HTTP/1.1\r\n${own}X: $long"
+sends "33 fields" 431 "GET / HTTP/1.1\r\n$own$fields\r\n"
+sends "32 fields" 200 "GET / HTTP/1.1\r\n$own${fields#X-1: 1\\r\\n}\r\n"
+for query in universe=0 universe=64000 universe=x universe= universe=-1 universe=1\&universe=2 u=1; do
+  answers "the query $query" 400 "$at/state?$query"
+done
+answers "universe 63999" 200 "$at/state?universe=63999"
+
+# A head that comes late is closed, and delays no other.
+start=$SECONDS
+exec {line}<>"/dev/tcp/127.0.0.1/$tcp"
+printf 'GET / HTTP/1.1\r\n' >&"$line"
+answers "the page beside a head that is late" 200 $at/
+read -r -t 10 -u "$line" first
+status=$?
+exec {line}>&-
+[ "$status" = 1 ] && [ $((SECONDS - start)) -ge 4 ] && [ $((SECONDS - start)) -le 7 ]
+verdict "a head that is late is closed" $? "status $status, $((SECONDS - start)) s"
+
+answers "the document before anything came" 200 $at/state
+nothing='{"ms":0,"universe":null,"heard":[],"sources":[],"levels":"'$(printf '0%.0s' $(seq 1024))'","winners":"'$(printf '0%.0s' $(seq 2048))
+nothing+='","alarms":[],"counts":{"datagrams":0,"refused":0,"pages":0,"untracked":0}}'
+[ "$(sed 's/"ms":[0-9]*/"ms":0/' body)" = "$nothing" ]
+verdict "nothing heard" $? "$(cat body)"
+kill "$watch"
+
+# A desk of two universes, whose name is no plain text.
+cat >show.toml <<T
+version = 2
+cid = "00010203-0405-0607-0809-0a0b0c0d0e0f"
+name = "<b>\"Dösk\" & 🎭\\\\"
+universes = [1, 7]
+send_to = [$udp]
+[[cue]]
+number = 1
+up = 0
+down = 0
+levels = [[1, 65535]]
+[[cue]]
+number = 2
+up = 0
+down = 0
+levels = [[1, 32768]]
+[[patch]]
+channel = 1
+universe = 7
+slot = 3
+T
+serves 127.0.0.1:$tcp --universe 7
+curl -sN -m 9 "$at/events" >events &
+viewer=$!
+curl -sN -m 9 "$at/events?universe=1" >events.1 &
+sleep 0.5
+printf '0 go\n2500 go\n3500 go\n' >script.txt
+timeout 30 "$sacn" desk show.toml --script script.txt </dev/null >/dev/null 2>desk.err &
+desk=$!
+started+=("$desk")
+sleep 1.5
+answers "the document of a universe" 200 $at/state
+dark=$(printf '0%.0s' $(seq 1018))
+none=$(printf '0%.0s' $(seq 2036))
+for part in '"universe":7,"heard":[1,7],' '"name":"\u003cb\u003e\u0022D\u00f6sk\u0022 \u0026 \ud83c\udfad\u005c"' \
+  '"sources":[{"place":0,"universe":1,"cid":"000102030405060708090a0b0c0d0e0f",' '{"place":1,"universe":7,"cid":"000102030405060708090a0b0c0d0e0f",' \
+  '"address":"127.0.0.1","port":' '"state":"live","priority":100,"first":' '"preview":0,"terminated":0,"other":0,"skipped":0,"late":0,"repeated":0,"gap":' \
+  "\"levels\":\"0000ff$dark\"" "\"winners\":\"000000000002$none\"" '"alarms":[]' '"refused":0,"pages":' '"untracked":0}}'; do
+  grep -qF -- "$part" body
+  verdict "the document has ${part:0:60}" $? "$(head -c 600 body)"
+done
+LC_ALL=C grep -q '[^ -~]' body
+[ $? = 1 ]
+verdict "the document is plain ASCII" $?
+answers "the document of another universe" 200 "$at/state?universe=1"
+grep -q '"universe":1,' body && grep -qF "\"levels\":\"$(printf '0%.0s' $(seq 1024))\"" body
+verdict "another universe is dark" $? "$(head -c 300 body)"
+wait "$desk"
+echo hello >/dev/udp/127.0.0.1/$udp
+wait "$viewer"
+[ "$(head -n 1 events)" = "event: state" ] && [[ $(sed -n 2p events) == 'data: {"ms":'*'"universe":7,"heard":[],"sources":[],'* ]] && [ -z "$(sed -n 3p events)" ]
+verdict "events begin with the document" $? "$(head -n 3 events)"
+[ "$(grep -c '^event: state$' events)" = 1 ] && [ "$(grep '^event' events | sort -u | wc -l)" = 2 ]
+verdict "changes follow it" $? "$(grep '^event' events | sort | uniq -c)"
+count=$(grep -c '^event: change$' events)
+[ "$count" -ge 8 ] && [ "$count" -le 90 ]
+verdict "at most ten changes a second" $? "$count"
+[ "$(grep -c '"heard"' events)" -le 3 ] && [ "$(grep -c '"levels"' events)" -le 5 ] && ! grep -q '"sources":\[\]' <(tail -n +4 events)
+verdict "changes hold what changed alone" $? "$(cut -c 1-200 events | head -n 20)"
+grep -qF "\"levels\":\"0000ff$dark\"" events && grep -qF "\"levels\":\"000080$dark\"" events
+verdict "levels change" $?
+for alarm in '"kind":"ended","text":"universe 7: \u003cb\u003e\u0022D\u00f6sk\u0022 \u0026 \ud83c\udfad\u005c ended its stream"}' \
+  '"kind":"refused","text":"a datagram of 127.0.0.1:'; do
+  grep -qF -- "$alarm" events && [ "$(grep -cF -- "$alarm" events)" = 1 ]
+  verdict "the alarm ${alarm:0:40} comes once" $? "$(grep -o '"alarms":.*' events)"
+done
+grep -qF '"state":"ended"' events
+verdict "the source has ended" $?
+[[ $(sed -n 2p events.1) == *'"universe":1,'* ]] && ! grep '^event: change' -A 1 events.1 | grep -qF '"levels":"'
+verdict "each viewer has its own universe" $? "$(grep -o '"levels":".\{8\}' events.1 | head -n 3)"
+
+# As many viewers as there is room for, and one more.
+ask() { printf 'GET %s HTTP/1.1\r\nHost: 127.0.0.1:%s\r\n\r\n' "$2" "$tcp" >&"$1"; }
+lines=()
+for _ in $(seq 32); do
+  exec {line}<>"/dev/tcp/127.0.0.1/$tcp"
+  ask "$line" /events
+  read -r -t 5 -u "$line" first
+  [[ $first == "HTTP/1.1 200 "* ]] || break
+  lines+=("$line")
+done
+[ "${#lines[@]}" = 32 ]
+verdict "32 viewers" $? "${#lines[@]}"
+answers "a 33rd viewer" 503 $at/events
+answers "a 33rd that asks for the page" 503 $at/
+exec {lines[0]}>&-
+sleep 0.5
+answers "the page once a viewer went" 200 $at/
+for line in "${lines[@]:1}"; do exec {line}>&-; done
+sleep 0.5
+
+# As many universes as are merged at once, and one more.
+lines=()
+for universe in $(seq 101 116); do
+  exec {line}<>"/dev/tcp/127.0.0.1/$tcp"
+  ask "$line" "/events?universe=$universe"
+  read -r -t 5 -u "$line" first
+  [[ $first == "HTTP/1.1 200 "* ]] || break
+  lines+=("$line")
+done
+[ "${#lines[@]}" = 16 ]
+verdict "viewers of 16 universes" $? "${#lines[@]}"
+answers "a 17th universe" 503 "$at/events?universe=117"
+answers "the document of a 17th universe" 503 "$at/state?universe=117"
+answers "the document of one of the 16" 200 "$at/state?universe=116"
+exec {lines[15]}>&-
+sleep 0.5
+answers "a 17th universe once a viewer went" 200 "$at/state?universe=117"
+for line in "${lines[@]:0:15}"; do exec {line}>&-; done
+
+# A viewer that never reads, beside a desk that fades 200 universes.
+{
+  printf 'version = 2\ncid = "10010203-0405-0607-0809-0a0b0c0d0e0f"\nname = "Many"\nsend_to = [%s]\nuniverses = [' "$udp"
+  seq -s ', ' 1 200
+  printf ']\n[[cue]]\nnumber = 1\nup = 12000\ndown = 0\nlevels = [[1, 65535]]\n'
+  for universe in $(seq 200); do printf '[[patch]]\nchannel = 1\nuniverse = %s\nslot = 1\n' "$universe"; done
+} >many.toml
+printf '0 go\n12000 go\n' >script.txt
+heard() { curl -s -m 5 $at/state | sed -n 's/.*"datagrams":\([0-9]*\).*/\1/p'; }
+before=$(heard)
+exec {deaf}<>"/dev/tcp/127.0.0.1/$tcp"
+ask "$deaf" /events
+curl -sN -m 16 $at/events >events &
+viewer=$!
+timeout 30 "$sacn" desk many.toml --script script.txt </dev/null >desk.out 2>desk.err &
+desk=$!
+started+=("$desk")
+sleep 6
+slowest=0
+for _ in $(seq 10); do
+  curl -s -m 5 -o body -w '%{time_total}\n' "$at/state?universe=3" >time
+  took=$(sed 's/[^0-9]*0*\([0-9]*\)\.\([0-9][0-9][0-9]\).*/\1\2/; s/^0*//' time)
+  [ "${took:-0}" -le "$slowest" ] || slowest=$took
+  sleep 0.2
+done
+[ "$slowest" -lt 1000 ]
+verdict "others are answered beside a viewer that never reads" $? "$slowest ms"
+wait "$desk"
+sleep 0.5
+answers "the document at the end" 200 $at/state
+sent=$(sed -n 's/^sent \([0-9]*\) failed 0.*/\1/p' desk.out)
+[ $(($(heard) - before)) = "${sent:-0}" ]
+verdict "each datagram was heard beside a viewer that never reads" $? "sent ${sent:-?}, before $before, $(heard)"
+wait "$viewer"
+timeout 3 cat <&"$deaf" >deaf
+count=$(grep -c '^event: change$' deaf)
+[ "$count" -ge 1 ] && [ "$count" -lt "$(grep -c '^event: change$' events)" ]
+verdict "a viewer that never reads is given fewer events" $? "$count of $(grep -c '^event: change$' events)"
+[[ $(grep '^data' deaf | tail -n 1) == 'data: {"ms":'*'}' ]] && grep -q '"state":"ended"' deaf && [ "$(tail -c 1 deaf | od -An -c | tr -d ' ')" = '\n' ]
+verdict "what it missed comes with the next event, whole" $? "$(tail -c 200 deaf)"
+memory=$(sed -n 's/^VmRSS:[^0-9]*\([0-9]*\).*/\1/p' "/proc/$watch/status")
+[ "${memory:-0}" -lt 60000 ]
+verdict "memory stays small" $? "$memory kB"
+exec {deaf}>&-
+[ ! -s watch.out ] && kill -0 "$watch"
+verdict "it prints nothing, and goes on" $? "$(head -n 3 watch.out)"
