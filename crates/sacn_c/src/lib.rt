@@ -4,11 +4,8 @@
 mod collector;
 mod console;
 mod handle;
-mod held;
 mod loose;
 mod node;
-mod numbers;
 mod packets;
 mod release;
 mod sources;
-mod status;

@@ -1,6 +1,6 @@
 -- What a call does by the kind of what a handle stands for.
-use Rattle.sacn_c.specs.declared.held.Held.{Held}
-use Rattle.sacn_c.specs.declared.held.Held.TheVariants as held
+use Rattle.sacn_border.specs.declared.held.Held.{Held}
+use Rattle.sacn_border.specs.declared.held.Held.TheVariants as held
 use Rattle.sacn_node.specs.Cores as node
 use Rattle.sacn_console.specs.Core as console
 use Rattle.sacn_sources.specs.Kept as sources

@@ -6,7 +6,7 @@ use Rattle.sacn_framing.specs.declared.packet.Packet.TheVariants.{DataPacket, Pa
 use Rattle.sacn_sources.specs.Packets.{packet_of}
 use Rattle.sacn_sources.specs.Rows.{answer}
 use Rattle.sacn_sources.specs.Kept.{Kept, kept_after_take}
-use Rattle.sacn_c.specs.Numbers.{taken_number}
+use Rattle.sacn_border.specs.Numbers.{taken_number}
 
 -- all but a data packet leaves them as they are
 abbrev pub after_reading : ℕ → Result Packet PacketFault → Kept → Kept

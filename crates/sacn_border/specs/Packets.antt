@@ -6,7 +6,7 @@ use Rattle.sacn_framing.specs.Data.{Data, frame_of}
 use Rattle.sacn_framing.specs.Page.{Page}
 use Rattle.sacn_framing.specs.declared.packet.Packet.{Packet}
 use Rattle.sacn_framing.specs.declared.packet.Packet.TheVariants.{DataPacket, PagePacket, SyncPacket}
-use Rattle.sacn_c.specs.declared.packets.PacketFields.{PacketFields}
+use Rattle.sacn_border.specs.declared.packets.PacketFields.{PacketFields}
 
 abbrev pub packet_status : Result Packet PacketFault → ℕ
 packet_status (Ok packet) = 0
