@@ -2,12 +2,13 @@
 ghost use Rattle.std.specs.Prelude.{◌≡◌, None, IfOk, IfErr, IfSome};
 ghost use Rattle.sacn_framing.specs.PacketReading.{reading_packet};
 ghost use Rattle.sacn_discovery.specs.Known.{nothing_known, after_expire, known_list};
-ghost use Rattle.sacn_border.specs.Collecting.{after_reading, ShowsList};
+ghost use Rattle.sacn_border.specs.Collecting.{after_reading, collect_status, collected, list_status, list_count, list_room, ShowsList};
 ghost use Rattle.sacn_border.specs.Kinds.{of_collector};
-ghost use Rattle.sacn_border.specs.declared.status.TheConstants.{DONE, OUT_OF_MEMORY};
+ghost use Rattle.sacn_border.specs.declared.status.TheConstants.{DONE, OUT_OF_MEMORY, WRONG_HANDLE};
 
 use crate::held::Held;
-use crate::status::{DONE, LENGTH, OUT_OF_MEMORY, RANGE, WRONG_HANDLE};
+use crate::rooms::put_list;
+use crate::status::{DONE, OUT_OF_MEMORY, RANGE, WRONG_HANDLE};
 use sacn_discovery::Collector;
 use sacn_framing::{Packet, read_packet};
 use std::alloc::Global;
@@ -29,6 +30,8 @@ pub fn new(alloc: Global) -> Result<Box<Held>, u32>
 fn take_into(collector: &mut Collector, now: u64, octets: &[u8]) -> u32
     ensures taken { result ≡ DONE → collector.new ≡ after_reading now (reading_packet octets.now) collector.old }
     ensures lacking { result ≡ OUT_OF_MEMORY → collector.new ≡ after_expire now collector.old }
+    ensures status { result ≡ collect_status (reading_packet octets.now) result }
+    ensures collector { collector.new ≡ collected result now (reading_packet octets.now) collector.old }
 {
     match read_packet(octets) {
         Ok(Packet::PagePacket(page)) => match collector.take(now, &page) {
@@ -43,23 +46,13 @@ fn take_into(collector: &mut Collector, now: u64, octets: &[u8]) -> u32
 /// Takes a datagram, as `Collector::take`. The status is the fault of one that is no packet.
 pub fn take(held: &mut Held, now: u64, octets: &[u8]) -> u32
     ensures taken { result ≡ DONE → held.new ≡ of_collector held.old (λ s. Held.Collector (after_reading now (reading_packet octets.now) s)) held.old }
+    ensures status { result ≡ of_collector WRONG_HANDLE (λ s. collect_status (reading_packet octets.now) result) held.old }
+    ensures held { held.new ≡ of_collector held.old (λ s. Held.Collector (collected result now (reading_packet octets.now) s)) held.old }
 {
     match held {
         Held::Collector(collector) => take_into(collector, now, octets),
         _ => WRONG_HANDLE,
     }
-}
-
-/// Copies a list to the front of the room, and tells its length.
-fn put_list(list: &[u16], universes: &mut [u16], count: &mut usize) -> u32
-    ensures { result ≡ DONE → ShowsList list.now count.new universes.new }
-{
-    *count = list.len();
-    if universes.len() < list.len() {
-        return LENGTH;
-    }
-    universes[..list.len()].copy_from_slice(list);
-    DONE
 }
 
 /// The list of a source, as `Collector::list_of`. The status is `RANGE` where it isn't known, and `LENGTH` where there is too little room for it.
@@ -72,6 +65,10 @@ pub fn list(
 ) -> u32
     ensures list { result ≡ DONE → IfSome (of_collector None (λ s. known_list (after_expire now s) cid.now) held.old) (λ list. ShowsList list count.new universes.new) }
     ensures held { held.new ≡ of_collector held.old (λ s. Held.Collector (after_expire now s)) held.old }
+    ensures status { (result ≡ OUT_OF_MEMORY → ⊥) → result ≡ of_collector WRONG_HANDLE (λ s. list_status universes.old (known_list (after_expire now s) cid.now)) held.old }
+    ensures count { (result ≡ OUT_OF_MEMORY → ⊥) → count.new ≡ of_collector count.old (λ s. list_count count.old (known_list (after_expire now s) cid.now)) held.old }
+    ensures room { (result ≡ OUT_OF_MEMORY → ⊥) → universes.new ≡ of_collector universes.old (λ s. list_room universes.old (known_list (after_expire now s) cid.now)) held.old }
+    ensures lacking { result ≡ OUT_OF_MEMORY → (universes.new ≡ universes.old) × (count.new ≡ count.old) }
 {
     match held {
         Held::Collector(collector) => match collector.list_of(now, cid) {

@@ -1,10 +1,12 @@
 //! Consoles.
-ghost use Rattle.std.specs.Prelude.{◌≡◌, ◌<◌, ◌≤◌, None, ℕ, IfOk, IfErr, IfSome, IfNone};
+ghost use Rattle.std.specs.Prelude.{◌≡◌, ◌<◌, ◌≤◌, ◌&&◌, None, ℕ, nat_lt, is_some, true, false, IfOk, IfErr, IfSome, IfNone};
 ghost use Rattle.std.specs.Str.{IsUtf8};
 ghost use Rattle.toml.specs.Parse.{parse_document};
 ghost use Rattle.sacn_files.specs.Document.{Gives};
+ghost use Rattle.sacn_cues.specs.Playing.{is_still};
 ghost use Rattle.sacn_console.specs.Core.{after_command, after_poll, answer, at, due, over};
 ghost use Rattle.sacn_console.specs.ShowReading.{show_or_toml};
+ghost use Rattle.sacn_console.specs.Wakes.{last_moment};
 ghost use Rattle.sacn_console.specs.declared.show.fault.ShowFault.TheVariants as fault;
 ghost use Rattle.sacn_border.specs.Kinds.{of_console};
 ghost use Rattle.sacn_border.specs.Making.{ConsoleOf, ShowStatus};
@@ -120,6 +122,7 @@ pub fn poll(held: &mut Held, now: u64, out: &mut [u8; MOST_OCTETS], count: &mut 
 pub fn wakes(held: &mut Held, moment: &mut u64) -> u32
     ensures status { result ≡ of_console WRONG_HANDLE (λ c. DONE) held.old }
     ensures quiet { (t : ℕ) → t < moment.new → of_console None (λ c. due (at t c)) held.old ≡ None }
+    ensures exact { of_console false (λ c. is_still c.lights.player && nat_lt moment.new last_moment) held.old ≡ true → of_console false (λ c. is_some (due (at moment.new c))) held.old ≡ true }
     ensures held { held.new ≡ held.old }
 {
     match held {

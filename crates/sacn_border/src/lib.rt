@@ -7,12 +7,18 @@
 pub mod collector;
 pub mod console;
 mod held;
+pub mod monitor;
+mod news;
 pub mod node;
 mod numbers;
 pub mod packets;
+pub mod pages;
+mod rooms;
 pub mod sources;
 mod status;
 
 pub use held::Held;
+pub use news::{NewsFields, StreamFields};
 pub use packets::PacketFields;
+pub use sources::SourceFields;
 pub use status::{DONE, LENGTH, OUT_OF_MEMORY, RANGE, WRONG_HANDLE};

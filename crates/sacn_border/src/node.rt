@@ -1,20 +1,23 @@
 //! Nodes.
-ghost use Rattle.std.specs.Prelude.{◌≡◌, ◌<◌, ◌≤◌, ℕ, IfOk, IfErr, OnErr};
+ghost use Rattle.std.specs.Prelude.{◌≡◌, ◌<◌, ◌≤◌, ◌^◌, ◌-◌, ℕ, nat_lt, true, false, length, IfOk, IfErr, OnErr};
 ghost use Rattle.std.specs.Str.{IsUtf8};
 ghost use Rattle.toml.specs.Parse.{parse_document};
 ghost use Rattle.sacn_files.specs.Document.{Gives};
 ghost use Rattle.sacn_framing.specs.PacketReading.{reading_packet};
 ghost use Rattle.sacn_node.specs.Cores.{core_at, core_lost, node_frame};
 ghost use Rattle.sacn_node.specs.Readings.{reply_to, after_reading};
+ghost use Rattle.sacn_node.specs.Setup.{port_numbers};
 ghost use Rattle.sacn_node.specs.SetupReading.{setup_or_toml};
 ghost use Rattle.sacn_node.specs.declared.setup.fault.SetupFault.TheVariants as fault;
 ghost use Rattle.sacn_border.specs.Kinds.{of_node};
 ghost use Rattle.sacn_border.specs.Making.{NodeOf, SetupStatus};
 ghost use Rattle.sacn_border.specs.Numbers.{node_taken_number, node_taken_status, frame_status, frame_or};
+ghost use Rattle.sacn_border.specs.Rooms.{room_status, room_with};
 ghost use Rattle.sacn_border.specs.declared.status.TheConstants.{DONE, WRONG_HANDLE};
 
 use crate::held::Held;
 use crate::numbers::{node_taken_number, node_taken_status};
+use crate::rooms::put_list;
 use crate::status::{DONE, RANGE, WRONG_HANDLE};
 use sacn_node::{NodeCore, NodeSetup, SetupFault, read_node};
 use sacn_slots::FRAME_OCTETS;
@@ -109,12 +112,26 @@ pub fn frame(held: &mut Held, now: u64, port: u8, frame: &mut [u8; FRAME_OCTETS]
 pub fn wakes(held: &Held, moment: &mut u64) -> u32
     ensures status { result ≡ of_node WRONG_HANDLE (λ n. DONE) held.now }
     ensures asleep { (t : ℕ) → t < moment.new → of_node 0 (λ n. core_lost t n.core) held.now ≡ 0 }
+    ensures awake { of_node false (λ n. nat_lt moment.new (2 ^ 64 - 1)) held.now ≡ true → 1 ≤ of_node 0 (λ n. core_lost moment.new n.core) held.now }
 {
     match held {
         Held::Node(node) => {
             *moment = node.wakes().unwrap_or(u64::MAX);
             DONE
         }
+        _ => WRONG_HANDLE,
+    }
+}
+
+/// Copies the numbers of the ports, ascending, to the front of a room, and tells how many there are. The status is `LENGTH`, and the room as
+/// it was, where there is too little of it.
+pub fn ports(held: &Held, ports: &mut [u8], count: &mut usize) -> u32
+    ensures status { result ≡ of_node WRONG_HANDLE (λ n. room_status ports.old (port_numbers n.ports)) held.now }
+    ensures count { count.new ≡ of_node count.old (λ n. length (port_numbers n.ports)) held.now }
+    ensures ports { ports.new ≡ of_node ports.old (λ n. room_with ports.old (port_numbers n.ports)) held.now }
+{
+    match held {
+        Held::Node(node) => put_list(node.port_numbers(), ports, count),
         _ => WRONG_HANDLE,
     }
 }

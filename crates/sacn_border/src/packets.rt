@@ -1,10 +1,11 @@
 //! Packets.
-ghost use Rattle.std.specs.Prelude.{◌≡◌, ◌++◌, List, ℕ, take, not, IfOk, Ok};
-ghost use Rattle.sacn_framing.specs.Naming.{group_of};
+ghost use Rattle.std.specs.Prelude.{◌≡◌, ◌≤◌, ◌==◌, ◌+◌, ◌++◌, ◌∷◌, [], List, ℕ, length, take, not, IfOk, Ok, if◌then◌else◌};
+ghost use Rattle.sacn_framing.specs.Naming.{group_of, padded};
 ghost use Rattle.sacn_sequence.specs.Sequence.{is_late};
 ghost use Rattle.sacn_framing.specs.PacketReading.{reading_packet};
 ghost use Rattle.sacn_framing.specs.declared.packet.Packet.TheVariants.{DataPacket};
-ghost use Rattle.sacn_border.specs.Packets.{packet_status, Tells, ShowsFrame, bit_of, written};
+ghost use Rattle.sacn_monitor.specs.Accounts.{fitted};
+ghost use Rattle.sacn_border.specs.Packets.{packet_status, write_status, Tells, ShowsFrame, bit_of, written};
 ghost use Rattle.sacn_border.specs.declared.status.TheConstants.{DONE};
 
 use crate::status::DONE;
@@ -12,7 +13,7 @@ use sacn_framing::{
     DataFields, DataView, MOST_PRIORITY, MOST_UNIVERSE, Packet, PageView, multicast_group,
     read_packet, write_data,
 };
-use sacn_root::PacketFault;
+use sacn_root::{PacketFault, put};
 use sacn_sequence::in_sequence;
 
 /// What a packet says, but its slots and universe numbers. `sacn.h` says what each field means.
@@ -33,16 +34,30 @@ pub struct PacketFields {
     pub name: [u8; 64],
 }
 
-fn put_name(name: &[u8], out: &mut [u8; 64]) {
-    let len = name.len().min(64);
-    out.fill(0);
-    out[..len].copy_from_slice(&name[..len]);
+/// A name's octets, and NUL to the end of its field.
+fn fitted(name: &[u8]) -> [u8; 64]
+    ensures { result ≡ fitted name.now }
+{
+    if name.len() <= 64 {
+        padded(name)
+    } else {
+        [0; 64]
+    }
+}
+
+fn padded(name: &[u8]) -> [u8; 64]
+    requires { length name.now ≤ 64 }
+    ensures { result ≡ padded name.now }
+{
+    let mut field = [0; 64];
+    put(&mut field, 0, name);
+    field
 }
 
 fn put_data(view: &DataView<'_>, packet: &mut PacketFields)
     ensures { Tells packet.new (DataPacket view.now) }
 {
-    put_name(view.name(), &mut packet.name);
+    packet.name = fitted(view.name());
     packet.kind = 1;
     packet.cid = view.cid();
     packet.priority = view.priority();
@@ -57,7 +72,7 @@ fn put_data(view: &DataView<'_>, packet: &mut PacketFields)
 fn put_page(page: &PageView<'_>, packet: &mut PacketFields)
     ensures { Tells packet.new (Packet.PagePacket page.now) }
 {
-    put_name(page.name(), &mut packet.name);
+    packet.name = fitted(page.name());
     packet.kind = 2;
     packet.cid = page.cid();
     packet.page = page.page();
@@ -120,6 +135,8 @@ pub fn write_fields(
 ) -> u32
     ensures reading { result ≡ DONE → (rest : List ℕ) → reading_packet (take count.new out.new ++ rest) ≡ Ok (DataPacket (written packet.now slots.now)) }
     ensures refused { (result ≡ DONE → ⊥) → out.new ≡ out.old }
+    ensures status { result ≡ write_status packet.now slots.now }
+    ensures count { count.new ≡ (if result == DONE then 126 + length slots.now else count.old) }
 {
     if packet.priority > MOST_PRIORITY {
         return u32::from(PacketFault::Priority.number());
@@ -159,4 +176,13 @@ pub fn put_group(universe: u16, group: &mut [u8; 4])
     ensures { group.new ≡ group_of universe }
 {
     *group = multicast_group(universe);
+}
+
+/// The source's name as text of C: the octets of its field, and a NUL after them.
+pub fn put_text(packet: &PacketFields, text: &mut [u8; 65])
+    ensures { text.new ≡ packet.now.name ++ 0 ∷ [] }
+{
+    let name = packet.name;
+    text[..64].copy_from_slice(&name);
+    text[64] = 0;
 }

@@ -3,9 +3,9 @@ ghost use Rattle.std.specs.Prelude.{◌≡◌, is_some, true, None, Some, IfSome
 ghost use Rattle.std.specs.Option.{option_map};
 ghost use Rattle.sacn_framing.specs.PacketReading.{reading_packet};
 ghost use Rattle.sacn_discovery.specs.Known.{nothing_known, after_expire, known_list};
-ghost use Rattle.sacn_border.specs.Collecting.{after_reading, ShowsList};
+ghost use Rattle.sacn_border.specs.Collecting.{after_reading, collect_status, collected, list_status, list_count, list_room, ShowsList};
 ghost use Rattle.sacn_border.specs.Kinds.{of_collector};
-ghost use Rattle.sacn_border.specs.declared.status.TheConstants.{DONE, OUT_OF_MEMORY};
+ghost use Rattle.sacn_border.specs.declared.status.TheConstants.{DONE, OUT_OF_MEMORY, WRONG_HANDLE};
 
 use crate::handle::{Handle, take_out};
 use sacn_border::{DONE, Held, collector};
@@ -37,6 +37,8 @@ pub extern "C" fn sacn_proved_collector_take(
 ) -> u32
     requires { is_some handle.old.value ≡ true }
     ensures taken { result ≡ DONE → handle.new.value ≡ option_map (λ held. of_collector held (λ s. Held.Collector (after_reading now (reading_packet octets.now) s)) held) handle.old.value }
+    ensures status { IfSome handle.old.value (λ held. result ≡ of_collector WRONG_HANDLE (λ s. collect_status (reading_packet octets.now) result) held) }
+    ensures after { handle.new.value ≡ option_map (λ held. of_collector held (λ s. Held.Collector (collected result now (reading_packet octets.now) s)) held) handle.old.value }
 {
     let mut held = take_out(alloc, handle);
     let status = collector::take(held.as_mut(), now, octets);
@@ -57,6 +59,10 @@ pub extern "C" fn sacn_proved_collector_list(
     requires { is_some handle.old.value ≡ true }
     ensures list { result ≡ DONE → IfSome handle.old.value (λ held. IfSome (of_collector None (λ s. known_list (after_expire now s) cid.now) held) (λ list. ShowsList list count.new universes.new)) }
     ensures after { handle.new.value ≡ option_map (λ held. of_collector held (λ s. Held.Collector (after_expire now s)) held) handle.old.value }
+    ensures status { (result ≡ OUT_OF_MEMORY → ⊥) → IfSome handle.old.value (λ held. result ≡ of_collector WRONG_HANDLE (λ s. list_status universes.old (known_list (after_expire now s) cid.now)) held) }
+    ensures count { (result ≡ OUT_OF_MEMORY → ⊥) → IfSome handle.old.value (λ held. count.new ≡ of_collector count.old (λ s. list_count count.old (known_list (after_expire now s) cid.now)) held) }
+    ensures room { (result ≡ OUT_OF_MEMORY → ⊥) → IfSome handle.old.value (λ held. universes.new ≡ of_collector universes.old (λ s. list_room universes.old (known_list (after_expire now s) cid.now)) held) }
+    ensures lacking { result ≡ OUT_OF_MEMORY → (universes.new ≡ universes.old) × (count.new ≡ count.old) }
 {
     let mut held = take_out(alloc, handle);
     let status = collector::list(held.as_mut(), now, cid, universes, count);

@@ -1,9 +1,11 @@
 //! Consoles, for C.
-ghost use Rattle.std.specs.Prelude.{◌≡◌, ◌<◌, is_some, true, None, IfSome, IfNone, MatchOption, ℕ};
+ghost use Rattle.std.specs.Prelude.{◌≡◌, ◌<◌, ◌&&◌, is_some, true, false, None, IfSome, IfNone, MatchOption, ℕ, nat_lt};
 ghost use Rattle.std.specs.Option.{option_map};
 ghost use Rattle.toml.specs.Parse.{parse_document};
+ghost use Rattle.sacn_cues.specs.Playing.{is_still};
 ghost use Rattle.sacn_console.specs.Core.{after_command, after_poll, answer, at, due, over};
 ghost use Rattle.sacn_console.specs.ShowReading.{show_or_toml};
+ghost use Rattle.sacn_console.specs.Wakes.{last_moment};
 ghost use Rattle.sacn_border.specs.Kinds.{of_console};
 ghost use Rattle.sacn_border.specs.Making.{ConsoleOf, ShowStatus};
 ghost use Rattle.sacn_border.specs.Sending.{answer_status, command_of, due_size};
@@ -88,6 +90,7 @@ pub extern "C" fn sacn_proved_console_wakes(
     requires { is_some handle.old.value ≡ true }
     ensures status { IfSome handle.old.value (λ held. result ≡ of_console WRONG_HANDLE (λ c. DONE) held) }
     ensures quiet { IfSome handle.old.value (λ held. (t : ℕ) → t < moment.new → of_console None (λ c. due (at t c)) held ≡ None) }
+    ensures exact { IfSome handle.old.value (λ held. of_console false (λ c. is_still c.lights.player && nat_lt moment.new last_moment) held ≡ true → of_console false (λ c. is_some (due (at moment.new c))) held ≡ true) }
     ensures after { handle.new.value ≡ handle.old.value }
 {
     let mut held = take_out(alloc, handle);

@@ -5,6 +5,7 @@ mod collector;
 mod console;
 mod handle;
 mod loose;
+mod monitor;
 mod node;
 mod packets;
 mod release;

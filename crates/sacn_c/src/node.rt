@@ -1,14 +1,16 @@
 //! Nodes, for C.
-ghost use Rattle.std.specs.Prelude.{◌≡◌, ◌<◌, is_some, true, IfSome, MatchOption, ℕ};
+ghost use Rattle.std.specs.Prelude.{◌≡◌, ◌<◌, ◌≤◌, ◌^◌, ◌-◌, is_some, true, false, IfSome, MatchOption, ℕ, nat_lt, length};
 ghost use Rattle.std.specs.Option.{option_map};
 ghost use Rattle.toml.specs.Parse.{parse_document};
 ghost use Rattle.sacn_framing.specs.PacketReading.{reading_packet};
 ghost use Rattle.sacn_node.specs.Cores.{core_at, core_lost, node_frame};
 ghost use Rattle.sacn_node.specs.Readings.{reply_to, after_reading};
+ghost use Rattle.sacn_node.specs.Setup.{port_numbers};
 ghost use Rattle.sacn_node.specs.SetupReading.{setup_or_toml};
 ghost use Rattle.sacn_border.specs.Kinds.{of_node};
 ghost use Rattle.sacn_border.specs.Making.{NodeOf, SetupStatus};
 ghost use Rattle.sacn_border.specs.Numbers.{node_taken_number, node_taken_status, frame_status, frame_or};
+ghost use Rattle.sacn_border.specs.Rooms.{room_status, room_with};
 ghost use Rattle.sacn_border.specs.declared.status.TheConstants.{DONE, WRONG_HANDLE};
 
 use crate::handle::{Handle, take_out};
@@ -107,10 +109,32 @@ pub extern "C" fn sacn_proved_node_wakes(
     requires { is_some handle.old.value ≡ true }
     ensures status { IfSome handle.old.value (λ held. result ≡ of_node WRONG_HANDLE (λ n. DONE) held) }
     ensures asleep { IfSome handle.old.value (λ held. (t : ℕ) → t < moment.new → of_node 0 (λ n. core_lost t n.core) held ≡ 0) }
+    ensures awake { IfSome handle.old.value (λ held. of_node false (λ n. nat_lt moment.new (2 ^ 64 - 1)) held ≡ true → 1 ≤ of_node 0 (λ n. core_lost moment.new n.core) held) }
     ensures after { handle.new.value ≡ handle.old.value }
 {
     let held = take_out(alloc, handle);
     let status = node::wakes(held.as_ref(), moment);
+    *handle = Handle::of(held);
+    status
+}
+
+/// Copies the numbers of the ports to the front of a room, as `NodeCore::port_numbers`. The status is `LENGTH`, and the room as it was, where
+/// there is too little of it.
+#[unsafe(no_mangle)]
+pub extern "C" fn sacn_proved_node_ports(
+    alloc: Global,
+    handle: &mut Handle,
+    ports: &mut [u8],
+    count: &mut usize,
+) -> u32
+    requires { is_some handle.old.value ≡ true }
+    ensures status { IfSome handle.old.value (λ held. result ≡ of_node WRONG_HANDLE (λ n. room_status ports.old (port_numbers n.ports)) held) }
+    ensures count { IfSome handle.old.value (λ held. count.new ≡ of_node count.old (λ n. length (port_numbers n.ports)) held) }
+    ensures ports { IfSome handle.old.value (λ held. ports.new ≡ of_node ports.old (λ n. room_with ports.old (port_numbers n.ports)) held) }
+    ensures after { handle.new.value ≡ handle.old.value }
+{
+    let held = take_out(alloc, handle);
+    let status = node::ports(held.as_ref(), ports, count);
     *handle = Handle::of(held);
     status
 }

@@ -1,13 +1,15 @@
 //! Packets, for C.
-ghost use Rattle.std.specs.Prelude.{◌≡◌, ◌++◌, List, ℕ, take, not, IfOk, Ok};
+ghost use Rattle.std.specs.Prelude.{◌≡◌, ◌==◌, ◌+◌, ◌++◌, ◌∷◌, [], List, ℕ, length, take, not, IfOk, Ok, if◌then◌else◌};
 ghost use Rattle.sacn_framing.specs.Naming.{group_of};
 ghost use Rattle.sacn_sequence.specs.Sequence.{is_late};
 ghost use Rattle.sacn_framing.specs.PacketReading.{reading_packet};
-ghost use Rattle.sacn_framing.specs.declared.packet.Packet.TheVariants.{DataPacket};
-ghost use Rattle.sacn_border.specs.Packets.{packet_status, Tells, ShowsFrame, bit_of, written};
-ghost use Rattle.sacn_border.specs.declared.status.TheConstants.{DONE};
+ghost use Rattle.sacn_framing.specs.declared.packet.Packet.TheVariants.{DataPacket, PagePacket};
+ghost use Rattle.sacn_discovery.specs.Pages.{page_of_list};
+ghost use Rattle.sacn_border.specs.Pages.{universes_status, universes_count, universes_room, IsPageOf};
+ghost use Rattle.sacn_border.specs.Packets.{packet_status, write_status, Tells, ShowsFrame, bit_of, written};
+ghost use Rattle.sacn_border.specs.declared.status.TheConstants.{DONE, RANGE};
 
-use sacn_border::{PacketFields, packets};
+use sacn_border::{PacketFields, packets, pages};
 
 /// Reads a packet, as `read_packet`. The status is the fault's number.
 #[unsafe(no_mangle)]
@@ -42,6 +44,8 @@ pub extern "C" fn sacn_proved_write_data(
 ) -> u32
     ensures reading { result ≡ DONE → (rest : List ℕ) → reading_packet (take count.new out.new ++ rest) ≡ Ok (DataPacket (written packet.now slots.now)) }
     ensures refused { (result ≡ DONE → ⊥) → out.new ≡ out.old }
+    ensures status { result ≡ write_status packet.now slots.now }
+    ensures count { count.new ≡ (if result == DONE then 126 + length slots.now else count.old) }
 {
     packets::write_fields(packet, slots, out, count)
 }
@@ -60,4 +64,44 @@ pub extern "C" fn sacn_proved_multicast_group(universe: u16, group: &mut [u8; 4]
     ensures { group.new ≡ group_of universe }
 {
     packets::put_group(universe, group);
+}
+
+/// The source's name of a packet as text of C: the octets of its field, and a NUL after them.
+#[unsafe(no_mangle)]
+pub extern "C" fn sacn_proved_packet_name(packet: &PacketFields, text: &mut [u8; 65])
+    ensures { text.new ≡ packet.now.name ++ 0 ∷ [] }
+{
+    packets::put_text(packet, text);
+}
+
+/// Reads the universe numbers of a page as they came. The status is the fault of octets that are no packet, `RANGE` where the packet is no page,
+/// and `LENGTH` where there is too little room.
+#[unsafe(no_mangle)]
+pub extern "C" fn sacn_proved_read_universes(
+    octets: &[u8],
+    universes: &mut [u16],
+    count: &mut usize,
+) -> u32
+    ensures status { result ≡ universes_status universes.old (reading_packet octets.now) }
+    ensures count { count.new ≡ universes_count count.old (reading_packet octets.now) }
+    ensures room { universes.new ≡ universes_room universes.old (reading_packet octets.now) }
+{
+    pages::read_universes(octets, universes, count)
+}
+
+/// Writes a page of a list of universes, as `write_page`. The status is `RANGE` where the list doesn't ascend, or has no such page.
+#[unsafe(no_mangle)]
+pub extern "C" fn sacn_proved_write_page(
+    packet: &PacketFields,
+    list: &[u16],
+    out: &mut [u8; 1144],
+    count: &mut usize,
+) -> u32
+    ensures reading { result ≡ DONE → (rest : List ℕ) → reading_packet (take count.new out.new ++ rest) ≡ Ok (PagePacket (page_of_list list.now packet.now.page packet.now.cid packet.now.name)) }
+    ensures done { IsPageOf packet.now list.now → result ≡ DONE }
+    ensures only { result ≡ DONE → IsPageOf packet.now list.now }
+    ensures status { (result ≡ DONE → ⊥) → result ≡ RANGE }
+    ensures refused { (result ≡ DONE → ⊥) → (out.new ≡ out.old) × (count.new ≡ count.old) }
+{
+    pages::write_universes(packet, list, out, count)
 }

@@ -1,16 +1,17 @@
 //! The sources of one universe, for C.
-ghost use Rattle.std.specs.Prelude.{◌≡◌, is_some, true, Some, IfSome};
+ghost use Rattle.std.specs.Prelude.{◌≡◌, ◌<◌, ℕ, is_some, true, Some, None, IfSome, slice_index};
 ghost use Rattle.std.specs.Option.{option_map};
 ghost use Rattle.sacn_framing.specs.PacketReading.{reading_packet};
 ghost use Rattle.sacn_sources.specs.Kept.{new_kept, kept_after_merged};
-ghost use Rattle.sacn_sources.specs.Rows.{after_expire, slots_of};
+ghost use Rattle.sacn_sources.specs.Rows.{after_expire, row_of, slots_of};
 ghost use Rattle.sacn_border.specs.Kinds.{of_sources};
-ghost use Rattle.sacn_border.specs.Merging.{after_reading, source_number};
+ghost use Rattle.sacn_border.specs.Merging.{after_reading, source_number, source_told, levels_told};
+ghost use Rattle.sacn_border.specs.Numbers.{found_status, found_or};
 ghost use Rattle.sacn_border.specs.Packets.{packet_status};
 ghost use Rattle.sacn_border.specs.declared.status.TheConstants.{DONE, WRONG_HANDLE};
 
 use crate::handle::{Handle, take_out};
-use sacn_border::{DONE, Held, sources};
+use sacn_border::{DONE, Held, SourceFields, sources};
 use std::alloc::Global;
 
 /// The sources of one universe, as `SourceTable::new`. The status is the table's fault.
@@ -64,6 +65,29 @@ pub extern "C" fn sacn_proved_sources_merged(
 {
     let mut held = take_out(alloc, handle);
     let status = sources::merged(held.as_mut(), now, slots);
+    *handle = Handle::of(held);
+    status
+}
+
+/// What is held of the source of a CID, and the levels that it shows, as `SourceTable::held`. The status is `RANGE`, and nothing is written,
+/// where none is held.
+#[unsafe(no_mangle)]
+pub extern "C" fn sacn_proved_sources_held(
+    alloc: Global,
+    handle: &mut Handle,
+    cid: &[u8; 16],
+    source: &mut SourceFields,
+    slots: &mut [u8; 512],
+) -> u32
+    requires { is_some handle.old.value ≡ true }
+    ensures status { IfSome handle.old.value (λ held. result ≡ of_sources WRONG_HANDLE (λ k. found_status (row_of cid.now k.table.rows)) held) }
+    ensures source { IfSome handle.old.value (λ held. source.new ≡ of_sources source.old (λ k. found_or source.old (option_map source_told (row_of cid.now k.table.rows))) held) }
+    ensures slots { IfSome handle.old.value (λ held. IfSome (of_sources None (λ k. row_of cid.now k.table.rows) held) (λ r. (i : ℕ) → i < 512 → slice_index slots.new i ≡ slice_index (levels_told r.shown) i)) }
+    ensures unwritten { IfSome handle.old.value (λ held. of_sources None (λ k. row_of cid.now k.table.rows) held ≡ None → slots.new ≡ slots.old) }
+    ensures after { handle.new.value ≡ handle.old.value }
+{
+    let held = take_out(alloc, handle);
+    let status = sources::held(held.as_ref(), cid, source, slots);
     *handle = Handle::of(held);
     status
 }
