@@ -68,6 +68,12 @@ if "$compiler" -fsanitize=address,undefined -x c - -o "$room/try" <<<'int main(v
 else
   echo "skipped library: with sanitizers: this compiler has none"
 fi
+# Each request for memory is refused in turn; nothing may be lost then.
+if built memory "$top/tests/c/memory.c" -std=c99 -O2 -Wl,--wrap=malloc -Wl,--wrap=realloc; then
+  watched=()
+  if command -v valgrind >/dev/null; then watched=(valgrind -q --error-exitcode=99 --leak-check=full); fi
+  if ${watched[@]+"${watched[@]}"} "$room/memory" >"$room/said" 2>&1; then ok "without memory"; else fails "without memory" "$(head -n 1 "$room/said")"; fi
+fi
 if command -v c++ >/dev/null; then
   printf '#include <sacn.h>\nint main() { struct sacn_node node = {}; return sacn_node_free(&node) == SACN_NULL ? 0 : 1; }\n' >"$room/plus.cpp"
   if c++ -Wall -Wextra -Werror "${flags[@]}" -o "$room/plus" "$room/plus.cpp" "$library" 2>"$room/said" && "$room/plus"; then ok "C++"; else fails "C++" "$(head -n 1 "$room/said")"; fi

@@ -29,8 +29,6 @@ def build(kit, name):
     sys.path.insert(0, f"{kit}/bin")
     import rtlib  # (the kit's own words for each crate)
 
-    # (its first call sets a signal's handler, which only the main thread may)
-    rtlib.guarded()
     crates = rtlib.crates_below(TOP)
     crate = next((it for it in crates if it.name == name and it.is_static), None)
     if crate is None:
@@ -44,7 +42,7 @@ def build(kit, name):
     os.makedirs(f"{crate.folder}/out", exist_ok=True)
     words = crate.words(["--jobs", str(max(1, min(2, rtlib.cores())))], keeps=False)
     made = ["--toolchain", f"{kit}/toolchain", "--backend", "llvm", "-o", f"out/lib{name}.a"]
-    return crate.prove(["build", *words, *made])
+    return crate.call(rtlib.RATTLE, "build", *words, *made)
 
 
 def main(name="sacn_c"):
