@@ -2,11 +2,12 @@
  * Streaming ACN (ANSI E1.31-2018) for C and C++: packets, a node, the sources of one universe, a collector of
  * universe discovery, a console and a monitor, over cores whose contracts are proved.
  *
- * Handles. A `struct sacn_node`, `sacn_sources`, `sacn_collector`, `sacn_console` or `sacn_monitor` is memory of the caller's: set it to zero, make it by `.._new`, end it by
- * `.._free`. A handle is used by one thread at a time, and is never copied: two copies of one handle are one handle that is ended twice.
+ * Handles. A `struct sacn_node`, `sacn_sources`, `sacn_collector`, `sacn_console` or `sacn_monitor` is memory of the caller's: set it to
+ * zero, make it by `.._new`, end it by `.._free`. A handle is used by one thread at a time, and is never copied: two copies of one handle are
+ * one handle that is ended twice.
  *
- * Memory. Only the calls `.._new` (and a collector's others) take memory, by the program's malloc, and `.._free` gives all of it back. No call keeps a pointer that it
- * was given, and no call prints, waits, opens anything, reads a clock, aborts or jumps out.
+ * Memory. Only the calls `.._new` (and a collector's others) take memory, by the program's malloc, and `.._free` gives all of it back. No call
+ * keeps a pointer that it was given, and no call prints, waits, opens anything, reads a clock, aborts or jumps out.
  *
  * Pointers. A pointer with a count points to so many elements and may be null where the count is 0. Every other pointer points to what its
  * type says; arrays have the length that stands in the declaration. What a call writes does not overlap what it reads.
@@ -156,9 +157,9 @@ int sacn_write_data(const struct sacn_packet *packet, const uint8_t *slots, size
    SACN_NULL. */
 int sacn_packet_name(const struct sacn_packet *packet, char text[SACN_TEXT_OCTETS]);
 
-/* Reads the universe numbers of the page at the front of `count` octets, in the order and range in which they came, to a room of `room` numbers, and tells how many
-   there are in `given`. Status: enum sacn_packet_fault; SACN_RANGE where the packet is no page; SACN_LENGTH where there is too little room,
-   with `given` told. */
+/* Reads the universe numbers of the page at the front of `count` octets, in the order and range in which they came, to a room of `room` numbers,
+   and tells how many there are in `given`. Status: enum sacn_packet_fault; SACN_RANGE where the packet is no page; SACN_LENGTH where there is
+   too little room, with `given` told. */
 int sacn_read_universes(const uint8_t *octets, size_t count, uint16_t *universes, size_t room, size_t *given);
 
 /* Writes a page of a list of `count` universes, each above the one before: the page `page` of these fields (page, cid, name), and its length:

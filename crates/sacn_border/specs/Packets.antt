@@ -48,6 +48,35 @@ Tells f (DataPacket d) = TellsData f d
 Tells f (PagePacket p) = TellsPage f p
 Tells f SyncPacket = f.kind ≡ 3
 
+-- the fields after a packet: those that its kind doesn't have are as they were
+abbrev pub fields_with : PacketFields → Packet → PacketFields
+fields_with f (DataPacket d) = record f {
+  kind = 1;
+  cid = d.cid;
+  name = name_of d;
+  priority = d.priority;
+  number = d.number;
+  preview = bit_of d.preview;
+  terminated = bit_of d.terminated;
+  universe = d.universe;
+  start = d.start;
+  count = length d.slots;
+}
+fields_with f (PagePacket p) = record f {
+  kind = 2;
+  cid = p.cid;
+  name = fitted (before_first (λ octet. octet == 0) p.name);
+  page = p.page;
+  last = p.last;
+  count = length p.numbers;
+}
+fields_with f SyncPacket = record f { kind = 3 }
+
+-- and as they were where there is none
+abbrev pub fields_after : PacketFields → Result Packet PacketFault → PacketFields
+fields_after f (Ok packet) = fields_with f packet
+fields_after f (Err fault) = f
+
 -- the frame is that of a data packet, and else as it was
 abbrev pub ShowsFrame : List ℕ → List ℕ → Packet → Type 0
 ShowsFrame before frame (DataPacket d) = frame ≡ frame_of d

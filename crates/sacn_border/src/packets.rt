@@ -1,11 +1,11 @@
 //! Packets.
-ghost use Rattle.std.specs.Prelude.{◌≡◌, ◌≤◌, ◌==◌, ◌+◌, ◌++◌, ◌∷◌, [], List, ℕ, length, take, not, IfOk, Ok, if◌then◌else◌};
+ghost use Rattle.std.specs.Prelude.{◌≡◌, ◌≤◌, ◌==◌, ◌+◌, ◌++◌, ◌∷◌, [], List, ℕ, length, take, not, IfOk, IfErr, Ok, if◌then◌else◌};
 ghost use Rattle.sacn_framing.specs.Naming.{group_of, padded};
 ghost use Rattle.sacn_sequence.specs.Sequence.{is_late};
 ghost use Rattle.sacn_framing.specs.PacketReading.{reading_packet};
 ghost use Rattle.sacn_framing.specs.declared.packet.Packet.TheVariants.{DataPacket};
 ghost use Rattle.sacn_monitor.specs.Accounts.{fitted};
-ghost use Rattle.sacn_border.specs.Packets.{packet_status, write_status, Tells, ShowsFrame, bit_of, written};
+ghost use Rattle.sacn_border.specs.Packets.{packet_status, write_status, Tells, fields_with, fields_after, ShowsFrame, bit_of, written};
 ghost use Rattle.sacn_border.specs.declared.status.TheConstants.{DONE};
 
 use crate::status::DONE;
@@ -55,7 +55,8 @@ fn padded(name: &[u8]) -> [u8; 64]
 }
 
 fn put_data(view: &DataView<'_>, packet: &mut PacketFields)
-    ensures { Tells packet.new (DataPacket view.now) }
+    ensures told { Tells packet.new (DataPacket view.now) }
+    ensures others { packet.new ≡ fields_with packet.old (DataPacket view.now) }
 {
     packet.name = fitted(view.name());
     packet.kind = 1;
@@ -70,7 +71,8 @@ fn put_data(view: &DataView<'_>, packet: &mut PacketFields)
 }
 
 fn put_page(page: &PageView<'_>, packet: &mut PacketFields)
-    ensures { Tells packet.new (Packet.PagePacket page.now) }
+    ensures told { Tells packet.new (Packet.PagePacket page.now) }
+    ensures others { packet.new ≡ fields_with packet.old (Packet.PagePacket page.now) }
 {
     packet.name = fitted(page.name());
     packet.kind = 2;
@@ -84,6 +86,7 @@ fn put_page(page: &PageView<'_>, packet: &mut PacketFields)
 pub fn read_fields(octets: &[u8], packet: &mut PacketFields) -> u32
     ensures status { result ≡ packet_status (reading_packet octets.now) }
     ensures fields { IfOk (reading_packet octets.now) (Tells packet.new) }
+    ensures others { packet.new ≡ fields_after packet.old (reading_packet octets.now) }
 {
     match read_packet(octets) {
         Ok(Packet::DataPacket(data)) => {
@@ -106,7 +109,9 @@ pub fn read_fields(octets: &[u8], packet: &mut PacketFields) -> u32
 pub fn read_data(octets: &[u8], packet: &mut PacketFields, frame: &mut [u8; 513]) -> u32
     ensures status { result ≡ packet_status (reading_packet octets.now) }
     ensures fields { IfOk (reading_packet octets.now) (Tells packet.new) }
+    ensures others { packet.new ≡ fields_after packet.old (reading_packet octets.now) }
     ensures frame { IfOk (reading_packet octets.now) (ShowsFrame frame.old frame.new) }
+    ensures unwritten { IfErr (reading_packet octets.now) (λ fault. frame.new ≡ frame.old) }
 {
     match read_packet(octets) {
         Ok(Packet::DataPacket(data)) => {

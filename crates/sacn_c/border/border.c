@@ -29,7 +29,8 @@ uint32_t sacn_proved_console_command(void **handle, uint64_t now, uint8_t comman
 uint32_t sacn_proved_console_poll(void **handle, uint64_t now, uint8_t *out, size_t *count);
 uint32_t sacn_proved_console_wakes(void **handle, uint64_t *moment);
 uint32_t sacn_proved_monitor_new(void **handle);
-uint32_t sacn_proved_monitor_take(void **handle, uint64_t now, const uint8_t *address, uint16_t port, const uint8_t *octets, size_t count, struct sacn_news *news);
+uint32_t sacn_proved_monitor_take(void **handle, uint64_t now, const uint8_t *address, uint16_t port, const uint8_t *octets, size_t count,
+                                  struct sacn_news *news);
 uint32_t sacn_proved_monitor_tick(void **handle, uint64_t now, size_t *place);
 uint32_t sacn_proved_monitor_wakes(void **handle, uint64_t *moment);
 uint32_t sacn_proved_monitor_count(void **handle, size_t *count);

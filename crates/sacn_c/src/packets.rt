@@ -1,12 +1,12 @@
 //! Packets, for C.
-ghost use Rattle.std.specs.Prelude.{◌≡◌, ◌==◌, ◌+◌, ◌++◌, ◌∷◌, [], List, ℕ, length, take, not, IfOk, Ok, if◌then◌else◌};
+ghost use Rattle.std.specs.Prelude.{◌≡◌, ◌==◌, ◌+◌, ◌++◌, ◌∷◌, [], List, ℕ, length, take, not, IfOk, IfErr, Ok, if◌then◌else◌};
 ghost use Rattle.sacn_framing.specs.Naming.{group_of};
 ghost use Rattle.sacn_sequence.specs.Sequence.{is_late};
 ghost use Rattle.sacn_framing.specs.PacketReading.{reading_packet};
 ghost use Rattle.sacn_framing.specs.declared.packet.Packet.TheVariants.{DataPacket, PagePacket};
 ghost use Rattle.sacn_discovery.specs.Pages.{page_of_list};
 ghost use Rattle.sacn_border.specs.Pages.{universes_status, universes_count, universes_room, IsPageOf};
-ghost use Rattle.sacn_border.specs.Packets.{packet_status, write_status, Tells, ShowsFrame, bit_of, written};
+ghost use Rattle.sacn_border.specs.Packets.{packet_status, write_status, Tells, fields_after, ShowsFrame, bit_of, written};
 ghost use Rattle.sacn_border.specs.declared.status.TheConstants.{DONE, RANGE};
 
 use sacn_border::{PacketFields, packets, pages};
@@ -16,6 +16,7 @@ use sacn_border::{PacketFields, packets, pages};
 pub extern "C" fn sacn_proved_read_packet(octets: &[u8], packet: &mut PacketFields) -> u32
     ensures status { result ≡ packet_status (reading_packet octets.now) }
     ensures fields { IfOk (reading_packet octets.now) (Tells packet.new) }
+    ensures others { packet.new ≡ fields_after packet.old (reading_packet octets.now) }
 {
     packets::read_fields(octets, packet)
 }
@@ -29,7 +30,9 @@ pub extern "C" fn sacn_proved_read_data(
 ) -> u32
     ensures status { result ≡ packet_status (reading_packet octets.now) }
     ensures fields { IfOk (reading_packet octets.now) (Tells packet.new) }
+    ensures others { packet.new ≡ fields_after packet.old (reading_packet octets.now) }
     ensures frame { IfOk (reading_packet octets.now) (ShowsFrame frame.old frame.new) }
+    ensures unwritten { IfErr (reading_packet octets.now) (λ fault. frame.new ≡ frame.old) }
 {
     packets::read_data(octets, packet, frame)
 }
