@@ -1,12 +1,13 @@
 /*
  * Streaming ACN (ANSI E1.31-2018) for C and C++: packets, a node, the sources of one universe, a collector of
- * universe discovery and a console, over cores whose contracts are proved.
+ * universe discovery, a console and a monitor, over cores whose contracts are proved.
  *
- * Handles. A `struct sacn_node`, `sacn_sources`, `sacn_collector` or `sacn_console` is memory of the caller's: set it to zero, make it by `.._new`, end it by
- * `.._free`. A handle is used by one thread at a time, and is never copied: two copies of one handle are one handle that is ended twice.
+ * Handles. A `struct sacn_node`, `sacn_sources`, `sacn_collector`, `sacn_console` or `sacn_monitor` is memory of the caller's: set it to
+ * zero, make it by `.._new`, end it by `.._free`. A handle is used by one thread at a time, and is never copied: two copies of one handle are
+ * one handle that is ended twice.
  *
- * Memory. Only the calls `.._new` (and a collector's others) take memory, by the program's malloc, and `.._free` gives all of it back. No call keeps a pointer that it
- * was given, and no call prints, waits, opens anything, reads a clock, aborts or jumps out.
+ * Memory. Only the calls `.._new` (and a collector's others) take memory, by the program's malloc, and `.._free` gives all of it back. No call
+ * keeps a pointer that it was given, and no call prints, waits, opens anything, reads a clock, aborts or jumps out.
  *
  * Pointers. A pointer with a count points to so many elements and may be null where the count is 0. Every other pointer points to what its
  * type says; arrays have the length that stands in the declaration. What a call writes does not overlap what it reads.
@@ -150,6 +151,22 @@ int sacn_read_packet(const uint8_t *octets, size_t count, struct sacn_packet *pa
    SACN_PACKET_VALUE_COUNT where one is out of range. */
 int sacn_write_data(const struct sacn_packet *packet, const uint8_t *slots, size_t slot_count, uint8_t out[SACN_DATA_OCTETS], size_t *length);
 
+#define SACN_TEXT_OCTETS 65
+
+/* The source's name of a packet as text: the octets of its field, and a NUL after them. (A field of 64 octets may have no NUL.) Status:
+   SACN_NULL. */
+int sacn_packet_name(const struct sacn_packet *packet, char text[SACN_TEXT_OCTETS]);
+
+/* Reads the universe numbers of the page at the front of `count` octets, in the order and range in which they came, to a room of `room` numbers,
+   and tells how many there are in `given`. Status: enum sacn_packet_fault; SACN_RANGE where the packet is no page; SACN_LENGTH where there is
+   too little room, with `given` told. */
+int sacn_read_universes(const uint8_t *octets, size_t count, uint16_t *universes, size_t room, size_t *given);
+
+/* Writes a page of a list of `count` universes, each above the one before: the page `page` of these fields (page, cid, name), and its length:
+   120, and two for each of its universes, of which a page has 512 and the last one the rest. Status: SACN_RANGE where the list doesn't
+   ascend or has no such page. */
+int sacn_write_page(const struct sacn_packet *packet, const uint16_t *universes, size_t count, uint8_t out[SACN_MOST_OCTETS], size_t *length);
+
 /* 1 where a packet with the number `arrived` is in sequence after one with the number `held`, else 0 (6.7.2). */
 int sacn_in_sequence(uint8_t held, uint8_t arrived);
 
@@ -202,6 +219,10 @@ int sacn_node_frame(struct sacn_node *node, uint64_t now, uint8_t port, uint8_t 
 /* The first moment at which a source is lost if no datagram comes, UINT64_MAX where there is none. */
 int sacn_node_wakes(struct sacn_node *node, uint64_t *moment);
 
+/* Copies the numbers of the ports, ascending, to a room of `room` octets, and tells how many there are in `count`. Status: SACN_LENGTH where
+   there is too little room, with `count` told. */
+int sacn_node_ports(struct sacn_node *node, uint8_t *ports, size_t room, size_t *count);
+
 /* ---- the sources of one universe, where the caller has the rest of a receiver ---- */
 
 /* The sources of one universe, and the merge of what they show. */
@@ -221,6 +242,24 @@ int sacn_sources_take(struct sacn_sources *sources, uint64_t now, const uint8_t 
 
 /* Writes the merge: slot by slot the highest level of the sources of the highest priority, and 0 where no source is live. */
 int sacn_sources_merged(struct sacn_sources *sources, uint64_t now, uint8_t slots[SACN_SLOTS]);
+
+/* What is held of a source. */
+struct sacn_source {
+    /* The moment of its latest packet that was held or ended it. */
+    uint64_t moment;
+    /* The sequence number of its latest packet that was taken (6.2.5). */
+    uint8_t number;
+    /* 1 where it has ended its stream, and shows nothing (6.2.6). */
+    uint8_t ended;
+    /* The priority of what it shows (6.2.3), 0 where it has ended. */
+    uint8_t priority;
+    /* Always 0. */
+    uint8_t unused[5];
+};
+
+/* What is held of the source of a CID, and the levels that it shows: 0 in each slot that it doesn't give, and in all where it has ended. No source
+   is dropped by this call, however old it is. Status: SACN_RANGE where none is held. */
+int sacn_sources_held(struct sacn_sources *sources, const uint8_t cid[16], struct sacn_source *source, uint8_t slots[SACN_SLOTS]);
 
 /* ---- universe discovery ---- */
 
@@ -282,6 +321,130 @@ int sacn_console_poll(struct sacn_console *console, uint64_t now, uint8_t out[SA
 
 /* The first moment at which something can be due as long as no command comes: no earlier poll gives anything. */
 int sacn_console_wakes(struct sacn_console *console, uint64_t *moment);
+
+/* ---- monitor ---- */
+
+/* The most pairs of a universe and a source that have an account. */
+#define SACN_MOST_STREAMS 1024
+
+/* What a monitor noted of a datagram. */
+enum sacn_noted {
+    /* It is no packet; the status says why. */
+    SACN_NOTED_REFUSED = 0,
+    SACN_NOTED_PAGE = 1,
+    SACN_NOTED_SYNC = 2,
+    /* A data packet of a pair for which there is no room. */
+    SACN_NOTED_UNTRACKED = 3,
+    /* A data packet of the pair at `place`. */
+    SACN_NOTED_HEARD = 4
+};
+
+/* What a data packet says of its source on its universe. */
+enum sacn_event {
+    SACN_EVENT_NONE = 0,
+    SACN_EVENT_GOES_ON = 1,
+    /* It wasn't heard there before. */
+    SACN_EVENT_APPEARED = 2,
+    /* It had ended, or was lost, and sends again. */
+    SACN_EVENT_CAME_BACK = 3,
+    /* It ends its stream (6.2.6). */
+    SACN_EVENT_ENDED = 4,
+    /* Discarded: out of sequence, and of the number of the latest one that was taken (6.7.2). */
+    SACN_EVENT_OUT_OF_SEQUENCE = 5,
+    SACN_EVENT_REPEATED = 6
+};
+
+/* What a datagram tells that is new. All but `noted` is 0 where it is not SACN_NOTED_HEARD. */
+struct sacn_news {
+    /* The place of the pair: 0 for the first one that appeared. */
+    size_t place;
+    /* enum sacn_noted */
+    uint8_t noted;
+    /* enum sacn_event; where the packet is discarded all that follows is 0 */
+    uint8_t event;
+    /* The sequence numbers that were skipped. */
+    uint8_t skipped;
+    /* 1 where the sender began its numbers anew; has another name than before; sends from another address or port. */
+    uint8_t began_anew;
+    uint8_t renamed;
+    uint8_t moved;
+    /* The priority before and after; both are 0 where it is the same. */
+    uint8_t priority_from;
+    uint8_t priority_to;
+};
+
+enum sacn_stream_state {
+    SACN_SENDING = 1,
+    /* Its latest packet ended the stream. */
+    SACN_ENDED = 2,
+    /* No packet of it was taken for 2500 ms (6.7.1). */
+    SACN_LOST = 3
+};
+
+/* The account of a source on a universe. Moments and times are in milliseconds; a count stops at 2^64 - 1. A packet is taken where it is in
+   sequence, or where the latest one is 2500 ms old. */
+struct sacn_stream {
+    /* The moments of the first packet and of the latest one that was taken. */
+    uint64_t first;
+    uint64_t latest;
+    /* The packets that were taken: levels for the stage, previews, terminations, other start codes. */
+    uint64_t live;
+    uint64_t previews;
+    uint64_t terminations;
+    uint64_t others;
+    /* Sequence numbers that were skipped: packets lost on the way. */
+    uint64_t skipped;
+    /* Discarded packets: out of sequence, and of the number of the latest one that was taken. */
+    uint64_t late;
+    uint64_t repeats;
+    /* The greatest time between two packets that were taken. */
+    uint64_t greatest_gap;
+    /* The packets of the last whole second. */
+    uint64_t last_second;
+    uint16_t universe;
+    /* The sender of the latest packet that was taken. */
+    uint16_t port;
+    uint8_t address[4];
+    uint8_t priority;
+    uint8_t number;
+    /* enum sacn_stream_state */
+    uint8_t state;
+    /* Always 0. */
+    uint8_t unused;
+    uint8_t unused_too[4];
+    uint8_t cid[16];
+    uint8_t name[64];
+};
+
+/* A monitor: it hears a network, and keeps an account of each source on each universe. */
+struct sacn_monitor {
+    void *behind;
+};
+
+/* Makes a monitor that has heard nothing, with the room for all its accounts. It must be empty. Status: SACN_OUT_OF_MEMORY. */
+int sacn_monitor_new(struct sacn_monitor *monitor);
+
+/* Gives back all memory of a monitor, which is then empty. Status: SACN_NULL where it is already. */
+int sacn_monitor_free(struct sacn_monitor *monitor);
+
+/* Takes a datagram that came from an IPv4 address and UDP port, whatever its octets are. Status: enum sacn_packet_fault, and `news` is written
+   then too. */
+int sacn_monitor_take(struct sacn_monitor *monitor, uint64_t now, const uint8_t address[4], uint16_t port, const uint8_t *octets, size_t count,
+                      struct sacn_news *news);
+
+/* Moves the clock, and tells the place of a source that is lost by then, where that wasn't told since its latest packet. Call it until there is
+   none more. Status: SACN_RANGE where there is none. */
+int sacn_monitor_tick(struct sacn_monitor *monitor, uint64_t now, size_t *place);
+
+/* The first moment at which a tick tells of a source if no datagram comes, UINT64_MAX where there is none. */
+int sacn_monitor_wakes(struct sacn_monitor *monitor, uint64_t *moment);
+
+/* How many pairs of a universe and a source have an account. */
+int sacn_monitor_count(struct sacn_monitor *monitor, size_t *count);
+
+/* The account of the pair at a place, from 0 on. Its state and its last second are those of the greatest moment that was handed in. Status:
+   SACN_RANGE where there is none. */
+int sacn_monitor_account(struct sacn_monitor *monitor, size_t place, struct sacn_stream *stream);
 
 #ifdef __cplusplus
 }

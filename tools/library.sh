@@ -33,7 +33,8 @@ room=$(mktemp -d)
 trap 'rm -rf "$room"' EXIT
 "$compiler" -std=c99 -O2 -fPIC -Wall -Wextra -I"$top/include" -c -o "$room/border.o" "$top/crates/sacn_c/border/border.c"
 (cd "$room" && ar x "$heap" && ar x "$archive" && ar rcs libsacn.a ./*.o)
-printf '{ global: sacn_*; local: *; };\n' >"$room/names"
+# The shared object gives out what the header names, and not the proved calls beneath, which refuse no null pointer.
+printf '{ global: %s local: *; };\n' "$(grep -oE '\bsacn_[a-z_]+\(' "$top/include/sacn.h" | tr '(' ';' | sort -u | tr -d '\n')" >"$room/names"
 "$compiler" -shared -o "$room/libsacn.so" -Wl,--whole-archive "$room/libsacn.a" -Wl,--no-whole-archive -Wl,--version-script="$room/names" -Wl,-soname,libsacn.so ||
   echo "sacn: the archive makes no shared object here" >&2
 

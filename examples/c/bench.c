@@ -18,6 +18,9 @@ static const char show[] = "version = 2\ncid = \"00010203-0405-0607-0809-0a0b0c0
 static struct sacn_node node;
 static struct sacn_sources sources;
 static struct sacn_console console;
+static struct sacn_monitor monitor;
+static const uint8_t address[4] = {10, 0, 0, 1};
+static struct sacn_news news;
 static uint8_t wire[256][4][SACN_DATA_OCTETS], frame[SACN_FRAME_OCTETS], out[SACN_MOST_OCTETS], taken;
 static struct sacn_packet packet;
 static size_t length;
@@ -32,6 +35,7 @@ static void take(unsigned i) { sacn_sources_take(&sources, 0, wire[i / 4 % 256][
 static void merge(unsigned i) { take(i), sacn_sources_merged(&sources, 0, frame + 1); }
 static void take_and_frame(unsigned i) { sacn_node_take(&node, 0, wire[i % 256][0], SACN_DATA_OCTETS, &taken), sacn_node_frame(&node, 0, 1, frame); }
 static void tick(unsigned i) { sacn_node_tick(&node, i & 1, &length); }
+static void hear(unsigned i) { sacn_monitor_take(&monitor, 0, address, SACN_UDP_PORT, wire[i / 4 % 256][i % 4], SACN_DATA_OCTETS, &news); }
 static void poll(unsigned i) { sacn_console_poll(&console, 1 + (i & 1), out, &length); }
 
 static void time_of(const char *what, void (*call)(unsigned), unsigned calls) {
@@ -48,7 +52,9 @@ static void time_of(const char *what, void (*call)(unsigned), unsigned calls) {
 int main(int count, char **words) {
     unsigned calls = count > 1 ? (unsigned)atoi(words[1]) : 100000;
     uint16_t port;
-    if (sacn_node_new(&node, setup, strlen(setup), &port) || sacn_sources_new(&sources) || sacn_console_new(&console, show, strlen(show), 0)) return 1;
+    if (sacn_node_new(&node, setup, strlen(setup), &port) || sacn_sources_new(&sources) || sacn_console_new(&console, show, strlen(show), 0) ||
+        sacn_monitor_new(&monitor))
+        return 1;
     packet = (struct sacn_packet){.priority = 100, .universe = 7};
     for (int i = 0; i < 256; i++)
         for (int source = 0; source < 4; source++) {
@@ -68,8 +74,10 @@ int main(int count, char **words) {
     time_of("node: take and frame", take_and_frame, calls);
     time_of("node: tick", tick, calls);
     time_of("console: poll when idle", poll, calls);
+    time_of("monitor: take from 4 sources", hear, calls);
     sacn_node_free(&node);
     sacn_sources_free(&sources);
     sacn_console_free(&console);
+    sacn_monitor_free(&monitor);
     return 0;
 }

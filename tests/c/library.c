@@ -70,9 +70,51 @@ static void packets(void) {
     CHECK(sacn_write_data(&packet, slots, 3, out, NULL) == SACN_NULL);
     CHECK(sacn_write_data(&packet, slots, SIZE_MAX, out, &length) == SACN_LENGTH);
 
+    char text[SACN_TEXT_OCTETS];
+    memset(packet.name, 'n', sizeof packet.name);
+    CHECK(sacn_packet_name(&packet, text) == SACN_DONE && strlen(text) == 64 && text[63] == 'n');
+    packet.name[5] = 0;
+    CHECK(sacn_packet_name(&packet, text) == SACN_DONE && !strcmp(text, "nnnnn"));
+    CHECK(sacn_packet_name(NULL, text) == SACN_NULL && sacn_packet_name(&packet, NULL) == SACN_NULL);
+
     CHECK(sacn_in_sequence(5, 6) == 1 && sacn_in_sequence(5, 5) == 0 && sacn_in_sequence(25, 6) == 0 && sacn_in_sequence(26, 6) == 1);
     CHECK(sacn_multicast_group(258, group) == SACN_DONE && group[0] == 239 && group[1] == 255 && group[2] == 1 && group[3] == 2);
     CHECK(sacn_multicast_group(1, NULL) == SACN_NULL);
+}
+
+static void pages(void) {
+    static uint16_t list[513], got[600];
+    uint8_t out[SACN_MOST_OCTETS];
+    struct sacn_packet packet = fields(0), told;
+    size_t length = 77, given = 77;
+    for (int i = 0; i < 513; i++) list[i] = (uint16_t)(2 * i + 1);
+    memset(&told, 0, sizeof told);
+    /* (page 0 of two has 512 universes, page 1 the last one) */
+    CHECK(sacn_write_page(&packet, list, 513, out, &length) == SACN_DONE && length == 1144);
+    CHECK(sacn_read_packet(out, length, &told, NULL) == SACN_DONE && told.kind == SACN_PAGE && told.page == 0 && told.last == 1 && told.count == 512);
+    CHECK(!memcmp(told.cid, packet.cid, 16) && !memcmp(told.name, packet.name, 64));
+    got[512] = 99;
+    CHECK(sacn_read_universes(out, length, got, 600, &given) == SACN_DONE && given == 512 && !memcmp(got, list, 1024) && got[512] == 99);
+    CHECK(sacn_read_universes(out, length, got, 511, &given) == SACN_LENGTH && given == 512);
+    packet.page = 1;
+    CHECK(sacn_write_page(&packet, list, 513, out, &length) == SACN_DONE && length == 122);
+    CHECK(sacn_read_universes(out, length, got, 1, &given) == SACN_DONE && given == 1 && got[0] == 1025);
+    packet.page = 2;
+    CHECK(sacn_write_page(&packet, list, 513, out, &length) == SACN_RANGE);
+    packet.page = 0;
+    /* (a list of none has one page) */
+    CHECK(sacn_write_page(&packet, NULL, 0, out, &length) == SACN_DONE && length == 120);
+    CHECK(sacn_read_universes(out, length, NULL, 0, &given) == SACN_DONE && given == 0);
+    CHECK(sacn_read_universes(out, 119, got, 600, &given) == SACN_PACKET_LENGTH || sacn_read_universes(out, 119, got, 600, &given) == SACN_PACKET_TOO_SHORT);
+    list[1] = list[0];
+    CHECK(sacn_write_page(&packet, list, 513, out, &length) == SACN_RANGE);
+    CHECK(sacn_write_page(NULL, list, 1, out, &length) == SACN_NULL && sacn_write_page(&packet, NULL, 1, out, &length) == SACN_NULL);
+    CHECK(sacn_write_page(&packet, list, 1, NULL, &length) == SACN_NULL && sacn_write_page(&packet, list, 1, out, NULL) == SACN_NULL);
+    CHECK(sacn_write_page(&packet, list, SIZE_MAX / 2 - 1, out, &length) == SACN_LENGTH);
+    CHECK(sacn_write_data(&packet, out, 1, out + 100, &length) == SACN_DONE && sacn_read_universes(out + 100, length, got, 600, &given) == SACN_RANGE);
+    CHECK(sacn_read_universes(NULL, 1, got, 600, &given) == SACN_NULL && sacn_read_universes(out, 1, NULL, 1, &given) == SACN_NULL);
+    CHECK(sacn_read_universes(out, 1, got, 600, NULL) == SACN_NULL && sacn_read_universes(out, SIZE_MAX, got, 600, &given) == SACN_LENGTH);
+    CHECK(sacn_read_universes(out, 1, got, SIZE_MAX / 2, &given) == SACN_LENGTH);
 }
 
 static size_t packet_of(uint8_t number, uint8_t level, uint8_t terminated, uint8_t *out) {
@@ -93,6 +135,10 @@ static void node(void) {
     CHECK(sacn_node_new(&node, setup, strlen(setup), &port) == SACN_DONE && port == SACN_UDP_PORT);
     CHECK(sacn_node_new(&node, setup, strlen(setup), &port) == SACN_NOT_EMPTY);
     CHECK(sacn_node_wakes(&node, &wakes) == SACN_DONE && wakes == UINT64_MAX);
+    CHECK(sacn_node_ports(&node, frame, 2, &lost) == SACN_DONE && lost == 1 && frame[0] == 1);
+    CHECK(sacn_node_ports(&node, NULL, 0, &lost) == SACN_LENGTH && lost == 1);
+    CHECK(sacn_node_ports(&node, NULL, 1, &lost) == SACN_NULL && sacn_node_ports(&node, frame, 2, NULL) == SACN_NULL);
+    CHECK(sacn_node_ports(&empty, frame, 2, &lost) == SACN_NULL && sacn_node_ports(&node, frame, SIZE_MAX, &lost) == SACN_LENGTH);
     CHECK(sacn_node_take(&node, 10, out, packet_of(1, 200, 0, out), &taken) == SACN_DONE && taken == SACN_TAKEN_HELD);
     CHECK(sacn_node_take(&node, 10, out, packet_of(1, 200, 0, out), &taken) == SACN_DONE && taken == SACN_TAKEN_OUT_OF_SEQUENCE);
     CHECK(sacn_node_frame(&node, 10, 1, frame) == SACN_DONE && frame[0] == 0 && frame[1] == 200 && frame[2] == 0);
@@ -125,12 +171,21 @@ static void node(void) {
 static void sources(void) {
     struct sacn_sources sources = {0}, empty = {0};
     struct sacn_node node = {0};
-    uint8_t out[SACN_DATA_OCTETS], slots[SACN_SLOTS], taken = 77;
+    uint8_t out[SACN_DATA_OCTETS], slots[SACN_SLOTS], cid[16], taken = 77;
+    struct sacn_source source;
     size_t lost;
+    memset(cid, 'c', sizeof cid);
     CHECK(sacn_sources_new(&sources) == SACN_DONE && sacn_sources_new(&sources) == SACN_NOT_EMPTY && sacn_sources_new(NULL) == SACN_NULL);
     CHECK(sacn_sources_take(&sources, 5, out, packet_of(1, 30, 0, out), &taken) == SACN_DONE && taken == SACN_TAKEN_HELD);
     CHECK(sacn_sources_merged(&sources, 5, slots) == SACN_DONE && slots[0] == 30 && slots[1] == 0);
+    CHECK(sacn_sources_held(&sources, cid, &source, slots) == SACN_DONE && source.moment == 5 && source.number == 1 && !source.ended);
+    CHECK(source.priority == 100 && slots[0] == 30 && slots[1] == 0 && slots[511] == 0);
     CHECK(sacn_sources_take(&sources, 6, out, packet_of(2, 0, 1, out), &taken) == SACN_DONE && taken == SACN_TAKEN_ENDED);
+    CHECK(sacn_sources_held(&sources, cid, &source, slots) == SACN_DONE && source.ended == 1 && source.number == 2 && source.priority == 0 && slots[0] == 0);
+    cid[15] = 0;
+    CHECK(sacn_sources_held(&sources, cid, &source, slots) == SACN_RANGE);
+    CHECK(sacn_sources_held(&empty, cid, &source, slots) == SACN_NULL && sacn_sources_held(&sources, NULL, &source, slots) == SACN_NULL);
+    CHECK(sacn_sources_held(&sources, cid, NULL, slots) == SACN_NULL && sacn_sources_held(&sources, cid, &source, NULL) == SACN_NULL);
     CHECK(sacn_sources_merged(&sources, 6, slots) == SACN_DONE && slots[0] == 0);
     CHECK(sacn_sources_take(&sources, 6, NULL, 0, &taken) == SACN_PACKET_TOO_SHORT && taken == SACN_TAKEN_REFUSED);
     CHECK(sacn_sources_take(&sources, 6, NULL, 1, &taken) == SACN_NULL && sacn_sources_take(&sources, 6, out, SIZE_MAX, &taken) == SACN_LENGTH);
@@ -210,11 +265,61 @@ static void console(void) {
     CHECK(sacn_console_new(&console, "\xff", 1, 0) == SACN_SHOW_TOML && sacn_console_new(&console, "version = 3", 11, 0) == SACN_SHOW_VERSION);
 }
 
+static void monitor(void) {
+    struct sacn_monitor monitor = {0}, empty = {0};
+    struct sacn_collector collector = {0};
+    const uint8_t address[4] = {10, 0, 0, 1};
+    uint8_t out[SACN_DATA_OCTETS];
+    struct sacn_news news;
+    struct sacn_stream stream;
+    uint64_t wakes = 77;
+    size_t place = 77, count = 77;
+    CHECK(sacn_monitor_new(&monitor) == SACN_DONE && sacn_monitor_new(&monitor) == SACN_NOT_EMPTY && sacn_monitor_new(NULL) == SACN_NULL);
+    CHECK(sacn_monitor_count(&monitor, &count) == SACN_DONE && count == 0 && sacn_monitor_account(&monitor, 0, &stream) == SACN_RANGE);
+    CHECK(sacn_monitor_wakes(&monitor, &wakes) == SACN_DONE && wakes == UINT64_MAX);
+    CHECK(sacn_monitor_take(&monitor, 1000, address, 5568, out, packet_of(1, 200, 0, out), &news) == SACN_DONE);
+    CHECK(news.noted == SACN_NOTED_HEARD && news.event == SACN_EVENT_APPEARED && news.place == 0 && !news.skipped && !news.moved);
+    /* (two numbers are missing, and it comes from another port) */
+    CHECK(sacn_monitor_take(&monitor, 1040, address, 6000, out, packet_of(4, 200, 0, out), &news) == SACN_DONE);
+    CHECK(news.event == SACN_EVENT_GOES_ON && news.skipped == 2 && news.moved == 1 && !news.renamed && !news.began_anew && !news.priority_to);
+    CHECK(sacn_monitor_take(&monitor, 1050, address, 6000, out, packet_of(4, 200, 0, out), &news) == SACN_DONE && news.event == SACN_EVENT_REPEATED);
+    CHECK(sacn_monitor_take(&monitor, 1050, address, 6000, NULL, 0, &news) == SACN_PACKET_TOO_SHORT && news.noted == SACN_NOTED_REFUSED && !news.event);
+    CHECK(sacn_monitor_count(&monitor, &count) == SACN_DONE && count == 1);
+    CHECK(sacn_monitor_account(&monitor, 0, &stream) == SACN_DONE && stream.universe == 7 && stream.first == 1000 && stream.latest == 1040);
+    CHECK(stream.live == 2 && stream.skipped == 2 && stream.repeats == 1 && stream.late == 0 && stream.greatest_gap == 40 && stream.number == 4);
+    CHECK(stream.priority == 100 && stream.port == 6000 && !memcmp(stream.address, address, 4) && stream.cid[0] == 'c' && !memcmp(stream.name, "Desk", 5));
+    CHECK(stream.state == SACN_SENDING && sacn_monitor_account(&monitor, 1, &stream) == SACN_RANGE);
+    CHECK(sacn_monitor_wakes(&monitor, &wakes) == SACN_DONE && wakes == 3540);
+    CHECK(sacn_monitor_tick(&monitor, 3539, &place) == SACN_RANGE && place == 77);
+    CHECK(sacn_monitor_tick(&monitor, 3540, &place) == SACN_DONE && place == 0 && sacn_monitor_tick(&monitor, 3540, &place) == SACN_RANGE);
+    CHECK(sacn_monitor_account(&monitor, 0, &stream) == SACN_DONE && stream.state == SACN_LOST);
+    CHECK(sacn_monitor_take(&monitor, 3600, address, 6000, out, packet_of(5, 0, 1, out), &news) == SACN_DONE && news.event == SACN_EVENT_ENDED);
+    CHECK(sacn_monitor_account(&monitor, 0, &stream) == SACN_DONE && stream.state == SACN_ENDED && stream.terminations == 1);
+    CHECK(sacn_monitor_take(&empty, 0, address, 0, out, 1, &news) == SACN_NULL && sacn_monitor_take(&monitor, 0, NULL, 0, out, 1, &news) == SACN_NULL);
+    CHECK(sacn_monitor_take(&monitor, 0, address, 0, NULL, 1, &news) == SACN_NULL && sacn_monitor_take(&monitor, 0, address, 0, out, 1, NULL) == SACN_NULL);
+    CHECK(sacn_monitor_take(&monitor, 0, address, 0, out, SIZE_MAX, &news) == SACN_LENGTH);
+    CHECK(sacn_monitor_tick(&empty, 0, &place) == SACN_NULL && sacn_monitor_tick(&monitor, 0, NULL) == SACN_NULL);
+    CHECK(sacn_monitor_wakes(&empty, &wakes) == SACN_NULL && sacn_monitor_wakes(&monitor, NULL) == SACN_NULL);
+    CHECK(sacn_monitor_count(&empty, &count) == SACN_NULL && sacn_monitor_count(&monitor, NULL) == SACN_NULL);
+    CHECK(sacn_monitor_account(&empty, 0, &stream) == SACN_NULL && sacn_monitor_account(&monitor, 0, NULL) == SACN_NULL);
+    /* (a monitor as a collector, and a collector as a monitor) */
+    collector.behind = monitor.behind;
+    CHECK(sacn_collector_take(&collector, 0, out, 1) == SACN_WRONG_HANDLE);
+    CHECK(sacn_collector_free(&collector) == SACN_DONE && sacn_collector_new(&collector) == SACN_DONE);
+    monitor.behind = collector.behind;
+    CHECK(sacn_monitor_take(&monitor, 0, address, 0, out, 1, &news) == SACN_WRONG_HANDLE && sacn_monitor_tick(&monitor, 0, &place) == SACN_WRONG_HANDLE);
+    CHECK(sacn_monitor_wakes(&monitor, &wakes) == SACN_WRONG_HANDLE && sacn_monitor_count(&monitor, &count) == SACN_WRONG_HANDLE);
+    CHECK(sacn_monitor_account(&monitor, 0, &stream) == SACN_WRONG_HANDLE);
+    CHECK(sacn_monitor_free(&monitor) == SACN_DONE && sacn_monitor_free(&monitor) == SACN_NULL && sacn_monitor_free(NULL) == SACN_NULL);
+}
+
 int main(void) {
     packets();
+    pages();
     node();
     sources();
     collector();
     console();
+    monitor();
     return failed > 100 ? 100 : failed;
 }

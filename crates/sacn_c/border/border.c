@@ -5,6 +5,9 @@
 uint32_t sacn_proved_read_packet(const uint8_t *octets, size_t count, struct sacn_packet *packet);
 uint32_t sacn_proved_read_data(const uint8_t *octets, size_t count, struct sacn_packet *packet, uint8_t *frame);
 uint32_t sacn_proved_write_data(const struct sacn_packet *packet, const uint8_t *slots, size_t slot_count, uint8_t *out, size_t *length);
+void sacn_proved_packet_name(const struct sacn_packet *packet, uint8_t *text);
+uint32_t sacn_proved_read_universes(const uint8_t *octets, size_t count, uint16_t *universes, size_t room, size_t *given);
+uint32_t sacn_proved_write_page(const struct sacn_packet *packet, const uint16_t *universes, size_t count, uint8_t *out, size_t *length);
 uint8_t sacn_proved_in_sequence(uint8_t held, uint8_t arrived);
 void sacn_proved_multicast_group(uint16_t universe, uint8_t *group);
 void sacn_proved_free(void **handle);
@@ -13,9 +16,11 @@ uint32_t sacn_proved_node_take(void **handle, uint64_t now, const uint8_t *octet
 uint32_t sacn_proved_node_tick(void **handle, uint64_t now, size_t *lost);
 uint32_t sacn_proved_node_frame(void **handle, uint64_t now, uint8_t port, uint8_t *frame);
 uint32_t sacn_proved_node_wakes(void **handle, uint64_t *moment);
+uint32_t sacn_proved_node_ports(void **handle, uint8_t *ports, size_t room, size_t *count);
 uint32_t sacn_proved_sources_new(void **handle);
 uint32_t sacn_proved_sources_take(void **handle, uint64_t now, const uint8_t *octets, size_t count, uint8_t *taken);
 uint32_t sacn_proved_sources_merged(void **handle, uint64_t now, uint8_t *slots);
+uint32_t sacn_proved_sources_held(void **handle, const uint8_t *cid, struct sacn_source *source, uint8_t *slots);
 uint32_t sacn_proved_collector_new(void **handle);
 uint32_t sacn_proved_collector_take(void **handle, uint64_t now, const uint8_t *octets, size_t count);
 uint32_t sacn_proved_collector_list(void **handle, uint64_t now, const uint8_t *cid, uint16_t *universes, size_t room, size_t *count);
@@ -23,6 +28,13 @@ uint32_t sacn_proved_console_new(void **handle, const uint8_t *text, size_t leng
 uint32_t sacn_proved_console_command(void **handle, uint64_t now, uint8_t command, uint16_t number, uint16_t level);
 uint32_t sacn_proved_console_poll(void **handle, uint64_t now, uint8_t *out, size_t *count);
 uint32_t sacn_proved_console_wakes(void **handle, uint64_t *moment);
+uint32_t sacn_proved_monitor_new(void **handle);
+uint32_t sacn_proved_monitor_take(void **handle, uint64_t now, const uint8_t *address, uint16_t port, const uint8_t *octets, size_t count,
+                                  struct sacn_news *news);
+uint32_t sacn_proved_monitor_tick(void **handle, uint64_t now, size_t *place);
+uint32_t sacn_proved_monitor_wakes(void **handle, uint64_t *moment);
+uint32_t sacn_proved_monitor_count(void **handle, size_t *count);
+uint32_t sacn_proved_monitor_account(void **handle, size_t place, struct sacn_stream *stream);
 
 /* A slice of no elements has some address of this. */
 static const uint8_t nothing[1] = {0};
@@ -35,6 +47,12 @@ static int is_long(size_t count) { return count > PTRDIFF_MAX; }
 
 static const uint8_t *start(const void *at) { return at ? at : nothing; }
 
+/* The same of numbers of two octets. */
+static const uint16_t no_numbers[1] = {0};
+static uint16_t no_room[1];
+
+static int is_long_list(size_t count) { return count > PTRDIFF_MAX / 2; }
+
 int sacn_read_packet(const uint8_t *octets, size_t count, struct sacn_packet *packet, uint8_t frame[SACN_FRAME_OCTETS]) {
     if (is_bad(octets, count) || !packet) return SACN_NULL;
     if (is_long(count)) return SACN_LENGTH;
@@ -45,6 +63,24 @@ int sacn_write_data(const struct sacn_packet *packet, const uint8_t *slots, size
     if (!packet || is_bad(slots, slot_count) || !out || !length) return SACN_NULL;
     if (is_long(slot_count)) return SACN_LENGTH;
     return (int)sacn_proved_write_data(packet, start(slots), slot_count, out, length);
+}
+
+int sacn_packet_name(const struct sacn_packet *packet, char text[SACN_TEXT_OCTETS]) {
+    if (!packet || !text) return SACN_NULL;
+    sacn_proved_packet_name(packet, (uint8_t *)text);
+    return SACN_DONE;
+}
+
+int sacn_read_universes(const uint8_t *octets, size_t count, uint16_t *universes, size_t room, size_t *given) {
+    if (is_bad(octets, count) || is_bad(universes, room) || !given) return SACN_NULL;
+    if (is_long(count) || is_long_list(room)) return SACN_LENGTH;
+    return (int)sacn_proved_read_universes(start(octets), count, universes ? universes : no_room, room, given);
+}
+
+int sacn_write_page(const struct sacn_packet *packet, const uint16_t *universes, size_t count, uint8_t out[SACN_MOST_OCTETS], size_t *length) {
+    if (!packet || is_bad(universes, count) || !out || !length) return SACN_NULL;
+    if (is_long_list(count)) return SACN_LENGTH;
+    return (int)sacn_proved_write_page(packet, universes ? universes : no_numbers, count, out, length);
 }
 
 int sacn_in_sequence(uint8_t held, uint8_t arrived) { return sacn_proved_in_sequence(held, arrived); }
@@ -89,6 +125,13 @@ int sacn_node_wakes(struct sacn_node *node, uint64_t *moment) {
     return (int)sacn_proved_node_wakes(&node->behind, moment);
 }
 
+int sacn_node_ports(struct sacn_node *node, uint8_t *ports, size_t room, size_t *count) {
+    static uint8_t none[1];
+    if (!node || !node->behind || is_bad(ports, room) || !count) return SACN_NULL;
+    if (is_long(room)) return SACN_LENGTH;
+    return (int)sacn_proved_node_ports(&node->behind, ports ? ports : none, room, count);
+}
+
 int sacn_sources_new(struct sacn_sources *sources) {
     if (!sources) return SACN_NULL;
     if (sources->behind) return SACN_NOT_EMPTY;
@@ -112,6 +155,11 @@ int sacn_sources_merged(struct sacn_sources *sources, uint64_t now, uint8_t slot
     return (int)sacn_proved_sources_merged(&sources->behind, now, slots);
 }
 
+int sacn_sources_held(struct sacn_sources *sources, const uint8_t cid[16], struct sacn_source *source, uint8_t slots[SACN_SLOTS]) {
+    if (!sources || !sources->behind || !cid || !source || !slots) return SACN_NULL;
+    return (int)sacn_proved_sources_held(&sources->behind, cid, source, slots);
+}
+
 int sacn_collector_new(struct sacn_collector *collector) {
     if (!collector) return SACN_NULL;
     if (collector->behind) return SACN_NOT_EMPTY;
@@ -131,10 +179,9 @@ int sacn_collector_take(struct sacn_collector *collector, uint64_t now, const ui
 }
 
 int sacn_collector_list(struct sacn_collector *collector, uint64_t now, const uint8_t cid[16], uint16_t *universes, size_t room, size_t *count) {
-    static uint16_t none[1];
     if (!collector || !collector->behind || !cid || is_bad(universes, room) || !count) return SACN_NULL;
-    if (is_long(room) || is_long(2 * room)) return SACN_LENGTH;
-    return (int)sacn_proved_collector_list(&collector->behind, now, cid, universes ? universes : none, room, count);
+    if (is_long_list(room)) return SACN_LENGTH;
+    return (int)sacn_proved_collector_list(&collector->behind, now, cid, universes ? universes : no_room, room, count);
 }
 
 int sacn_console_new(struct sacn_console *console, const char *show, size_t length, uint8_t first) {
@@ -163,4 +210,43 @@ int sacn_console_poll(struct sacn_console *console, uint64_t now, uint8_t out[SA
 int sacn_console_wakes(struct sacn_console *console, uint64_t *moment) {
     if (!console || !console->behind || !moment) return SACN_NULL;
     return (int)sacn_proved_console_wakes(&console->behind, moment);
+}
+
+int sacn_monitor_new(struct sacn_monitor *monitor) {
+    if (!monitor) return SACN_NULL;
+    if (monitor->behind) return SACN_NOT_EMPTY;
+    return (int)sacn_proved_monitor_new(&monitor->behind);
+}
+
+int sacn_monitor_free(struct sacn_monitor *monitor) {
+    if (!monitor || !monitor->behind) return SACN_NULL;
+    sacn_proved_free(&monitor->behind);
+    return SACN_DONE;
+}
+
+int sacn_monitor_take(struct sacn_monitor *monitor, uint64_t now, const uint8_t address[4], uint16_t port, const uint8_t *octets, size_t count,
+                      struct sacn_news *news) {
+    if (!monitor || !monitor->behind || !address || is_bad(octets, count) || !news) return SACN_NULL;
+    if (is_long(count)) return SACN_LENGTH;
+    return (int)sacn_proved_monitor_take(&monitor->behind, now, address, port, start(octets), count, news);
+}
+
+int sacn_monitor_tick(struct sacn_monitor *monitor, uint64_t now, size_t *place) {
+    if (!monitor || !monitor->behind || !place) return SACN_NULL;
+    return (int)sacn_proved_monitor_tick(&monitor->behind, now, place);
+}
+
+int sacn_monitor_wakes(struct sacn_monitor *monitor, uint64_t *moment) {
+    if (!monitor || !monitor->behind || !moment) return SACN_NULL;
+    return (int)sacn_proved_monitor_wakes(&monitor->behind, moment);
+}
+
+int sacn_monitor_count(struct sacn_monitor *monitor, size_t *count) {
+    if (!monitor || !monitor->behind || !count) return SACN_NULL;
+    return (int)sacn_proved_monitor_count(&monitor->behind, count);
+}
+
+int sacn_monitor_account(struct sacn_monitor *monitor, size_t place, struct sacn_stream *stream) {
+    if (!monitor || !monitor->behind || !stream) return SACN_NULL;
+    return (int)sacn_proved_monitor_account(&monitor->behind, place, stream);
 }

@@ -1,11 +1,11 @@
 //! Handles, as C keeps them.
 ghost use Rattle.std.specs.Prelude.{◌≡◌, Option, Some, None, is_some, true};
 ghost use Rattle.std.specs.Coded.{coded_option};
-ghost use Rattle.sacn_c.specs.declared.held.Held.{Held};
-ghost use Rattle.sacn_c.specs.contracts.held.Held.{the_row};
+ghost use Rattle.sacn_border.specs.declared.held.Held.{Held};
+ghost use Rattle.sacn_border.specs.contracts.held.Held.{the_row};
 
-use crate::held::Held;
 use crate::loose::Loose;
+use sacn_border::Held;
 use std::alloc::Global;
 use std::marker::Model;
 use std::ptr::null_mut;

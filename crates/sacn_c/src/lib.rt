@@ -4,11 +4,9 @@
 mod collector;
 mod console;
 mod handle;
-mod held;
 mod loose;
+mod monitor;
 mod node;
-mod numbers;
 mod packets;
 mod release;
 mod sources;
-mod status;

@@ -1,35 +1,22 @@
 //! Nodes, for C.
-ghost use Rattle.std.specs.Prelude.{◌≡◌, ◌<◌, is_some, true, false, IfSome, ℕ};
+ghost use Rattle.std.specs.Prelude.{◌≡◌, ◌<◌, ◌≤◌, ◌^◌, ◌-◌, is_some, true, false, IfSome, MatchOption, ℕ, nat_lt, length};
 ghost use Rattle.std.specs.Option.{option_map};
+ghost use Rattle.toml.specs.Parse.{parse_document};
 ghost use Rattle.sacn_framing.specs.PacketReading.{reading_packet};
 ghost use Rattle.sacn_node.specs.Cores.{core_at, core_lost, node_frame};
 ghost use Rattle.sacn_node.specs.Readings.{reply_to, after_reading};
-ghost use Rattle.sacn_c.specs.Kinds.{of_node};
-ghost use Rattle.sacn_c.specs.Numbers.{node_taken_number, node_taken_status, frame_status, frame_or};
-ghost use Rattle.sacn_c.specs.declared.status.TheConstants.{DONE, WRONG_HANDLE};
+ghost use Rattle.sacn_node.specs.Setup.{port_numbers};
+ghost use Rattle.sacn_node.specs.SetupReading.{setup_or_toml};
+ghost use Rattle.sacn_border.specs.Kinds.{of_node};
+ghost use Rattle.sacn_border.specs.Making.{NodeOf, SetupStatus};
+ghost use Rattle.sacn_border.specs.Numbers.{node_taken_number, node_taken_status, frame_status, frame_or};
+ghost use Rattle.sacn_border.specs.Rooms.{room_status, room_with};
+ghost use Rattle.sacn_border.specs.declared.status.TheConstants.{DONE, WRONG_HANDLE};
 
 use crate::handle::{Handle, take_out};
-use crate::held::Held;
-use crate::numbers::{node_taken_number, node_taken_status};
-use crate::status::{DONE, RANGE, WRONG_HANDLE};
-use sacn_node::{NodeCore, SetupFault, read_node};
+use sacn_border::{DONE, Held, node};
 use sacn_slots::FRAME_OCTETS;
 use std::alloc::Global;
-
-fn take(held: &mut Held, now: u64, octets: &[u8], taken: &mut u8) -> u32
-    ensures status { result ≡ of_node WRONG_HANDLE (λ n. node_taken_status (reply_to (reading_packet octets.now) now n.core)) held.old }
-    ensures taken { taken.new ≡ of_node taken.old (λ n. node_taken_number (reply_to (reading_packet octets.now) now n.core)) held.old }
-    ensures held { held.new ≡ of_node held.old (λ n. Held.Node (record n { core = after_reading (reading_packet octets.now) now n.core })) held.old }
-{
-    match held {
-        Held::Node(node) => {
-            let reply = node.take(now, octets);
-            *taken = node_taken_number(reply);
-            node_taken_status(reply)
-        }
-        _ => WRONG_HANDLE,
-    }
-}
 
 /// Takes a datagram, as `NodeCore::take`. The status is the fault of one that is no packet.
 #[unsafe(no_mangle)]
@@ -46,21 +33,9 @@ pub extern "C" fn sacn_proved_node_take(
     ensures after { handle.new.value ≡ option_map (λ held. of_node held (λ n. Held.Node (record n { core = after_reading (reading_packet octets.now) now n.core })) held) handle.old.value }
 {
     let mut held = take_out(alloc, handle);
-    let status = take(held.as_mut(), now, octets, taken);
+    let status = node::take(held.as_mut(), now, octets, taken);
     *handle = Handle::of(held);
     status
-}
-
-/// A node of a setup's text, with the UDP port that it names.
-fn node_of(alloc: Global, text: &[u8]) -> Result<(NodeCore, u16), SetupFault> {
-    let Ok(text) = std::str::from_utf8(text) else {
-        return Err(SetupFault::Toml);
-    };
-    let setup = read_node(alloc, text)?;
-    match NodeCore::new(alloc, &setup) {
-        Ok(node) => Ok((node, setup.udp_port())),
-        Err(_) => Err(SetupFault::OutOfMemory),
-    }
 }
 
 /// A node of a setup's text, as `read_node` and `NodeCore::new`. The status is the setup's fault.
@@ -71,33 +46,17 @@ pub extern "C" fn sacn_proved_node_new(
     text: &[u8],
     udp_port: &mut u16,
 ) -> u32
-    ensures made { result ≡ DONE → IfSome handle.new.value (λ held. of_node false (λ n. true) held ≡ true) }
+    ensures made { result ≡ DONE → MatchOption handle.new.value ⊥ (λ held. NodeOf (setup_or_toml (parse_document text.now)) held udp_port.new) }
     ensures refused { (result ≡ DONE → ⊥) → handle.new.value ≡ handle.old.value }
+    ensures status { (result ≡ DONE → ⊥) → SetupStatus text.now result }
+    ensures unwritten { (result ≡ DONE → ⊥) → udp_port.new ≡ udp_port.old }
 {
-    match node_of(alloc, text) {
-        Ok((node, port)) => match Box::new(alloc, Held::Node(node)) {
-            Ok(held) => {
-                *handle = Handle::of(held);
-                *udp_port = port;
-                DONE
-            }
-            Err(_) => u32::from(SetupFault::OutOfMemory.number()),
-        },
-        Err(fault) => u32::from(fault.number()),
-    }
-}
-
-fn tick(held: &mut Held, now: u64, lost: &mut usize) -> u32
-    ensures status { result ≡ of_node WRONG_HANDLE (λ n. DONE) held.old }
-    ensures lost { lost.new ≡ of_node lost.old (λ n. core_lost now n.core) held.old }
-    ensures held { held.new ≡ of_node held.old (λ n. Held.Node (record n { core = core_at now n.core })) held.old }
-{
-    match held {
-        Held::Node(node) => {
-            *lost = node.tick(now);
+    match node::new(alloc, text, udp_port) {
+        Ok(held) => {
+            *handle = Handle::of(held);
             DONE
         }
-        _ => WRONG_HANDLE,
+        Err(status) => status,
     }
 }
 
@@ -115,23 +74,9 @@ pub extern "C" fn sacn_proved_node_tick(
     ensures after { handle.new.value ≡ option_map (λ held. of_node held (λ n. Held.Node (record n { core = core_at now n.core })) held) handle.old.value }
 {
     let mut held = take_out(alloc, handle);
-    let status = tick(held.as_mut(), now, lost);
+    let status = node::tick(held.as_mut(), now, lost);
     *handle = Handle::of(held);
     status
-}
-
-fn frame(held: &mut Held, now: u64, port: u8, frame: &mut [u8; FRAME_OCTETS]) -> u32
-    ensures status { result ≡ of_node WRONG_HANDLE (λ n. frame_status (node_frame port (record n { core = core_at now n.core }))) held.old }
-    ensures frame { frame.new ≡ of_node frame.old (λ n. frame_or frame.old (node_frame port (record n { core = core_at now n.core }))) held.old }
-    ensures held { held.new ≡ of_node held.old (λ n. Held.Node (record n { core = core_at now n.core })) held.old }
-{
-    match held {
-        Held::Node(node) => match node.frame(now, port, frame) {
-            Ok(()) => DONE,
-            Err(_) => RANGE,
-        },
-        _ => WRONG_HANDLE,
-    }
 }
 
 /// Writes the frame of a port, as `NodeCore::frame`. The status is `RANGE`, and the frame as it was, where there is no such port.
@@ -149,22 +94,9 @@ pub extern "C" fn sacn_proved_node_frame(
     ensures after { handle.new.value ≡ option_map (λ held. of_node held (λ n. Held.Node (record n { core = core_at now n.core })) held) handle.old.value }
 {
     let mut held = take_out(alloc, handle);
-    let status = frame(held.as_mut(), now, port, slots);
+    let status = node::frame(held.as_mut(), now, port, slots);
     *handle = Handle::of(held);
     status
-}
-
-fn wakes(held: &Held, moment: &mut u64) -> u32
-    ensures status { result ≡ of_node WRONG_HANDLE (λ n. DONE) held.now }
-    ensures asleep { (t : ℕ) → t < moment.new → of_node 0 (λ n. core_lost t n.core) held.now ≡ 0 }
-{
-    match held {
-        Held::Node(node) => {
-            *moment = node.wakes().unwrap_or(u64::MAX);
-            DONE
-        }
-        _ => WRONG_HANDLE,
-    }
 }
 
 /// The first moment at which a tick drops a source, as `NodeCore::wakes`, and `u64::MAX` where none does.
@@ -177,10 +109,32 @@ pub extern "C" fn sacn_proved_node_wakes(
     requires { is_some handle.old.value ≡ true }
     ensures status { IfSome handle.old.value (λ held. result ≡ of_node WRONG_HANDLE (λ n. DONE) held) }
     ensures asleep { IfSome handle.old.value (λ held. (t : ℕ) → t < moment.new → of_node 0 (λ n. core_lost t n.core) held ≡ 0) }
+    ensures awake { IfSome handle.old.value (λ held. of_node false (λ n. nat_lt moment.new (2 ^ 64 - 1)) held ≡ true → 1 ≤ of_node 0 (λ n. core_lost moment.new n.core) held) }
     ensures after { handle.new.value ≡ handle.old.value }
 {
     let held = take_out(alloc, handle);
-    let status = wakes(held.as_ref(), moment);
+    let status = node::wakes(held.as_ref(), moment);
+    *handle = Handle::of(held);
+    status
+}
+
+/// Copies the numbers of the ports to the front of a room, as `NodeCore::port_numbers`. The status is `LENGTH`, and the room as it was, where
+/// there is too little of it.
+#[unsafe(no_mangle)]
+pub extern "C" fn sacn_proved_node_ports(
+    alloc: Global,
+    handle: &mut Handle,
+    ports: &mut [u8],
+    count: &mut usize,
+) -> u32
+    requires { is_some handle.old.value ≡ true }
+    ensures status { IfSome handle.old.value (λ held. result ≡ of_node WRONG_HANDLE (λ n. room_status ports.old (port_numbers n.ports)) held) }
+    ensures count { IfSome handle.old.value (λ held. count.new ≡ of_node count.old (λ n. length (port_numbers n.ports)) held) }
+    ensures ports { IfSome handle.old.value (λ held. ports.new ≡ of_node ports.old (λ n. room_with ports.old (port_numbers n.ports)) held) }
+    ensures after { handle.new.value ≡ handle.old.value }
+{
+    let held = take_out(alloc, handle);
+    let status = node::ports(held.as_ref(), ports, count);
     *handle = Handle::of(held);
     status
 }

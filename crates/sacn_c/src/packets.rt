@@ -1,91 +1,24 @@
 //! Packets, for C.
-ghost use Rattle.std.specs.Prelude.{◌≡◌, ◌++◌, List, ℕ, take, not, IfOk, Ok};
+ghost use Rattle.std.specs.Prelude.{◌≡◌, ◌==◌, ◌+◌, ◌++◌, ◌∷◌, [], List, ℕ, length, take, not, IfOk, IfErr, Ok, if◌then◌else◌};
 ghost use Rattle.sacn_framing.specs.Naming.{group_of};
 ghost use Rattle.sacn_sequence.specs.Sequence.{is_late};
 ghost use Rattle.sacn_framing.specs.PacketReading.{reading_packet};
-ghost use Rattle.sacn_framing.specs.declared.packet.Packet.TheVariants.{DataPacket};
-ghost use Rattle.sacn_c.specs.Packets.{packet_status, Tells, ShowsFrame, bit_of, written};
-ghost use Rattle.sacn_c.specs.declared.status.TheConstants.{DONE};
+ghost use Rattle.sacn_framing.specs.declared.packet.Packet.TheVariants.{DataPacket, PagePacket};
+ghost use Rattle.sacn_discovery.specs.Pages.{page_of_list};
+ghost use Rattle.sacn_border.specs.Pages.{universes_status, universes_count, universes_room, IsPageOf};
+ghost use Rattle.sacn_border.specs.Packets.{packet_status, write_status, Tells, fields_after, ShowsFrame, bit_of, written};
+ghost use Rattle.sacn_border.specs.declared.status.TheConstants.{DONE, RANGE};
 
-use crate::status::DONE;
-use sacn_framing::{
-    DataFields, DataView, MOST_PRIORITY, MOST_UNIVERSE, Packet, PageView, multicast_group,
-    read_packet, write_data,
-};
-use sacn_root::PacketFault;
-use sacn_sequence::in_sequence;
-
-/// What a packet says, but its slots and universe numbers. `sacn.h` says what each field means.
-#[repr(C)]
-#[derive(Clone, Copy)]
-pub struct PacketFields {
-    pub kind: u8,
-    pub priority: u8,
-    pub number: u8,
-    pub preview: u8,
-    pub terminated: u8,
-    pub start: u8,
-    pub page: u8,
-    pub last: u8,
-    pub universe: u16,
-    pub count: u16,
-    pub cid: [u8; 16],
-    pub name: [u8; 64],
-}
-
-fn put_name(name: &[u8], out: &mut [u8; 64]) {
-    let len = name.len().min(64);
-    out.fill(0);
-    out[..len].copy_from_slice(&name[..len]);
-}
-
-fn put_data(view: &DataView<'_>, packet: &mut PacketFields)
-    ensures { Tells packet.new (DataPacket view.now) }
-{
-    put_name(view.name(), &mut packet.name);
-    packet.kind = 1;
-    packet.cid = view.cid();
-    packet.priority = view.priority();
-    packet.number = view.number();
-    packet.preview = u8::from(view.preview());
-    packet.terminated = u8::from(view.terminated());
-    packet.universe = view.universe();
-    packet.start = view.start();
-    packet.count = view.slots().len() as u16;
-}
-
-fn put_page(page: &PageView<'_>, packet: &mut PacketFields)
-    ensures { Tells packet.new (Packet.PagePacket page.now) }
-{
-    put_name(page.name(), &mut packet.name);
-    packet.kind = 2;
-    packet.cid = page.cid();
-    packet.page = page.page();
-    packet.last = page.last();
-    packet.count = page.count() as u16;
-}
+use sacn_border::{PacketFields, packets, pages};
 
 /// Reads a packet, as `read_packet`. The status is the fault's number.
 #[unsafe(no_mangle)]
 pub extern "C" fn sacn_proved_read_packet(octets: &[u8], packet: &mut PacketFields) -> u32
     ensures status { result ≡ packet_status (reading_packet octets.now) }
     ensures fields { IfOk (reading_packet octets.now) (Tells packet.new) }
+    ensures others { packet.new ≡ fields_after packet.old (reading_packet octets.now) }
 {
-    match read_packet(octets) {
-        Ok(Packet::DataPacket(data)) => {
-            put_data(&data, packet);
-            DONE
-        }
-        Ok(Packet::PagePacket(page)) => {
-            put_page(&page, packet);
-            DONE
-        }
-        Ok(Packet::SyncPacket) => {
-            packet.kind = 3;
-            DONE
-        }
-        Err(fault) => u32::from(fault.number()),
-    }
+    packets::read_fields(octets, packet)
 }
 
 /// The same, and the frame of a data packet: its start code, and then its slots, 0 where none is given.
@@ -97,24 +30,11 @@ pub extern "C" fn sacn_proved_read_data(
 ) -> u32
     ensures status { result ≡ packet_status (reading_packet octets.now) }
     ensures fields { IfOk (reading_packet octets.now) (Tells packet.new) }
+    ensures others { packet.new ≡ fields_after packet.old (reading_packet octets.now) }
     ensures frame { IfOk (reading_packet octets.now) (ShowsFrame frame.old frame.new) }
+    ensures unwritten { IfErr (reading_packet octets.now) (λ fault. frame.new ≡ frame.old) }
 {
-    match read_packet(octets) {
-        Ok(Packet::DataPacket(data)) => {
-            put_data(&data, packet);
-            data.frame_into(frame);
-            DONE
-        }
-        Ok(Packet::PagePacket(page)) => {
-            put_page(&page, packet);
-            DONE
-        }
-        Ok(Packet::SyncPacket) => {
-            packet.kind = 3;
-            DONE
-        }
-        Err(fault) => u32::from(fault.number()),
-    }
+    packets::read_data(octets, packet, frame)
 }
 
 /// Writes a data packet, as `write_data`. The status is the fault of the first field that is out of range: priority, universe, slots.
@@ -127,31 +47,10 @@ pub extern "C" fn sacn_proved_write_data(
 ) -> u32
     ensures reading { result ≡ DONE → (rest : List ℕ) → reading_packet (take count.new out.new ++ rest) ≡ Ok (DataPacket (written packet.now slots.now)) }
     ensures refused { (result ≡ DONE → ⊥) → out.new ≡ out.old }
+    ensures status { result ≡ write_status packet.now slots.now }
+    ensures count { count.new ≡ (if result == DONE then 126 + length slots.now else count.old) }
 {
-    if packet.priority > MOST_PRIORITY {
-        return u32::from(PacketFault::Priority.number());
-    }
-    if packet.universe == 0 || packet.universe > MOST_UNIVERSE {
-        return u32::from(PacketFault::Universe.number());
-    }
-    if slots.len() > 512 {
-        return u32::from(PacketFault::ValueCount.number());
-    }
-    let cid = packet.cid;
-    let name = packet.name;
-    let fields = DataFields {
-        cid,
-        name,
-        priority: packet.priority,
-        number: packet.number,
-        preview: packet.preview != 0,
-        terminated: packet.terminated != 0,
-        universe: packet.universe,
-        start: packet.start,
-        slots,
-    };
-    *count = write_data(&fields, out);
-    DONE
+    packets::write_fields(packet, slots, out, count)
 }
 
 /// Whether a packet is in sequence, as `in_sequence`: 1 or 0.
@@ -159,7 +58,7 @@ pub extern "C" fn sacn_proved_write_data(
 pub extern "C" fn sacn_proved_in_sequence(held: u8, arrived: u8) -> u8
     ensures { result ≡ bit_of (not (is_late held arrived)) }
 {
-    u8::from(in_sequence(held, arrived))
+    packets::sequence_bit(held, arrived)
 }
 
 /// The multicast group of a universe, as `multicast_group`.
@@ -167,5 +66,45 @@ pub extern "C" fn sacn_proved_in_sequence(held: u8, arrived: u8) -> u8
 pub extern "C" fn sacn_proved_multicast_group(universe: u16, group: &mut [u8; 4])
     ensures { group.new ≡ group_of universe }
 {
-    *group = multicast_group(universe);
+    packets::put_group(universe, group);
+}
+
+/// The source's name of a packet as text of C: the octets of its field, and a NUL after them.
+#[unsafe(no_mangle)]
+pub extern "C" fn sacn_proved_packet_name(packet: &PacketFields, text: &mut [u8; 65])
+    ensures { text.new ≡ packet.now.name ++ 0 ∷ [] }
+{
+    packets::put_text(packet, text);
+}
+
+/// Reads the universe numbers of a page as they came. The status is the fault of octets that are no packet, `RANGE` where the packet is no page,
+/// and `LENGTH` where there is too little room.
+#[unsafe(no_mangle)]
+pub extern "C" fn sacn_proved_read_universes(
+    octets: &[u8],
+    universes: &mut [u16],
+    count: &mut usize,
+) -> u32
+    ensures status { result ≡ universes_status universes.old (reading_packet octets.now) }
+    ensures count { count.new ≡ universes_count count.old (reading_packet octets.now) }
+    ensures room { universes.new ≡ universes_room universes.old (reading_packet octets.now) }
+{
+    pages::read_universes(octets, universes, count)
+}
+
+/// Writes a page of a list of universes, as `write_page`. The status is `RANGE` where the list doesn't ascend, or has no such page.
+#[unsafe(no_mangle)]
+pub extern "C" fn sacn_proved_write_page(
+    packet: &PacketFields,
+    list: &[u16],
+    out: &mut [u8; 1144],
+    count: &mut usize,
+) -> u32
+    ensures reading { result ≡ DONE → (rest : List ℕ) → reading_packet (take count.new out.new ++ rest) ≡ Ok (PagePacket (page_of_list list.now packet.now.page packet.now.cid packet.now.name)) }
+    ensures done { IsPageOf packet.now list.now → result ≡ DONE }
+    ensures only { result ≡ DONE → IsPageOf packet.now list.now }
+    ensures status { (result ≡ DONE → ⊥) → result ≡ RANGE }
+    ensures refused { (result ≡ DONE → ⊥) → (out.new ≡ out.old) × (count.new ≡ count.old) }
+{
+    pages::write_universes(packet, list, out, count)
 }

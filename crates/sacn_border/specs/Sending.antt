@@ -6,7 +6,7 @@ use Rattle.sacn_console.specs.declared.command.Command.{Command}
 use Rattle.sacn_console.specs.declared.command.Command.TheVariants.{Go, GoTo, SetLevel, Master, EndUniverse, StartUniverse}
 use Rattle.sacn_console.specs.Core.{size}
 use Rattle.sacn_console.specs.Lines.{Datagram}
-use Rattle.sacn_c.specs.declared.status.TheConstants.{DONE}
+use Rattle.sacn_border.specs.declared.status.TheConstants.{DONE}
 
 abbrev pub answer_status : Result (Unit {0}) ConsoleFault → ℕ
 answer_status (Ok done) = DONE

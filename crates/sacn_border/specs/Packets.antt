@@ -1,12 +1,17 @@
 -- What C is told of a packet, and what it tells to a writer.
-use Rattle.std.specs.Prelude.{◌≡◌, ℕ, Bool, true, false, not, ◌==◌, List, length, Result, Ok, Err}
+use Rattle.std.specs.Prelude.{◌≡◌, ℕ, nat_lt, Bool, true, false, not, ◌==◌, ◌||◌, List, length, Result, Ok, Err, if◌then◌else◌}
+use Rattle.std.specs.List.{before_first}
 use Rattle.sacn_root.specs.FaultNumbers.{fault_number}
 use Rattle.sacn_root.specs.declared.fault.PacketFault.{PacketFault}
+use Rattle.sacn_root.specs.declared.fault.PacketFault.TheVariants.{Priority, Universe, ValueCount}
+use Rattle.sacn_framing.specs.declared.framing.TheConstants.{MOST_PRIORITY, MOST_UNIVERSE}
 use Rattle.sacn_framing.specs.Data.{Data, frame_of}
 use Rattle.sacn_framing.specs.Page.{Page}
 use Rattle.sacn_framing.specs.declared.packet.Packet.{Packet}
 use Rattle.sacn_framing.specs.declared.packet.Packet.TheVariants.{DataPacket, PagePacket, SyncPacket}
-use Rattle.sacn_c.specs.declared.packets.PacketFields.{PacketFields}
+use Rattle.sacn_monitor.specs.Accounts.{fitted, name_of}
+use Rattle.sacn_border.specs.declared.status.TheConstants.{DONE}
+use Rattle.sacn_border.specs.declared.packets.PacketFields.{PacketFields}
 
 abbrev pub packet_status : Result Packet PacketFault → ℕ
 packet_status (Ok packet) = 0
@@ -20,6 +25,7 @@ bit_of false = 0
 pub record TellsData (f : PacketFields) (d : Data) : Type 0 where
   pub kind : f.kind ≡ 1
   pub cid : f.cid ≡ d.cid
+  pub name : f.name ≡ name_of d
   pub priority : f.priority ≡ d.priority
   pub number : f.number ≡ d.number
   pub preview : f.preview ≡ bit_of d.preview
@@ -31,6 +37,7 @@ pub record TellsData (f : PacketFields) (d : Data) : Type 0 where
 pub record TellsPage (f : PacketFields) (p : Page) : Type 0 where
   pub kind : f.kind ≡ 2
   pub cid : f.cid ≡ p.cid
+  pub name : f.name ≡ fitted (before_first (λ octet. octet == 0) p.name)
   pub page : f.page ≡ p.page
   pub last : f.last ≡ p.last
   pub count : f.count ≡ length p.numbers
@@ -40,6 +47,35 @@ abbrev pub Tells : PacketFields → Packet → Type 0
 Tells f (DataPacket d) = TellsData f d
 Tells f (PagePacket p) = TellsPage f p
 Tells f SyncPacket = f.kind ≡ 3
+
+-- the fields after a packet: those that its kind doesn't have are as they were
+abbrev pub fields_with : PacketFields → Packet → PacketFields
+fields_with f (DataPacket d) = record f {
+  kind = 1;
+  cid = d.cid;
+  name = name_of d;
+  priority = d.priority;
+  number = d.number;
+  preview = bit_of d.preview;
+  terminated = bit_of d.terminated;
+  universe = d.universe;
+  start = d.start;
+  count = length d.slots;
+}
+fields_with f (PagePacket p) = record f {
+  kind = 2;
+  cid = p.cid;
+  name = fitted (before_first (λ octet. octet == 0) p.name);
+  page = p.page;
+  last = p.last;
+  count = length p.numbers;
+}
+fields_with f SyncPacket = record f { kind = 3 }
+
+-- and as they were where there is none
+abbrev pub fields_after : PacketFields → Result Packet PacketFault → PacketFields
+fields_after f (Ok packet) = fields_with f packet
+fields_after f (Err fault) = f
 
 -- the frame is that of a data packet, and else as it was
 abbrev pub ShowsFrame : List ℕ → List ℕ → Packet → Type 0
@@ -60,3 +96,11 @@ written f slots = record {
   start = f.start;
   slots = slots;
 }
+
+-- the fault of the first field that is out of range
+abbrev pub write_status : PacketFields → List ℕ → ℕ
+write_status f slots =
+    if nat_lt MOST_PRIORITY f.priority then fault_number Priority
+    else if f.universe == 0 || nat_lt MOST_UNIVERSE f.universe then fault_number Universe
+    else if nat_lt 512 (length slots) then fault_number ValueCount
+    else DONE

@@ -1,6 +1,6 @@
 //! The numbers by which C is told what became of a datagram.
 ghost use Rattle.std.specs.Prelude.{◌≡◌};
-ghost use Rattle.sacn_c.specs.Numbers.{taken_number, node_taken_number, node_taken_status};
+ghost use Rattle.sacn_border.specs.Numbers.{taken_number, node_taken_number, node_taken_status};
 
 use crate::status::DONE;
 use sacn_node::NodeTaken;

@@ -1,6 +1,7 @@
 //! What a handle stands for.
 use sacn_console::ConsoleCore;
 use sacn_discovery::Collector;
+use sacn_monitor::Monitor;
 use sacn_node::NodeCore;
 use sacn_sources::SourceTable;
 
@@ -15,4 +16,6 @@ pub enum Held {
     Sources(SourceTable),
     /// A collector of universe discovery.
     Collector(Collector),
+    /// What is heard on a network.
+    Monitor(Monitor),
 }

@@ -1,12 +1,16 @@
 -- What a datagram does to the sources of one universe.
-use Rattle.std.specs.Prelude.{ℕ, Result, Ok, Err}
+use Rattle.std.specs.Prelude.{ℕ, List, [], replicate, Option, Some, None, is_none, Result, Ok, Err}
 use Rattle.sacn_root.specs.declared.fault.PacketFault.{PacketFault}
 use Rattle.sacn_framing.specs.declared.packet.Packet.{Packet}
 use Rattle.sacn_framing.specs.declared.packet.Packet.TheVariants.{DataPacket, PagePacket, SyncPacket}
 use Rattle.sacn_sources.specs.Packets.{packet_of}
-use Rattle.sacn_sources.specs.Rows.{answer}
+use Rattle.sacn_sources.specs.Rows.{Row, answer}
+use Rattle.sacn_sources.specs.Held.{priority_shown}
+use Rattle.sacn_slots.specs.Merge.{Shown}
 use Rattle.sacn_sources.specs.Kept.{Kept, kept_after_take}
-use Rattle.sacn_c.specs.Numbers.{taken_number}
+use Rattle.sacn_border.specs.Numbers.{taken_number}
+use Rattle.sacn_border.specs.Packets.{bit_of}
+use Rattle.sacn_border.specs.declared.sources.SourceFields.{SourceFields}
 
 -- all but a data packet leaves them as they are
 abbrev pub after_reading : ℕ → Result Packet PacketFault → Kept → Kept
@@ -21,3 +25,12 @@ source_number now (Ok (DataPacket d)) k = taken_number (answer now (packet_of d)
 source_number now (Ok (PagePacket p)) k = 8
 source_number now (Ok SyncPacket) k = 9
 source_number now (Err fault) k = 0
+
+-- what C is told of a source that is held
+abbrev pub source_told : Row → SourceFields
+source_told r = record { moment = r.moment; number = r.number; ended = bit_of (is_none r.shown); priority = priority_shown r.shown; unused = replicate 5 0 }
+
+-- the levels that a source shows, and none where it has ended
+abbrev pub levels_told : Option Shown → List ℕ
+levels_told None = []
+levels_told (Some shown) = shown.levels

@@ -1,6 +1,6 @@
 -- The numbers by which C is told what became of a datagram.
 use Rattle.std.specs.Prelude.{ℕ, List, Option, Some, None}
-use Rattle.sacn_c.specs.declared.status.TheConstants.{DONE, RANGE}
+use Rattle.sacn_border.specs.declared.status.TheConstants.{DONE, RANGE}
 use Rattle.sacn_root.specs.FaultNumbers.{fault_number}
 use Rattle.sacn_sources.specs.declared.taken.Taken.{Taken}
 use Rattle.sacn_sources.specs.declared.taken.Taken.TheVariants.{Held, Observed, EndedNow, OutOfSequence, SourcesExceeded, UnknownIgnored}
@@ -40,3 +40,13 @@ frame_status (Some frame) = DONE
 abbrev pub frame_or : List ℕ → Option (List ℕ) → List ℕ
 frame_or before None = before
 frame_or before (Some frame) = frame
+
+-- the status of a call that has what it was asked for, or has none
+abbrev pub found_status : {X : Type 0} → Option X → ℕ
+found_status None = RANGE
+found_status (Some x) = DONE
+
+-- what was found, or what was there before
+abbrev pub found_or : {X : Type 0} → X → Option X → X
+found_or before None = before
+found_or before (Some x) = x

@@ -1,0 +1,10 @@
+pub mod Collecting
+pub mod Hearing
+pub mod Kinds
+pub mod Making
+pub mod Merging
+pub mod Numbers
+pub mod Packets
+pub mod Pages
+pub mod Rooms
+pub mod Sending

@@ -1,0 +1,160 @@
+//! What C is told of a datagram that a monitor hears, and of a source on a universe.
+ghost use Rattle.std.specs.Prelude.{◌≡◌};
+ghost use Rattle.sacn_border.specs.Hearing.{news_told, nothing_told, heard_told, noted_status, state_number, event_number, stream_told};
+
+use crate::status::DONE;
+use sacn_monitor::{Event, News, Noted, State, Stream};
+
+/// What a monitor tells of a datagram. `sacn.h` says what each field means.
+#[repr(C)]
+#[derive(Clone, Copy)]
+pub struct NewsFields {
+    pub place: usize,
+    pub noted: u8,
+    pub event: u8,
+    pub skipped: u8,
+    pub began_anew: u8,
+    pub renamed: u8,
+    pub moved: u8,
+    pub priority_from: u8,
+    pub priority_to: u8,
+}
+
+/// The account of a source on a universe. `sacn.h` says what each field means.
+#[repr(C)]
+#[derive(Clone, Copy)]
+pub struct StreamFields {
+    pub first: u64,
+    pub latest: u64,
+    pub live: u64,
+    pub previews: u64,
+    pub terminations: u64,
+    pub others: u64,
+    pub skipped: u64,
+    pub late: u64,
+    pub repeats: u64,
+    pub greatest_gap: u64,
+    pub last_second: u64,
+    pub universe: u16,
+    pub port: u16,
+    pub address: [u8; 4],
+    pub priority: u8,
+    pub number: u8,
+    pub state: u8,
+    pub unused: u8,
+    pub unused_too: [u8; 4],
+    pub cid: [u8; 16],
+    pub name: [u8; 64],
+}
+
+/// The status of a datagram: the fault of one that is no packet.
+pub(crate) fn noted_status(noted: &Noted) -> u32
+    ensures { result ≡ noted_status noted.now }
+{
+    match noted {
+        Noted::Refused(fault) => u32::from(fault.number()),
+        _ => DONE,
+    }
+}
+
+/// What C is told of a datagram.
+pub(crate) fn news_told(noted: Noted) -> NewsFields
+    ensures { result ≡ news_told noted }
+{
+    match noted {
+        Noted::Refused(_) => nothing_told(0),
+        Noted::Page => nothing_told(1),
+        Noted::Sync => nothing_told(2),
+        Noted::Untracked => nothing_told(3),
+        Noted::Heard(place, news) => heard_told(place, news),
+    }
+}
+
+fn nothing_told(noted: u8) -> NewsFields
+    ensures { result ≡ nothing_told noted }
+{
+    NewsFields {
+        place: 0,
+        noted,
+        event: 0,
+        skipped: 0,
+        began_anew: 0,
+        renamed: 0,
+        moved: 0,
+        priority_from: 0,
+        priority_to: 0,
+    }
+}
+
+fn heard_told(place: usize, news: News) -> NewsFields
+    ensures { result ≡ heard_told place news }
+{
+    let (priority_from, priority_to) = match news.priority {
+        Some(change) => (change.from, change.to),
+        None => (0, 0),
+    };
+    NewsFields {
+        place,
+        noted: 4,
+        event: event_number(news.event),
+        skipped: news.skipped,
+        began_anew: u8::from(news.began_anew),
+        renamed: u8::from(news.renamed),
+        moved: u8::from(news.moved),
+        priority_from,
+        priority_to,
+    }
+}
+
+fn event_number(event: Event) -> u8
+    ensures { result ≡ event_number event }
+{
+    match event {
+        Event::GoesOn => 1,
+        Event::Appeared => 2,
+        Event::CameBack => 3,
+        Event::Ended => 4,
+        Event::OutOfSequence => 5,
+        Event::Repeated => 6,
+    }
+}
+
+fn state_number(state: State) -> u8
+    ensures { result ≡ state_number state }
+{
+    match state {
+        State::Sending => 1,
+        State::Ended => 2,
+        State::Lost => 3,
+    }
+}
+
+/// What C is told of a stream, at a moment.
+pub(crate) fn stream_told(moment: u64, stream: &Stream) -> StreamFields
+    ensures { result ≡ stream_told moment stream.now }
+{
+    let account = stream.account;
+    StreamFields {
+        first: account.first,
+        latest: account.latest,
+        live: account.kinds.live,
+        previews: account.kinds.previews,
+        terminations: account.kinds.terminations,
+        others: account.kinds.others,
+        skipped: account.skipped,
+        late: account.late,
+        repeats: account.repeats,
+        greatest_gap: account.greatest_gap,
+        last_second: account.rate.last_second(moment),
+        universe: stream.universe,
+        port: account.sender.port,
+        address: account.sender.address,
+        priority: account.priority,
+        number: account.number,
+        state: state_number(stream.state(moment)),
+        unused: 0,
+        unused_too: [0; 4],
+        cid: stream.cid,
+        name: account.name,
+    }
+}

@@ -1,0 +1,193 @@
+//! Packets.
+ghost use Rattle.std.specs.Prelude.{◌≡◌, ◌≤◌, ◌==◌, ◌+◌, ◌++◌, ◌∷◌, [], List, ℕ, length, take, not, IfOk, IfErr, Ok, if◌then◌else◌};
+ghost use Rattle.sacn_framing.specs.Naming.{group_of, padded};
+ghost use Rattle.sacn_sequence.specs.Sequence.{is_late};
+ghost use Rattle.sacn_framing.specs.PacketReading.{reading_packet};
+ghost use Rattle.sacn_framing.specs.declared.packet.Packet.TheVariants.{DataPacket};
+ghost use Rattle.sacn_monitor.specs.Accounts.{fitted};
+ghost use Rattle.sacn_border.specs.Packets.{packet_status, write_status, Tells, fields_with, fields_after, ShowsFrame, bit_of, written};
+ghost use Rattle.sacn_border.specs.declared.status.TheConstants.{DONE};
+
+use crate::status::DONE;
+use sacn_framing::{
+    DataFields, DataView, MOST_PRIORITY, MOST_UNIVERSE, Packet, PageView, multicast_group,
+    read_packet, write_data,
+};
+use sacn_root::{PacketFault, put};
+use sacn_sequence::in_sequence;
+
+/// What a packet says, but its slots and universe numbers. `sacn.h` says what each field means.
+#[repr(C)]
+#[derive(Clone, Copy)]
+pub struct PacketFields {
+    pub kind: u8,
+    pub priority: u8,
+    pub number: u8,
+    pub preview: u8,
+    pub terminated: u8,
+    pub start: u8,
+    pub page: u8,
+    pub last: u8,
+    pub universe: u16,
+    pub count: u16,
+    pub cid: [u8; 16],
+    pub name: [u8; 64],
+}
+
+/// A name's octets, and NUL to the end of its field.
+fn fitted(name: &[u8]) -> [u8; 64]
+    ensures { result ≡ fitted name.now }
+{
+    if name.len() <= 64 {
+        padded(name)
+    } else {
+        [0; 64]
+    }
+}
+
+fn padded(name: &[u8]) -> [u8; 64]
+    requires { length name.now ≤ 64 }
+    ensures { result ≡ padded name.now }
+{
+    let mut field = [0; 64];
+    put(&mut field, 0, name);
+    field
+}
+
+fn put_data(view: &DataView<'_>, packet: &mut PacketFields)
+    ensures told { Tells packet.new (DataPacket view.now) }
+    ensures others { packet.new ≡ fields_with packet.old (DataPacket view.now) }
+{
+    packet.name = fitted(view.name());
+    packet.kind = 1;
+    packet.cid = view.cid();
+    packet.priority = view.priority();
+    packet.number = view.number();
+    packet.preview = u8::from(view.preview());
+    packet.terminated = u8::from(view.terminated());
+    packet.universe = view.universe();
+    packet.start = view.start();
+    packet.count = view.slots().len() as u16;
+}
+
+fn put_page(page: &PageView<'_>, packet: &mut PacketFields)
+    ensures told { Tells packet.new (Packet.PagePacket page.now) }
+    ensures others { packet.new ≡ fields_with packet.old (Packet.PagePacket page.now) }
+{
+    packet.name = fitted(page.name());
+    packet.kind = 2;
+    packet.cid = page.cid();
+    packet.page = page.page();
+    packet.last = page.last();
+    packet.count = page.count() as u16;
+}
+
+/// Reads a packet, as `read_packet`. The status is the fault's number.
+pub fn read_fields(octets: &[u8], packet: &mut PacketFields) -> u32
+    ensures status { result ≡ packet_status (reading_packet octets.now) }
+    ensures fields { IfOk (reading_packet octets.now) (Tells packet.new) }
+    ensures others { packet.new ≡ fields_after packet.old (reading_packet octets.now) }
+{
+    match read_packet(octets) {
+        Ok(Packet::DataPacket(data)) => {
+            put_data(&data, packet);
+            DONE
+        }
+        Ok(Packet::PagePacket(page)) => {
+            put_page(&page, packet);
+            DONE
+        }
+        Ok(Packet::SyncPacket) => {
+            packet.kind = 3;
+            DONE
+        }
+        Err(fault) => u32::from(fault.number()),
+    }
+}
+
+/// The same, and the frame of a data packet: its start code, and then its slots, 0 where none is given.
+pub fn read_data(octets: &[u8], packet: &mut PacketFields, frame: &mut [u8; 513]) -> u32
+    ensures status { result ≡ packet_status (reading_packet octets.now) }
+    ensures fields { IfOk (reading_packet octets.now) (Tells packet.new) }
+    ensures others { packet.new ≡ fields_after packet.old (reading_packet octets.now) }
+    ensures frame { IfOk (reading_packet octets.now) (ShowsFrame frame.old frame.new) }
+    ensures unwritten { IfErr (reading_packet octets.now) (λ fault. frame.new ≡ frame.old) }
+{
+    match read_packet(octets) {
+        Ok(Packet::DataPacket(data)) => {
+            put_data(&data, packet);
+            data.frame_into(frame);
+            DONE
+        }
+        Ok(Packet::PagePacket(page)) => {
+            put_page(&page, packet);
+            DONE
+        }
+        Ok(Packet::SyncPacket) => {
+            packet.kind = 3;
+            DONE
+        }
+        Err(fault) => u32::from(fault.number()),
+    }
+}
+
+/// Writes a data packet, as `write_data`. The status is the fault of the first field that is out of range: priority, universe, slots.
+pub fn write_fields(
+    packet: &PacketFields,
+    slots: &[u8],
+    out: &mut [u8; 638],
+    count: &mut usize,
+) -> u32
+    ensures reading { result ≡ DONE → (rest : List ℕ) → reading_packet (take count.new out.new ++ rest) ≡ Ok (DataPacket (written packet.now slots.now)) }
+    ensures refused { (result ≡ DONE → ⊥) → out.new ≡ out.old }
+    ensures status { result ≡ write_status packet.now slots.now }
+    ensures count { count.new ≡ (if result == DONE then 126 + length slots.now else count.old) }
+{
+    if packet.priority > MOST_PRIORITY {
+        return u32::from(PacketFault::Priority.number());
+    }
+    if packet.universe == 0 || packet.universe > MOST_UNIVERSE {
+        return u32::from(PacketFault::Universe.number());
+    }
+    if slots.len() > 512 {
+        return u32::from(PacketFault::ValueCount.number());
+    }
+    let cid = packet.cid;
+    let name = packet.name;
+    let fields = DataFields {
+        cid,
+        name,
+        priority: packet.priority,
+        number: packet.number,
+        preview: packet.preview != 0,
+        terminated: packet.terminated != 0,
+        universe: packet.universe,
+        start: packet.start,
+        slots,
+    };
+    *count = write_data(&fields, out);
+    DONE
+}
+
+/// Whether a packet is in sequence, as `in_sequence`: 1 or 0.
+pub fn sequence_bit(held: u8, arrived: u8) -> u8
+    ensures { result ≡ bit_of (not (is_late held arrived)) }
+{
+    u8::from(in_sequence(held, arrived))
+}
+
+/// The multicast group of a universe, as `multicast_group`.
+pub fn put_group(universe: u16, group: &mut [u8; 4])
+    ensures { group.new ≡ group_of universe }
+{
+    *group = multicast_group(universe);
+}
+
+/// The source's name as text of C: the octets of its field, and a NUL after them.
+pub fn put_text(packet: &PacketFields, text: &mut [u8; 65])
+    ensures { text.new ≡ packet.now.name ++ 0 ∷ [] }
+{
+    let name = packet.name;
+    text[..64].copy_from_slice(&name);
+    text[64] = 0;
+}

@@ -1,0 +1,128 @@
+//! Monitors, for C.
+ghost use Rattle.std.specs.Prelude.{◌≡◌, max, length, slice_get, is_some, true, Some, IfSome};
+ghost use Rattle.std.specs.Option.{option_map};
+ghost use Rattle.sacn_monitor.specs.Books.{new_book, noted, after_take, after_tick, next_loss, silent_place};
+ghost use Rattle.sacn_border.specs.Hearing.{news_told, noted_status, stream_told};
+ghost use Rattle.sacn_border.specs.Kinds.{of_monitor};
+ghost use Rattle.sacn_border.specs.Numbers.{found_status, found_or};
+ghost use Rattle.sacn_border.specs.declared.status.TheConstants.{DONE, OUT_OF_MEMORY, WRONG_HANDLE};
+
+use crate::handle::{Handle, take_out};
+use sacn_border::{DONE, Held, NewsFields, StreamFields, monitor};
+use sacn_monitor::Sender;
+use std::alloc::Global;
+
+/// A monitor that has heard nothing, as `Monitor::new`.
+#[unsafe(no_mangle)]
+pub extern "C" fn sacn_proved_monitor_new(alloc: Global, handle: &mut Handle) -> u32
+    ensures made { result ≡ DONE → handle.new.value ≡ Some (Held.Monitor new_book) }
+    ensures refused { (result ≡ DONE → ⊥) → handle.new.value ≡ handle.old.value }
+    ensures status { (result ≡ DONE → ⊥) → result ≡ OUT_OF_MEMORY }
+{
+    match monitor::new(alloc) {
+        Ok(held) => {
+            *handle = Handle::of(held);
+            DONE
+        }
+        Err(status) => status,
+    }
+}
+
+/// Takes a datagram of a sender, as `Monitor::take`. The status is the fault of one that is no packet.
+#[unsafe(no_mangle)]
+pub extern "C" fn sacn_proved_monitor_take(
+    alloc: Global,
+    handle: &mut Handle,
+    now: u64,
+    address: &[u8; 4],
+    port: u16,
+    octets: &[u8],
+    news: &mut NewsFields,
+) -> u32
+    requires { is_some handle.old.value ≡ true }
+    ensures status { IfSome handle.old.value (λ held. result ≡ of_monitor WRONG_HANDLE (λ b. noted_status (noted now (record { address = address.now; port = port }) octets.now b)) held) }
+    ensures news { IfSome handle.old.value (λ held. news.new ≡ of_monitor news.old (λ b. news_told (noted now (record { address = address.now; port = port }) octets.now b)) held) }
+    ensures after { handle.new.value ≡ option_map (λ held. of_monitor held (λ b. Held.Monitor (after_take now (record { address = address.now; port = port }) octets.now b)) held) handle.old.value }
+{
+    let address = *address;
+    let sender = Sender { address, port };
+    let mut held = take_out(alloc, handle);
+    let status = monitor::take(held.as_mut(), now, sender, octets, news);
+    *handle = Handle::of(held);
+    status
+}
+
+/// Moves the clock, and tells the place of a source that is lost, as `Monitor::tick`. The status is `RANGE`, and the place as it was, where there
+/// is none.
+#[unsafe(no_mangle)]
+pub extern "C" fn sacn_proved_monitor_tick(
+    alloc: Global,
+    handle: &mut Handle,
+    now: u64,
+    place: &mut usize,
+) -> u32
+    requires { is_some handle.old.value ≡ true }
+    ensures status { IfSome handle.old.value (λ held. result ≡ of_monitor WRONG_HANDLE (λ b. found_status (silent_place (max b.moment now) b.streams)) held) }
+    ensures place { IfSome handle.old.value (λ held. place.new ≡ of_monitor place.old (λ b. found_or place.old (silent_place (max b.moment now) b.streams)) held) }
+    ensures after { handle.new.value ≡ option_map (λ held. of_monitor held (λ b. Held.Monitor (after_tick now b)) held) handle.old.value }
+{
+    let mut held = take_out(alloc, handle);
+    let status = monitor::tick(held.as_mut(), now, place);
+    *handle = Handle::of(held);
+    status
+}
+
+/// The first moment at which a tick tells of a source, as `Monitor::next_loss`; `u64::MAX` where none does.
+#[unsafe(no_mangle)]
+pub extern "C" fn sacn_proved_monitor_wakes(
+    alloc: Global,
+    handle: &mut Handle,
+    moment: &mut u64,
+) -> u32
+    requires { is_some handle.old.value ≡ true }
+    ensures status { IfSome handle.old.value (λ held. result ≡ of_monitor WRONG_HANDLE (λ b. DONE) held) }
+    ensures moment { IfSome handle.old.value (λ held. moment.new ≡ of_monitor moment.old (λ b. next_loss b.streams) held) }
+    ensures after { handle.new.value ≡ handle.old.value }
+{
+    let held = take_out(alloc, handle);
+    let status = monitor::wakes(held.as_ref(), moment);
+    *handle = Handle::of(held);
+    status
+}
+
+/// How many pairs of a universe and a source have an account.
+#[unsafe(no_mangle)]
+pub extern "C" fn sacn_proved_monitor_count(
+    alloc: Global,
+    handle: &mut Handle,
+    count: &mut usize,
+) -> u32
+    requires { is_some handle.old.value ≡ true }
+    ensures status { IfSome handle.old.value (λ held. result ≡ of_monitor WRONG_HANDLE (λ b. DONE) held) }
+    ensures count { IfSome handle.old.value (λ held. count.new ≡ of_monitor count.old (λ b. length b.streams) held) }
+    ensures after { handle.new.value ≡ handle.old.value }
+{
+    let held = take_out(alloc, handle);
+    let status = monitor::count(held.as_ref(), count);
+    *handle = Handle::of(held);
+    status
+}
+
+/// The account of the pair at a place, from 0 on. The status is `RANGE`, and the fields as they were, where there is none.
+#[unsafe(no_mangle)]
+pub extern "C" fn sacn_proved_monitor_account(
+    alloc: Global,
+    handle: &mut Handle,
+    place: usize,
+    fields: &mut StreamFields,
+) -> u32
+    requires { is_some handle.old.value ≡ true }
+    ensures status { IfSome handle.old.value (λ held. result ≡ of_monitor WRONG_HANDLE (λ b. found_status (slice_get b.streams place)) held) }
+    ensures fields { IfSome handle.old.value (λ held. fields.new ≡ of_monitor fields.old (λ b. found_or fields.old (option_map (stream_told b.moment) (slice_get b.streams place))) held) }
+    ensures after { handle.new.value ≡ handle.old.value }
+{
+    let held = take_out(alloc, handle);
+    let status = monitor::account(held.as_ref(), place, fields);
+    *handle = Handle::of(held);
+    status
+}

@@ -1,0 +1,58 @@
+#!/usr/bin/env python3
+"""Builds the archive for C over the libraries that the kit's gate has just proved.
+
+usage: archive.py [CRATE]     a static library of crates.txt; sacn_c where none is named
+
+rt ci leaves each library in its out/ as what it states and its code, without the mark by which rt's other commands take a library for
+their own: so these would prove all of them again. What rt ci does over them for a program is done here for the static library, which rt ci
+proves but never builds: its own crate is proved once more, and nothing below it.
+
+Status 0: built; 3: what the gate leaves isn't there; else not built.
+"""
+import os
+import shutil
+import sys
+
+TOP = os.path.dirname(os.path.dirname(os.path.realpath(__file__)))
+
+
+def say(text):
+    print(f"sacn: {text}", file=sys.stderr, flush=True)
+
+
+def is_of_the_gate(crate):
+    """Whether a library is as rt ci leaves it: other commands mark what they have built, by a file beside it."""
+    return os.path.isdir(crate.rlib) and not os.path.exists(f"{os.path.dirname(crate.rlib)}/stamp")
+
+
+def build(kit, name):
+    sys.path.insert(0, f"{kit}/bin")
+    import rtlib  # (the kit's own words for each crate)
+
+    crates = rtlib.crates_below(TOP)
+    crate = next((it for it in crates if it.name == name and it.is_static), None)
+    if crate is None:
+        say(f"crates.txt names no static library {name}")
+        return 2
+    rtlib.lock(crates)
+    lacking = [it.name for it in crate.below() if not is_of_the_gate(it)]
+    if lacking:
+        say(f"the gate has not left its build of {', '.join(lacking)}")
+        return 3
+    os.makedirs(f"{crate.folder}/out", exist_ok=True)
+    words = crate.words(["--jobs", str(max(1, min(2, rtlib.cores())))], keeps=False)
+    made = ["--toolchain", f"{kit}/toolchain", "--backend", "llvm", "-o", f"out/lib{name}.a"]
+    return crate.call(rtlib.RATTLE, "build", *words, *made)
+
+
+def main(name="sacn_c"):
+    rt = shutil.which("rt")
+    if not rt:
+        say("the kit's command rt isn't on the PATH")
+        return 1
+    os.chdir(TOP)
+    return build(os.path.dirname(os.path.dirname(os.path.realpath(rt))), name)
+
+
+if __name__ == "__main__":
+    sys.exit(main(*sys.argv[1:]))
