@@ -1,0 +1,223 @@
+#!/usr/bin/env python3
+"""Drives the page of a watch in a headless Chromium against a desk on loopback. Prints 'ok NAME', 'not ok NAME: why' or 'skipped NAME: why' for each look.
+
+usage: browser.py SACN [PICTURES]
+
+SACN is the built program; where PICTURES names a folder, pictures of the page are put there. Chromium and its driver (Debian's chromium and
+chromium-driver) are spoken to by the WebDriver protocol, so no library is needed.
+"""
+import base64
+import json
+import os
+import shutil
+import signal
+import socket
+import subprocess
+import sys
+import tempfile
+import time
+import urllib.request
+
+SACN = sys.argv[1]
+PICTURES = sys.argv[2] if len(sys.argv) > 2 else None
+ROOM = tempfile.mkdtemp()
+UDP, PAGE, DRIVER = 25841, 25842, 25843
+NAME = "<img src=x onerror=document.title='owned'>"
+SHOW = f"""version = 2
+cid = "00010203-0405-0607-0809-0a0b0c0d0e0f"
+name = "{NAME}"
+universes = [1, 7]
+send_to = [{UDP}]
+[[cue]]
+number = 1
+fade = 0
+levels = [[1, 65535]]
+[[cue]]
+number = 2
+fade = 4000
+levels = [[2, 65535]]
+[[patch]]
+channel = 1
+universe = 1
+slot = 1
+[[patch]]
+channel = 2
+universe = 1
+slot = 512
+"""
+started = []
+
+
+def verdict(name, is_well, why=""):
+    print(f"ok browser: {name}" if is_well else f"not ok browser: {name}: {why}", flush=True)
+
+
+def start(*words, **how):
+    process = subprocess.Popen(words, stdin=subprocess.PIPE, stdout=subprocess.DEVNULL, stderr=subprocess.DEVNULL, **how)
+    started.append(process)
+    return process
+
+
+class Browser:
+    """A session of headless Chromium."""
+
+    def __init__(self, *arguments):
+        start("chromedriver", f"--port={DRIVER}")
+        for _ in range(100):
+            try:
+                self.call("GET", "/status")
+                break
+            except OSError:
+                time.sleep(0.1)
+        options = {"args": ["--headless=new", "--no-sandbox", "--disable-gpu", "--hide-scrollbars", *arguments], "binary": shutil.which("chromium")}
+        wanted = {"browserName": "chrome", "goog:chromeOptions": options, "goog:loggingPrefs": {"browser": "ALL"}}
+        self.session = f"/session/{self.call('POST', '/session', {'capabilities': {'alwaysMatch': wanted}})['sessionId']}"
+
+    def call(self, method, path, body=None):
+        data = None if body is None else json.dumps(body).encode()
+        request = urllib.request.Request(f"http://127.0.0.1:{DRIVER}{path}", data, {"Content-Type": "application/json"}, method=method)
+        with urllib.request.urlopen(request, timeout=60) as answer:
+            return json.loads(answer.read())["value"]
+
+    def ask(self, method, path, body=None):
+        return self.call(method, self.session + path, body)
+
+    def open(self, url):
+        self.ask("POST", "/url", {"url": url})
+
+    def js(self, code):
+        return self.ask("POST", "/execute/sync", {"script": code, "args": []})
+
+    def size(self, width, height):
+        self.ask("POST", "/window/rect", {"width": width, "height": height})
+
+    def press(self, *keys):
+        actions = [{"type": kind, "value": key} for key in keys for kind in ("keyDown", "keyUp")]
+        self.ask("POST", "/actions", {"actions": [{"type": "key", "id": "keys", "actions": actions}]})
+
+    def picture(self, name):
+        if PICTURES:
+            with open(f"{PICTURES}/{name}.png", "wb") as out:
+                out.write(base64.b64decode(self.ask("GET", "/screenshot")))
+
+    def until(self, code, seconds):
+        """The seconds until an expression holds, or None where it doesn't in so many."""
+        begin = time.monotonic()
+        while time.monotonic() - begin < seconds:
+            if self.js(f"return {code}"):
+                return time.monotonic() - begin
+            time.sleep(0.02)
+        return None
+
+
+STATE = "document.querySelector('#sources tr td.state')"
+LEVEL = "Number(document.querySelector('#slot-512 b').textContent)"
+
+
+def heard(browser, desk):
+    """A desk that begins: how long until its row stands there."""
+    desk.stdin.write(b"go\n")
+    desk.stdin.flush()
+    took = browser.until(f"{STATE} && {STATE}.textContent == 'live' && document.querySelector('#slot-1 b').textContent == '255'", 5)
+    verdict("a source and its level appear within a second", took is not None and took < 1, f"{took}")
+    return took is not None
+
+
+def followed(browser, desk):
+    """A fade of four seconds: what the page shows beside what the fade is at, by the clock, within a tenth of full."""
+    desk.stdin.write(b"go\n")
+    desk.stdin.flush()
+    begin = browser.until(f"{LEVEL} > 0", 2)
+    began, seen = time.monotonic(), []
+    while time.monotonic() - began < 3.6:
+        seen.append((time.monotonic() - began, browser.js(f"return {LEVEL}")))
+        time.sleep(0.1)
+    far = [(round(at, 2), level) for at, level in seen if abs(level - 255 * at / 4) > 26]
+    verdict("levels follow a fade", begin is not None and len(seen) > 10 and not far, f"{far[:5]}")
+    took = browser.until(f"{LEVEL} == 255", 2)
+    verdict("a fade ends at full", took is not None)
+
+
+def plain(browser):
+    """A name with markup is text."""
+    told = browser.js("return [document.querySelector('#sources td.name').textContent, document.images.length, document.title]")
+    verdict("a name with markup stays text", told[0] == NAME and told[1] == 0 and "owned" not in told[2], f"{told}")
+
+
+def keyed(browser):
+    """Keys choose slots."""
+    browser.js("document.getElementById('grid').focus()")
+    browser.press("\ue010")
+    end = browser.js("return document.getElementById('slot-number').textContent")
+    browser.press("\ue011", "\ue014", "\ue014")
+    third = browser.js("return [document.getElementById('slot-number').textContent, document.querySelector('#grid [aria-selected=true]').id]")
+    verdict("keys choose a slot", end == "512" and third == ["3", "slot-3"], f"{end} {third}")
+
+
+def sized(browser):
+    """No width makes the page wider than the window."""
+    wide = []
+    for width in (360, 800, 1400, 2560):
+        browser.size(width, 1000)
+        time.sleep(0.2)
+        shown = browser.js("return [document.documentElement.scrollWidth, innerWidth]")
+        if shown[0] > shown[1]:
+            wide.append((width, shown))
+        browser.picture(f"page-{width}")
+    verdict("it fits windows of 360 to 2560", not wide, f"{wide}")
+
+
+def killed(browser, desk):
+    """A desk that is killed: its row goes grey and its levels go dark 2.5 s after its last packet."""
+    desk.send_signal(signal.SIGKILL)
+    took = browser.until(f"{STATE}.textContent == 'lost' && {LEVEL} == 0", 6)
+    grey = browser.js("return document.querySelector('#sources tr').classList.contains('gone')")
+    verdict("a killed desk goes grey after two and a half seconds", took is not None and 1.4 < took < 3.2 and grey, f"{took}")
+    browser.picture("page-lost")
+
+
+def parted(browser, watch):
+    """A watch that ends: the page says so."""
+    watch.send_signal(signal.SIGKILL)
+    took = browser.until("!document.getElementById('banner').hidden && document.body.classList.contains('stale')", 5)
+    verdict("a lost connection has a banner", took is not None, "none in five seconds")
+    browser.picture("page-parted")
+
+
+def main():
+    for tool in ("chromium", "chromedriver"):
+        if not shutil.which(tool):
+            print(f"skipped browser: no {tool} on this machine")
+            return
+    with open(f"{ROOM}/show.toml", "w", encoding="utf-8") as out:
+        out.write(SHOW)
+    watch = start(SACN, "watch", "--port", str(UDP), "--page", str(PAGE))
+    browser = Browser()
+    for _ in range(100):
+        try:
+            socket.create_connection(("127.0.0.1", PAGE), 1).close()
+            break
+        except OSError:
+            time.sleep(0.1)
+    browser.size(1400, 1000)
+    browser.open(f"http://127.0.0.1:{PAGE}/")
+    verdict("the page is shown", browser.until("document.querySelectorAll('#grid .slot').length == 512", 5) is not None)
+    desk = start(SACN, "desk", f"{ROOM}/show.toml", "--stay")
+    if heard(browser, desk):
+        followed(browser, desk)
+        plain(browser)
+        keyed(browser)
+        sized(browser)
+        killed(browser, desk)
+    faults = [it["message"] for it in browser.ask("POST", "/se/log", {"type": "browser"}) if it["level"] == "SEVERE"]
+    verdict("the browser has nothing to complain of", not faults, f"{faults[:3]}")
+    parted(browser, watch)
+    browser.call("DELETE", browser.session)
+
+
+try:
+    main()
+finally:
+    for process in started:
+        process.kill()
+    shutil.rmtree(ROOM, ignore_errors=True)
