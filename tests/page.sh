@@ -1,6 +1,6 @@
 #!/usr/bin/env bash
-# The page of a watch, asked with curl and with bash alone: each refusal, the document, events beside a desk on loopback, a viewer that never reads, and
-# more viewers and universes than there is room for. Prints 'ok NAME', 'not ok NAME: why' or 'skipped NAME: why' for each, as ./test counts them.
+# The page of a watch, asked with curl and with bash alone: each refusal, the document, events beside a desk on loopback, a viewer that never reads,
+# and more viewers and universes than there is room for. Prints 'ok NAME', 'not ok NAME: why' or 'skipped NAME: why' for each, as ./test counts them.
 set -u
 top=$(cd "$(dirname "$(readlink -f "$0")")/.." && pwd)
 sacn=${SACN:-$top/crates/sacn/out/sacn}
@@ -189,7 +189,8 @@ dark=$(printf '0%.0s' $(seq 1018))
 none=$(printf '0%.0s' $(seq 2036))
 for part in '"universe":7,"heard":[1,7],' '"name":"\u003cb\u003e\u0022D\u00f6sk\u0022 \u0026 \ud83c\udfad\u005c"' \
   '"sources":[{"place":0,"universe":1,"cid":"000102030405060708090a0b0c0d0e0f",' '{"place":1,"universe":7,"cid":"000102030405060708090a0b0c0d0e0f",' \
-  '"address":"127.0.0.1","port":' '"state":"live","priority":100,"first":' '"preview":0,"terminated":0,"other":0,"skipped":0,"late":0,"repeated":0,"gap":' \
+  '"address":"127.0.0.1","port":' '"state":"live","priority":100,"first":' \
+  '"preview":0,"terminated":0,"other":0,"skipped":0,"late":0,"repeated":0,"gap":' \
   "\"levels\":\"0000ff$dark\"" "\"winners\":\"000000000002$none\"" '"alarms":[]' '"refused":0,"pages":' '"untracked":0}}'; do
   grep -qF -- "$part" body
   verdict "the document has ${part:0:60}" $? "$(head -c 600 body)"
@@ -203,7 +204,8 @@ verdict "another universe is dark" $? "$(head -c 300 body)"
 wait "$desk"
 echo hello >/dev/udp/127.0.0.1/$udp
 wait "$viewer"
-[ "$(head -n 1 events)" = "event: state" ] && [[ $(sed -n 2p events) == 'data: {"ms":'*'"universe":7,"heard":[],"sources":[],'* ]] && [ -z "$(sed -n 3p events)" ]
+begin=$(sed -n 2p events)
+[ "$(head -n 1 events)" = "event: state" ] && [[ $begin == 'data: {"ms":'*'"universe":7,"heard":[],"sources":[],'* ]] && [ -z "$(sed -n 3p events)" ]
 verdict "events begin with the document" $? "$(head -n 3 events)"
 [ "$(grep -c '^event: state$' events)" = 1 ] && [ "$(grep '^event' events | sort -u | wc -l)" = 2 ]
 verdict "changes follow it" $? "$(grep '^event' events | sort | uniq -c)"
@@ -301,7 +303,7 @@ timeout 3 cat <&"$deaf" >deaf
 count=$(grep -c '^event: change$' deaf)
 [ "$count" -ge 1 ] && [ "$count" -lt "$(grep -c '^event: change$' events)" ]
 verdict "a viewer that never reads is given fewer events" $? "$count of $(grep -c '^event: change$' events)"
-[[ $(grep '^data' deaf | tail -n 1) == 'data: {"ms":'*'}' ]] && grep -q '"state":"ended"' deaf && [ "$(tail -c 1 deaf | od -An -c | tr -d ' ')" = '\n' ]
+[[ $(grep '^data' deaf | tail -n 1) == 'data: {"ms":'*'}' ]] && grep -q '"state":"ended"' deaf && [ "$(tail -c 2 deaf | wc -l)" = 2 ]
 verdict "what it missed comes with the next event, whole" $? "$(tail -c 200 deaf)"
 memory=$(sed -n 's/^VmRSS:[^0-9]*\([0-9]*\).*/\1/p' "/proc/$watch/status")
 [ "${memory:-0}" -lt 60000 ]
