@@ -1,3 +1,4 @@
 pub mod Wanted
 pub mod Lists
 pub mod Following
+pub mod Story
