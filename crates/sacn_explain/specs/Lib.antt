@@ -1,3 +1,4 @@
+pub mod Faults
 pub mod Wanted
 pub mod Lists
 pub mod Following

@@ -1,10 +1,11 @@
 //! A recording followed to its end.
 
-ghost use Rattle.std.specs.Prelude.{◌≡◌, IfOk, IfSome, OnOk, Some, max};
+ghost use Rattle.std.specs.Prelude.{◌≡◌, IfErr, IfOk, IfSome, OnOk, Some, max};
 ghost use Rattle.sacn_capture.specs.Frames.{sent_of};
 ghost use Rattle.sacn_capture.specs.Recordings.{recording};
 ghost use Rattle.sacn_capture.specs.Streams.{shown_of, to_come};
 ghost use Rattle.sacn_monitor.specs.Books.{new_book};
+ghost use Rattle.sacn_explain.specs.Faults.{IsFaultOf, IsOfTelling};
 ghost use Rattle.sacn_explain.specs.Following.{IsTaken};
 ghost use Rattle.sacn_explain.specs.Story.{Hears, IsAccountOf, IsHeard, at_moment, begun, call_of, elsewhere, sender_of};
 
@@ -42,6 +43,7 @@ pub fn explain<R: BufRead + Drop, O: Write>(
     out: &mut O,
 ) -> Result<Report, ExplainFault>
     ensures told { IfSome (R.Read.remaining capture) (λ file. IfOk result (λ report. IsAccountOf options.now.port (recording file) report)) }
+    ensures fault { IfSome (R.Read.remaining capture) (λ file. IfErr result (IsFaultOf (recording file))) }
 {
     let mut capture = Capture::open(alloc, capture)?;
     let mut follower = Follower::new(alloc, *options, setup, out)?;
@@ -80,6 +82,7 @@ fn follow<R: BufRead + Drop, O: Write>(
     requires nothing { follower.old.monitor ≡ new_book }
     requires moment { follower.old.moment ≡ 0 }
     ensures told { IfSome (to_come R.Read.remaining capture.old) (λ told. IfOk result (λ followed. IsHeard port told followed follower.new.monitor)) }
+    ensures fault { IfErr result IsOfTelling }
 {
     let mut followed = Followed::begin();
     for _ in 0..u64::MAX {
@@ -130,6 +133,7 @@ impl Followed {
         ensures elsewhere { self.new.other_ports ≡ elsewhere port (shown_of frame.now).content self.old.other_ports }
         ensures moment { follower.new.moment ≡ max follower.old.moment self.new.timeline.now }
         ensures taken { OnOk result (Hears follower.old.moment (call_of port self.new.timeline.now (shown_of frame.now).content) follower.old.monitor follower.new.monitor) }
+        ensures fault { IfErr result IsOfTelling }
     {
         self.timeline.advance(frame.moment);
         let now = self.timeline.now;
@@ -152,6 +156,7 @@ fn hear<O: Write>(
 ) -> Result<(), ExplainFault>
     ensures moment { follower.new.moment ≡ max follower.old.moment now }
     ensures taken { OnOk result (IsTaken (max follower.old.moment now) (sender_of (sent_of datagram.now)) (sent_of datagram.now).payload follower.old.monitor follower.new.monitor) }
+    ensures fault { IfErr result IsOfTelling }
 {
     let sender = Sender {
         address: datagram.sender,

@@ -7,6 +7,7 @@ pub returns-in-Err : goal.returns-in-Err
 returns-in-Err g c = record {
   told = stopped_heard c.args.port (to_come g.R.Read.remaining c.args.capture.now) (to_come g.R.Read.remaining c.loop.capture) _ c.in-Err.fault c.loop.followed c.stop.result c.loop.follower.monitor _
       c.loop.invariant.heard c.in-Err.ensures.told.1 c.stop.ensures;
+  fault = tt;
 }
 
 pub loop-preserved : goal.loop-preserved
