@@ -1,5 +1,7 @@
 //! Why a recording isn't told to its end.
 
+ghost use Rattle.sacn_explain.specs.Faults.{IsMadeOf, IsOfTelling};
+
 use sacn_capture::{CaptureFault, FaultKind};
 use sacn_discovery::DiscoveryFault;
 use sacn_sources::TableFault;
@@ -21,7 +23,53 @@ pub enum ExplainFault {
     Device,
 }
 
+/// Why what happens can't be told. It is nothing of a recording's.
+#[derive(Clone, Copy, Debug)]
+pub enum TellFault {
+    /// A growth was refused.
+    OutOfMemory,
+    /// What is told can't be written.
+    Device,
+}
+
+impl From<AllocError> for TellFault {
+    fn from(_fault: AllocError) -> Self {
+        TellFault::OutOfMemory
+    }
+}
+
+impl From<DiscoveryFault> for TellFault {
+    fn from(_fault: DiscoveryFault) -> Self {
+        TellFault::OutOfMemory
+    }
+}
+
+impl From<TableFault> for TellFault {
+    fn from(_fault: TableFault) -> Self {
+        TellFault::OutOfMemory
+    }
+}
+
+impl From<io::Error> for TellFault {
+    fn from(_fault: io::Error) -> Self {
+        TellFault::Device
+    }
+}
+
+impl From<TellFault> for ExplainFault {
+    ghost from_gives = { λ _ fault. IsOfTelling fault };
+
+    fn from(fault: TellFault) -> Self {
+        match fault {
+            TellFault::OutOfMemory => ExplainFault::OutOfMemory,
+            TellFault::Device => ExplainFault::Device,
+        }
+    }
+}
+
 impl From<AllocError> for ExplainFault {
+    ghost from_gives = { λ _ fault. IsOfTelling fault };
+
     fn from(_fault: AllocError) -> Self {
         ExplainFault::OutOfMemory
     }
@@ -46,6 +94,8 @@ impl From<io::Error> for ExplainFault {
 }
 
 impl From<CaptureFault> for ExplainFault {
+    ghost from_gives = { IsMadeOf };
+
     fn from(fault: CaptureFault) -> Self {
         match fault.kind {
             FaultKind::OutOfMemory => ExplainFault::OutOfMemory,

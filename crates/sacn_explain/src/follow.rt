@@ -1,5 +1,14 @@
 //! A recording followed to its end.
 
+ghost use Rattle.std.specs.Prelude.{◌≡◌, IfErr, IfOk, IfSome, OnOk, Some, max};
+ghost use Rattle.sacn_capture.specs.Frames.{sent_of};
+ghost use Rattle.sacn_capture.specs.Recordings.{recording};
+ghost use Rattle.sacn_capture.specs.Streams.{shown_of, to_come};
+ghost use Rattle.sacn_monitor.specs.Books.{new_book};
+ghost use Rattle.sacn_explain.specs.Faults.{IsFaultOf, IsOfTelling};
+ghost use Rattle.sacn_explain.specs.Following.{IsTaken};
+ghost use Rattle.sacn_explain.specs.Story.{Hears, IsAccountOf, IsHeard, at_moment, begun, call_of, elsewhere, sender_of};
+
 use crate::fault::ExplainFault;
 use crate::follower::Follower;
 use crate::options::Options;
@@ -32,7 +41,10 @@ pub fn explain<R: BufRead + Drop, O: Write>(
     options: &Options<'_>,
     setup: Option<&NodeSetup>,
     out: &mut O,
-) -> Result<Report, ExplainFault> {
+) -> Result<Report, ExplainFault>
+    ensures told { IfSome (R.Read.remaining capture) (λ file. IfOk result (λ report. IsAccountOf options.now.port (recording file) report)) }
+    ensures fault { IfSome (R.Read.remaining capture) (λ file. IfErr result (IsFaultOf (recording file))) }
+{
     let mut capture = Capture::open(alloc, capture)?;
     let mut follower = Follower::new(alloc, *options, setup, out)?;
     let followed = follow(&mut capture, &mut follower, options.port)?;
@@ -66,40 +78,66 @@ fn follow<R: BufRead + Drop, O: Write>(
     capture: &mut Capture<R>,
     follower: &mut Follower<'_, O>,
     port: u16,
-) -> Result<Followed, ExplainFault> {
-    let mut followed = Followed {
-        timeline: Timeline {
-            first: None,
-            now: 0,
-            went_back: 0,
-        },
-        other_ports: 0,
-        stopped: None,
-    };
+) -> Result<Followed, ExplainFault>
+    requires nothing { follower.old.monitor ≡ new_book }
+    requires moment { follower.old.moment ≡ 0 }
+    ensures told { IfSome (to_come R.Read.remaining capture.old) (λ told. IfOk result (λ followed. IsHeard port told followed follower.new.monitor)) }
+    ensures fault { IfErr result IsOfTelling }
+{
+    let mut followed = Followed::begin();
     for _ in 0..u64::MAX {
         match capture.next() {
-            Ok(Some(record)) => followed.take(&record, port, follower)?,
-            Ok(None) => break,
-            Err(fault) => {
-                followed.stopped = Some(fault);
-                break;
-            }
+            Ok(Some(frame)) => followed.take(&frame, port, follower)?,
+            Ok(None) => return Ok(followed),
+            Err(fault) => return Ok(followed.stop(fault)),
         }
     }
-    Ok(followed)
+    Err(ExplainFault::Device)
 }
 
 impl Followed {
+    // Nothing was followed yet.
+    fn begin() -> Self
+        ensures { result ≡ begun }
+    {
+        Followed {
+            timeline: Timeline {
+                first: None,
+                now: 0,
+                went_back: 0,
+            },
+            other_ports: 0,
+            stopped: None,
+        }
+    }
+
+    // The recording is wrong here.
+    fn stop(self, fault: CaptureFault) -> Self
+        ensures { result.stopped ≡ Some fault }
+    {
+        Followed {
+            stopped: Some(fault),
+            ..self
+        }
+    }
+
     // A frame.
     fn take<O: Write>(
         &mut self,
-        record: &Record<'_>,
+        frame: &Record<'_>,
         port: u16,
         follower: &mut Follower<'_, O>,
-    ) -> Result<(), ExplainFault> {
-        self.timeline.advance(record.moment);
+    ) -> Result<(), ExplainFault>
+        ensures stopped { self.new.stopped ≡ self.old.stopped }
+        ensures timeline { self.new.timeline ≡ at_moment frame.now.moment self.old.timeline }
+        ensures elsewhere { self.new.other_ports ≡ elsewhere port (shown_of frame.now).content self.old.other_ports }
+        ensures moment { follower.new.moment ≡ max follower.old.moment self.new.timeline.now }
+        ensures taken { OnOk result (Hears follower.old.moment (call_of port self.new.timeline.now (shown_of frame.now).content) follower.old.monitor follower.new.monitor) }
+        ensures fault { IfErr result IsOfTelling }
+    {
+        self.timeline.advance(frame.moment);
         let now = self.timeline.now;
-        match &record.content {
+        match &frame.content {
             Ok(datagram) if datagram.destination_port == port => hear(now, datagram, follower),
             Ok(_) => {
                 self.other_ports = self.other_ports.saturating_add(1);
@@ -115,7 +153,11 @@ fn hear<O: Write>(
     now: u64,
     datagram: &Datagram<'_>,
     follower: &mut Follower<'_, O>,
-) -> Result<(), ExplainFault> {
+) -> Result<(), ExplainFault>
+    ensures moment { follower.new.moment ≡ max follower.old.moment now }
+    ensures taken { OnOk result (IsTaken (max follower.old.moment now) (sender_of (sent_of datagram.now)) (sent_of datagram.now).payload follower.old.monitor follower.new.monitor) }
+    ensures fault { IfErr result IsOfTelling }
+{
     let sender = Sender {
         address: datagram.sender,
         port: datagram.sender_port,
@@ -125,11 +167,10 @@ fn hear<O: Write>(
 
 impl Timeline {
     // Moves to a frame's moment.
-    fn advance(&mut self, moment: u64) {
-        let first = match self.first {
-            Some(first) => first,
-            None => moment,
-        };
+    fn advance(&mut self, moment: u64)
+        ensures { self.new ≡ at_moment moment self.old }
+    {
+        let first = self.first.unwrap_or(moment);
         self.first = Some(first);
         let now = moment.saturating_sub(first);
         if now < self.now {

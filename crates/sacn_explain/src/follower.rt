@@ -1,12 +1,13 @@
 //! What happens, told as it happens.
 
-ghost use Rattle.std.specs.Prelude.{◌≡◌, ◌≤◌, ◌⊎◌, IfOk, IfSome, OnOk, max};
+ghost use Rattle.std.specs.Prelude.{◌≡◌, ◌≤◌, ◌⊎◌, IfErr, IfOk, IfSome, OnOk, max};
 ghost use Rattle.sacn_monitor.specs.Books.{new_book, after_take, after_tick};
+ghost use Rattle.sacn_explain.specs.Faults.{IsOfTelling};
 ghost use Rattle.sacn_explain.specs.Following.{IsTicked, IsTaken};
 
 use crate::cause::Cause;
 use crate::contests::Contests;
-use crate::fault::ExplainFault;
+use crate::fault::{ExplainFault, TellFault};
 use crate::listings::{Listings, PageNews};
 use crate::options::Options;
 use crate::report::Report;
@@ -52,6 +53,7 @@ impl<'a, O: Write> Follower<'a, O> {
     ) -> Result<Self, ExplainFault>
         ensures nothing { IfOk result (λ f. f.monitor ≡ new_book) }
         ensures moment { IfOk result (λ f. f.moment ≡ 0) }
+        ensures fault { IfErr result IsOfTelling }
     {
         let monitor = Monitor::new(alloc)?;
         let contests = Contests::new(alloc)?;
@@ -79,11 +81,13 @@ impl<'a, O: Write> Follower<'a, O> {
     pub fn take(&mut self, now: u64, sender: Sender, octets: &[u8]) -> Result<(), ExplainFault>
         ensures moment { self.new.moment ≡ max self.old.moment now }
         ensures taken { OnOk result (IsTaken (max self.old.moment now) sender octets.now self.old.monitor self.new.monitor) }
+        ensures fault { IfErr result IsOfTelling }
     {
         self.tick(now)?;
         let noted = self.monitor.take(self.moment, sender, octets);
         self.tell(&sender, octets, noted)?;
-        self.show_turn(octets, noted)
+        self.show_turn(octets, noted)?;
+        Ok(())
     }
 
     /// Tells what has ended by silence up to a moment, each thing at its own moment.
@@ -92,16 +96,18 @@ impl<'a, O: Write> Follower<'a, O> {
     pub fn tick(&mut self, now: u64) -> Result<(), ExplainFault>
         ensures moment { self.new.moment ≡ max self.old.moment now }
         ensures ticked { OnOk result (IsTicked (max self.old.moment now) self.old.monitor self.new.monitor) }
+        ensures fault { IfErr result IsOfTelling }
     {
         self.moment = self.moment.max(now);
         if self.moment < self.wake {
             return Ok(());
         }
-        self.tell_silence()
+        self.tell_silence()?;
+        Ok(())
     }
 
     // Tells what has ended by silence by now.
-    fn tell_silence(&mut self) -> Result<(), ExplainFault>
+    fn tell_silence(&mut self) -> Result<(), TellFault>
         ensures moment { self.new.moment ≡ self.old.moment }
         ensures ticked { OnOk result (IsTicked self.old.moment self.old.monitor self.new.monitor) }
     {
@@ -119,7 +125,7 @@ impl<'a, O: Write> Follower<'a, O> {
     }
 
     // Tells what ends by silence at a moment: a stream, or else what the node loses.
-    fn tell_end(&mut self, at: u64, is_stream: bool) -> Result<(), ExplainFault>
+    fn tell_end(&mut self, at: u64, is_stream: bool) -> Result<(), TellFault>
         ensures monitor { (self.new.monitor ≡ self.old.monitor) ⊎ (self.new.monitor ≡ after_tick at self.old.monitor) }
         ensures moment { self.new.moment ≡ self.old.moment }
     {
@@ -133,7 +139,8 @@ impl<'a, O: Write> Follower<'a, O> {
     ///
     /// Errors: OutOfMemory; Device where a line can't be written.
     pub fn finish(&mut self, report: &Report) -> Result<(), ExplainFault>
-        ensures { self.new.monitor ≡ self.old.monitor }
+        ensures monitor { self.new.monitor ≡ self.old.monitor }
+        ensures fault { IfErr result IsOfTelling }
     {
         tables::tell(
             &mut self.teller,
@@ -141,7 +148,8 @@ impl<'a, O: Write> Follower<'a, O> {
             &self.monitor,
             &self.listings,
             report,
-        )
+        )?;
+        Ok(())
     }
 
     /// The datagrams so far, by what they were.
@@ -164,7 +172,7 @@ impl<'a, O: Write> Follower<'a, O> {
     }
 
     // What a datagram tells.
-    fn tell(&mut self, sender: &Sender, octets: &[u8], noted: Noted) -> Result<(), ExplainFault>
+    fn tell(&mut self, sender: &Sender, octets: &[u8], noted: Noted) -> Result<(), TellFault>
         ensures monitor { self.new.monitor ≡ self.old.monitor }
         ensures moment { self.new.moment ≡ self.old.moment }
     {
@@ -179,7 +187,7 @@ impl<'a, O: Write> Follower<'a, O> {
     }
 
     // What a data packet tells of its source on its universe.
-    fn tell_news(&mut self, place: usize, news: &News) -> Result<(), ExplainFault>
+    fn tell_news(&mut self, place: usize, news: &News) -> Result<(), TellFault>
         ensures monitor { self.new.monitor ≡ self.old.monitor }
         ensures moment { self.new.moment ≡ self.old.moment }
     {
@@ -199,7 +207,7 @@ impl<'a, O: Write> Follower<'a, O> {
     }
 
     // Whether two sources begin or cease to send at the same top priority on a universe.
-    fn tell_rivals(&mut self, universe: u16) -> Result<(), ExplainFault>
+    fn tell_rivals(&mut self, universe: u16) -> Result<(), TellFault>
         ensures monitor { self.new.monitor ≡ self.old.monitor }
         ensures moment { self.new.moment ≡ self.old.moment }
     {
@@ -213,7 +221,7 @@ impl<'a, O: Write> Follower<'a, O> {
     }
 
     // The list of a source, where it is another one than before.
-    fn tell_page(&mut self, octets: &[u8]) -> Result<(), ExplainFault>
+    fn tell_page(&mut self, octets: &[u8]) -> Result<(), TellFault>
         ensures monitor { self.new.monitor ≡ self.old.monitor }
         ensures moment { self.new.moment ≡ self.old.moment }
     {
@@ -233,7 +241,7 @@ impl<'a, O: Write> Follower<'a, O> {
     }
 
     // A stream that is lost at a moment.
-    fn tell_loss(&mut self, at: u64) -> Result<(), ExplainFault>
+    fn tell_loss(&mut self, at: u64) -> Result<(), TellFault>
         ensures monitor { self.new.monitor ≡ after_tick at self.old.monitor }
         ensures moment { self.new.moment ≡ self.old.moment }
     {
@@ -260,7 +268,7 @@ impl<'a, O: Write> Follower<'a, O> {
     }
 
     // The frames of the node, where a source is lost at a moment.
-    fn show_dark(&mut self, at: u64) -> Result<(), ExplainFault>
+    fn show_dark(&mut self, at: u64) -> Result<(), TellFault>
         ensures monitor { self.new.monitor ≡ self.old.monitor }
         ensures moment { self.new.moment ≡ self.old.moment }
     {
@@ -271,7 +279,7 @@ impl<'a, O: Write> Follower<'a, O> {
     }
 
     // The frames of the node after a datagram.
-    fn show_turn(&mut self, octets: &[u8], noted: Noted) -> Result<(), ExplainFault>
+    fn show_turn(&mut self, octets: &[u8], noted: Noted) -> Result<(), TellFault>
         ensures monitor { self.new.monitor ≡ self.old.monitor }
         ensures moment { self.new.moment ≡ self.old.moment }
     {
@@ -303,7 +311,7 @@ fn started<O: Write>(
     alloc: Global,
     setup: &NodeSetup,
     teller: &mut Teller<'_, O>,
-) -> Result<Stage, ExplainFault> {
+) -> Result<Stage, TellFault> {
     let mut stage = Stage::new(alloc, setup)?;
     stage.show(0, &Cause::Start, teller)?;
     Ok(stage)

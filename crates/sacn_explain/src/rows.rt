@@ -1,6 +1,6 @@
 //! Rows of lists, and of what was refused.
 
-use crate::fault::ExplainFault;
+use crate::fault::TellFault;
 use crate::json;
 use crate::lines::{push_source, push_source_members};
 use crate::listings::{Listing, silent, unlisted};
@@ -45,7 +45,7 @@ pub fn tell_listings<O: Write>(
     teller: &mut Teller<'_, O>,
     streams: &[Stream],
     listings: &[Listing],
-) -> Result<(), ExplainFault> {
+) -> Result<(), TellFault> {
     let mut is_first = true;
     for listing in listings {
         if let Some(universes) = &listing.universes {
@@ -64,7 +64,7 @@ fn begin_table<O: Write>(
     teller: &mut Teller<'_, O>,
     is_first: bool,
     head: &str,
-) -> Result<(), ExplainFault> {
+) -> Result<(), TellFault> {
     if is_first & (teller.form == Form::Text) {
         teller.line.push_str(head)?;
         teller.write()?;
@@ -128,7 +128,7 @@ fn list_row(
 pub fn tell_refused<O: Write>(
     teller: &mut Teller<'_, O>,
     tally: &Tally,
-) -> Result<(), ExplainFault> {
+) -> Result<(), TellFault> {
     let mut is_first = true;
     for fault in FAULTS {
         let count = refused_for(tally, fault);

@@ -5,7 +5,7 @@ ghost use Rattle.sacn_node.specs.Calls.{step, Tick};
 ghost use Rattle.sacn_edge.specs.Shown.{port_after, ports_text};
 
 use crate::cause::Cause;
-use crate::fault::ExplainFault;
+use crate::fault::TellFault;
 use crate::teller::Teller;
 use arrayvec::ArrayVec;
 use sacn_edge::{PortShown, WriterOut, ports_of, show};
@@ -23,7 +23,7 @@ pub struct Stage {
 
 impl Stage {
     /// A node of a setup, of which no frame was shown.
-    pub fn new(alloc: Global, setup: &NodeSetup) -> Result<Self, ExplainFault> {
+    pub fn new(alloc: Global, setup: &NodeSetup) -> Result<Self, TellFault> {
         let core = NodeCore::new(alloc, setup)?;
         let ports = ports_of(&core);
         Ok(Stage { alloc, core, ports })
@@ -52,7 +52,7 @@ impl Stage {
         now: u64,
         cause: &Cause<'_>,
         teller: &mut Teller<'_, O>,
-    ) -> Result<(), ExplainFault> {
+    ) -> Result<(), TellFault> {
         let ports = self.ports.as_mut_slice();
         for index in 0..ports.len() {
             let line = line_of(self.alloc, &mut self.core, now, &mut ports[index..=index])?;
@@ -70,7 +70,7 @@ fn line_of(
     core: &mut NodeCore,
     now: u64,
     ports: &mut [PortShown],
-) -> Result<Vec<u8>, ExplainFault>
+) -> Result<Vec<u8>, TellFault>
     ensures core { core.new ≡ step (Tick now) core.old }
     ensures lines { IfOk result (λ lines. lines.items ≡ ports_text core.new ports.old) }
     ensures ports { OnOk result (ports.new ≡ map (port_after core.new) ports.old) }
@@ -79,6 +79,6 @@ fn line_of(
     let mut lines = WriterOut::new(Vec::new(alloc));
     match show(&mut lines, core, now, false, ports) {
         Ok(()) => Ok(lines.writer),
-        Err(_) => Err(ExplainFault::OutOfMemory),
+        Err(_) => Err(TellFault::OutOfMemory),
     }
 }

@@ -1,7 +1,7 @@
 //! Tables at the end.
 
 use crate::count::UniverseCounts;
-use crate::fault::ExplainFault;
+use crate::fault::TellFault;
 use crate::json;
 use crate::listings::Listings;
 use crate::options::{Form, Options};
@@ -21,7 +21,7 @@ pub fn tell<O: Write>(
     monitor: &Monitor,
     listings: &Listings,
     report: &Report,
-) -> Result<(), ExplainFault> {
+) -> Result<(), TellFault> {
     if teller.form == Form::Text {
         teller.line.push_str(STREAM_HEAD)?;
         teller.write()?;
@@ -54,7 +54,7 @@ fn tell_universes<O: Write>(
     options: &Options<'_>,
     monitor: &Monitor,
     moment: u64,
-) -> Result<(), ExplainFault> {
+) -> Result<(), TellFault> {
     if teller.form == Form::Text {
         teller.line.push_str(UNIVERSE_HEAD)?;
         teller.write()?;

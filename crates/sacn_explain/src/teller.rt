@@ -1,7 +1,7 @@
 //! Lines as they are written.
 
 use crate::cause::Cause;
-use crate::fault::ExplainFault;
+use crate::fault::TellFault;
 use crate::lines::{frame_line, listing_line, rivals_line};
 use crate::listings::Listing;
 use crate::options::Form;
@@ -30,7 +30,7 @@ impl<'o, O: Write> Teller<'o, O> {
     }
 
     /// Ends the line, and writes it.
-    pub fn write(&mut self) -> Result<(), ExplainFault> {
+    pub fn write(&mut self) -> Result<(), TellFault> {
         self.line.push('\n')?;
         self.out.write_all(self.line.as_bytes())?;
         self.line.clear();
@@ -38,7 +38,7 @@ impl<'o, O: Write> Teller<'o, O> {
     }
 
     /// All that a data packet told.
-    pub fn news(&mut self, now: u64, stream: &Stream, news: &News) -> Result<(), ExplainFault> {
+    pub fn news(&mut self, now: u64, stream: &Stream, news: &News) -> Result<(), TellFault> {
         if news.event != Event::GoesOn {
             event_line(&mut self.line, self.form, now, stream, news.event)?;
             self.write()?;
@@ -54,7 +54,7 @@ impl<'o, O: Write> Teller<'o, O> {
         self.numbers(now, stream, news)
     }
 
-    fn numbers(&mut self, now: u64, stream: &Stream, news: &News) -> Result<(), ExplainFault> {
+    fn numbers(&mut self, now: u64, stream: &Stream, news: &News) -> Result<(), TellFault> {
         if let Some(change) = news.priority {
             priority_line(&mut self.line, self.form, now, stream, change)?;
             self.write()?;
@@ -71,7 +71,7 @@ impl<'o, O: Write> Teller<'o, O> {
     }
 
     /// A stream that is lost.
-    pub fn loss(&mut self, now: u64, stream: &Stream) -> Result<(), ExplainFault> {
+    pub fn loss(&mut self, now: u64, stream: &Stream) -> Result<(), TellFault> {
         loss_line(&mut self.line, self.form, now, stream)?;
         self.write()
     }
@@ -82,13 +82,13 @@ impl<'o, O: Write> Teller<'o, O> {
         now: u64,
         sender: &Sender,
         fault: PacketFault,
-    ) -> Result<(), ExplainFault> {
+    ) -> Result<(), TellFault> {
         refused_line(&mut self.line, self.form, now, sender, fault)?;
         self.write()
     }
 
     /// A data packet of a stream for which there is no room.
-    pub fn untracked(&mut self, now: u64, sender: &Sender) -> Result<(), ExplainFault> {
+    pub fn untracked(&mut self, now: u64, sender: &Sender) -> Result<(), TellFault> {
         untracked_line(&mut self.line, self.form, now, sender)?;
         self.write()
     }
@@ -100,7 +100,7 @@ impl<'o, O: Write> Teller<'o, O> {
         universe: u16,
         sources: usize,
         priority: u8,
-    ) -> Result<(), ExplainFault> {
+    ) -> Result<(), TellFault> {
         rivals_line(&mut self.line, self.form, now, universe, sources, priority)?;
         self.write()
     }
@@ -111,7 +111,7 @@ impl<'o, O: Write> Teller<'o, O> {
         now: u64,
         event: &str,
         listing: &Listing,
-    ) -> Result<(), ExplainFault> {
+    ) -> Result<(), TellFault> {
         listing_line(&mut self.line, self.form, now, event, listing)?;
         self.write()
     }
@@ -123,7 +123,7 @@ impl<'o, O: Write> Teller<'o, O> {
         shown: &PortShown,
         cause: &Cause<'_>,
         line: &[u8],
-    ) -> Result<(), ExplainFault> {
+    ) -> Result<(), TellFault> {
         frame_line(&mut self.line, self.form, now, shown, cause)?;
         self.write()?;
         if self.form == Form::Text {

@@ -1,0 +1,83 @@
+-- What a recording tells, frame by frame: what was heard, and then what is still to come, is all.
+use Rattle.std.proofs.Common.{◌≡◌, ◌⊎◌, inl, inr, ℕ, ◌==◌, Bool, cond, true, false, max, List, [], ◌∷◌, Option, None, Some, Result, Ok, Err, IfSome, refl, sym, ap, subst, ◌∙◌, arith}
+use Rattle.std.specs.Prelude.{option_map}
+use Rattle.sacn_capture.specs.declared.faults.CaptureFault.{CaptureFault}
+use Rattle.sacn_capture.specs.declared.links.Passed.{Passed}
+use Rattle.sacn_capture.specs.declared.stream.Record.{Record}
+use Rattle.sacn_capture.specs.Check.{map_ok}
+use Rattle.sacn_capture.specs.Frames.{Sent}
+use Rattle.sacn_capture.specs.Recordings.{Shown, Told, with_frame}
+use Rattle.sacn_capture.specs.Streams.{Gives, shown_of}
+use Rattle.sacn_monitor.specs.Books.{Book}
+use Rattle.sacn_monitor.specs.Histories.{Call, Take, Tick, moment_in_use, moment_of}
+use Rattle.sacn_explain.specs.declared.follow.Followed.{Followed}
+use Rattle.sacn_explain.specs.declared.follow.Timeline.{Timeline}
+use Rattle.sacn_explain.specs.Following.{Follows}
+use Rattle.sacn_explain.specs.Story.{Heard, Hears, IsHeard, IsHeardTo, IsUpTo, after_frame, after_frames, at_moment, call_of, elsewhere, heard_by, heard_in}
+
+-- what a call of a recording's reader gave, where it gave a frame
+pub frame_given : (result : Result (Option Record) CaptureFault) (found : Option Record) (given : Record) (before after : Option Told) → result ≡ Ok found → found ≡ Some given
+    → Gives (map_ok (λ x. option_map shown_of x) result) before after → Gives (Ok (Some (shown_of given))) before after
+frame_given result found given before after is some gives =
+    subst (λ (r : Result (Option Record) CaptureFault). Gives (map_ok (λ x. option_map shown_of x) r) before after) (is ∙ ap Ok some) gives
+
+-- a call has the moment that was handed in
+call_moment_by : (b : Bool) (now : ℕ) (take : Call) → moment_of take ≡ now → moment_of (cond b take (Tick now)) ≡ now
+call_moment_by true now take is = is
+call_moment_by false now take is = refl
+
+call_moment : (port now : ℕ) (content : Result Sent Passed) → moment_of (call_of port now content) ≡ now
+call_moment port now (Ok d) = call_moment_by (d.destination_port == port) now _ refl
+call_moment port now (Err passed) = refl
+
+follows_on : (call : Call) (earlier : List Call) (old new : Book) → Follows earlier old → Hears (moment_in_use earlier) call old new → Follows (call ∷ earlier) new
+follows_on (Take now sender octets) earlier old new follows hears = (old, follows, hears)
+follows_on (Tick now) earlier old new follows hears = (old, follows, hears)
+
+module _ (port : ℕ) (frame : Shown) (old new : Followed) (clock : new.timeline ≡ at_moment frame.moment old.timeline) (others : new.other_ports ≡ elsewhere port frame.content old.other_ports) where
+  heard_on : (calls : List Call) → after_frame port frame (heard_by old calls) ≡ heard_by new (call_of port new.timeline.now frame.content ∷ calls)
+  heard_on calls =
+      ap (λ (t : Timeline). record { clock = t; other_ports = elsewhere port frame.content old.other_ports; calls = call_of port t.now frame.content ∷ calls }) (sym clock)
+      ∙ ap (λ (n : ℕ). record { clock = new.timeline; other_ports = n; calls = call_of port new.timeline.now frame.content ∷ calls }) (sym others)
+
+  now_on : (calls : List Call) → old.timeline.now ≡ moment_in_use calls → new.timeline.now ≡ moment_in_use (call_of port new.timeline.now frame.content ∷ calls)
+  now_on calls now =
+      let later : new.timeline.now ≡ (at_moment frame.moment old.timeline).now = ap (λ (t : Timeline). t.now) clock in
+      let moment : moment_of (call_of port new.timeline.now frame.content) ≡ new.timeline.now = call_moment port new.timeline.now frame.content in
+      omega (arith, later, moment, now)
+
+  pub moment_on : (t m : ℕ) → t ≡ old.timeline.now → m ≡ max t new.timeline.now → m ≡ new.timeline.now
+  moment_on t m before is =
+      let later : new.timeline.now ≡ (at_moment frame.moment old.timeline).now = ap (λ (t : Timeline). t.now) clock in
+      omega (arith, later, before, is)
+
+  -- a frame more was heard
+  pub frame_heard : (all before after : Option Told) (t : ℕ) (b0 b1 : Book) → IsUpTo port all before old b0 → Gives (Ok (Some frame)) before after → t ≡ old.timeline.now
+      → Hears t (call_of port new.timeline.now frame.content) b0 b1 → IsUpTo port all after new b1
+  frame_heard None before after t b0 b1 upto gives moment hears = tt
+  frame_heard (Some all) before after t b0 b1 (left, left_is, fault, calls, heard, now, follows) gives moment hears =
+      let came = subst (λ (o : Option Told). Gives (Ok (Some frame)) o after) left_is gives in (
+        came.0,
+        came.1,
+        fault ∙ ap (λ (x : Told). x.fault) came.2,
+        call_of port new.timeline.now frame.content ∷ calls,
+        heard ∙ ap (λ (x : Told). after_frames port x.frames (heard_by old calls)) came.2 ∙ ap (λ (h : Heard). after_frames port came.0.frames h) (heard_on calls),
+        now_on calls now,
+        follows_on (call_of port new.timeline.now frame.content) calls b0 b1 follows
+            (subst (λ (m : ℕ). Hears m (call_of port new.timeline.now frame.content) b0 b1) (moment ∙ now) hears),
+      )
+
+-- what is wrong with a recording
+wrong : (fault : CaptureFault) (port : ℕ) (told : Told) (new : Followed) (b : Book) (stopped : Option CaptureFault) → stopped ≡ Some fault
+    → IsHeardTo (Some fault) port told new b → IsHeardTo stopped port told new b
+wrong fault port told new b stopped is h = subst (λ (o : Option CaptureFault). IsHeardTo o port told new b) (sym is) h
+
+pub stopped_heard : (port : ℕ) (all before after : Option Told) (fault : CaptureFault) (old new : Followed) (b0 b1 : Book)
+    → IsUpTo port all before old b0 → Gives (Err fault) before after → new.stopped ≡ Some fault → IfSome all (λ told. IsHeard port told new b1)
+stopped_heard port None before after fault old new b0 b1 upto gives is = tt
+stopped_heard port (Some all) before after fault old new b0 b1 (left, left_is, whole, calls, heard, now, follows) gives is =
+    let came = subst (λ (o : Option Told). Gives (Err fault) o after) left_is gives in
+    wrong fault port all new b1 new.stopped is (elim came.1 [
+      | inl outside ↦ inl outside
+      | inr said ↦ inr (whole ∙ ap (λ (x : Told). x.fault) said)
+    ])

@@ -1,0 +1,103 @@
+-- What a recording tells: the calls that its frames make, and the report that accounts for them.
+use Rattle.std.specs.Prelude.{◌≡◌, ◌⊎◌, ℕ, ◌-◌, ◌==◌, max, nat_lt, List, [], ◌∷◌, length, ⊤, Option, None, Some, unwrap_or, Result, Ok, Err, if◌then◌else◌}
+use Rattle.sacn_capture.specs.declared.links.Passed.{Passed}
+use Rattle.sacn_capture.specs.declared.faults.CaptureFault.{CaptureFault}
+use Rattle.sacn_capture.specs.Files.{IsOutside}
+use Rattle.sacn_capture.specs.Frames.{Sent}
+use Rattle.sacn_capture.specs.Recordings.{Shown, Told}
+use Rattle.sacn_monitor.specs.declared.account.Sender.{Sender}
+use Rattle.sacn_monitor.specs.Books.{Book}
+use Rattle.sacn_monitor.specs.Histories.{Call, Take, Tick, moment_in_use}
+use Rattle.sacn_monitor.specs.Kinds.{more}
+use Rattle.sacn_explain.specs.declared.follow.Followed.{Followed}
+use Rattle.sacn_explain.specs.declared.follow.Timeline.{Timeline}
+use Rattle.sacn_explain.specs.declared.report.Report.{Report}
+use Rattle.sacn_explain.specs.Following.{Follows, IsTaken, IsTicked}
+
+-- milliseconds from the first frame, which is this one where there was none
+abbrev pub since_first : ℕ → Timeline → ℕ
+since_first moment clock = moment - unwrap_or clock.first moment
+
+-- the clock at a frame's moment: an earlier one than one before counts as the greatest so far
+abbrev pub at_moment : ℕ → Timeline → Timeline
+at_moment moment clock = record {
+  first = Some (unwrap_or clock.first moment);
+  now = max clock.now (since_first moment clock);
+  went_back = if nat_lt (since_first moment clock) clock.now then more 1 clock.went_back else clock.went_back;
+}
+
+abbrev pub sender_of : Sent → Sender
+sender_of d = record { address = d.sender; port = d.sender_port }
+
+-- a frame's call: a datagram to the port is taken, and any other frame moves the clock
+abbrev pub call_of : ℕ → ℕ → Result Sent Passed → Call
+call_of port now (Ok d) = if d.destination_port == port then Take now (sender_of d) d.payload else Tick now
+call_of port now (Err passed) = Tick now
+
+abbrev pub elsewhere : ℕ → Result Sent Passed → ℕ → ℕ
+elsewhere port (Ok d) n = if d.destination_port == port then n else more 1 n
+elsewhere port (Err passed) n = n
+
+-- what frames made: the clock, how many datagrams were to other ports, and the calls, the latest first
+pub record Heard : Type 0 where
+  pub clock : Timeline
+  pub other_ports : ℕ
+  pub calls : List Call
+
+abbrev pub after_frame : ℕ → Shown → Heard → Heard
+after_frame port frame h = record {
+  clock = at_moment frame.moment h.clock;
+  other_ports = elsewhere port frame.content h.other_ports;
+  calls = call_of port (at_moment frame.moment h.clock).now frame.content ∷ h.calls;
+}
+
+-- after these frames, in order
+abbrev pub after_frames : ℕ → List Shown → Heard → Heard
+after_frames port [] h = h
+after_frames port (frame ∷ frames) h = after_frames port frames (after_frame port frame h)
+
+abbrev pub no_clock : Timeline
+no_clock = record { first = None; now = 0; went_back = 0 }
+
+abbrev pub heard_in : ℕ → List Shown → Heard
+heard_in port frames = after_frames port frames (record { clock = no_clock; other_ports = 0; calls = [] })
+
+-- the recording has no fault, and these are the counts of a book that follows the calls that its frames make
+pub record IsAccountOf (port : ℕ) (told : Told) (report : Report) : Type 0 where
+  pub whole : told.fault ≡ None
+  pub book : Book
+  pub follows : Follows (heard_in port told.frames).calls book
+  pub tally : report.tally ≡ book.tally
+  pub streams : report.streams ≡ length book.streams
+  pub length : report.length ≡ (heard_in port told.frames).clock.now
+  pub other_ports : report.other_ports ≡ (heard_in port told.frames).other_ports
+  pub went_back : report.went_back ≡ (heard_in port told.frames).clock.went_back
+
+-- ---- on the way
+
+-- a follower's book after a call, where this moment was in use before it
+abbrev pub Hears : ℕ → Call → Book → Book → Type 0
+Hears t (Take now sender octets) old new = IsTaken (max t now) sender octets old new
+Hears t (Tick now) old new = IsTicked (max t now) old new
+
+abbrev pub begun : Followed
+begun = record { timeline = no_clock; other_ports = 0; stopped = None }
+
+abbrev pub heard_by : Followed → List Call → Heard
+heard_by followed calls = record { clock = followed.timeline; other_ports = followed.other_ports; calls = calls }
+
+-- a recording was followed to its end, or to what is wrong with it
+abbrev pub IsHeardTo : Option CaptureFault → ℕ → Told → Followed → Book → Type 0
+IsHeardTo None port told followed book =
+    (told.fault ≡ None) × (calls : List Call) × (heard_in port told.frames ≡ heard_by followed calls) × Follows calls book
+IsHeardTo (Some fault) port told followed book = IsOutside fault.kind ⊎ (told.fault ≡ Some fault)
+
+abbrev pub IsHeard : ℕ → Told → Followed → Book → Type 0
+IsHeard port told followed book = IsHeardTo followed.stopped port told followed book
+
+-- what was heard, and then what is still to come, is all that there is to hear
+abbrev pub IsUpTo : ℕ → Option Told → Option Told → Followed → Book → Type 0
+IsUpTo port None after followed book = ⊤
+IsUpTo port (Some all) after followed book =
+    (rest : Told) × (after ≡ Some rest) × (all.fault ≡ rest.fault) × (calls : List Call)
+    × (heard_in port all.frames ≡ after_frames port rest.frames (heard_by followed calls)) × (followed.timeline.now ≡ moment_in_use calls) × Follows calls book
