@@ -1,8 +1,8 @@
 //! What a watch tells, and its page.
-use sacn_watch::*;
 use sacn_explain::{Form, Options};
 use sacn_live::memory::{Incoming, MemoryReceiver};
 use sacn_monitor::Sender;
+use sacn_watch::*;
 use std::alloc::{AllocError, Global};
 use std::test::*;
 
