@@ -1,5 +1,6 @@
 #!/usr/bin/env python3
-"""Drives the page of a watch in a headless Chromium against a desk on loopback. Prints 'ok NAME', 'not ok NAME: why' or 'skipped NAME: why' for each look.
+"""Looks at the page of a watch: first with 32 viewers, one of which never reads, while 200 universes come at 44 packets a second; then in a headless Chromium,
+against a desk on loopback. Prints 'ok NAME', 'not ok NAME: why' or 'skipped NAME: why' for each look.
 
 usage: browser.py SACN [PICTURES]
 
@@ -15,6 +16,7 @@ import socket
 import subprocess
 import sys
 import tempfile
+import threading
 import time
 import urllib.request
 
@@ -23,7 +25,7 @@ PICTURES = sys.argv[2] if len(sys.argv) > 2 else None
 ROOM = tempfile.mkdtemp()
 UDP, PAGE, DRIVER = 25841, 25842, 25843
 NAME = "<img src=x onerror=document.title='owned'>"
-SHOW = f"""version = 2
+SHOW = f"""version = 1
 cid = "00010203-0405-0607-0809-0a0b0c0d0e0f"
 name = "{NAME}"
 universes = [1, 7]
@@ -96,6 +98,7 @@ class Browser:
         self.ask("POST", "/actions", {"actions": [{"type": "key", "id": "keys", "actions": actions}]})
 
     def picture(self, name):
+        self.js("scrollTo(0, 0)")
         if PICTURES:
             with open(f"{PICTURES}/{name}.png", "wb") as out:
                 out.write(base64.b64decode(self.ask("GET", "/screenshot")))
@@ -108,6 +111,72 @@ class Browser:
                 return time.monotonic() - begin
             time.sleep(0.02)
         return None
+
+
+def packet(universe, number):
+    """A data packet of 512 slots (E1.31, 5, 6.2 and 7)."""
+    root = bytes.fromhex("001000004153432d45312e3137000000726e00000004") + bytes(range(16))
+    framing = bytes.fromhex("725800000002") + b"Crowd".ljust(64, b"\0") + bytes([100, 0, 0, number % 256, 0]) + universe.to_bytes(2, "big")
+    return root + framing + bytes.fromhex("720b02a1000000010201") + bytes([0]) + bytes([number % 256]) * 512
+
+
+def document():
+    with urllib.request.urlopen(f"http://127.0.0.1:{PAGE}/state", timeout=10) as answer:
+        return json.loads(answer.read())
+
+
+def reads(viewer, seen):
+    """Takes what a viewer is sent, until it is closed."""
+    try:
+        while octets := viewer.recv(65536):
+            seen.append(octets.count(b"event: "))
+    except OSError:
+        pass
+
+
+def viewing():
+    viewer = socket.socket()
+    viewer.setsockopt(socket.SOL_SOCKET, socket.SO_RCVBUF, 4096)
+    viewer.connect(("127.0.0.1", PAGE))
+    viewer.sendall(f"GET /events?universe=7 HTTP/1.1\r\nHost: 127.0.0.1:{PAGE}\r\n\r\n".encode())
+    return viewer
+
+
+def crowded():
+    """200 universes at 44 packets a second for ten seconds, in bursts, before 31 viewers that read and one that doesn't; one leaves before the count is asked for."""
+    watch = start(SACN, "watch", "--port", str(UDP), "--page", str(PAGE))
+    answered()
+    seen = [[] for _ in range(31)]
+    viewers = [viewing() for _ in range(32)]
+    for viewer, counts in zip(viewers, seen):
+        threading.Thread(target=reads, args=(viewer, counts), daemon=True).start()
+    sender, sent, begin = socket.socket(socket.AF_INET, socket.SOCK_DGRAM), 0, time.monotonic()
+    for turn in range(440):
+        for universe in range(1, 201):
+            sender.sendto(packet(universe, turn), ("127.0.0.1", UDP))
+            sent += 1
+        time.sleep(max(0, begin + (turn + 1) / 44 - time.monotonic()))
+    took = time.monotonic() - begin
+    viewers[0].shutdown(socket.SHUT_RDWR)
+    time.sleep(0.5)
+    told = document()["counts"]["datagrams"]
+    verdict("32 viewers, of which one never reads, cost no datagram", told == sent, f"{told} of {sent} in {took:.1f} s")
+    slow = [sum(counts) for counts in seen if not 60 <= sum(counts) <= 120]
+    verdict("each that reads has some ten events a second", not slow, f"{slow}")
+    for viewer in viewers:
+        viewer.close()
+    watch.kill()
+    watch.wait()
+
+
+def answered():
+    """Waits until the page is served."""
+    for _ in range(100):
+        try:
+            socket.create_connection(("127.0.0.1", PAGE), 1).close()
+            return
+        except OSError:
+            time.sleep(0.1)
 
 
 STATE = "document.querySelector('#sources tr td.state')"
@@ -173,6 +242,7 @@ def killed(browser, desk):
     took = browser.until(f"{STATE}.textContent == 'lost' && {LEVEL} == 0", 6)
     grey = browser.js("return document.querySelector('#sources tr').classList.contains('gone')")
     verdict("a killed desk goes grey after two and a half seconds", took is not None and 1.4 < took < 3.2 and grey, f"{took}")
+    browser.size(1400, 1000)
     browser.picture("page-lost")
 
 
@@ -185,6 +255,7 @@ def parted(browser, watch):
 
 
 def main():
+    crowded()
     for tool in ("chromium", "chromedriver"):
         if not shutil.which(tool):
             print(f"skipped browser: no {tool} on this machine")
@@ -193,12 +264,7 @@ def main():
         out.write(SHOW)
     watch = start(SACN, "watch", "--port", str(UDP), "--page", str(PAGE))
     browser = Browser()
-    for _ in range(100):
-        try:
-            socket.create_connection(("127.0.0.1", PAGE), 1).close()
-            break
-        except OSError:
-            time.sleep(0.1)
+    answered()
     browser.size(1400, 1000)
     browser.open(f"http://127.0.0.1:{PAGE}/")
     verdict("the page is shown", browser.until("document.querySelectorAll('#grid .slot').length == 512", 5) is not None)

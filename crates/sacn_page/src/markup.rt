@@ -26,7 +26,7 @@ header { display: flex; flex-wrap: wrap; gap: .25rem 1rem; align-items: baseline
 h1 { font-size: 1.1rem; margin: 0; }
 h2 { font-size: 1rem; margin: 0 0 .5rem; display: flex; flex-wrap: wrap; gap: .5rem; align-items: center; }
 #counts, .note { color: var(--dim); }
-#banner { padding: .6rem 1rem; background: var(--warn-ground); color: var(--warn); font-weight: 600; border-bottom: 2px solid var(--warn); }
+#banner { position: sticky; top: 0; z-index: 2; padding: .6rem 1rem; background: var(--warn-ground); color: var(--warn); font-weight: 600; border-bottom: 2px solid var(--warn); }
 main { display: grid; gap: .75rem; padding: .75rem; grid-template-columns: minmax(0, 1fr); max-width: 2560px; margin: 0 auto; }
 section { background: var(--panel); border: 1px solid var(--line); border-radius: 8px; padding: .75rem; min-width: 0; }
 @media (min-width: 1100px) {
