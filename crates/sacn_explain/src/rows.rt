@@ -125,10 +125,7 @@ fn list_row(
 }
 
 /// Writes how many datagrams were refused for each fault.
-pub fn tell_refused<O: Write>(
-    teller: &mut Teller<'_, O>,
-    tally: &Tally,
-) -> Result<(), TellFault> {
+pub fn tell_refused<O: Write>(teller: &mut Teller<'_, O>, tally: &Tally) -> Result<(), TellFault> {
     let mut is_first = true;
     for fault in FAULTS {
         let count = refused_for(tally, fault);

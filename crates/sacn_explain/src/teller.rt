@@ -106,12 +106,7 @@ impl<'o, O: Write> Teller<'o, O> {
     }
 
     /// A list of universes, which is another one than before.
-    pub fn listing(
-        &mut self,
-        now: u64,
-        event: &str,
-        listing: &Listing,
-    ) -> Result<(), TellFault> {
+    pub fn listing(&mut self, now: u64, event: &str, listing: &Listing) -> Result<(), TellFault> {
         listing_line(&mut self.line, self.form, now, event, listing)?;
         self.write()
     }
