@@ -1,19 +1,26 @@
 -- What a recording tells, frame by frame: what was heard, and then what is still to come, is all.
-use Rattle.std.proofs.Common.{◌≡◌, ◌⊎◌, inl, inr, ℕ, ◌==◌, Bool, cond, true, false, max, List, [], ◌∷◌, Option, None, Some, Result, Ok, Err, IfSome, refl, sym, ap, subst, ◌∙◌, arith}
-use Rattle.std.specs.Prelude.{option_map}
+use Rattle.std.proofs.Common.{◌≡◌, inl, inr, ℕ, ◌==◌, Bool, cond, true, false, max, List, ◌∷◌, Option, None, Some, Result, Ok, Err, IfSome, refl, sym, ap, subst, ◌∙◌, arith}
+use Rattle.std.specs.Prelude.{option_map, ⊤}
 use Rattle.sacn_capture.specs.declared.faults.CaptureFault.{CaptureFault}
 use Rattle.sacn_capture.specs.declared.links.Passed.{Passed}
 use Rattle.sacn_capture.specs.declared.stream.Record.{Record}
 use Rattle.sacn_capture.specs.Check.{map_ok}
 use Rattle.sacn_capture.specs.Frames.{Sent}
-use Rattle.sacn_capture.specs.Recordings.{Shown, Told, with_frame}
+use Rattle.sacn_capture.specs.Recordings.{Shown, Told}
 use Rattle.sacn_capture.specs.Streams.{Gives, shown_of}
 use Rattle.sacn_monitor.specs.Books.{Book}
 use Rattle.sacn_monitor.specs.Histories.{Call, Take, Tick, moment_in_use, moment_of}
 use Rattle.sacn_explain.specs.declared.follow.Followed.{Followed}
 use Rattle.sacn_explain.specs.declared.follow.Timeline.{Timeline}
 use Rattle.sacn_explain.specs.Following.{Follows}
-use Rattle.sacn_explain.specs.Story.{Heard, Hears, IsHeard, IsHeardTo, IsUpTo, after_frame, after_frames, at_moment, call_of, elsewhere, heard_by, heard_in}
+use Rattle.sacn_explain.specs.Story.{Heard, Hears, IsHeard, IsHeardTo, after_frame, after_frames, at_moment, call_of, elsewhere, heard_by, heard_in}
+
+-- what was heard, and then what is still to come, is all that there is to hear
+abbrev pub IsUpTo : ℕ → Option Told → Option Told → Followed → Book → Type 0
+IsUpTo port None after followed book = ⊤
+IsUpTo port (Some all) after followed book =
+    (rest : Told) × (after ≡ Some rest) × (all.fault ≡ rest.fault) × (calls : List Call)
+    × (heard_in port all.frames ≡ after_frames port rest.frames (heard_by followed calls)) × (followed.timeline.now ≡ moment_in_use calls) × Follows calls book
 
 -- what a call of a recording's reader gave, where it gave a frame
 pub frame_given : (result : Result (Option Record) CaptureFault) (found : Option Record) (given : Record) (before after : Option Told) → result ≡ Ok found → found ≡ Some given

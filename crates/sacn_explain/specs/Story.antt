@@ -1,5 +1,5 @@
 -- What a recording tells: the calls that its frames make, and the report that accounts for them.
-use Rattle.std.specs.Prelude.{◌≡◌, ◌⊎◌, ℕ, ◌-◌, ◌==◌, max, nat_lt, List, [], ◌∷◌, length, ⊤, Option, None, Some, unwrap_or, Result, Ok, Err, if◌then◌else◌}
+use Rattle.std.specs.Prelude.{◌≡◌, ◌⊎◌, ℕ, ◌-◌, ◌==◌, max, nat_lt, List, [], ◌∷◌, length, Option, None, Some, unwrap_or, Result, Ok, Err, if◌then◌else◌}
 use Rattle.sacn_capture.specs.declared.links.Passed.{Passed}
 use Rattle.sacn_capture.specs.declared.faults.CaptureFault.{CaptureFault}
 use Rattle.sacn_capture.specs.Files.{IsOutside}
@@ -7,18 +7,18 @@ use Rattle.sacn_capture.specs.Frames.{Sent}
 use Rattle.sacn_capture.specs.Recordings.{Shown, Told}
 use Rattle.sacn_monitor.specs.declared.account.Sender.{Sender}
 use Rattle.sacn_monitor.specs.Books.{Book}
-use Rattle.sacn_monitor.specs.Histories.{Call, Take, Tick, moment_in_use}
+use Rattle.sacn_monitor.specs.Histories.{Call, Take, Tick}
 use Rattle.sacn_monitor.specs.Kinds.{more}
 use Rattle.sacn_explain.specs.declared.follow.Followed.{Followed}
 use Rattle.sacn_explain.specs.declared.follow.Timeline.{Timeline}
 use Rattle.sacn_explain.specs.declared.report.Report.{Report}
 use Rattle.sacn_explain.specs.Following.{Follows, IsTaken, IsTicked}
 
--- milliseconds from the first frame, which is this one where there was none
+-- milliseconds from the first frame, which is this one where there was none before
 abbrev pub since_first : ℕ → Timeline → ℕ
 since_first moment clock = moment - unwrap_or clock.first moment
 
--- the clock at a frame's moment: an earlier one than one before counts as the greatest so far
+-- the clock at a frame's moment: it never goes back, and a frame with an earlier moment is at the greatest so far
 abbrev pub at_moment : ℕ → Timeline → Timeline
 at_moment moment clock = record {
   first = Some (unwrap_or clock.first moment);
@@ -34,11 +34,12 @@ abbrev pub call_of : ℕ → ℕ → Result Sent Passed → Call
 call_of port now (Ok d) = if d.destination_port == port then Take now (sender_of d) d.payload else Tick now
 call_of port now (Err passed) = Tick now
 
+-- the datagrams to other ports, with this frame's
 abbrev pub elsewhere : ℕ → Result Sent Passed → ℕ → ℕ
 elsewhere port (Ok d) n = if d.destination_port == port then n else more 1 n
 elsewhere port (Err passed) n = n
 
--- what frames made: the clock, how many datagrams were to other ports, and the calls, the latest first
+-- what frames make: the clock, how many datagrams are to other ports, and the calls, the latest first
 pub record Heard : Type 0 where
   pub clock : Timeline
   pub other_ports : ℕ
@@ -73,7 +74,7 @@ pub record IsAccountOf (port : ℕ) (told : Told) (report : Report) : Type 0 whe
   pub other_ports : report.other_ports ≡ (heard_in port told.frames).other_ports
   pub went_back : report.went_back ≡ (heard_in port told.frames).clock.went_back
 
--- ---- on the way
+-- ---- how far a recording was followed
 
 -- a follower's book after a call, where this moment was in use before it
 abbrev pub Hears : ℕ → Call → Book → Book → Type 0
@@ -94,10 +95,3 @@ IsHeardTo (Some fault) port told followed book = IsOutside fault.kind ⊎ (told.
 
 abbrev pub IsHeard : ℕ → Told → Followed → Book → Type 0
 IsHeard port told followed book = IsHeardTo followed.stopped port told followed book
-
--- what was heard, and then what is still to come, is all that there is to hear
-abbrev pub IsUpTo : ℕ → Option Told → Option Told → Followed → Book → Type 0
-IsUpTo port None after followed book = ⊤
-IsUpTo port (Some all) after followed book =
-    (rest : Told) × (after ≡ Some rest) × (all.fault ≡ rest.fault) × (calls : List Call)
-    × (heard_in port all.frames ≡ after_frames port rest.frames (heard_by followed calls)) × (followed.timeline.now ≡ moment_in_use calls) × Follows calls book

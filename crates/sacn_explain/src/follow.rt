@@ -33,8 +33,12 @@ struct Timeline {
 /// milliseconds from its first frame, and then tables of sources and universes. With a node's setup the node's frames are told
 /// too, from its start at the first frame on, each with its cause.
 ///
-/// Errors: OutOfMemory; Capture where the recording is wrong, and then all before that place was told, with the tables;
-/// Device where a line can't be written.
+/// The report accounts for exactly the recording's datagrams, where its octets are known: its counts are those of a follower that
+/// was handed each datagram to the port, once and in order, at its moment from the first frame, or at the greatest moment before
+/// it where that is later, and for every other frame its moment alone.
+///
+/// Errors: OutOfMemory; Capture where the recording is wrong, with its first fault, or where its reader fails, and then all before
+/// that place was told, with the tables; Device where a line can't be written.
 pub fn explain<R: BufRead + Drop, O: Write>(
     alloc: Global,
     capture: R,
@@ -92,6 +96,7 @@ fn follow<R: BufRead + Drop, O: Write>(
             Err(fault) => return Ok(followed.stop(fault)),
         }
     }
+    // No device holds so many frames.
     Err(ExplainFault::Device)
 }
 

@@ -1,4 +1,3 @@
-use Rattle.std.proofs.Common.{refl}
 use Rattle.sacn_capture.specs.Streams.{shown_of, to_come}
 use Rattle.sacn_explain.proofs.Story.{frame_given, frame_heard, moment_on, stopped_heard}
 use Rattle.sacn_explain.proofs.follow.follow.Goals as goal

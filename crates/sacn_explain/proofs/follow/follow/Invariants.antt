@@ -1,6 +1,6 @@
 use Rattle.std.proofs.Common.{◌≡◌, None}
 use Rattle.sacn_capture.specs.Streams.{to_come}
-use Rattle.sacn_explain.specs.Story.{IsUpTo}
+use Rattle.sacn_explain.proofs.Story.{IsUpTo}
 use Rattle.sacn_explain.proofs.follow.follow.Given as goal
 
 -- what was heard, and then what is still to come, is all

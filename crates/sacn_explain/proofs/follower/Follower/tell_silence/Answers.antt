@@ -1,5 +1,4 @@
-use Rattle.std.proofs.Common.{◌≡◌, ◌≤◌, arith}
-use Rattle.sacn_explain.proofs.Following.{none_told, one_more_told}
+use Rattle.sacn_explain.proofs.Following.{one_more_told}
 use Rattle.sacn_explain.proofs.follower.Follower.tell_silence.Goals as goal
 
 pub loop-preserved : goal.loop-preserved
