@@ -217,3 +217,6 @@ impl<C: Connection> Viewer<C> {
         }
     }
 }
+
+#[cfg(test)]
+mod tests;
