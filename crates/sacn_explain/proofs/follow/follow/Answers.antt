@@ -16,5 +16,5 @@ loop-preserved g c = record {
       c.loop.follower.moment c.take.new.follower.moment c.loop.invariant.moment c.take.ensures.moment;
   heard = frame_heard c.args.port (shown_of c.in-Ok-Some.frame) c.loop.followed c.take.new.self c.take.ensures.timeline c.take.ensures.elsewhere
       (to_come g.R.Read.remaining c.args.capture.now) (to_come g.R.Read.remaining c.loop.capture) (to_come g.R.Read.remaining c.next.follows.lender-at-none) c.loop.follower.moment c.loop.follower.monitor c.take.new.follower.monitor
-      c.loop.invariant.heard (frame_given c.next.result c.in-Ok-Some.field-0 c.in-Ok-Some.frame _ _ c.in-Ok-Some.is c.in-Ok-Some.field-0-is c.next.follows.holds-at-none) c.loop.invariant.moment c.in_ok-take-in-Ok-Some.ensures.taken;
+      c.loop.invariant.heard (frame_given c.next.result c.in-Ok-Some.field-0 c.in-Ok-Some.frame _ _ c.in-Ok-Some.is c.in-Ok-Some.field-0-is c.next.follows.holds-at-none.0) c.loop.invariant.moment c.in_ok-take-in-Ok-Some.ensures.taken;
 }
