@@ -80,6 +80,11 @@ impl<C: Connection> Viewer<C> {
         }
     }
 
+    /// Its connection.
+    pub fn connection(&mut self) -> &mut C {
+        &mut self.connection
+    }
+
     /// How far it is.
     pub fn phase(&self) -> Phase {
         self.phase
@@ -217,6 +222,3 @@ impl<C: Connection> Viewer<C> {
         }
     }
 }
-
-#[cfg(test)]
-mod tests;

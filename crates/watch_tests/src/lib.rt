@@ -1,9 +1,11 @@
-//! Tests of the monitor, of recordings explained and of the watch, by their public calls.
+//! Tests of the monitor, of recordings explained of the watch and of its page, by their public calls.
 #![tactic(auto)]
 
 #[cfg(test)]
 mod explain;
 #[cfg(test)]
 mod monitor;
+#[cfg(test)]
+mod page;
 #[cfg(test)]
 mod watch;

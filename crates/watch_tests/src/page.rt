@@ -1,6 +1,7 @@
-use super::*;
-use crate::request::Asked;
-use std::io;
+//! One connection of a browser, in memory.
+use sacn_page::{Asked, Connection, Hosts, Phase, Reading, Viewer};
+use std::alloc::{AllocError, Global};
+use std::io::{self, ErrorKind, Read, Write};
 use std::net::{Ipv4Addr, SocketAddrV4};
 use std::test::*;
 
@@ -62,33 +63,23 @@ fn viewer(alloc: Global, asks: &'static [u8], room: usize) -> Result<Viewer<Line
 }
 
 #[test]
-fn a_request_comes_octet_by_octet(rt: HostRuntime) {
+fn a_request_comes_octet_by_octet(rt: HostRuntime) -> Result<(), Fail> {
     let asks = b"GET /state?universe=7 HTTP/1.1\r\nHost: 10.0.0.7:8080\r\n\r\n";
-    match viewer(rt.alloc(), asks, 0) {
-        Ok(mut viewer) => {
-            assert!(rt; viewer.hear() == Ok(Reading::Asked(Asked::State(Some(7)))));
-        }
-        Err(_) => {}
-    }
+    let mut viewer = viewer(rt.alloc(), asks, 0)?;
+    assert!(rt; viewer.hear()? == Reading::Asked(Asked::State(Some(7))));
+    Ok(())
 }
 
 #[test]
-fn a_slow_viewer_takes_all_in_turns(rt: HostRuntime) {
-    match viewer(rt.alloc(), b"", 4) {
-        Ok(mut viewer) => {
-            assert!(rt; viewer.give("0123456789", Phase::Answered, 1000).is_ok());
-            assert!(rt; !viewer.is_idle());
-            assert!(rt; viewer.deadline() == 61_000);
-            viewer.connection.room = 6;
-            viewer.send(2000);
-            assert!(rt; viewer.is_idle() & viewer.connection.is_finished);
-            assert!(rt; viewer.phase() == Phase::Leaving);
-            assert!(rt; viewer.deadline() == 3000);
-            assert_eq!(rt;
-                viewer.connection.taken.as_slice(),
-                b"0123456789".as_slice()
-            );
-        }
-        Err(_) => {}
-    }
+fn a_slow_viewer_takes_all_in_turns(rt: HostRuntime) -> Result<(), Fail> {
+    let mut viewer = viewer(rt.alloc(), b"", 4)?;
+    viewer.give("0123456789", Phase::Answered, 1000)?;
+    assert_eq!(rt; (viewer.is_idle(), viewer.deadline()), (false, 61_000));
+    viewer.connection().room = 6;
+    viewer.send(2000);
+    assert_eq!(rt; (viewer.is_idle(), viewer.deadline()), (true, 3000));
+    assert!(rt; viewer.phase() == Phase::Leaving);
+    let line = viewer.connection();
+    assert!(rt; line.is_finished && line.taken.as_slice() == b"0123456789".as_slice());
+    Ok(())
 }
