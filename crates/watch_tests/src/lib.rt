@@ -1,4 +1,4 @@
-//! Tests of the monitor, of recordings explained of the watch and of its page, by their public calls.
+//! Tests of the monitor, of recordings explained, of the watch and of its page, by their public calls.
 #![tactic(auto)]
 
 #[cfg(test)]
