@@ -1,5 +1,5 @@
 -- What a recording tells, frame by frame: what was heard, and then what is still to come, is all.
-use Rattle.std.proofs.Common.{◌≡◌, inl, inr, ℕ, ◌==◌, Bool, cond, true, false, max, List, ◌∷◌, Option, None, Some, Result, Ok, Err, IfSome, refl, sym, ap, subst, ◌∙◌, arith}
+use Rattle.std.proofs.Common.{◌≡◌, inl, inr, ℕ, ◌==◌, Bool, cond, true, false, max, List, ◌∷◌, length, Option, None, Some, Result, Ok, Err, IfSome, refl, sym, ap, subst, ◌∙◌, arith}
 use Rattle.std.specs.Prelude.{option_map, ⊤}
 use Rattle.sacn_capture.specs.declared.faults.CaptureFault.{CaptureFault}
 use Rattle.sacn_capture.specs.declared.links.Passed.{Passed}
@@ -7,13 +7,17 @@ use Rattle.sacn_capture.specs.declared.stream.Record.{Record}
 use Rattle.sacn_capture.specs.Check.{map_ok}
 use Rattle.sacn_capture.specs.Frames.{Sent}
 use Rattle.sacn_capture.specs.Recordings.{Shown, Told}
-use Rattle.sacn_capture.specs.Streams.{Gives, shown_of}
+use Rattle.sacn_capture.specs.Streams.{Gives, GivesFirst, shown_of}
 use Rattle.sacn_monitor.specs.Books.{Book}
-use Rattle.sacn_monitor.specs.Histories.{Call, Take, Tick, moment_in_use, moment_of}
+use Rattle.sacn_monitor.specs.Histories.{Call, Take, Tick, after_calls, moment_in_use, moment_of}
 use Rattle.sacn_explain.specs.declared.follow.Followed.{Followed}
 use Rattle.sacn_explain.specs.declared.follow.Timeline.{Timeline}
 use Rattle.sacn_explain.specs.Following.{Follows}
-use Rattle.sacn_explain.specs.Story.{Heard, Hears, IsHeard, IsHeardTo, after_frame, after_frames, at_moment, call_of, elsewhere, heard_by, heard_in}
+use Rattle.sacn_explain.proofs.Counts.{counts_are_of_what_was_handed}
+use Rattle.sacn_explain.specs.Story.{Heard, Hears, IsHeard, IsHeardTo, after_frame, after_frames, at_moment, call_of, elsewhere, heard_in}
+
+abbrev heard_by : Followed → List Call → Heard
+heard_by followed calls = record { clock = followed.timeline; other_ports = followed.other_ports; calls = calls }
 
 -- what was heard, and then what is still to come, is all that there is to hear
 abbrev pub IsUpTo : ℕ → Option Told → Option Told → Followed → Book → Type 0
@@ -27,6 +31,10 @@ pub frame_given : (result : Result (Option Record) CaptureFault) (found : Option
     → Gives (map_ok (λ x. option_map shown_of x) result) before after → Gives (Ok (Some (shown_of given))) before after
 frame_given result found given before after is some gives =
     subst (λ (r : Result (Option Record) CaptureFault). Gives (map_ok (λ x. option_map shown_of x) r) before after) (is ∙ ap Ok some) gives
+
+pub nothing_given : (result : Result (Option Record) CaptureFault) (found : Option Record) (before : Option Told) → result ≡ Ok found → found ≡ None
+    → GivesFirst (map_ok (λ x. option_map shown_of x) result) before → GivesFirst (Ok None) before
+nothing_given result found before is none gives = subst (λ (r : Result (Option Record) CaptureFault). GivesFirst (map_ok (λ x. option_map shown_of x) r) before) (is ∙ ap Ok none) gives
 
 -- a call has the moment that was handed in
 call_moment_by : (b : Bool) (now : ℕ) (take : Call) → moment_of take ≡ now → moment_of (cond b take (Tick now)) ≡ now
@@ -73,6 +81,27 @@ module _ (port : ℕ) (frame : Shown) (old new : Followed) (clock : new.timeline
         follows_on (call_of port new.timeline.now frame.content) calls b0 b1 follows
             (subst (λ (m : ℕ). Hears m (call_of port new.timeline.now frame.content) b0 b1) (moment ∙ now) hears),
       )
+
+to_end : (port : ℕ) (told : Told) (new : Followed) (b : Book) (stopped : Option CaptureFault) → stopped ≡ None → IsHeardTo None port told new b → IsHeardTo stopped port told new b
+to_end port told new b stopped is h = subst (λ (o : Option CaptureFault). IsHeardTo o port told new b) (sym is) h
+
+-- at the end all was heard
+pub ended_heard : (port : ℕ) (all before : Option Told) (followed : Followed) (b : Book) → IsUpTo port all before followed b → GivesFirst (Ok None) before → followed.stopped ≡ None
+    → IfSome all (λ told. IsHeard port told followed b)
+ended_heard port None before followed b upto gives is = tt
+ended_heard port (Some all) before followed b (left, left_is, whole, calls, heard, now, follows) gives is =
+    let came = subst (λ (o : Option Told). Gives (Ok None) o gives.0) left_is gives.1 in
+    let said : heard_in port all.frames ≡ heard_by followed calls = heard ∙ ap (λ (x : Told). after_frames port x.frames (heard_by followed calls)) came.0 in
+    let counts = counts_are_of_what_was_handed calls b follows in
+    to_end port all followed b followed.stopped is (
+      whole ∙ ap (λ (x : Told). x.fault) came.0,
+      record {
+        clock = ap (λ (h : Heard). h.clock) (sym said);
+        other_ports = ap (λ (h : Heard). h.other_ports) (sym said);
+        tally = counts.0 ∙ ap (λ (h : Heard). (after_calls h.calls).tally) (sym said);
+        streams = counts.1 ∙ ap (λ (h : Heard). length (after_calls h.calls).streams) (sym said);
+      },
+    )
 
 -- what is wrong with a recording
 wrong : (fault : CaptureFault) (port : ℕ) (told : Told) (new : Followed) (b : Book) (stopped : Option CaptureFault) → stopped ≡ Some fault

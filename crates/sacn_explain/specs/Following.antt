@@ -3,7 +3,7 @@ use Rattle.std.specs.Prelude.{◌≡◌, ℕ, ◌≤◌, ◌⊎◌, ⊤, max, Li
 use Rattle.sacn_monitor.specs.declared.account.Sender.{Sender}
 use Rattle.sacn_monitor.specs.declared.limits.TheConstants.{MAX_STREAMS}
 use Rattle.sacn_monitor.specs.Books.{Book, new_book, after_take, after_tick}
-use Rattle.sacn_monitor.specs.Histories.{Call, Take, Tick, moment_in_use, arrivals, account_by, account_in}
+use Rattle.sacn_monitor.specs.Histories.{Call, Take, Tick, moment_in_use, after_calls, arrivals, account_by, account_in}
 
 -- each of these moments is t or earlier
 abbrev pub AreBy : ℕ → List ℕ → Type 0
@@ -35,3 +35,8 @@ abbrev pub AccountsAreOfWhatWasHanded : Type 0
 AccountsAreOfWhatWasHanded = (calls : List Call) (book : Book) → Follows calls book → (universe : ℕ) (cid : List ℕ) →
     (account_in universe cid book.streams ≡ account_by (arrivals universe cid calls))
     ⊎ ((account_in universe cid book.streams ≡ None) × (MAX_STREAMS ≤ length book.streams))
+
+-- Whatever a follower was handed, its counts, and how many streams it has, are those that these calls alone give: what it told in between changes none.
+abbrev pub CountsAreOfWhatWasHanded : Type 0
+CountsAreOfWhatWasHanded = (calls : List Call) (book : Book) → Follows calls book →
+    (book.tally ≡ (after_calls calls).tally) × (length book.streams ≡ length (after_calls calls).streams)

@@ -7,12 +7,12 @@ use Rattle.sacn_capture.specs.Frames.{Sent}
 use Rattle.sacn_capture.specs.Recordings.{Shown, Told}
 use Rattle.sacn_monitor.specs.declared.account.Sender.{Sender}
 use Rattle.sacn_monitor.specs.Books.{Book}
-use Rattle.sacn_monitor.specs.Histories.{Call, Take, Tick}
+use Rattle.sacn_monitor.specs.Histories.{Call, Take, Tick, after_calls}
 use Rattle.sacn_monitor.specs.Kinds.{more}
 use Rattle.sacn_explain.specs.declared.follow.Followed.{Followed}
 use Rattle.sacn_explain.specs.declared.follow.Timeline.{Timeline}
 use Rattle.sacn_explain.specs.declared.report.Report.{Report}
-use Rattle.sacn_explain.specs.Following.{Follows, IsTaken, IsTicked}
+use Rattle.sacn_explain.specs.Following.{IsTaken, IsTicked}
 
 -- milliseconds from the first frame, which is this one where there was none before
 abbrev pub since_first : ℕ → Timeline → ℕ
@@ -63,13 +63,11 @@ no_clock = record { first = None; now = 0; went_back = 0 }
 abbrev pub heard_in : ℕ → List Shown → Heard
 heard_in port frames = after_frames port frames (record { clock = no_clock; other_ports = 0; calls = [] })
 
--- the recording has no fault, and these are the counts of a book that follows the calls that its frames make
+-- the recording has no fault, and these are the counts that the calls of its frames give
 pub record IsAccountOf (port : ℕ) (told : Told) (report : Report) : Type 0 where
   pub whole : told.fault ≡ None
-  pub book : Book
-  pub follows : Follows (heard_in port told.frames).calls book
-  pub tally : report.tally ≡ book.tally
-  pub streams : report.streams ≡ length book.streams
+  pub tally : report.tally ≡ (after_calls (heard_in port told.frames).calls).tally
+  pub streams : report.streams ≡ length (after_calls (heard_in port told.frames).calls).streams
   pub length : report.length ≡ (heard_in port told.frames).clock.now
   pub other_ports : report.other_ports ≡ (heard_in port told.frames).other_ports
   pub went_back : report.went_back ≡ (heard_in port told.frames).clock.went_back
@@ -84,13 +82,16 @@ Hears t (Tick now) old new = IsTicked (max t now) old new
 abbrev pub begun : Followed
 begun = record { timeline = no_clock; other_ports = 0; stopped = None }
 
-abbrev pub heard_by : Followed → List Call → Heard
-heard_by followed calls = record { clock = followed.timeline; other_ports = followed.other_ports; calls = calls }
+-- this is what was heard, and these are the counts that it gives
+pub record IsHeardAs (h : Heard) (followed : Followed) (book : Book) : Type 0 where
+  pub clock : followed.timeline ≡ h.clock
+  pub other_ports : followed.other_ports ≡ h.other_ports
+  pub tally : book.tally ≡ (after_calls h.calls).tally
+  pub streams : length book.streams ≡ length (after_calls h.calls).streams
 
 -- a recording was followed to its end, or to what is wrong with it
 abbrev pub IsHeardTo : Option CaptureFault → ℕ → Told → Followed → Book → Type 0
-IsHeardTo None port told followed book =
-    (told.fault ≡ None) × (calls : List Call) × (heard_in port told.frames ≡ heard_by followed calls) × Follows calls book
+IsHeardTo None port told followed book = (told.fault ≡ None) × IsHeardAs (heard_in port told.frames) followed book
 IsHeardTo (Some fault) port told followed book = IsOutside fault.kind ⊎ (told.fault ≡ Some fault)
 
 abbrev pub IsHeard : ℕ → Told → Followed → Book → Type 0

@@ -33,9 +33,9 @@ struct Timeline {
 /// milliseconds from its first frame, and then tables of sources and universes. With a node's setup the node's frames are told
 /// too, from its start at the first frame on, each with its cause.
 ///
-/// The report accounts for exactly the recording's datagrams, where its octets are known: its counts are those of a follower that
+/// The report accounts for exactly the recording's datagrams, where its octets are known: its counts are those of a monitor that
 /// was handed each datagram to the port, once and in order, at its moment from the first frame, or at the greatest moment before
-/// it where that is later, and for every other frame its moment alone.
+/// it where that is later, and of every other frame the moment alone.
 ///
 /// Errors: OutOfMemory; Capture where the recording is wrong, with its first fault, or where its reader fails, and then all before
 /// that place was told, with the tables; Device where a line can't be written.
@@ -137,7 +137,8 @@ impl Followed {
         ensures timeline { self.new.timeline ≡ at_moment frame.now.moment self.old.timeline }
         ensures elsewhere { self.new.other_ports ≡ elsewhere port (shown_of frame.now).content self.old.other_ports }
         ensures moment { follower.new.moment ≡ max follower.old.moment self.new.timeline.now }
-        ensures taken { OnOk result (Hears follower.old.moment (call_of port self.new.timeline.now (shown_of frame.now).content) follower.old.monitor follower.new.monitor) }
+        ensures taken { OnOk result (Hears follower.old.moment (call_of port self.new.timeline.now (shown_of frame.now).content)
+            follower.old.monitor follower.new.monitor) }
         ensures fault { IfErr result IsOfTelling }
     {
         self.timeline.advance(frame.moment);
@@ -160,7 +161,8 @@ fn hear<O: Write>(
     follower: &mut Follower<'_, O>,
 ) -> Result<(), ExplainFault>
     ensures moment { follower.new.moment ≡ max follower.old.moment now }
-    ensures taken { OnOk result (IsTaken (max follower.old.moment now) (sender_of (sent_of datagram.now)) (sent_of datagram.now).payload follower.old.monitor follower.new.monitor) }
+    ensures taken { OnOk result (IsTaken (max follower.old.moment now) (sender_of (sent_of datagram.now)) (sent_of datagram.now).payload
+        follower.old.monitor follower.new.monitor) }
     ensures fault { IfErr result IsOfTelling }
 {
     let sender = Sender {

@@ -1,6 +1,6 @@
 //! Laws of the definitions: functions that do nothing, each of which has a law as its contract.
 
-ghost use Rattle.sacn_explain.specs.Following.{AccountsAreOfWhatWasHanded};
+ghost use Rattle.sacn_explain.specs.Following.{AccountsAreOfWhatWasHanded, CountsAreOfWhatWasHanded};
 
 use sacn_monitor::laws::accounts_are_of_their_packets;
 
@@ -12,3 +12,9 @@ pub fn accounts_are_of_what_was_handed()
 {
     accounts_are_of_their_packets();
 }
+
+/// Whatever datagrams and moments a follower was handed, its counts of datagrams, and how many sources on universes it has heard,
+/// are those of these calls alone: what was told in between changes none.
+pub fn counts_are_of_what_was_handed()
+    ensures { CountsAreOfWhatWasHanded }
+{}

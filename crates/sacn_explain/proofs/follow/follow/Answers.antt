@@ -1,6 +1,13 @@
 use Rattle.sacn_capture.specs.Streams.{shown_of, to_come}
-use Rattle.sacn_explain.proofs.Story.{frame_given, frame_heard, moment_on, stopped_heard}
+use Rattle.sacn_explain.proofs.Story.{ended_heard, frame_given, frame_heard, moment_on, nothing_given, stopped_heard}
 use Rattle.sacn_explain.proofs.follow.follow.Goals as goal
+
+pub returns-in-Ok-None : goal.returns-in-Ok-None
+returns-in-Ok-None g c = record {
+  told = ended_heard c.args.port (to_come g.R.Read.remaining c.args.capture.now) (to_come g.R.Read.remaining c.loop.capture) c.loop.followed c.loop.follower.monitor
+      c.loop.invariant.heard (nothing_given c.next.result _ _ c.in-Ok-None.is c.in-Ok-None.field-0-is c.next.ensures.told) c.loop.invariant.stopped;
+  fault = tt;
+}
 
 pub returns-in-Err : goal.returns-in-Err
 returns-in-Err g c = record {
