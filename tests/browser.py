@@ -264,6 +264,13 @@ def main():
         out.write(SHOW)
     watch = start(SACN, "watch", "--port", str(UDP), "--page", str(PAGE))
     browser = Browser()
+    try:
+        shown(browser, watch)
+    finally:
+        browser.call("DELETE", browser.session)
+
+
+def shown(browser, watch):
     answered()
     browser.size(1400, 1000)
     browser.open(f"http://127.0.0.1:{PAGE}/")
@@ -278,7 +285,6 @@ def main():
     faults = [it["message"] for it in browser.ask("POST", "/se/log", {"type": "browser"}) if it["level"] == "SEVERE"]
     verdict("the browser has nothing to complain of", not faults, f"{faults[:3]}")
     parted(browser, watch)
-    browser.call("DELETE", browser.session)
 
 
 try:
