@@ -25,8 +25,7 @@ body { margin: 0; background: var(--ground); color: var(--ink); font: 15px/1.4 s
 header { display: flex; flex-wrap: wrap; gap: .25rem 1rem; align-items: baseline; padding: .6rem 1rem; border-bottom: 1px solid var(--line); background: var(--panel); }
 h1 { font-size: 1.1rem; margin: 0; }
 h2 { font-size: 1rem; margin: 0 0 .5rem; display: flex; flex-wrap: wrap; gap: .5rem; align-items: center; }
-#counts, .note { color: var(--dim); }
-#banner { position: sticky; top: 0; z-index: 2; padding: .6rem 1rem; background: var(--warn-ground); color: var(--warn); font-weight: 600; border-bottom: 2px solid var(--warn); }
+#counts, .note { color: var(--dim); } #banner { position: sticky; top: 0; z-index: 2; padding: .6rem 1rem; background: var(--warn-ground); color: var(--warn); font-weight: 600; border-bottom: 2px solid var(--warn); }
 main { display: grid; gap: .75rem; padding: .75rem; grid-template-columns: minmax(0, 1fr); max-width: 2560px; margin: 0 auto; }
 section { background: var(--panel); border: 1px solid var(--line); border-radius: 8px; padding: .75rem; min-width: 0; }
 @media (min-width: 1100px) {
@@ -40,8 +39,7 @@ button { font: inherit; color: inherit; background: var(--ground); border: 1px s
 button[aria-current=true], button[aria-pressed=true] { border-color: var(--focus); box-shadow: inset 0 0 0 1px var(--focus); }
 :focus-visible { outline: 3px solid var(--focus); outline-offset: 1px; }
 #universes { display: flex; flex-wrap: wrap; gap: .4rem; list-style: none; margin: 0; padding: 0; max-height: 14rem; overflow: auto; }
-#universes b { font-variant-numeric: tabular-nums; }
-#universes button { max-width: 20rem; overflow: hidden; text-overflow: ellipsis; white-space: nowrap; }
+#universes b { font-variant-numeric: tabular-nums; } #universes button { max-width: 20rem; overflow: hidden; text-overflow: ellipsis; white-space: nowrap; }
 #universes span { color: var(--dim); margin-left: .4rem; }
 #grid { display: grid; grid-template-columns: repeat(auto-fill, minmax(2.6rem, 1fr)); gap: 2px; }
 .slot { position: relative; height: 2.7rem; border: 1px solid var(--line); border-radius: 3px; overflow: hidden; cursor: pointer; font-variant-numeric: tabular-nums; }
@@ -58,11 +56,8 @@ button[aria-current=true], button[aria-pressed=true] { border-color: var(--focus
 table { border-collapse: collapse; width: 100%; font-variant-numeric: tabular-nums; }
 caption { text-align: left; position: absolute; clip-path: inset(50%); }
 th, td { text-align: left; padding: .25rem .6rem; border-bottom: 1px solid var(--line); white-space: nowrap; }
-td.number, th.number { text-align: right; }
-td.name { max-width: 22rem; overflow: hidden; text-overflow: ellipsis; }
-tr.gone { color: var(--dim); }
-tr.gone td.state { font-weight: 700; }
-tr.gone .letter { opacity: .4; }
+td.number, th.number { text-align: right; } td.name { max-width: 22rem; overflow: hidden; text-overflow: ellipsis; }
+tr.gone { color: var(--dim); } tr.gone td.state { font-weight: 700; } tr.gone .letter { opacity: .4; }
 .letter { display: inline-block; min-width: 1.5em; text-align: center; border-radius: 4px; color: var(--panel); background: var(--colour); font-weight: 700; }
 .over { color: var(--warn); font-weight: 700; }
 #alarms { list-style: none; margin: 0; padding: 0; max-height: 20rem; overflow: auto; }
