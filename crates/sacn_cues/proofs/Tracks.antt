@@ -1,5 +1,5 @@
 -- What is kept for each cue is what going to it gives.
-use Rattle.std.proofs.Common.{◌≡◌, ℕ, suc, ◌+◌, ◌-◌, ◌<◌, Bool, true, false, cond, ◌==◌, ◌&&◌, nat_le, nat_lt, T, List, [], ◌∷◌, length, get_or, replicate, Option, Some, None, if◌then◌else◌, inl, inr, refl, sym, ap, subst, ◌∙◌, arith}
+use Rattle.std.proofs.Common.{◌≡◌, ℕ, ◌+◌, ◌-◌, ◌<◌, Bool, true, false, cond, ◌==◌, ◌&&◌, nat_le, nat_lt, T, List, [], ◌∷◌, length, get_or, replicate, Option, Some, None, if◌then◌else◌, inl, inr, refl, sym, ap, subst, ◌∙◌, arith}
 use Rattle.std.specs.Bool.{⊤}
 use Rattle.std.specs.Option.{option_map}
 use Rattle.std.specs.Ordering.{nat_cmp, is_lt, eq_by_cmp}
@@ -9,9 +9,8 @@ use Rattle.std.proofs.lemmas.Bool.{cases_eq}
 use Rattle.std.proofs.lemmas.Bool.Decides.{nat_tests}
 use Rattle.std.proofs.lemmas.List.{length-replicate, get_or-replicate}
 use Rattle.sacn_patch.specs.declared.limits.TheConstants.{MAX_CHANNELS}
-use Rattle.sacn_cues.specs.Channels.{is_channel}
 use Rattle.sacn_cues.specs.Cues.{KeptCue, Cues, or_else, level_upto, level_tracked, is_named}
-use Rattle.sacn_cues.specs.Targets.{Targets, aimed, aimed_everywhere, zeros_of}
+use Rattle.sacn_cues.specs.Targets.{Targets, aimed, zeros_of}
 use Rattle.sacn_cues.specs.Tracks.{Tracked, IsTrack, AreTracks, AreTargets, track_at, tracked}
 use Rattle.sacn_cues.proofs.Aims.{aimed_upto, or_else_none, length-aimed_upto, at_aimed_upto, length-aimed_everywhere, at_aimed_everywhere}
 
