@@ -1,4 +1,5 @@
 //! The command line.
+use crate::check::{self, CheckAsked};
 use crate::explain::{self, ExplainAsked};
 use crate::live_words::{self, DeskAsked, GatewayAsked};
 use crate::watch::{self, WatchAsked};
@@ -24,6 +25,7 @@ const EXAMPLE: &str = "Examples, in a clone of the repository:
   ./sacn groups examples/node.toml --device eth0
   ./sacn explain examples/ola.pcap
   ./sacn watch --seconds 60
+  ./sacn check examples/show.toml
 
 docs/FILES.md tells what stands in the files, and what is printed.
 
@@ -90,6 +92,7 @@ pub enum Asked<'a> {
     },
     Explain(ExplainAsked<'a>),
     Watch(WatchAsked),
+    Check(CheckAsked<'a>),
 }
 
 fn files<'a>(alloc: Global) -> Arg<'a> {
@@ -183,7 +186,8 @@ fn command<'a>(alloc: Global) -> Result<Command<'a>, Error> {
     let command = with(command, live_words::desk(alloc));
     let command = with(command, live_words::groups(alloc));
     let command = with(command, explain::command(alloc));
-    with(command, watch::command(alloc))
+    let command = with(command, watch::command(alloc));
+    with(command, check::command(alloc))
 }
 
 // The call of clap's parser stands alone: checking it takes longest.
@@ -283,6 +287,7 @@ fn asked_of<'a>(alloc: Global, matches: &ArgMatches<'a>) -> Result<Asked<'a>, Er
         Some(("groups", groups)) => Ok(live_words::groups_asked(groups)),
         Some(("explain", words)) => explain::asked(alloc, words),
         Some(("watch", words)) => watch::asked(alloc, words),
+        Some(("check", words)) => check::asked(alloc, words),
         Some((_, decode)) => decode_asked(alloc, decode),
     }
 }

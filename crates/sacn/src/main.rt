@@ -1,6 +1,7 @@
 //! `sacn`: packets of streaming ACN read, checked and shown; consoles and nodes run.
 #![tactic(auto)]
 
+mod check;
 mod command;
 mod ending;
 mod explain;

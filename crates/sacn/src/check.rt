@@ -1,0 +1,160 @@
+//! Files checked.
+use crate::command::{Asked, refused_words, subcommand};
+use crate::ending::{DEVICE_FAILED, DONE, Ending, REFUSED};
+use crate::files::text_of_file;
+use crate::live_words::word;
+use clap::{Arg, ArgAction, ArgMatches, Command, Error};
+use sacn_check::{FileKind, ReportFault, faults_of, kind_of, write_report, write_unread};
+use std::alloc::{AllocError, Global};
+use std::io::Write;
+use std::rt::Files;
+
+const ABOUT: &str =
+    "Says what is wrong with shows, setups, worlds, scripts and schedules, each fault with its place";
+
+const FILES_HELP: &str = "Shows, setups, worlds, scripts and schedules";
+
+const KIND_HELP: &str =
+    "What the files are: show, setup, world, script or schedule; else told by their keys";
+
+/// The files that are checked.
+#[derive(Drop)]
+pub struct CheckAsked<'a> {
+    pub files: Vec<&'a str>,
+    /// None where each file's keys tell.
+    pub kind: Option<FileKind>,
+}
+
+/// The words of `check`.
+pub fn command<'a>(alloc: Global) -> Result<Command<'a>, Error> {
+    let files = Arg::new(alloc, "FILE")
+        .help(FILES_HELP)
+        .required(true)
+        .num_args(1..)
+        .action(ArgAction::Append);
+    let args = vec![in alloc; files, word(alloc, "as", "KIND", KIND_HELP)]?;
+    subcommand(alloc, "check", ABOUT, args)
+}
+
+/// What the words of `check` ask for.
+pub fn asked<'a>(alloc: Global, matches: &ArgMatches<'a>) -> Result<Asked<'a>, Error> {
+    let kind = match matches.get_str("as") {
+        None => None,
+        Some(word) => match kind_named(word) {
+            Some(kind) => Some(kind),
+            None => return Err(refused_words(alloc, word, "Kind")),
+        },
+    };
+    let mut files = Vec::new(alloc);
+    if let Some(paths) = matches.get_strs("FILE") {
+        for path in paths {
+            files.push(*path)?;
+        }
+    }
+    Ok(Asked::Check(CheckAsked { files, kind }))
+}
+
+fn kind_named(word: &str) -> Option<FileKind> {
+    match word {
+        "show" => Some(FileKind::Show),
+        "setup" => Some(FileKind::Setup),
+        "world" => Some(FileKind::World),
+        "script" => Some(FileKind::Script),
+        "schedule" => Some(FileKind::Schedule),
+        _ => None,
+    }
+}
+
+/// Checks the files in their order; each is told, whatever the others are.
+pub fn check<R: AllocGlobal + Files, O: Write, E: Write>(
+    rt: &R,
+    asked: &CheckAsked<'_>,
+    out: &mut O,
+    err: &mut E,
+) -> Result<(), Ending> {
+    let mut worst = DONE;
+    for path in asked.files.as_slice() {
+        worst = worst.max(check_file(rt, path, asked.kind, out, err)?);
+    }
+    if out.flush().is_err() {
+        return Err(Ending::DeviceWrite);
+    }
+    match worst {
+        DONE => Ok(()),
+        status => Err(Ending::Said(status)),
+    }
+}
+
+// Checks a file, and answers the status that it gives.
+fn check_file<R: AllocGlobal + Files, O: Write, E: Write>(
+    rt: &R,
+    path: &str,
+    kind: Option<FileKind>,
+    out: &mut O,
+    err: &mut E,
+) -> Result<u8, Ending> {
+    let alloc = rt.alloc();
+    match text_of_file(rt, path) {
+        Ok(text) => check_text(alloc, path, kind, text.as_str(), out),
+        Err(Ending::TooLarge) => {
+            let wanted = "a file has at most 1048576 octets";
+            refused_file(write_unread(alloc, path, "TooLarge", wanted, out))
+        }
+        Err(Ending::NotText) => {
+            refused_file(write_unread(alloc, path, "NotText", "a text is UTF-8", out))
+        }
+        Err(Ending::DeviceRead) => {
+            let _ = writeln!(err, "device read {path}");
+            Ok(DEVICE_FAILED)
+        }
+        Err(ending) => Err(ending),
+    }
+}
+
+fn ending_of(fault: ReportFault) -> Ending {
+    match fault {
+        ReportFault::OutOfMemory => Ending::OutOfMemory,
+        ReportFault::WriteFailed => Ending::DeviceWrite,
+    }
+}
+
+// The status of a file with faults, once they are written.
+fn refused_file(written: Result<(), ReportFault>) -> Result<u8, Ending> {
+    match written {
+        Ok(()) => Ok(REFUSED),
+        Err(fault) => Err(ending_of(fault)),
+    }
+}
+
+fn kind_in(
+    alloc: Global,
+    kind: Option<FileKind>,
+    text: &str,
+) -> Result<Option<FileKind>, AllocError> {
+    match kind {
+        Some(kind) => Ok(Some(kind)),
+        None => kind_of(alloc, text),
+    }
+}
+
+fn check_text<O: Write>(
+    alloc: Global,
+    path: &str,
+    kind: Option<FileKind>,
+    text: &str,
+    out: &mut O,
+) -> Result<u8, Ending> {
+    let Some(kind) = kind_in(alloc, kind, text)? else {
+        let wanted = "no key tells what it is: name it by --as";
+        return refused_file(write_unread(alloc, path, "Kind", wanted, out));
+    };
+    let findings = faults_of(alloc, kind, text)?;
+    let written = write_report(alloc, path, kind, &findings, out);
+    if findings.told.is_empty() {
+        return match written {
+            Ok(()) => Ok(DONE),
+            Err(fault) => Err(ending_of(fault)),
+        };
+    }
+    refused_file(written)
+}

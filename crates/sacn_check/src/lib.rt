@@ -1,0 +1,27 @@
+//! What is wrong with a file: every fault of a show, a setup, a world, a script or a schedule, with its place.
+//!
+//! [`faults_of`] asks the file's own reader first. Where the reader gives a value nothing is found; where it refuses, the
+//! first thing found is what it refuses, and the others are found by the same tables of keys and ranges.
+#![tactic(auto)]
+
+mod document;
+mod faults;
+mod finding;
+mod keys;
+mod kinds;
+mod lines;
+mod place;
+mod refusal;
+mod report;
+mod rules;
+mod setups;
+mod shows;
+mod spelling;
+mod values;
+mod worlds;
+
+pub use faults::faults_of;
+pub use finding::{Detail, Finding, Findings, MOST_TOLD};
+pub use kinds::{FileKind, kind_of};
+pub use refusal::Refusal;
+pub use report::{ReportFault, write_report, write_unread};

@@ -1,0 +1,109 @@
+//! What is printed of a file.
+
+use crate::finding::{Finding, Findings};
+use crate::kinds::FileKind;
+use crate::spelling::{push_name, push_shown};
+use std::alloc::{AllocError, Global};
+use std::fmt::Write as _;
+use std::io::Write;
+use thiserror::Error;
+
+/// Why what is wrong with a file can't be printed.
+#[derive(Clone, Copy, Debug, PartialEq, Eq, Error)]
+pub enum ReportFault {
+    #[error("out of memory")]
+    OutOfMemory,
+    #[error("the output failed")]
+    WriteFailed,
+}
+
+impl From<AllocError> for ReportFault {
+    fn from(_error: AllocError) -> ReportFault {
+        ReportFault::OutOfMemory
+    }
+}
+
+fn kind_name(kind: FileKind) -> &'static str {
+    match kind {
+        FileKind::Show => "a show",
+        FileKind::Setup => "a setup",
+        FileKind::World => "a world",
+        FileKind::Script => "a script",
+        FileKind::Schedule => "a schedule",
+    }
+}
+
+/// A line's end, and the line written.
+fn end_line<W: Write>(mut line: String, out: &mut W) -> Result<(), ReportFault> {
+    line.push('\n')?;
+    match out.write_all(line.as_bytes()) {
+        Ok(()) => Ok(()),
+        Err(_) => Err(ReportFault::WriteFailed),
+    }
+}
+
+fn push_part(line: &mut String, part: &str) -> Result<(), AllocError> {
+    if part.is_empty() {
+        return Ok(());
+    }
+    line.push_str(part)?;
+    line.push_str(": ")
+}
+
+/// The line of a fault.
+fn line_of(alloc: Global, file: &str, finding: &Finding) -> Result<String, AllocError> {
+    let mut line = String::new(alloc);
+    push_shown(&mut line, file)?;
+    line.push_str(": ")?;
+    push_part(&mut line, finding.place.as_str())?;
+    push_part(&mut line, finding.found.as_str())?;
+    push_name(&mut line, finding.refusal, finding.detail)?;
+    line.push_str(": ")?;
+    line.push_str(finding.wanted.as_str())?;
+    Ok(line)
+}
+
+/// A line for each fault, or one that says that the file is right.
+pub fn write_report<W: Write>(
+    alloc: Global,
+    file: &str,
+    kind: FileKind,
+    findings: &Findings,
+    out: &mut W,
+) -> Result<(), ReportFault> {
+    if findings.told.is_empty() {
+        return end_line(said_of(alloc, file, "right", kind_name(kind))?, out);
+    }
+    for finding in findings.told.as_slice() {
+        end_line(line_of(alloc, file, finding)?, out)?;
+    }
+    if findings.more > 0 {
+        end_line(more_of(alloc, file, findings.more)?, out)?;
+    }
+    Ok(())
+}
+
+fn said_of(alloc: Global, file: &str, name: &str, wanted: &str) -> Result<String, AllocError> {
+    let mut line = String::new(alloc);
+    push_shown(&mut line, file)?;
+    write!(line, ": {name}: {wanted}")?;
+    Ok(line)
+}
+
+fn more_of(alloc: Global, file: &str, more: usize) -> Result<String, AllocError> {
+    let mut line = String::new(alloc);
+    push_shown(&mut line, file)?;
+    write!(line, ": {more} more")?;
+    Ok(line)
+}
+
+/// The line of a file that is refused before its text is looked at.
+pub fn write_unread<W: Write>(
+    alloc: Global,
+    file: &str,
+    name: &str,
+    wanted: &str,
+    out: &mut W,
+) -> Result<(), ReportFault> {
+    end_line(said_of(alloc, file, name, wanted)?, out)
+}
