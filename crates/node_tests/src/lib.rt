@@ -1,10 +1,12 @@
-//! Tests of the source table, of setups and of the node, by their public calls.
+//! Tests of datagrams, of the source table, of setups and of the node, by their public calls.
 #![tactic(auto)]
 
 #[cfg(test)]
 mod node;
 #[cfg(test)]
-mod plain_node;
+mod packets;
+#[cfg(test)]
+mod sent;
 #[cfg(test)]
 mod setups;
 #[cfg(test)]

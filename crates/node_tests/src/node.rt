@@ -1,185 +1,195 @@
 //! The worked rows of the node.
-
-use sacn_framing::{DataFields, write_data};
-use sacn_node::*;
-use sacn_sources::{HeldView, Kind, TableFault, Taken};
-use std::alloc::Global;
-use std::process::Abort;
-use std::test::Fail;
-
 mod compared;
 mod octets;
-mod wakes;
+mod plain_node;
+mod stories;
 
-/// The most slots of a universe.
-const MAX_SLOTS: usize = 512;
-
-/// The greatest priority of a data packet, and the greatest universe.
-const MAX_PRIORITY: u8 = 200;
-
-const MOST_UNIVERSE: u16 = 63999;
-
-/// One port that shows universe 1.
-const ONE_PORT: &str = "version = 1\n[[port]]\nnumber = 1\nuniverse = 1\n";
-
-/// Two ports that show the same universe.
-const SAME_UNIVERSE: &str =
-    "version = 1\n[[port]]\nnumber = 1\nuniverse = 1\n[[port]]\nnumber = 2\nuniverse = 1\n";
-
-/// A port with two ranges, of two universes.
-const TWO_RANGES: &str =
-    "version = 2\n[[port]]\nnumber = 1\n[[port.range]]\nuniverse = 1\nslot = 1\ncount = 3\nport_slot = 1\n[[port.range]]\nuniverse = 2\nslot = 5\ncount = 2\nport_slot = 511\n";
+use crate::sent::{MAX_SLOTS, Numbers, Sent, cid_of, live, write_sent};
+use sacn_node::*;
+use sacn_sources::{HeldView, Kind, Taken};
+use std::alloc::Global;
+use std::test::*;
+use stories::STORIES;
 
 /// Three ports over two universes.
 const THREE_PORTS: &str =
     "version = 2\nport = [{number = 5, range = [{universe = 9, slot = 1, count = 512, port_slot = 1}]}, {number = 1, range = [{universe = 9, slot = 2, count = 3, port_slot = 1}, {universe = 4, slot = 1, count = 2, port_slot = 10}, {universe = 9, slot = 1, count = 2, port_slot = 511}]}, {number = 200, range = [{universe = 4, slot = 1, count = 4, port_slot = 100}]}]\n";
 
-/// A packet of a source, whose CID repeats four octets.
-#[derive(Clone, Copy)]
-struct Sent<'a> {
-    cid: u32,
-    universe: u16,
-    number: u8,
-    kind: Kind,
-    priority: u8,
-    slots: &'a [u8],
+/// What happens at a node, and what is then so.
+#[derive(Drop)]
+enum Step<'a> {
+    /// A live packet of a source on universe 1 comes at a moment with this number and these slots, and is answered so.
+    Live(u64, u32, u8, &'a [u8], Taken),
+    /// One of source 1 on another universe.
+    On(u16, u64, u8, &'a [u8], NodeTaken),
+    /// A packet of another kind comes on universe 1.
+    Other(Kind, u64, u32, u8, Taken),
+    /// Each source from a first to a last one sends one slot, its own number modulo 256, at a moment.
+    Each(u32, u32, u64, u8, Taken),
+    /// No octets come at a moment.
+    Silence(u64, NodeTaken),
+    /// The port shows these levels from its first slot on, and then 0.
+    Shows(u64, u8, &'a [u8]),
+    /// The port shows these levels from its first slot on, those up to its last one, and 0 between them.
+    ShowsEnds(u64, u8, &'a [u8], &'a [u8]),
+    /// There is no such port, and the frame stays as it was.
+    NoPort(u64, u8),
+    /// So many sources are lost.
+    Ticks(u64, usize),
+    Moment(u64),
+    Wakes(Option<u64>),
+    Ports(&'a [u8]),
+    /// A source is held live on universe 1 with this number, moment and slots.
+    Holds(u32, u8, u64, &'a [u8]),
+    /// Each source from a first to a last one is held with number 0 and moment 0, as it was sent.
+    HoldsEach(u32, u32),
+    Unknown(u16, u32),
 }
 
-fn live(cid: u32, number: u8, slots: &[u8]) -> Sent<'_> {
-    Sent {
-        cid,
-        universe: 1,
-        number,
-        kind: Kind::Live,
-        priority: 100,
-        slots,
-    }
-}
-
-fn of_kind(kind: Kind, cid: u32, number: u8) -> Sent<'static> {
-    Sent {
-        cid,
-        universe: 1,
-        number,
-        kind,
-        priority: 100,
-        slots: &[],
-    }
-}
-
-fn cid_of(cid: u32) -> [u8; 16] {
-    let part = cid.to_be_bytes();
-    let mut all = [0; 16];
-    for i in 0..16 {
-        all[i] = part[i % 4];
-    }
-    all
-}
-
-/// What the node answers to the packet, written as octets. None where the packet can't be written.
-fn give(node: &mut NodeCore, now: u64, sent: Sent<'_>) -> Option<NodeTaken> {
-    if sent.priority > MAX_PRIORITY || sent.slots.len() > MAX_SLOTS {
-        return None;
-    }
-    if sent.universe < 1 || sent.universe > MOST_UNIVERSE {
-        return None;
-    }
-    let fields = DataFields {
-        cid: cid_of(sent.cid),
-        name: [0; 64],
-        priority: sent.priority,
-        number: sent.number,
-        preview: matches!(sent.kind, Kind::Preview),
-        terminated: matches!(sent.kind, Kind::Termination),
-        universe: sent.universe,
-        start: if matches!(sent.kind, Kind::Other) {
-            0xdd
-        } else {
-            0
-        },
-        slots: sent.slots,
-    };
+fn give(node: &mut NodeCore, now: u64, sent: &Sent<'_>) -> NodeTaken {
     let mut octets = [0; 638];
-    let len = write_data(&fields, &mut octets);
-    Some(node.take(now, &octets[..len]))
+    let len = write_sent(sent, &mut octets);
+    node.take(now, &octets[..len])
+}
+
+fn gives(node: &mut NodeCore, now: u64, sent: &Sent<'_>, taken: Taken) -> bool {
+    give(node, now, sent) == NodeTaken::FromTable(taken)
+}
+
+/// Whether the port shows these levels, those up to its last slot, and 0 between them.
+fn shows(node: &mut NodeCore, now: u64, port: u8, first: &[u8], last: &[u8]) -> bool {
+    let mut frame = [7; 513];
+    let is_shown = node.frame(now, port, &mut frame) == Ok(());
+    let dark = frame.iter().filter(|level| **level == 0).count();
+    let lit = first.iter().chain(last).filter(|level| **level > 0).count();
+    is_shown
+        && frame[0] == 0
+        && frame[1..].starts_with(first)
+        && frame.ends_with(last)
+        && dark.saturating_add(lit) == 513
+}
+
+fn has_no_port(node: &mut NodeCore, now: u64, port: u8) -> bool {
+    let mut frame = [7; 513];
+    node.frame(now, port, &mut frame) == Err(NoPort) && frame == [7; 513]
+}
+
+fn has_slots(held: &HeldView<'_>, slots: &[u8]) -> bool {
+    match held.levels() {
+        Some(levels) => {
+            for at in 0..slots.len().min(MAX_SLOTS) {
+                if levels.at(at) != slots[at] {
+                    return false;
+                }
+            }
+            levels.given() == slots.len()
+        }
+        None => false,
+    }
+}
+
+fn holds(node: &NodeCore, cid: u32, number: u8, moment: u64, slots: &[u8]) -> bool {
+    match node.held(1, &cid_of(cid)) {
+        Some(held) => {
+            !held.ended()
+                && (held.number(), held.moment()) == (number, moment)
+                && has_slots(&held, slots)
+        }
+        None => false,
+    }
+}
+
+fn each_gives(
+    node: &mut NodeCore,
+    sources: (u32, u32),
+    now: u64,
+    number: u8,
+    taken: Taken,
+) -> bool {
+    for cid in sources.0..=sources.1 {
+        if !gives(node, now, &live(cid, number, &[(cid & 255) as u8]), taken) {
+            return false;
+        }
+    }
+    true
+}
+
+fn holds_each(node: &NodeCore, first: u32, last: u32) -> bool {
+    for cid in first..=last {
+        if !holds(node, cid, 0, 0, &[(cid & 255) as u8]) {
+            return false;
+        }
+    }
+    true
+}
+
+/// Whether what comes is answered so. True of a step that says what is then so.
+fn comes(node: &mut NodeCore, step: &Step<'_>) -> bool {
+    match step {
+        Step::Live(now, cid, number, slots, taken) => {
+            gives(node, *now, &live(*cid, *number, slots), *taken)
+        }
+        Step::On(universe, now, number, slots, taken) => {
+            let mut sent = live(1, *number, slots);
+            sent.universe = *universe;
+            give(node, *now, &sent) == *taken
+        }
+        Step::Other(kind, now, cid, number, taken) => {
+            let mut sent = live(*cid, *number, &[]);
+            sent.kind = *kind;
+            gives(node, *now, &sent, *taken)
+        }
+        Step::Each(first, last, now, number, taken) => {
+            each_gives(node, (*first, *last), *now, *number, *taken)
+        }
+        Step::Silence(now, taken) => node.take(*now, &[]) == *taken,
+        _ => true,
+    }
+}
+
+fn is_so(node: &mut NodeCore, step: &Step<'_>) -> bool {
+    match step {
+        Step::Shows(now, port, slots) => shows(node, *now, *port, slots, &[]),
+        Step::ShowsEnds(now, port, first, last) => shows(node, *now, *port, first, last),
+        Step::NoPort(now, port) => has_no_port(node, *now, *port),
+        Step::Ticks(now, count) => node.tick(*now) == *count,
+        Step::Moment(moment) => node.moment() == *moment,
+        Step::Wakes(wakes) => node.wakes() == *wakes,
+        Step::Ports(numbers) => node.port_numbers() == *numbers,
+        Step::Holds(cid, number, moment, slots) => holds(node, *cid, *number, *moment, slots),
+        Step::HoldsEach(first, last) => holds_each(node, *first, *last),
+        Step::Unknown(universe, cid) => node.held(*universe, &cid_of(*cid)).is_none(),
+        _ => comes(node, step),
+    }
 }
 
 /// A node of the setup that a text has.
 fn node_of(alloc: Global, text: &str) -> Result<NodeCore, Fail> {
-    let setup = read_node(alloc, text).ok().ok_or("refused")?;
-    let node = NodeCore::new(alloc, &setup).ok().ok_or("no room")?;
-    Ok(node)
+    let setup = read_node(alloc, text)?;
+    Ok(NodeCore::new(alloc, &setup)?)
 }
 
-/// The packets of universe 1 are answered so, in order.
-fn gives(rt: &impl Abort, node: &mut NodeCore, packets: &[(u64, Sent<'_>, Taken)]) {
-    for (now, sent, taken) in packets {
-        assert_eq!(rt;
-            give(node, *now, *sent),
-            Some(NodeTaken::FromTable(*taken)),
-            "source {}, number {} at {now}",
-            sent.cid,
-            sent.number
-        );
-    }
-}
-
-/// The port shows these levels from its first slot on, and 0 in the others.
-fn shows(rt: &impl Abort, node: &mut NodeCore, now: u64, port: u8, wanted: &[u8]) {
-    let mut frame = [7; 513];
-    assert_eq!(rt; node.frame(now, port, &mut frame), Ok(()));
-    assert_eq!(rt; frame[0], 0);
-    for (at, level) in frame[1..].iter().enumerate() {
-        assert_eq!(rt;
-            *level,
-            wanted.get(at).copied().unwrap_or(0),
-            "slot {at} of port {port} at {now}"
-        );
-    }
-}
-
-/// The source is held on universe 1, with this number and moment; live with these levels, or ended.
-fn holds(
-    rt: &impl Abort,
-    node: &NodeCore,
-    cid: u32,
-    number: u8,
-    moment: u64,
-    levels: Option<&[u8]>,
-) {
-    let held = node.held(1, &cid_of(cid));
-    assert!(rt; held.is_some(), "source {cid}");
-    if let Some(held) = held {
-        assert_eq!(rt;
-            (held.number(), held.moment()),
-            (number, moment),
-            "source {cid}"
-        );
-        assert_eq!(rt; held.ended(), levels.is_none(), "source {cid}");
-        has_levels(rt, &held, levels.unwrap_or(&[]));
-    }
-}
-
-fn has_levels(rt: &impl Abort, held: &HeldView<'_>, wanted: &[u8]) {
-    if let Some(levels) = held.levels() {
-        assert_eq!(rt; levels.given(), wanted.len());
-        for (at, level) in wanted.iter().enumerate() {
-            if at < MAX_SLOTS {
-                assert_eq!(rt; levels.at(at), *level, "slot {at}");
-            }
+/// The place of the first step that isn't so at a node of this setup.
+fn wrong_step(alloc: Global, setup: &str, steps: &[Step<'_>]) -> Result<Option<usize>, Fail> {
+    let mut node = node_of(alloc, setup)?;
+    for place in 0..steps.len() {
+        if !is_so(&mut node, &steps[place]) {
+            return Ok(Some(place));
         }
     }
+    Ok(None)
 }
 
 #[test]
-fn lost_after_two_and_a_half_seconds(rt: HostRuntime) -> Result<(), Fail> {
-    let mut node = node_of(rt.alloc(), ONE_PORT)?;
-    gives(&rt, &mut node, &[(1000, live(1, 0, &[3]), Taken::Held)]);
-    shows(&rt, &mut node, 3499, 1, &[3]);
-    shows(&rt, &mut node, 900, 1, &[3]);
-    assert_eq!(rt; node.moment(), 3499);
-    shows(&rt, &mut node, 3500, 1, &[]);
-    assert_eq!(rt; node.tick(3500), 0);
+fn stories_of_a_node(rt: HostRuntime) -> Result<(), Fail> {
+    for story in &STORIES {
+        assert_eq!(rt;
+            wrong_step(rt.alloc(), story.1, story.2)?,
+            None,
+            "{}",
+            story.0
+        );
+    }
     Ok(())
 }
 
@@ -190,199 +200,12 @@ fn all_slots_of_a_first_packet(rt: HostRuntime) -> Result<(), Fail> {
     for (at, level) in slots.iter_mut().enumerate() {
         *level = (at % 251) as u8;
     }
-    let mut node = node_of(rt.alloc(), ONE_PORT)?;
-    gives(&rt, &mut node, &[(0, live(1, 0, &slots), Taken::Held)]);
-    shows(&rt, &mut node, 0, 1, &slots);
-    holds(&rt, &node, 1, 0, 0, Some(&slots));
-    Ok(())
-}
-
-#[test]
-fn tick_counts_once(rt: HostRuntime) -> Result<(), Fail> {
-    let mut node = node_of(rt.alloc(), ONE_PORT)?;
-    gives(&rt, &mut node, &[(1000, live(1, 0, &[3]), Taken::Held)]);
-    assert_eq!(rt; node.tick(3500), 1);
-    assert_eq!(rt; node.tick(3500), 0);
-    shows(&rt, &mut node, 3500, 1, &[]);
-    assert!(rt; node.held(1, &cid_of(1)).is_none());
-    Ok(())
-}
-
-/// A node of universe 1 that holds sources 1 to 16, all of them live, each with its number as its only level.
-fn full_node(rt: &impl Abort, alloc: Global) -> Result<NodeCore, Fail> {
-    let mut node = node_of(alloc, ONE_PORT)?;
-    for cid in 1..17 {
-        gives(
-            rt,
-            &mut node,
-            &[(0, live(cid, 0, &[cid as u8]), Taken::Held)],
-        );
-    }
-    Ok(node)
-}
-
-#[test]
-fn one_of_sixteen_is_lost(rt: HostRuntime) -> Result<(), Fail> {
-    let mut node = full_node(&rt, rt.alloc())?;
-    gives(
-        &rt,
-        &mut node,
-        &[(0, live(17, 0, &[99]), Taken::SourcesExceeded)],
-    );
-    for cid in 2..17 {
-        gives(&rt, &mut node, &[(2000, live(cid, 1, &[9]), Taken::Held)]);
-    }
-    gives(&rt, &mut node, &[(2500, live(17, 1, &[99]), Taken::Held)]);
-    Ok(())
-}
-
-#[test]
-fn ended_source_keeps_its_place(rt: HostRuntime) -> Result<(), Fail> {
-    let mut node = full_node(&rt, rt.alloc())?;
-    gives(
-        &rt,
-        &mut node,
-        &[(100, of_kind(Kind::Termination, 1, 1), Taken::EndedNow)],
-    );
-    for cid in 2..17 {
-        gives(&rt, &mut node, &[(2000, live(cid, 1, &[9]), Taken::Held)]);
-    }
-    gives(
-        &rt,
-        &mut node,
-        &[
-            (2599, live(17, 0, &[99]), Taken::SourcesExceeded),
-            (2600, live(17, 1, &[99]), Taken::Held),
-        ],
-    );
-    Ok(())
-}
-
-#[test]
-fn previews_renew_nothing(rt: HostRuntime) -> Result<(), Fail> {
-    let mut node = node_of(rt.alloc(), ONE_PORT)?;
-    gives(
-        &rt,
-        &mut node,
-        &[
-            (0, of_kind(Kind::Preview, 1, 0), Taken::UnknownIgnored),
-            (0, live(1, 1, &[8]), Taken::Held),
-            (2000, of_kind(Kind::Preview, 1, 2), Taken::Observed),
-        ],
-    );
-    shows(&rt, &mut node, 2000, 1, &[8]);
-    holds(&rt, &node, 1, 2, 0, Some(&[8]));
-    shows(&rt, &mut node, 2500, 1, &[]);
-    Ok(())
-}
-
-#[test]
-fn other_ports_and_universes(rt: HostRuntime) -> Result<(), Fail> {
-    let mut node = node_of(rt.alloc(), ONE_PORT)?;
-    let mut frame = [7; 513];
-    gives(&rt, &mut node, &[(0, live(1, 0, &[5]), Taken::Held)]);
-    assert_eq!(rt; node.frame(10, 2, &mut frame), Err(NoPort));
-    assert!(rt; frame.iter().all(|octet| *octet == 7));
-    let elsewhere = Sent {
-        universe: 7,
-        ..live(1, 1, &[6])
-    };
-    assert_eq!(rt;
-        give(&mut node, 20, elsewhere),
-        Some(NodeTaken::OtherUniverse)
-    );
-    assert_eq!(rt; node.moment(), 20);
-    assert!(rt; node.held(7, &cid_of(1)).is_none());
-    shows(&rt, &mut node, 20, 1, &[5]);
-    Ok(())
-}
-
-#[test]
-fn no_port_expires_all_the_same(rt: HostRuntime) -> Result<(), Fail> {
-    let mut node = node_of(rt.alloc(), ONE_PORT)?;
-    let mut frame = [7; 513];
-    gives(&rt, &mut node, &[(0, live(1, 0, &[5]), Taken::Held)]);
-    assert_eq!(rt; node.frame(2500, 2, &mut frame), Err(NoPort));
-    assert_eq!(rt; node.moment(), 2500);
-    assert!(rt; node.held(1, &cid_of(1)).is_none());
-    Ok(())
-}
-
-#[test]
-fn two_ports_of_one_universe(rt: HostRuntime) -> Result<(), Fail> {
-    let mut node = node_of(rt.alloc(), SAME_UNIVERSE)?;
-    assert_eq!(rt; node.port_numbers(), [1, 2].as_slice());
-    gives(&rt, &mut node, &[(0, live(1, 0, &[3]), Taken::Held)]);
-    shows(&rt, &mut node, 0, 1, &[3]);
-    shows(&rt, &mut node, 0, 2, &[3]);
-    assert_eq!(rt; node.tick(2500), 1);
-    Ok(())
-}
-
-#[test]
-fn ranges_of_two_universes(rt: HostRuntime) -> Result<(), Fail> {
-    let mut node = node_of(rt.alloc(), TWO_RANGES)?;
-    gives(
-        &rt,
-        &mut node,
-        &[(0, live(1, 0, &[1, 2, 3, 4]), Taken::Held)],
-    );
-    let second = Sent {
-        universe: 2,
-        ..live(1, 0, &[9, 9, 9, 9, 50, 60])
-    };
-    assert_eq!(rt;
-        give(&mut node, 0, second),
-        Some(NodeTaken::FromTable(Taken::Held))
-    );
-    let mut frame = [7; 513];
-    assert_eq!(rt; node.frame(0, 1, &mut frame), Ok(()));
-    assert_eq!(rt; (frame[0], frame[1], frame[2], frame[3]), (0, 1, 2, 3));
-    assert_eq!(rt; (frame[511], frame[512]), (50, 60));
-    assert!(rt; frame[4..511].iter().all(|level| *level == 0));
-    Ok(())
-}
-
-/// A generator of fixed numbers.
-#[derive(Drop)]
-struct Numbers {
-    state: u64,
-}
-
-impl Numbers {
-    fn next(&mut self) -> u64 {
-        self.state = self
-            .state
-            .wrapping_mul(6364136223846793005)
-            .wrapping_add(1442695040888963407);
-        self.state >> 33
-    }
-
-    /// A number below 256, from 0 to the one given.
-    fn octet(&mut self, below: u8) -> u8 {
-        if below == 0 {
-            return 0;
-        }
-        (self.next() % below as u64) as u8
-    }
-}
-
-/// A node of this setup. Where a request for memory is refused, the node is made at the next call.
-fn made_at_last(alloc: Global, setup: &NodeSetup) -> Result<NodeCore, TableFault> {
-    match NodeCore::new(alloc, setup) {
-        Err(TableFault::OutOfMemory) => NodeCore::new(alloc, setup),
-        made => made,
-    }
-}
-
-#[test]
-fn memory_refused_to_a_new_node(rt: HostRuntime) -> Result<(), Fail> {
-    let alloc = rt.alloc();
-    let setup = match read_node(alloc, THREE_PORTS) {
-        Err(SetupFault::OutOfMemory) => read_node(alloc, THREE_PORTS)?,
-        read => read?,
-    };
-    let node = made_at_last(alloc, &setup)?;
-    assert_eq!(rt; node.port_numbers(), [1, 5, 200].as_slice());
+    let steps = [
+        Step::Live(0, 1, 0, &slots, Taken::Held),
+        Step::Shows(0, 1, &slots),
+        Step::Holds(1, 0, 0, &slots),
+    ];
+    let wrong = wrong_step(rt.alloc(), fixtures::texts::ONE_PORT, &steps)?;
+    assert_eq!(rt; wrong, None);
     Ok(())
 }

@@ -1,12 +1,13 @@
-//! Setups of files: worked rows, each fault, and calls with memory refused.
-use sacn_node::{NodeSetup, SetupFault, read_node, setup_of};
-use std::alloc::Global;
-use std::test::Fail;
+//! What is read of setups, how they are refused, and the numbers of faults.
+use fixtures::texts::ONE_PORT;
+use sacn_discovery::DiscoveryFault;
+use sacn_node::{NodeSetup, SetupFault, SlotRange, read_node, setup_of};
+use sacn_root::PacketFault;
+use sacn_sources::TableFault;
+use std::alloc::{AllocError, Global};
+use std::test::*;
 
-/// A setup of one port that shows universe 1.
-const ONE_PORT: &str = "version = 1\n[[port]]\nnumber = 1\nuniverse = 1\n";
-
-/// Its spelling in version 2.
+/// The setup of one port in version 2.
 const ONE_PORT_BY_RANGE: &str =
     "version = 2\n[[port]]\nnumber = 1\n[[port.range]]\nuniverse = 1\nslot = 1\ncount = 512\nport_slot = 1\n";
 
@@ -14,6 +15,202 @@ const ONE_PORT_BY_RANGE: &str =
 const TWO_PORTS: &str =
     "version = 1\nudp_port = 6000\n[[port]]\nnumber = 9\nuniverse = 3\n[[port]]\nnumber = 2\nuniverse = 1\n";
 
+/// All slots of universe 1, and of universe 3.
+const WHOLE: [SlotRange; 1] = [SlotRange {
+    universe: 1,
+    slot: 1,
+    count: 512,
+    port_slot: 1,
+}];
+
+const THIRD: [SlotRange; 1] = [SlotRange {
+    universe: 3,
+    slot: 1,
+    count: 512,
+    port_slot: 1,
+}];
+
+/// A text, its UDP port, and its ports by number, each with its ranges.
+type Row = (&'static str, u16, &'static [(u8, &'static [SlotRange])]);
+
+const ROWS: [Row; 3] = [
+    (ONE_PORT, 5568, &[(1, &WHOLE)]),
+    (ONE_PORT_BY_RANGE, 5568, &[(1, &WHOLE)]),
+    (TWO_PORTS, 6000, &[(2, &WHOLE), (9, &THIRD)]),
+];
+
+fn says(setup: &NodeSetup, row: &Row) -> bool {
+    let ports = setup.ports();
+    if setup.udp_port() != row.1 || ports.len() != row.2.len() {
+        return false;
+    }
+    for i in 0..ports.len() {
+        if ports[i].number() != row.2[i].0 || ports[i].ranges() != row.2[i].1 {
+            return false;
+        }
+    }
+    true
+}
+
+#[test]
+fn setups_are_read(rt: HostRuntime) -> Result<(), Fail> {
+    for row in &ROWS {
+        // A larger file has a setup as a table of its own.
+        let table = toml::table_from_str(rt.alloc(), row.0)
+            .ok()
+            .ok_or("no table")?;
+        let inner = setup_of(rt.alloc(), &table)?;
+        let setup = read_node(rt.alloc(), row.0)?;
+        assert!(rt; says(&setup, row) && says(&inner, row), "{}", row.0);
+    }
+    Ok(())
+}
+
+/// Texts, and how they are refused; none where they are read.
+const FAULTS: [(&str, Option<SetupFault>); 47] = [
+    (
+        "version = 2\n[[port]]\nnumber = 1\nrange = []\n",
+        Some(SetupFault::KeyValue),
+    ),
+    ("version = ", Some(SetupFault::Toml)),
+    ("", Some(SetupFault::MissingKey)),
+    ("colour = 1\n", Some(SetupFault::MissingKey)),
+    ("version = 3\ncolour = 1\n", Some(SetupFault::Version)),
+    ("version = 0\n", Some(SetupFault::Version)),
+    ("version = -1\n", Some(SetupFault::Version)),
+    ("version = 9223372036854775807\n", Some(SetupFault::Version)),
+    ("version = true\ncolour = 1\n", Some(SetupFault::KeyValue)),
+    ("version = 1.0\n", Some(SetupFault::KeyValue)),
+    ("version = \"1\"\n", Some(SetupFault::KeyValue)),
+    (
+        "version = 1\ncolour = 1\n[[port]]\nnumber = 1\nuniverse = 0\n",
+        Some(SetupFault::UnknownKey),
+    ),
+    (
+        "version = 1\nport = [{number = 1, colour = 1}]\n",
+        Some(SetupFault::UnknownKey),
+    ),
+    (
+        "version = 2\nport = [{number = 1, universe = 1}]\n",
+        Some(SetupFault::UnknownKey),
+    ),
+    (
+        "version = 1\nport = [{number = 1, range = []}]\n",
+        Some(SetupFault::UnknownKey),
+    ),
+    (
+        "version = 2\nport = [{number = 0, range = [{colour = 1}]}]\n",
+        Some(SetupFault::UnknownKey),
+    ),
+    (
+        "version = 1\nudp_port = 0\nport = [{number = 1}]\n",
+        Some(SetupFault::MissingKey),
+    ),
+    (
+        "version = 1\nport = [{universe = 1}]\n",
+        Some(SetupFault::MissingKey),
+    ),
+    (
+        "version = 2\nport = [{number = 1}]\n",
+        Some(SetupFault::MissingKey),
+    ),
+    (
+        "version = 2\nport = [{range = []}]\n",
+        Some(SetupFault::MissingKey),
+    ),
+    (
+        "version = 2\nport = [{number = 1, range = [{universe = 1, slot = 1, count = 1}]}]\n",
+        Some(SetupFault::MissingKey),
+    ),
+    ("version = 1\nudp_port = 0\n", Some(SetupFault::KeyValue)),
+    (
+        "version = 1\nudp_port = 65536\n",
+        Some(SetupFault::KeyValue),
+    ),
+    ("version = 1\nudp_port = true\n", Some(SetupFault::KeyValue)),
+    ("version = 1\nport = 1\n", Some(SetupFault::KeyValue)),
+    (
+        "version = 1\nport = [{number = 0, universe = 1}]\n",
+        Some(SetupFault::KeyValue),
+    ),
+    (
+        "version = 1\nport = [{number = 256, universe = 1}]\n",
+        Some(SetupFault::KeyValue),
+    ),
+    (
+        "version = 1\nport = [{number = 1, universe = 0}]\n",
+        Some(SetupFault::KeyValue),
+    ),
+    (
+        "version = 1\nport = [{number = 1, universe = 64000}]\n",
+        Some(SetupFault::KeyValue),
+    ),
+    (
+        "version = 1\nport = [{colour = 1}, 3]\n",
+        Some(SetupFault::KeyValue),
+    ),
+    (
+        "version = 2\nport = [{number = 1, range = 1}]\n",
+        Some(SetupFault::KeyValue),
+    ),
+    (
+        "version = 2\nport = [{number = 1, range = [{colour = 1}, 3]}]\n",
+        Some(SetupFault::KeyValue),
+    ),
+    (
+        "version = 2\nport = [{number = 1, range = [{universe = 0, slot = 1, count = 1, port_slot = 1}]}]\n",
+        Some(SetupFault::KeyValue),
+    ),
+    (
+        "version = 2\nport = [{number = 1, range = [{universe = 1, slot = 0, count = 1, port_slot = 1}]}]\n",
+        Some(SetupFault::KeyValue),
+    ),
+    (
+        "version = 2\nport = [{number = 1, range = [{universe = 1, slot = 513, count = 1, port_slot = 1}]}]\n",
+        Some(SetupFault::KeyValue),
+    ),
+    (
+        "version = 2\nport = [{number = 1, range = [{universe = 1, slot = 1, count = 0, port_slot = 1}]}]\n",
+        Some(SetupFault::KeyValue),
+    ),
+    (
+        "version = 2\nport = [{number = 1, range = [{universe = 1, slot = 1, count = 1, port_slot = 0}]}]\n",
+        Some(SetupFault::KeyValue),
+    ),
+    (
+        "version = 2\nport = [{number = 1, range = [{universe = 1, slot = 511, count = 3, port_slot = 1}]}]\n",
+        Some(SetupFault::RangeEnd),
+    ),
+    (
+        "version = 2\nport = [{number = 1, range = [{universe = 1, slot = 1, count = 3, port_slot = 511}]}]\n",
+        Some(SetupFault::RangeEnd),
+    ),
+    (
+        "version = 2\nport = [{number = 1, range = [{universe = 1, slot = 1, count = 3, port_slot = 1}, {universe = 1, slot = 1, count = 2, port_slot = 3}]}, {number = 2, range = [{universe = 1, slot = 511, count = 3, port_slot = 1}]}]\n",
+        Some(SetupFault::RangeEnd),
+    ),
+    (
+        "version = 2\nport = [{number = 1, range = [{universe = 1, slot = 1, count = 3, port_slot = 1}, {universe = 1, slot = 1, count = 2, port_slot = 3}]}]\n",
+        Some(SetupFault::Overlap),
+    ),
+    (
+        "version = 2\nport = [{number = 1, range = [{universe = 1, slot = 510, count = 3, port_slot = 510}]}]\n",
+        None,
+    ),
+    (
+        "version = 2\nport = [{number = 1, range = [{universe = 1, slot = 1, count = 3, port_slot = 1}, {universe = 1, slot = 1, count = 3, port_slot = 4}]}]\n",
+        None,
+    ),
+    (
+        "version = 1\nport = [{number = 1, universe = 1}, {number = 2, universe = 1}, {number = 1, universe = 2}]\n",
+        Some(SetupFault::PortTaken),
+    ),
+    ("version = 1\n", None),
+    ("version = 1\nport = []\n", None),
+    ("version = 2\nport = []\n", None),
+];
+
+/// The fault of a text. None where it is read.
 fn fault(alloc: Global, text: &str) -> Option<SetupFault> {
     match read_node(alloc, text) {
         Ok(_) => None,
@@ -21,358 +218,103 @@ fn fault(alloc: Global, text: &str) -> Option<SetupFault> {
     }
 }
 
-fn same_readers(one: &NodeSetup, two: &NodeSetup) -> bool {
-    if one.udp_port() != two.udp_port() || one.ports().len() != two.ports().len() {
-        return false;
+/// How many ports a setup of version 1 has, from number 1 on; whether each shows the next universe, or all the first; what
+/// follows; and the fault.
+const PORTS: [(usize, bool, &str, Option<SetupFault>); 5] = [
+    (5, true, "", None),
+    (16, true, "", None),
+    (17, true, "", Some(SetupFault::Limit)),
+    (17, false, "", Some(SetupFault::Limit)),
+    (
+        17,
+        true,
+        "[[port]]\nnumber = 17\nuniverse = 1\n",
+        Some(SetupFault::PortTaken),
+    ),
+];
+
+fn with_ports(alloc: Global, count: usize, ascend: bool, end: &str) -> Result<String, AllocError> {
+    let mut text = String::from_str(alloc, "version = 1\n")?;
+    for i in 1..=count {
+        let universe = if ascend { i } else { 1 };
+        let port = format!(in alloc; "[[port]]\nnumber = {i}\nuniverse = {universe}\n")?;
+        text.push_str(port.as_str())?;
     }
-    for i in 0..one.ports().len() {
-        let (left, right) = (&one.ports()[i], &two.ports()[i]);
-        if left.number() != right.number() || left.ranges() != right.ranges() {
-            return false;
-        }
-    }
-    true
-}
-
-/// Whether each text is refused with this fault, or read where none is wanted.
-fn all_are(alloc: Global, texts: &[&str], wanted: Option<SetupFault>) -> bool {
-    texts.iter().all(|text| fault(alloc, text) == wanted)
-}
-
-#[test]
-fn one_port_shows_its_universe(rt: HostRuntime) -> Result<(), Fail> {
-    let setup = read_node(rt.alloc(), ONE_PORT).ok().ok_or("refused")?;
-    assert_eq!(rt; setup.udp_port(), 5568);
-    assert_eq!(rt; setup.ports().len(), 1);
-    assert_eq!(rt; setup.ports()[0].number(), 1);
-    let ranges = setup.ports()[0].ranges();
-    assert_eq!(rt; ranges.len(), 1);
-    assert_eq!(rt; (ranges[0].universe, ranges[0].slot), (1, 1));
-    assert_eq!(rt; (ranges[0].count, ranges[0].port_slot), (512, 1));
-    Ok(())
-}
-
-#[test]
-fn ports_ascend(rt: HostRuntime) -> Result<(), Fail> {
-    let setup = read_node(rt.alloc(), TWO_PORTS).ok().ok_or("refused")?;
-    assert_eq!(rt; setup.udp_port(), 6000);
-    assert_eq!(rt; setup.ports().len(), 2);
-    assert_eq!(rt; setup.ports()[0].number(), 2);
-    assert_eq!(rt; setup.ports()[1].number(), 9);
-    Ok(())
-}
-
-#[test]
-fn versions_agree(rt: HostRuntime) -> Result<(), Fail> {
-    let old = read_node(rt.alloc(), ONE_PORT).ok().ok_or("refused")?;
-    let new = read_node(rt.alloc(), ONE_PORT_BY_RANGE)
-        .ok()
-        .ok_or("refused")?;
-    assert!(rt; same_readers(&old, &new));
-    Ok(())
-}
-
-#[test]
-fn versions_and_text(rt: HostRuntime) {
-    let alloc = rt.alloc();
-    assert!(rt; all_are(alloc, &["version = "], Some(SetupFault::Toml)));
-    assert!(rt; all_are(alloc, &["", "colour = 1\n"], Some(SetupFault::MissingKey)));
-    assert!(rt;
-        all_are(
-            alloc,
-            &[
-                "version = 3\ncolour = 1\n",
-                "version = 0\n",
-                "version = -1\n",
-                "version = 9223372036854775807\n"
-            ],
-            Some(SetupFault::Version)
-        )
-    );
-    assert!(rt;
-        all_are(
-            alloc,
-            &[
-                "version = true\ncolour = 1\n",
-                "version = 1.0\n",
-                "version = \"1\"\n"
-            ],
-            Some(SetupFault::KeyValue)
-        )
-    );
-}
-
-#[test]
-fn unknown_keys(rt: HostRuntime) {
-    let texts = [
-        "version = 1\ncolour = 1\n[[port]]\nnumber = 1\nuniverse = 0\n",
-        "version = 1\nport = [{number = 1, colour = 1}]\n",
-        "version = 2\nport = [{number = 1, universe = 1}]\n",
-        "version = 1\nport = [{number = 1, range = []}]\n",
-        "version = 2\nport = [{number = 0, range = [{colour = 1}]}]\n",
-    ];
-    assert!(rt; all_are(rt.alloc(), &texts, Some(SetupFault::UnknownKey)));
-}
-
-#[test]
-fn missing_keys(rt: HostRuntime) {
-    let texts = [
-        "version = 1\nudp_port = 0\nport = [{number = 1}]\n",
-        "version = 1\nport = [{universe = 1}]\n",
-        "version = 2\nport = [{number = 1}]\n",
-        "version = 2\nport = [{range = []}]\n",
-        "version = 2\nport = [{number = 1, range = [{universe = 1, slot = 1, count = 1}]}]\n",
-    ];
-    assert!(rt; all_are(rt.alloc(), &texts, Some(SetupFault::MissingKey)));
-}
-
-#[test]
-fn wrong_values(rt: HostRuntime) {
-    let texts = [
-        "version = 1\nudp_port = 0\n",
-        "version = 1\nudp_port = 65536\n",
-        "version = 1\nudp_port = true\n",
-        "version = 1\nport = 1\n",
-        "version = 1\nport = [{number = 0, universe = 1}]\n",
-        "version = 1\nport = [{number = 256, universe = 1}]\n",
-        "version = 1\nport = [{number = 1, universe = 0}]\n",
-        "version = 1\nport = [{number = 1, universe = 64000}]\n",
-        "version = 1\nport = [{colour = 1}, 3]\n",
-    ];
-    assert!(rt; all_are(rt.alloc(), &texts, Some(SetupFault::KeyValue)));
-}
-
-/// One to nine ranges of one slot each, next to one another, in version 2.
-fn port_of_ranges(alloc: Global, count: usize) -> Result<String, Fail> {
-    let mut text = String::new(alloc);
-    text.push_str("version = 2\n[[port]]\nnumber = 1\n")?;
-    if count == 0 {
-        text.push_str("range = []\n")?;
-    }
-    for i in 0..count {
-        text.push_str(format!(in alloc;
-            "[[port.range]]\nuniverse = 1\nslot = 1\ncount = 1\nport_slot = {}\n",
-            i + 1
-        )?
-        .as_str())?;
-    }
+    text.push_str(end)?;
     Ok(text)
 }
 
-#[test]
-fn one_to_eight_ranges(rt: HostRuntime) -> Result<(), Fail> {
-    let alloc = rt.alloc();
-    for (count, wanted) in [
-        (0, Some(SetupFault::KeyValue)),
-        (1, None),
-        (8, None),
-        (9, Some(SetupFault::KeyValue)),
-    ] {
-        let text = port_of_ranges(alloc, count)?;
-        assert_eq!(rt; fault(alloc, text.as_str()), wanted, "at {count}");
-    }
-    Ok(())
-}
-
-#[test]
-fn range_values(rt: HostRuntime) {
-    let texts = [
-        "version = 2\nport = [{number = 1, range = 1}]\n",
-        "version = 2\nport = [{number = 1, range = [{colour = 1}, 3]}]\n",
-        "version = 2\nport = [{number = 1, range = [{universe = 0, slot = 1, count = 1, port_slot = 1}]}]\n",
-        "version = 2\nport = [{number = 1, range = [{universe = 1, slot = 0, count = 1, port_slot = 1}]}]\n",
-        "version = 2\nport = [{number = 1, range = [{universe = 1, slot = 513, count = 1, port_slot = 1}]}]\n",
-        "version = 2\nport = [{number = 1, range = [{universe = 1, slot = 1, count = 0, port_slot = 1}]}]\n",
-        "version = 2\nport = [{number = 1, range = [{universe = 1, slot = 1, count = 1, port_slot = 0}]}]\n",
-    ];
-    assert!(rt; all_are(rt.alloc(), &texts, Some(SetupFault::KeyValue)));
-}
-
-#[test]
-fn empty_arrays(rt: HostRuntime) {
-    assert!(rt;
-        all_are(
-            rt.alloc(),
-            &[
-                "version = 1\n",
-                "version = 1\nport = []\n",
-                "version = 2\nport = []\n"
-            ],
-            None
-        )
-    );
-}
-
-#[test]
-fn ends_and_overlaps(rt: HostRuntime) {
-    let alloc = rt.alloc();
-    let past = [
-        "version = 2\nport = [{number = 1, range = [{universe = 1, slot = 511, count = 3, port_slot = 1}]}]\n",
-        "version = 2\nport = [{number = 1, range = [{universe = 1, slot = 1, count = 3, port_slot = 511}]}]\n",
-        "version = 2\nport = [{number = 1, range = [{universe = 1, slot = 1, count = 3, port_slot = 1}, {universe = 1, slot = 1, count = 2, port_slot = 3}]}, {number = 2, range = [{universe = 1, slot = 511, count = 3, port_slot = 1}]}]\n",
-    ];
-    assert!(rt; all_are(alloc, &past, Some(SetupFault::RangeEnd)));
-    let over =
-        "version = 2\nport = [{number = 1, range = [{universe = 1, slot = 1, count = 3, port_slot = 1}, {universe = 1, slot = 1, count = 2, port_slot = 3}]}]\n";
-    assert!(rt; all_are(alloc, &[over], Some(SetupFault::Overlap)));
-    let read = [
-        "version = 2\nport = [{number = 1, range = [{universe = 1, slot = 510, count = 3, port_slot = 510}]}]\n",
-        "version = 2\nport = [{number = 1, range = [{universe = 1, slot = 1, count = 3, port_slot = 1}, {universe = 1, slot = 1, count = 3, port_slot = 4}]}]\n",
-    ];
-    assert!(rt; all_are(alloc, &read, None));
-}
-
-/// A setup of version 1 with this many ports from number 1 on, whose universes begin at 1 and step.
-fn setup_of_ports(alloc: Global, count: usize, step: usize) -> Result<String, Fail> {
-    let mut text = String::new(alloc);
-    text.push_str("version = 1\n")?;
-    for i in 0..count {
-        let universe = 1 + if step == 0 { 0 } else { i };
-        text.push_str(format!(in alloc;
-            "[[port]]\nnumber = {}\nuniverse = {universe}\n",
-            i + 1
-        )?.as_str())?;
-    }
-    Ok(text)
-}
-
-#[test]
-fn limits_of_ports(rt: HostRuntime) -> Result<(), Fail> {
-    let alloc = rt.alloc();
-    for (count, wanted) in [(5, None), (16, None), (17, Some(SetupFault::Limit))] {
-        let text = setup_of_ports(alloc, count, 1)?;
-        assert_eq!(rt; fault(alloc, text.as_str()), wanted, "at {count}");
-    }
-    let text = setup_of_ports(alloc, 17, 0)?;
-    assert_eq!(rt; fault(alloc, text.as_str()), Some(SetupFault::Limit));
-    Ok(())
-}
-
-#[test]
-fn taken_before_limits(rt: HostRuntime) -> Result<(), Fail> {
-    let alloc = rt.alloc();
-    let twice =
-        "version = 1\nport = [{number = 1, universe = 1}, {number = 2, universe = 1}, {number = 1, universe = 2}]\n";
-    assert_eq!(rt; fault(alloc, twice), Some(SetupFault::PortTaken));
-    let mut text = setup_of_ports(alloc, 17, 1)?;
-    text.push_str("[[port]]\nnumber = 17\nuniverse = 1\n")?;
-    assert_eq!(rt; fault(alloc, text.as_str()), Some(SetupFault::PortTaken));
-    Ok(())
-}
-
-/// A port of version 2 with this number of ranges, each of one slot of a universe of its own, and the
-/// first of them at this slot with two slots.
-fn push_port(
-    text: &mut String,
-    alloc: Global,
-    number: usize,
-    from: usize,
-    count: usize,
-) -> Result<(), Fail> {
-    text.push_str(format!(in alloc; "[[port]]\nnumber = {number}\n")?.as_str())?;
-    for i in 0..count {
-        let universe = from.wrapping_add(i);
-        text.push_str(format!(in alloc;
-            "[[port.range]]\nuniverse = {universe}\nslot = 512\ncount = 1\nport_slot = {}\n",
-            i + 1
-        )?
-        .as_str())?;
-    }
-    Ok(())
-}
-
-/// Ports of 8, 8 and as many ranges as asked, each on a universe of its own.
-fn three_ports(alloc: Global, last: usize) -> Result<String, Fail> {
-    let mut text = String::new(alloc);
-    text.push_str("version = 2\n")?;
-    push_port(&mut text, alloc, 1, 1, 8)?;
-    push_port(&mut text, alloc, 2, 9, 8)?;
-    if last > 0 {
-        push_port(&mut text, alloc, 3, 17, last)?;
-    }
-    Ok(text)
-}
-
-#[test]
-fn limits_of_universes(rt: HostRuntime) -> Result<(), Fail> {
-    let alloc = rt.alloc();
-    for (last, wanted) in [(0, None), (1, Some(SetupFault::Limit))] {
-        let text = three_ports(alloc, last)?;
-        assert_eq!(rt; fault(alloc, text.as_str()), wanted, "at {last}");
-    }
-    Ok(())
-}
-
-#[test]
-fn limit_before_ends(rt: HostRuntime) -> Result<(), Fail> {
-    let alloc = rt.alloc();
-    let mut text = three_ports(alloc, 1)?;
-    text.push_str(
+/// How many ranges of one slot the three ports of a setup of version 2 have, each of the next universe; what follows; and the fault.
+const RANGES: [([usize; 3], &str, Option<SetupFault>); 6] = [
+    ([1, 0, 0], "", None),
+    ([8, 0, 0], "", None),
+    ([9, 0, 0], "", Some(SetupFault::KeyValue)),
+    ([8, 8, 0], "", None),
+    ([8, 8, 1], "", Some(SetupFault::Limit)),
+    (
+        [8, 8, 1],
         "[[port]]\nnumber = 4\n[[port.range]]\nuniverse = 1\nslot = 512\ncount = 2\nport_slot = 1\n",
-    )?;
-    assert_eq!(rt; fault(alloc, text.as_str()), Some(SetupFault::Limit));
-    Ok(())
-}
+        Some(SetupFault::Limit),
+    ),
+];
 
-#[test]
-fn numbers_of_faults(rt: HostRuntime) {
-    let faults = [
-        SetupFault::OutOfMemory,
-        SetupFault::Toml,
-        SetupFault::MissingKey,
-        SetupFault::UnknownKey,
-        SetupFault::KeyValue,
-        SetupFault::Version,
-        SetupFault::PortTaken,
-        SetupFault::Limit,
-        SetupFault::RangeEnd,
-        SetupFault::Overlap,
-    ];
-    let mut number = 1;
-    for fault in faults {
-        assert_eq!(rt; fault.number(), number);
-        number = u8::wrapping_add(number, 1);
-    }
-}
-
-/// Reads a table as a larger file has it: a document's own.
-fn read_inner(alloc: Global, text: &str) -> Result<NodeSetup, SetupFault> {
-    match toml::table_from_str(alloc, text) {
-        Ok(table) => setup_of(alloc, &table),
-        Err(_) => Err(SetupFault::OutOfMemory),
-    }
-}
-
-fn numbers_are(setup: &NodeSetup, numbers: &[u8]) -> bool {
-    if setup.ports().len() != numbers.len() {
-        return false;
-    }
-    for i in 0..numbers.len() {
-        if setup.ports()[i].number() != numbers[i] {
-            return false;
+fn with_ranges(alloc: Global, counts: [usize; 3], end: &str) -> Result<String, AllocError> {
+    let mut text = String::from_str(alloc, "version = 2\n")?;
+    let mut universe = 0usize;
+    for port in 1..=3usize {
+        for i in 1..=counts[port - 1] {
+            universe = universe.saturating_add(1);
+            let begin = if i == 1 {
+                format!(in alloc; "[[port]]\nnumber = {port}\n")?
+            } else {
+                String::new(alloc)
+            };
+            text.push_str(begin.as_str())?;
+            let range = format!(in alloc;
+                "[[port.range]]\nuniverse = {universe}\nslot = 512\ncount = 1\nport_slot = {i}\n"
+            )?;
+            text.push_str(range.as_str())?;
         }
     }
-    true
+    text.push_str(end)?;
+    Ok(text)
 }
 
-// Where a request for memory is refused, the call is made again, and reads the setup.
-
 #[test]
-fn memory_refused_to_a_text(rt: HostRuntime) -> Result<(), Fail> {
-    let setup = match read_node(rt.alloc(), TWO_PORTS) {
-        Err(SetupFault::OutOfMemory) => read_node(rt.alloc(), TWO_PORTS)?,
-        read => read?,
-    };
-    assert!(rt; numbers_are(&setup, &[2, 9]));
+fn setups_are_refused(rt: HostRuntime) -> Result<(), Fail> {
+    let alloc = rt.alloc();
+    for (text, wanted) in FAULTS {
+        assert!(rt; fault(alloc, text) == wanted, "{text}");
+    }
+    for (count, ascend, end, wanted) in PORTS {
+        let text = with_ports(alloc, count, ascend, end)?;
+        assert!(rt; fault(alloc, text.as_str()) == wanted, "{count} ports");
+    }
+    for (counts, end, wanted) in RANGES {
+        let text = with_ranges(alloc, counts, end)?;
+        assert!(rt; fault(alloc, text.as_str()) == wanted, "{counts:?} ranges");
+    }
     Ok(())
 }
 
 #[test]
-fn memory_refused_to_ranges(rt: HostRuntime) -> Result<(), Fail> {
-    let setup = match read_inner(rt.alloc(), ONE_PORT_BY_RANGE) {
-        Err(SetupFault::OutOfMemory) => read_inner(rt.alloc(), ONE_PORT_BY_RANGE)?,
-        read => read?,
-    };
-    assert!(rt; numbers_are(&setup, &[1]));
-    Ok(())
+fn faults_have_numbers(rt: HostRuntime) {
+    let numbers = [
+        SetupFault::OutOfMemory.number(),
+        SetupFault::Toml.number(),
+        SetupFault::MissingKey.number(),
+        SetupFault::UnknownKey.number(),
+        SetupFault::KeyValue.number(),
+        SetupFault::Version.number(),
+        SetupFault::PortTaken.number(),
+        SetupFault::Limit.number(),
+        SetupFault::RangeEnd.number(),
+        SetupFault::Overlap.number(),
+        TableFault::OutOfMemory.number(),
+        DiscoveryFault::OutOfMemory.number(),
+        PacketFault::TooShort.number(),
+        PacketFault::RootVector.number(),
+        PacketFault::TooManyUniverses.number(),
+    ];
+    assert_eq!(rt; numbers, [1, 2, 3, 4, 5, 6, 7, 8, 9, 10, 1, 1, 1, 7, 18]);
 }

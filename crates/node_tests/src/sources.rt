@@ -1,263 +1,229 @@
 //! The worked rows of the source table.
-
-ghost use Rattle.std.specs.Prelude.{◌≤◌};
-
-use sacn_framing::{DataFields, Packet, read_packet, write_data};
-use sacn_sources::*;
-use std::alloc::Global;
-use std::process::Abort;
-use std::test::Fail;
-
 mod compared;
-mod kept;
-mod wakes;
+mod stories;
 
-/// The most slots of a universe.
-const MAX_SLOTS: usize = 512;
+use crate::sent::{FIRST, MAX_SLOTS, Sent, cid_of, live, write_sent};
+use sacn_framing::{Packet, read_packet};
+use sacn_sources::{HeldView, Kind, SourceTable, TableFault, Taken};
+use std::alloc::Global;
+use std::test::*;
+use stories::STORIES;
 
-/// The greatest priority of a data packet.
-const MAX_PRIORITY: u8 = 200;
-
-/// A packet of a source whose CID is sixteen octets of one value.
-#[derive(Clone, Copy)]
-struct Sent<'a> {
-    cid: u8,
-    number: u8,
-    kind: Kind,
-    priority: u8,
-    slots: &'a [u8],
+/// What happens at a table, and what is then so.
+#[derive(Drop)]
+enum Step<'a> {
+    /// A live packet of a source comes at a moment with this number and these slots, and is answered so.
+    Live(u64, u32, u8, &'a [u8], Taken),
+    /// The same at another priority.
+    At(u8, u64, u32, u8, &'a [u8], Taken),
+    /// A packet of another kind comes.
+    Other(Kind, u64, u32, u8, Taken),
+    /// Each source from a first to a last one sends one slot, its own number, at a moment.
+    Each(u32, u32, u64, u8, Taken),
+    /// Source 1 sends its packets from one place of its life to another, the first having number 0.
+    Places(u64, u64, Taken),
+    /// The merge has these slots, and then 0.
+    Merges(u64, &'a [u8]),
+    /// Two slots of the merge from one on, the first being 0.
+    Part(u64, usize, [u8; 2]),
+    /// A source is held live with this number, moment and slots, at priority 100.
+    Holds(u32, u8, u64, &'a [u8]),
+    /// A source is held and has ended.
+    Ended(u32, u8, u64),
+    Unknown(u32),
+    /// So many sources are lost.
+    Expires(u64, usize),
+    /// How often the merge was made.
+    Renewed(u64),
+    /// The moment of the oldest, and when the next source is lost.
+    Wakes(u64, Option<u64>),
 }
 
-fn live(cid: u8, number: u8, slots: &[u8]) -> Sent<'_> {
-    Sent {
-        cid,
-        number,
-        kind: Kind::Live,
-        priority: 100,
-        slots,
-    }
-}
-
-fn of_kind(kind: Kind, cid: u8, number: u8) -> Sent<'static> {
-    Sent {
-        cid,
-        number,
-        kind,
-        priority: 100,
-        slots: &[],
-    }
-}
-
-/// Writes the packet's octets, and answers how many they are.
-fn write_octets(sent: Sent<'_>, octets: &mut [u8; 638]) -> usize
-    ensures { result ≤ 638 }
-{
-    let fields = DataFields {
-        cid: [sent.cid; 16],
-        name: [0; 64],
-        priority: sent.priority.min(MAX_PRIORITY),
-        number: sent.number,
-        preview: matches!(sent.kind, Kind::Preview),
-        terminated: matches!(sent.kind, Kind::Termination),
-        universe: 1,
-        start: if matches!(sent.kind, Kind::Other) {
-            0xdd
-        } else {
-            0
-        },
-        slots: &sent.slots[..sent.slots.len().min(MAX_SLOTS)],
-    };
-    write_data(&fields, octets)
-}
-
-/// What the table answers to the packet, written as octets and read again. None where the octets are no data packet.
-fn give(table: &mut SourceTable, now: u64, sent: Sent<'_>) -> Option<Taken> {
+fn give(table: &mut SourceTable, now: u64, sent: &Sent<'_>) -> Option<Taken> {
     let mut octets = [0; 638];
-    let len = write_octets(sent, &mut octets);
+    let len = write_sent(sent, &mut octets);
     match read_packet(&octets[..len]) {
         Ok(Packet::DataPacket(view)) => Some(table.take(now, &view)),
         _ => None,
     }
 }
 
-/// The packets are answered so, in order, and each that is Held is read back. The moments rise.
-fn gives(rt: &impl Abort, table: &mut SourceTable, packets: &[(u64, Sent<'_>, Taken)]) {
-    for (now, sent, taken) in packets {
-        assert_eq!(rt;
-            give(table, *now, *sent),
-            Some(*taken),
-            "source {}, number {} at {now}",
-            sent.cid,
-            sent.number
-        );
-        if matches!(*taken, Taken::Held) {
-            holds(rt, table, *sent, *now);
-        }
-    }
+/// Whether the packet is answered so, and read back where it is held. The moments rise.
+fn takes(table: &mut SourceTable, now: u64, sent: &Sent<'_>, taken: Taken) -> bool {
+    let answer = give(table, now, sent);
+    answer == Some(taken) && (taken != Taken::Held || holds(table, sent, now))
 }
 
-/// The merge begins with these slots, and the rest is 0.
-fn shows(rt: &impl Abort, table: &mut SourceTable, now: u64, wanted: &[u8]) {
-    let mut slots = [7; 512];
-    table.merged(now, &mut slots);
-    for (at, level) in slots.iter().enumerate() {
-        assert_eq!(rt;
-            *level,
-            wanted.get(at).copied().unwrap_or(0),
-            "slot {at} at {now}"
-        );
-    }
-}
-
-/// The source is held live, with this number, priority, levels and moment.
-fn holds(rt: &impl Abort, table: &SourceTable, sent: Sent<'_>, moment: u64) {
-    let held = table.held(&[sent.cid; 16]);
-    assert!(rt; matches!(&held, Some(_)), "source {}", sent.cid);
-    if let Some(held) = held {
-        assert_eq!(rt; held.number(), sent.number);
-        assert!(rt; !held.ended());
-        assert_eq!(rt; held.priority(), sent.priority);
-        assert_eq!(rt; held.moment(), moment);
-        let levels = held.levels();
-        assert!(rt; matches!(levels, Some(_)));
-        if let Some(levels) = levels {
-            assert_eq!(rt; levels.given(), sent.slots.len());
-            for (at, level) in sent.slots.iter().enumerate().take(MAX_SLOTS) {
-                if at < MAX_SLOTS {
-                    assert_eq!(rt; levels.at(at), *level, "slot {at} of source {}", sent.cid);
+fn has_slots(held: &HeldView<'_>, slots: &[u8]) -> bool {
+    match held.levels() {
+        Some(levels) => {
+            for at in 0..slots.len().min(MAX_SLOTS) {
+                if levels.at(at) != slots[at] {
+                    return false;
                 }
             }
+            levels.given() == slots.len()
+        }
+        None => false,
+    }
+}
+
+/// Whether the source is held live, with this number, priority, levels and moment.
+fn holds(table: &SourceTable, sent: &Sent<'_>, moment: u64) -> bool {
+    match table.held(&cid_of(sent.cid)) {
+        Some(held) => {
+            !held.ended()
+                && (held.number(), held.priority()) == (sent.number, sent.priority)
+                && held.moment() == moment
+                && has_slots(&held, sent.slots)
+        }
+        None => false,
+    }
+}
+
+fn has_ended(table: &SourceTable, cid: u32, number: u8, moment: u64) -> bool {
+    match table.held(&cid_of(cid)) {
+        Some(held) => {
+            held.ended()
+                && (held.number(), held.priority()) == (number, 0)
+                && held.moment() == moment
+                && held.levels().is_none()
+        }
+        None => false,
+    }
+}
+
+fn merges(table: &mut SourceTable, now: u64, wanted: &[u8]) -> bool {
+    let mut slots = [7; 512];
+    table.merged(now, &mut slots);
+    slots.starts_with(wanted) && slots.iter().skip(wanted.len()).all(|level| *level == 0)
+}
+
+fn has_part(table: &mut SourceTable, now: u64, from: usize, wanted: [u8; 2]) -> bool {
+    let mut part = [7; 2];
+    if from > 510 {
+        return false;
+    }
+    table.merged_part(now, from, &mut part);
+    part == wanted
+}
+
+fn each_takes(
+    table: &mut SourceTable,
+    sources: (u32, u32),
+    now: u64,
+    number: u8,
+    taken: Taken,
+) -> bool {
+    for cid in sources.0..=sources.1 {
+        if !takes(table, now, &live(cid, number, &[(cid & 255) as u8]), taken) {
+            return false;
         }
     }
+    true
 }
 
-/// The source is held, and has ended.
-fn holds_ended(rt: &impl Abort, table: &SourceTable, cid: u8, number: u8, moment: u64) {
-    let held = table.held(&[cid; 16]);
-    assert!(rt; matches!(&held, Some(_)), "source {cid}");
-    if let Some(held) = held {
-        assert_eq!(rt; held.number(), number);
-        assert!(rt; held.ended());
-        assert_eq!(rt; held.priority(), 0);
-        assert!(rt; held.levels().is_none());
-        assert_eq!(rt; held.moment(), moment);
+fn takes_places(table: &mut SourceTable, first: u64, last: u64, taken: Taken) -> bool {
+    for place in first..=last {
+        if !takes(table, 0, &live(1, (place % 256) as u8, &[2]), taken) {
+            return false;
+        }
+    }
+    true
+}
+
+fn is_so(table: &mut SourceTable, step: &Step<'_>) -> bool {
+    match step {
+        Step::Live(now, cid, number, slots, taken) => {
+            takes(table, *now, &live(*cid, *number, slots), *taken)
+        }
+        Step::At(priority, now, cid, number, slots, taken) => {
+            let mut sent = live(*cid, *number, slots);
+            sent.priority = *priority;
+            takes(table, *now, &sent, *taken)
+        }
+        Step::Other(kind, now, cid, number, taken) => {
+            let mut sent = live(*cid, *number, &[]);
+            sent.kind = *kind;
+            takes(table, *now, &sent, *taken)
+        }
+        Step::Each(first, last, now, number, taken) => {
+            each_takes(table, (*first, *last), *now, *number, *taken)
+        }
+        Step::Places(first, last, taken) => takes_places(table, *first, *last, *taken),
+        Step::Merges(now, slots) => merges(table, *now, slots),
+        Step::Part(now, from, part) => has_part(table, *now, *from, *part),
+        Step::Holds(cid, number, moment, slots) => {
+            holds(table, &live(*cid, *number, slots), *moment)
+        }
+        Step::Ended(cid, number, moment) => has_ended(table, *cid, *number, *moment),
+        Step::Unknown(cid) => table.held(&cid_of(*cid)).is_none(),
+        Step::Expires(now, count) => table.expire(*now) == *count,
+        Step::Renewed(count) => table.renewals() == *count,
+        Step::Wakes(oldest, wakes) => table.oldest() == *oldest && table.wakes() == *wakes,
     }
 }
 
-#[test]
-fn numbers_wrap(rt: HostRuntime) -> Result<(), Fail> {
-    let mut table = SourceTable::new(rt.alloc())?;
-    gives(
-        &rt,
-        &mut table,
-        &[
-            (0, live(1, 250, &[1]), Taken::Held),
-            (0, live(1, 3, &[2]), Taken::Held),
-            (0, live(1, 250, &[3]), Taken::OutOfSequence),
-        ],
-    );
-    shows(&rt, &mut table, 0, &[2]);
-    holds(&rt, &table, live(1, 3, &[2]), 0);
-    Ok(())
+/// The place of the first step that isn't so at a new table.
+fn wrong_step(alloc: Global, steps: &[Step<'_>]) -> Result<Option<usize>, TableFault> {
+    let mut table = SourceTable::new(alloc)?;
+    for place in 0..steps.len() {
+        if !is_so(&mut table, &steps[place]) {
+            return Ok(Some(place));
+        }
+    }
+    Ok(None)
 }
 
 #[test]
-fn steps_from_a_hundred(rt: HostRuntime) -> Result<(), Fail> {
-    for (number, taken) in [
-        (81, Taken::OutOfSequence),
-        (100, Taken::OutOfSequence),
-        (80, Taken::Held),
-        (101, Taken::Held),
-        (227, Taken::Held),
-        (228, Taken::Held),
+fn stories_of_a_table(rt: HostRuntime) -> Result<(), Fail> {
+    for story in &STORIES {
+        assert_eq!(rt; wrong_step(rt.alloc(), story.1)?, None, "{}", story.0);
+    }
+    Ok(())
+}
+
+/// A packet of slots 10 and 200, one of 50, 20 and 7, and one of priority 90 with all slots at 255.
+const THREE: [Sent<'static>; 3] = [
+    Sent {
+        slots: &[10, 200],
+        ..FIRST
+    },
+    Sent {
+        cid: 2,
+        slots: &[50, 20, 7],
+        ..FIRST
+    },
+    Sent {
+        cid: 3,
+        priority: 90,
+        slots: &[255; MAX_SLOTS],
+        ..FIRST
+    },
+];
+
+/// The greatest level of the greatest priority is shown, in whatever order the packets came, and the lower one once those ended.
+fn follows(alloc: Global, order: [usize; 3]) -> Result<bool, TableFault> {
+    let mut table = SourceTable::new(alloc)?;
+    let mut is_held = true;
+    for place in order {
+        if let Some(sent) = THREE.get(place) {
+            is_held = is_held & takes(&mut table, 0, sent, Taken::Held);
+        }
+    }
+    for step in [
+        Step::Merges(0, &[50, 200, 7]),
+        Step::Other(Kind::Termination, 0, 1, 1, Taken::EndedNow),
+        Step::Other(Kind::Termination, 0, 2, 1, Taken::EndedNow),
+        Step::Merges(0, &[255; MAX_SLOTS]),
     ] {
-        let mut table = SourceTable::new(rt.alloc())?;
-        gives(
-            &rt,
-            &mut table,
-            &[
-                (0, live(1, 100, &[1]), Taken::Held),
-                (0, live(1, number, &[2]), taken),
-            ],
-        );
+        is_held = is_held & is_so(&mut table, &step);
     }
-    Ok(())
-}
-
-/// The number of the packet at a place of a life that began with 0.
-fn number_of(place: u64) -> u8 {
-    (place % 256) as u8
-}
-
-#[test]
-fn life_with_a_gap(rt: HostRuntime) -> Result<(), Fail> {
-    let mut table = SourceTable::new(rt.alloc())?;
-    gives(
-        &rt,
-        &mut table,
-        &[(0, live(1, number_of(0), &[1]), Taken::Held)],
-    );
-    for place in 237..257 {
-        gives(
-            &rt,
-            &mut table,
-            &[(0, live(1, number_of(place), &[2]), Taken::OutOfSequence)],
-        );
-    }
-    gives(
-        &rt,
-        &mut table,
-        &[(0, live(1, number_of(257), &[3]), Taken::Held)],
-    );
-    let mut table = SourceTable::new(rt.alloc())?;
-    gives(
-        &rt,
-        &mut table,
-        &[
-            (0, live(1, number_of(0), &[1]), Taken::Held),
-            (0, live(1, number_of(236), &[2]), Taken::Held),
-        ],
-    );
-    Ok(())
-}
-
-#[test]
-fn ended_and_back(rt: HostRuntime) -> Result<(), Fail> {
-    let mut table = SourceTable::new(rt.alloc())?;
-    gives(
-        &rt,
-        &mut table,
-        &[
-            (0, live(1, 10, &[9]), Taken::Held),
-            (0, of_kind(Kind::Termination, 1, 12), Taken::EndedNow),
-        ],
-    );
-    shows(&rt, &mut table, 0, &[]);
-    holds_ended(&rt, &table, 1, 12, 0);
-    gives(
-        &rt,
-        &mut table,
-        &[
-            (0, live(1, 11, &[8]), Taken::OutOfSequence),
-            (0, live(1, 13, &[7]), Taken::Held),
-        ],
-    );
-    shows(&rt, &mut table, 0, &[7]);
-    holds(&rt, &table, live(1, 13, &[7]), 0);
-    Ok(())
+    Ok(is_held)
 }
 
 #[test]
 fn followed_in_any_order(rt: HostRuntime) -> Result<(), Fail> {
-    let full = [255; MAX_SLOTS];
-    let sources = [
-        live(1, 0, &[10, 200]),
-        live(2, 0, &[50, 20, 7]),
-        Sent {
-            priority: 90,
-            ..live(3, 0, &full)
-        },
-    ];
     for order in [
         [0, 1, 2],
         [0, 2, 1],
@@ -266,36 +232,7 @@ fn followed_in_any_order(rt: HostRuntime) -> Result<(), Fail> {
         [2, 0, 1],
         [2, 1, 0],
     ] {
-        let mut table = SourceTable::new(rt.alloc())?;
-        for at in order {
-            if let Some(sent) = sources.get(at) {
-                gives(&rt, &mut table, &[(0, *sent, Taken::Held)]);
-            }
-        }
-        shows(&rt, &mut table, 0, &[50, 200, 7]);
-        gives(
-            &rt,
-            &mut table,
-            &[
-                (0, of_kind(Kind::Termination, 1, 1), Taken::EndedNow),
-                (0, of_kind(Kind::Termination, 2, 1), Taken::EndedNow),
-            ],
-        );
-        shows(&rt, &mut table, 0, &full);
+        assert!(rt; follows(rt.alloc(), order)?, "{order:?}");
     }
-    Ok(())
-}
-
-#[test]
-fn shorter_frame(rt: HostRuntime) -> Result<(), Fail> {
-    let mut table = SourceTable::new(rt.alloc())?;
-    gives(
-        &rt,
-        &mut table,
-        &[(0, live(1, 0, &[9; MAX_SLOTS]), Taken::Held)],
-    );
-    shows(&rt, &mut table, 0, &[9; MAX_SLOTS]);
-    gives(&rt, &mut table, &[(0, live(1, 1, &[1, 2]), Taken::Held)]);
-    shows(&rt, &mut table, 0, &[1, 2]);
     Ok(())
 }

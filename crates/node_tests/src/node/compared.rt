@@ -1,7 +1,11 @@
 //! The node beside a plain program.
-
-use super::*;
-use crate::plain_node::{PlainNode, Said};
+use super::plain_node::{PlainNode, Said};
+use super::{THREE_PORTS, give, has_slots};
+use crate::sent::{Numbers, Sent, cid_of};
+use sacn_node::{NodeCore, NodeSetup, NodeTaken, PortSetup, read_node};
+use sacn_sources::Kind;
+use std::alloc::AllocError;
+use std::test::*;
 
 /// A packet of one of twenty sources, on one of three universes of which the node has two.
 fn any_packet(numbers: &mut Numbers, turn: u64) -> Said {
@@ -26,15 +30,8 @@ fn any_packet(numbers: &mut Numbers, turn: u64) -> Said {
     }
 }
 
-/// Both nodes answer the packet alike.
-fn take_alike(
-    rt: &impl Abort,
-    node: &mut NodeCore,
-    plain: &mut PlainNode,
-    setup: &NodeSetup,
-    now: u64,
-    said: &Said,
-) -> Result<NodeTaken, Fail> {
+/// What the node answers to the packet.
+fn taken(node: &mut NodeCore, now: u64, said: &Said) -> NodeTaken {
     let sent = Sent {
         cid: said.cid,
         universe: said.universe,
@@ -43,100 +40,104 @@ fn take_alike(
         priority: said.priority,
         slots: &said.levels,
     };
-    let wanted = plain.take(setup, now, said)?;
-    assert_eq!(rt; give(node, now, sent), Some(wanted));
-    Ok(wanted)
+    give(node, now, &sent)
 }
 
-/// Both hold the source alike.
-fn hold_alike(rt: &impl Abort, node: &NodeCore, plain: &PlainNode, universe: u16, cid: u32) {
-    let held = node.held(universe, &cid_of(cid));
-    let row = plain.row(universe, cid);
-    assert_eq!(rt; held.is_some(), row.is_some());
-    if let (Some(held), Some(row)) = (held, row) {
-        assert_eq!(rt; (held.number(), held.moment()), (row.number, row.moment));
-        assert_eq!(rt; held.ended(), row.priority.is_none());
-        assert_eq!(rt; held.priority(), row.priority.unwrap_or(0));
-        if row.priority.is_some() {
-            has_levels(rt, &held, &row.levels);
+/// Whether both hold the source alike.
+fn hold_alike(node: &NodeCore, plain: &PlainNode, said: &Said) -> bool {
+    match (
+        node.held(said.universe, &cid_of(said.cid)),
+        plain.row(said.universe, said.cid),
+    ) {
+        (Some(held), Some(row)) => {
+            (held.number(), held.moment()) == (row.number, row.moment)
+                && held.ended() == row.priority.is_none()
+                && held.priority() == row.priority.unwrap_or(0)
+                && (row.priority.is_none() || has_slots(&held, &row.levels))
         }
+        (None, None) => true,
+        _ => false,
     }
 }
 
-/// Both show the ports alike.
-fn show_alike(
-    rt: &impl Abort,
-    node: &mut NodeCore,
-    plain: &mut PlainNode,
-    setup: &NodeSetup,
-    now: u64,
-) {
+fn port_alike(node: &mut NodeCore, plain: &PlainNode, port: &PortSetup, now: u64) -> bool {
+    let mut frame = [7; 513];
+    if node.frame(now, port.number(), &mut frame) != Ok(()) || frame[0] != 0 {
+        return false;
+    }
+    for at in 1..513 {
+        if frame[at] != plain.shown(port.ranges(), at) {
+            return false;
+        }
+    }
+    true
+}
+
+/// Whether both show the ports alike.
+fn show_alike(node: &mut NodeCore, plain: &mut PlainNode, setup: &NodeSetup, now: u64) -> bool {
     plain.expire(now);
     for port in setup.ports() {
-        let mut frame = [7; 513];
-        assert_eq!(rt; node.frame(now, port.number(), &mut frame), Ok(()));
-        assert_eq!(rt; frame[0], 0);
-        for (at, level) in frame.iter().enumerate() {
-            if at > 0 {
-                assert_eq!(rt;
-                    *level,
-                    plain.shown(port.ranges(), at),
-                    "slot {at} of port {}",
-                    port.number()
-                );
-            }
+        if !port_alike(node, plain, port, now) {
+            return false;
         }
     }
+    true
 }
 
-/// One turn of both: a packet, whose answer it gives, expiry or a look.
-fn turn_alike(
-    rt: &impl Abort,
-    node: &mut NodeCore,
-    plain: &mut PlainNode,
-    setup: &NodeSetup,
-    numbers: &mut Numbers,
-    turn: u64,
-) -> Result<Option<NodeTaken>, Fail> {
-    // Moments go forward by about 23 ms a turn, and back now and then.
-    let now = (turn.saturating_mul(20)).saturating_add(numbers.next() % 90);
-    let mut answer = None;
-    match numbers.octet(16) {
-        0 => assert_eq!(rt; node.tick(now), plain.expire(now)),
-        1 => show_alike(rt, node, plain, setup, now),
-        _ => {
-            let said = any_packet(numbers, turn);
-            answer = Some(take_alike(rt, node, plain, setup, now, &said)?);
-            hold_alike(rt, node, plain, said.universe, said.cid);
-        }
-    }
-    assert_eq!(rt; node.moment(), plain.moment);
-    Ok(answer)
+/// Both programs, and the answers that came, each once.
+#[derive(Drop)]
+struct Both {
+    node: NodeCore,
+    plain: PlainNode,
+    answers: Vec<NodeTaken>,
 }
 
-/// Puts an answer with those before it, where it is another.
-fn note(answers: &mut Vec<NodeTaken>, answer: Option<NodeTaken>) -> Result<(), Fail> {
-    if let Some(answer) = answer {
-        if !answers.as_slice().contains(&answer) {
-            answers.push(answer)?;
+impl Both {
+    /// A packet comes to both: whether they answer it and hold its source alike.
+    fn take_alike(&mut self, setup: &NodeSetup, now: u64, said: &Said) -> Result<bool, AllocError> {
+        let wanted = self.plain.take(setup, now, said)?;
+        let found = taken(&mut self.node, now, said);
+        if !self.answers.as_slice().contains(&found) {
+            self.answers.push(found)?;
         }
+        Ok(found == wanted && hold_alike(&self.node, &self.plain, said))
     }
-    Ok(())
+
+    /// One turn of both: a packet, expiry or a look.
+    fn turn_alike(
+        &mut self,
+        setup: &NodeSetup,
+        numbers: &mut Numbers,
+        turn: u64,
+    ) -> Result<bool, AllocError> {
+        // Moments go forward by about 23 ms a turn, and back now and then.
+        let now = (turn.saturating_mul(20)).saturating_add(numbers.next() % 90);
+        let is_alike = match numbers.octet(16) {
+            0 => self.node.tick(now) == self.plain.expire(now),
+            1 => show_alike(&mut self.node, &mut self.plain, setup, now),
+            _ => self.take_alike(setup, now, &any_packet(numbers, turn))?,
+        };
+        Ok(is_alike && self.node.moment() == self.plain.moment)
+    }
 }
 
 #[test]
 fn as_the_plain_program(rt: HostRuntime) -> Result<(), Fail> {
     let alloc = rt.alloc();
-    let setup = read_node(alloc, THREE_PORTS).ok().ok_or("refused")?;
-    let mut node = NodeCore::new(alloc, &setup).ok().ok_or("no room")?;
-    let mut plain = PlainNode::new(alloc);
+    let setup = read_node(alloc, THREE_PORTS)?;
+    let mut both = Both {
+        node: NodeCore::new(alloc, &setup)?,
+        plain: PlainNode::new(alloc),
+        answers: Vec::new(alloc),
+    };
     let mut numbers = Numbers { state: 1 };
-    let mut answers = Vec::new(alloc);
+    let mut alike = 0u32;
     for turn in 0..6000 {
-        let answer = turn_alike(&rt, &mut node, &mut plain, &setup, &mut numbers, turn)?;
-        note(&mut answers, answer)?;
+        if both.turn_alike(&setup, &mut numbers, turn)? {
+            alike = alike.saturating_add(1);
+        }
     }
     // The six answers of a table, and a universe that isn't the node's.
-    assert_eq!(rt; answers.len(), 7);
+    assert_eq!(rt; (alike, both.answers.len()), (6000, 7));
     Ok(())
 }

@@ -1,10 +1,12 @@
 //! The table beside the plain program, call by call.
-
 ghost use Rattle.std.specs.Prelude.{◌<◌};
 
-use super::*;
+use crate::sent::{MAX_SLOTS, Numbers, Sent, cid_of, write_sent};
+use sacn_framing::{Packet, read_packet};
 use sacn_slots::Levels;
 use sacn_sources::plain::PlainTable;
+use sacn_sources::{HeldView, Kind, SourceTable, Taken};
+use std::test::*;
 
 /// How many calls are made.
 const CALLS: u64 = 6000;
@@ -12,45 +14,36 @@ const CALLS: u64 = 6000;
 /// How many sources send: more than a table holds.
 const SOURCES: u8 = 20;
 
-/// A fixed sequence of numbers, by a linear congruence modulo 2^64.
-#[derive(Drop)]
-struct Numbers {
-    state: u64,
+/// Live in five of eight cases.
+fn any_kind(numbers: &mut Numbers) -> Kind {
+    match numbers.below(8) {
+        0 => Kind::Termination,
+        1 => Kind::Preview,
+        2 => Kind::Other,
+        _ => Kind::Live,
+    }
 }
 
-impl Numbers {
-    /// The next number below `bound`, and 0 where that is 0.
-    fn below(&mut self, bound: u64) -> u64 {
-        self.state = self
-            .state
-            .wrapping_mul(6_364_136_223_846_793_005)
-            .wrapping_add(1_442_695_040_888_963_407);
-        (self.state >> 33).checked_rem(bound).unwrap_or(0)
+/// A step of the clock: mostly small, at times past the loss of sources, at times back.
+fn any_moment(numbers: &mut Numbers, before: u64) -> u64 {
+    match numbers.below(64) {
+        0 => before.saturating_add(2500),
+        1 => before.saturating_add(numbers.below(3000)),
+        2 => before.saturating_sub(numbers.below(500)),
+        _ => before.saturating_add(numbers.below(60)),
     }
+}
 
-    /// The next octet below `bound`.
-    fn octet(&mut self, bound: u8) -> u8 {
-        (self.below(u64::from(bound)) & 0xff) as u8
-    }
-
-    /// Live in five of eight cases.
-    fn kind(&mut self) -> Kind {
-        match self.below(8) {
-            0 => Kind::Termination,
-            1 => Kind::Preview,
-            2 => Kind::Other,
-            _ => Kind::Live,
-        }
-    }
-
-    /// A step of the clock: mostly small, at times past the loss of sources, at times back.
-    fn moment(&mut self, before: u64) -> u64 {
-        match self.below(64) {
-            0 => before.saturating_add(2500),
-            1 => before.saturating_add(self.below(3000)),
-            2 => before.saturating_sub(self.below(500)),
-            _ => before.saturating_add(self.below(60)),
-        }
+/// A packet with levels out of the given ones.
+fn any_packet<'a>(numbers: &mut Numbers, levels: &'a [u8; MAX_SLOTS]) -> Sent<'a> {
+    let len = numbers.below(513) as usize;
+    Sent {
+        cid: u32::from(numbers.octet(SOURCES)),
+        universe: 1,
+        number: numbers.octet(255),
+        kind: any_kind(numbers),
+        priority: 98 + numbers.octet(4) % 4,
+        slots: &levels[..len.min(MAX_SLOTS)],
     }
 }
 
@@ -85,38 +78,32 @@ fn same_slots(a: &Levels, b: &Levels) -> bool {
 }
 
 fn same_levels(a: Option<&Levels>, b: Option<&Levels>) -> bool {
-    match a {
-        Some(a) => match b {
-            Some(b) => same_slots(a, b),
-            None => false,
-        },
-        None => b.is_none(),
+    match (a, b) {
+        (Some(a), Some(b)) => same_slots(a, b),
+        (None, None) => true,
+        _ => false,
     }
 }
 
 fn same_source(a: &HeldView<'_>, b: &HeldView<'_>) -> bool {
-    a.number() == b.number()
+    (a.number(), a.priority(), a.moment()) == (b.number(), b.priority(), b.moment())
         && a.ended() == b.ended()
-        && a.priority() == b.priority()
-        && a.moment() == b.moment()
         && same_levels(a.levels(), b.levels())
 }
 
 impl Both {
     fn holds_the_same(&self, cid: u8) -> bool {
-        let cid = [cid; 16];
-        match self.kept.held(&cid) {
-            Some(kept) => match self.plain.held(&cid) {
-                Some(plain) => same_source(&kept, &plain),
-                None => false,
-            },
-            None => self.plain.held(&cid).is_none(),
+        let cid = cid_of(u32::from(cid));
+        match (self.kept.held(&cid), self.plain.held(&cid)) {
+            (Some(kept), Some(plain)) => same_source(&kept, &plain),
+            (None, None) => true,
+            _ => false,
         }
     }
 
-    fn takes_the_same(&mut self, now: u64, sent: Sent<'_>) -> bool {
+    fn takes_the_same(&mut self, now: u64, sent: &Sent<'_>) -> bool {
         let mut octets = [0; 638];
-        let len = write_octets(sent, &mut octets);
+        let len = write_sent(sent, &mut octets);
         match read_packet(&octets[..len]) {
             Ok(Packet::DataPacket(view)) => {
                 let taken = self.kept.take(now, &view);
@@ -140,17 +127,30 @@ impl Both {
         let gone = self.kept.expire(now);
         gone == self.plain.expire(now)
     }
-}
 
-/// A packet with levels out of the given ones.
-fn any_packet<'a>(numbers: &mut Numbers, levels: &'a [u8; MAX_SLOTS]) -> Sent<'a> {
-    let len = numbers.below(513) as usize;
-    Sent {
-        cid: numbers.octet(SOURCES),
-        number: numbers.octet(255),
-        kind: numbers.kind(),
-        priority: 98 + numbers.octet(4) % 4,
-        slots: &levels[..len.min(MAX_SLOTS)],
+    /// One call of both at a moment: expiry, a merge or a packet.
+    fn does_the_same(&mut self, numbers: &mut Numbers, now: u64, levels: &[u8; MAX_SLOTS]) -> bool {
+        let is_same = match numbers.below(8) {
+            0 => self.expires_the_same(now),
+            1 | 2 => self.merges_the_same(now),
+            _ => self.takes_the_same(now, &any_packet(numbers, levels)),
+        };
+        is_same && self.holds_the_same(numbers.octet(SOURCES))
+    }
+
+    /// Whether both hold all sources alike, and each answer came often enough to be compared.
+    fn is_compared(&self) -> bool {
+        for cid in 0..SOURCES {
+            if !self.holds_the_same(cid) {
+                return false;
+            }
+        }
+        for count in self.answers {
+            if count < 20 {
+                return false;
+            }
+        }
+        self.kept.renewals() >= 500
     }
 }
 
@@ -168,23 +168,12 @@ fn plain_program_agrees(rt: HostRuntime) -> Result<(), Fail> {
     };
     let mut now = 0;
     for call in 0..CALLS {
-        now = numbers.moment(now);
-        let same = match numbers.below(8) {
-            0 => both.expires_the_same(now),
-            1 => both.merges_the_same(now),
-            2 => both.merges_the_same(now),
-            _ => both.takes_the_same(now, any_packet(&mut numbers, &levels)),
-        };
-        assert!(rt; same, "call {call} at {now}");
-        let cid = numbers.octet(SOURCES);
-        assert!(rt; both.holds_the_same(cid), "source {cid} after call {call}");
+        now = any_moment(&mut numbers, now);
+        assert!(rt;
+            both.does_the_same(&mut numbers, now, &levels),
+            "call {call} at {now}"
+        );
     }
-    for cid in 0..SOURCES {
-        assert!(rt; both.holds_the_same(cid), "source {cid}");
-    }
-    for count in both.answers {
-        assert!(rt; count >= 20, "an answer came too seldom to be compared");
-    }
-    assert!(rt; both.kept.renewals() >= 500);
+    assert!(rt; both.is_compared());
     Ok(())
 }

@@ -1,8 +1,7 @@
 //! Each octet that a check looks at, changed to each other value.
-use super::octets::{changed, empty_packet, full_packet};
+use fixtures::packets::full_data;
 use sacn_framing::read_packet;
 use sacn_root::PacketFault;
-use std::process::Abort;
 use std::test::*;
 
 /// The fault of the full packet with this octet at this place, for the places that the checks look at.
@@ -34,49 +33,28 @@ fn expected_of_field(at: usize, octet: u8) -> PacketFault {
     }
 }
 
-/// Each octet of the packet before its slots, changed to each other value, and put back.
-fn each_wrong_octet_has_its_fault_in(rt: &impl Abort, octets: &mut Vec<u8>) {
+/// Each octet of the packet before its slots, changed to each other value, and put back: the first place and octet whose fault is
+/// another one.
+fn wrong_fault(octets: &mut Vec<u8>) -> Option<(usize, u8)> {
     for at in 0..octets.len().min(126) {
         let right = octets[at];
         for change in 1..=255u8 {
             let wrong = right ^ change;
             octets[at] = wrong;
             if let Some(fault) = expected(at, wrong) {
-                assert!(rt;
-                    matches!(read_packet(octets.as_slice()), Err(found) if found == fault),
-                    "{wrong} at {at}"
-                );
+                if !matches!(read_packet(octets.as_slice()), Err(found) if found == fault) {
+                    return Some((at, wrong));
+                }
             }
         }
         octets[at] = right;
     }
+    None
 }
 
 #[test]
 fn each_wrong_octet_has_its_fault(rt: HostRuntime) -> Result<(), Fail> {
-    let mut octets = full_packet(rt.alloc())?;
-    each_wrong_octet_has_its_fault_in(&rt, &mut octets);
-    Ok(())
-}
-
-fn is_refused(octets: &Vec<u8>, fault: PacketFault) -> bool {
-    match read_packet(octets.as_slice()) {
-        Ok(_) => false,
-        Err(found) => found == fault,
-    }
-}
-
-#[test]
-fn lengths_that_disagree_are_refused(rt: HostRuntime) -> Result<(), Fail> {
-    assert!(rt;
-        is_refused(
-            &changed(full_packet(rt.alloc())?, 116, 0x0a),
-            PacketFault::Length
-        )
-    );
-    let octets = changed(empty_packet(rt.alloc())?, 17, 0x15);
-    assert!(rt; is_refused(&octets, PacketFault::Length));
-    let octets = changed(octets, 16, 0x73);
-    assert!(rt; is_refused(&octets, PacketFault::TooShort));
+    let mut octets = full_data(rt.alloc())?;
+    assert_eq!(rt; wrong_fault(&mut octets), None);
     Ok(())
 }

@@ -6,28 +6,28 @@ use sacn_sources::{Kind, MAX_SOURCES, NETWORK_DATA_LOSS, Taken};
 use std::alloc::{AllocError, Global};
 
 /// The levels of a packet in these tests; those past its end are 0.
-pub(crate) const LEVELS: usize = 4;
+pub(super) const LEVELS: usize = 4;
 
 /// A packet, as the plain program takes it.
 #[derive(Clone, Copy)]
-pub(crate) struct Said {
-    pub(crate) cid: u32,
-    pub(crate) universe: u16,
-    pub(crate) number: u8,
-    pub(crate) kind: Kind,
-    pub(crate) priority: u8,
-    pub(crate) levels: [u8; LEVELS],
+pub(super) struct Said {
+    pub(super) cid: u32,
+    pub(super) universe: u16,
+    pub(super) number: u8,
+    pub(super) kind: Kind,
+    pub(super) priority: u8,
+    pub(super) levels: [u8; LEVELS],
 }
 
 /// A source on a universe. Its priority is none once it has ended.
 #[derive(Clone, Copy)]
-pub(crate) struct Row {
-    pub(crate) universe: u16,
-    pub(crate) cid: u32,
-    pub(crate) number: u8,
-    pub(crate) priority: Option<u8>,
-    pub(crate) levels: [u8; LEVELS],
-    pub(crate) moment: u64,
+pub(super) struct Row {
+    pub(super) universe: u16,
+    pub(super) cid: u32,
+    pub(super) number: u8,
+    pub(super) priority: Option<u8>,
+    pub(super) levels: [u8; LEVELS],
+    pub(super) moment: u64,
 }
 
 impl Row {
@@ -73,13 +73,13 @@ impl Row {
 
 /// A node as a plain program.
 #[derive(Drop)]
-pub(crate) struct PlainNode {
+pub(super) struct PlainNode {
     rows: Vec<Row>,
-    pub(crate) moment: u64,
+    pub(super) moment: u64,
 }
 
 impl PlainNode {
-    pub(crate) fn new(alloc: Global) -> PlainNode {
+    pub(super) fn new(alloc: Global) -> PlainNode {
         PlainNode {
             rows: Vec::new(alloc),
             moment: 0,
@@ -87,7 +87,7 @@ impl PlainNode {
     }
 
     /// Moves the clock and drops the rows that are lost. Answers how many those were.
-    pub(crate) fn expire(&mut self, now: u64) -> usize {
+    pub(super) fn expire(&mut self, now: u64) -> usize {
         self.moment = self.moment.max(now);
         let before = self.rows.len();
         let moment = self.moment;
@@ -102,7 +102,7 @@ impl PlainNode {
             .count()
     }
 
-    pub(crate) fn row(&self, universe: u16, cid: u32) -> Option<Row> {
+    pub(super) fn row(&self, universe: u16, cid: u32) -> Option<Row> {
         for row in self.rows.iter() {
             if row.is_of(universe, cid) {
                 return Some(*row);
@@ -111,7 +111,7 @@ impl PlainNode {
         None
     }
 
-    pub(crate) fn take(
+    pub(super) fn take(
         &mut self,
         setup: &NodeSetup,
         now: u64,
@@ -179,7 +179,7 @@ impl PlainNode {
     }
 
     /// What a port shows in one of its slots, from 1 to 512.
-    pub(crate) fn shown(&self, ranges: &[SlotRange], port_slot: usize) -> u8 {
+    pub(super) fn shown(&self, ranges: &[SlotRange], port_slot: usize) -> u8 {
         for range in ranges {
             if let Some(level) = self.range_level(range, port_slot) {
                 return level;

@@ -1,4 +1,0 @@
-//! Worked layers of a packet, and the sequence rule.
-mod dmp;
-mod root;
-mod sequence;
