@@ -63,7 +63,7 @@ pub fn head(alloc: Global, program: &Program<'_>) -> Result<Vec<u8>, AllocError>
         FORM,
         &[
             Raw(".TH SACN 1 \""),
-            Text(program.date),
+            Raw(program.date),
             Raw("\" \"\" \"User Commands\"\n.SH NAME\nsacn \\- "),
             Text(first_line(program.about)),
             Raw("\n.SH SYNOPSIS\n.nf\n"),

@@ -43,7 +43,7 @@ pub struct Command<'a> {
 /// A program of commands.
 #[derive(Drop)]
 pub struct Program<'a> {
-    /// The day of its manual, as `2026-11-23`.
+    /// The day of its manual, as `2026-11-23`; it stands in a page as it is.
     pub date: &'a str,
     /// How it is called without a command.
     pub usage: &'a str,
