@@ -1,5 +1,6 @@
 -- Texts that grow keep what they hold.
-use Rattle.std.proofs.Common.{◌≡◌, ℕ, ◌+◌, ◌<◌, List, [], ◌++◌, ◌∙◌, ap, sym, append_assoc, append-nil, length, take, get_or}
+use Rattle.std.proofs.Common.{◌≡◌, ℕ, ◌+◌, ◌<◌, ◌≤◌, List, [], ◌++◌, ◌∙◌, ap, sym, append_assoc, append-nil, length, take, get_or, subst}
+use Rattle.std.proofs.lemmas.List.{take_all}
 use Rattle.std.proofs.lemmas.List.Elements.{All-more}
 use Rattle.std.specs.Prelude.{All}
 use Rattle.sacn_manual.specs.declared.tree.Argument.{Argument}
@@ -37,10 +38,10 @@ pub told_here : (form : Form) (marked name said : List ℕ) (t1 t2 c t3 t4 e t5 
     → t2 ≡ t1 ++ (marked ++ written form name) → t3 ≡ t2 ++ c → t4 ≡ t3 ++ written form said → t5 ≡ t4 ++ e
     → IsTold form marked name said t5
 told_here form marked name said t1 t2 c t3 t4 e t5 q r s t = record {
-    names = kept t2 t5 (marked ++ written form name) (held t1 (marked ++ written form name) t2 q)
-        (chain t2 t3 t5 (grows t2 c t3 r) (chain t3 t4 t5 (grows t3 (written form said) t4 s) (grows t4 e t5 t)));
-    says = kept t4 t5 (written form said) (held t3 (written form said) t4 s) (grows t4 e t5 t)
-    }
+  names = kept t2 t5 (marked ++ written form name) (held t1 (marked ++ written form name) t2 q)
+      (chain t2 t3 t5 (grows t2 c t3 r) (chain t3 t4 t5 (grows t3 (written form said) t4 s) (grows t4 e t5 t)));
+  says = kept t4 t5 (written form said) (held t3 (written form said) t4 s) (grows t4 e t5 t);
+}
 
 pub same : (t : List ℕ) → Grows t t
 same t = record { more = []; is = sym (append-nil t) }
@@ -60,6 +61,11 @@ command_kept form old new c t g = record { told = kept_told form _ _ _ old new t
 pub commands_kept : (form : Form) (old new : List ℕ) (xs : List Command) → All (TellsCommand form old) xs → Grows old new → All (TellsCommand form new) xs
 commands_kept form old new xs a g = λ k d l. command_kept form old new _ (a k d l) g
 
-pub more_commands : (form : Form) (old new : List ℕ) (xs : List Command) (i : ℕ) (d : Command) → i < length xs → Grows old new
-    → All (TellsCommand form old) (take i xs) → TellsCommand form new (get_or xs i d) → All (TellsCommand form new) (take (i + 1) xs)
-more_commands form old new xs i d l g a t = All-more (TellsCommand form new) xs i d l (commands_kept form old new (take i xs) a g) t
+-- `x` is the command at `i`
+pub more_commands : (form : Form) (old new : List ℕ) (xs : List Command) (i : ℕ) (x : Command) → i < length xs → x ≡ get_or xs i x → Grows old new
+    → All (TellsCommand form old) (take i xs) → TellsCommand form new x → All (TellsCommand form new) (take (i + 1) xs)
+more_commands form old new xs i x l e g a t = All-more (TellsCommand form new) xs i x l (commands_kept form old new (take i xs) a g) (subst (TellsCommand form new) e t)
+
+-- what holds of as many as there are holds of all
+pub all_taken : {X : Type 0} (P : X → Type 0) (xs : List X) (i : ℕ) → length xs ≤ i → All P (take i xs) → All P xs
+all_taken P xs i past a = subst (All P) (take_all i xs past) a

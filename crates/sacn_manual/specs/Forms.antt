@@ -1,5 +1,5 @@
 -- How a foreign text is written in a page and in completions.
-use Rattle.std.specs.Prelude.{ℕ, Bool, List, [], ◌∷◌, ◌==◌, codes, Option, Some, None, unwrap_or, if◌then◌else◌, filter, not}
+use Rattle.std.specs.Prelude.{ℕ, List, [], ◌∷◌, ◌==◌, codes, Option, Some, None, unwrap_or, if◌then◌else◌, filter, not}
 use Rattle.std.specs.List.{flat_map}
 use Rattle.sacn_manual.specs.declared.form.Form.{Form}
 use Rattle.sacn_manual.specs.declared.form.Form.TheVariants.{Manual, Bash, Zsh, Fish}

@@ -136,12 +136,7 @@ fn around_command(alloc: Global, form: Form, command: &Command<'_>) -> Result<Ar
     })
 }
 
-fn push_marked(
-    text: &mut Vec<u8>,
-    form: Form,
-    mark: &str,
-    name: &str,
-) -> Result<(), AllocError>
+fn push_marked(text: &mut Vec<u8>, form: Form, mark: &str, name: &str) -> Result<(), AllocError>
     ensures { OnOk result (text.new.items ≡ text.old.items ++ (mark.now ++ written form name.now)) }
 {
     push_all(text, form, &[Raw(mark), Text(name)])
