@@ -2,19 +2,25 @@
 use crate::check::{self, CheckAsked};
 use crate::explain::{self, ExplainAsked};
 use crate::live_words::{self, DeskAsked, GatewayAsked};
+use crate::manual;
 use crate::watch::{self, WatchAsked};
 use clap::error::ErrorKind;
 use clap::{Arg, ArgAction, ArgMatches, Command, Error, value_parser};
+use sacn_manual::Form;
 use std::alloc::{AllocError, Global};
 
-const ABOUT: &str =
+/// The version, and the kit that it was proved with.
+const VERSION: &str = "1, streaming ACN by ANSI E1.31-2018
+kit rattle-kit-13b logic dac8208d650f15bf";
+
+pub const ABOUT: &str =
     "Streaming ACN (ANSI E1.31-2018): datagrams read and checked, consoles and nodes run.
 
 Without a command it reads one datagram from standard input, as hexadecimal digits with
 spaces and line ends anywhere between them, and prints its fields and its frame, or
 refuses it with the first check of the standard's layouts that fails.";
 
-const EXAMPLE: &str = "Examples, in a clone of the repository:
+pub const EXAMPLE: &str = "Examples, in a clone of the repository:
   ./sacn < examples/desk.hex
   ./sacn decode examples/levels.sacn examples/universes.sacn
   ./sacn sim examples/world.toml examples/schedule.txt
@@ -45,18 +51,19 @@ const NODE_ABOUT: &str =
 
 const DATAGRAM_HELP: &str = "Files of one datagram each, raw octets";
 
-const WORLD_HELP: &str = "A world: a TOML file of shows for its consoles and setups for its nodes";
+const WORLD_HELP: &str =
+    "A world: a TOML file of shows for its consoles and setups for its nodes, as examples/world.toml";
 
 const SCHEDULE_HELP: &str = "A schedule: a text file of an event a line, as `deliver 0 0 1000`";
 
 pub const SHOW_HELP: &str =
-    "A show: a TOML file of a console's CID, name, universes, cues and patch";
+    "A show: a TOML file of a console's CID, name, universes, cues and patch, as examples/show.toml";
 
 pub const SCRIPT_HELP: &str =
     "A script: a text file of an order a line, each after its moment in milliseconds, as `0 go`";
 
 pub const SETUP_HELP: &str =
-    "A setup: a TOML file of a node's ports, each with a universe or ranges of slots";
+    "A setup: a TOML file of a node's ports, each with a universe or ranges of slots, as examples/node.toml";
 
 const MOST_TURNS: i64 = 1_000_000_000;
 
@@ -93,6 +100,8 @@ pub enum Asked<'a> {
     Explain(ExplainAsked<'a>),
     Watch(WatchAsked),
     Check(CheckAsked<'a>),
+    /// A text that is made from the table of commands.
+    Manual(Form),
 }
 
 fn files<'a>(alloc: Global) -> Arg<'a> {
@@ -176,6 +185,7 @@ fn with<'a>(
 fn command<'a>(alloc: Global) -> Result<Command<'a>, Error> {
     let command = Command::new(alloc, "sacn")
         .about(ABOUT)
+        .version(VERSION)
         .after_help(EXAMPLE)
         .disable_help_subcommand(true);
     let command = with(Ok(command), decode(alloc));
@@ -187,7 +197,33 @@ fn command<'a>(alloc: Global) -> Result<Command<'a>, Error> {
     let command = with(command, live_words::groups(alloc));
     let command = with(command, explain::command(alloc));
     let command = with(command, watch::command(alloc));
-    with(command, check::command(alloc))
+    let command = with(command, check::command(alloc));
+    let command = with(command, manual::manual(alloc));
+    with(command, manual::completion(alloc))
+}
+
+/// The table of commands, with what clap adds to each.
+pub fn table<'a>(alloc: Global) -> Result<Command<'a>, AllocError> {
+    match command(alloc) {
+        Ok(mut command) => {
+            command.build()?;
+            Ok(command)
+        }
+        Err(_) => Err(AllocError),
+    }
+}
+
+/// What these words, which ask for help, are told.
+pub fn told(alloc: Global, words: &[&str]) -> Result<String, AllocError> {
+    let mut owned = Vec::new(alloc);
+    for word in words {
+        owned.push(String::from_str(alloc, word)?)?;
+    }
+    match matches(alloc, owned.as_slice()) {
+        Ok(_) => Ok(String::new(alloc)),
+        Err(error) if error.kind() == ErrorKind::OutOfMemory => Err(AllocError),
+        Err(error) => format!(in alloc; "{error}"),
+    }
 }
 
 // The call of clap's parser stands alone: checking it takes longest.
@@ -288,6 +324,8 @@ fn asked_of<'a>(alloc: Global, matches: &ArgMatches<'a>) -> Result<Asked<'a>, Er
         Some(("explain", words)) => explain::asked(alloc, words),
         Some(("watch", words)) => watch::asked(alloc, words),
         Some(("check", words)) => check::asked(alloc, words),
+        Some(("manual", _)) => Ok(Asked::Manual(Form::Manual)),
+        Some(("completion", words)) => Ok(manual::completion_asked(words)),
         Some((_, decode)) => decode_asked(alloc, decode),
     }
 }

@@ -8,6 +8,7 @@ mod explain;
 mod files;
 mod live;
 mod live_words;
+mod manual;
 mod network;
 mod page;
 mod program;

@@ -2,7 +2,7 @@
 use crate::command::{Asked, parse};
 use crate::ending::{DONE, Ending, ended, explained};
 use crate::files::{octets_of_files, text_of_file};
-use crate::{check, explain, live, network, watch};
+use crate::{check, explain, live, manual, network, watch};
 use sacn_text::{MOST_OCTETS, Printed, octets_of_digits, print_looks, print_packets, read_limited};
 use std::alloc::Global;
 use std::env::Env;
@@ -60,6 +60,7 @@ fn run<R: AllocGlobal + Files + Env + Net + Clock, I: Read + Drop, O: Write + Dr
         Asked::Explain(asked) => explain::tell(rt, &asked, &mut out, err),
         Asked::Watch(asked) => watch::watch(rt, &asked, &mut out, err),
         Asked::Check(asked) => check::check(rt, &asked, &mut out, err),
+        Asked::Manual(form) => manual::print(rt.alloc(), form, &mut out),
     }
 }
 

@@ -1,0 +1,108 @@
+//! Completions for bash.
+use crate::action::{Action, action_of};
+use crate::form::{Form, mark};
+use crate::pieces::Piece::{self, Raw, Text, Words};
+use crate::pieces::joined;
+use crate::tree::{Argument, Command, Spelling};
+use std::alloc::{AllocError, Global};
+
+const FORM: Form = Form::Bash;
+
+pub const HEAD: &str = r#"# Completions of sacn for bash, made by `sacn completion bash`.
+_sacn() {
+    local current=${COMP_WORDS[COMP_CWORD]} previous='' command='' commands='' options='' operand='' action=''
+    if ((COMP_CWORD > 0)); then previous=${COMP_WORDS[COMP_CWORD - 1]}; fi
+    if ((COMP_CWORD > 1)); then command=${COMP_WORDS[1]}; fi
+    if [[ -z $command ]]; then
+"#;
+
+pub const BETWEEN: &str = "    fi\n";
+
+pub const TAIL: &str = r#"    if [[ -z $action ]]; then
+        if [[ $current == -* ]]; then
+            action=$options
+        elif [[ -z $command ]]; then
+            action=$commands
+        else
+            action=${operand:-nothing}
+        fi
+    fi
+    case $action in
+    nothing) COMPREPLY=() ;;
+    files)
+        mapfile -t COMPREPLY < <(compgen -f -- "$current")
+        compopt -o filenames 2>/dev/null
+        ;;
+    devices) mapfile -t COMPREPLY < <(compgen -W "$(ls /sys/class/net 2>/dev/null)" -- "$current") ;;
+    *) mapfile -t COMPREPLY < <(compgen -W "$action" -- "$current") ;;
+    esac
+}
+complete -F _sacn sacn
+"#;
+
+// The word by which the function knows what to offer.
+fn action_word<'a>(argument: &Argument<'a>) -> [Piece<'a>; 3] {
+    match action_of(argument) {
+        Action::Nothing => [Raw("nothing"), Raw(""), Raw("")],
+        Action::Files => [Raw("files"), Raw(""), Raw("")],
+        Action::Devices => [Raw("devices"), Raw(""), Raw("")],
+        Action::Words(words) => [Raw("'"), Words(words), Raw("'")],
+    }
+}
+
+/// What stands before a command's name.
+pub fn before_command(alloc: Global) -> Result<Vec<u8>, AllocError> {
+    joined(alloc, FORM, &[Raw("    commands+=' ")])
+}
+
+/// What stands between a command's name and what it does.
+pub fn before_about(alloc: Global, command: &Command<'_>) -> Result<Vec<u8>, AllocError> {
+    let name = command.name;
+    joined(
+        alloc,
+        FORM,
+        &[
+            Raw("'\n    if [[ $command == "),
+            Text(name),
+            Raw(" ]]; then # "),
+        ],
+    )
+}
+
+/// What stands before an argument's name.
+pub fn before_argument(alloc: Global, argument: &Argument<'_>) -> Result<Vec<u8>, AllocError> {
+    if argument.spelling != Spelling::Positional {
+        return joined(alloc, FORM, &[Raw("        options+=' ")]);
+    }
+    let [open, words, close] = action_word(argument);
+    joined(
+        alloc,
+        FORM,
+        &[Raw("        operand="), open, words, close, Raw(" # ")],
+    )
+}
+
+/// What stands between an argument's name and what help says of it.
+pub fn before_help(alloc: Global, argument: &Argument<'_>) -> Result<Vec<u8>, AllocError> {
+    if argument.spelling == Spelling::Positional {
+        return joined(alloc, FORM, &[Raw(": ")]);
+    }
+    if argument.value.is_none() {
+        return joined(alloc, FORM, &[Raw("' # ")]);
+    }
+    let [open, words, close] = action_word(argument);
+    joined(
+        alloc,
+        FORM,
+        &[
+            Raw("'; if [[ $previous == "),
+            Raw(mark(FORM, argument.spelling)),
+            Text(argument.name),
+            Raw(" ]]; then action="),
+            open,
+            words,
+            close,
+            Raw("; fi # "),
+        ],
+    )
+}

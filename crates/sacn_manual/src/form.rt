@@ -1,0 +1,120 @@
+//! The texts that are made, and what must be escaped in each.
+
+ghost use Rattle.std.specs.Prelude.{◌≡◌};
+ghost use Rattle.std.specs.Option.{option_map};
+ghost use Rattle.sacn_manual.specs.Forms.{mark, escape, roff_escape, bash_escape, zsh_escape, fish_escape};
+
+use crate::tree::Spelling;
+
+/// The shells that completions are made for.
+pub const SHELLS: &[&str] = &["bash", "zsh", "fish"];
+
+/// A text that is made from a tree.
+#[derive(Clone, Copy, Debug, PartialEq, Eq)]
+pub enum Form {
+    /// A page of a manual: roff with the macros of man(7).
+    Manual,
+    /// Completions for bash.
+    Bash,
+    /// Completions for zsh.
+    Zsh,
+    /// Completions for fish.
+    Fish,
+}
+
+/// The completions for a shell of this name.
+pub fn shell_of(name: &str) -> Option<Form> {
+    match name {
+        "bash" => Some(Form::Bash),
+        "zsh" => Some(Form::Zsh),
+        "fish" => Some(Form::Fish),
+        _ => None,
+    }
+}
+
+/// What stands before an argument's name.
+pub fn mark(form: Form, spelling: Spelling) -> &'static str
+    ensures { result.now ≡ mark form spelling }
+{
+    match spelling {
+        Spelling::Positional => "",
+        Spelling::Short => match form {
+            Form::Manual => "\\-",
+            Form::Bash | Form::Zsh => "-",
+            Form::Fish => "-s ",
+        },
+        Spelling::Long => match form {
+            Form::Manual => "\\-\\-",
+            Form::Bash | Form::Zsh => "--",
+            Form::Fish => "-l ",
+        },
+    }
+}
+
+/// How an octet of a foreign text is written where that isn't by itself. What is written ends no line; in a page it
+/// begins no request either, which a dot or an apostrophe at the start of a line would.
+pub fn escape(form: Form, octet: u8) -> Option<&'static str>
+    ensures { option_map (λ s. s.now) result ≡ escape form octet }
+{
+    match form {
+        Form::Manual => roff_escape(octet),
+        Form::Bash => bash_escape(octet),
+        Form::Zsh => zsh_escape(octet),
+        Form::Fish => fish_escape(octet),
+    }
+}
+
+fn roff_escape(octet: u8) -> Option<&'static str>
+    ensures { option_map (λ s. s.now) result ≡ roff_escape octet }
+{
+    match octet {
+        b'\n' => Some(" "),
+        b'.' => Some("\\&."),
+        b'\'' => Some("\\(aq"),
+        b'"' => Some("\\(dq"),
+        b'-' => Some("\\-"),
+        b'\\' => Some("\\e"),
+        b'^' => Some("\\(ha"),
+        b'`' => Some("\\(ga"),
+        b'~' => Some("\\(ti"),
+        _ => None,
+    }
+}
+
+// Between single quotes.
+fn bash_escape(octet: u8) -> Option<&'static str>
+    ensures { option_map (λ s. s.now) result ≡ bash_escape octet }
+{
+    match octet {
+        b'\n' => Some(" "),
+        b'\'' => Some("'\\''"),
+        _ => None,
+    }
+}
+
+// Between single quotes, in what `_arguments` takes apart at brackets and colons.
+fn zsh_escape(octet: u8) -> Option<&'static str>
+    ensures { option_map (λ s. s.now) result ≡ zsh_escape octet }
+{
+    match octet {
+        b'\n' => Some(" "),
+        b'\'' => Some("'\\''"),
+        b':' => Some("\\:"),
+        b'[' => Some("\\["),
+        b'\\' => Some("\\\\"),
+        b']' => Some("\\]"),
+        _ => None,
+    }
+}
+
+// Between single quotes.
+fn fish_escape(octet: u8) -> Option<&'static str>
+    ensures { option_map (λ s. s.now) result ≡ fish_escape octet }
+{
+    match octet {
+        b'\n' => Some(" "),
+        b'\'' => Some("\\'"),
+        b'\\' => Some("\\\\"),
+        _ => None,
+    }
+}

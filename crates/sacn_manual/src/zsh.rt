@@ -1,0 +1,106 @@
+//! Completions for zsh.
+use crate::action::{Action, action_of};
+use crate::form::Form;
+use crate::pieces::Piece::{self, Raw, Text, Words};
+use crate::pieces::joined;
+use crate::tree::{Argument, Command, Spelling};
+use std::alloc::{AllocError, Global};
+
+const FORM: Form = Form::Zsh;
+
+pub const HEAD: &str = r#"#compdef sacn
+# Completions of sacn for zsh, made by `sacn completion zsh`.
+_sacn() {
+    local command=''
+    local -a commands arguments
+    if ((CURRENT > 2)); then command=$words[2]; fi
+    if [[ -z $command ]]; then
+"#;
+
+pub const BETWEEN: &str = "    fi\n";
+
+pub const TAIL: &str = r#"    if [[ -z $command && $words[CURRENT] != -* ]]; then
+        _describe -t commands command commands
+        return
+    fi
+    if [[ -n $command ]]; then
+        shift words
+        ((CURRENT--))
+    fi
+    _arguments -s -S : "${arguments[@]}"
+}
+if [[ $funcstack[1] == _sacn ]]; then _sacn "$@"; else compdef _sacn sacn; fi
+"#;
+
+// What follows the name of a value: what is offered for it.
+fn action_word<'a>(argument: &Argument<'a>) -> [Piece<'a>; 3] {
+    match action_of(argument) {
+        Action::Nothing => [Raw(": "), Raw(""), Raw("")],
+        Action::Files => [Raw(":_files"), Raw(""), Raw("")],
+        Action::Devices => [Raw(":_net_interfaces"), Raw(""), Raw("")],
+        Action::Words(words) => [Raw(":("), Words(words), Raw(")")],
+    }
+}
+
+/// What stands before a command's name.
+pub fn before_command(alloc: Global) -> Result<Vec<u8>, AllocError> {
+    joined(alloc, FORM, &[Raw("    commands+=('")])
+}
+
+/// What stands between a command's name and what it does.
+pub fn before_about(alloc: Global) -> Result<Vec<u8>, AllocError> {
+    joined(alloc, FORM, &[Raw(":")])
+}
+
+/// What stands between what a command does and its arguments.
+pub fn after_about(alloc: Global, command: &Command<'_>) -> Result<Vec<u8>, AllocError> {
+    let name = command.name;
+    joined(
+        alloc,
+        FORM,
+        &[
+            Raw("')\n    if [[ $command == "),
+            Text(name),
+            Raw(" ]]; then\n"),
+        ],
+    )
+}
+
+/// What stands before an argument's name.
+pub fn before_argument(alloc: Global, argument: &Argument<'_>) -> Result<Vec<u8>, AllocError> {
+    let repeated = if argument.is_repeated { "*" } else { "" };
+    let place = match argument.spelling {
+        Spelling::Positional => ":",
+        Spelling::Short | Spelling::Long => "",
+    };
+    joined(
+        alloc,
+        FORM,
+        &[Raw("        arguments+=('"), Raw(repeated), Raw(place)],
+    )
+}
+
+/// What stands between an argument's name and what help says of it.
+pub fn before_help(alloc: Global, argument: &Argument<'_>) -> Result<Vec<u8>, AllocError> {
+    let between = match argument.spelling {
+        Spelling::Positional => " (",
+        Spelling::Short | Spelling::Long => "[",
+    };
+    joined(alloc, FORM, &[Raw(between)])
+}
+
+/// What stands after what help says of an argument.
+pub fn after_help(alloc: Global, argument: &Argument<'_>) -> Result<Vec<u8>, AllocError> {
+    let [open, words, close] = action_word(argument);
+    match (argument.spelling, argument.value) {
+        (Spelling::Positional, _) => {
+            joined(alloc, FORM, &[Raw(")"), open, words, close, Raw("')\n")])
+        }
+        (_, None) => joined(alloc, FORM, &[Raw("]')\n")]),
+        (_, Some(value)) => joined(
+            alloc,
+            FORM,
+            &[Raw("]:"), Text(value), open, words, close, Raw("')\n")],
+        ),
+    }
+}

@@ -1,0 +1,91 @@
+#!/usr/bin/env bash
+# The manual and the completions: each option that a command's help prints stands in all of them, and the tools that read them take them.
+# Prints 'ok NAME', 'not ok NAME: why' or 'skipped NAME: why' for each, as ./test counts them.
+set -u
+top=$(cd "$(dirname "$(readlink -f "$0")")/.." && pwd)
+sacn=${SACN:-$top/crates/sacn/out/sacn}
+if [ ! -x "$sacn" ]; then
+  echo "skipped manual: sacn isn't built"
+  exit 0
+fi
+room=$(mktemp -d)
+trap 'rm -rf "$room"' EXIT
+cd "$room" || exit 1
+
+# makes FILE WORD..: standard output goes to the file; nothing else is said, and the status is 0
+makes() {
+  local file=$1 status=0
+  shift
+  "$sacn" "$@" >"$file" 2>err || status=$?
+  if [ "$status" = 0 ] && [ -s "$file" ] && [ ! -s err ]; then echo "ok manual: $*"; else echo "not ok manual: $*: status $status, '$(head -c 200 err)'"; fi
+}
+makes page manual
+for shell in bash zsh fish; do makes $shell completion $shell; done
+
+# With the escapes of roff taken back.
+sed 's/\\f[BIR]//g;s/\\-/-/g;s/\\&//g' page >plain
+
+# part FILE START END: the lines from the one that is the start up to the next that begins with the end
+part() { awk -v start="$2" -v end="$3" '$0 == start {on = 1; next} on && index($0, end) == 1 {exit} on' "$1"; }
+
+# The commands are those that the program's own help lists, the options those of each command's help.
+commands=$("$sacn" --help | awk '/^Commands:/ {on = 1; next} on && NF == 0 {exit} on {print $1}')
+if [ -z "$commands" ]; then echo "not ok manual: help lists no command"; fi
+for command in $commands; do
+  missing=
+  part plain ".SS $command" ".S" >of_page
+  awk -v start="    if [[ \$command == $command ]]; then" 'index($0, start) == 1 {on = 1; next} on && $0 == "    fi" {exit} on' bash >of_bash
+  part zsh "    if [[ \$command == $command ]]; then" "    fi" >of_zsh
+  grep -F "'__fish_seen_subcommand_from $command'" fish >of_fish
+  options=$("$sacn" "$command" --help | awk '/^Options:/ {on = 1; next} on && NF == 0 {exit} on' | grep -oE '^ +(-[a-z], )?--[a-z]+' | tr -d ' ' | tr , '\n')
+  [ -n "$options" ] || missing=" no options"
+  for option in $options; do
+    grep -qE -- "^$option( |\$)" of_page || missing+=" $option of page"
+    grep -qF -- "options+=' $option'" of_bash || missing+=" $option of bash"
+    grep -qE -- "\+=\('\*?$option\[" of_zsh || missing+=" $option of zsh"
+    case $option in --*) wanted=" -l ${option#--} " ;; *) wanted=" -s ${option#-} " ;; esac
+    grep -qF -- "$wanted" of_fish || missing+=" $option of fish"
+  done
+  for value in $("$sacn" "$command" --help | grep -oE '^ +--[a-z]+ <[^>]+>' | sed 's/^ *//;s/ <.*//'); do
+    name=$("$sacn" "$command" --help | sed -n "s/^ *$value <\([^>]*\)>.*/\1/p")
+    grep -qF -- "$value $name" of_page || missing+=" value of $value"
+  done
+  if [ -z "$missing" ]; then echo "ok manual: $command and its options stand in all"; else echo "not ok manual: $command lacks$missing"; fi
+done
+
+# What reads them takes them.
+# takes NAME TOOL WORD..: the tool, where it is there, ends well and says nothing
+takes() {
+  local name=$1 status=0
+  shift
+  if ! command -v "$1" >/dev/null; then
+    echo "skipped manual: $name: no $1 here"
+    return
+  fi
+  "$@" >said 2>&1 || status=$?
+  if [ "$status" = 0 ] && [ ! -s said ]; then echo "ok manual: $name"; else echo "not ok manual: $name: status $status, '$(head -c 200 said)'"; fi
+}
+takes "groff takes the page" groff -man -Tutf8 -ww -z page
+takes "mandoc takes the page" mandoc -T lint -W warning page
+takes "bash takes its completions" bash -n bash
+takes "zsh takes its completions" zsh -n zsh
+takes "fish takes its completions" fish -n fish
+
+# Words completed by bash itself, in a folder of one file.
+touch setup.toml
+# offers WANTED WORD..: what bash offers for the last of these words, one a line
+offers() {
+  local wanted=$1 found
+  shift
+  found=$(bash --norc -c '. ./bash; COMP_WORDS=("$@"); COMP_CWORD=$(($# - 1)); _sacn; printf "%s\n" "${COMPREPLY[@]}"' sacn "$@" 2>/dev/null | sort | tr '\n' ' ')
+  if [ "$found" = "$wanted" ]; then echo "ok manual: bash offers $* $wanted"; else echo "not ok manual: bash offers $*: '$found'"; fi
+}
+offers "gateway " sacn ga
+offers "setup.toml " sacn gateway set
+offers "setup.toml " sacn explain x --setup set
+offers "bash fish zsh " sacn completion ""
+offers "--stay " sacn desk --s""t
+offers " " sacn gateway x --seconds ""
+
+# The version is told with the kit that the tree wants.
+if "$sacn" --version | grep -qxF "kit $(cat "$top/tools/kit")"; then echo "ok manual: the kit of --version"; else echo "not ok manual: the kit of --version"; fi
