@@ -1,6 +1,7 @@
 -- What a row of a screen may hold.
-use Rattle.std.specs.Prelude.{ℕ, Bool, List, nat_le, ◌&&◌, ◌||◌, not, ◌==◌}
+use Rattle.std.specs.Prelude.{◌≡◌, ◌≤◌, ℕ, Bool, List, [], ◌∷◌, ◌++◌, length, All, nat_le, nat_lt, ◌&&◌, ◌||◌, not, ◌==◌, if◌then◌else◌}
 use Rattle.sacn_watch.specs.declared.page.Cell.{Cell}
+use Rattle.sacn_watch.specs.declared.page.Size.{Size}
 
 -- a letter that takes one column and steers no terminal: ASCII from the space to the tilde, and the letters of Latin 1, A and B
 abbrev pub is_shown : ℕ → Bool
@@ -10,3 +11,11 @@ is_shown code = (nat_le 32 code && nat_le code 126) || ((nat_le 161 code && nat_
 pub record Line : Type 0 where
   pub width : ℕ
   pub cells : List Cell
+
+-- a row more, where there is room for it below the others
+abbrev pub with_row : ℕ → Line → List Line → List Line
+with_row height row rows = if nat_lt (length rows) height then rows ++ row ∷ [] else rows
+
+-- rows of a screen: no more than it has, and each as wide as it is
+abbrev pub FitsOn : Size → List Line → Type 0
+FitsOn size rows = (length rows ≤ size.height) × All (λ (row : Line). row.width ≡ size.width) rows

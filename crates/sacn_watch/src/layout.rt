@@ -1,5 +1,8 @@
 //! What stands on a screen.
 
+ghost use Rattle.std.specs.Prelude.{◌≡◌, IfOk};
+ghost use Rattle.sacn_watch.specs.Pages.{FitsOn};
+
 use crate::page::{Ink, Page, Row, Size};
 use crate::view::{SLOTS, View};
 use sacn_monitor::{Account, State, Stream};
@@ -21,10 +24,14 @@ const LEVEL_COLUMNS: usize = 4;
 const SOURCE_HEAD: &str = "  universe state   prio  rate   lost  late name                 address";
 
 /// The screen of a view, at a terminal of this size: alarms, the sources on universes, and the levels of one universe, each
-/// after the letter of the source that gives it. Rows are cut at the terminal's edge, and rows below its end are left out.
+/// after the letter of the source that gives it. Rows are cut at the terminal's edge, and rows below its end are left out: there are
+/// never more rows than the terminal has, and each is as wide as it.
 ///
 /// Errors: a growth was refused.
-pub fn screen(alloc: Global, view: &View, size: Size) -> Result<Page, AllocError> {
+pub fn screen(alloc: Global, view: &View, size: Size) -> Result<Page, AllocError>
+    ensures size { IfOk result (λ page. page.size ≡ size) }
+    ensures fits { IfOk result (λ page. FitsOn page.size page.rows.items) }
+{
     let mut page = Page::new(alloc, size);
     push_counts(alloc, &mut page, view)?;
     push_alarms(alloc, &mut page, view)?;
@@ -38,7 +45,10 @@ fn letter_of(place: usize) -> u32 {
     'A' as u32 + (place % 26) as u32
 }
 
-fn push_counts(alloc: Global, page: &mut Page, view: &View) -> Result<(), AllocError> {
+fn push_counts(alloc: Global, page: &mut Page, view: &View) -> Result<(), AllocError>
+    ensures size { page.new.size ≡ page.old.size }
+    ensures fits { FitsOn page.old.size page.old.rows.items → FitsOn page.new.size page.new.rows.items }
+{
     let mut text = String::new(alloc);
     let streams = view.monitor.streams().len();
     let datagrams = view.monitor.tally().datagrams;
@@ -49,7 +59,10 @@ fn push_counts(alloc: Global, page: &mut Page, view: &View) -> Result<(), AllocE
     page.push_text(alloc, text.as_str(), Ink::Heading)
 }
 
-fn push_alarms(alloc: Global, page: &mut Page, view: &View) -> Result<(), AllocError> {
+fn push_alarms(alloc: Global, page: &mut Page, view: &View) -> Result<(), AllocError>
+    ensures size { page.new.size ≡ page.old.size }
+    ensures fits { FitsOn page.old.size page.old.rows.items → FitsOn page.new.size page.new.rows.items }
+{
     let mut text = String::new(alloc);
     let refused = refused_in(view);
     if refused > 0 {
@@ -104,7 +117,10 @@ fn refused_in(view: &View) -> u64 {
     sum
 }
 
-fn push_sources(alloc: Global, page: &mut Page, view: &View) -> Result<(), AllocError> {
+fn push_sources(alloc: Global, page: &mut Page, view: &View) -> Result<(), AllocError>
+    ensures size { page.new.size ≡ page.old.size }
+    ensures fits { FitsOn page.old.size page.old.rows.items → FitsOn page.new.size page.new.rows.items }
+{
     page.push_text(alloc, "", Ink::Plain)?;
     page.push_text(alloc, SOURCE_HEAD, Ink::Heading)?;
     let streams = view.monitor.streams();
@@ -190,7 +206,10 @@ fn levels_in(width: usize) -> usize {
     }
 }
 
-fn push_levels(alloc: Global, page: &mut Page, view: &View) -> Result<(), AllocError> {
+fn push_levels(alloc: Global, page: &mut Page, view: &View) -> Result<(), AllocError>
+    ensures size { page.new.size ≡ page.old.size }
+    ensures fits { FitsOn page.old.size page.old.rows.items → FitsOn page.new.size page.new.rows.items }
+{
     let Some(universe) = view.universe else {
         return Ok(());
     };
@@ -231,7 +250,9 @@ fn level_row(
     first: usize,
     count: usize,
     width: usize,
-) -> Result<Row, AllocError> {
+) -> Result<Row, AllocError>
+    ensures { IfOk result (λ row. row.width ≡ width) }
+{
     let mut row = Row::new(alloc, width);
     row.put_text(head, Ink::Plain)?;
     for slot in first..first.saturating_add(count).min(SLOTS) {
@@ -249,7 +270,9 @@ fn level_row(
 }
 
 // A letter, two digits and a space.
-fn put_level(row: &mut Row, letter: u32, level: u8, ink: Ink) -> Result<(), AllocError> {
+fn put_level(row: &mut Row, letter: u32, level: u8, ink: Ink) -> Result<(), AllocError>
+    ensures { row.new.width ≡ row.old.width }
+{
     row.put(letter, ink)?;
     row.put(digit(level / 16), ink)?;
     row.put(digit(level % 16), ink)?;

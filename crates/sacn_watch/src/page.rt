@@ -1,7 +1,7 @@
 //! Rows of letters, and how they are written to a terminal.
 
-ghost use Rattle.std.specs.Prelude.{◌≡◌, ◌≤◌, [], true, length};
-ghost use Rattle.sacn_watch.specs.Pages.{is_shown};
+ghost use Rattle.std.specs.Prelude.{◌≡◌, ◌≤◌, [], true, length, OnOk};
+ghost use Rattle.sacn_watch.specs.Pages.{is_shown, with_row, FitsOn};
 
 use std::alloc::{AllocError, Global};
 use std::fmt::Write;
@@ -103,7 +103,9 @@ impl Row {
     }
 
     /// A text more, as much of it as there is room for.
-    pub fn put_text(&mut self, text: &str, ink: Ink) -> Result<(), AllocError> {
+    pub fn put_text(&mut self, text: &str, ink: Ink) -> Result<(), AllocError>
+        ensures width { self.new.width ≡ self.old.width }
+    {
         for letter in text.chars() {
             self.put(letter as u32, ink)?;
         }
@@ -119,7 +121,11 @@ pub struct Page {
 }
 
 impl Page {
-    pub fn new(alloc: Global, size: Size) -> Self {
+    /// No row yet.
+    pub fn new(alloc: Global, size: Size) -> Self
+        ensures size { result.size ≡ size }
+        ensures rows { result.rows.items ≡ [] }
+    {
         Page {
             size,
             rows: Vec::new(alloc),
@@ -127,7 +133,11 @@ impl Page {
     }
 
     /// A row more, where there is room for it.
-    pub fn push(&mut self, row: Row) -> Result<(), AllocError> {
+    pub fn push(&mut self, row: Row) -> Result<(), AllocError>
+        ensures size { self.new.size ≡ self.old.size }
+        ensures kept { OnOk result (self.new.rows.items ≡ with_row self.old.size.height row self.old.rows.items) }
+        ensures fits { row.width ≡ self.old.size.width → FitsOn self.old.size self.old.rows.items → FitsOn self.new.size self.new.rows.items }
+    {
         if self.rows.len() < self.size.height {
             self.rows.push(row)?;
         }
@@ -135,7 +145,10 @@ impl Page {
     }
 
     /// A row of one ink more, where there is room for it.
-    pub fn push_text(&mut self, alloc: Global, text: &str, ink: Ink) -> Result<(), AllocError> {
+    pub fn push_text(&mut self, alloc: Global, text: &str, ink: Ink) -> Result<(), AllocError>
+        ensures size { self.new.size ≡ self.old.size }
+        ensures fits { FitsOn self.old.size self.old.rows.items → FitsOn self.new.size self.new.rows.items }
+    {
         let mut row = Row::new(alloc, self.size.width);
         row.put_text(text, ink)?;
         self.push(row)
@@ -151,7 +164,7 @@ impl Page {
             text.push_str("\u{1b}[K")?;
             number = number.saturating_add(1);
         }
-        if self.rows.len() < self.size.height {
+        if number <= self.size.height {
             write!(text, "\u{1b}[{number};1H\u{1b}[J")?;
         }
         Ok(text)

@@ -1,8 +1,17 @@
 //! What a screen shows.
 
+ghost use Rattle.std.specs.Prelude.{◌≡◌, ◌≤◌, IfOk, is_some, max};
+ghost use Rattle.sacn_framing.specs.PacketReading.{reading_packet};
+ghost use Rattle.sacn_monitor.specs.Books.{new_book, silent_place};
+ghost use Rattle.sacn_sources.specs.Kept.{new_kept, kept_after_merged};
+ghost use Rattle.sacn_sources.specs.Rows.{after_expire, slots_of};
+ghost use Rattle.sacn_explain.specs.Following.{IsTaken, IsTicked};
+ghost use Rattle.sacn_watch.specs.Views.{after_packet, after_reading};
+
 use crate::fault::WatchFault;
 use sacn_framing::{DataView, Packet, read_packet};
 use sacn_monitor::{Monitor, Sender, Stream};
+use sacn_slots::Levels;
 use sacn_sources::SourceTable;
 use std::alloc::Global;
 
@@ -26,7 +35,11 @@ impl View {
     /// Nothing heard yet.
     ///
     /// Errors: OutOfMemory.
-    pub fn new(alloc: Global, universe: Option<u16>) -> Result<Self, WatchFault> {
+    pub fn new(alloc: Global, universe: Option<u16>) -> Result<Self, WatchFault>
+        ensures nothing { IfOk result (λ v. v.monitor ≡ new_book) }
+        ensures universe { IfOk result (λ v. v.universe ≡ universe) }
+        ensures sources { IfOk result (λ v. v.table ≡ new_kept) }
+    {
         let monitor = Monitor::new(alloc)?;
         Ok(View {
             monitor,
@@ -37,30 +50,56 @@ impl View {
         })
     }
 
-    /// Takes a datagram.
-    pub fn take(&mut self, now: u64, sender: Sender, octets: &[u8]) {
+    /// Takes a datagram that came at a moment from a sender: once, after the losses up to then. A data packet of the universe
+    /// whose levels are shown goes to its table of sources; where none was shown yet it is the packet's from now on.
+    pub fn take(&mut self, now: u64, sender: Sender, octets: &[u8])
+        ensures taken { IsTaken now sender octets.now self.old.monitor self.new.monitor }
+        ensures shown { record { universe = self.new.universe; sources = self.new.table }
+            ≡ after_reading now (reading_packet octets.now) (record { universe = self.old.universe; sources = self.old.table }) }
+    {
         self.tick(now);
         let _ = self.monitor.take(now, sender, octets);
-        if let Ok(Packet::DataPacket(packet)) = read_packet(octets) {
-            self.take_levels(now, &packet);
+        match read_packet(octets) {
+            Ok(Packet::DataPacket(packet)) => self.take_levels(now, &packet),
+            Ok(Packet::PagePacket(_)) => {}
+            Ok(Packet::SyncPacket) => {}
+            Err(_) => {}
         }
     }
 
     /// Moves the clock. Answers whether a source was lost.
-    pub fn tick(&mut self, now: u64) -> bool {
-        let mut is_lost = false;
-        for _ in 0..sacn_monitor::MAX_STREAMS {
-            if self.monitor.tick(now).is_none() {
-                break;
-            }
-            is_lost = true;
+    pub fn tick(&mut self, now: u64) -> bool
+        ensures lost { result ≡ is_some (silent_place (max self.old.monitor.moment now) self.old.monitor.streams) }
+        ensures ticked { IsTicked now self.old.monitor self.new.monitor }
+        ensures clock { self.new.monitor.moment ≡ max self.old.monitor.moment now }
+        ensures universe { self.new.universe ≡ self.old.universe }
+        ensures sources { self.new.table ≡ self.old.table }
+    {
+        let is_lost = self.monitor.tick(now).is_some();
+        if is_lost {
+            tell_losses(&mut self.monitor, now);
         }
         is_lost
     }
 
     /// Merges the levels anew.
-    pub fn refresh(&mut self, now: u64) {
+    pub fn refresh(&mut self, now: u64)
+        ensures levels { self.new.levels ≡ slots_of (after_expire now self.old.table.table).rows }
+        ensures sources { self.new.table ≡ kept_after_merged now self.old.table }
+        ensures monitor { self.new.monitor ≡ self.old.monitor }
+        ensures universe { self.new.universe ≡ self.old.universe }
+    {
         self.table.merged(now, &mut self.levels);
+        self.claim_all();
+    }
+
+    // Gives each slot above 0 its source.
+    fn claim_all(&mut self)
+        ensures levels { self.new.levels ≡ self.old.levels }
+        ensures sources { self.new.table ≡ self.old.table }
+        ensures monitor { self.new.monitor ≡ self.old.monitor }
+        ensures universe { self.new.universe ≡ self.old.universe }
+    {
         self.winners = [None; SLOTS];
         let top = self.top();
         for place in 0..self.monitor.streams().len() {
@@ -69,7 +108,11 @@ impl View {
     }
 
     // A data packet.
-    fn take_levels(&mut self, now: u64, packet: &DataView<'_>) {
+    fn take_levels(&mut self, now: u64, packet: &DataView<'_>)
+        ensures monitor { self.new.monitor ≡ self.old.monitor }
+        ensures shown { record { universe = self.new.universe; sources = self.new.table }
+            ≡ after_packet now packet.now (record { universe = self.old.universe; sources = self.old.table }) }
+    {
         let universe = match self.universe {
             Some(universe) => universe,
             None => packet.universe(),
@@ -104,7 +147,12 @@ impl View {
     }
 
     // Gives the source at a place each slot whose level is its own, and that no other has.
-    fn claim(&mut self, place: usize, top: u8) {
+    fn claim(&mut self, place: usize, top: u8)
+        ensures levels { self.new.levels ≡ self.old.levels }
+        ensures sources { self.new.table ≡ self.old.table }
+        ensures monitor { self.new.monitor ≡ self.old.monitor }
+        ensures universe { self.new.universe ≡ self.old.universe }
+    {
         let Some(stream) = self.stream(place) else {
             return;
         };
@@ -118,11 +166,33 @@ impl View {
         if held.priority() != top {
             return;
         }
-        for slot in 0..SLOTS {
-            let level = self.levels[slot];
-            if (level > 0) & (levels.at(slot) == level) & self.winners[slot].is_none() {
-                self.winners[slot] = Some(place);
-            }
+        claim_slots(&mut self.winners, &self.levels, levels, place);
+    }
+}
+
+// Tells the losses up to a moment.
+fn tell_losses(monitor: &mut Monitor, now: u64)
+    ensures ticked { IsTicked now monitor.old monitor.new }
+    ensures clock { now ≤ monitor.old.moment → monitor.new.moment ≡ monitor.old.moment }
+{
+    for _told in 0..sacn_monitor::MAX_STREAMS {
+        if monitor.tick(now).is_none() {
+            return;
+        }
+    }
+}
+
+// Gives the source at a place each slot whose level is its own, and that no other has.
+fn claim_slots(
+    winners: &mut [Option<usize>; SLOTS],
+    shown: &[u8; SLOTS],
+    own: &Levels,
+    place: usize,
+) {
+    for slot in 0..SLOTS {
+        let level = shown[slot];
+        if (level > 0) & (own.at(slot) == level) & winners[slot].is_none() {
+            winners[slot] = Some(place);
         }
     }
 }

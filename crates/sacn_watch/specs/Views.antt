@@ -1,0 +1,31 @@
+-- What a screen shows of a network.
+use Rattle.std.specs.Prelude.{ℕ, ◌==◌, Option, None, Some, Result, Ok, Err, if◌then◌else◌}
+use Rattle.sacn_root.specs.declared.fault.PacketFault.{PacketFault}
+use Rattle.sacn_framing.specs.Data.{Data}
+use Rattle.sacn_framing.specs.declared.packet.Packet.{Packet}
+use Rattle.sacn_framing.specs.declared.packet.Packet.TheVariants.{DataPacket, PagePacket, SyncPacket}
+use Rattle.sacn_sources.specs.Packets.{packet_of}
+use Rattle.sacn_sources.specs.Kept.{Kept, kept_after_take}
+
+-- the universe whose levels are shown, and what is held of its sources
+pub record Shown : Type 0 where
+  pub universe : Option ℕ
+  pub sources : Kept
+
+-- the universe that is asked for, else the first of which a data packet came
+abbrev pub shown_with : ℕ → Option ℕ → ℕ
+shown_with universe None = universe
+shown_with universe (Some asked) = asked
+
+-- a data packet goes to the table of the universe that is shown
+abbrev pub after_packet : ℕ → Data → Shown → Shown
+after_packet now d s = record {
+  universe = Some (shown_with d.universe s.universe);
+  sources = if shown_with d.universe s.universe == d.universe then kept_after_take now (packet_of d) s.sources else s.sources;
+}
+
+abbrev pub after_reading : ℕ → Result Packet PacketFault → Shown → Shown
+after_reading now (Ok (DataPacket d)) s = after_packet now d s
+after_reading now (Ok (PagePacket p)) s = s
+after_reading now (Ok SyncPacket) s = s
+after_reading now (Err fault) s = s
