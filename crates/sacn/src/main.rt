@@ -10,6 +10,7 @@ mod live_words;
 mod network;
 mod page;
 mod program;
+mod recording;
 mod watch;
 
 use std::io::{ErrorKind, Write};
