@@ -40,12 +40,6 @@ refused() {
   [ "$status" = "$wanted" ] && [[ $first == $said ]] && [ ! -s out ]
   verdict "explain $(head -c 60 <<<"$*")" $? "status $status, '$first'"
 }
-refused 2 "error: 0: Port" "$ola" --page 0
-refused 2 "error: 127.0.0.1: Address" "$ola" --page 127.0.0.1
-refused 2 "error: here:80: Address" "$ola" --page here:80
-refused 2 "error: --page: beside --json" "$ola" --page $tcp --json
-refused 2 "error: --page: beside --setup" "$ola" --page $tcp --setup x
-refused 2 "error: --seconds: without --page" "$ola" --seconds 5
 refused 4 "device read absent" absent --page $tcp
 refused 4 "device read $room" "$room" --page $tcp
 refused 4 "device socket 192.0.2.1:$tcp AddrNotAvailable" "$ola" --page 192.0.2.1:$tcp

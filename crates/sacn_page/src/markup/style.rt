@@ -29,6 +29,7 @@ section { background: var(--panel); border: 1px solid var(--line); border-radius
 #time-part { position: sticky; top: 0; z-index: 2; } #time-part p { margin: .4rem 0 0; }
 #time-row { display: flex; gap: .75rem; align-items: center; } #time { flex: 1; min-width: 0; accent-color: var(--focus); height: 1.8rem; margin: 0; }
 #moment, #length { font-variant-numeric: tabular-nums; } #play { min-width: 4.5rem; text-align: center; } #name { overflow-wrap: anywhere; }
+@media (max-width: 700px) { #time-keys { display: none; } }
 [data-shows=recording] #graph { display: none; } #alarms button { width: 100%; overflow-wrap: anywhere; } #alarms .later button { color: var(--dim); }
 .stale main { opacity: .45; filter: grayscale(1); }
 button { font: inherit; color: inherit; background: var(--ground); border: 1px solid var(--line); border-radius: 6px; padding: .3rem .6rem; cursor: pointer; text-align: left; }
