@@ -64,7 +64,9 @@ impl Alarms {
     /// Errors: a growth was refused.
     pub fn add(&mut self, moment: u64, trouble: Trouble) -> Result<(), AllocError> {
         if self.latest.len() >= self.most {
-            let _ = self.latest.remove(0);
+            if !self.latest.is_empty() {
+                let _ = self.latest.remove(0);
+            }
         }
         self.latest.push(Alarm { moment, trouble })?;
         self.count = self.count.saturating_add(1);
