@@ -2,20 +2,38 @@
  * Streaming ACN (ANSI E1.31-2018) for C and C++: packets, a node, the sources of one universe, a collector of
  * universe discovery, a console and a monitor, over cores whose contracts are proved.
  *
- * Handles. A `struct sacn_node`, `sacn_sources`, `sacn_collector`, `sacn_console` or `sacn_monitor` is memory of the caller's: set it to
- * zero, make it by `.._new`, end it by `.._free`. A handle is used by one thread at a time, and is never copied: two copies of one handle are
- * one handle that is ended twice.
+ * A node, in short (examples/c/receive.c has it with its socket):
  *
- * Memory. Only the calls `.._new` (and a collector's others) take memory, by the program's malloc, and `.._free` gives all of it back. No call
- * keeps a pointer that it was given, and no call prints, waits, opens anything, reads a clock, aborts or jumps out.
+ *     struct sacn_node node = {0};
+ *     if (sacn_node_new(&node, setup, length, &udp_port)) ..         a setup in TOML; its fault's number, or 0
+ *     sacn_node_take(&node, now, datagram, count, &taken);           for each datagram, of whatever octets
+ *     sacn_node_frame(&node, now, port, frame);                      what the port shows now
+ *     sacn_node_wakes(&node, &moment);                               how long to wait for the next datagram
+ *     sacn_node_free(&node);
+ *
+ * Handles. A `struct sacn_node`, `sacn_sources`, `sacn_collector`, `sacn_console` or `sacn_monitor` is memory of the caller's: set it to
+ * zero, make it by `.._new`, end it by `.._free`. What is `behind` it is the library's: don't look, don't write. A handle is never copied: two
+ * copies of one handle are one handle that is ended twice, and the second one's next call reads memory that was given back.
+ *
+ * Threads. A handle is used by one thread at a time, in any call, also in those that only ask. Two handles have nothing in common: each may have
+ * a thread of its own. Calls without a handle may be made by any number of threads.
+ *
+ * Memory. Only the calls `.._new`, and a collector's `.._take` and `.._list`, take memory, by the program's malloc, and `.._free` gives all of it
+ * back. No call keeps a pointer that it was given, and no call prints, waits, opens anything, reads a clock, aborts or jumps out.
  *
  * Pointers. A pointer with a count points to so many elements and may be null where the count is 0. Every other pointer points to what its
- * type says; arrays have the length that stands in the declaration. What a call writes does not overlap what it reads.
+ * type says, in memory that may be written where it isn't const; arrays have the length that stands in the declaration, and numbers lie as C lays
+ * them. What a call writes does not overlap what it reads, nor anything else that it writes. Of all this a call sees null pointers alone.
  *
  * Statuses. 0 is SACN_DONE. 1 to 18 are the fault's own number, of the family that the call names. From 1001 on they are the border's.
- * Where a status isn't SACN_DONE nothing is written, but where the call says otherwise.
+ * Where a status isn't SACN_DONE nothing is written, but where the call says otherwise. Each call with a pointer can answer SACN_NULL, each with a
+ * count SACN_LENGTH, and each with a handle but `.._new` and `.._free` SACN_WRONG_HANDLE, whatever else it names.
  *
- * Moments are milliseconds of a clock of the caller's. A handle uses the greatest moment that it was handed.
+ * Moments are milliseconds of a clock of the caller's that doesn't go back, as CLOCK_MONOTONIC; where it begins doesn't matter. A handle uses the
+ * greatest moment that it was handed: an earlier one counts as that, and after one that lies far ahead the handle's time stands still until the
+ * clock is there.
+ *
+ * Numbers are the machine's own; octets of a packet are as they lie on the wire.
  */
 #ifndef SACN_H
 #define SACN_H
@@ -120,6 +138,17 @@ enum sacn_packet_kind {
 #define SACN_DATA_OCTETS 638
 #define SACN_MOST_OCTETS 1144
 #define SACN_UDP_PORT 5568
+/* The universe to whose group pages are sent (8). */
+#define SACN_DISCOVERY_UNIVERSE 64214
+/* The most universe numbers of a page (8.5). */
+#define SACN_PAGE_UNIVERSES 512
+/* How many sources of one universe a node or a table holds, how many ports a node has, and how many universes. */
+#define SACN_MOST_SOURCES 16
+#define SACN_MOST_PORTS 16
+#define SACN_MOST_UNIVERSES 16
+/* A source that sent nothing for so many milliseconds is lost (6.7.1), and a list of universes whose latest page is so old is forgotten. */
+#define SACN_DATA_LOSS 2500
+#define SACN_LIST_LOSS 25000
 
 struct sacn_packet {
     /* enum sacn_packet_kind */
@@ -142,13 +171,16 @@ struct sacn_packet {
     uint8_t name[64];
 };
 
-/* Reads the packet at the front of `count` octets. Fields that its kind doesn't have stay as they were. `frame` may be null; a data packet's start
-   code and 512 slots go there, 0 in each that isn't given. Status: enum sacn_packet_fault. */
+/* Reads the packet at the front of `count` octets; what follows it is passed over. Fields that its kind doesn't have stay as they were, so set
+   `packet` to zero once. `frame` may be null; a data packet's start code and 512 slots go there, 0 in each that isn't given, and of another
+   packet nothing. Status: enum sacn_packet_fault. */
 int sacn_read_packet(const uint8_t *octets, size_t count, struct sacn_packet *packet, uint8_t frame[SACN_FRAME_OCTETS]);
 
 /* Writes a data packet of these fields (cid, name, priority, number, preview, terminated, universe, start) and of 0 to 512 slots, and its
-   length: 126, and one for each slot. What is written is read back as these fields. Status: SACN_PACKET_PRIORITY, SACN_PACKET_UNIVERSE or
-   SACN_PACKET_VALUE_COUNT where one is out of range. */
+   length: 126, and one for each slot. All 64 octets of the name are written as they are; E1.31 wants a NUL among them (6.2.2). The octets of
+   `out` after the packet stay as they were. What is written is read back as these fields. A synchronization address isn't written, and a packet
+   that forces synchronization neither (6.2.4, 6.2.6). Status: SACN_PACKET_PRIORITY, SACN_PACKET_UNIVERSE or SACN_PACKET_VALUE_COUNT where one is
+   out of range. */
 int sacn_write_data(const struct sacn_packet *packet, const uint8_t *slots, size_t slot_count, uint8_t out[SACN_DATA_OCTETS], size_t *length);
 
 #define SACN_TEXT_OCTETS 65
@@ -163,8 +195,8 @@ int sacn_packet_name(const struct sacn_packet *packet, char text[SACN_TEXT_OCTET
 int sacn_read_universes(const uint8_t *octets, size_t count, uint16_t *universes, size_t room, size_t *given);
 
 /* Writes a page of a list of `count` universes, each above the one before: the page `page` of these fields (page, cid, name), and its length:
-   120, and two for each of its universes, of which a page has 512 and the last one the rest. Status: SACN_RANGE where the list doesn't
-   ascend or has no such page. */
+   120, and two for each of its universes, of which a page has 512 and the last one the rest. So a list of none has one page, and write pages from
+   0 on until one is refused. Status: SACN_RANGE where the list doesn't ascend or has no such page. */
 int sacn_write_page(const struct sacn_packet *packet, const uint16_t *universes, size_t count, uint8_t out[SACN_MOST_OCTETS], size_t *length);
 
 /* 1 where a packet with the number `arrived` is in sequence after one with the number `held`, else 0 (6.7.2). */
@@ -219,9 +251,28 @@ int sacn_node_frame(struct sacn_node *node, uint64_t now, uint8_t port, uint8_t 
 /* The first moment at which a source is lost if no datagram comes, UINT64_MAX where there is none. */
 int sacn_node_wakes(struct sacn_node *node, uint64_t *moment);
 
-/* Copies the numbers of the ports, ascending, to a room of `room` octets, and tells how many there are in `count`. Status: SACN_LENGTH where
-   there is too little room, with `count` told. */
+/* Copies the numbers of the ports, ascending, to a room of `room` octets, and tells how many there are in `count`: at most SACN_MOST_PORTS. Status:
+   SACN_LENGTH where there is too little room, with `count` told. */
 int sacn_node_ports(struct sacn_node *node, uint8_t *ports, size_t room, size_t *count);
+
+/* What is held of a source, by a node or by a table of sources. */
+struct sacn_source {
+    /* The moment of its latest packet that was held or ended it. */
+    uint64_t moment;
+    /* The sequence number of its latest packet that was taken (6.2.5). */
+    uint8_t number;
+    /* 1 where it has ended its stream, and shows nothing (6.2.6). */
+    uint8_t ended;
+    /* The priority of what it shows (6.2.3), 0 to 200, and 0 where it has ended. */
+    uint8_t priority;
+    /* Always 0. */
+    uint8_t unused[5];
+};
+
+/* What a node holds of the source of a CID on a universe, and the levels that it shows: 0 in each slot that it doesn't give, and in all where it
+   has ended. No clock moves and no source is dropped by this call, however old it is. A CID is in each packet (sacn_read_packet). Status:
+   SACN_RANGE where none of this CID is held there, or the node has no such universe. */
+int sacn_node_held(struct sacn_node *node, uint16_t universe, const uint8_t cid[16], struct sacn_source *source, uint8_t slots[SACN_SLOTS]);
 
 /* ---- the sources of one universe, where the caller has the rest of a receiver ---- */
 
@@ -243,27 +294,20 @@ int sacn_sources_take(struct sacn_sources *sources, uint64_t now, const uint8_t 
 /* Writes the merge: slot by slot the highest level of the sources of the highest priority, and 0 where no source is live. */
 int sacn_sources_merged(struct sacn_sources *sources, uint64_t now, uint8_t slots[SACN_SLOTS]);
 
-/* What is held of a source. */
-struct sacn_source {
-    /* The moment of its latest packet that was held or ended it. */
-    uint64_t moment;
-    /* The sequence number of its latest packet that was taken (6.2.5). */
-    uint8_t number;
-    /* 1 where it has ended its stream, and shows nothing (6.2.6). */
-    uint8_t ended;
-    /* The priority of what it shows (6.2.3), 0 where it has ended. */
-    uint8_t priority;
-    /* Always 0. */
-    uint8_t unused[5];
-};
+/* Drops the sources that are lost, and tells how many those were, ended ones too. */
+int sacn_sources_tick(struct sacn_sources *sources, uint64_t now, size_t *lost);
+
+/* The first moment at which a source is lost if no datagram comes, ended ones too, UINT64_MAX where there is none. */
+int sacn_sources_wakes(struct sacn_sources *sources, uint64_t *moment);
 
 /* What is held of the source of a CID, and the levels that it shows: 0 in each slot that it doesn't give, and in all where it has ended. No source
-   is dropped by this call, however old it is. Status: SACN_RANGE where none is held. */
+   is dropped by this call, however old it is. Status: SACN_RANGE where none of this CID is held. */
 int sacn_sources_held(struct sacn_sources *sources, const uint8_t cid[16], struct sacn_source *source, uint8_t slots[SACN_SLOTS]);
 
 /* ---- universe discovery ---- */
 
-/* Collects the pages of any number of sources, and has the list of universes of each (E1.31, 8). Its call `.._take` takes memory too. */
+/* Collects the pages of any number of sources, and has the list of universes of each (E1.31, 8). It keeps what comes for SACN_LIST_LOSS: how much
+   memory that is, is said by those who send (up to 256 pages of a kilobyte for each CID). */
 struct sacn_collector {
     void *behind;
 };
@@ -281,6 +325,9 @@ int sacn_collector_take(struct sacn_collector *collector, uint64_t now, const ui
 /* Copies the list of a source, ascending and each universe once, to a room of `room` numbers, and tells its length in `count`. Status: SACN_RANGE where
    the source isn't known or a page of it is lacking; SACN_LENGTH where the list is longer than the room, with `count` told; SACN_OUT_OF_MEMORY. */
 int sacn_collector_list(struct sacn_collector *collector, uint64_t now, const uint8_t cid[16], uint16_t *universes, size_t room, size_t *count);
+
+/* Forgets the lists whose latest page is SACN_LIST_LOSS old, and tells how many those were. The calls before do that too. */
+int sacn_collector_tick(struct sacn_collector *collector, uint64_t now, size_t *forgotten);
 
 /* ---- console ---- */
 
@@ -305,7 +352,7 @@ struct sacn_console {
 };
 
 /* Makes a console of a show: `length` octets of TOML, as docs/FILES.md has them. The console must be empty. The first packet on each universe has the
-   number `first`. Status: enum sacn_show_fault. */
+   number `first`. Where its datagrams are sent is the caller's to say: the show's `send_to` isn't told. Status: enum sacn_show_fault. */
 int sacn_console_new(struct sacn_console *console, const char *show, size_t length, uint8_t first);
 
 /* Gives back all memory of a console, which is then empty. Status: SACN_NULL where it is already. */
@@ -316,11 +363,40 @@ int sacn_console_free(struct sacn_console *console);
 int sacn_console_command(struct sacn_console *console, uint64_t now, uint8_t command, uint16_t number, uint16_t level);
 
 /* Gives the datagram that is due, if one is: its octets at the front of `out`, and their number in `count`, 0 where none is. Poll until none is.
-   Octets 113 and 114 of a data packet (from 0 on) have its universe; a page goes to universe 64214. */
+   Octet 21, from 0 on, is 4 in a data packet, whose universe is octets 113 and 114, the high one first; it is 8 in a page, which goes to the group
+   of SACN_DISCOVERY_UNIVERSE. */
 int sacn_console_poll(struct sacn_console *console, uint64_t now, uint8_t out[SACN_MOST_OCTETS], size_t *count);
 
 /* The first moment at which something can be due as long as no command comes: no earlier poll gives anything. */
 int sacn_console_wakes(struct sacn_console *console, uint64_t *moment);
+
+enum sacn_universe_state {
+    SACN_UNIVERSE_RUNNING = 1,
+    /* Its three terminations aren't all given yet (6.2.6). */
+    SACN_UNIVERSE_ENDING = 2,
+    /* It is sent no more, until it is started. */
+    SACN_UNIVERSE_STOPPED = 3
+};
+
+/* A universe of a console. */
+struct sacn_universe {
+    /* The moment of its latest packet since the console was made, UINT64_MAX where there was none. */
+    uint64_t latest;
+    uint16_t universe;
+    /* enum sacn_universe_state */
+    uint8_t state;
+    /* The sequence number of its next packet (6.2.5). */
+    uint8_t number;
+    /* Always 0. */
+    uint8_t unused[4];
+};
+
+/* The universe at a place, by ascending number, from 0 on. Before a console is freed its universes are ended, and polled until each is stopped: else
+   nodes show its last levels until they count it as lost. Status: SACN_RANGE where there is none. */
+int sacn_console_universe(struct sacn_console *console, size_t place, struct sacn_universe *universe);
+
+/* The number of the cue that was gone to last. Status: SACN_RANGE before the first. */
+int sacn_console_cue(struct sacn_console *console, uint16_t *number);
 
 /* ---- monitor ---- */
 
@@ -445,6 +521,11 @@ int sacn_monitor_count(struct sacn_monitor *monitor, size_t *count);
 /* The account of the pair at a place, from 0 on. Its state and its last second are those of the greatest moment that was handed in. Status:
    SACN_RANGE where there is none. */
 int sacn_monitor_account(struct sacn_monitor *monitor, size_t place, struct sacn_stream *stream);
+
+/* The greatest priority of the sources that light a universe, 0 where none does, and how many light it at that priority: where these are two or
+   more, their levels are merged. A source lights it that sends there at the greatest moment that was handed in, and of which a packet with levels
+   for the stage was taken. */
+int sacn_monitor_rivals(struct sacn_monitor *monitor, uint16_t universe, size_t *count, uint8_t *priority);
 
 #ifdef __cplusplus
 }

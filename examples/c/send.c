@@ -38,7 +38,8 @@ int main(int count, char **words) {
         size_t octet_count;
         if (moment >= end && !universe_ends) {
             universe_ends = 1;
-            for (unsigned universe = 1; universe < 64000; universe++) sacn_console_command(&console, moment, SACN_END_UNIVERSE, (uint16_t)universe, 0);
+            struct sacn_universe at;
+            for (size_t place = 0; !sacn_console_universe(&console, place, &at); place++) sacn_console_command(&console, moment, SACN_END_UNIVERSE, at.universe, 0);
         }
         while (!sacn_console_poll(&console, moment, octets, &octet_count) && octet_count) {
             sent += sendto(sends, octets, octet_count, 0, (struct sockaddr *)&to, sizeof to) == (ssize_t)octet_count;

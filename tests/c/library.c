@@ -46,6 +46,12 @@ static void packets(void) {
     CHECK(sacn_write_data(&packet, NULL, 0, out, &length) == SACN_DONE && length == 126);
     CHECK(sacn_read_packet(out, length, &got, NULL) == SACN_DONE && got.preview == 1 && got.terminated == 1 && got.count == 0);
 
+    /* (what stands behind the first NUL of a name is not told; a name may fill its field) */
+    memset(out + 44, 'n', 64);
+    CHECK(sacn_read_packet(out, length, &got, NULL) == SACN_DONE && !memcmp(got.name, out + 44, 64));
+    out[44 + 5] = 0;
+    memset(got.name, 77, 64);
+    CHECK(sacn_read_packet(out, length, &got, NULL) == SACN_DONE && !memcmp(got.name, "nnnnn", 6) && got.name[6] == 0 && got.name[63] == 0);
     CHECK(sacn_read_packet(out, 125, &got, frame) == SACN_PACKET_TOO_SHORT);
     CHECK(sacn_read_packet(NULL, 0, &got, frame) == SACN_PACKET_TOO_SHORT);
     CHECK(sacn_read_packet(NULL, 1, &got, frame) == SACN_NULL);
@@ -128,10 +134,13 @@ static size_t packet_of(uint8_t number, uint8_t level, uint8_t terminated, uint8
 static void node(void) {
     struct sacn_node node = {0}, empty = {0};
     struct sacn_console console = {0};
-    uint8_t out[SACN_MOST_OCTETS], frame[SACN_FRAME_OCTETS], taken = 77;
+    struct sacn_source source;
+    struct sacn_universe universe;
+    uint8_t out[SACN_MOST_OCTETS], frame[SACN_FRAME_OCTETS], slots[SACN_SLOTS], cid[16], taken = 77;
     uint16_t port = 0;
     uint64_t wakes = 0;
     size_t lost = 77;
+    memset(cid, 'c', sizeof cid);
     CHECK(sacn_node_new(&node, setup, strlen(setup), &port) == SACN_DONE && port == SACN_UDP_PORT);
     CHECK(sacn_node_new(&node, setup, strlen(setup), &port) == SACN_NOT_EMPTY);
     CHECK(sacn_node_wakes(&node, &wakes) == SACN_DONE && wakes == UINT64_MAX);
@@ -143,7 +152,17 @@ static void node(void) {
     CHECK(sacn_node_take(&node, 10, out, packet_of(1, 200, 0, out), &taken) == SACN_DONE && taken == SACN_TAKEN_OUT_OF_SEQUENCE);
     CHECK(sacn_node_frame(&node, 10, 1, frame) == SACN_DONE && frame[0] == 0 && frame[1] == 200 && frame[2] == 0);
     CHECK(sacn_node_frame(&node, 10, 2, frame) == SACN_RANGE);
-    CHECK(sacn_node_wakes(&node, &wakes) == SACN_DONE && wakes == 2510);
+    /* (what it holds of its one source: held at 10, number 1, priority 100, one slot at 200) */
+    CHECK(sacn_node_held(&node, 7, cid, &source, slots) == SACN_DONE && source.moment == 10 && source.number == 1 && source.ended == 0);
+    CHECK(source.priority == 100 && slots[0] == 200 && slots[1] == 0 && slots[511] == 0);
+    source.number = 77;
+    CHECK(sacn_node_held(&node, 8, cid, &source, slots) == SACN_RANGE && source.number == 77 && slots[0] == 200);
+    cid[0] = 'd';
+    CHECK(sacn_node_held(&node, 7, cid, &source, slots) == SACN_RANGE);
+    CHECK(sacn_node_held(&empty, 7, cid, &source, slots) == SACN_NULL && sacn_node_held(NULL, 7, cid, &source, slots) == SACN_NULL);
+    CHECK(sacn_node_held(&node, 7, NULL, &source, slots) == SACN_NULL && sacn_node_held(&node, 7, cid, NULL, slots) == SACN_NULL);
+    CHECK(sacn_node_held(&node, 7, cid, &source, NULL) == SACN_NULL);
+    CHECK(sacn_node_wakes(&node, &wakes) == SACN_DONE && wakes == 10 + SACN_DATA_LOSS);
     CHECK(sacn_node_tick(&node, 2509, &lost) == SACN_DONE && lost == 0);
     CHECK(sacn_node_tick(&node, 2510, &lost) == SACN_DONE && lost == 1);
     CHECK(sacn_node_frame(&node, 2510, 1, frame) == SACN_DONE && frame[1] == 0);
@@ -160,6 +179,7 @@ static void node(void) {
     console.behind = node.behind;
     CHECK(sacn_console_command(&console, 0, SACN_GO, 0, 0) == SACN_WRONG_HANDLE);
     CHECK(sacn_console_poll(&console, 0, out, &lost) == SACN_WRONG_HANDLE && sacn_console_wakes(&console, &wakes) == SACN_WRONG_HANDLE);
+    CHECK(sacn_console_universe(&console, 0, &universe) == SACN_WRONG_HANDLE && sacn_console_cue(&console, &port) == SACN_WRONG_HANDLE);
     CHECK(sacn_node_free(&node) == SACN_DONE && sacn_node_free(&node) == SACN_NULL && sacn_node_free(NULL) == SACN_NULL);
     CHECK(sacn_node_new(&node, NULL, 5, &port) == SACN_NULL && sacn_node_new(NULL, setup, 5, &port) == SACN_NULL);
     CHECK(sacn_node_new(&node, setup, 5, NULL) == SACN_NULL && sacn_node_new(&node, setup, SIZE_MAX, &port) == SACN_LENGTH);
@@ -174,6 +194,7 @@ static void sources(void) {
     uint8_t out[SACN_DATA_OCTETS], slots[SACN_SLOTS], cid[16], taken = 77;
     struct sacn_source source;
     size_t lost;
+    uint64_t wakes;
     memset(cid, 'c', sizeof cid);
     CHECK(sacn_sources_new(&sources) == SACN_DONE && sacn_sources_new(&sources) == SACN_NOT_EMPTY && sacn_sources_new(NULL) == SACN_NULL);
     CHECK(sacn_sources_take(&sources, 5, out, packet_of(1, 30, 0, out), &taken) == SACN_DONE && taken == SACN_TAKEN_HELD);
@@ -191,17 +212,27 @@ static void sources(void) {
     CHECK(sacn_sources_take(&sources, 6, NULL, 1, &taken) == SACN_NULL && sacn_sources_take(&sources, 6, out, SIZE_MAX, &taken) == SACN_LENGTH);
     CHECK(sacn_sources_take(&sources, 6, out, 1, NULL) == SACN_NULL && sacn_sources_take(&empty, 6, out, 1, &taken) == SACN_NULL);
     CHECK(sacn_sources_merged(&empty, 6, slots) == SACN_NULL && sacn_sources_merged(&sources, 6, NULL) == SACN_NULL);
+    /* (it ended at 6) */
+    CHECK(sacn_sources_wakes(&sources, &wakes) == SACN_DONE && wakes == 2506);
+    CHECK(sacn_sources_tick(&sources, 2505, &lost) == SACN_DONE && lost == 0 && sacn_sources_tick(&sources, 2506, &lost) == SACN_DONE && lost == 1);
+    CHECK(sacn_sources_wakes(&sources, &wakes) == SACN_DONE && wakes == UINT64_MAX);
+    CHECK(sacn_sources_tick(&empty, 0, &lost) == SACN_NULL && sacn_sources_tick(&sources, 0, NULL) == SACN_NULL);
+    CHECK(sacn_sources_wakes(&empty, &wakes) == SACN_NULL && sacn_sources_wakes(&sources, NULL) == SACN_NULL);
     node.behind = sources.behind;
     CHECK(sacn_node_tick(&node, 0, &lost) == SACN_WRONG_HANDLE);
+    memset(cid, 'c', sizeof cid);
+    CHECK(sacn_node_held(&node, 7, cid, &source, slots) == SACN_WRONG_HANDLE);
     CHECK(sacn_sources_free(&sources) == SACN_DONE && sacn_sources_free(&sources) == SACN_NULL && sacn_sources_free(NULL) == SACN_NULL);
 }
 
 static void collector(void) {
     struct sacn_collector collector = {0}, empty = {0};
     struct sacn_console console = {0};
+    struct sacn_sources sources = {0};
     struct sacn_packet packet;
     uint8_t out[SACN_MOST_OCTETS];
     uint16_t universes[2] = {0, 77};
+    uint64_t wakes;
     size_t page = 0, count = 77;
     /* (the second datagram of a console is its page) */
     CHECK(sacn_console_new(&console, show, strlen(show), 0) == SACN_DONE);
@@ -212,7 +243,13 @@ static void collector(void) {
     CHECK(sacn_collector_take(&collector, 0, out, page) == SACN_DONE);
     CHECK(sacn_collector_list(&collector, 0, packet.cid, universes, 2, &count) == SACN_DONE && count == 1 && universes[0] == 7 && universes[1] == 77);
     CHECK(sacn_collector_list(&collector, 0, packet.cid, NULL, 0, &count) == SACN_LENGTH && count == 1);
+    CHECK(sacn_collector_tick(&collector, 24999, &count) == SACN_DONE && count == 0);
+    CHECK(sacn_collector_tick(&collector, SACN_LIST_LOSS, &count) == SACN_DONE && count == 1);
     CHECK(sacn_collector_list(&collector, 25000, packet.cid, universes, 2, &count) == SACN_RANGE);
+    CHECK(sacn_collector_take(&collector, 30000, out, page) == SACN_DONE);
+    CHECK(sacn_collector_list(&collector, 54999, packet.cid, universes, 2, &count) == SACN_DONE && count == 1);
+    CHECK(sacn_collector_list(&collector, 55000, packet.cid, universes, 2, &count) == SACN_RANGE);
+    CHECK(sacn_collector_tick(&empty, 0, &count) == SACN_NULL && sacn_collector_tick(&collector, 0, NULL) == SACN_NULL);
     CHECK(sacn_collector_take(&collector, 0, out, 10) == SACN_PACKET_TOO_SHORT && sacn_collector_take(&collector, 0, NULL, 1) == SACN_NULL);
     CHECK(sacn_collector_take(&collector, 0, out, SIZE_MAX) == SACN_LENGTH && sacn_collector_take(&empty, 0, out, page) == SACN_NULL);
     CHECK(sacn_collector_list(&empty, 0, packet.cid, universes, 2, &count) == SACN_NULL);
@@ -222,6 +259,8 @@ static void collector(void) {
     CHECK(sacn_collector_list(&collector, 0, packet.cid, universes, SIZE_MAX, &count) == SACN_LENGTH);
     console.behind = (sacn_console_free(&console), collector.behind);
     CHECK(sacn_console_command(&console, 0, SACN_GO, 0, 0) == SACN_WRONG_HANDLE);
+    sources.behind = collector.behind;
+    CHECK(sacn_sources_tick(&sources, 0, &count) == SACN_WRONG_HANDLE && sacn_sources_wakes(&sources, &wakes) == SACN_WRONG_HANDLE);
     CHECK(sacn_collector_free(&collector) == SACN_DONE && sacn_collector_free(&collector) == SACN_NULL && sacn_collector_free(NULL) == SACN_NULL);
 }
 
@@ -230,12 +269,18 @@ static void console(void) {
     struct sacn_node node = {0};
     uint8_t out[SACN_MOST_OCTETS], frame[SACN_FRAME_OCTETS], taken;
     struct sacn_packet packet;
+    struct sacn_universe universe;
     uint64_t wakes = 77;
+    uint16_t cue = 77;
     size_t count = 77;
     CHECK(sacn_console_new(&console, show, strlen(show), 5) == SACN_DONE);
     CHECK(sacn_console_new(&console, show, strlen(show), 5) == SACN_NOT_EMPTY);
+    CHECK(sacn_console_cue(&console, &cue) == SACN_RANGE && cue == 77);
+    CHECK(sacn_console_universe(&console, 0, &universe) == SACN_DONE && universe.universe == 7 && universe.state == SACN_UNIVERSE_RUNNING);
+    CHECK(universe.number == 5 && universe.latest == UINT64_MAX && sacn_console_universe(&console, 1, &universe) == SACN_RANGE);
     CHECK(sacn_console_command(&console, 0, SACN_GO, 0, 0) == SACN_DONE);
     CHECK(sacn_console_command(&console, 0, SACN_GO, 0, 0) == SACN_CONSOLE_NO_CUE);
+    CHECK(sacn_console_cue(&console, &cue) == SACN_DONE && cue == 1);
     CHECK(sacn_console_command(&console, 0, SACN_GO_TO, 1, 0) == SACN_DONE && sacn_console_command(&console, 0, SACN_GO_TO, 9, 0) == SACN_CONSOLE_NO_CUE);
     CHECK(sacn_console_command(&console, 0, SACN_SET_LEVEL, 1, 65535) == SACN_DONE);
     CHECK(sacn_console_command(&console, 0, SACN_SET_LEVEL, 0, 65535) == SACN_CONSOLE_CHANNEL_RANGE);
@@ -252,6 +297,13 @@ static void console(void) {
     CHECK(sacn_console_wakes(&console, &wakes) == SACN_DONE && wakes > 0 && wakes <= 900);
     CHECK(sacn_console_command(&console, 0, SACN_END_UNIVERSE, 7, 0) == SACN_DONE);
     CHECK(sacn_console_command(&console, 0, SACN_END_UNIVERSE, 7, 0) == SACN_CONSOLE_ENDING);
+    CHECK(sacn_console_universe(&console, 0, &universe) == SACN_DONE && universe.state == SACN_UNIVERSE_ENDING && universe.latest == 0 && universe.number == 6);
+    /* (three terminations, 25 ms apart) */
+    for (uint64_t moment = 25; moment <= 75; moment += 25) CHECK(sacn_console_poll(&console, moment, out, &count) == SACN_DONE && count == 638);
+    CHECK(sacn_console_universe(&console, 0, &universe) == SACN_DONE && universe.state == SACN_UNIVERSE_STOPPED && universe.latest == 75 && universe.number == 9);
+    CHECK(sacn_console_command(&console, 75, SACN_END_UNIVERSE, 7, 0) == SACN_CONSOLE_STOPPED);
+    CHECK(sacn_console_universe(&empty, 0, &universe) == SACN_NULL && sacn_console_universe(&console, 0, NULL) == SACN_NULL);
+    CHECK(sacn_console_cue(&empty, &cue) == SACN_NULL && sacn_console_cue(&console, NULL) == SACN_NULL);
     CHECK(sacn_console_command(&empty, 0, SACN_GO, 0, 0) == SACN_NULL && sacn_console_command(NULL, 0, SACN_GO, 0, 0) == SACN_NULL);
     CHECK(sacn_console_poll(&empty, 0, out, &count) == SACN_NULL && sacn_console_poll(&console, 0, NULL, &count) == SACN_NULL);
     CHECK(sacn_console_poll(&console, 0, out, NULL) == SACN_NULL && sacn_console_wakes(&empty, &wakes) == SACN_NULL);
@@ -269,7 +321,7 @@ static void monitor(void) {
     struct sacn_monitor monitor = {0}, empty = {0};
     struct sacn_collector collector = {0};
     const uint8_t address[4] = {10, 0, 0, 1};
-    uint8_t out[SACN_DATA_OCTETS];
+    uint8_t out[SACN_DATA_OCTETS], priority = 77;
     struct sacn_news news;
     struct sacn_stream stream;
     uint64_t wakes = 77;
@@ -289,12 +341,30 @@ static void monitor(void) {
     CHECK(stream.live == 2 && stream.skipped == 2 && stream.repeats == 1 && stream.late == 0 && stream.greatest_gap == 40 && stream.number == 4);
     CHECK(stream.priority == 100 && stream.port == 6000 && !memcmp(stream.address, address, 4) && stream.cid[0] == 'c' && !memcmp(stream.name, "Desk", 5));
     CHECK(stream.state == SACN_SENDING && sacn_monitor_account(&monitor, 1, &stream) == SACN_RANGE);
+    CHECK(sacn_monitor_rivals(&monitor, 7, &count, &priority) == SACN_DONE && count == 1 && priority == 100);
+    CHECK(sacn_monitor_rivals(&monitor, 8, &count, &priority) == SACN_DONE && count == 0 && priority == 0);
     CHECK(sacn_monitor_wakes(&monitor, &wakes) == SACN_DONE && wakes == 3540);
     CHECK(sacn_monitor_tick(&monitor, 3539, &place) == SACN_RANGE && place == 77);
     CHECK(sacn_monitor_tick(&monitor, 3540, &place) == SACN_DONE && place == 0 && sacn_monitor_tick(&monitor, 3540, &place) == SACN_RANGE);
     CHECK(sacn_monitor_account(&monitor, 0, &stream) == SACN_DONE && stream.state == SACN_LOST);
     CHECK(sacn_monitor_take(&monitor, 3600, address, 6000, out, packet_of(5, 0, 1, out), &news) == SACN_DONE && news.event == SACN_EVENT_ENDED);
     CHECK(sacn_monitor_account(&monitor, 0, &stream) == SACN_DONE && stream.state == SACN_ENDED && stream.terminations == 1);
+    /* (on another universe: a preview, another start code, another priority, another name, numbers that begin anew, all in the fifth second) */
+    for (int i = 0; i < 5; i++) {
+        struct sacn_packet packet = fields((uint8_t)(i == 4 ? 100 : 200 + i));
+        packet.universe = 9;
+        packet.preview = i == 0;
+        packet.start = i == 1 ? 0xdd : 0;
+        packet.priority = i >= 2 ? 120 : 100;
+        packet.name[0] = i >= 3 ? 'T' : 'D';
+        CHECK(sacn_write_data(&packet, NULL, 0, out, &count) == SACN_DONE && count == 126);
+        CHECK(sacn_monitor_take(&monitor, 5000 + 100 * (uint64_t)i, address, 6000, out, count, &news) == SACN_DONE && news.place == 1);
+        CHECK(news.priority_from == (i == 2 ? 100 : 0) && news.priority_to == (i == 2 ? 120 : 0));
+        CHECK(news.renamed == (i == 3) && news.began_anew == (i == 4));
+    }
+    CHECK(sacn_monitor_tick(&monitor, 6000, &place) == SACN_RANGE);
+    CHECK(sacn_monitor_account(&monitor, 1, &stream) == SACN_DONE && stream.universe == 9 && stream.last_second == 5);
+    CHECK(stream.previews == 1 && stream.others == 1 && stream.live == 3 && stream.priority == 120 && stream.number == 100 && !stream.unused);
     CHECK(sacn_monitor_take(&empty, 0, address, 0, out, 1, &news) == SACN_NULL && sacn_monitor_take(&monitor, 0, NULL, 0, out, 1, &news) == SACN_NULL);
     CHECK(sacn_monitor_take(&monitor, 0, address, 0, NULL, 1, &news) == SACN_NULL && sacn_monitor_take(&monitor, 0, address, 0, out, 1, NULL) == SACN_NULL);
     CHECK(sacn_monitor_take(&monitor, 0, address, 0, out, SIZE_MAX, &news) == SACN_LENGTH);
@@ -302,14 +372,16 @@ static void monitor(void) {
     CHECK(sacn_monitor_wakes(&empty, &wakes) == SACN_NULL && sacn_monitor_wakes(&monitor, NULL) == SACN_NULL);
     CHECK(sacn_monitor_count(&empty, &count) == SACN_NULL && sacn_monitor_count(&monitor, NULL) == SACN_NULL);
     CHECK(sacn_monitor_account(&empty, 0, &stream) == SACN_NULL && sacn_monitor_account(&monitor, 0, NULL) == SACN_NULL);
+    CHECK(sacn_monitor_rivals(&empty, 7, &count, &priority) == SACN_NULL && sacn_monitor_rivals(&monitor, 7, NULL, &priority) == SACN_NULL);
+    CHECK(sacn_monitor_rivals(&monitor, 7, &count, NULL) == SACN_NULL);
     /* (a monitor as a collector, and a collector as a monitor) */
     collector.behind = monitor.behind;
-    CHECK(sacn_collector_take(&collector, 0, out, 1) == SACN_WRONG_HANDLE);
+    CHECK(sacn_collector_take(&collector, 0, out, 1) == SACN_WRONG_HANDLE && sacn_collector_tick(&collector, 0, &count) == SACN_WRONG_HANDLE);
     CHECK(sacn_collector_free(&collector) == SACN_DONE && sacn_collector_new(&collector) == SACN_DONE);
     monitor.behind = collector.behind;
     CHECK(sacn_monitor_take(&monitor, 0, address, 0, out, 1, &news) == SACN_WRONG_HANDLE && sacn_monitor_tick(&monitor, 0, &place) == SACN_WRONG_HANDLE);
     CHECK(sacn_monitor_wakes(&monitor, &wakes) == SACN_WRONG_HANDLE && sacn_monitor_count(&monitor, &count) == SACN_WRONG_HANDLE);
-    CHECK(sacn_monitor_account(&monitor, 0, &stream) == SACN_WRONG_HANDLE);
+    CHECK(sacn_monitor_account(&monitor, 0, &stream) == SACN_WRONG_HANDLE && sacn_monitor_rivals(&monitor, 7, &count, &priority) == SACN_WRONG_HANDLE);
     CHECK(sacn_monitor_free(&monitor) == SACN_DONE && sacn_monitor_free(&monitor) == SACN_NULL && sacn_monitor_free(NULL) == SACN_NULL);
 }
 

@@ -1,6 +1,7 @@
 //! Collectors of universe discovery.
 ghost use Rattle.std.specs.Prelude.{◌≡◌, None, IfOk, IfErr, IfSome};
 ghost use Rattle.sacn_framing.specs.PacketReading.{reading_packet};
+ghost use Rattle.sacn_discovery.specs.Lists.{forgotten as gone};
 ghost use Rattle.sacn_discovery.specs.Known.{nothing_known, after_expire, known_list};
 ghost use Rattle.sacn_border.specs.Collecting.{after_reading, collect_status, collected, list_status, list_count, list_room, ShowsList};
 ghost use Rattle.sacn_border.specs.Kinds.{of_collector};
@@ -51,6 +52,21 @@ pub fn take(held: &mut Held, now: u64, octets: &[u8]) -> u32
 {
     match held {
         Held::Collector(collector) => take_into(collector, now, octets),
+        _ => WRONG_HANDLE,
+    }
+}
+
+/// Forgets the sources whose latest page is too old, as `Collector::expire`, and tells how many those were.
+pub fn tick(held: &mut Held, now: u64, forgotten: &mut usize) -> u32
+    ensures status { result ≡ of_collector WRONG_HANDLE (λ s. DONE) held.old }
+    ensures forgotten { forgotten.new ≡ of_collector forgotten.old (λ s. gone now s) held.old }
+    ensures held { held.new ≡ of_collector held.old (λ s. Held.Collector (after_expire now s)) held.old }
+{
+    match held {
+        Held::Collector(collector) => {
+            *forgotten = collector.expire(now);
+            DONE
+        }
         _ => WRONG_HANDLE,
     }
 }

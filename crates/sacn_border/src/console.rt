@@ -1,10 +1,11 @@
 //! Consoles.
-ghost use Rattle.std.specs.Prelude.{◌≡◌, ◌<◌, ◌≤◌, ◌&&◌, None, ℕ, nat_lt, is_some, true, false, IfOk, IfErr, IfSome, IfNone};
+ghost use Rattle.std.specs.Prelude.{◌≡◌, ◌<◌, ◌≤◌, ◌&&◌, ◌+◌, min, None, Some, ℕ, nat_lt, is_some, true, false, IfOk, IfErr, IfSome, IfNone};
 ghost use Rattle.std.specs.Str.{IsUtf8};
 ghost use Rattle.toml.specs.Parse.{parse_document};
 ghost use Rattle.sacn_files.specs.Document.{Gives};
 ghost use Rattle.sacn_cues.specs.Playing.{is_still};
-ghost use Rattle.sacn_console.specs.Core.{after_command, after_poll, answer, at, due, over};
+ghost use Rattle.sacn_console.specs.Core.{Core, IsLawful, after_command, after_poll, answer, at, due, over};
+ghost use Rattle.sacn_console.specs.Lines.{Datagram};
 ghost use Rattle.sacn_console.specs.ShowReading.{show_or_toml};
 ghost use Rattle.sacn_console.specs.Wakes.{last_moment};
 ghost use Rattle.sacn_console.specs.declared.show.fault.ShowFault.TheVariants as fault;
@@ -105,6 +106,7 @@ fn order(held: &mut Held, now: u64, command: Command) -> u32
 /// Gives the datagram that is due, as `ConsoleCore::poll`; the count is 0 where none is.
 pub fn poll(held: &mut Held, now: u64, out: &mut [u8; MOST_OCTETS], count: &mut usize) -> u32
     ensures status { result ≡ of_console WRONG_HANDLE (λ c. DONE) held.old }
+    ensures lawful { (c : Core) (d : Datagram) → held.old ≡ Held.Console c → due (at now c) ≡ Some d → IsLawful c.sender d }
     ensures octets { out.new ≡ of_console out.old (λ c. over c.sender (due (at now c)) out.old) held.old }
     ensures count { count.new ≡ of_console count.old (λ c. due_size (due (at now c))) held.old }
     ensures held { held.new ≡ of_console held.old (λ c. Held.Console (after_poll now c)) held.old }
@@ -121,6 +123,8 @@ pub fn poll(held: &mut Held, now: u64, out: &mut [u8; MOST_OCTETS], count: &mut 
 /// The first moment at which something can be due, as `ConsoleCore::wakes`.
 pub fn wakes(held: &mut Held, moment: &mut u64) -> u32
     ensures status { result ≡ of_console WRONG_HANDLE (λ c. DONE) held.old }
+    ensures unwritten { result ≡ WRONG_HANDLE → moment.new ≡ moment.old }
+    ensures ahead { 0 < moment.new → of_console 0 (λ c. min (c.moment + 1) last_moment) held.old ≤ moment.new }
     ensures quiet { (t : ℕ) → t < moment.new → of_console None (λ c. due (at t c)) held.old ≡ None }
     ensures exact { of_console false (λ c. is_still c.lights.player && nat_lt moment.new last_moment) held.old ≡ true → of_console false (λ c. is_some (due (at moment.new c))) held.old ≡ true }
     ensures held { held.new ≡ held.old }

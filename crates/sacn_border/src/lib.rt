@@ -15,10 +15,12 @@ pub mod packets;
 pub mod pages;
 mod rooms;
 pub mod sources;
+pub mod state;
 mod status;
 
 pub use held::Held;
 pub use news::{NewsFields, StreamFields};
 pub use packets::PacketFields;
 pub use sources::SourceFields;
+pub use state::LineFields;
 pub use status::{DONE, LENGTH, OUT_OF_MEMORY, RANGE, WRONG_HANDLE};

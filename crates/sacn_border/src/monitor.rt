@@ -2,6 +2,7 @@
 ghost use Rattle.std.specs.Prelude.{◌≡◌, max, length, slice_get, IfOk, IfErr};
 ghost use Rattle.std.specs.Option.{option_map};
 ghost use Rattle.sacn_monitor.specs.Books.{new_book, noted, after_take, after_tick, next_loss, silent_place};
+ghost use Rattle.sacn_monitor.specs.Rivals.{rivals, top_priority};
 ghost use Rattle.sacn_border.specs.Hearing.{news_told, noted_status, stream_told};
 ghost use Rattle.sacn_border.specs.Kinds.{of_monitor};
 ghost use Rattle.sacn_border.specs.Numbers.{found_status, found_or};
@@ -106,6 +107,22 @@ pub fn account(held: &Held, place: usize, fields: &mut StreamFields) -> u32
             }
             None => RANGE,
         },
+        _ => WRONG_HANDLE,
+    }
+}
+
+/// How many sources light a universe at the greatest priority of those that light it, as `Monitor::rivals` and `Monitor::top_priority`.
+pub fn rivals(held: &Held, universe: u16, count: &mut usize, priority: &mut u8) -> u32
+    ensures status { result ≡ of_monitor WRONG_HANDLE (λ b. DONE) held.now }
+    ensures count { count.new ≡ of_monitor count.old (λ b. rivals universe b.moment b.streams) held.now }
+    ensures priority { priority.new ≡ of_monitor priority.old (λ b. top_priority universe b.moment b.streams) held.now }
+{
+    match held {
+        Held::Monitor(monitor) => {
+            *count = monitor.rivals(universe);
+            *priority = monitor.top_priority(universe);
+            DONE
+        }
         _ => WRONG_HANDLE,
     }
 }

@@ -1,23 +1,28 @@
 //! Nodes.
-ghost use Rattle.std.specs.Prelude.{◌≡◌, ◌<◌, ◌≤◌, ◌^◌, ◌-◌, ℕ, nat_lt, true, false, length, IfOk, IfErr, OnErr};
+ghost use Rattle.std.specs.Prelude.{◌≡◌, ◌<◌, ◌≤◌, ◌^◌, ◌-◌, ℕ, nat_lt, true, false, [], length, slice_index, None, IfOk, IfErr, IfSome, OnErr};
+ghost use Rattle.std.specs.List.Sorted.{IsStrictlyIncreasing};
+ghost use Rattle.std.specs.Option.{option_map};
 ghost use Rattle.std.specs.Str.{IsUtf8};
 ghost use Rattle.toml.specs.Parse.{parse_document};
 ghost use Rattle.sacn_files.specs.Document.{Gives};
 ghost use Rattle.sacn_framing.specs.PacketReading.{reading_packet};
-ghost use Rattle.sacn_node.specs.Cores.{core_at, core_lost, node_frame};
+ghost use Rattle.sacn_node.specs.Cores.{core_at, core_lost, core_row, node_frame};
 ghost use Rattle.sacn_node.specs.Readings.{reply_to, after_reading};
 ghost use Rattle.sacn_node.specs.Setup.{port_numbers};
 ghost use Rattle.sacn_node.specs.SetupReading.{setup_or_toml};
+ghost use Rattle.sacn_node.specs.declared.limits.TheConstants.{MAX_PORTS};
 ghost use Rattle.sacn_node.specs.declared.setup.fault.SetupFault.TheVariants as fault;
 ghost use Rattle.sacn_border.specs.Kinds.{of_node};
 ghost use Rattle.sacn_border.specs.Making.{NodeOf, SetupStatus};
-ghost use Rattle.sacn_border.specs.Numbers.{node_taken_number, node_taken_status, frame_status, frame_or};
+ghost use Rattle.sacn_border.specs.Merging.{source_told, levels_told};
+ghost use Rattle.sacn_border.specs.Numbers.{node_taken_number, node_taken_status, frame_status, frame_or, found_status, found_or};
 ghost use Rattle.sacn_border.specs.Rooms.{room_status, room_with};
 ghost use Rattle.sacn_border.specs.declared.status.TheConstants.{DONE, WRONG_HANDLE};
 
 use crate::held::Held;
 use crate::numbers::{node_taken_number, node_taken_status};
 use crate::rooms::put_list;
+use crate::sources::{SourceFields, put_source};
 use crate::status::{DONE, RANGE, WRONG_HANDLE};
 use sacn_node::{NodeCore, NodeSetup, SetupFault, read_node};
 use sacn_slots::FRAME_OCTETS;
@@ -111,6 +116,7 @@ pub fn frame(held: &mut Held, now: u64, port: u8, frame: &mut [u8; FRAME_OCTETS]
 /// The first moment at which a tick drops a source, as `NodeCore::wakes`, and `u64::MAX` where none does.
 pub fn wakes(held: &Held, moment: &mut u64) -> u32
     ensures status { result ≡ of_node WRONG_HANDLE (λ n. DONE) held.now }
+    ensures unwritten { result ≡ WRONG_HANDLE → moment.new ≡ moment.old }
     ensures asleep { (t : ℕ) → t < moment.new → of_node 0 (λ n. core_lost t n.core) held.now ≡ 0 }
     ensures awake { of_node false (λ n. nat_lt moment.new (2 ^ 64 - 1)) held.now ≡ true → 1 ≤ of_node 0 (λ n. core_lost moment.new n.core) held.now }
 {
@@ -129,9 +135,37 @@ pub fn ports(held: &Held, ports: &mut [u8], count: &mut usize) -> u32
     ensures status { result ≡ of_node WRONG_HANDLE (λ n. room_status ports.old (port_numbers n.ports)) held.now }
     ensures count { count.new ≡ of_node count.old (λ n. length (port_numbers n.ports)) held.now }
     ensures ports { ports.new ≡ of_node ports.old (λ n. room_with ports.old (port_numbers n.ports)) held.now }
+    ensures rising { IsStrictlyIncreasing (of_node [] (λ n. port_numbers n.ports) held.now) }
+    ensures few { length (of_node [] (λ n. port_numbers n.ports) held.now) ≤ MAX_PORTS }
 {
     match held {
         Held::Node(node) => put_list(node.port_numbers(), ports, count),
+        _ => WRONG_HANDLE,
+    }
+}
+
+/// What a node holds of the source of a CID on a universe, as `NodeCore::held`, with the levels that it shows. The status is `RANGE`, and
+/// nothing is written, where it holds none there, or doesn't have the universe.
+pub fn held(
+    held: &Held,
+    universe: u16,
+    cid: &[u8; 16],
+    source: &mut SourceFields,
+    slots: &mut [u8; 512],
+) -> u32
+    ensures status { result ≡ of_node WRONG_HANDLE (λ n. found_status (core_row universe cid.now n.core)) held.now }
+    ensures source { source.new ≡ of_node source.old (λ n. found_or source.old (option_map source_told (core_row universe cid.now n.core))) held.now }
+    ensures slots { IfSome (of_node None (λ n. core_row universe cid.now n.core) held.now) (λ r. (i : ℕ) → i < 512 → slice_index slots.new i ≡ slice_index (levels_told r.shown) i) }
+    ensures unwritten { of_node None (λ n. core_row universe cid.now n.core) held.now ≡ None → slots.new ≡ slots.old }
+{
+    match held {
+        Held::Node(node) => match node.held(universe, cid) {
+            Some(view) => {
+                put_source(&view, source, slots);
+                DONE
+            }
+            None => RANGE,
+        },
         _ => WRONG_HANDLE,
     }
 }

@@ -1,8 +1,10 @@
 //! Packets.
-ghost use Rattle.std.specs.Prelude.{◌≡◌, ◌≤◌, ◌==◌, ◌+◌, ◌++◌, ◌∷◌, [], List, ℕ, length, take, not, IfOk, IfErr, Ok, if◌then◌else◌};
-ghost use Rattle.sacn_framing.specs.Naming.{group_of, padded};
+ghost use Rattle.std.specs.Prelude.{◌≡◌, ◌≤◌, ◌==◌, ◌+◌, ◌++◌, ◌∷◌, [], List, ℕ, length, take, drop, not, IfOk, IfErr, Ok, if◌then◌else◌};
+ghost use Rattle.sacn_framing.specs.Naming.{group_of};
 ghost use Rattle.sacn_sequence.specs.Sequence.{is_late};
+ghost use Rattle.sacn_framing.specs.FramingText.{nothing};
 ghost use Rattle.sacn_framing.specs.PacketReading.{reading_packet};
+ghost use Rattle.sacn_framing.specs.PacketText.{data_text};
 ghost use Rattle.sacn_framing.specs.declared.packet.Packet.TheVariants.{DataPacket};
 ghost use Rattle.sacn_monitor.specs.Accounts.{fitted};
 ghost use Rattle.sacn_border.specs.Packets.{packet_status, write_status, Tells, fields_with, fields_after, ShowsFrame, bit_of, written};
@@ -34,31 +36,22 @@ pub struct PacketFields {
     pub name: [u8; 64],
 }
 
-/// A name's octets, and NUL to the end of its field.
-fn fitted(name: &[u8]) -> [u8; 64]
-    ensures { result ≡ fitted name.now }
+/// Writes a name's octets, and NUL to the end of its field.
+#[inline(always)]
+fn put_name(name: &[u8], field: &mut [u8; 64])
+    ensures { field.new ≡ fitted name.now }
 {
+    field.fill(0);
     if name.len() <= 64 {
-        padded(name)
-    } else {
-        [0; 64]
+        put(field, 0, name);
     }
-}
-
-fn padded(name: &[u8]) -> [u8; 64]
-    requires { length name.now ≤ 64 }
-    ensures { result ≡ padded name.now }
-{
-    let mut field = [0; 64];
-    put(&mut field, 0, name);
-    field
 }
 
 fn put_data(view: &DataView<'_>, packet: &mut PacketFields)
     ensures told { Tells packet.new (DataPacket view.now) }
     ensures others { packet.new ≡ fields_with packet.old (DataPacket view.now) }
 {
-    packet.name = fitted(view.name());
+    put_name(view.name(), &mut packet.name);
     packet.kind = 1;
     packet.cid = view.cid();
     packet.priority = view.priority();
@@ -74,7 +67,7 @@ fn put_page(page: &PageView<'_>, packet: &mut PacketFields)
     ensures told { Tells packet.new (Packet.PagePacket page.now) }
     ensures others { packet.new ≡ fields_with packet.old (Packet.PagePacket page.now) }
 {
-    packet.name = fitted(page.name());
+    put_name(page.name(), &mut packet.name);
     packet.kind = 2;
     packet.cid = page.cid();
     packet.page = page.page();
@@ -138,6 +131,7 @@ pub fn write_fields(
     out: &mut [u8; 638],
     count: &mut usize,
 ) -> u32
+    ensures octets { result ≡ DONE → out.new ≡ data_text (written packet.now slots.now) nothing ++ drop count.new out.old }
     ensures reading { result ≡ DONE → (rest : List ℕ) → reading_packet (take count.new out.new ++ rest) ≡ Ok (DataPacket (written packet.now slots.now)) }
     ensures refused { (result ≡ DONE → ⊥) → out.new ≡ out.old }
     ensures status { result ≡ write_status packet.now slots.now }

@@ -1,9 +1,10 @@
 //! Pages of universe discovery (E1.31, 6.4 and 8).
-ghost use Rattle.std.specs.Prelude.{◌≡◌, ◌++◌, ◌≤◌, List, ℕ, length, take, drop, true, Ok};
+ghost use Rattle.std.specs.Prelude.{◌≡◌, ◌++◌, ◌+◌, ◌*◌, ◌≤◌, List, ℕ, length, take, drop, true, Ok};
 ghost use Rattle.std.specs.List.Sorted.{IsStrictlyIncreasing};
 ghost use Rattle.sacn_framing.specs.PacketReading.{reading_packet};
+ghost use Rattle.sacn_framing.specs.PacketText.{page_text, unused};
 ghost use Rattle.sacn_framing.specs.declared.packet.Packet.TheVariants.{PagePacket};
-ghost use Rattle.sacn_discovery.specs.Pages.{page_of_list};
+ghost use Rattle.sacn_discovery.specs.Pages.{numbers_on, page_of_list};
 ghost use Rattle.sacn_border.specs.Pages.{universes_status, universes_count, universes_room, IsPageOf};
 ghost use Rattle.sacn_border.specs.Rooms.{room_status, room_with};
 ghost use Rattle.sacn_border.specs.declared.status.TheConstants.{DONE, RANGE};
@@ -70,6 +71,8 @@ pub fn write_universes(
     out: &mut [u8; 1144],
     count: &mut usize,
 ) -> u32
+    ensures octets { result ≡ DONE → out.new ≡ page_text (page_of_list list.now packet.now.page packet.now.cid packet.now.name) unused ++ drop count.new out.old }
+    ensures count { result ≡ DONE → count.new ≡ 120 + 2 * length (numbers_on list.now packet.now.page) }
     ensures reading { result ≡ DONE → (rest : List ℕ) → reading_packet (take count.new out.new ++ rest) ≡ Ok (PagePacket (page_of_list list.now packet.now.page packet.now.cid packet.now.name)) }
     ensures done { IsPageOf packet.now list.now → result ≡ DONE }
     ensures only { result ≡ DONE → IsPageOf packet.now list.now }

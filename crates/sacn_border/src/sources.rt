@@ -1,9 +1,10 @@
 //! The sources of one universe.
-ghost use Rattle.std.specs.Prelude.{◌≡◌, ◌<◌, ℕ, None, slice_index, IfOk, IfErr, IfSome};
+ghost use Rattle.std.specs.Prelude.{◌≡◌, ◌<◌, ◌≤◌, ◌^◌, ◌-◌, ℕ, nat_lt, max, true, false, None, slice_index, IfOk, IfErr, IfSome};
 ghost use Rattle.std.specs.Option.{option_map};
 ghost use Rattle.sacn_framing.specs.PacketReading.{reading_packet};
-ghost use Rattle.sacn_sources.specs.Kept.{new_kept, kept_after_merged};
-ghost use Rattle.sacn_sources.specs.Rows.{after_expire, row_of, slots_of};
+ghost use Rattle.sacn_sources.specs.Kept.{new_kept, kept_after_expire, kept_after_merged};
+ghost use Rattle.sacn_sources.specs.Rows.{after_expire, row_of, rows_lost, slots_of};
+ghost use Rattle.sacn_sources.specs.declared.limits.TheConstants.{MAX_SOURCES};
 ghost use Rattle.sacn_border.specs.Kinds.{of_sources};
 ghost use Rattle.sacn_border.specs.Merging.{after_reading, source_number, source_told, levels_told};
 ghost use Rattle.sacn_border.specs.Numbers.{found_status, found_or};
@@ -88,7 +89,39 @@ pub fn merged(held: &mut Held, now: u64, slots: &mut [u8; 512]) -> u32
     }
 }
 
-/// What a table holds of a source, in numbers. `sacn.h` says what each field means.
+/// Moves the clock, as `SourceTable::expire`.
+pub fn tick(held: &mut Held, now: u64, lost: &mut usize) -> u32
+    ensures status { result ≡ of_sources WRONG_HANDLE (λ k. DONE) held.old }
+    ensures lost { lost.new ≡ of_sources lost.old (λ k. rows_lost (max k.table.moment now) k.table.rows) held.old }
+    ensures few { result ≡ DONE → lost.new ≤ MAX_SOURCES }
+    ensures held { held.new ≡ of_sources held.old (λ k. Held.Sources (kept_after_expire now k)) held.old }
+{
+    match held {
+        Held::Sources(table) => {
+            *lost = table.expire(now);
+            DONE
+        }
+        _ => WRONG_HANDLE,
+    }
+}
+
+/// The first moment at which a tick drops a source, as `SourceTable::wakes`, and `u64::MAX` where none does.
+pub fn wakes(held: &Held, moment: &mut u64) -> u32
+    ensures status { result ≡ of_sources WRONG_HANDLE (λ k. DONE) held.now }
+    ensures unwritten { result ≡ WRONG_HANDLE → moment.new ≡ moment.old }
+    ensures asleep { (t : ℕ) → t < moment.new → of_sources 0 (λ k. rows_lost (max k.table.moment t) k.table.rows) held.now ≡ 0 }
+    ensures awake { of_sources false (λ k. nat_lt moment.new (2 ^ 64 - 1)) held.now ≡ true → 1 ≤ of_sources 0 (λ k. rows_lost (max k.table.moment moment.new) k.table.rows) held.now }
+{
+    match held {
+        Held::Sources(table) => {
+            *moment = table.wakes().unwrap_or(u64::MAX);
+            DONE
+        }
+        _ => WRONG_HANDLE,
+    }
+}
+
+/// What is held of a source, in numbers. `sacn.h` says what each field means.
 #[repr(C)]
 #[derive(Clone, Copy)]
 pub struct SourceFields {
@@ -110,14 +143,22 @@ pub fn held(held: &Held, cid: &[u8; 16], source: &mut SourceFields, slots: &mut 
     match held {
         Held::Sources(table) => match table.held(cid) {
             Some(view) => {
-                *source = source_told(&view);
-                put_shown(&view, slots);
+                put_source(&view, source, slots);
                 DONE
             }
             None => RANGE,
         },
         _ => WRONG_HANDLE,
     }
+}
+
+/// Tells what is held of a source, and the levels that it shows.
+pub(crate) fn put_source(view: &HeldView<'_>, source: &mut SourceFields, slots: &mut [u8; 512])
+    ensures source { source.new ≡ source_told view.now }
+    ensures slots { (i : ℕ) → i < 512 → slice_index slots.new i ≡ slice_index (levels_told view.now.shown) i }
+{
+    *source = source_told(view);
+    put_shown(view, slots);
 }
 
 fn source_told(view: &HeldView<'_>) -> SourceFields

@@ -17,17 +17,23 @@ uint32_t sacn_proved_node_tick(void **handle, uint64_t now, size_t *lost);
 uint32_t sacn_proved_node_frame(void **handle, uint64_t now, uint8_t port, uint8_t *frame);
 uint32_t sacn_proved_node_wakes(void **handle, uint64_t *moment);
 uint32_t sacn_proved_node_ports(void **handle, uint8_t *ports, size_t room, size_t *count);
+uint32_t sacn_proved_node_held(void **handle, uint16_t universe, const uint8_t *cid, struct sacn_source *source, uint8_t *slots);
 uint32_t sacn_proved_sources_new(void **handle);
 uint32_t sacn_proved_sources_take(void **handle, uint64_t now, const uint8_t *octets, size_t count, uint8_t *taken);
 uint32_t sacn_proved_sources_merged(void **handle, uint64_t now, uint8_t *slots);
+uint32_t sacn_proved_sources_tick(void **handle, uint64_t now, size_t *lost);
+uint32_t sacn_proved_sources_wakes(void **handle, uint64_t *moment);
 uint32_t sacn_proved_sources_held(void **handle, const uint8_t *cid, struct sacn_source *source, uint8_t *slots);
 uint32_t sacn_proved_collector_new(void **handle);
 uint32_t sacn_proved_collector_take(void **handle, uint64_t now, const uint8_t *octets, size_t count);
 uint32_t sacn_proved_collector_list(void **handle, uint64_t now, const uint8_t *cid, uint16_t *universes, size_t room, size_t *count);
+uint32_t sacn_proved_collector_tick(void **handle, uint64_t now, size_t *forgotten);
 uint32_t sacn_proved_console_new(void **handle, const uint8_t *text, size_t length, uint8_t first);
 uint32_t sacn_proved_console_command(void **handle, uint64_t now, uint8_t command, uint16_t number, uint16_t level);
 uint32_t sacn_proved_console_poll(void **handle, uint64_t now, uint8_t *out, size_t *count);
 uint32_t sacn_proved_console_wakes(void **handle, uint64_t *moment);
+uint32_t sacn_proved_console_universe(void **handle, size_t place, struct sacn_universe *universe);
+uint32_t sacn_proved_console_cue(void **handle, uint16_t *number);
 uint32_t sacn_proved_monitor_new(void **handle);
 uint32_t sacn_proved_monitor_take(void **handle, uint64_t now, const uint8_t *address, uint16_t port, const uint8_t *octets, size_t count,
                                   struct sacn_news *news);
@@ -35,6 +41,7 @@ uint32_t sacn_proved_monitor_tick(void **handle, uint64_t now, size_t *place);
 uint32_t sacn_proved_monitor_wakes(void **handle, uint64_t *moment);
 uint32_t sacn_proved_monitor_count(void **handle, size_t *count);
 uint32_t sacn_proved_monitor_account(void **handle, size_t place, struct sacn_stream *stream);
+uint32_t sacn_proved_monitor_rivals(void **handle, uint16_t universe, size_t *count, uint8_t *priority);
 
 /* A slice of no elements has some address of this. */
 static const uint8_t nothing[1] = {0};
@@ -132,6 +139,11 @@ int sacn_node_ports(struct sacn_node *node, uint8_t *ports, size_t room, size_t 
     return (int)sacn_proved_node_ports(&node->behind, ports ? ports : none, room, count);
 }
 
+int sacn_node_held(struct sacn_node *node, uint16_t universe, const uint8_t cid[16], struct sacn_source *source, uint8_t slots[SACN_SLOTS]) {
+    if (!node || !node->behind || !cid || !source || !slots) return SACN_NULL;
+    return (int)sacn_proved_node_held(&node->behind, universe, cid, source, slots);
+}
+
 int sacn_sources_new(struct sacn_sources *sources) {
     if (!sources) return SACN_NULL;
     if (sources->behind) return SACN_NOT_EMPTY;
@@ -153,6 +165,16 @@ int sacn_sources_take(struct sacn_sources *sources, uint64_t now, const uint8_t 
 int sacn_sources_merged(struct sacn_sources *sources, uint64_t now, uint8_t slots[SACN_SLOTS]) {
     if (!sources || !sources->behind || !slots) return SACN_NULL;
     return (int)sacn_proved_sources_merged(&sources->behind, now, slots);
+}
+
+int sacn_sources_tick(struct sacn_sources *sources, uint64_t now, size_t *lost) {
+    if (!sources || !sources->behind || !lost) return SACN_NULL;
+    return (int)sacn_proved_sources_tick(&sources->behind, now, lost);
+}
+
+int sacn_sources_wakes(struct sacn_sources *sources, uint64_t *moment) {
+    if (!sources || !sources->behind || !moment) return SACN_NULL;
+    return (int)sacn_proved_sources_wakes(&sources->behind, moment);
 }
 
 int sacn_sources_held(struct sacn_sources *sources, const uint8_t cid[16], struct sacn_source *source, uint8_t slots[SACN_SLOTS]) {
@@ -184,6 +206,11 @@ int sacn_collector_list(struct sacn_collector *collector, uint64_t now, const ui
     return (int)sacn_proved_collector_list(&collector->behind, now, cid, universes ? universes : no_room, room, count);
 }
 
+int sacn_collector_tick(struct sacn_collector *collector, uint64_t now, size_t *forgotten) {
+    if (!collector || !collector->behind || !forgotten) return SACN_NULL;
+    return (int)sacn_proved_collector_tick(&collector->behind, now, forgotten);
+}
+
 int sacn_console_new(struct sacn_console *console, const char *show, size_t length, uint8_t first) {
     if (!console || is_bad(show, length)) return SACN_NULL;
     if (is_long(length)) return SACN_LENGTH;
@@ -210,6 +237,16 @@ int sacn_console_poll(struct sacn_console *console, uint64_t now, uint8_t out[SA
 int sacn_console_wakes(struct sacn_console *console, uint64_t *moment) {
     if (!console || !console->behind || !moment) return SACN_NULL;
     return (int)sacn_proved_console_wakes(&console->behind, moment);
+}
+
+int sacn_console_universe(struct sacn_console *console, size_t place, struct sacn_universe *universe) {
+    if (!console || !console->behind || !universe) return SACN_NULL;
+    return (int)sacn_proved_console_universe(&console->behind, place, universe);
+}
+
+int sacn_console_cue(struct sacn_console *console, uint16_t *number) {
+    if (!console || !console->behind || !number) return SACN_NULL;
+    return (int)sacn_proved_console_cue(&console->behind, number);
 }
 
 int sacn_monitor_new(struct sacn_monitor *monitor) {
@@ -249,4 +286,9 @@ int sacn_monitor_count(struct sacn_monitor *monitor, size_t *count) {
 int sacn_monitor_account(struct sacn_monitor *monitor, size_t place, struct sacn_stream *stream) {
     if (!monitor || !monitor->behind || !stream) return SACN_NULL;
     return (int)sacn_proved_monitor_account(&monitor->behind, place, stream);
+}
+
+int sacn_monitor_rivals(struct sacn_monitor *monitor, uint16_t universe, size_t *count, uint8_t *priority) {
+    if (!monitor || !monitor->behind || !count || !priority) return SACN_NULL;
+    return (int)sacn_proved_monitor_rivals(&monitor->behind, universe, count, priority);
 }

@@ -2,6 +2,7 @@
 ghost use Rattle.std.specs.Prelude.{◌≡◌, is_some, true, None, Some, IfSome};
 ghost use Rattle.std.specs.Option.{option_map};
 ghost use Rattle.sacn_framing.specs.PacketReading.{reading_packet};
+ghost use Rattle.sacn_discovery.specs.Lists.{forgotten as gone};
 ghost use Rattle.sacn_discovery.specs.Known.{nothing_known, after_expire, known_list};
 ghost use Rattle.sacn_border.specs.Collecting.{after_reading, collect_status, collected, list_status, list_count, list_room, ShowsList};
 ghost use Rattle.sacn_border.specs.Kinds.{of_collector};
@@ -42,6 +43,25 @@ pub extern "C" fn sacn_proved_collector_take(
 {
     let mut held = take_out(alloc, handle);
     let status = collector::take(held.as_mut(), now, octets);
+    *handle = Handle::of(held);
+    status
+}
+
+/// Forgets the sources whose latest page is too old, as `Collector::expire`.
+#[unsafe(no_mangle)]
+pub extern "C" fn sacn_proved_collector_tick(
+    alloc: Global,
+    handle: &mut Handle,
+    now: u64,
+    forgotten: &mut usize,
+) -> u32
+    requires { is_some handle.old.value ≡ true }
+    ensures status { IfSome handle.old.value (λ held. result ≡ of_collector WRONG_HANDLE (λ s. DONE) held) }
+    ensures forgotten { IfSome handle.old.value (λ held. forgotten.new ≡ of_collector forgotten.old (λ s. gone now s) held) }
+    ensures after { handle.new.value ≡ option_map (λ held. of_collector held (λ s. Held.Collector (after_expire now s)) held) handle.old.value }
+{
+    let mut held = take_out(alloc, handle);
+    let status = collector::tick(held.as_mut(), now, forgotten);
     *handle = Handle::of(held);
     status
 }

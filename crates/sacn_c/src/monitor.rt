@@ -2,6 +2,7 @@
 ghost use Rattle.std.specs.Prelude.{◌≡◌, max, length, slice_get, is_some, true, Some, IfSome};
 ghost use Rattle.std.specs.Option.{option_map};
 ghost use Rattle.sacn_monitor.specs.Books.{new_book, noted, after_take, after_tick, next_loss, silent_place};
+ghost use Rattle.sacn_monitor.specs.Rivals.{rivals, top_priority};
 ghost use Rattle.sacn_border.specs.Hearing.{news_told, noted_status, stream_told};
 ghost use Rattle.sacn_border.specs.Kinds.{of_monitor};
 ghost use Rattle.sacn_border.specs.Numbers.{found_status, found_or};
@@ -123,6 +124,27 @@ pub extern "C" fn sacn_proved_monitor_account(
 {
     let held = take_out(alloc, handle);
     let status = monitor::account(held.as_ref(), place, fields);
+    *handle = Handle::of(held);
+    status
+}
+
+/// How many sources light a universe at the greatest priority of those that light it, as `Monitor::rivals` and `Monitor::top_priority`.
+#[unsafe(no_mangle)]
+pub extern "C" fn sacn_proved_monitor_rivals(
+    alloc: Global,
+    handle: &mut Handle,
+    universe: u16,
+    count: &mut usize,
+    priority: &mut u8,
+) -> u32
+    requires { is_some handle.old.value ≡ true }
+    ensures status { IfSome handle.old.value (λ held. result ≡ of_monitor WRONG_HANDLE (λ b. DONE) held) }
+    ensures count { IfSome handle.old.value (λ held. count.new ≡ of_monitor count.old (λ b. rivals universe b.moment b.streams) held) }
+    ensures priority { IfSome handle.old.value (λ held. priority.new ≡ of_monitor priority.old (λ b. top_priority universe b.moment b.streams) held) }
+    ensures after { handle.new.value ≡ handle.old.value }
+{
+    let held = take_out(alloc, handle);
+    let status = monitor::rivals(held.as_ref(), universe, count, priority);
     *handle = Handle::of(held);
     status
 }

@@ -1,20 +1,23 @@
 //! Nodes, for C.
-ghost use Rattle.std.specs.Prelude.{◌≡◌, ◌<◌, ◌≤◌, ◌^◌, ◌-◌, is_some, true, false, IfSome, MatchOption, ℕ, nat_lt, length};
+ghost use Rattle.std.specs.Prelude.{◌≡◌, ◌<◌, ◌≤◌, ◌^◌, ◌-◌, is_some, true, false, [], None, IfSome, MatchOption, ℕ, nat_lt, length, slice_index};
+ghost use Rattle.std.specs.List.Sorted.{IsStrictlyIncreasing};
 ghost use Rattle.std.specs.Option.{option_map};
 ghost use Rattle.toml.specs.Parse.{parse_document};
 ghost use Rattle.sacn_framing.specs.PacketReading.{reading_packet};
-ghost use Rattle.sacn_node.specs.Cores.{core_at, core_lost, node_frame};
+ghost use Rattle.sacn_node.specs.Cores.{core_at, core_lost, core_row, node_frame};
 ghost use Rattle.sacn_node.specs.Readings.{reply_to, after_reading};
 ghost use Rattle.sacn_node.specs.Setup.{port_numbers};
+ghost use Rattle.sacn_node.specs.declared.limits.TheConstants.{MAX_PORTS};
 ghost use Rattle.sacn_node.specs.SetupReading.{setup_or_toml};
 ghost use Rattle.sacn_border.specs.Kinds.{of_node};
 ghost use Rattle.sacn_border.specs.Making.{NodeOf, SetupStatus};
-ghost use Rattle.sacn_border.specs.Numbers.{node_taken_number, node_taken_status, frame_status, frame_or};
+ghost use Rattle.sacn_border.specs.Merging.{source_told, levels_told};
+ghost use Rattle.sacn_border.specs.Numbers.{node_taken_number, node_taken_status, frame_status, frame_or, found_status, found_or};
 ghost use Rattle.sacn_border.specs.Rooms.{room_status, room_with};
 ghost use Rattle.sacn_border.specs.declared.status.TheConstants.{DONE, WRONG_HANDLE};
 
 use crate::handle::{Handle, take_out};
-use sacn_border::{DONE, Held, node};
+use sacn_border::{DONE, Held, SourceFields, node};
 use sacn_slots::FRAME_OCTETS;
 use std::alloc::Global;
 
@@ -108,6 +111,7 @@ pub extern "C" fn sacn_proved_node_wakes(
 ) -> u32
     requires { is_some handle.old.value ≡ true }
     ensures status { IfSome handle.old.value (λ held. result ≡ of_node WRONG_HANDLE (λ n. DONE) held) }
+    ensures unwritten { result ≡ WRONG_HANDLE → moment.new ≡ moment.old }
     ensures asleep { IfSome handle.old.value (λ held. (t : ℕ) → t < moment.new → of_node 0 (λ n. core_lost t n.core) held ≡ 0) }
     ensures awake { IfSome handle.old.value (λ held. of_node false (λ n. nat_lt moment.new (2 ^ 64 - 1)) held ≡ true → 1 ≤ of_node 0 (λ n. core_lost moment.new n.core) held) }
     ensures after { handle.new.value ≡ handle.old.value }
@@ -131,10 +135,36 @@ pub extern "C" fn sacn_proved_node_ports(
     ensures status { IfSome handle.old.value (λ held. result ≡ of_node WRONG_HANDLE (λ n. room_status ports.old (port_numbers n.ports)) held) }
     ensures count { IfSome handle.old.value (λ held. count.new ≡ of_node count.old (λ n. length (port_numbers n.ports)) held) }
     ensures ports { IfSome handle.old.value (λ held. ports.new ≡ of_node ports.old (λ n. room_with ports.old (port_numbers n.ports)) held) }
+    ensures rising { IfSome handle.old.value (λ held. IsStrictlyIncreasing (of_node [] (λ n. port_numbers n.ports) held)) }
+    ensures few { IfSome handle.old.value (λ held. length (of_node [] (λ n. port_numbers n.ports) held) ≤ MAX_PORTS) }
     ensures after { handle.new.value ≡ handle.old.value }
 {
     let held = take_out(alloc, handle);
     let status = node::ports(held.as_ref(), ports, count);
+    *handle = Handle::of(held);
+    status
+}
+
+/// What is held of the source of a CID on a universe, and the levels that it shows, as `NodeCore::held`. The status is `RANGE`, and nothing is
+/// written, where none is held there, or the node doesn't have the universe.
+#[unsafe(no_mangle)]
+pub extern "C" fn sacn_proved_node_held(
+    alloc: Global,
+    handle: &mut Handle,
+    universe: u16,
+    cid: &[u8; 16],
+    source: &mut SourceFields,
+    slots: &mut [u8; 512],
+) -> u32
+    requires { is_some handle.old.value ≡ true }
+    ensures status { IfSome handle.old.value (λ held. result ≡ of_node WRONG_HANDLE (λ n. found_status (core_row universe cid.now n.core)) held) }
+    ensures source { IfSome handle.old.value (λ held. source.new ≡ of_node source.old (λ n. found_or source.old (option_map source_told (core_row universe cid.now n.core))) held) }
+    ensures slots { IfSome handle.old.value (λ held. IfSome (of_node None (λ n. core_row universe cid.now n.core) held) (λ r. (i : ℕ) → i < 512 → slice_index slots.new i ≡ slice_index (levels_told r.shown) i)) }
+    ensures unwritten { IfSome handle.old.value (λ held. of_node None (λ n. core_row universe cid.now n.core) held ≡ None → slots.new ≡ slots.old) }
+    ensures after { handle.new.value ≡ handle.old.value }
+{
+    let held = take_out(alloc, handle);
+    let status = node::held(held.as_ref(), universe, cid, source, slots);
     *handle = Handle::of(held);
     status
 }

@@ -1,10 +1,12 @@
 //! Packets, for C.
-ghost use Rattle.std.specs.Prelude.{◌≡◌, ◌==◌, ◌+◌, ◌++◌, ◌∷◌, [], List, ℕ, length, take, not, IfOk, IfErr, Ok, if◌then◌else◌};
+ghost use Rattle.std.specs.Prelude.{◌≡◌, ◌==◌, ◌+◌, ◌*◌, ◌++◌, ◌∷◌, [], List, ℕ, length, take, drop, not, IfOk, IfErr, Ok, if◌then◌else◌};
 ghost use Rattle.sacn_framing.specs.Naming.{group_of};
 ghost use Rattle.sacn_sequence.specs.Sequence.{is_late};
+ghost use Rattle.sacn_framing.specs.FramingText.{nothing};
 ghost use Rattle.sacn_framing.specs.PacketReading.{reading_packet};
+ghost use Rattle.sacn_framing.specs.PacketText.{data_text, page_text, unused};
 ghost use Rattle.sacn_framing.specs.declared.packet.Packet.TheVariants.{DataPacket, PagePacket};
-ghost use Rattle.sacn_discovery.specs.Pages.{page_of_list};
+ghost use Rattle.sacn_discovery.specs.Pages.{numbers_on, page_of_list};
 ghost use Rattle.sacn_border.specs.Pages.{universes_status, universes_count, universes_room, IsPageOf};
 ghost use Rattle.sacn_border.specs.Packets.{packet_status, write_status, Tells, fields_after, ShowsFrame, bit_of, written};
 ghost use Rattle.sacn_border.specs.declared.status.TheConstants.{DONE, RANGE};
@@ -45,6 +47,7 @@ pub extern "C" fn sacn_proved_write_data(
     out: &mut [u8; 638],
     count: &mut usize,
 ) -> u32
+    ensures octets { result ≡ DONE → out.new ≡ data_text (written packet.now slots.now) nothing ++ drop count.new out.old }
     ensures reading { result ≡ DONE → (rest : List ℕ) → reading_packet (take count.new out.new ++ rest) ≡ Ok (DataPacket (written packet.now slots.now)) }
     ensures refused { (result ≡ DONE → ⊥) → out.new ≡ out.old }
     ensures status { result ≡ write_status packet.now slots.now }
@@ -100,6 +103,8 @@ pub extern "C" fn sacn_proved_write_page(
     out: &mut [u8; 1144],
     count: &mut usize,
 ) -> u32
+    ensures octets { result ≡ DONE → out.new ≡ page_text (page_of_list list.now packet.now.page packet.now.cid packet.now.name) unused ++ drop count.new out.old }
+    ensures count { result ≡ DONE → count.new ≡ 120 + 2 * length (numbers_on list.now packet.now.page) }
     ensures reading { result ≡ DONE → (rest : List ℕ) → reading_packet (take count.new out.new ++ rest) ≡ Ok (PagePacket (page_of_list list.now packet.now.page packet.now.cid packet.now.name)) }
     ensures done { IsPageOf packet.now list.now → result ≡ DONE }
     ensures only { result ≡ DONE → IsPageOf packet.now list.now }

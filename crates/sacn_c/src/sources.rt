@@ -1,9 +1,10 @@
 //! The sources of one universe, for C.
-ghost use Rattle.std.specs.Prelude.{◌≡◌, ◌<◌, ℕ, is_some, true, Some, None, IfSome, slice_index};
+ghost use Rattle.std.specs.Prelude.{◌≡◌, ◌<◌, ◌≤◌, ◌^◌, ◌-◌, ℕ, nat_lt, max, is_some, true, false, Some, None, IfSome, slice_index};
 ghost use Rattle.std.specs.Option.{option_map};
 ghost use Rattle.sacn_framing.specs.PacketReading.{reading_packet};
-ghost use Rattle.sacn_sources.specs.Kept.{new_kept, kept_after_merged};
-ghost use Rattle.sacn_sources.specs.Rows.{after_expire, row_of, slots_of};
+ghost use Rattle.sacn_sources.specs.Kept.{new_kept, kept_after_expire, kept_after_merged};
+ghost use Rattle.sacn_sources.specs.Rows.{after_expire, row_of, rows_lost, slots_of};
+ghost use Rattle.sacn_sources.specs.declared.limits.TheConstants.{MAX_SOURCES};
 ghost use Rattle.sacn_border.specs.Kinds.{of_sources};
 ghost use Rattle.sacn_border.specs.Merging.{after_reading, source_number, source_told, levels_told};
 ghost use Rattle.sacn_border.specs.Numbers.{found_status, found_or};
@@ -65,6 +66,46 @@ pub extern "C" fn sacn_proved_sources_merged(
 {
     let mut held = take_out(alloc, handle);
     let status = sources::merged(held.as_mut(), now, slots);
+    *handle = Handle::of(held);
+    status
+}
+
+/// Moves the clock, as `SourceTable::expire`.
+#[unsafe(no_mangle)]
+pub extern "C" fn sacn_proved_sources_tick(
+    alloc: Global,
+    handle: &mut Handle,
+    now: u64,
+    lost: &mut usize,
+) -> u32
+    requires { is_some handle.old.value ≡ true }
+    ensures status { IfSome handle.old.value (λ held. result ≡ of_sources WRONG_HANDLE (λ k. DONE) held) }
+    ensures lost { IfSome handle.old.value (λ held. lost.new ≡ of_sources lost.old (λ k. rows_lost (max k.table.moment now) k.table.rows) held) }
+    ensures few { result ≡ DONE → lost.new ≤ MAX_SOURCES }
+    ensures after { handle.new.value ≡ option_map (λ held. of_sources held (λ k. Held.Sources (kept_after_expire now k)) held) handle.old.value }
+{
+    let mut held = take_out(alloc, handle);
+    let status = sources::tick(held.as_mut(), now, lost);
+    *handle = Handle::of(held);
+    status
+}
+
+/// The first moment at which a tick drops a source, as `SourceTable::wakes`, and `u64::MAX` where none does.
+#[unsafe(no_mangle)]
+pub extern "C" fn sacn_proved_sources_wakes(
+    alloc: Global,
+    handle: &mut Handle,
+    moment: &mut u64,
+) -> u32
+    requires { is_some handle.old.value ≡ true }
+    ensures status { IfSome handle.old.value (λ held. result ≡ of_sources WRONG_HANDLE (λ k. DONE) held) }
+    ensures unwritten { result ≡ WRONG_HANDLE → moment.new ≡ moment.old }
+    ensures asleep { IfSome handle.old.value (λ held. (t : ℕ) → t < moment.new → of_sources 0 (λ k. rows_lost (max k.table.moment t) k.table.rows) held ≡ 0) }
+    ensures awake { IfSome handle.old.value (λ held. of_sources false (λ k. nat_lt moment.new (2 ^ 64 - 1)) held ≡ true → 1 ≤ of_sources 0 (λ k. rows_lost (max k.table.moment moment.new) k.table.rows) held) }
+    ensures after { handle.new.value ≡ handle.old.value }
+{
+    let held = take_out(alloc, handle);
+    let status = sources::wakes(held.as_ref(), moment);
     *handle = Handle::of(held);
     status
 }

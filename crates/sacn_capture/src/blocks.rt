@@ -101,13 +101,8 @@ impl<R: BufRead> Pieces<R> {
         ensures { ReadsPiece R.Read.remaining (enhanced_piece order size (state_of self.old)) self.old self.new result }
     {
         let mut octets = [0; ENHANCED_HEAD];
-        match self.input.fill(&mut octets) {
-            Ok(()) => match enhanced_in(order, size, &octets) {
-                Ok(head) => self.packet(order, size, head),
-                Err(fault) => Err(fault),
-            },
-            Err(fault) => Err(fault),
-        }
+        self.input.fill(&mut octets)?;
+        self.packet(order, size, enhanced_in(order, size, &octets)?)
     }
 
     // The frame of an enhanced packet, whose head was read.
@@ -144,10 +139,8 @@ impl<R: BufRead> Pieces<R> {
     pub fn simple(&mut self, order: ByteOrder, size: u32) -> Result<Option<Frame>, FaultKind>
         ensures { ReadsPiece R.Read.remaining (simple_piece order size (state_of self.old)) self.old self.new result }
     {
-        match self.interface_at(0) {
-            Ok(interface) => self.of_first(order, size, interface),
-            Err(fault) => Err(fault),
-        }
+        let interface = self.interface_at(0)?;
+        self.of_first(order, size, interface)
     }
 
     // The frame of a simple packet of an interface.
@@ -160,16 +153,10 @@ impl<R: BufRead> Pieces<R> {
         ensures { ReadsPiece R.Read.remaining (simple_behind order size (state_of self.old) (interface_of interface)) self.old self.new result }
     {
         let mut octets = [0; SIMPLE_HEAD];
-        match self.input.fill(&mut octets) {
-            Ok(()) => match simple_in(order, size, interface.longest, &octets) {
-                Ok(captured) => {
-                    let rest = size - 16 - captured;
-                    self.packet_frame(interface.link, captured, self.moment, rest, order, size)
-                }
-                Err(fault) => Err(fault),
-            },
-            Err(fault) => Err(fault),
-        }
+        self.input.fill(&mut octets)?;
+        let captured = simple_in(order, size, interface.longest, &octets)?;
+        let rest = size - 16 - captured;
+        self.packet_frame(interface.link, captured, self.moment, rest, order, size)
     }
 
     // A packet's frame, the rest of its block, and the block's end.
@@ -184,16 +171,10 @@ impl<R: BufRead> Pieces<R> {
     ) -> Result<Option<Frame>, FaultKind>
         ensures { ReadsPiece R.Read.remaining (packet_behind link captured moment rest order size (state_of self.old)) self.old self.new result }
     {
-        match self.taken(link, captured) {
-            Ok(frame) => match skip_to_end(&mut self.input, rest, order, size) {
-                Ok(()) => {
-                    self.moment = moment;
-                    Ok(Some(frame))
-                }
-                Err(fault) => Err(fault),
-            },
-            Err(fault) => Err(fault),
-        }
+        let frame = self.taken(link, captured)?;
+        skip_to_end(&mut self.input, rest, order, size)?;
+        self.moment = moment;
+        Ok(Some(frame))
     }
 
     // A frame of so many octets, read into the buffer where it is kept.
@@ -209,10 +190,8 @@ impl<R: BufRead> Pieces<R> {
         if len > LONGEST_KEPT {
             return self.left_out(captured, Passed::TooLong);
         }
-        match self.buffer.fill(&mut self.input, len) {
-            Ok(()) => Ok(Frame::Kept(link, len)),
-            Err(fault) => Err(fault),
-        }
+        self.buffer.fill(&mut self.input, len)?;
+        Ok(Frame::Kept(link, len))
     }
 
     // A frame that isn't kept.
@@ -223,9 +202,7 @@ impl<R: BufRead> Pieces<R> {
         ensures state { state_of self.new ≡ state_of self.old }
         ensures exact { Passes captured (file_place R.Read.remaining self.old) (file_place R.Read.remaining self.new) result }
     {
-        match self.input.skip(u64::from(captured)) {
-            Ok(()) => Ok(Frame::LeftOut(passed)),
-            Err(fault) => Err(fault),
-        }
+        self.input.skip(u64::from(captured))?;
+        Ok(Frame::LeftOut(passed))
     }
 }

@@ -41,10 +41,8 @@ pub struct Datagram<'a> {
 pub fn datagram_in(link: LinkType, frame: &[u8]) -> Result<Datagram<'_>, Passed>
     ensures { map_ok sent_of result ≡ reading_datagram link frame.now }
 {
-    match packet_place(link, frame) {
-        Ok(place) => datagram_of(&frame[place..]),
-        Err(passed) => Err(passed),
-    }
+    let place = packet_place(link, frame)?;
+    datagram_of(&frame[place..])
 }
 
 // The datagram of a packet of IPv4: the checks in their order.

@@ -24,10 +24,8 @@ pub enum Format {
 pub fn first_header<R: BufRead>(input: &mut Input<R>) -> Result<Format, FaultKind>
     ensures { ReadsInput R.Read.remaining opening input.old input.new result }
 {
-    match front_of(input) {
-        Ok(front) => by_front(input, front),
-        Err(fault) => Err(fault),
-    }
+    let front = front_of(input)?;
+    by_front(input, front)
 }
 
 // The first header, whose first octets were read.
@@ -35,10 +33,7 @@ fn by_front<R: BufRead>(input: &mut Input<R>, front: [u8; BLOCK_HEAD]) -> Result
     ensures { ReadsInput R.Read.remaining (opening_behind front) input.old input.new result }
 {
     if is_section(&front) {
-        return match section(input, front) {
-            Ok(order) => Ok(Format::Pcapng(order)),
-            Err(fault) => Err(fault),
-        };
+        return Ok(Format::Pcapng(section(input, front)?));
     }
     by_stamp(input, front)
 }
@@ -61,13 +56,8 @@ fn stamped_header<R: BufRead>(
     ensures { ReadsInput R.Read.remaining (header_behind stamp front) input.old input.new result }
 {
     let mut octets = [0; HEADER];
-    match continued(input, front, &mut octets) {
-        Ok(()) => match header_in(stamp, &octets) {
-            Ok(header) => Ok(Format::Pcap(header)),
-            Err(fault) => Err(fault),
-        },
-        Err(fault) => Err(fault),
-    }
+    continued(input, front, &mut octets)?;
+    Ok(Format::Pcap(header_in(stamp, &octets)?))
 }
 
 // The first octets. A file that ends before is no recording.
@@ -90,13 +80,8 @@ pub fn section<R: BufRead>(
     ensures { ReadsInput R.Read.remaining (section_behind front) input.old input.new result }
 {
     let mut octets = [0; SECTION_HEAD];
-    match continued(input, front, &mut octets) {
-        Ok(()) => match section_in(&octets) {
-            Ok(section) => section_end(input, section),
-            Err(fault) => Err(fault),
-        },
-        Err(fault) => Err(fault),
-    }
+    continued(input, front, &mut octets)?;
+    section_end(input, section_in(&octets)?)
 }
 
 // A section header's options and its end; its order.
@@ -104,10 +89,8 @@ fn section_end<R: BufRead>(input: &mut Input<R>, section: Section) -> Result<Byt
     requires { 28 ≤ section.length }
     ensures { ReadsInput R.Read.remaining (skipped (section.length - 20) section.order section.length ▷ λ _. gives section.order) input.old input.new result }
 {
-    match skip_to_end(input, section.length - 20, section.order, section.length) {
-        Ok(()) => Ok(section.order),
-        Err(fault) => Err(fault),
-    }
+    skip_to_end(input, section.length - 20, section.order, section.length)?;
+    Ok(section.order)
 }
 
 // A header whose first octets were read, read to its end.
@@ -141,10 +124,8 @@ pub fn skip_to_end<R: BufRead>(
 ) -> Result<(), FaultKind>
     ensures { ReadsInput R.Read.remaining (skipped count order size) input.old input.new (map_ok (λ _. size) result) }
 {
-    match input.skip(u64::from(count)) {
-        Ok(()) => end_of_block(input, order, size),
-        Err(fault) => Err(fault),
-    }
+    input.skip(u64::from(count))?;
+    end_of_block(input, order, size)
 }
 
 /// A block's length, which stands again at its end. Error: Length where it doesn't.
@@ -156,13 +137,9 @@ pub fn end_of_block<R: BufRead>(
     ensures { ReadsInput R.Read.remaining (closed order size) input.old input.new (map_ok (λ _. size) result) }
 {
     let mut octets = [0; 4];
-    match input.fill(&mut octets) {
-        Ok(()) => {
-            if order.u32_at(&octets, 0) != size {
-                return Err(FaultKind::Length);
-            }
-            Ok(())
-        }
-        Err(fault) => Err(fault),
+    input.fill(&mut octets)?;
+    if order.u32_at(&octets, 0) != size {
+        return Err(FaultKind::Length);
     }
+    Ok(())
 }

@@ -39,13 +39,9 @@ impl<R: BufRead> Input<R> {
         ensures place { OnOk result (self.new.at ≡ min (self.old.at + length buffer.new) (2 ^ 64 - 1)) }
         ensures exact { ReadsInput R.Read.remaining (so_many (length buffer.old)) self.old self.new (map_ok (λ _. buffer.new) result) }
     {
-        match read_full(&mut self.reader, buffer) {
-            Ok(()) => {
-                self.at = self.at.saturating_add(buffer.len() as u64);
-                Ok(())
-            }
-            Err(fault) => Err(fault),
-        }
+        read_full(&mut self.reader, buffer)?;
+        self.at = self.at.saturating_add(buffer.len() as u64);
+        Ok(())
     }
 
     /// Reads so many octets to the buffer's front. Errors: CutShort where the file ends before, Device.
@@ -74,13 +70,9 @@ impl<R: BufRead> Input<R> {
         ensures place { OnOk result (self.new.at ≡ min (self.old.at + count) (2 ^ 64 - 1)) }
         ensures exact { Passes count (place_of R.Read.remaining self.old) (place_of R.Read.remaining self.new) result }
     {
-        match leave_out(&mut self.reader, count) {
-            Ok(()) => {
-                self.at = self.at.saturating_add(count);
-                Ok(())
-            }
-            Err(fault) => Err(fault),
-        }
+        leave_out(&mut self.reader, count)?;
+        self.at = self.at.saturating_add(count);
+        Ok(())
     }
 }
 

@@ -176,14 +176,12 @@ pub fn interface_in(order: ByteOrder, body: &[u8]) -> Result<Described, FaultKin
     if body.len() < 8 {
         return Err(FaultKind::Length);
     }
-    match units_among(order, &body[8..]) {
-        Ok(units) => Ok(Described {
-            link: link_type(order.u16_at(body, 0)),
-            longest: order.u32_at(body, 4),
-            units,
-        }),
-        Err(fault) => Err(fault),
-    }
+    let units = units_among(order, &body[8..])?;
+    Ok(Described {
+        link: link_type(order.u16_at(body, 0)),
+        longest: order.u32_at(body, 4),
+        units,
+    })
 }
 
 /// The head of a frame in an enhanced packet block of `length` octets, from what follows the block's head.
@@ -254,10 +252,7 @@ fn units_among(order: ByteOrder, options: &[u8]) -> Result<u64, FaultKind>
     ensures units { result ≡ units_of_options order options.now }
     ensures some { IfOk result (λ units. 0 < units) }
 {
-    match resolution_in(order, options) {
-        Ok(resolution) => units_in(resolution),
-        Err(fault) => Err(fault),
-    }
+    units_in(resolution_in(order, options)?)
 }
 
 // The resolution that the options give, or that of microseconds.

@@ -160,14 +160,10 @@ impl<R: BufRead> Pieces<R> {
     fn section(&mut self, octets: [u8; BLOCK_HEAD]) -> Result<Option<Frame>, FaultKind>
         ensures { ReadsPiece R.Read.remaining (section_piece (state_of self.old) octets) self.old self.new result }
     {
-        match section(&mut self.input, octets) {
-            Ok(order) => {
-                self.format = Format::Pcapng(order);
-                self.interfaces.clear();
-                Ok(None)
-            }
-            Err(fault) => Err(fault),
-        }
+        let order = section(&mut self.input, octets)?;
+        self.format = Format::Pcapng(order);
+        self.interfaces.clear();
+        Ok(None)
     }
 
     fn by_kind(&mut self, order: ByteOrder, head: BlockHead) -> Result<Option<Frame>, FaultKind>
@@ -179,15 +175,9 @@ impl<R: BufRead> Pieces<R> {
             BlockKind::Enhanced => self.enhanced(order, head.length),
             BlockKind::Simple => self.simple(order, head.length),
             BlockKind::Other => {
-                match skip_to_end(
-                    &mut self.input,
-                    head.length - BLOCK_FRAME,
-                    order,
-                    head.length,
-                ) {
-                    Ok(()) => Ok(None),
-                    Err(fault) => Err(fault),
-                }
+                let rest = head.length - BLOCK_FRAME;
+                skip_to_end(&mut self.input, rest, order, head.length)?;
+                Ok(None)
             }
         }
     }

@@ -1,8 +1,16 @@
 -- Fades that are all_begun one after another.
-use Rattle.std.proofs.Common.{◌≡◌, ℕ, zero, suc, ◌+◌, ◌<◌, Bool, true, false, ◌==◌, List, [], ◌∷◌, length, set, get_or, replicate, Option, Some, None, if◌then◌else◌, refl, sym, ap, ◌∙◌, arith}
+use Rattle.std.proofs.Common.{◌≡◌, ℕ, zero, suc, ◌+◌, ◌-◌, ◌<◌, ◌≤◌, Bool, true, false, ◌==◌, List, [], ◌∷◌, length, set, get_or, replicate, Option, Some, None, if◌then◌else◌, refl, sym, ap, ◌∙◌, arith}
 use Rattle.std.proofs.lemmas.Bool.Decides.{nat_tests}
 use Rattle.sacn_cues.specs.Levels.{Ramp, Given, begun_if_given, given_to, all_begun, begun_to, set_to}
+use Rattle.sacn_cues.specs.Channels.{is_channel}
 use Rattle.sacn_cues.specs.Targets.{Targets}
+use Rattle.sacn_cues.specs.Tracks.{AreTargets}
+
+-- no target for the first so many channels
+abbrev pub blanked : ℕ → Targets → Targets
+blanked zero targets = targets
+blanked (suc n) [] = []
+blanked (suc n) (target ∷ targets) = None ∷ blanked n targets
 
 module _ (up down now : ℕ) where
   -- a target that is taken away as its fade begins
@@ -29,6 +37,40 @@ module _ (up down now : ℕ) where
       let first : given_to up down target ≡ gives channel = is 0 (omega arith) ∙ ap gives here in
       let rest : begun_to up down now targets fades ≡ all_begun gives now (suc channel) fades = begun_as_given gives (suc channel) targets fades (omega arith) (λ k lt. let e : channel + suc k ≡ suc channel + k = omega arith in is (suc k) (omega arith) ∙ ap gives e) in
       rw (first, rest) refl
+
+  -- targets of channels that have these levels
+  pub begun_by_targets : (level : ℕ → Option ℕ) (targets : Targets) (fades : List Ramp) → length targets ≡ length fades → AreTargets level targets → begun_to up down now targets fades ≡ all_begun (λ channel. given_to up down (level channel)) now 1 fades
+  begun_by_targets level targets fades same are =
+      begun_as_given (λ channel. given_to up down (level channel)) 1 targets fades same (λ k lt.
+      let inside : is_channel (1 + k) ≡ true = grind (arith, nat_tests, lt, are.0) in
+      let place : k ≡ 1 + k - 1 = omega arith in
+      ap (given_to up down) (ap (λ j. get_or targets j None) place ∙ are.1 (1 + k) inside))
+
+  -- the fade of one more channel, where those before it are begun
+  pub one_given : (at : ℕ) (targets : Targets) (fades : List Ramp) (d : Ramp) → at < length fades → length targets ≡ length fades → begun_to up down now (blanked (suc at) targets) (set fades at (begun_if_given now (given_to up down (get_or targets at None)) (get_or fades at d))) ≡ begun_to up down now (blanked at targets) fades
+  one_given at [] [] d lt same = absurd (omega arith)
+  one_given at [] (fade ∷ fades) d lt same = absurd (omega arith)
+  one_given at (target ∷ targets) [] d lt same = absurd (omega arith)
+  one_given zero (target ∷ targets) (fade ∷ fades) d lt same = refl
+  one_given (suc at) (target ∷ targets) (fade ∷ fades) d lt same = ap (λ fs. fade ∷ fs) (one_given at targets fades d (omega arith) (omega arith))
+
+  pub one_more_given : (at : ℕ) (targets : Targets) (fades new : List Ramp) (d : Ramp) → at < length fades → length targets ≡ length fades → new ≡ set fades at (begun_if_given now (given_to up down (get_or targets at None)) (get_or fades at d)) → begun_to up down now (blanked (at + 1) targets) new ≡ begun_to up down now (blanked at targets) fades
+  one_more_given at targets fades new d lt same is =
+      let next : at + 1 ≡ suc at = omega arith in
+      ap (λ n. begun_to up down now (blanked n targets) new) next
+      ∙ ap (begun_to up down now (blanked (suc at) targets)) is
+      ∙ one_given at targets fades d lt same
+
+  -- where all are begun, nothing is left to begin
+  pub all_given : (n : ℕ) (targets : Targets) (fades : List Ramp) → length fades ≤ n → length targets ≡ length fades → begun_to up down now (blanked n targets) fades ≡ fades
+  all_given n targets [] all same = refl
+  all_given zero targets (fade ∷ fades) all same = absurd (omega arith)
+  all_given (suc n) [] (fade ∷ fades) all same = absurd (omega arith)
+  all_given (suc n) (target ∷ targets) (fade ∷ fades) all same = ap (λ fs. fade ∷ fs) (all_given n targets fades (omega arith) (omega arith))
+
+  -- what is begun of values that are these
+  pub begun_there : (level : ℕ → Option ℕ) (up_lent down_lent : ℕ) (targets_lent targets : Targets) (fades_lent fades new : List Ramp) → new ≡ begun_to up_lent down_lent now targets_lent fades_lent → up_lent ≡ up → down_lent ≡ down → targets_lent ≡ targets → fades_lent ≡ fades → length targets ≡ length fades → AreTargets level targets → new ≡ all_begun (λ channel. given_to up down (level channel)) now 1 fades
+  begun_there level up_lent down_lent targets_lent targets fades_lent fades new is u d t f same are = is ∙ (λ i. begun_to (u i) (d i) now (t i) (f i)) ∙ begun_by_targets level targets fades same are
 
 differ : (a b : ℕ) → a < b → (a == b) ≡ false
 differ a b lt = grind (arith, nat_tests)

@@ -1,17 +1,9 @@
 -- Levels that a player keeps of its moment, so that one that is asked for costs a look.
-use Rattle.std.specs.Prelude.{◌≡◌, ℕ, ◌<◌, ◌+◌, ◌*◌, ◌/◌, ◌%◌, List, length, get_or, true, replicate, None}
-use Rattle.std.specs.FinMap.{entries}
-use Rattle.sacn_patch.specs.declared.limits.TheConstants.{MAX_CHANNELS}
+use Rattle.std.specs.Prelude.{◌≡◌, ℕ, ◌<◌, ◌+◌, ◌*◌, ◌/◌, ◌%◌, List, length, get_or, true}
 use Rattle.sacn_patch.specs.Parts.{AreOctets}
 use Rattle.sacn_cues.specs.declared.shown.TheConstants.{OCTETS}
 use Rattle.sacn_cues.specs.declared.shown.Shown.{Shown}
-use Rattle.sacn_cues.specs.Cues.{Cues}
-use Rattle.sacn_cues.specs.Targets.{Targets, aimed_everywhere}
 use Rattle.sacn_cues.specs.Playing.{Played, level_mastered}
-
--- each channel that the cues name is aimed at 0
-abbrev pub zeros_of : Cues → Targets
-zeros_of cues = aimed_everywhere (entries cues) (replicate MAX_CHANNELS None)
 
 -- the octets of the level of channel i + 1 stand in their places
 abbrev pub HasLevel : List ℕ → ℕ → ℕ → Type 0

@@ -1,16 +1,16 @@
 //! The fades of all channels.
-ghost use Rattle.std.specs.Prelude.{◌≡◌, max, true, IfOk, length, replicate, None};
-ghost use Rattle.sacn_cues.specs.Cues.{level_of_channel, level_tracked};
+ghost use Rattle.std.specs.Prelude.{◌≡◌, ℕ, max, true, IfOk, length, replicate, Option, None};
+ghost use Rattle.sacn_patch.specs.declared.limits.TheConstants.{MAX_CHANNELS};
+ghost use Rattle.sacn_cues.specs.Cues.{level_of_channel};
 ghost use Rattle.sacn_cues.specs.Levels.{all_begun, given_to, set_to, end_of, all_still, level_at};
 ghost use Rattle.sacn_cues.specs.Channels.{is_channel};
 ghost use Rattle.sacn_cues.specs.Playing.{longer};
-ghost use Rattle.sacn_cues.specs.Targets.{aimed_everywhere};
-ghost use Rattle.std.specs.FinMap.{entries};
+ghost use Rattle.sacn_cues.specs.Tracks.{AreTargets};
 
 use crate::channel::is_channel;
-use crate::fade::{Fade, Times, begin_all, fill_octets, set_one};
-use crate::list::CueList;
+use crate::fade::{Fade, begin_all, fill_octets, set_one};
 use crate::scene::Scene;
+use crate::track::Track;
 use sacn_patch::MAX_CHANNELS;
 use std::alloc::{AllocError, Global};
 use std::marker::Model;
@@ -48,7 +48,7 @@ impl Fades {
     ghost use Rattle.sacn_cues.specs.declared.shown.TheConstants.{OCTETS};
     ghost use Rattle.sacn_cues.specs.declared.limits.TheConstants.{FULL};
     ghost use Rattle.sacn_cues.specs.Levels.{last_moment, StaysLit, StaysAt};
-    ghost use Rattle.sacn_cues.specs.Shown.{zeros_of, IsBlankBefore};
+    ghost use Rattle.sacn_cues.specs.Shown.{IsBlankBefore};
 
     /// The fades of channels that all rest at level 0.
     pub(crate) fn new(alloc: Global) -> Result<Fades, AllocError>
@@ -72,30 +72,13 @@ impl Fades {
         self.rest = rest_after(self.rest, now, scene.longer());
     }
 
-    /// Begins the fades of all channels that the list names, in the times of one cue, to their
-    /// levels as if all cues up to this number had been played.
-    pub(crate) fn play_to(
-        &mut self,
-        cues: &CueList,
-        zeros: &[Option<u16>],
-        number: u16,
-        scene: &Scene,
-        now: u64,
-    )
-        requires { zeros.now ≡ zeros_of cues.now }
-        ensures { self.new ≡ record { rest = max self.old.rest (end_of now (longer scene.now)); fades = all_begun (λ channel. given_to scene.now.up scene.now.down (level_tracked number cues.now channel)) now 1 self.old.fades } }
+    /// Begins the fades of the channels to which going to a cue gives a level.
+    pub(crate) fn play_to(&mut self, track: &Track, now: u64)
+        requires { length track.now.targets ≡ MAX_CHANNELS }
+        ensures { (level : ℕ → Option ℕ) → AreTargets level track.now.targets → self.new ≡ record { rest = max self.old.rest (end_of now (max track.now.up track.now.down)); fades = all_begun (λ channel. given_to track.now.up track.now.down (level channel)) now 1 self.old.fades } }
     {
-        let times = scene.times();
-        play_list(
-            cues,
-            zeros,
-            number,
-            times,
-            &mut self.targets,
-            &mut self.fades,
-            now,
-        );
-        self.rest = rest_after(self.rest, now, scene.longer());
+        begin_all(track.targets(), &mut self.fades, track.times(), now);
+        self.rest = rest_after(self.rest, now, track.longer());
     }
 
     /// Sets a channel at once.
@@ -158,26 +141,6 @@ fn play_scene(scene: &Scene, targets: &mut [Option<u16>], fades: &mut [Fade], no
     let times = scene.times();
     scene.aim(targets);
     scene.begin(targets, fades, times, now);
-}
-
-// Begins the fades of the channels that a list names. The targets are room, and left empty.
-fn play_list(
-    cues: &CueList,
-    zeros: &[Option<u16>],
-    number: u16,
-    times: Times,
-    targets: &mut [Option<u16>],
-    fades: &mut [Fade],
-    now: u64,
-)
-    requires room { targets.old ≡ replicate (length fades.old) None }
-    requires zeros { zeros.now ≡ aimed_everywhere (entries cues.now) targets.old }
-    ensures targets { targets.new ≡ targets.old }
-    ensures fades { fades.new ≡ all_begun (λ channel. given_to times.up times.down (level_tracked number cues.now channel)) now 1 fades.old }
-{
-    targets.copy_from_slice(zeros);
-    cues.aim_upto(number, targets);
-    begin_all(targets, fades, times, now);
 }
 
 // The moment from which the fades rest, once one of this time begins.

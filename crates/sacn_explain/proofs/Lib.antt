@@ -1,3 +1,4 @@
 pub mod Following
 pub mod Story
 pub mod Counts
+pub mod Known

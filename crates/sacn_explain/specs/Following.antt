@@ -3,6 +3,8 @@ use Rattle.std.specs.Prelude.{◌≡◌, ℕ, ◌≤◌, ◌⊎◌, ⊤, max, Li
 use Rattle.sacn_monitor.specs.declared.account.Sender.{Sender}
 use Rattle.sacn_monitor.specs.declared.limits.TheConstants.{MAX_STREAMS}
 use Rattle.sacn_monitor.specs.Books.{Book, new_book, after_take, after_tick}
+use Rattle.sacn_explain.specs.declared.follower.Follower.{Follower}
+use Rattle.sacn_explain.specs.Listed.{listed_by, listed_in}
 use Rattle.sacn_monitor.specs.Histories.{Call, Take, Tick, moment_in_use, after_calls, arrivals, account_by, account_in}
 
 -- each of these moments is t or earlier
@@ -28,6 +30,12 @@ abbrev pub Follows : List Call → Book → Type 0
 Follows [] b = b ≡ new_book
 Follows (Take now sender octets ∷ earlier) b = (old : Book) × Follows earlier old × IsTaken (max (moment_in_use earlier) now) sender octets old b
 Follows (Tick now ∷ earlier) b = (old : Book) × Follows earlier old × IsTicked (max (moment_in_use earlier) now) old b
+
+-- a follower that may be what these calls leave
+pub record IsFollowing (calls : List Call) {O : Type 0} (follower : Follower O) : Type 0 where
+  pub book : Follows calls follower.monitor
+  pub listed : listed_in follower.listings ≡ listed_by calls
+  pub moment : follower.moment ≡ moment_in_use calls
 
 -- Whatever a follower was handed, its account of a source on a universe is the one that the packets of that source there give; or it has none, and
 -- there is no room for a further one.

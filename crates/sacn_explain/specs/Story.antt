@@ -2,6 +2,8 @@
 use Rattle.std.specs.Prelude.{◌≡◌, ◌⊎◌, ℕ, ◌-◌, ◌==◌, max, nat_lt, List, [], ◌∷◌, length, Option, None, Some, unwrap_or, Result, Ok, Err, if◌then◌else◌}
 use Rattle.sacn_capture.specs.declared.links.Passed.{Passed}
 use Rattle.sacn_capture.specs.declared.faults.CaptureFault.{CaptureFault}
+use Rattle.sacn_capture.specs.declared.counts.Counts.{Counts}
+use Rattle.sacn_capture.specs.Counting.{counted, none_counted, passed_by}
 use Rattle.sacn_capture.specs.Files.{IsOutside}
 use Rattle.sacn_capture.specs.Frames.{Sent}
 use Rattle.sacn_capture.specs.Recordings.{Shown, Told}
@@ -13,6 +15,7 @@ use Rattle.sacn_explain.specs.declared.follow.Followed.{Followed}
 use Rattle.sacn_explain.specs.declared.follow.Timeline.{Timeline}
 use Rattle.sacn_explain.specs.declared.report.Report.{Report}
 use Rattle.sacn_explain.specs.Following.{IsTaken, IsTicked}
+use Rattle.sacn_explain.specs.Listed.{Listed, listed_by}
 
 -- milliseconds from the first frame, which is this one where there was none before
 abbrev pub since_first : ℕ → Timeline → ℕ
@@ -39,14 +42,16 @@ abbrev pub elsewhere : ℕ → Result Sent Passed → ℕ → ℕ
 elsewhere port (Ok d) n = if d.destination_port == port then n else more 1 n
 elsewhere port (Err passed) n = n
 
--- what frames make: the clock, how many datagrams are to other ports, and the calls, the latest first
+-- what frames make: what they were, the clock, how many datagrams are to other ports, and the calls, the latest first
 pub record Heard : Type 0 where
+  pub frames : Counts
   pub clock : Timeline
   pub other_ports : ℕ
   pub calls : List Call
 
 abbrev pub after_frame : ℕ → Shown → Heard → Heard
 after_frame port frame h = record {
+  frames = counted (passed_by frame.content) h.frames;
   clock = at_moment frame.moment h.clock;
   other_ports = elsewhere port frame.content h.other_ports;
   calls = call_of port (at_moment frame.moment h.clock).now frame.content ∷ h.calls;
@@ -61,13 +66,15 @@ abbrev pub no_clock : Timeline
 no_clock = record { first = None; now = 0; went_back = 0 }
 
 abbrev pub heard_in : ℕ → List Shown → Heard
-heard_in port frames = after_frames port frames (record { clock = no_clock; other_ports = 0; calls = [] })
+heard_in port frames = after_frames port frames (record { frames = none_counted; clock = no_clock; other_ports = 0; calls = [] })
 
 -- the recording has no fault, and these are the counts that the calls of its frames give
 pub record IsAccountOf (port : ℕ) (told : Told) (report : Report) : Type 0 where
   pub whole : told.fault ≡ None
+  pub frames : report.frames ≡ (heard_in port told.frames).frames
   pub tally : report.tally ≡ (after_calls (heard_in port told.frames).calls).tally
   pub streams : report.streams ≡ length (after_calls (heard_in port told.frames).calls).streams
+  pub pages_passed : report.pages_passed ≡ (listed_by (heard_in port told.frames).calls).passed
   pub length : report.length ≡ (heard_in port told.frames).clock.now
   pub other_ports : report.other_ports ≡ (heard_in port told.frames).other_ports
   pub went_back : report.went_back ≡ (heard_in port told.frames).clock.went_back
@@ -82,17 +89,25 @@ Hears t (Tick now) old new = IsTicked (max t now) old new
 abbrev pub begun : Followed
 begun = record { timeline = no_clock; other_ports = 0; stopped = None }
 
+-- what is kept of a recording that is followed: what its frames were, what it told, and the lists
+pub record Kept : Type 0 where
+  pub frames : Counts
+  pub book : Book
+  pub listed : Listed
+
 -- this is what was heard, and these are the counts that it gives
-pub record IsHeardAs (h : Heard) (followed : Followed) (book : Book) : Type 0 where
+pub record IsHeardAs (h : Heard) (followed : Followed) (kept : Kept) : Type 0 where
+  pub frames : kept.frames ≡ h.frames
   pub clock : followed.timeline ≡ h.clock
   pub other_ports : followed.other_ports ≡ h.other_ports
-  pub tally : book.tally ≡ (after_calls h.calls).tally
-  pub streams : length book.streams ≡ length (after_calls h.calls).streams
+  pub tally : kept.book.tally ≡ (after_calls h.calls).tally
+  pub streams : length kept.book.streams ≡ length (after_calls h.calls).streams
+  pub listed : kept.listed ≡ listed_by h.calls
 
 -- a recording was followed to its end, or to what is wrong with it
-abbrev pub IsHeardTo : Option CaptureFault → ℕ → Told → Followed → Book → Type 0
-IsHeardTo None port told followed book = (told.fault ≡ None) × IsHeardAs (heard_in port told.frames) followed book
-IsHeardTo (Some fault) port told followed book = IsOutside fault.kind ⊎ (told.fault ≡ Some fault)
+abbrev pub IsHeardTo : Option CaptureFault → ℕ → Told → Followed → Kept → Type 0
+IsHeardTo None port told followed kept = (told.fault ≡ None) × IsHeardAs (heard_in port told.frames) followed kept
+IsHeardTo (Some fault) port told followed kept = IsOutside fault.kind ⊎ (told.fault ≡ Some fault)
 
-abbrev pub IsHeard : ℕ → Told → Followed → Book → Type 0
-IsHeard port told followed book = IsHeardTo followed.stopped port told followed book
+abbrev pub IsHeard : ℕ → Told → Followed → Kept → Type 0
+IsHeard port told followed kept = IsHeardTo followed.stopped port told followed kept

@@ -3,10 +3,13 @@
 ghost use Rattle.std.specs.Prelude.{◌≡◌, IfErr, IfOk, IfSome, OnOk, Some, max};
 ghost use Rattle.sacn_capture.specs.Frames.{sent_of};
 ghost use Rattle.sacn_capture.specs.Recordings.{recording};
-ghost use Rattle.sacn_capture.specs.Streams.{shown_of, to_come};
+ghost use Rattle.sacn_capture.specs.Counting.{none_counted};
+ghost use Rattle.sacn_capture.specs.Streams.{counts_of, shown_of, to_come};
+ghost use Rattle.sacn_framing.specs.PacketReading.{reading_packet};
 ghost use Rattle.sacn_monitor.specs.Books.{new_book};
 ghost use Rattle.sacn_explain.specs.Faults.{IsFaultOf, IsOfTelling};
 ghost use Rattle.sacn_explain.specs.Following.{IsTaken};
+ghost use Rattle.sacn_explain.specs.Listed.{after_reading, listed_in, listed_with, none_listed};
 ghost use Rattle.sacn_explain.specs.Story.{Hears, IsAccountOf, IsHeard, at_moment, begun, call_of, elsewhere, no_clock, sender_of};
 
 use crate::fault::ExplainFault;
@@ -86,7 +89,10 @@ fn follow<R: BufRead + Drop, O: Write>(
 ) -> Result<Followed, ExplainFault>
     requires nothing { follower.old.monitor ≡ new_book }
     requires moment { follower.old.moment ≡ 0 }
-    ensures told { IfSome (to_come R.Read.remaining capture.old) (λ told. IfOk result (λ followed. IsHeard port told followed follower.new.monitor)) }
+    requires lists { listed_in follower.old.listings ≡ none_listed }
+    requires frames { counts_of capture.old ≡ none_counted }
+    ensures told { IfSome (to_come R.Read.remaining capture.old) (λ told. IfOk result (λ followed. IsHeard port told followed
+        (record { frames = counts_of capture.new; book = follower.new.monitor; listed = listed_in follower.new.listings }))) }
     ensures fault { IfErr result IsOfTelling }
 {
     let mut followed = Followed::begin();
@@ -136,6 +142,8 @@ impl Followed {
         ensures moment { follower.new.moment ≡ max follower.old.moment self.new.timeline.now }
         ensures taken { OnOk result (Hears follower.old.moment (call_of port self.new.timeline.now (shown_of frame.now).content)
             follower.old.monitor follower.new.monitor) }
+        ensures listed { OnOk result (listed_in follower.new.listings
+            ≡ listed_with (call_of port self.new.timeline.now (shown_of frame.now).content) (listed_in follower.old.listings)) }
         ensures fault { IfErr result IsOfTelling }
     {
         self.timeline.advance(frame.moment);
@@ -160,6 +168,7 @@ fn hear<O: Write>(
     ensures moment { follower.new.moment ≡ max follower.old.moment now }
     ensures taken { OnOk result (IsTaken (max follower.old.moment now) (sender_of (sent_of datagram.now)) (sent_of datagram.now).payload
         follower.old.monitor follower.new.monitor) }
+    ensures listed { OnOk result (listed_in follower.new.listings ≡ after_reading (reading_packet (sent_of datagram.now).payload) (listed_in follower.old.listings)) }
     ensures fault { IfErr result IsOfTelling }
 {
     let sender = Sender {

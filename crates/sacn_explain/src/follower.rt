@@ -1,9 +1,11 @@
 //! What happens, told as it happens.
 
 ghost use Rattle.std.specs.Prelude.{◌≡◌, ◌≤◌, ◌⊎◌, IfErr, IfOk, IfSome, OnOk, max};
+ghost use Rattle.sacn_framing.specs.PacketReading.{reading_packet};
 ghost use Rattle.sacn_monitor.specs.Books.{new_book, after_take, after_tick};
 ghost use Rattle.sacn_explain.specs.Faults.{IsOfTelling};
 ghost use Rattle.sacn_explain.specs.Following.{IsTicked, IsTaken};
+ghost use Rattle.sacn_explain.specs.Listed.{after_noted, after_reading, listed_in, none_listed};
 
 use crate::cause::Cause;
 use crate::contests::Contests;
@@ -52,6 +54,7 @@ impl<'a, O: Write> Follower<'a, O> {
         out: &'a mut O,
     ) -> Result<Self, ExplainFault>
         ensures nothing { IfOk result (λ f. f.monitor ≡ new_book) }
+        ensures listed { IfOk result (λ f. listed_in f.listings ≡ none_listed) }
         ensures moment { IfOk result (λ f. f.moment ≡ 0) }
         ensures fault { IfErr result IsOfTelling }
     {
@@ -78,9 +81,11 @@ impl<'a, O: Write> Follower<'a, O> {
     /// accounts are then those that the monitor has after this datagram, once.
     ///
     /// Errors: OutOfMemory; Device where a line can't be written.
+    #[tactic(auto, using(crate::proofs::Known::take_listed))]
     pub fn take(&mut self, now: u64, sender: Sender, octets: &[u8]) -> Result<(), ExplainFault>
         ensures moment { self.new.moment ≡ max self.old.moment now }
         ensures taken { OnOk result (IsTaken (max self.old.moment now) sender octets.now self.old.monitor self.new.monitor) }
+        ensures listed { OnOk result (listed_in self.new.listings ≡ after_reading (reading_packet octets.now) (listed_in self.old.listings)) }
         ensures fault { IfErr result IsOfTelling }
     {
         self.tick(now)?;
@@ -96,6 +101,7 @@ impl<'a, O: Write> Follower<'a, O> {
     pub fn tick(&mut self, now: u64) -> Result<(), ExplainFault>
         ensures moment { self.new.moment ≡ max self.old.moment now }
         ensures ticked { OnOk result (IsTicked (max self.old.moment now) self.old.monitor self.new.monitor) }
+        ensures listings { self.new.listings ≡ self.old.listings }
         ensures fault { IfErr result IsOfTelling }
     {
         self.moment = self.moment.max(now);
@@ -110,6 +116,7 @@ impl<'a, O: Write> Follower<'a, O> {
     fn tell_silence(&mut self) -> Result<(), TellFault>
         ensures moment { self.new.moment ≡ self.old.moment }
         ensures ticked { OnOk result (IsTicked self.old.moment self.old.monitor self.new.monitor) }
+        ensures listings { self.new.listings ≡ self.old.listings }
     {
         let now = self.moment;
         for _ in 0..u64::MAX {
@@ -128,6 +135,7 @@ impl<'a, O: Write> Follower<'a, O> {
     fn tell_end(&mut self, at: u64, is_stream: bool) -> Result<(), TellFault>
         ensures monitor { (self.new.monitor ≡ self.old.monitor) ⊎ (self.new.monitor ≡ after_tick at self.old.monitor) }
         ensures moment { self.new.moment ≡ self.old.moment }
+        ensures listings { self.new.listings ≡ self.old.listings }
     {
         if is_stream {
             return self.tell_loss(at);
@@ -140,6 +148,8 @@ impl<'a, O: Write> Follower<'a, O> {
     /// Errors: OutOfMemory; Device where a line can't be written.
     pub fn finish(&mut self, report: &Report) -> Result<(), ExplainFault>
         ensures monitor { self.new.monitor ≡ self.old.monitor }
+        ensures listings { self.new.listings ≡ self.old.listings }
+        ensures moment { self.new.moment ≡ self.old.moment }
         ensures fault { IfErr result IsOfTelling }
     {
         tables::tell(
@@ -167,7 +177,9 @@ impl<'a, O: Write> Follower<'a, O> {
     }
 
     /// Pages of sources for whose lists there was no room.
-    pub fn pages_passed(&self) -> u64 {
+    pub fn pages_passed(&self) -> u64
+        ensures { result ≡ (listed_in self.now.listings).passed }
+    {
         self.listings.passed()
     }
 
@@ -175,6 +187,7 @@ impl<'a, O: Write> Follower<'a, O> {
     fn tell(&mut self, sender: &Sender, octets: &[u8], noted: Noted) -> Result<(), TellFault>
         ensures monitor { self.new.monitor ≡ self.old.monitor }
         ensures moment { self.new.moment ≡ self.old.moment }
+        ensures listed { OnOk result (listed_in self.new.listings ≡ after_noted noted (reading_packet octets.now) (listed_in self.old.listings)) }
     {
         let now = self.monitor.moment();
         match noted {
@@ -190,6 +203,7 @@ impl<'a, O: Write> Follower<'a, O> {
     fn tell_news(&mut self, place: usize, news: &News) -> Result<(), TellFault>
         ensures monitor { self.new.monitor ≡ self.old.monitor }
         ensures moment { self.new.moment ≡ self.old.moment }
+        ensures listings { self.new.listings ≡ self.old.listings }
     {
         let now = self.monitor.moment();
         let Some(stream) = self.monitor.streams().get(place) else {
@@ -210,6 +224,7 @@ impl<'a, O: Write> Follower<'a, O> {
     fn tell_rivals(&mut self, universe: u16) -> Result<(), TellFault>
         ensures monitor { self.new.monitor ≡ self.old.monitor }
         ensures moment { self.new.moment ≡ self.old.moment }
+        ensures listings { self.new.listings ≡ self.old.listings }
     {
         let sources = self.monitor.rivals(universe);
         if !self.contests.note(universe, sources >= 2)? {
@@ -224,6 +239,7 @@ impl<'a, O: Write> Follower<'a, O> {
     fn tell_page(&mut self, octets: &[u8]) -> Result<(), TellFault>
         ensures monitor { self.new.monitor ≡ self.old.monitor }
         ensures moment { self.new.moment ≡ self.old.moment }
+        ensures listed { OnOk result (listed_in self.new.listings ≡ after_reading (reading_packet octets.now) (listed_in self.old.listings)) }
     {
         let Ok(Packet::PagePacket(page)) = read_packet(octets) else {
             return Ok(());
@@ -244,6 +260,7 @@ impl<'a, O: Write> Follower<'a, O> {
     fn tell_loss(&mut self, at: u64) -> Result<(), TellFault>
         ensures monitor { self.new.monitor ≡ after_tick at self.old.monitor }
         ensures moment { self.new.moment ≡ self.old.moment }
+        ensures listings { self.new.listings ≡ self.old.listings }
     {
         let Some(place) = self.monitor.tick(at) else {
             return Ok(());
@@ -271,6 +288,7 @@ impl<'a, O: Write> Follower<'a, O> {
     fn show_dark(&mut self, at: u64) -> Result<(), TellFault>
         ensures monitor { self.new.monitor ≡ self.old.monitor }
         ensures moment { self.new.moment ≡ self.old.moment }
+        ensures listings { self.new.listings ≡ self.old.listings }
     {
         match &mut self.stage {
             Some(stage) => stage.show(at, &Cause::Lost, &mut self.teller),
@@ -282,6 +300,7 @@ impl<'a, O: Write> Follower<'a, O> {
     fn show_turn(&mut self, octets: &[u8], noted: Noted) -> Result<(), TellFault>
         ensures monitor { self.new.monitor ≡ self.old.monitor }
         ensures moment { self.new.moment ≡ self.old.moment }
+        ensures listings { self.new.listings ≡ self.old.listings }
     {
         let now = self.monitor.moment();
         let Some(stage) = &mut self.stage else {

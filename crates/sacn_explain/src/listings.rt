@@ -1,7 +1,10 @@
 //! The universes that sources list (E1.31, 8).
 
-ghost use Rattle.std.specs.Prelude.{◌≡◌, IfOk};
+ghost use Rattle.std.specs.Prelude.{◌≡◌, ◌++◌, ◌∷◌, [], IfOk, OnOk, length};
+ghost use Rattle.std.specs.Str.{bytes_eq};
+ghost use Rattle.std.specs.List.{list_any};
 ghost use Rattle.sacn_explain.specs.Lists.{is_heard, silent, is_unlisted, unlisted};
+ghost use Rattle.sacn_explain.specs.Listed.{after_page, listed_in, none_listed};
 
 use sacn_discovery::{Collector, DiscoveryFault};
 use sacn_framing::PageView;
@@ -38,15 +41,22 @@ pub enum PageNews {
 pub struct Listings {
     alloc: Global,
     collector: Collector,
+    /// The CIDs of the sources, in the order of their first pages.
+    sources: Vec<[u8; 16]>,
+    /// Their lists, in the same order.
     known: Vec<Listing>,
     passed: u64,
 }
 
 impl Listings {
-    pub fn new(alloc: Global) -> Self {
+    /// No list yet.
+    pub fn new(alloc: Global) -> Self
+        ensures { listed_in result ≡ none_listed }
+    {
         Listings {
             alloc,
             collector: Collector::new(alloc),
+            sources: Vec::new(alloc),
             known: Vec::new(alloc),
             passed: 0,
         }
@@ -62,7 +72,9 @@ impl Listings {
     }
 
     /// Pages of sources for which there was no room.
-    pub fn passed(&self) -> u64 {
+    pub fn passed(&self) -> u64
+        ensures { result ≡ (listed_in self.now).passed }
+    {
         self.passed
     }
 
@@ -75,47 +87,62 @@ impl Listings {
     }
 
     /// A page that came at a moment.
-    pub fn take(&mut self, now: u64, page: &PageView<'_>) -> Result<PageNews, DiscoveryFault> {
-        match self.place_of(&page.cid()) {
-            Some(place) => self.collect(now, place, page),
-            None if self.known.len() < MOST_LISTINGS => {
-                let place = self.known.len();
-                self.admit(page)?;
-                self.collect(now, place, page)
-            }
-            None => {
-                self.passed = self.passed.saturating_add(1);
-                Ok(PageNews::Nothing)
-            }
+    ///
+    /// Errors: OutOfMemory.
+    pub fn take(&mut self, now: u64, page: &PageView<'_>) -> Result<PageNews, DiscoveryFault>
+        ensures { OnOk result (listed_in self.new ≡ after_page page.now.cid (listed_in self.old)) }
+    {
+        let cid = page.cid();
+        if self.is_known(&cid) {
+            return self.collect(now, page);
         }
+        if self.sources.len() >= MOST_LISTINGS {
+            self.passed = self.passed.saturating_add(1);
+            return Ok(PageNews::Nothing);
+        }
+        self.admit(cid)?;
+        self.collect(now, page)
+    }
+
+    // Whether a page of this source came.
+    fn is_known(&self, cid: &[u8; 16]) -> bool
+        ensures { result ≡ list_any (λ source. bytes_eq source cid.now) (listed_in self.now).sources }
+    {
+        self.sources.iter().any(|source| *source == *cid)
     }
 
     fn place_of(&self, cid: &[u8; 16]) -> Option<usize> {
-        self.known.iter().position(|listing| listing.cid == *cid)
+        self.sources.iter().position(|source| *source == *cid)
     }
 
-    // A source that wasn't heard before.
-    fn admit(&mut self, page: &PageView<'_>) -> Result<(), DiscoveryFault> {
+    // A source of which no page came before.
+    fn admit(&mut self, cid: [u8; 16]) -> Result<(), DiscoveryFault>
+        ensures sources { OnOk result ((listed_in self.new).sources ≡ (listed_in self.old).sources ++ cid ∷ []) }
+        ensures passed { self.new.passed ≡ self.old.passed }
+    {
         let listing = Listing {
-            cid: page.cid(),
+            cid,
             name: Vec::new(self.alloc),
             universes: None,
         };
-        match self.known.push(listing) {
+        if self.known.push(listing).is_err() {
+            return Err(DiscoveryFault::OutOfMemory);
+        }
+        match self.sources.push(cid) {
             Ok(()) => Ok(()),
             Err(_) => Err(DiscoveryFault::OutOfMemory),
         }
     }
 
-    // A page of the source at a place.
-    fn collect(
-        &mut self,
-        now: u64,
-        place: usize,
-        page: &PageView<'_>,
-    ) -> Result<PageNews, DiscoveryFault> {
+    // A page of a source that is known.
+    fn collect(&mut self, now: u64, page: &PageView<'_>) -> Result<PageNews, DiscoveryFault>
+        ensures { listed_in self.new ≡ listed_in self.old }
+    {
         self.collector.take(now, page)?;
         let Some(universes) = self.collector.list_of(now, &page.cid())? else {
+            return Ok(PageNews::Nothing);
+        };
+        let Some(place) = self.place_of(&page.cid()) else {
             return Ok(PageNews::Nothing);
         };
         match self.known.get_mut(place) {
@@ -132,7 +159,9 @@ impl Listing {
         alloc: Global,
         name: &[u8],
         universes: Vec<u16>,
-    ) -> Result<PageNews, DiscoveryFault> {
+    ) -> Result<PageNews, DiscoveryFault>
+        ensures { self.new.cid ≡ self.old.cid }
+    {
         let news = match &self.universes {
             None => PageNews::Appears,
             Some(known) if known.as_slice() == universes.as_slice() => return Ok(PageNews::Nothing),

@@ -1,5 +1,6 @@
 //! Why a run ends before all is measured.
 use sacn_console::ShowFault;
+use sacn_cues::CueFault;
 use sacn_node::SetupFault;
 use sacn_sources::TableFault;
 use std::alloc::AllocError;
@@ -19,6 +20,8 @@ pub enum SpeedFault {
     Setup(#[from] SetupFault),
     #[error("a show is refused")]
     Show(#[from] ShowFault),
+    #[error("a cue is refused")]
+    Cue(#[from] CueFault),
     #[error("a command is refused")]
     Command,
     #[error("the plain work answers otherwise")]

@@ -12,7 +12,9 @@ mod fault;
 mod nodes;
 mod plain_codec;
 mod plain_console;
+mod plain_player;
 mod plain_table;
+mod players;
 mod sources;
 mod turn;
 
@@ -23,7 +25,7 @@ use std::io::{self, Write};
 use std::process::ExitCode;
 use std::time::Clock;
 
-const MEASURES: [&str; 23] = [
+const MEASURES: [&str; 26] = [
     codec::READ,
     codec::REFUSE,
     codec::WRITE,
@@ -47,6 +49,9 @@ const MEASURES: [&str; 23] = [
     fades::MOST,
     fades::HALF,
     fades::SLEEP,
+    players::HUNDRED,
+    players::THOUSAND,
+    players::EACH,
 ];
 
 // The first word after the program's name.
@@ -73,7 +78,8 @@ fn all_measured<R: AllocGlobal + Clock, O: Write>(
     sources::measured(rt, out, calls)?;
     nodes::measured(rt, out, calls)?;
     consoles::measured(rt, out)?;
-    fades::measured(rt, out)
+    fades::measured(rt, out)?;
+    players::measured(rt, out)
 }
 
 fn run<R: AllocGlobal + Clock + Env, O: Write>(rt: &R, out: &mut O) -> Result<(), SpeedFault> {

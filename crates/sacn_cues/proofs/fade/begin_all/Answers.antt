@@ -1,20 +1,19 @@
-use Rattle.std.proofs.Common.{rules, ◌≡◌, length, replicate, None, sym, ap, ◌∙◌, arith}
-use Rattle.sacn_cues.specs.Levels.{begun_to}
-use Rattle.sacn_cues.specs.Targets.{Targets}
-use Rattle.sacn_cues.proofs.Aims.{blank_if}
-use Rattle.sacn_cues.proofs.Begun.{none_aimed}
+use Rattle.std.proofs.Common.{rules, ◌<◌, length, sym, ap, ◌∙◌, arith}
+use Rattle.std.proofs.lemmas.List.{length-set}
+use Rattle.sacn_cues.specs.Levels.{still}
+use Rattle.sacn_cues.proofs.Begun.{one_more_given, all_given}
 use Rattle.sacn_cues.proofs.fade.begin_all.Goals as goal
 
-pub returns-clause-targets : goal.returns-clause-targets
-returns-clause-targets c =
-    let wide : length c.loop-at.targets ≡ length c.args.fades.now = search rules in
-    blank_if (length c.args.fades.now) c.loop-at.targets wide (λ k lt. c.loop-at.invariant.clear k (omega (arith, lt, c.loop-at-test.false)))
+pub loop-at-preserved : goal.loop-at-preserved
+loop-at-preserved c =
+    let lt : c.loop-at.at < length c.loop-at.fades = search rules in
+    let is = c.begin_given.ensures still in
+    record {
+      long = c.loop-at.invariant.long ∙ sym (ap length is ∙ length-set c.loop-at.fades c.loop-at.at _);
+      same = one_more_given c.args.times.up c.args.times.down c.args.now c.loop-at.at c.args.targets.now c.loop-at.fades c.begin_given.new.fades still lt c.loop-at.invariant.long is ∙ c.loop-at.invariant.same;
+    }
 
-pub returns-clause-fades : goal.returns-clause-fades
-returns-clause-fades c =
-    let n = length c.args.fades.now in
-    let wide : length c.loop-at.targets ≡ length c.args.fades.now = search rules in
-    let blank : c.loop-at.targets ≡ replicate n None = blank_if n c.loop-at.targets wide (λ k lt. c.loop-at.invariant.clear k (omega (arith, lt, c.loop-at-test.false))) in
-    sym (none_aimed c.args.times.up c.args.times.down c.args.now n c.loop-at.fades)
-    ∙ ap (λ (ts : Targets). begun_to c.args.times.up c.args.times.down c.args.now ts c.loop-at.fades) (sym blank)
+pub returns : goal.returns
+returns c =
+    sym (all_given c.args.times.up c.args.times.down c.args.now c.loop-at.at c.args.targets.now c.loop-at.fades (omega (arith, c.loop-at-test.false, c.loop-at.invariant.long, c.requires)) c.loop-at.invariant.long)
     ∙ c.loop-at.invariant.same

@@ -1,5 +1,6 @@
 use Rattle.std.proofs.Common.{◌≡◌, None}
-use Rattle.sacn_capture.specs.Streams.{to_come}
+use Rattle.sacn_capture.specs.Streams.{counts_of, to_come}
+use Rattle.sacn_explain.specs.Listed.{listed_in}
 use Rattle.sacn_explain.proofs.Story.{IsUpTo}
 use Rattle.sacn_explain.proofs.follow.follow.Given as goal
 
@@ -8,5 +9,6 @@ abbrev pub invariant-loop : goal.invariant-loop
 invariant-loop g l = record {
   stopped : l.followed.stopped ≡ None;
   moment : l.follower.moment ≡ l.followed.timeline.now;
-  heard : IsUpTo l.port (to_come g.R.Read.remaining l.fn.capture) (to_come g.R.Read.remaining l.capture) l.followed l.follower.monitor;
+  heard : IsUpTo l.port (to_come g.R.Read.remaining l.fn.capture) (to_come g.R.Read.remaining l.capture) l.followed
+      (record { frames = counts_of l.capture; book = l.follower.monitor; listed = listed_in l.follower.listings });
 }

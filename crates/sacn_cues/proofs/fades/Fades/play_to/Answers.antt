@@ -1,47 +1,38 @@
-use Rattle.std.proofs.Common.{◌≡◌, ℕ, List, length, max, replicate, Option, None, sym, ap, ◌∙◌, arith}
+use Rattle.std.proofs.Common.{◌≡◌, ℕ, ◌-◌, List, length, get_or, max, Option, None, refl, sym, ap, ◌∙◌, arith}
 use Rattle.std.proofs.lemmas.List.{with_items_is}
 use Rattle.std.specs.List.{list_all}
-use Rattle.sacn_patch.specs.declared.limits.TheConstants.{MAX_CHANNELS}
 use Rattle.sacn_cues.specs.Levels.{Ramp, Running, Given, given_to, all_begun, is_over_by, end_of}
-use Rattle.sacn_cues.specs.Cues.{level_tracked}
-use Rattle.std.specs.FinMap.{entries}
-use Rattle.sacn_cues.specs.Targets.{Targets, aimed_everywhere}
-use Rattle.sacn_cues.specs.Playing.{longer}
-use Rattle.sacn_cues.proofs.Begun.{length-all_begun}
+use Rattle.sacn_cues.specs.Tracks.{AreTargets}
+use Rattle.sacn_cues.proofs.Begun.{begun_there, length-all_begun}
 use Rattle.sacn_cues.proofs.Stillness.{cue_over}
 use Rattle.sacn_cues.proofs.fades.Fades.play_to.Goals as goal
 
-pub play_list-requires-clause-room : goal.play_list-requires-clause-room
-play_list-requires-clause-room c =
-    let width : length c.deref_mut-2.result.now ≡ MAX_CHANNELS = ap length c.deref_mut-2.ensures.value ∙ c.self.invariant.0 in
-    c.deref_mut.ensures.value ∙ c.self.invariant.1 ∙ ap {B = Targets} (λ (n : ℕ). replicate n None) (sym width)
-
-pub play_list-requires-clause-zeros : goal.play_list-requires-clause-zeros
-play_list-requires-clause-zeros c = c.requires ∙ ap (λ (ts : Targets). aimed_everywhere (entries c.args.cues.now) ts) (sym (c.deref_mut.ensures.value ∙ c.self.invariant.1))
+pub begin_all-requires : goal.begin_all-requires
+begin_all-requires c = ap length c.targets.ensures ∙ c.requires ∙ sym (ap length c.deref_mut.ensures.value ∙ c.self.invariant.0)
 
 pub invariant_of-self : goal.invariant_of-self
 invariant_of-self c =
-    let gives : ℕ → Option Given = λ channel. given_to c.args.scene.now.up c.args.scene.now.down (level_tracked c.args.number c.args.cues.now channel) in
-    let begun : c.play_list.new.fades ≡ all_begun gives c.args.now 1 c.self.inside.fades.items = c.play_list.ensures.fades ∙ ap (λ (up : ℕ). all_begun (λ channel. given_to up c.times-times.result.down (level_tracked c.args.number c.args.cues.now channel)) c.args.now 1 c.deref_mut-2.result.now) c.times-times.ensures.up ∙ ap (λ (down : ℕ). all_begun (λ channel. given_to c.args.scene.now.up down (level_tracked c.args.number c.args.cues.now channel)) c.args.now 1 c.deref_mut-2.result.now) c.times-times.ensures.down ∙ ap (all_begun gives c.args.now 1) c.deref_mut-2.ensures.value in
-    let width : length c.play_list.new.fades ≡ length c.self.inside.fades.items = ap length begun ∙ length-all_begun gives c.args.now 1 c.self.inside.fades.items in
-    let items = with_items_is c.self.inside.fades c.play_list.new.fades (omega (arith, width, c.self.inside.fades.ok)) in
-    let room : c.play_list.new.targets ≡ c.self.inside.targets.items = c.play_list.ensures.targets ∙ c.deref_mut.ensures.value in
-    let targets = with_items_is c.self.inside.targets c.play_list.new.targets (omega (arith, ap length room, c.self.inside.targets.ok)) in
+    let level : ℕ → Option ℕ = λ channel. get_or c.args.track.now.targets (channel - 1) None in
+    let gives : ℕ → Option Given = λ channel. given_to c.args.track.now.up c.args.track.now.down (level channel) in
+    let are : AreTargets level c.args.track.now.targets = (c.requires, λ channel inside. refl) in
+    let begun : c.begin_all.new.fades ≡ all_begun gives c.args.now 1 c.self.inside.fades.items = begun_there c.args.track.now.up c.args.track.now.down c.args.now level c.times.result.up c.times.result.down c.targets.result.now c.args.track.now.targets c.deref_mut.result.now c.self.inside.fades.items c.begin_all.new.fades c.begin_all.ensures c.times.ensures.up c.times.ensures.down c.targets.ensures c.deref_mut.ensures.value (c.requires ∙ sym c.self.invariant.0) are in
+    let width : length c.begin_all.new.fades ≡ length c.self.inside.fades.items = ap length begun ∙ length-all_begun gives c.args.now 1 c.self.inside.fades.items in
+    let items = with_items_is c.self.inside.fades c.begin_all.new.fades (omega (arith, width, c.self.inside.fades.ok)) in
     let rest = c.rest_after-self-inside.ensures ∙ ap (λ (n : ℕ). max c.self.inside.rest (end_of c.args.now n)) c.longer.ensures in (
       ap length items ∙ width ∙ c.self.invariant.0,
-      targets ∙ room ∙ c.self.invariant.1,
+      c.self.invariant.1,
       ap (λ (fades : List Ramp). list_all (is_over_by c.rest_after-self-inside.result) fades) (items ∙ begun)
           ∙ ap (λ (r : ℕ). list_all (is_over_by r) (all_begun gives c.args.now 1 c.self.inside.fades.items)) rest
-          ∙ cue_over (level_tracked c.args.number c.args.cues.now) c.args.scene.now.up c.args.scene.now.down c.args.now c.self.inside.rest c.self.inside.fades.items c.self.invariant.2,
+          ∙ cue_over level c.args.track.now.up c.args.track.now.down c.args.now c.self.inside.rest c.self.inside.fades.items c.self.invariant.2,
     )
 
 pub returns : goal.returns
-returns c =
-    let gives : ℕ → Option Given = λ channel. given_to c.args.scene.now.up c.args.scene.now.down (level_tracked c.args.number c.args.cues.now channel) in
-    let begun : c.play_list.new.fades ≡ all_begun gives c.args.now 1 c.self.inside.fades.items = c.play_list.ensures.fades ∙ ap (λ (up : ℕ). all_begun (λ channel. given_to up c.times-times.result.down (level_tracked c.args.number c.args.cues.now channel)) c.args.now 1 c.deref_mut-2.result.now) c.times-times.ensures.up ∙ ap (λ (down : ℕ). all_begun (λ channel. given_to c.args.scene.now.up down (level_tracked c.args.number c.args.cues.now channel)) c.args.now 1 c.deref_mut-2.result.now) c.times-times.ensures.down ∙ ap (all_begun gives c.args.now 1) c.deref_mut-2.ensures.value in
-    let width : length c.play_list.new.fades ≡ length c.self.inside.fades.items = ap length begun ∙ length-all_begun gives c.args.now 1 c.self.inside.fades.items in
-    let items = with_items_is c.self.inside.fades c.play_list.new.fades (omega (arith, width, c.self.inside.fades.ok)) in
+returns c level are =
+    let gives : ℕ → Option Given = λ channel. given_to c.args.track.now.up c.args.track.now.down (level channel) in
+    let begun : c.begin_all.new.fades ≡ all_begun gives c.args.now 1 c.self.inside.fades.items = begun_there c.args.track.now.up c.args.track.now.down c.args.now level c.times.result.up c.times.result.down c.targets.result.now c.args.track.now.targets c.deref_mut.result.now c.self.inside.fades.items c.begin_all.new.fades c.begin_all.ensures c.times.ensures.up c.times.ensures.down c.targets.ensures c.deref_mut.ensures.value (c.requires ∙ sym c.self.invariant.0) are in
+    let width : length c.begin_all.new.fades ≡ length c.self.inside.fades.items = ap length begun ∙ length-all_begun gives c.args.now 1 c.self.inside.fades.items in
+    let items = with_items_is c.self.inside.fades c.begin_all.new.fades (omega (arith, width, c.self.inside.fades.ok)) in
     let rest = c.rest_after-self-inside.ensures ∙ ap (λ (n : ℕ). max c.self.inside.rest (end_of c.args.now n)) c.longer.ensures in
     ap (λ (fades : List Ramp). let r : Running = record { rest = c.rest_after-self-inside.result; fades = fades } in r) (items ∙ begun)
     ∙ ap (λ (n : ℕ). let r : Running = record { rest = n; fades = all_begun gives c.args.now 1 c.self.inside.fades.items } in r) rest
-    ∙ ap (λ (old : Running). let r : Running = record { rest = max old.rest (end_of c.args.now (longer c.args.scene.now)); fades = all_begun gives c.args.now 1 old.fades } in r) c.self.view_is
+    ∙ ap (λ (old : Running). let r : Running = record { rest = max old.rest (end_of c.args.now (max c.args.track.now.up c.args.track.now.down)); fades = all_begun gives c.args.now 1 old.fades } in r) c.self.view_is

@@ -7,5 +7,6 @@ abbrev pub invariant-loop : goal.invariant-loop
 invariant-loop g l = record {
   now : l.now ≡ l.fn.self.moment;
   moment : l.self.moment ≡ l.fn.self.moment;
+  listings : l.self.listings ≡ l.fn.self.listings;
   ticked : IsTicked l.now l.fn.self.monitor l.self.monitor;
 }

@@ -1,0 +1,57 @@
+-- The sources whose lists of universes are kept (E1.31, 8), and the pages of the others.
+use Rattle.std.specs.Prelude.{ℕ, nat_lt, List, [], ◌∷◌, ◌++◌, length, Result, Ok, Err, if◌then◌else◌}
+use Rattle.std.specs.Str.{bytes_eq}
+use Rattle.std.specs.List.{list_any}
+use Rattle.sacn_root.specs.declared.fault.PacketFault.{PacketFault}
+use Rattle.sacn_framing.specs.declared.packet.Packet.{Packet}
+use Rattle.sacn_framing.specs.declared.packet.Packet.TheVariants.{DataPacket, PagePacket, SyncPacket}
+use Rattle.sacn_framing.specs.PacketReading.{reading_packet}
+use Rattle.sacn_monitor.specs.declared.news.Noted.{Noted}
+use Rattle.sacn_monitor.specs.declared.news.Noted.TheVariants.{Refused, Page, Sync, Untracked, Heard}
+use Rattle.sacn_monitor.specs.Kinds.{more}
+use Rattle.sacn_monitor.specs.Histories.{Call, Take, Tick}
+use Rattle.sacn_explain.specs.declared.listings.Listings.{Listings}
+use Rattle.sacn_explain.specs.declared.listings.TheConstants.{MOST_LISTINGS}
+
+-- the CIDs of the sources whose lists are kept, in the order of their first pages, and how many pages came of others
+pub record Listed : Type 0 where
+  pub sources : List (List ℕ)
+  pub passed : ℕ
+
+abbrev pub none_listed : Listed
+none_listed = record { sources = []; passed = 0 }
+
+-- of a source that isn't kept: it is from now on, where there is room, and else the page is counted
+abbrev pub admitted : List ℕ → Listed → Listed
+admitted cid l = if nat_lt (length l.sources) MOST_LISTINGS then record l { sources = l.sources ++ cid ∷ [] } else record l { passed = more 1 l.passed }
+
+-- a page of a source
+abbrev pub after_page : List ℕ → Listed → Listed
+after_page cid l = if list_any (λ source. bytes_eq source cid) l.sources then l else admitted cid l
+
+abbrev pub after_reading : Result Packet PacketFault → Listed → Listed
+after_reading (Ok (DataPacket d)) l = l
+after_reading (Ok (PagePacket p)) l = after_page p.cid l
+after_reading (Ok SyncPacket) l = l
+after_reading (Err fault) l = l
+
+abbrev pub listed_with : Call → Listed → Listed
+listed_with (Take now sender octets) l = after_reading (reading_packet octets) l
+listed_with (Tick now) l = l
+
+-- after these calls, the latest first
+abbrev pub listed_by : List Call → Listed
+listed_by [] = none_listed
+listed_by (call ∷ earlier) = listed_with call (listed_by earlier)
+
+-- what is kept
+abbrev pub listed_in : Listings → Listed
+listed_in l = record { sources = l.sources.items; passed = l.passed }
+
+-- a datagram of which this was noted: a page counts
+abbrev pub after_noted : Noted → Result Packet PacketFault → Listed → Listed
+after_noted (Refused fault) reading l = l
+after_noted Page reading l = after_reading reading l
+after_noted Sync reading l = l
+after_noted Untracked reading l = l
+after_noted (Heard place news) reading l = l
