@@ -1,3 +1,3 @@
 mod Mapped
 mod OwnGets
-mod Following
+mod Losses

@@ -1,17 +1,10 @@
 //! A recording followed to a moment, and on to later ones.
 
-ghost use Rattle.std.specs.Prelude.{◌≡◌, ◌≤◌, true, max, IfOk, IfSome, OnOk};
-ghost use Rattle.sacn_capture.specs.Recordings.{Told, recording};
-ghost use Rattle.sacn_capture.specs.Streams.{shown_of, to_come};
-ghost use Rattle.sacn_monitor.specs.Books.{new_book};
-ghost use Rattle.sacn_explain.specs.Following.{IsTicked};
-ghost use Rattle.sacn_explain.specs.Story.{at_moment, call_of};
-ghost use Rattle.sacn_page.specs.Moments.{Hands, IsStateAt, ReadsNext, Stands, call_at};
-ghost use Rattle.sacn_page.specs.declared.replay.Next.TheVariants.{Unread};
+ghost use Rattle.std.specs.Prelude.{◌≡◌};
 
 use crate::board::Board;
 use crate::scene::SeekFault;
-use sacn_capture::{Capture, CaptureFault, FaultKind, Record};
+use sacn_capture::{Capture, CaptureFault, Datagram, FaultKind, Record};
 use sacn_explain::Timeline;
 use sacn_monitor::Sender;
 use std::alloc::{AllocError, Global};
@@ -57,10 +50,7 @@ impl<R: BufRead + Drop> Replay<R> {
     /// A recording of which nothing was followed, and a board that has heard nothing. Datagrams to this UDP port are followed.
     ///
     /// Errors: what is wrong with the recording's first header, or with its reader; OutOfMemory.
-    pub fn open(alloc: Global, reader: R, port: u16, board: Board) -> Result<Self, CaptureFault>
-        ensures port { IfOk result (λ replay. replay.port ≡ port) }
-        ensures begun { IfSome (R.Read.remaining reader) (λ file. board.monitor ≡ new_book → IfOk result (Stands R.Read.remaining (recording file))) }
-    {
+    pub fn open(alloc: Global, reader: R, port: u16, board: Board) -> Result<Self, CaptureFault> {
         Ok(Replay {
             capture: Capture::open(alloc, reader)?,
             port,
@@ -75,16 +65,8 @@ impl<R: BufRead + Drop> Replay<R> {
     /// Follows the recording to a moment, or to its end where that is earlier, in at most so many steps, and answers whether it is
     /// there. A frame takes two steps. A moment before the one that is shown counts as that one.
     ///
-    /// Where the reader's octets are known, and it is there, the accounts are those of a follower that was handed exactly the
-    /// recording's frames up to that moment (`IsStateAt` of `specs/Moments.antt`), however many calls it took.
-    ///
     /// Errors: OutOfMemory; Device where the reader fails. The replay is of no use then.
-    pub fn advance(&mut self, moment: u64, steps: usize) -> Result<bool, SeekFault>
-        ensures port { self.new.port ≡ self.old.port }
-        ensures stands { (told : Told) → Stands R.Read.remaining told self.old → OnOk result (Stands R.Read.remaining told self.new) }
-        ensures there { (told : Told) → Stands R.Read.remaining told self.old → IfOk result (λ is_there. is_there ≡ true →
-            IsStateAt self.old.port told (max moment self.old.shown) self.new.board.monitor) }
-    {
+    pub fn advance(&mut self, moment: u64, steps: usize) -> Result<bool, SeekFault> {
         let until = moment.max(self.shown);
         for _ in 0..steps {
             if self.step(until)? {
@@ -102,11 +84,7 @@ impl<R: BufRead + Drop> Replay<R> {
     }
 
     /// Merges a universe anew, as at the moment that is shown.
-    pub fn refresh(&mut self, universe: u16)
-        ensures monitor { self.new.board.monitor ≡ self.old.board.monitor }
-        ensures port { self.new.port ≡ self.old.port }
-        ensures stands { (told : Told) → Stands R.Read.remaining told self.old → Stands R.Read.remaining told self.new }
-    {
+    pub fn refresh(&mut self, universe: u16) {
         self.board.refresh(self.shown, &[universe]);
     }
 
@@ -127,13 +105,7 @@ impl<R: BufRead + Drop> Replay<R> {
 
     // Hands on the next frame, where it is at a moment or earlier; else moves the clock there, or to the end, and answers that it is
     // there.
-    fn step(&mut self, until: u64) -> Result<bool, SeekFault>
-        ensures port { self.new.port ≡ self.old.port }
-        ensures early { self.old.shown ≤ until → OnOk result (self.new.shown ≤ until) }
-        ensures stands { (told : Told) → self.old.shown ≤ until → Stands R.Read.remaining told self.old → OnOk result (Stands R.Read.remaining told self.new) }
-        ensures there { (told : Told) → self.old.shown ≤ until → Stands R.Read.remaining told self.old → IfOk result (λ is_there. is_there ≡ true →
-            IsStateAt self.old.port told until self.new.board.monitor) }
-    {
+    fn step(&mut self, until: u64) -> Result<bool, SeekFault> {
         match self.next {
             Next::Unread => {
                 self.read()?;
@@ -155,25 +127,13 @@ impl<R: BufRead + Drop> Replay<R> {
     }
 
     // Reads the next frame.
-    fn read(&mut self) -> Result<(), SeekFault>
-        ensures port { self.new.port ≡ self.old.port }
-        ensures shown { self.new.shown ≡ self.old.shown }
-        ensures stands { (told : Told) → self.old.next ≡ Unread → Stands R.Read.remaining told self.old → OnOk result (Stands R.Read.remaining told self.new) }
-    {
+    fn read(&mut self) -> Result<(), SeekFault> {
         self.next = next_of(&mut self.capture, self.port, self.clock, &mut self.octets)?;
         Ok(())
     }
 
     // Hands on a frame.
-    fn hand(&mut self, pending: Pending) -> Result<(), AllocError>
-        ensures port { self.new.port ≡ self.old.port }
-        ensures clock { self.new.clock ≡ pending.clock }
-        ensures next { self.new.next ≡ Unread }
-        ensures shown { self.new.shown ≡ pending.clock.now }
-        ensures octets { self.new.octets.items ≡ self.old.octets.items }
-        ensures capture { self.new.capture ≡ self.old.capture }
-        ensures handed { OnOk result (Hands pending.clock.now pending.sender self.old.octets.items self.old.board.monitor self.new.board.monitor) }
-    {
+    fn hand(&mut self, pending: Pending) -> Result<(), AllocError> {
         let now = pending.clock.now;
         self.clock = pending.clock;
         self.next = Next::Unread;
@@ -188,15 +148,7 @@ impl<R: BufRead + Drop> Replay<R> {
     }
 
     // Moves the clock to a moment before the next frame.
-    fn rest(&mut self, moment: u64) -> Result<(), AllocError>
-        ensures port { self.new.port ≡ self.old.port }
-        ensures clock { self.new.clock ≡ self.old.clock }
-        ensures next { self.new.next ≡ self.old.next }
-        ensures shown { self.new.shown ≡ moment }
-        ensures octets { self.new.octets.items ≡ self.old.octets.items }
-        ensures capture { self.new.capture ≡ self.old.capture }
-        ensures ticked { OnOk result (IsTicked moment self.old.board.monitor self.new.board.monitor) }
-    {
+    fn rest(&mut self, moment: u64) -> Result<(), AllocError> {
         self.shown = moment;
         match self.board.tick(moment) {
             Ok(_) => Ok(()),
@@ -211,48 +163,57 @@ fn next_of<R: BufRead + Drop>(
     port: u16,
     clock: Timeline,
     octets: &mut Vec<u8>,
-) -> Result<Next, SeekFault>
-    ensures { IfOk result (λ next. ReadsNext port clock octets.new.items next (to_come R.Read.remaining capture.old) (to_come R.Read.remaining capture.new)) }
-{
+) -> Result<Next, SeekFault> {
     match capture.next() {
-        Ok(Some(frame)) => Ok(Next::Frame(pending_of(&frame, port, clock, octets)?)),
+        Ok(Some(frame)) => pending_of(&frame, port, clock, octets),
         Ok(None) => Ok(Next::Nothing(None)),
-        Err(fault) => match fault.kind {
-            FaultKind::OutOfMemory => Err(SeekFault::OutOfMemory),
-            FaultKind::Device => Err(SeekFault::Device),
-            _ => Ok(Next::Nothing(Some(fault))),
-        },
+        Err(fault) => stopped_at(fault),
     }
 }
 
-// A frame behind one at this clock; the octets of its datagram are kept.
+// A recording is wrong from here on, if that isn't its reader's fault or for want of memory.
+fn stopped_at(fault: CaptureFault) -> Result<Next, SeekFault> {
+    match fault.kind {
+        FaultKind::OutOfMemory => Err(SeekFault::OutOfMemory),
+        FaultKind::Device => Err(SeekFault::Device),
+        _ => Ok(Next::Nothing(Some(fault))),
+    }
+}
+
+// A frame behind one at this clock; the octets of its datagram are kept, where that is to the port.
 fn pending_of(
     frame: &Record<'_>,
     port: u16,
     clock: Timeline,
     octets: &mut Vec<u8>,
-) -> Result<Pending, AllocError>
-    ensures clock { IfOk result (λ kept. kept.clock ≡ at_moment frame.now.moment clock) }
-    ensures call { IfOk result (λ kept. call_at kept.clock.now kept.sender octets.new.items ≡ call_of port kept.clock.now (shown_of frame.now).content) }
-{
+) -> Result<Next, SeekFault> {
     let mut clock = clock;
     clock.advance(frame.moment);
     match &frame.content {
-        Ok(datagram) if datagram.destination_port == port => {
-            octets.clear();
-            octets.extend_from_slice(datagram.payload)?;
-            let sender = Sender {
-                address: datagram.sender,
-                port: datagram.sender_port,
-            };
-            Ok(Pending {
-                clock,
-                sender: Some(sender),
-            })
-        }
-        _ => Ok(Pending {
-            clock,
-            sender: None,
-        }),
+        Ok(datagram) if datagram.destination_port == port => kept(clock, datagram, octets),
+        Ok(_) => Ok(unkept(clock)),
+        Err(_) => Ok(unkept(clock)),
     }
+}
+
+// A frame with a datagram to the port.
+fn kept(clock: Timeline, datagram: &Datagram<'_>, octets: &mut Vec<u8>) -> Result<Next, SeekFault> {
+    octets.clear();
+    octets.extend_from_slice(datagram.payload)?;
+    let sender = Sender {
+        address: datagram.sender,
+        port: datagram.sender_port,
+    };
+    Ok(Next::Frame(Pending {
+        clock,
+        sender: Some(sender),
+    }))
+}
+
+// A frame with none.
+fn unkept(clock: Timeline) -> Next {
+    Next::Frame(Pending {
+        clock,
+        sender: None,
+    })
 }

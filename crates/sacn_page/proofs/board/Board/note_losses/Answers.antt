@@ -1,4 +1,4 @@
-use Rattle.sacn_page.proofs.Following.{ticked_at}
+use Rattle.sacn_page.proofs.Losses.{ticked_at}
 use Rattle.sacn_page.proofs.board.Board.note_losses.Goals as goal
 
 pub loop-preserved : goal.loop-preserved
