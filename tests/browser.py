@@ -1,6 +1,6 @@
 #!/usr/bin/env python3
 """Looks at the page of a watch: first with 32 viewers, one of which never reads, while 200 universes come at 44 packets a second; then in a headless Chromium,
-against a desk on loopback. Prints 'ok NAME', 'not ok NAME: why' or 'skipped NAME: why' for each look.
+against a desk on loopback; then at the page of a recording, moved by its keys, its alarms and its button. Prints 'ok NAME', 'not ok NAME: why' or 'skipped NAME: why' for each look.
 
 usage: browser.py SACN [PICTURES]
 
@@ -13,6 +13,7 @@ import os
 import shutil
 import signal
 import socket
+import struct
 import subprocess
 import sys
 import tempfile
@@ -113,10 +114,10 @@ class Browser:
         return None
 
 
-def packet(universe, number):
+def packet(universe, number, name=b"Crowd", options=0):
     """A data packet of 512 slots (E1.31, 5, 6.2 and 7)."""
     root = bytes.fromhex("001000004153432d45312e3137000000726e00000004") + bytes(range(16))
-    framing = bytes.fromhex("725800000002") + b"Crowd".ljust(64, b"\0") + bytes([100, 0, 0, number % 256, 0]) + universe.to_bytes(2, "big")
+    framing = bytes.fromhex("725800000002") + name.ljust(64, b"\0") + bytes([100, 0, 0, number % 256, options]) + universe.to_bytes(2, "big")
     return root + framing + bytes.fromhex("720b02a1000000010201") + bytes([0]) + bytes([number % 256]) * 512
 
 
@@ -230,7 +231,7 @@ def keyed(browser):
     verdict("keys choose a slot", end == "512" and third == ["3", "slot-3"], f"{end} {third}")
 
 
-def sized(browser):
+def sized(browser, what="watch"):
     """No width makes the page wider than the window."""
     wide = []
     for width in (360, 800, 1400, 2560):
@@ -239,8 +240,8 @@ def sized(browser):
         shown = browser.js("return [document.documentElement.scrollWidth, innerWidth]")
         if shown[0] > shown[1]:
             wide.append((width, shown))
-        browser.picture(f"page-{width}")
-    verdict("it fits windows of 360 to 2560", not wide, f"{wide}")
+        browser.picture(f"{what}-{width}")
+    verdict(f"the page of a {what} fits windows of 360 to 2560", not wide, f"{wide}")
 
 
 def killed(browser, desk):
@@ -261,6 +262,100 @@ def parted(browser, watch):
     browser.picture("page-parted")
 
 
+def record(path):
+    """A recording of 20 s (pcap of Ethernet): universe 1 twice a second, and universe 2 from 5 s to 12 s, where its stream ends."""
+    packets = []
+    for turn in range(41):
+        packets.append((turn * 500, packet(1, turn, NAME.encode())))
+        if 10 <= turn <= 24:
+            packets.append((turn * 500, packet(2, turn, b"Spare", 0x40 if turn == 24 else 0)))
+    with open(path, "wb") as out:
+        out.write(struct.pack("<IHHIIII", 0xA1B2C3D4, 2, 4, 0, 0, 65535, 1))
+        for moment, payload in packets:
+            udp = struct.pack(">HHHH", 5000, 5568, 8 + len(payload), 0) + payload
+            address = struct.pack(">BBHHHBBH", 0x45, 0, 20 + len(udp), 0, 0, 64, 17, 0) + bytes([10, 0, 0, 1, 239, 255, 0, 1])
+            frame = bytes(12) + b"\x08\0" + address + udp
+            out.write(struct.pack("<IIII", 1000 + moment // 1000, moment % 1000 * 1000, len(frame), len(frame)) + frame)
+
+
+MOMENT = "document.getElementById('moment').textContent"
+ROWS = "document.querySelectorAll('#sources tr').length"
+KEYS = {"left": "\ue012", "right": "\ue014", "later": "\ue00e", "earlier": "\ue00f", "home": "\ue011", "end": "\ue010"}
+
+
+def recorded(browser):
+    """The page of a recording, whose name has markup too."""
+    path = f"{ROOM}/<b>rig.pcap"
+    record(path)
+    served = start(SACN, "explain", path, "--page", str(PAGE))
+    answered()
+    browser.size(1400, 1000)
+    browser.open(f"http://127.0.0.1:{PAGE}/")
+    is_shown = browser.until(f"document.getElementById('time').max == '20000' && {MOMENT} == '0:00.000' && {ROWS} == 1", 5)
+    browser.ask("POST", "/se/log", {"type": "browser"})
+    verdict("a recording is shown from its start", is_shown is not None, browser.js(f"return [{MOMENT}, {ROWS}]"))
+    names = browser.js("return [document.getElementById('name').textContent, document.querySelector('#sources td.name').textContent, document.images.length]")
+    verdict("names of a recording stay text", names == ["<b>rig.pcap", NAME, 0], f"{names}")
+    sought(browser)
+    played(browser)
+    sized(browser, "recording")
+    browser.size(1400, 1000)
+    browser.js("document.getElementById('time').focus()")
+    browser.press(KEYS["home"], KEYS["later"])
+    browser.until(f"{MOMENT} == '0:10.000' && {ROWS} == 2", 3)
+    browser.picture("page-recording")
+    faults = [it["message"] for it in browser.ask("POST", "/se/log", {"type": "browser"}) if it["level"] == "SEVERE"]
+    verdict("the browser has nothing to complain of in a recording", not faults, f"{faults[:3]}")
+    served.send_signal(signal.SIGKILL)
+    served.wait()
+    took = browser.until("!document.getElementById('banner').hidden && document.body.classList.contains('stale')", 5)
+    verdict("a recording that isn't served any more has a banner", took is not None, "none in five seconds")
+
+
+def sought(browser):
+    """The slider by its keys, and by an alarm's button."""
+    browser.js("document.getElementById('time').focus()")
+    wrong = []
+    for keys, moment, rows, state in (
+        (["right"] * 4, "0:04.000", 1, None),
+        (["right"], "0:05.000", 2, "live"),
+        (["left"], "0:04.000", 1, None),
+        (["later"], "0:14.000", 2, "ended"),
+        (["earlier"], "0:04.000", 1, None),
+        (["end"], "0:20.000", 2, "ended"),
+        (["right"], "0:20.000", 2, "ended"),
+        (["home"], "0:00.000", 1, None),
+    ):
+        browser.press(*(KEYS[key] for key in keys))
+        second = "document.querySelector('#sources tr:nth-child(2) td.state')"
+        if browser.until(f"{MOMENT} == '{moment}' && {ROWS} == {rows} && ({rows} == 1 || {second}.textContent == '{state}')", 3) is None:
+            wrong.append((keys, browser.js(f"return [{MOMENT}, {ROWS}]")))
+    verdict("keys move a recording, and its sources with it", not wrong, f"{wrong}")
+    before = browser.js("return [...document.querySelectorAll('#alarms li')].map((it) => [it.textContent, it.classList.contains('later')])")
+    verdict("an alarm to come stands there", before == [["0:12.000universe 2: Spare ended its stream", True]], f"{before}")
+    browser.js("document.querySelector('#alarms button').click()")
+    took = browser.until(f"{MOMENT} == '0:12.000' && {ROWS} == 2 && !document.querySelector('#alarms .later')", 3)
+    verdict("an alarm's button goes to its moment", took is not None)
+    time.sleep(1.5)
+    still = browser.js(f"return [{MOMENT}, document.getElementById('banner').hidden]")
+    verdict("nothing moves that wasn't told to, and no connection is lost", still == ["0:12.000", True], f"{still}")
+
+
+def played(browser):
+    """The button that plays: in real time, and no more once it is pressed again."""
+    browser.js("document.getElementById('time').focus()")
+    browser.press(KEYS["home"])
+    at = "Number(document.getElementById('time').value)"
+    browser.js("document.getElementById('play').click()")
+    began = time.monotonic()
+    browser.until(f"{at} >= 2000", 5)
+    took = time.monotonic() - began
+    browser.js("document.getElementById('play').click()")
+    first = browser.js(f"return {at}")
+    time.sleep(0.6)
+    verdict("it plays in real time, and stops", 1.5 < took < 3 and first >= 2000 and browser.js(f"return {at}") == first, f"{took} {first}")
+
+
 def main():
     crowded()
     for tool in ("chromium", "chromedriver"):
@@ -273,6 +368,7 @@ def main():
     browser = Browser()
     try:
         shown(browser, watch)
+        recorded(browser)
     finally:
         browser.call("DELETE", browser.session)
 

@@ -66,6 +66,18 @@ for _ in $(seq 64); do hosts+=(--to 10.0.0.1); done
 refused 4 "device read absent" desk absent "${hosts[@]}"
 refused 2 "error: --to: TooManyDestinations" desk absent "${hosts[@]}" --to 10.0.0.1
 
+# Those of a recording's page.
+refused 2 "error: 0: Port" explain x --page 0
+refused 2 "error: 65536: Port" explain x --page 65536
+refused 2 "error: 127.0.0.1:0: Port" explain x --page 127.0.0.1:0
+refused 2 "error: 127.0.0.1: Address" explain x --page 127.0.0.1
+refused 2 "error: here:80: Address" explain x --page here:80
+refused 2 "error: --page: beside --json" explain x --page 25893 --json
+refused 2 "error: --page: beside --setup" explain x --page 25893 --setup x
+refused 2 "error: --seconds: without --page" explain x --seconds 5
+refused 2 "error: *" explain x --page 25893 --seconds 0
+refused 2 "error: *" explain x --page
+
 # Those of groups.
 refused 2 "error: *" groups x
 refused 2 "error: *" groups --device eth0
@@ -129,3 +141,4 @@ helps gateway "A setup: a TOML file"
 helps desk "A show: a TOML file"
 helps desk "A script: a text file"
 helps groups "A setup or a show"
+helps explain "Serves a page for browsers"

@@ -2,7 +2,9 @@
 use crate::command::{Asked, SETUP_HELP, file, refused_words, subcommand, text};
 use crate::ending::{DEVICE_FAILED, Ending, REFUSED};
 use crate::live::{said_of_file, setup_of_file};
-use crate::live_words::{flag, word, words};
+use crate::live_words::{flag, seconds, seconds_in, word, words};
+use crate::page::page_at;
+use crate::recording::serve;
 use clap::{ArgMatches, Command, Error};
 use sacn_capture::{CaptureFault, FaultKind};
 use sacn_explain::{ExplainFault, Form, Options, explain};
@@ -13,7 +15,8 @@ use sacn_node::NodeSetup;
 use std::alloc::Global;
 use std::fs;
 use std::io::{BufRead, BufReader, BufWriter, Write};
-use std::rt::Files;
+use std::net::{Net, SocketAddrV4};
+use std::rt::{Clock, Files};
 
 const ABOUT: &str =
     "Tells what a recording of a network holds: a line for each thing that happened, then tables";
@@ -21,7 +24,7 @@ const ABOUT: &str =
 const CAPTURE_HELP: &str = "A recording: a file of the formats pcap or pcapng";
 
 /// The octets of a recording that are read at once.
-const ROOM: usize = 65_536;
+pub const ROOM: usize = 65_536;
 
 /// What is asked of a recording.
 #[derive(Drop)]
@@ -33,18 +36,36 @@ pub struct ExplainAsked<'a> {
     /// Empty for all.
     pub universes: Vec<u16>,
     pub form: Form,
+    /// Where a page is served in place of what is printed.
+    pub page: Option<SocketAddrV4>,
+    /// How long it is served.
+    pub seconds: Option<u64>,
+}
+
+impl<'a> ExplainAsked<'a> {
+    /// The moment until which a page is served, in milliseconds.
+    pub fn until(&self) -> u64 {
+        match self.seconds {
+            Some(seconds) => seconds.saturating_mul(1000),
+            None => u64::MAX,
+        }
+    }
 }
 
 /// The words of `explain`.
 pub fn command<'a>(alloc: Global) -> Result<Command<'a>, Error> {
     let port = "The UDP port of the datagrams that are told; else the setup's, else 5568";
     let universe = "A universe whose lines and rows are told; else all";
+    let page =
+        "Serves a page for browsers there, of this machine where only a port is named, and prints nothing";
     let args = vec![in alloc;
         file(alloc, "CAPTURE", CAPTURE_HELP),
         word(alloc, "setup", "SETUP", SETUP_HELP),
         word(alloc, "port", "P", port),
         words(alloc, "universe", "U", universe),
         flag(alloc, "json", "Prints an object of JSON on each line"),
+        word(alloc, "page", "[ADDRESS:]PORT", page),
+        seconds(alloc),
     ]?;
     subcommand(alloc, "explain", ABOUT, args)
 }
@@ -77,10 +98,39 @@ fn is_universe(universe: u16) -> bool {
     (LEAST_UNIVERSE <= universe) & (universe <= MOST_UNIVERSE)
 }
 
+// Where a page is served, if it is asked for; nothing is printed then, and no node's frames are told.
+fn page_in<'a>(alloc: Global, matches: &ArgMatches<'a>) -> Result<Option<SocketAddrV4>, Error> {
+    let Some(word) = matches.get_str("page") else {
+        return Ok(None);
+    };
+    if matches.get_flag("json") {
+        return Err(refused_words(alloc, "--page", "beside --json"));
+    }
+    if matches.get_str("setup").is_some() {
+        return Err(refused_words(alloc, "--page", "beside --setup"));
+    }
+    page_at(alloc, word)
+}
+
+// How long a page is served.
+fn time_in<'a>(
+    alloc: Global,
+    matches: &ArgMatches<'a>,
+    page: Option<SocketAddrV4>,
+) -> Result<Option<u64>, Error> {
+    let seconds = seconds_in(alloc, matches)?;
+    if seconds.is_some() & page.is_none() {
+        return Err(refused_words(alloc, "--seconds", "without --page"));
+    }
+    Ok(seconds)
+}
+
 /// What the words of `explain` ask for.
 pub fn asked<'a>(alloc: Global, matches: &ArgMatches<'a>) -> Result<Asked<'a>, Error> {
     let port = port_in(alloc, matches)?;
     let universes = universes_in(alloc, matches)?;
+    let page = page_in(alloc, matches)?;
+    let seconds = time_in(alloc, matches, page)?;
     Ok(Asked::Explain(ExplainAsked {
         capture: text(matches, "CAPTURE"),
         setup: matches.get_str("setup"),
@@ -91,19 +141,23 @@ pub fn asked<'a>(alloc: Global, matches: &ArgMatches<'a>) -> Result<Asked<'a>, E
         } else {
             Form::Text
         },
+        page,
+        seconds,
     }))
 }
 
-// Says that a recording can't be read.
-fn unread<E: Write>(path: &str, err: &mut E) -> Ending {
+/// Says that a recording can't be read.
+pub fn unread<E: Write>(path: &str, err: &mut E) -> Ending {
     let _ = writeln!(err, "device read {path}");
     Ending::Said(DEVICE_FAILED)
 }
 
-// Says what is wrong with a recording, and where.
-fn said_of_capture<E: Write>(path: &str, fault: CaptureFault, err: &mut E) -> Ending {
-    if fault.kind == FaultKind::Device {
-        return unread(path, err);
+/// Says what is wrong with a recording, and where.
+pub fn said_of_capture<E: Write>(path: &str, fault: CaptureFault, err: &mut E) -> Ending {
+    match fault.kind {
+        FaultKind::Device => return unread(path, err),
+        FaultKind::OutOfMemory => return Ending::OutOfMemory,
+        _ => {}
     }
     let at = fault.at;
     let kind = fault.kind;
@@ -111,13 +165,16 @@ fn said_of_capture<E: Write>(path: &str, fault: CaptureFault, err: &mut E) -> En
     Ending::Said(REFUSED)
 }
 
-/// Tells a recording.
-pub fn tell<R: AllocGlobal + Files, O: Write, E: Write>(
+/// Tells a recording, or serves a page of it.
+pub fn tell<R: AllocGlobal + Files + Net + Clock, O: Write, E: Write>(
     rt: &R,
     asked: &ExplainAsked<'_>,
     out: &mut O,
     err: &mut E,
 ) -> Result<(), Ending> {
+    if let Some(place) = asked.page {
+        return serve(rt, asked, place, err);
+    }
     match asked.setup {
         None => tell_file(rt, asked, None, out, err),
         Some(path) => match setup_of_file(rt, path) {

@@ -12,6 +12,7 @@ mod manual;
 mod network;
 mod page;
 mod program;
+mod recording;
 mod watch;
 
 use std::io::{ErrorKind, Write};

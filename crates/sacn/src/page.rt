@@ -6,7 +6,7 @@ use crate::live_words::fault_name;
 use clap::{ArgMatches, Error};
 use sacn_files::words::short_in;
 use sacn_live::{AddressFault, destination_of};
-use sacn_page::{Ear, Pages};
+use sacn_page::{Board, Ear, MOST_ALARMS, Pages};
 use sacn_watch::{WatchFault, run_watch};
 use std::alloc::Global;
 use std::io::{ErrorKind, Write};
@@ -37,10 +37,21 @@ pub fn page_in<'a>(alloc: Global, matches: &ArgMatches<'a>) -> Result<Option<Soc
     if matches.get_flag("json") {
         return Err(refused_words(alloc, "--page", "beside --json"));
     }
+    page_at(alloc, word)
+}
+
+/// Where a page is served by this word.
+pub fn page_at(alloc: Global, word: &str) -> Result<Option<SocketAddrV4>, Error> {
     match place_of(word) {
         Ok(place) => Ok(Some(place)),
         Err(fault) => Err(refused_words(alloc, word, fault_name(fault))),
     }
+}
+
+/// Says where a page is served.
+pub fn say_page<E: Write>(place: SocketAddrV4, err: &mut E) {
+    let [a, b, c, d] = place.ip().octets();
+    let _ = writeln!(err, "page http://{a}.{b}.{c}.{d}:{}/", place.port());
 }
 
 /// Hears at an address until a moment in milliseconds, and serves a page of it. A viewer that names no universe is shown this
@@ -53,7 +64,8 @@ pub fn serve<R: AllocGlobal + Net + Clock, E: Write>(
     until: u64,
     err: &mut E,
 ) -> Result<(), Ending> {
-    let mut pages = match Pages::bind(rt, rt.alloc(), place, universe) {
+    let board = Board::new(rt.alloc(), universe, MOST_ALARMS)?;
+    let mut pages = match Pages::bind(rt, rt.alloc(), place, board) {
         Ok(pages) => pages,
         Err(ErrorKind::OutOfMemory) => return Err(Ending::OutOfMemory),
         Err(kind) => return Err(said_of_socket(place, kind, err)),
@@ -63,8 +75,7 @@ pub fn serve<R: AllocGlobal + Net + Clock, E: Write>(
         Err(kind) => return Err(said_of_socket(address, kind, err)),
     };
     say_hearing(address, ear.room(), err);
-    let [a, b, c, d] = place.ip().octets();
-    let _ = writeln!(err, "page http://{a}.{b}.{c}.{d}:{}/", place.port());
+    say_page(place, err);
     match run_watch(&mut ear, &mut pages, until) {
         Ok(()) => Ok(()),
         Err(WatchFault::OutOfMemory) => Err(Ending::OutOfMemory),

@@ -10,7 +10,7 @@ ghost use Rattle.sacn_monitor.specs.Books.{new_book};
 ghost use Rattle.sacn_explain.specs.Faults.{IsFaultOf, IsOfTelling};
 ghost use Rattle.sacn_explain.specs.Following.{IsTaken};
 ghost use Rattle.sacn_explain.specs.Listed.{after_reading, listed_in, listed_with, none_listed};
-ghost use Rattle.sacn_explain.specs.Story.{Hears, IsAccountOf, IsHeard, at_moment, begun, call_of, elsewhere, sender_of};
+ghost use Rattle.sacn_explain.specs.Story.{Hears, IsAccountOf, IsHeard, at_moment, begun, call_of, elsewhere, no_clock, sender_of};
 
 use crate::fault::ExplainFault;
 use crate::follower::Follower;
@@ -22,14 +22,15 @@ use sacn_node::NodeSetup;
 use std::alloc::Global;
 use std::io::{BufRead, Write};
 
-/// The clock of a recording.
-#[derive(Clone, Copy)]
-struct Timeline {
+/// The clock of a recording, moved frame by frame.
+#[derive(Clone, Copy, Debug, PartialEq, Eq)]
+pub struct Timeline {
     /// The moment of the first frame, in milliseconds since 1970.
-    first: Option<u64>,
+    pub first: Option<u64>,
     /// The latest moment, in milliseconds from the first.
-    now: u64,
-    went_back: u64,
+    pub now: u64,
+    /// The frames with an earlier moment than the frame before. They are taken at the latest moment so far.
+    pub went_back: u64,
 }
 
 /// Tells what happened in a recording, and what it amounts to: a line for each thing that happened, in order, moments in
@@ -112,11 +113,7 @@ impl Followed {
         ensures { result ≡ begun }
     {
         Followed {
-            timeline: Timeline {
-                first: None,
-                now: 0,
-                went_back: 0,
-            },
+            timeline: Timeline::begin(),
             other_ports: 0,
             stopped: None,
         }
@@ -182,8 +179,19 @@ fn hear<O: Write>(
 }
 
 impl Timeline {
-    // Moves to a frame's moment.
-    fn advance(&mut self, moment: u64)
+    /// The clock before the first frame.
+    pub fn begin() -> Self
+        ensures { result ≡ no_clock }
+    {
+        Timeline {
+            first: None,
+            now: 0,
+            went_back: 0,
+        }
+    }
+
+    /// Moves to the moment of a frame, in milliseconds since 1970.
+    pub fn advance(&mut self, moment: u64)
         ensures { self.new ≡ at_moment moment self.old }
     {
         let first = self.first.unwrap_or(moment);

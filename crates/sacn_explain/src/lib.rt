@@ -22,7 +22,7 @@ mod teller;
 mod words;
 
 pub use fault::ExplainFault;
-pub use follow::explain;
+pub use follow::{Timeline, explain};
 pub use follower::Follower;
 pub use listings::MOST_LISTINGS;
 pub use options::{Form, Options};

@@ -5,13 +5,14 @@ use Rattle.std.specs.Str.{str_eq_ignore_ascii_case}
 use Rattle.httparse.specs.Grammar.{RequestHead, ReadsRequest}
 use Rattle.httparse.specs.Spans.{name_and_value}
 use Rattle.sacn_page.specs.declared.request.Refusal.{Refusal}
-use Rattle.sacn_page.specs.declared.request.Refusal.TheVariants.{Malformed, Body, Foreign, Missing, Method, TooLarge, Busy, Version}
+use Rattle.sacn_page.specs.declared.request.Refusal.TheVariants.{Malformed, Moment, Body, Foreign, Missing, Method, TooLarge, Busy, Version, Unread}
 use Rattle.sacn_page.specs.declared.request.Reading.{Reading}
 use Rattle.sacn_page.specs.declared.request.Reading.TheVariants.{More, Asked, Refused}
 
 -- the status of a refusal (RFC 9110, 15; RFC 6585, 5)
 abbrev pub status_of : Refusal → ℕ
 status_of Malformed = 400
+status_of Moment = 400
 status_of Body = 400
 status_of Foreign = 403
 status_of Missing = 404
@@ -19,6 +20,7 @@ status_of Method = 405
 status_of TooLarge = 431
 status_of Busy = 503
 status_of Version = 505
+status_of Unread = 500
 
 -- a text is this word, in letters of either case
 unfoldable pub is_word : List ℕ → List ℕ → Bool

@@ -6,7 +6,7 @@ use sacn_root::PacketFault;
 use std::alloc::{AllocError, Global};
 use std::fmt::Write;
 
-/// The most alarms that are kept: the latest.
+/// The most alarms of a network that are kept: the latest.
 pub const MOST_ALARMS: usize = 32;
 
 /// What happened. A place is that of a source on a universe.
@@ -43,15 +43,18 @@ pub struct Alarm {
 #[derive(Drop)]
 pub struct Alarms {
     latest: Vec<Alarm>,
+    /// How many are kept.
+    most: usize,
     /// How many there were.
     count: u64,
 }
 
 impl Alarms {
-    /// None yet.
-    pub fn new(alloc: Global) -> Self {
+    /// None yet, of which the latest so many are kept.
+    pub fn new(alloc: Global, most: usize) -> Self {
         Alarms {
             latest: Vec::new(alloc),
+            most,
             count: 0,
         }
     }
@@ -60,8 +63,10 @@ impl Alarms {
     ///
     /// Errors: a growth was refused.
     pub fn add(&mut self, moment: u64, trouble: Trouble) -> Result<(), AllocError> {
-        if self.latest.len() >= MOST_ALARMS {
-            let _ = self.latest.remove(0);
+        if self.latest.len() >= self.most {
+            if !self.latest.is_empty() {
+                let _ = self.latest.remove(0);
+            }
         }
         self.latest.push(Alarm { moment, trouble })?;
         self.count = self.count.saturating_add(1);

@@ -1,5 +1,9 @@
 //! What is known of a network, for all viewers.
 
+ghost use Rattle.std.specs.Prelude.{◌≡◌, ◌≤◌, IfOk, IfSome, OnOk};
+ghost use Rattle.sacn_monitor.specs.Books.{new_book, after_tick};
+ghost use Rattle.sacn_explain.specs.Following.{IsTicked, IsTaken};
+
 use crate::alarms::{Alarms, Trouble};
 use crate::lit::LitUniverse;
 use sacn_framing::{DataView, Packet, read_packet};
@@ -27,14 +31,16 @@ pub struct Board {
 }
 
 impl Board {
-    /// Nothing heard. A viewer that names no universe is shown this one, else the first heard.
+    /// Nothing heard. A viewer that names no universe is shown this one, else the first heard. The latest so many alarms are kept.
     ///
     /// Errors: OutOfMemory.
-    pub fn new(alloc: Global, preferred: Option<u16>) -> Result<Self, AllocError> {
+    pub fn new(alloc: Global, preferred: Option<u16>, alarms: usize) -> Result<Self, AllocError>
+        ensures nothing { IfOk result (λ b. b.monitor ≡ new_book) }
+    {
         Ok(Board {
             alloc,
             monitor: Monitor::new(alloc)?,
-            alarms: Alarms::new(alloc),
+            alarms: Alarms::new(alloc, alarms),
             preferred,
             heard: Vec::new(alloc),
             contested: Vec::new(alloc),
@@ -42,10 +48,13 @@ impl Board {
         })
     }
 
-    /// Takes a datagram.
+    /// Takes a datagram, after what had ended by silence: the accounts are then those that the monitor has after this datagram,
+    /// once.
     ///
     /// Errors: OutOfMemory.
-    pub fn take(&mut self, now: u64, sender: Sender, octets: &[u8]) -> Result<(), AllocError> {
+    pub fn take(&mut self, now: u64, sender: Sender, octets: &[u8]) -> Result<(), AllocError>
+        ensures taken { OnOk result (IsTaken now sender octets.now self.old.monitor self.new.monitor) }
+    {
         self.tick(now)?;
         match self.monitor.take(now, sender, octets) {
             Noted::Refused(fault) => self.alarms.add(now, Trouble::Refused(sender, fault))?,
@@ -61,21 +70,44 @@ impl Board {
     /// Moves the clock, and answers whether a source was lost.
     ///
     /// Errors: OutOfMemory.
-    pub fn tick(&mut self, now: u64) -> Result<bool, AllocError> {
+    pub fn tick(&mut self, now: u64) -> Result<bool, AllocError>
+        ensures ticked { OnOk result (IsTicked now self.old.monitor self.new.monitor) }
+    {
+        let is_lost = self.note_losses(now)?;
+        let _ = self.monitor.tick(now);
+        Ok(is_lost)
+    }
+
+    // Notes the sources that are lost by a moment, each at its own, and answers whether there was one.
+    fn note_losses(&mut self, now: u64) -> Result<bool, AllocError>
+        ensures { IsTicked now self.old.monitor self.new.monitor }
+    {
         let mut is_lost = false;
         for _ in 0..sacn_monitor::MAX_STREAMS {
-            let Some(place) = self.monitor.tick(now) else {
+            let Some(at) = loss_by(now, self.monitor.next_loss()) else {
                 break;
             };
+            self.note_loss(at)?;
             is_lost = true;
-            self.alarms.add(now, Trouble::Lost(place))?;
-            self.note_rivals(now, place)?;
         }
         Ok(is_lost)
     }
 
+    // Notes the source that is lost at a moment.
+    fn note_loss(&mut self, at: u64) -> Result<(), AllocError>
+        ensures { self.new.monitor ≡ after_tick at self.old.monitor }
+    {
+        let Some(place) = self.monitor.tick(at) else {
+            return Ok(());
+        };
+        self.alarms.add(at, Trouble::Lost(place))?;
+        self.note_rivals(at, place)
+    }
+
     /// The accounts of all sources.
-    pub fn monitor(&self) -> &Monitor {
+    pub fn monitor(&self) -> &Monitor
+        ensures { result.now ≡ self.now.monitor }
+    {
         &self.monitor
     }
 
@@ -112,7 +144,9 @@ impl Board {
     /// whether there is room for it.
     ///
     /// Errors: OutOfMemory.
-    pub fn open(&mut self, number: u16, watched: &[u16]) -> Result<bool, AllocError> {
+    pub fn open(&mut self, number: u16, watched: &[u16]) -> Result<bool, AllocError>
+        ensures monitor { self.new.monitor ≡ self.old.monitor }
+    {
         if self.lit(number).is_some() {
             return Ok(true);
         }
@@ -130,7 +164,9 @@ impl Board {
     }
 
     /// Merges anew the universes that are looked at.
-    pub fn refresh(&mut self, now: u64, watched: &[u16]) {
+    pub fn refresh(&mut self, now: u64, watched: &[u16])
+        ensures monitor { self.new.monitor ≡ self.old.monitor }
+    {
         for lit in self.lit.iter_mut() {
             if watched.contains(&lit.number()) {
                 lit.refresh(now, self.monitor.streams());
@@ -139,7 +175,9 @@ impl Board {
     }
 
     // What a data packet tells of the source at a place.
-    fn note(&mut self, now: u64, place: usize, news: &News) -> Result<(), AllocError> {
+    fn note(&mut self, now: u64, place: usize, news: &News) -> Result<(), AllocError>
+        ensures monitor { self.new.monitor ≡ self.old.monitor }
+    {
         match news.event {
             Event::Appeared => self.note_universe(place)?,
             Event::CameBack => self.alarms.add(now, Trouble::CameBack(place))?,
@@ -157,7 +195,9 @@ impl Board {
     }
 
     // The universe of a source that is new.
-    fn note_universe(&mut self, place: usize) -> Result<(), AllocError> {
+    fn note_universe(&mut self, place: usize) -> Result<(), AllocError>
+        ensures monitor { self.new.monitor ≡ self.old.monitor }
+    {
         if let Some(stream) = self.monitor.streams().get(place) {
             let universe = stream.universe;
             if !self.heard.contains(&universe) {
@@ -169,7 +209,9 @@ impl Board {
     }
 
     // Whether several sources send at the top priority from now on, where the source at a place sends.
-    fn note_rivals(&mut self, now: u64, place: usize) -> Result<(), AllocError> {
+    fn note_rivals(&mut self, now: u64, place: usize) -> Result<(), AllocError>
+        ensures monitor { self.new.monitor ≡ self.old.monitor }
+    {
         let Some(stream) = self.monitor.streams().get(place) else {
             return Ok(());
         };
@@ -192,7 +234,9 @@ impl Board {
     }
 
     // Gives a packet to its universe, where that is merged or there is room for it.
-    fn light(&mut self, now: u64, packet: &DataView<'_>) -> Result<(), AllocError> {
+    fn light(&mut self, now: u64, packet: &DataView<'_>) -> Result<(), AllocError>
+        ensures monitor { self.new.monitor ≡ self.old.monitor }
+    {
         let number = packet.universe();
         if self.lit(number).is_none() && self.lit.len() < MOST_LIT {
             self.lit.push(unlit(self.alloc, number)?)?;
@@ -204,6 +248,13 @@ impl Board {
         }
         Ok(())
     }
+}
+
+// The moment of a loss, where it is no later than now.
+fn loss_by(now: u64, loss: u64) -> Option<u64>
+    ensures { IfSome result (λ at. at ≤ now) }
+{
+    if now < loss { None } else { Some(loss) }
 }
 
 // A universe of which nothing was heard.

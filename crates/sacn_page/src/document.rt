@@ -2,8 +2,11 @@
 
 use crate::alarms::{push_alarm, push_name};
 use crate::board::Board;
-use crate::json::{push_digits, push_long_digits, push_number, push_numbers, push_word};
+use crate::json::{
+    push_digits, push_foreign, push_long_digits, push_number, push_numbers, push_word,
+};
 use crate::lit::SLOTS;
+use crate::scene::Facts;
 use sacn_monitor::{State, Stream, Tally};
 use std::alloc::{AllocError, Global};
 use std::fmt::Write;
@@ -91,12 +94,32 @@ impl Counts {
     }
 }
 
-/// Writes the document of a viewer that names this universe, or none, and notes what was given. Answers whether any member but the
-/// moment was written.
+/// Writes what is known of a recording as a whole, as an object.
+///
+/// Errors: a growth was refused.
+pub fn push_facts(text: &mut String, facts: &Facts) -> Result<(), AllocError> {
+    text.push_str("{\"name\":\"")?;
+    push_foreign(text, facts.name.as_bytes())?;
+    text.push('"')?;
+    push_number(text, "length", facts.length)?;
+    match facts.fault {
+        Some(fault) => {
+            let kind = fault.kind;
+            write!(text, ",\"fault\":{{\"octet\":{}", fault.at)?;
+            write!(text, ",\"name\":\"{kind:?}\"}}")?;
+        }
+        None => text.push_str(",\"fault\":null")?,
+    }
+    text.push('}')
+}
+
+/// Writes the document of a viewer that names this universe, or none, and notes what was given; of a recording with what is known of
+/// it. Answers whether any member but the moment was written.
 ///
 /// Errors: a growth was refused; the text and what was given then are of no use.
 pub fn push_document(
     text: &mut String,
+    facts: Option<&Facts>,
     board: &Board,
     named: Option<u16>,
     given: &mut Given,
@@ -104,6 +127,10 @@ pub fn push_document(
 ) -> Result<bool, AllocError> {
     let moment = board.monitor().moment();
     write!(text, "{{\"ms\":{moment}")?;
+    if let Some(facts) = facts {
+        text.push_str(",\"recording\":")?;
+        push_facts(text, facts)?;
+    }
     let start = text.len();
     push_universe(text, board.chosen(named), given, extent)?;
     push_heard(text, board.heard(), given, extent)?;

@@ -106,13 +106,67 @@ impl<'a, R: Net + MachineClock> Listener for Ear<'a, R> {
     }
 
     fn has_ended(&mut self) -> bool {
-        if self.input == NO_DESCRIPTOR || !is_readable(self.input) {
-            return false;
+        ends(self.input)
+    }
+}
+
+// Whether standard input is waited for and has ended or failed. What is there of it is passed over.
+fn ends(input: RawFd) -> bool {
+    if input == NO_DESCRIPTOR || !is_readable(input) {
+        return false;
+    }
+    let mut passed = [0; PASSED_OCTETS];
+    match read_input(&mut passed) {
+        Some(count) => count == 0,
+        None => true,
+    }
+}
+
+/// A clock that hears nothing. Its waits end where another descriptor can be read, and at the end of standard input, unless that had
+/// ended before the start.
+#[derive(Drop)]
+pub struct Quiet<'a, R> {
+    clock: RigClock<'a, R>,
+    beside: RawFd,
+    input: RawFd,
+}
+
+impl<'a, R: MachineClock> Quiet<'a, R> {
+    /// A clock that waits for nothing yet but the end of standard input.
+    pub fn new(clock: RigClock<'a, R>) -> Quiet<'a, R> {
+        Quiet {
+            clock,
+            beside: NO_DESCRIPTOR,
+            input: if ends(STDIN) { NO_DESCRIPTOR } else { STDIN },
         }
-        let mut passed = [0; PASSED_OCTETS];
-        match read_input(&mut passed) {
-            Some(count) => count == 0,
-            None => true,
+    }
+
+    /// From now on a wait ends where this descriptor can be read, too.
+    pub fn wait_for(&mut self, beside: RawFd) {
+        self.beside = beside;
+    }
+}
+
+impl<'a, R: MachineClock> Receiver for Quiet<'a, R> {
+    fn wait(&mut self, until: u64) {
+        let left = until.saturating_sub(self.clock.now()).min(MOST_MILLIS) as i32;
+        wait_readable(NO_DESCRIPTOR, self.input, self.beside, left);
+    }
+
+    fn receive(&mut self, _buffer: &mut [u8; BUFFER_OCTETS]) -> Receipt {
+        Receipt {
+            now: self.clock.now(),
+            arrival: Arrival::Nothing,
         }
+    }
+}
+
+impl<'a, R: MachineClock> Listener for Quiet<'a, R> {
+    fn sender_port(&self) -> u16 {
+        0
+    }
+
+    fn has_ended(&mut self) -> bool {
+        ends(self.input)
     }
 }

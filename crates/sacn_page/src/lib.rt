@@ -1,7 +1,9 @@
-//! A page that shows a rig (ANSI E1.31-2018) to browsers, as a watch hears it. Nothing can be ordered through it.
+//! A page that shows a rig (ANSI E1.31-2018) to browsers: as a watch hears it, or a recording of it at any moment. Nothing can be
+//! ordered through it.
 #![tactic(auto)]
 
 mod alarms;
+mod answers;
 mod board;
 mod document;
 mod ear;
@@ -10,22 +12,28 @@ mod json;
 mod lit;
 mod markup;
 mod outbox;
+mod recording;
+mod replay;
 mod request;
 mod response;
 mod room;
+mod scene;
 mod server;
 mod sys;
 mod viewer;
 
 pub use alarms::{Alarm, Alarms, MOST_ALARMS, Trouble};
 pub use board::{Board, MOST_LIT};
-pub use document::{Extent, Given, push_document};
-pub use ear::Ear;
+pub use document::{Extent, Given, push_document, push_facts};
+pub use ear::{Ear, Quiet};
 pub use hosts::Hosts;
 pub use lit::{LitUniverse, SLOTS};
-pub use markup::PAGE;
+pub use markup::{Subject, page};
+pub use recording::{MOST_MARKS, Recording, Tape};
+pub use replay::Replay;
 pub use request::{Asked, MOST_FIELDS, MOST_HEAD, Reading, Refusal, read_request};
 pub use response::{Kind, opened, push_event, refused, whole};
 pub use room::{LEAST_WAIT, MOST_SURPLUS, MOST_VIEWERS, MOST_WAIT, Room};
+pub use scene::{Facts, Scene, SeekFault};
 pub use server::Pages;
-pub use viewer::{Connection, HEAD_TIME, LEAVE_TIME, Phase, STALL_TIME, Viewer};
+pub use viewer::{Connection, Goal, HEAD_TIME, LEAVE_TIME, Phase, STALL_TIME, Viewer};

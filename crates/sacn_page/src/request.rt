@@ -23,10 +23,13 @@ const MOST_UNIVERSE: u16 = 63999;
 pub enum Asked {
     /// The page: `/`, whatever its query says.
     Page,
-    /// The document of a universe, 1 to 63999, or of the first that was heard: `/state`.
-    State(Option<u16>),
+    /// The document of a universe, 1 to 63999, or of the first that was heard, and of a recording at a moment in milliseconds from
+    /// its first frame, or at its end: `/state`.
+    State(Option<u16>, Option<u64>),
     /// The document, and then what changes in it: `/events`.
     Events(Option<u16>),
+    /// What is known of a recording as a whole: `/recording`.
+    Recording,
 }
 
 /// Why a request isn't answered as it asks.
@@ -34,6 +37,8 @@ pub enum Asked {
 pub enum Refusal {
     /// The head isn't one of HTTP, is cut off, or names no universe where it should.
     Malformed,
+    /// A moment is named that is no number, or of a network, which has none but the present.
+    Moment,
     /// A body is announced.
     Body,
     /// It isn't asked of this host by name: a page from elsewhere may have asked.
@@ -48,6 +53,8 @@ pub enum Refusal {
     Busy,
     /// Another version than HTTP/1.0 and HTTP/1.1.
     Version,
+    /// The recording can't be read any more.
+    Unread,
 }
 
 /// What is known of a request, of which so much came.
@@ -66,6 +73,7 @@ impl Refusal {
     {
         match self {
             Refusal::Malformed => 400,
+            Refusal::Moment => 400,
             Refusal::Body => 400,
             Refusal::Foreign => 403,
             Refusal::Missing => 404,
@@ -73,6 +81,7 @@ impl Refusal {
             Refusal::TooLarge => 431,
             Refusal::Busy => 503,
             Refusal::Version => 505,
+            Refusal::Unread => 500,
         }
     }
 }
@@ -189,22 +198,64 @@ fn target_asked(target: &str) -> Result<Asked, Refusal> {
     };
     match path {
         "/" => Ok(Asked::Page),
-        "/state" => Ok(Asked::State(universe_in(query)?)),
-        "/events" => Ok(Asked::Events(universe_in(query)?)),
+        "/state" => {
+            let named = named_in(query)?;
+            Ok(Asked::State(named.universe, named.moment))
+        }
+        "/events" => match named_in(query)? {
+            Named {
+                universe,
+                moment: None,
+            } => Ok(Asked::Events(universe)),
+            _ => Err(Refusal::Moment),
+        },
+        "/recording" if query.is_empty() => Ok(Asked::Recording),
+        "/recording" => Err(Refusal::Malformed),
         _ => Err(Refusal::Missing),
     }
 }
 
-// The universe that a query names, if any.
-fn universe_in(query: &str) -> Result<Option<u16>, Refusal> {
-    if query.is_empty() {
-        return Ok(None);
-    }
-    let Some(("universe", digits)) = query.split_once('=') else {
-        return Err(Refusal::Malformed);
+/// What a query names.
+#[derive(Clone, Copy, Debug, PartialEq, Eq)]
+struct Named {
+    universe: Option<u16>,
+    /// Milliseconds.
+    moment: Option<u64>,
+}
+
+// What a query names: a universe, a moment, both in either order, or neither.
+fn named_in(query: &str) -> Result<Named, Refusal> {
+    let mut named = Named {
+        universe: None,
+        moment: None,
     };
+    if query.is_empty() {
+        return Ok(named);
+    }
+    for part in query.split('&') {
+        match part.split_once('=') {
+            Some(("universe", digits)) if named.universe.is_none() => {
+                named.universe = Some(universe_of(digits)?);
+            }
+            Some(("at", digits)) if named.moment.is_none() => {
+                named.moment = Some(moment_of(digits)?);
+            }
+            _ => return Err(Refusal::Malformed),
+        }
+    }
+    Ok(named)
+}
+
+fn universe_of(digits: &str) -> Result<u16, Refusal> {
     match sacn_files::words::short_in(digits) {
-        Some(universe) if (universe > 0) & (universe <= MOST_UNIVERSE) => Ok(Some(universe)),
+        Some(universe) if (universe > 0) & (universe <= MOST_UNIVERSE) => Ok(universe),
         _ => Err(Refusal::Malformed),
+    }
+}
+
+fn moment_of(digits: &str) -> Result<u64, Refusal> {
+    match sacn_files::words::number_in(u64::MAX, digits) {
+        Some(moment) => Ok(moment),
+        None => Err(Refusal::Moment),
     }
 }

@@ -33,6 +33,7 @@ impl Refusal {
     fn reason(self) -> &'static str {
         match self {
             Refusal::Malformed => "Bad Request",
+            Refusal::Moment => "Bad Request",
             Refusal::Body => "Bad Request",
             Refusal::Foreign => "Forbidden",
             Refusal::Missing => "Not Found",
@@ -40,6 +41,7 @@ impl Refusal {
             Refusal::TooLarge => "Request Header Fields Too Large",
             Refusal::Busy => "Service Unavailable",
             Refusal::Version => "HTTP Version Not Supported",
+            Refusal::Unread => "Internal Server Error",
         }
     }
 
@@ -47,13 +49,17 @@ impl Refusal {
     fn explanation(self) -> &'static str {
         match self {
             Refusal::Malformed => "The request can't be read.",
+            Refusal::Moment => {
+                "at is a moment of a recording: milliseconds from its first packet, in decimal digits."
+            }
             Refusal::Body => "A request with a body isn't taken.",
             Refusal::Foreign => "This isn't the name of this server.",
-            Refusal::Missing => "There is /, /state and /events.",
+            Refusal::Missing => "There is / and /state, and /events of a network or /recording.",
             Refusal::Method => "Nothing can be ordered here: only GET is taken.",
             Refusal::TooLarge => "The head of the request is too large.",
             Refusal::Busy => "There is no room for a further viewer or universe.",
             Refusal::Version => "Only HTTP/1.0 and HTTP/1.1 are spoken.",
+            Refusal::Unread => "The recording can't be read.",
         }
     }
 }

@@ -1,12 +1,10 @@
-//! The viewers of a network, whatever their connections are.
+//! The viewers of a network or of a recording, whatever their connections are.
 
-use crate::board::Board;
-use crate::document::{Extent, Given, push_document};
+use crate::answers::{Question, answer, push_change, refuse, show_moment};
 use crate::hosts::Hosts;
-use crate::markup::PAGE;
-use crate::request::{Asked, Reading, Refusal};
-use crate::response::{Kind, opened, push_event, refused, whole};
-use crate::viewer::{Connection, Phase, Viewer};
+use crate::request::{Reading, Refusal};
+use crate::scene::{Scene, SeekFault};
+use crate::viewer::{Connection, Goal, Phase, Viewer};
 use sacn_monitor::Sender;
 use slab::Slab;
 use std::alloc::{AllocError, Global};
@@ -26,11 +24,14 @@ pub const LEAST_WAIT: u64 = 100;
 /// The most milliseconds between two events of a viewer that takes all.
 pub const MOST_WAIT: u64 = 1000;
 
-/// A network, and those who look at it. Moments are milliseconds.
+/// The most steps in which a recording is followed in one turn.
+const MOST_STEPS: usize = 4096;
+
+/// A network or a recording, and those who look at it. Moments are milliseconds.
 #[derive(Drop)]
-pub struct Room<C: Drop> {
+pub struct Room<C: Drop, S: Scene + Drop> {
     alloc: Global,
-    board: Board,
+    scene: S,
     viewers: Slab<Viewer<C>>,
     /// No viewer is given a change before this moment.
     next: u64,
@@ -38,20 +39,23 @@ pub struct Room<C: Drop> {
     beat: u64,
     /// Something came since the latest look.
     is_stale: bool,
+    /// How many have asked for a moment of the recording.
+    turns: u64,
 }
 
-impl<C: Connection + Drop> Room<C> {
-    /// Nothing heard, and no viewer. A viewer that names no universe is shown this one, else the first heard.
+impl<C: Connection + Drop, S: Scene + Drop> Room<C, S> {
+    /// No viewer yet.
     ///
     /// Errors: OutOfMemory.
-    pub fn new(alloc: Global, preferred: Option<u16>) -> Result<Self, AllocError> {
+    pub fn new(alloc: Global, scene: S) -> Result<Self, AllocError> {
         Ok(Room {
             alloc,
-            board: Board::new(alloc, preferred)?,
+            scene,
             viewers: Slab::with_capacity(alloc, MOST_CONNECTIONS)?,
             next: 0,
             beat: 0,
             is_stale: false,
+            turns: 0,
         })
     }
 
@@ -60,14 +64,14 @@ impl<C: Connection + Drop> Room<C> {
     /// Errors: OutOfMemory.
     pub fn take(&mut self, now: u64, sender: Sender, octets: &[u8]) -> Result<(), AllocError> {
         self.is_stale = true;
-        self.board.take(now, sender, octets)
+        self.scene.take(now, sender, octets)
     }
 
     /// Moves the clock.
     ///
     /// Errors: OutOfMemory.
     pub fn tick(&mut self, now: u64) -> Result<(), AllocError> {
-        if self.board.tick(now)? {
+        if self.scene.tick(now)? {
             self.is_stale = true;
         }
         Ok(())
@@ -116,11 +120,22 @@ impl<C: Connection + Drop> Room<C> {
     /// Takes what the viewer of a key sent, answers it, and sends what its connection takes.
     pub fn serve(&mut self, key: usize, now: u64) {
         let watched = self.watched();
+        let question = Question {
+            turn: self.turns,
+            now,
+        };
+        self.turns = self.turns.saturating_add(1);
         let Some(viewer) = self.viewers.get_mut(key) else {
             return;
         };
         let served = match watched {
-            Ok(watched) => serve(self.alloc, &mut self.board, viewer, watched.as_slice(), now),
+            Ok(watched) => serve(
+                self.alloc,
+                &mut self.scene,
+                viewer,
+                watched.as_slice(),
+                question,
+            ),
             Err(fault) => Err(fault),
         };
         // A viewer that took all may be owed what changed in the meantime.
@@ -136,7 +151,7 @@ impl<C: Connection + Drop> Room<C> {
         for key in 0..MOST_CONNECTIONS {
             if let Some(viewer) = self.viewers.get(key) {
                 if let Phase::Watching(named) = viewer.phase() {
-                    if let Some(universe) = self.board.chosen(named) {
+                    if let Some(universe) = self.scene.board().chosen(named) {
                         universes.push(universe)?;
                     }
                 }
@@ -151,6 +166,7 @@ impl<C: Connection + Drop> Room<C> {
     /// Errors: OutOfMemory.
     pub fn show(&mut self, now: u64) -> Result<(), AllocError> {
         self.close_late(now);
+        self.seek(now);
         let is_beat = now >= self.beat;
         if (now < self.next) | !(self.is_stale | is_beat) {
             return Ok(());
@@ -162,9 +178,9 @@ impl<C: Connection + Drop> Room<C> {
         }
         let watched = self.watched()?;
         for universe in watched.as_slice() {
-            let _ = self.board.open(*universe, watched.as_slice())?;
+            let _ = self.scene.open(*universe, watched.as_slice())?;
         }
-        self.board.refresh(now, watched.as_slice());
+        self.scene.refresh(now, watched.as_slice());
         for key in 0..MOST_CONNECTIONS {
             self.push(key, is_beat, now);
         }
@@ -182,8 +198,54 @@ impl<C: Connection + Drop> Room<C> {
         if !viewer.is_idle() {
             return;
         }
-        let pushed = push_change(self.alloc, &self.board, viewer, named, is_beat, now);
+        let board = self.scene.board();
+        let pushed = push_change(self.alloc, board, viewer, named, is_beat, now);
         if pushed.is_err() || viewer.phase() == Phase::Gone {
+            let _ = self.viewers.try_remove(key);
+        }
+    }
+
+    // Answers those who wait for a moment of the recording, the first that asked first, as far as one turn reads.
+    fn seek(&mut self, now: u64) {
+        for _ in 0..MOST_CONNECTIONS {
+            let Some((key, goal)) = self.first_waiting() else {
+                return;
+            };
+            match self.scene.seek(goal.universe, goal.moment, MOST_STEPS) {
+                Ok(true) => self.answer_goal(key, goal, Ok(()), now),
+                Ok(false) => return,
+                Err(fault) => self.answer_goal(key, goal, Err(fault), now),
+            }
+        }
+    }
+
+    // The viewer that has waited the longest for a moment of the recording.
+    fn first_waiting(&self) -> Option<(usize, Goal)> {
+        let mut first: Option<(usize, Goal)> = None;
+        for key in 0..MOST_CONNECTIONS {
+            if let Some(viewer) = self.viewers.get(key) {
+                if let Phase::Waiting(goal) = viewer.phase() {
+                    first = match first {
+                        Some((_, other)) if other.turn <= goal.turn => first,
+                        _ => Some((key, goal)),
+                    };
+                }
+            }
+        }
+        first
+    }
+
+    // Answers the viewer of a key, once the recording is at its moment or can't be.
+    fn answer_goal(&mut self, key: usize, goal: Goal, sought: Result<(), SeekFault>, now: u64) {
+        let Some(viewer) = self.viewers.get_mut(key) else {
+            return;
+        };
+        let answered = match sought {
+            Ok(()) => show_moment(self.alloc, &self.scene, viewer, goal.universe, now),
+            Err(SeekFault::OutOfMemory) => refuse(self.alloc, viewer, Refusal::Busy, now),
+            Err(SeekFault::Device) => refuse(self.alloc, viewer, Refusal::Unread, now),
+        };
+        if answered.is_err() || viewer.phase() == Phase::Gone {
             let _ = self.viewers.try_remove(key);
         }
     }
@@ -203,12 +265,14 @@ impl<C: Connection + Drop> Room<C> {
 
     /// The moment at which there is something to do, where nothing comes; `u64::MAX` where there never is.
     pub fn wakes(&self) -> u64 {
-        let mut least = self.board.monitor().next_loss();
+        let mut least = self.scene.next_change();
         for key in 0..MOST_CONNECTIONS {
             if let Some(viewer) = self.viewers.get(key) {
                 least = least.min(viewer.deadline());
-                if let Phase::Watching(_) = viewer.phase() {
-                    least = least.min(self.next_look());
+                match viewer.phase() {
+                    Phase::Watching(_) => least = least.min(self.next_look()),
+                    Phase::Waiting(_) => least = 0,
+                    _ => {}
                 }
             }
         }
@@ -226,13 +290,14 @@ impl<C: Connection + Drop> Room<C> {
 }
 
 // Takes what a viewer sent, and answers it.
-fn serve<C: Connection + Drop>(
+fn serve<C: Connection + Drop, S: Scene + Drop>(
     alloc: Global,
-    board: &mut Board,
+    scene: &mut S,
     viewer: &mut Viewer<C>,
     watched: &[u16],
-    now: u64,
+    question: Question,
 ) -> Result<(), AllocError> {
+    let now = question.now;
     match viewer.hear()? {
         Reading::More => {
             viewer.send(now);
@@ -240,90 +305,6 @@ fn serve<C: Connection + Drop>(
         }
         Reading::Refused(refusal) => refuse(alloc, viewer, refusal, now),
         Reading::Asked(_) if viewer.is_surplus() => refuse(alloc, viewer, Refusal::Busy, now),
-        Reading::Asked(asked) => answer(alloc, board, viewer, asked, watched, now),
+        Reading::Asked(asked) => answer(alloc, scene, viewer, asked, watched, question),
     }
-}
-
-fn refuse<C: Connection + Drop>(
-    alloc: Global,
-    viewer: &mut Viewer<C>,
-    refusal: Refusal,
-    now: u64,
-) -> Result<(), AllocError> {
-    let text = refused(alloc, refusal)?;
-    viewer.give(text.as_str(), Phase::Answered, now)
-}
-
-fn answer<C: Connection + Drop>(
-    alloc: Global,
-    board: &mut Board,
-    viewer: &mut Viewer<C>,
-    asked: Asked,
-    watched: &[u16],
-    now: u64,
-) -> Result<(), AllocError> {
-    let named = match asked {
-        Asked::Page => {
-            let text = whole(alloc, Kind::Page, PAGE)?;
-            return viewer.give(text.as_str(), Phase::Answered, now);
-        }
-        Asked::State(named) => named,
-        Asked::Events(named) => named,
-    };
-    if !prepare(board, named, watched, now)? {
-        return refuse(alloc, viewer, Refusal::Busy, now);
-    }
-    let mut document = String::new(alloc);
-    let mut given = Given::nothing(alloc);
-    push_document(&mut document, board, named, &mut given, Extent::Whole)?;
-    if let Asked::State(_) = asked {
-        let text = whole(alloc, Kind::Json, document.as_str())?;
-        return viewer.give(text.as_str(), Phase::Answered, now);
-    }
-    viewer.given = given;
-    let mut text = opened(alloc)?;
-    push_event(&mut text, "state", document.as_str())?;
-    viewer.give(text.as_str(), Phase::Watching(named), now)
-}
-
-// Merges the universe that is named, or the first, and answers whether there is room for it.
-fn prepare(
-    board: &mut Board,
-    named: Option<u16>,
-    watched: &[u16],
-    now: u64,
-) -> Result<bool, AllocError> {
-    let Some(universe) = board.chosen(named) else {
-        return Ok(true);
-    };
-    if !board.open(universe, watched)? {
-        return Ok(false);
-    }
-    board.refresh(now, &[universe]);
-    Ok(true)
-}
-
-// Gives a viewer what changed since it was given something, if anything did or it is to be given an event all the same.
-fn push_change<C: Connection + Drop>(
-    alloc: Global,
-    board: &Board,
-    viewer: &mut Viewer<C>,
-    named: Option<u16>,
-    is_beat: bool,
-    now: u64,
-) -> Result<(), AllocError> {
-    let mut document = String::new(alloc);
-    let is_more = push_document(
-        &mut document,
-        board,
-        named,
-        &mut viewer.given,
-        Extent::Changes,
-    )?;
-    if !(is_more | is_beat) {
-        return Ok(());
-    }
-    let mut text = String::new(alloc);
-    push_event(&mut text, "change", document.as_str())?;
-    viewer.give(text.as_str(), Phase::Watching(named), now)
 }

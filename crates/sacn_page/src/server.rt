@@ -1,6 +1,7 @@
 //! A server of pages beside a watch.
 
 use crate::room::Room;
+use crate::scene::Scene;
 use crate::viewer::Connection;
 use mio::net::{TcpListener, TcpStream};
 use mio::{Events, Interest, Poll, Token};
@@ -29,10 +30,10 @@ impl Connection for TcpStream {
     }
 }
 
-/// Serves the page of a watch to browsers.
+/// Serves the page of a network or of a recording to browsers.
 #[derive(Drop)]
-pub struct Pages {
-    room: Room<TcpStream>,
+pub struct Pages<S: Scene + Drop> {
+    room: Room<TcpStream, S>,
     address: SocketAddrV4,
     listener: TcpListener,
     poll: Poll,
@@ -41,29 +42,24 @@ pub struct Pages {
     calls: u64,
 }
 
-impl Pages {
-    /// A server at this address. A viewer that names no universe is shown this one, else the first heard.
+impl<S: Scene + Drop> Pages<S> {
+    /// A server of this scene at this address.
     ///
     /// Errors: the machine's, where it refuses the socket; OutOfMemory.
     pub fn bind<R: Net>(
         rt: &R,
         alloc: Global,
         address: SocketAddrV4,
-        preferred: Option<u16>,
+        scene: S,
     ) -> Result<Self, ErrorKind> {
-        match Pages::bound(rt, alloc, address, preferred) {
+        match Pages::bound(rt, alloc, address, scene) {
             Ok(pages) => Ok(pages),
             Err(error) => Err(error.kind()),
         }
     }
 
-    fn bound<R: Net>(
-        rt: &R,
-        alloc: Global,
-        address: SocketAddrV4,
-        preferred: Option<u16>,
-    ) -> io::Result<Self> {
-        let room = Room::new(alloc, preferred)?;
+    fn bound<R: Net>(rt: &R, alloc: Global, address: SocketAddrV4, scene: S) -> io::Result<Self> {
+        let room = Room::new(alloc, scene)?;
         let poll = Poll::new(rt)?;
         let events = Events::with_capacity(alloc, MOST_EVENTS)?;
         let mut listener = TcpListener::bind(rt, SocketAddr::V4(address))?;
@@ -145,7 +141,7 @@ impl Pages {
     }
 }
 
-impl Watcher for Pages {
+impl<S: Scene + Drop> Watcher for Pages<S> {
     fn take(&mut self, now: u64, sender: Sender, octets: &[u8]) -> Result<(), WatchFault> {
         self.room.take(now, sender, octets)?;
         Ok(())

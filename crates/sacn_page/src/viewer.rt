@@ -30,6 +30,17 @@ pub trait Connection: Read + Write {
     fn finish(&mut self);
 }
 
+/// A moment of a recording that is waited for.
+#[derive(Clone, Copy, Debug, PartialEq, Eq)]
+pub struct Goal {
+    /// The universe that was named, if any.
+    pub universe: Option<u16>,
+    /// Milliseconds from the first frame; its end where none is named.
+    pub moment: Option<u64>,
+    /// How many had asked before.
+    pub turn: u64,
+}
+
 /// How far a connection is.
 #[derive(Clone, Copy, Debug, PartialEq, Eq)]
 pub enum Phase {
@@ -39,6 +50,8 @@ pub enum Phase {
     Answered,
     /// It is given events of the universe that it named, if any.
     Watching(Option<u16>),
+    /// It waits for a recording to be at a moment.
+    Waiting(Goal),
     /// It took all; what it still sends is passed over until it closes its end.
     Leaving,
     /// It is over.
@@ -143,6 +156,7 @@ impl<C: Connection> Viewer<C> {
                 known => known,
             },
             Phase::Answered => reading,
+            Phase::Waiting(_) => reading,
             _ => {
                 self.phase = Phase::Gone;
                 reading
@@ -176,6 +190,12 @@ impl<C: Connection> Viewer<C> {
         self.deadline = now.saturating_add(STALL_TIME);
         self.send(now);
         Ok(())
+    }
+
+    /// Lets it wait for a moment of a recording.
+    pub fn wait(&mut self, goal: Goal) {
+        self.phase = Phase::Waiting(goal);
+        self.deadline = u64::MAX;
     }
 
     /// Sends what the connection takes now.

@@ -66,7 +66,7 @@ fn viewer(alloc: Global, asks: &'static [u8], room: usize) -> Result<Viewer<Line
 fn a_request_comes_octet_by_octet(rt: HostRuntime) -> Result<(), Fail> {
     let asks = b"GET /state?universe=7 HTTP/1.1\r\nHost: 10.0.0.7:8080\r\n\r\n";
     let mut viewer = viewer(rt.alloc(), asks, 0)?;
-    assert!(rt; viewer.hear()? == Reading::Asked(Asked::State(Some(7))));
+    assert!(rt; viewer.hear()? == Reading::Asked(Asked::State(Some(7), None)));
     Ok(())
 }
 

@@ -1,0 +1,126 @@
+//! A recording that browsers see.
+use crate::ending::{Ending, REFUSED};
+use crate::explain::{ExplainAsked, ROOM, said_of_capture, unread};
+use crate::live::{clock_of, said_of_socket};
+use crate::page::say_page;
+use sacn_live::{SACN_PORT, guard_standard_descriptors};
+use sacn_page::{Pages, Quiet, Recording, SeekFault, Tape};
+use sacn_watch::{Listener, WatchFault, run_watch};
+use std::alloc::Global;
+use std::fs::{self, OpenFile};
+use std::io::{self, BufReader, ErrorKind, Seek, SeekFrom, Write};
+use std::net::{Net, SocketAddrV4};
+use std::rt::{Clock, Files};
+
+/// The steps in which a recording is read between two looks at standard input.
+const MOST_STEPS: usize = 65_536;
+
+/// An open file, read from its start as often as is wanted.
+#[derive(Drop)]
+struct FileTape<R: Files> {
+    alloc: Global,
+    file: R::File,
+}
+
+impl<R: Files> Tape for FileTape<R> {
+    type Reader = BufReader<R::File>;
+
+    fn rewind(&mut self) -> io::Result<BufReader<R::File>> {
+        let mut file = self.file.try_clone()?;
+        file.seek(SeekFrom::Start(0))?;
+        BufReader::with_capacity(self.alloc, ROOM, file)
+    }
+}
+
+// What a path ends with.
+fn name_of(path: &str) -> &str {
+    match path.rsplit_once('/') {
+        Some((_, name)) => name,
+        None => path,
+    }
+}
+
+/// Reads a recording to its end, and serves a page of it until a moment in milliseconds.
+pub fn serve<R: AllocGlobal + Files + Net + Clock, E: Write>(
+    rt: &R,
+    asked: &ExplainAsked<'_>,
+    place: SocketAddrV4,
+    err: &mut E,
+) -> Result<(), Ending> {
+    guard_standard_descriptors();
+    let Ok(file) = fs::open(rt, asked.capture) else {
+        return Err(unread(asked.capture, err));
+    };
+    let tape: FileTape<R> = FileTape {
+        alloc: rt.alloc(),
+        file,
+    };
+    let port = asked.port.unwrap_or(SACN_PORT);
+    let universe = asked.universes.first().copied();
+    let name = name_of(asked.capture);
+    match Recording::open(rt.alloc(), tape, name, port, universe) {
+        Ok(recording) => serve_recording(rt, asked, recording, place, err),
+        Err(fault) => Err(said_of_capture(asked.capture, fault, err)),
+    }
+}
+
+fn serve_recording<R: AllocGlobal + Files + Net + Clock, E: Write>(
+    rt: &R,
+    asked: &ExplainAsked<'_>,
+    mut recording: Recording<FileTape<R>>,
+    place: SocketAddrV4,
+    err: &mut E,
+) -> Result<(), Ending> {
+    let mut quiet = Quiet::new(clock_of(rt)?);
+    match read_all(&mut recording, &mut quiet) {
+        Ok(true) => {}
+        Ok(false) => return Ok(()),
+        Err(SeekFault::OutOfMemory) => return Err(Ending::OutOfMemory),
+        Err(SeekFault::Device) => return Err(unread(asked.capture, err)),
+    }
+    let fault = recording.fault();
+    let mut ending = Ok(());
+    if let Some(fault) = fault {
+        ending = Err(said_of_capture(asked.capture, fault, err));
+    }
+    serve_pages(rt, recording, &mut quiet, place, asked.until(), err)?;
+    ending
+}
+
+// Reads a recording to its end, and answers whether it came there before standard input ended.
+fn read_all<R: Files, L: Listener>(
+    recording: &mut Recording<FileTape<R>>,
+    listener: &mut L,
+) -> Result<bool, SeekFault> {
+    for _ in 0..u64::MAX {
+        if recording.read(MOST_STEPS)? {
+            return Ok(true);
+        }
+        if listener.has_ended() {
+            break;
+        }
+    }
+    Ok(false)
+}
+
+fn serve_pages<R: AllocGlobal + Files + Net + Clock, E: Write>(
+    rt: &R,
+    recording: Recording<FileTape<R>>,
+    quiet: &mut Quiet<'_, R>,
+    place: SocketAddrV4,
+    until: u64,
+    err: &mut E,
+) -> Result<(), Ending> {
+    let mut pages = match Pages::bind(rt, rt.alloc(), place, recording) {
+        Ok(pages) => pages,
+        Err(ErrorKind::OutOfMemory) => return Err(Ending::OutOfMemory),
+        Err(kind) => return Err(said_of_socket(place, kind, err)),
+    };
+    quiet.wait_for(pages.descriptor());
+    say_page(place, err);
+    match run_watch(quiet, &mut pages, until) {
+        Ok(()) => Ok(()),
+        Err(WatchFault::OutOfMemory) => Err(Ending::OutOfMemory),
+        Err(WatchFault::Device) => Err(Ending::DeviceWrite),
+    }
+}

@@ -1,0 +1,214 @@
+//! What each request is answered.
+
+use crate::board::Board;
+use crate::document::{Extent, Given, push_document, push_facts};
+use crate::markup::{Subject, page};
+use crate::request::{Asked, Refusal};
+use crate::response::{Kind, opened, push_event, refused, whole};
+use crate::scene::Scene;
+use crate::viewer::{Connection, Goal, Phase, Viewer};
+use std::alloc::{AllocError, Global};
+
+/// When something was asked.
+#[derive(Clone, Copy, Debug)]
+pub struct Question {
+    /// How many had asked before.
+    pub turn: u64,
+    /// The moment, in milliseconds.
+    pub now: u64,
+}
+
+/// Refuses a viewer's request.
+///
+/// Errors: OutOfMemory.
+pub fn refuse<C: Connection + Drop>(
+    alloc: Global,
+    viewer: &mut Viewer<C>,
+    refusal: Refusal,
+    now: u64,
+) -> Result<(), AllocError> {
+    let text = refused(alloc, refusal)?;
+    viewer.give(text.as_str(), Phase::Answered, now)
+}
+
+// Gives a viewer its answer.
+fn give<C: Connection + Drop>(
+    alloc: Global,
+    viewer: &mut Viewer<C>,
+    kind: Kind,
+    body: &str,
+    now: u64,
+) -> Result<(), AllocError> {
+    let text = whole(alloc, kind, body)?;
+    viewer.give(text.as_str(), Phase::Answered, now)
+}
+
+/// Answers a viewer that asks for this; one that asks for a moment of a recording waits.
+///
+/// Errors: OutOfMemory.
+pub fn answer<C: Connection + Drop, S: Scene + Drop>(
+    alloc: Global,
+    scene: &mut S,
+    viewer: &mut Viewer<C>,
+    asked: Asked,
+    watched: &[u16],
+    question: Question,
+) -> Result<(), AllocError> {
+    if scene.facts().is_some() {
+        return answer_of_recording(alloc, scene, viewer, asked, question);
+    }
+    let now = question.now;
+    match asked {
+        Asked::Page => {
+            let body = page(alloc, Subject::Network)?;
+            give(alloc, viewer, Kind::Page, body.as_str(), now)
+        }
+        Asked::State(named, None) => show_state(alloc, scene, viewer, named, watched, now),
+        Asked::State(_, Some(_)) => refuse(alloc, viewer, Refusal::Moment, now),
+        Asked::Events(named) => begin_events(alloc, scene, viewer, named, watched, now),
+        Asked::Recording => refuse(alloc, viewer, Refusal::Missing, now),
+    }
+}
+
+fn answer_of_recording<C: Connection + Drop, S: Scene + Drop>(
+    alloc: Global,
+    scene: &S,
+    viewer: &mut Viewer<C>,
+    asked: Asked,
+    question: Question,
+) -> Result<(), AllocError> {
+    let now = question.now;
+    match asked {
+        Asked::Page => {
+            let body = page(alloc, Subject::Recording)?;
+            give(alloc, viewer, Kind::Page, body.as_str(), now)
+        }
+        Asked::State(universe, moment) => {
+            viewer.wait(Goal {
+                universe,
+                moment,
+                turn: question.turn,
+            });
+            Ok(())
+        }
+        Asked::Events(_) => refuse(alloc, viewer, Refusal::Missing, now),
+        Asked::Recording => {
+            let mut body = String::new(alloc);
+            if let Some(facts) = scene.facts() {
+                push_facts(&mut body, facts)?;
+            }
+            give(alloc, viewer, Kind::Json, body.as_str(), now)
+        }
+    }
+}
+
+// The document of a network.
+fn show_state<C: Connection + Drop, S: Scene + Drop>(
+    alloc: Global,
+    scene: &mut S,
+    viewer: &mut Viewer<C>,
+    named: Option<u16>,
+    watched: &[u16],
+    now: u64,
+) -> Result<(), AllocError> {
+    if !prepare(scene, named, watched, now)? {
+        return refuse(alloc, viewer, Refusal::Busy, now);
+    }
+    show_moment(alloc, scene, viewer, named, now)
+}
+
+/// Gives a viewer that names this universe, or none, the document of what is known.
+///
+/// Errors: OutOfMemory.
+pub fn show_moment<C: Connection + Drop, S: Scene + Drop>(
+    alloc: Global,
+    scene: &S,
+    viewer: &mut Viewer<C>,
+    named: Option<u16>,
+    now: u64,
+) -> Result<(), AllocError> {
+    let mut document = String::new(alloc);
+    let mut given = Given::nothing(alloc);
+    push_document(
+        &mut document,
+        scene.facts(),
+        scene.board(),
+        named,
+        &mut given,
+        Extent::Whole,
+    )?;
+    give(alloc, viewer, Kind::Json, document.as_str(), now)
+}
+
+// The document of a network, and then what changes in it.
+fn begin_events<C: Connection + Drop, S: Scene + Drop>(
+    alloc: Global,
+    scene: &mut S,
+    viewer: &mut Viewer<C>,
+    named: Option<u16>,
+    watched: &[u16],
+    now: u64,
+) -> Result<(), AllocError> {
+    if !prepare(scene, named, watched, now)? {
+        return refuse(alloc, viewer, Refusal::Busy, now);
+    }
+    let mut document = String::new(alloc);
+    let mut given = Given::nothing(alloc);
+    push_document(
+        &mut document,
+        None,
+        scene.board(),
+        named,
+        &mut given,
+        Extent::Whole,
+    )?;
+    viewer.given = given;
+    let mut text = opened(alloc)?;
+    push_event(&mut text, "state", document.as_str())?;
+    viewer.give(text.as_str(), Phase::Watching(named), now)
+}
+
+// Merges the universe that is named, or the first, and answers whether there is room for it.
+fn prepare<S: Scene + Drop>(
+    scene: &mut S,
+    named: Option<u16>,
+    watched: &[u16],
+    now: u64,
+) -> Result<bool, AllocError> {
+    let Some(universe) = scene.board().chosen(named) else {
+        return Ok(true);
+    };
+    if !scene.open(universe, watched)? {
+        return Ok(false);
+    }
+    scene.refresh(now, &[universe]);
+    Ok(true)
+}
+
+/// Gives a viewer what changed since it was given something, if anything did or it is to be given an event all the same.
+///
+/// Errors: OutOfMemory.
+pub fn push_change<C: Connection + Drop>(
+    alloc: Global,
+    board: &Board,
+    viewer: &mut Viewer<C>,
+    named: Option<u16>,
+    is_beat: bool,
+    now: u64,
+) -> Result<(), AllocError> {
+    let mut document = String::new(alloc);
+    let is_more = push_document(
+        &mut document,
+        None,
+        board,
+        named,
+        &mut viewer.given,
+        Extent::Changes,
+    )?;
+    if !(is_more | is_beat) {
+        return Ok(());
+    }
+    let mut text = String::new(alloc);
+    push_event(&mut text, "change", document.as_str())?;
+    viewer.give(text.as_str(), Phase::Watching(named), now)
+}

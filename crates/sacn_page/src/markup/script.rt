@@ -1,0 +1,285 @@
+//! The script of the page.
+
+/// What it does for a network and for a recording, and how it hears a network. It asks its own server alone, and shows foreign texts as
+/// text alone.
+pub const SCRIPT: &str = r##"<script>
+'use strict';
+// What the program tells, kept as it came: a whole `state`, then `change`s of members. Foreign texts go into text nodes alone.
+const SLOTS = 512, MINUTE = 60000, SILENCE = 3000, COLOURS = 8;
+const isRecording = document.documentElement.dataset.shows === 'recording';
+const part = (id) => document.getElementById(id);
+const known = { ms: 0, universe: null, heard: [], sources: new Map(), levels: new Uint8Array(SLOTS), winners: new Uint16Array(SLOTS), alarms: [], counts: {} };
+const asked = new URLSearchParams(location.hash.slice(1));
+let past = [];
+let slot = bounded(Number(asked.get('slot')) || 1, 1, SLOTS);
+let inPercent = false;
+let events = null;
+let heardAt = -Infinity;
+
+function bounded(n, low, high) { return Math.min(high, Math.max(low, n)); }
+function now() { return known.ms + (performance.now() - heardAt); }
+function hex(text, digits, into) { for (let i = 0; i < into.length; i++) into[i] = parseInt(text.substr(i * digits, digits), 16); }
+function put(element, text) { if (element.textContent !== text) element.textContent = text; }
+function add(parent, name, text, kind) {
+  const element = document.createElement(name);
+  if (text !== undefined) element.textContent = text;
+  if (kind) element.className = kind;
+  parent.append(element);
+  return element;
+}
+
+// Sources of one universe in the order of their appearance: their places there give letters and colours.
+function sourcesOf(universe) { return [...known.sources.values()].filter((s) => s.universe === universe).sort((a, b) => a.place - b.place); }
+function rankOf(source) { return sourcesOf(source.universe).findIndex((s) => s.place === source.place); }
+function letterOf(rank) {
+  let letters = '';
+  for (let n = rank; n >= 0; n = Math.floor(n / 26) - 1) letters = String.fromCharCode(65 + n % 26) + letters;
+  return letters;
+}
+function colourOf(rank) { return `var(--s${rank % COLOURS})`; }
+// Those that a node follows: of the live ones, the ones of the highest priority.
+function winnersOf(universe) {
+  const live = sourcesOf(universe).filter((s) => s.state === 'live');
+  const top = Math.max(...live.map((s) => s.priority));
+  return live.filter((s) => s.priority === top);
+}
+
+function takeDocument(told) {
+  known.ms = told.ms;
+  heardAt = performance.now();
+  for (const member of ['universe', 'heard', 'counts']) if (told[member] !== undefined) known[member] = told[member];
+  for (const source of told.sources || []) known.sources.set(source.place, source);
+  if (told.levels !== undefined) {
+    hex(told.levels, 2, known.levels);
+    past.push({ ms: told.ms, levels: known.levels.slice() });
+    while (past.length > 1 && past[1].ms < told.ms - MINUTE) past.shift();
+  }
+  if (told.winners !== undefined) hex(told.winners, 4, known.winners);
+  for (const alarm of told.alarms || []) known.alarms.push(alarm);
+  known.alarms = known.alarms.slice(-32);
+}
+
+function open(universe) {
+  if (isRecording) return look(universe);
+  if (events) events.close();
+  past = [];
+  events = new EventSource('/events' + (universe === null ? '' : `?universe=${universe}`));
+  events.addEventListener('state', (event) => {
+    known.sources.clear();
+    known.alarms = [];
+    takeDocument(JSON.parse(event.data));
+    showAll();
+  });
+  events.addEventListener('change', (event) => {
+    const told = JSON.parse(event.data);
+    takeDocument(told);
+    if (told.sources || told.heard) { showUniverses(); showSources(); }
+    if (told.levels !== undefined || told.winners !== undefined || told.sources) showLevels();
+    if (told.alarms) showAlarms();
+    showCounts();
+  });
+}
+
+function showAll() { showUniverses(); showLevels(); showSources(); showAlarms(); showCounts(); showGraph(); }
+
+function showCounts() {
+  const { datagrams = 0, refused = 0 } = known.counts;
+  const live = [...known.sources.values()].filter((s) => s.state === 'live').length;
+  put(part('counts'), `${live} of ${known.sources.size} sources live, ${datagrams.toLocaleString()} datagrams` + (refused ? `, ${refused.toLocaleString()} refused` : ''));
+  document.title = (known.universe === null ? '' : `universe ${known.universe} - `) + (isRecording ? `${film.name} - sacn explain` : 'sacn watch');
+}
+
+const universeButtons = new Map();
+function showUniverses() {
+  part('no-universes').hidden = known.heard.length > 0;
+  for (const [universe, item] of universeButtons) if (!known.heard.includes(universe)) { item.remove(); universeButtons.delete(universe); }
+  for (const universe of known.heard) {
+    if (!universeButtons.has(universe)) {
+      const item = document.createElement('li'), button = add(item, 'button');
+      button.type = 'button';
+      add(button, 'b', String(universe));
+      add(button, 'span');
+      button.addEventListener('click', () => { remember(universe); open(universe); });
+      universeButtons.set(universe, item);
+      const after = known.heard.find((u) => u > universe && universeButtons.has(u));
+      part('universes').insertBefore(item, after === undefined ? null : universeButtons.get(after));
+    }
+    const button = universeButtons.get(universe).firstChild, winners = winnersOf(universe);
+    put(button.lastChild, winners.length ? winners.map((s) => s.name || 'no name').join(', ') : 'nobody');
+    button.setAttribute('aria-current', String(universe === known.universe));
+    button.setAttribute('aria-label', `Universe ${universe}, followed: ${button.lastChild.textContent}`);
+  }
+}
+
+const cells = [];
+function makeGrid() {
+  for (let i = 0; i < SLOTS; i++) {
+    const cell = add(part('grid'), 'div', undefined, 'slot dark');
+    cell.id = `slot-${i + 1}`;
+    cell.setAttribute('role', 'option');
+    cells.push({ cell, bar: add(cell, 'i'), number: add(cell, 'small', String(i + 1)), letter: add(cell, 'em'), value: add(cell, 'b', '0'), level: -1, winner: -1 });
+    cell.addEventListener('click', () => choose(i + 1));
+  }
+}
+function shownLevel(level) { return inPercent ? String(Math.round(level * 100 / 255)) : String(level); }
+function showLevels() {
+  const ranks = new Map(sourcesOf(known.universe).map((source, rank) => [source.place + 1, { rank, source }]));
+  put(part('levels-of'), known.universe === null ? '' : `of universe ${known.universe}`);
+  for (let i = 0; i < SLOTS; i++) {
+    const level = known.levels[i], winner = known.winners[i], at = cells[i], given = ranks.get(winner);
+    const key = given ? given.rank : -1;
+    if (at.level === level && at.winner === key) continue;
+    at.level = level;
+    at.winner = key;
+    at.cell.style.setProperty('--level', String(level * 100 / 255));
+    at.cell.style.setProperty('--colour', given ? colourOf(given.rank) : 'var(--none)');
+    at.cell.classList.toggle('dark', level === 0);
+    put(at.letter, given ? letterOf(given.rank) : '');
+    put(at.value, shownLevel(level));
+    at.cell.setAttribute('aria-label', `Slot ${i + 1}: ${level}` + (given ? `, by ${given.source.name || 'a source without a name'}` : ''));
+  }
+  showSlot();
+}
+
+function choose(number) {
+  slot = bounded(number, 1, SLOTS);
+  remember(known.universe);
+  showSlot();
+  showGraph();
+}
+function remember(universe) {
+  const hash = new URLSearchParams();
+  if (universe !== null) hash.set('universe', String(universe));
+  hash.set('slot', String(slot));
+  if (isRecording) hash.set('at', String(film.at));
+  history.replaceState(null, '', '#' + hash);
+}
+let selected = null;
+function showSlot() {
+  const cell = cells[slot - 1].cell;
+  if (selected !== cell) {
+    if (selected) selected.setAttribute('aria-selected', 'false');
+    cell.setAttribute('aria-selected', 'true');
+    selected = cell;
+    part('grid').setAttribute('aria-activedescendant', cell.id);
+  }
+  const level = known.levels[slot - 1];
+  put(part('slot-number'), String(slot));
+  put(part('slot-level'), `${level} of 255, ${Math.round(level * 100 / 255)} %`);
+}
+function columns() {
+  const top = cells[0].cell.offsetTop;
+  const next = cells.findIndex((at) => at.cell.offsetTop > top);
+  return next < 0 ? SLOTS : next;
+}
+part('grid').addEventListener('keydown', (event) => {
+  const row = columns();
+  const steps = { ArrowLeft: -1, ArrowRight: 1, ArrowUp: -row, ArrowDown: row, PageUp: -4 * row, PageDown: 4 * row, Home: -SLOTS, End: SLOTS };
+  if (steps[event.key] === undefined || event.ctrlKey || event.altKey || event.metaKey) return;
+  event.preventDefault();
+  choose(slot + steps[event.key]);
+  cells[slot - 1].cell.scrollIntoView({ block: 'nearest' });
+});
+part('unit').addEventListener('click', () => {
+  inPercent = !inPercent;
+  part('unit').setAttribute('aria-pressed', String(inPercent));
+  for (const at of cells) put(at.value, shownLevel(at.level < 0 ? 0 : at.level));
+});
+
+// The chosen slot's level over the last minute, the newest at the right: a level stands until the next one.
+function showGraph() {
+  if (isRecording) return;
+  const canvas = part('graph'), scale = window.devicePixelRatio || 1;
+  const width = canvas.clientWidth, height = canvas.clientHeight;
+  if (canvas.width !== Math.round(width * scale) || canvas.height !== Math.round(height * scale)) {
+    canvas.width = Math.round(width * scale);
+    canvas.height = Math.round(height * scale);
+  }
+  const style = getComputedStyle(document.documentElement), pen = canvas.getContext('2d'), end = heardAt === -Infinity ? 0 : now();
+  const x = (ms) => width * (1 - (end - ms) / MINUTE), y = (level) => 4 + (height - 8) * (1 - level / 255);
+  pen.setTransform(scale, 0, 0, scale, 0, 0);
+  pen.clearRect(0, 0, width, height);
+  pen.strokeStyle = style.getPropertyValue('--line');
+  pen.fillStyle = style.getPropertyValue('--dim');
+  pen.font = '11px system-ui, sans-serif';
+  pen.lineWidth = 1;
+  for (let back = 0; back <= 60; back += 15) {
+    pen.beginPath();
+    pen.moveTo(x(end - back * 1000), 0);
+    pen.lineTo(x(end - back * 1000), height);
+    pen.stroke();
+    if (back && back < 60) pen.fillText(`-${back} s`, x(end - back * 1000) + 3, height - 4);
+  }
+  if (!past.length) return;
+  const rank = cells[slot - 1].winner;
+  pen.strokeStyle = style.getPropertyValue(rank < 0 ? '--dim' : `--s${rank % COLOURS}`);
+  pen.lineWidth = 2;
+  pen.beginPath();
+  past.forEach((at, i) => {
+    const level = at.levels[slot - 1];
+    if (i === 0) pen.moveTo(x(at.ms), y(level)); else pen.lineTo(x(at.ms), y(level));
+    pen.lineTo(x(i + 1 < past.length ? past[i + 1].ms : end), y(level));
+  });
+  pen.stroke();
+  canvas.setAttribute('aria-label', `The level of slot ${slot} over the last minute: now ${known.levels[slot - 1]} of 255`);
+}
+
+const sourceRows = new Map();
+function showSources() {
+  const sources = [...known.sources.values()].sort((a, b) => a.universe - b.universe || a.place - b.place);
+  for (const [place, row] of sourceRows) if (!known.sources.has(place)) { row.remove(); sourceRows.delete(place); }
+  let before = null;
+  for (const source of sources) {
+    if (!sourceRows.has(source.place)) {
+      const row = document.createElement('tr');
+      const first = add(row, 'th');
+      first.scope = 'row';
+      add(first, 'span', '', 'letter');
+      for (const kind of ['number', 'state', 'number', 'number', 'number', 'number', 'number', '', 'name', '']) add(row, 'td', '', kind);
+      sourceRows.set(source.place, row);
+    }
+    const row = sourceRows.get(source.place), rank = rankOf(source);
+    const texts = [source.universe, source.state, source.priority, source.state === 'live' ? source.last_second : 0, source.skipped, source.late, source.gap,
+      `${source.address}:${source.port}`, source.name, source.cid];
+    put(row.firstChild.firstChild, letterOf(rank));
+    row.firstChild.firstChild.style.setProperty('--colour', source.state === 'live' ? colourOf(rank) : 'var(--none)');
+    texts.forEach((text, i) => put(row.children[i + 1], String(text)));
+    row.children[9].title = source.name;
+    row.children[5].classList.toggle('over', source.skipped > 0);
+    row.children[6].classList.toggle('over', source.late > 0);
+    row.classList.toggle('gone', source.state !== 'live');
+    if ((before ? before.nextSibling : part('sources').firstChild) !== row) part('sources').insertBefore(row, before ? before.nextSibling : part('sources').firstChild);
+    before = row;
+  }
+}
+
+const clock = new Intl.DateTimeFormat(undefined, { hour: '2-digit', minute: '2-digit', second: '2-digit' });
+let shownAlarms = [];
+function showAlarms() {
+  if (isRecording) return;
+  part('no-alarms').hidden = known.alarms.length > 0;
+  const same = (a, b) => a.ms === b.ms && a.kind === b.kind && a.text === b.text;
+  const list = part('alarms');
+  const fresh = known.alarms.filter((alarm) => !shownAlarms.some((shown) => same(shown, alarm)));
+  if (fresh.length === known.alarms.length) list.replaceChildren();
+  for (const alarm of fresh) {
+    const item = document.createElement('li'), at = add(item, 'time', clock.format(new Date(Date.now() - (now() - alarm.ms))));
+    at.title = `${(alarm.ms / 1000).toFixed(1)} s after the watch began`;
+    item.append(alarm.text);
+    list.prepend(item);
+  }
+  while (list.children.length > known.alarms.length) list.lastChild.remove();
+  shownAlarms = known.alarms.slice();
+}
+
+// Levels that may have changed since aren't shown as if they stood: the whole page goes grey, and a banner says why.
+function showConnection() {
+  const silent = performance.now() - heardAt > SILENCE;
+  const lost = events.readyState !== EventSource.OPEN || silent;
+  const banner = part('banner'), text = heardAt === -Infinity ? 'Waiting for the program.' : 'The connection to the program is lost: what is shown is old. Trying again.';
+  document.body.classList.toggle('stale', lost);
+  if (lost) put(banner, text);
+  banner.hidden = !lost;
+  if (events.readyState === EventSource.CLOSED) open(known.universe);
+}
+"##;

@@ -1,0 +1,197 @@
+//! A recording that viewers look at, each at the moment that it chooses.
+
+use crate::board::Board;
+use crate::replay::Replay;
+use crate::scene::{Facts, Scene, SeekFault};
+use sacn_capture::{CaptureFault, FaultKind};
+use sacn_monitor::Sender;
+use std::alloc::{AllocError, Global};
+use std::io::{self, BufRead, ErrorKind};
+
+/// The most alarms of a recording that are kept: the latest up to a moment.
+pub const MOST_MARKS: usize = 256;
+
+/// Where the octets of a recording are, to be read as often as is wanted.
+pub trait Tape {
+    type Reader: BufRead + Drop;
+
+    /// A reader of all its octets. One that was given before isn't read any more.
+    ///
+    /// Errors: those of the device.
+    fn rewind(&mut self) -> io::Result<Self::Reader>;
+}
+
+/// A recording, at the moment that was asked for last. It is read on to a later moment, and anew from its start to an earlier one; no
+/// list of its packets is kept.
+#[derive(Drop)]
+pub struct Recording<T: Tape + Drop> {
+    alloc: Global,
+    tape: T,
+    port: u16,
+    /// The universe of a viewer that names none, where that isn't the first heard.
+    preferred: Option<u16>,
+    facts: Facts,
+    replay: Replay<T::Reader>,
+    /// The replay failed.
+    is_broken: bool,
+}
+
+impl<T: Tape + Drop> Recording<T> {
+    /// A recording of this name, of which nothing is read but its first header. Datagrams to this UDP port are followed; a viewer
+    /// that names no universe is shown the preferred one, else the first heard.
+    ///
+    /// Errors: what is wrong with its first header, or with its reader; OutOfMemory.
+    pub fn open(
+        alloc: Global,
+        tape: T,
+        name: &str,
+        port: u16,
+        preferred: Option<u16>,
+    ) -> Result<Self, CaptureFault> {
+        let mut tape = tape;
+        let replay = begun(alloc, &mut tape, port, preferred, None)?;
+        let Ok(name) = String::from_str(alloc, name) else {
+            return Err(at_start(FaultKind::OutOfMemory));
+        };
+        let facts = Facts {
+            name,
+            length: 0,
+            fault: None,
+        };
+        Ok(Recording {
+            alloc,
+            tape,
+            port,
+            preferred,
+            facts,
+            replay,
+            is_broken: false,
+        })
+    }
+
+    /// Reads on towards its end in at most so many steps, and answers whether it is there: then its length is known, and what is
+    /// wrong with it.
+    ///
+    /// Errors: OutOfMemory; Device where its reader fails.
+    pub fn read(&mut self, steps: usize) -> Result<bool, SeekFault> {
+        if !self.replay.advance(u64::MAX, steps)? {
+            return Ok(false);
+        }
+        self.facts.length = self.replay.shown();
+        self.facts.fault = self.replay.fault();
+        Ok(true)
+    }
+
+    /// What is wrong with it, once it was read to there.
+    pub fn fault(&self) -> Option<CaptureFault> {
+        self.facts.fault
+    }
+
+    // Whether it can be read on to this moment with this universe merged.
+    fn reaches(&self, universe: Option<u16>, moment: u64) -> bool {
+        let is_merged = match universe {
+            Some(universe) => self.replay.board().lit(universe).is_some(),
+            None => true,
+        };
+        !self.is_broken & is_merged & (self.replay.shown() <= moment)
+    }
+}
+
+// A fault that no octet tells.
+fn at_start(kind: FaultKind) -> CaptureFault {
+    CaptureFault { at: 0, kind }
+}
+
+// A recording from its start, with this universe merged from there on.
+fn begun<T: Tape>(
+    alloc: Global,
+    tape: &mut T,
+    port: u16,
+    preferred: Option<u16>,
+    universe: Option<u16>,
+) -> Result<Replay<T::Reader>, CaptureFault> {
+    let reader = match tape.rewind() {
+        Ok(reader) => reader,
+        Err(error) if error.kind() == ErrorKind::OutOfMemory => {
+            return Err(at_start(FaultKind::OutOfMemory));
+        }
+        Err(_) => return Err(at_start(FaultKind::Device)),
+    };
+    match board_of(alloc, preferred, universe) {
+        Ok(board) => Replay::open(alloc, reader, port, board),
+        Err(_) => Err(at_start(FaultKind::OutOfMemory)),
+    }
+}
+
+// Nothing heard; these universes are merged.
+fn board_of(
+    alloc: Global,
+    preferred: Option<u16>,
+    universe: Option<u16>,
+) -> Result<Board, AllocError> {
+    let mut board = Board::new(alloc, preferred, MOST_MARKS)?;
+    if let Some(preferred) = preferred {
+        board.open(preferred, &[])?;
+    }
+    if let Some(universe) = universe {
+        board.open(universe, &[])?;
+    }
+    Ok(board)
+}
+
+impl<T: Tape + Drop> Scene for Recording<T> {
+    fn take(&mut self, _now: u64, _sender: Sender, _octets: &[u8]) -> Result<(), AllocError> {
+        Ok(())
+    }
+
+    fn tick(&mut self, _now: u64) -> Result<bool, AllocError> {
+        Ok(false)
+    }
+
+    fn next_change(&self) -> u64 {
+        u64::MAX
+    }
+
+    fn board(&self) -> &Board {
+        self.replay.board()
+    }
+
+    fn open(&mut self, _number: u16, _watched: &[u16]) -> Result<bool, AllocError> {
+        Ok(false)
+    }
+
+    fn refresh(&mut self, _now: u64, _watched: &[u16]) {}
+
+    fn facts(&self) -> Option<&Facts> {
+        Some(&self.facts)
+    }
+
+    fn seek(
+        &mut self,
+        universe: Option<u16>,
+        moment: Option<u64>,
+        steps: usize,
+    ) -> Result<bool, SeekFault> {
+        let until = moment.unwrap_or(u64::MAX).min(self.facts.length);
+        if !self.reaches(universe, until) {
+            self.is_broken = true;
+            let tape = &mut self.tape;
+            match begun(self.alloc, tape, self.port, self.preferred, universe) {
+                Ok(replay) => self.replay = replay,
+                Err(fault) if fault.kind == FaultKind::OutOfMemory => {
+                    return Err(SeekFault::OutOfMemory);
+                }
+                Err(_) => return Err(SeekFault::Device),
+            }
+        }
+        self.is_broken = true;
+        let is_there = self.replay.advance(until, steps)?;
+        self.is_broken = false;
+        if is_there {
+            if let Some(universe) = self.replay.board().chosen(universe) {
+                self.replay.refresh(universe);
+            }
+        }
+        Ok(is_there)
+    }
+}

@@ -1,0 +1,116 @@
+//! What viewers look at.
+
+use crate::board::Board;
+use sacn_capture::CaptureFault;
+use sacn_monitor::Sender;
+use std::alloc::AllocError;
+use thiserror::Error;
+
+/// What is known of a recording as a whole.
+#[derive(Drop)]
+pub struct Facts {
+    /// What it is called.
+    pub name: String,
+    /// The moment of its last frame, in milliseconds from the first.
+    pub length: u64,
+    /// What is wrong with it, and where. What is before that is shown.
+    pub fault: Option<CaptureFault>,
+}
+
+/// Why a moment of a recording can't be shown.
+#[derive(Clone, Copy, Debug, Drop, PartialEq, Eq, Error)]
+pub enum SeekFault {
+    /// A growth was refused.
+    #[error("there isn't enough memory")]
+    OutOfMemory,
+    /// The recording can't be read any more.
+    #[error("the recording can't be read")]
+    Device,
+}
+
+impl From<AllocError> for SeekFault {
+    fn from(_fault: AllocError) -> Self {
+        SeekFault::OutOfMemory
+    }
+}
+
+/// What viewers look at: a network as it is heard, or a recording at the moment that a viewer chooses. Moments are milliseconds.
+pub trait Scene {
+    /// Takes a datagram that was heard.
+    ///
+    /// Errors: OutOfMemory.
+    fn take(&mut self, now: u64, sender: Sender, octets: &[u8]) -> Result<(), AllocError>;
+
+    /// Moves the clock, and answers whether a source was lost.
+    ///
+    /// Errors: OutOfMemory.
+    fn tick(&mut self, now: u64) -> Result<bool, AllocError>;
+
+    /// The next moment at which something changes, where nothing is heard; `u64::MAX` where there is none.
+    fn next_change(&self) -> u64;
+
+    /// What is known.
+    fn board(&self) -> &Board;
+
+    /// Sees to it that a universe is merged from now on, and answers whether there is room for it beside those that are looked at.
+    ///
+    /// Errors: OutOfMemory.
+    fn open(&mut self, number: u16, watched: &[u16]) -> Result<bool, AllocError>;
+
+    /// Merges anew the universes that are looked at.
+    fn refresh(&mut self, now: u64, watched: &[u16]);
+
+    /// What is known of the recording as a whole, where it is one.
+    fn facts(&self) -> Option<&Facts>;
+
+    /// Moves a recording towards a moment, or to its end where none is named, in at most so many steps. Answers whether it is
+    /// there; then the board is as at that moment, and the universe that is named, or chosen where none is, is merged.
+    ///
+    /// Errors: OutOfMemory; Device where the recording can't be read. The next call begins at its start.
+    fn seek(
+        &mut self,
+        universe: Option<u16>,
+        moment: Option<u64>,
+        steps: usize,
+    ) -> Result<bool, SeekFault>;
+}
+
+/// A network as it is heard.
+impl Scene for Board {
+    fn take(&mut self, now: u64, sender: Sender, octets: &[u8]) -> Result<(), AllocError> {
+        self.take(now, sender, octets)
+    }
+
+    fn tick(&mut self, now: u64) -> Result<bool, AllocError> {
+        self.tick(now)
+    }
+
+    fn next_change(&self) -> u64 {
+        self.monitor().next_loss()
+    }
+
+    fn board(&self) -> &Board {
+        self
+    }
+
+    fn open(&mut self, number: u16, watched: &[u16]) -> Result<bool, AllocError> {
+        self.open(number, watched)
+    }
+
+    fn refresh(&mut self, now: u64, watched: &[u16]) {
+        self.refresh(now, watched);
+    }
+
+    fn facts(&self) -> Option<&Facts> {
+        None
+    }
+
+    fn seek(
+        &mut self,
+        _universe: Option<u16>,
+        _moment: Option<u64>,
+        _steps: usize,
+    ) -> Result<bool, SeekFault> {
+        Err(SeekFault::Device)
+    }
+}

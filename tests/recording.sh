@@ -1,0 +1,264 @@
+#!/usr/bin/env bash
+# The page of a recording, asked with curl: states at moments of OLA's recording and of one written here octet by octet, whose values are worked out by hand
+# from the packets; refusals, a faulty recording, viewers at different moments, and a long recording. Prints 'ok NAME', 'not ok NAME: why' or
+# 'skipped NAME: why' for each, as ./test counts them.
+set -u
+top=$(cd "$(dirname "$(readlink -f "$0")")/.." && pwd)
+sacn=${SACN:-$top/crates/sacn/out/sacn}
+if [ ! -x "$sacn" ]; then
+  echo "skipped recording: sacn isn't built"
+  exit 0
+fi
+for tool in curl python3; do
+  if ! command -v "$tool" >/dev/null; then
+    echo "skipped recording: there is no $tool"
+    exit 0
+  fi
+done
+room=$(mktemp -d)
+started=()
+cleanup() {
+  for pid in "${started[@]:-}"; do [ -z "$pid" ] || kill "$pid" 2>/dev/null; done
+  rm -rf "$room"
+}
+trap cleanup EXIT
+cd "$room" || exit 1
+tcp=25851
+at=http://127.0.0.1:$tcp
+ola=$top/examples/ola.pcap
+
+# verdict NAME STATUS [WHY]: says whether a look went well
+verdict() { if [ "$2" = 0 ]; then echo "ok recording: $1"; else echo "not ok recording: $1: ${3-}"; fi; }
+
+# refused STATUS WANTED WORD..: a run ends so, and prints nothing
+refused() {
+  local wanted=$1 said=$2 status=0 first
+  shift 2
+  timeout 20 "$sacn" explain "$@" </dev/null >out 2>err || status=$?
+  first=$(head -n 1 err)
+  # shellcheck disable=SC2053
+  [ "$status" = "$wanted" ] && [[ $first == $said ]] && [ ! -s out ]
+  verdict "explain $(head -c 60 <<<"$*")" $? "status $status, '$first'"
+}
+refused 4 "device read absent" absent --page $tcp
+refused 4 "device read $room" "$room" --page $tcp
+refused 4 "device socket 192.0.2.1:$tcp AddrNotAvailable" "$ola" --page 192.0.2.1:$tcp
+printf 'a text, and no recording at all' >plain
+refused 3 "refused plain octet 0 NotACapture" plain --page $tcp
+mkfifo pipe
+cat "$ola" >pipe &
+refused 4 "device read pipe" pipe --page $tcp
+
+# serves WORD..: a recording whose page is served, until the script ends it
+serves() {
+  "$sacn" explain "$@" --page $tcp </dev/null >page.out 2>page.err &
+  page=$!
+  started+=("$page")
+  for _ in $(seq 300); do grep -q '^page' page.err && return; sleep 0.1; done
+  echo "not ok recording: it serves none: $(head -n 1 page.err)"
+  exit 1
+}
+# ends: the program that serves is ended
+ends() {
+  kill "$page"
+  wait "$page" 2>/dev/null
+}
+
+# answers NAME STATUS WORD..: curl is answered so; the answer is in body
+answers() {
+  local name=$1 wanted=$2 status
+  shift 2
+  status=$(curl -s -m 30 -o body -w '%{http_code}' "$@")
+  [ "$status" = "$wanted" ]
+  verdict "$name" $? "$status $(head -c 100 body)"
+}
+
+# has NAME PART..: the latest answer has each part
+has() {
+  local name=$1 part
+  shift
+  for part in "$@"; do
+    if ! grep -qF -- "$part" body; then
+      verdict "$name" 1 "no $part in $(sed 's/"\(levels\|winners\)":"[^"]*"/"\1":../g' body | head -c 700)"
+      return
+    fi
+  done
+  verdict "$name" 0
+}
+zeros() { printf "%0$1d" 0; }
+
+# What OLA sent: packets at 0, 326 and 868 ms with the slots ff 80 00 07, 09 08 and 01 02 03, three terminations at 2412 ms, and at 5970 ms a page of a
+# draft, which is refused (the moments and octets are read off the file; a source is followed for 2500 ms after its latest packet).
+serves "$ola"
+[ "$(cat page.err)" = "page http://127.0.0.1:$tcp/" ] && [ ! -s page.out ]
+verdict "where it serves" $? "$(cat page.err)"
+answers "the page" 200 $at/
+has "the page is that of a recording" '<html lang="en" data-shows="recording">' 'id="time" type="range"'
+[ "$(wc -c <body)" -lt 61440 ]
+verdict "the page is under 60 KB" $? "$(wc -c <body)"
+answers "the first packet" 200 "$at/state?at=0"
+source='"sources":[{"place":0,"universe":1,"cid":"0102030405060708090a0b0c0d0e0f10","name":"OLA Server","address":"10.77.0.1","port":5568,'
+has "the state at the first packet" '{"ms":0,"recording":{"name":"ola.pcap","length":5970,"fault":null},"universe":1,"heard":[1],' \
+  "$source\"state\":\"live\",\"priority\":100,\"first\":0,\"last\":0,\"live\":1," "\"levels\":\"ff800007$(zeros 1016)\"" "\"winners\":\"0001000100000001$(zeros 2032)\"" \
+  '"alarms":[],"counts":{"datagrams":1,"refused":0,"pages":0,"untracked":0}}'
+for moment in 326 500 867; do
+  answers "the state at $moment ms" 200 "$at/state?at=$moment"
+  has "two packets at $moment ms" "{\"ms\":$moment," '"last":326,"live":2,' "\"levels\":\"0908$(zeros 1020)\"" '"counts":{"datagrams":2,'
+done
+answers "a moment before the second packet" 200 "$at/state?at=325"
+has "moving back reads anew" '{"ms":325,' '"last":0,"live":1,' "\"levels\":\"ff800007$(zeros 1016)\"" '"counts":{"datagrams":1,'
+answers "the state before the end of the stream" 200 "$at/state?universe=1&at=2411"
+has "three packets at 2411 ms" '"state":"live"' '"live":3,"preview":0,"terminated":0,' '"gap":542,' "\"levels\":\"010203$(zeros 1018)\"" '"alarms":[]'
+answers "the state at the end of the stream" 200 "$at/state?at=2412&universe=1"
+ended='{"ms":2412,"kind":"ended","text":"universe 1: OLA Server ended its stream"}'
+has "the stream has ended at 2412 ms" '"state":"ended"' '"terminated":3,' '"gap":1544,' "\"levels\":\"$(zeros 1024)\"" "\"alarms\":[$ended]," '"counts":{"datagrams":6,'
+for query in '' '?at=5970' '?at=5971' '?at=18446744073709551615'; do
+  answers "the end, asked by '$query'" 200 "$at/state$query"
+  has "the end has all, by '$query'" '{"ms":5970,' "\"alarms\":[$ended,{\"ms\":5970,\"kind\":\"refused\",\"text\":\"a datagram of 10.77.0.1:5568 is refused: the framing vector is unknown\"}]," \
+    '"counts":{"datagrams":7,"refused":1,'
+done
+answers "another universe" 200 "$at/state?universe=7&at=500"
+has "another universe is dark" '"universe":7,"heard":[1],' "\"levels\":\"$(zeros 1024)\""
+answers "the recording as a whole" 200 $at/recording
+[ "$(cat body)" = '{"name":"ola.pcap","length":5970,"fault":null}' ]
+verdict "what is known of it" $? "$(cat body)"
+answers "events of a recording" 404 $at/events
+for query in at= at=x at=-1 at=+1 at=1.5 at=18446744073709551616; do
+  answers "the moment $query" 400 "$at/state?$query"
+  has "$query is refused by name" 'at is a moment of a recording: milliseconds'
+done
+for query in at=1\&at=2 universe=0\&at=1 at=1\& at; do answers "the query $query" 400 "$at/state?$query"; done
+answers "events at a moment" 400 "$at/events?at=1"
+answers "the recording with a query" 400 "$at/recording?at=1"
+answers "another host" 403 -H 'Host: rig.example' "$at/recording"
+answers "an order" 405 -X POST -d at=1 "$at/state"
+ends
+
+# A recording that is cut in its last frame: what stands before is served, and the fault is told.
+head -c 1311 "$ola" >cut.pcap
+serves cut.pcap --seconds 2
+[ "$(head -n 1 page.err)" = "refused cut.pcap octet 1137 CutShort" ]
+verdict "the fault is on standard error" $? "$(cat page.err)"
+answers "the end of a faulty recording" 200 "$at/state"
+has "what stands before the fault is shown" '{"ms":2412,"recording":{"name":"cut.pcap","length":2412,"fault":{"octet":1137,"name":"CutShort"}},' '"state":"ended"' '"counts":{"datagrams":6,'
+wait "$page"
+status=$?
+[ "$status" = 3 ]
+verdict "a faulty recording ends with its status" $? "$status"
+
+# Two sources and 20 universes, written octet by octet (E1.31, 5 to 8; pcap of Ethernet).
+cat >write.py <<'P'
+import struct, sys
+
+def data(cid, name, universe, number, slots=b"", priority=100, options=0):
+    dmp = struct.pack(">HBBHHHB", 0x7000 | 11 + len(slots), 2, 0xa1, 0, 1, 1 + len(slots), 0) + slots
+    head = struct.pack(">I64sBHBBH", 2, name, priority, 0, number % 256, options, universe)
+    rest = struct.pack(">H", 0x7000 | 2 + len(head) + len(dmp)) + head + dmp
+    return b"\0\x10\0\0ASC-E1.17\0\0\0" + struct.pack(">HI", 0x7000 | 22 + len(rest), 4) + cid + rest
+
+class Recording:
+    def __init__(self, path):
+        self.file = open(path, "wb")
+        self.file.write(struct.pack("<IHHIIII", 0xa1b2c3d4, 2, 4, 0, 0, 65535, 1))
+
+    def sent(self, moment, host, payload):
+        udp = struct.pack(">HHHH", 5000, 5568, 8 + len(payload), 0) + payload
+        ip = struct.pack(">BBHHHBBH", 0x45, 0, 20 + len(udp), 0, 0, 64, 17, 0) + bytes([10, 0, 0, host, 239, 255, 0, 1])
+        octets = bytes(12) + b"\x08\0" + ip + udp
+        self.file.write(struct.pack("<IIII", 1000 + moment // 1000, moment % 1000 * 1000, len(octets), len(octets)) + octets)
+
+A, B = bytes([0xaa]) * 16, bytes([0xbb]) * 16
+if sys.argv[1] == "two":
+    r = Recording(sys.argv[2])
+    r.sent(0, 1, data(A, b"<b>Main & more", 1, 0, b"\x10\x20"))
+    for universe in range(101, 120):
+        r.sent(100, 2, data(B, b"Spare", universe, 0, bytes([universe])))
+    r.sent(500, 2, data(B, b"Spare", 1, 0, b"\x30\x08", priority=100))
+    r.sent(400, 1, data(A, b"<b>Main & more", 1, 4, b"\x11\x20"))
+    r.sent(10000, 1, data(A, b"<b>Main & more", 1, 5, b"\x12"))
+else:
+    r = Recording(sys.argv[2])
+    for turn in range(300):
+        for universe in range(1, 201):
+            r.sent(turn * 25, 1, data(A, b"Many", universe, turn, bytes([turn % 256]) * 512))
+P
+python3 write.py two "<i>two.pcap"
+cp "<i>two.pcap" two.pcap
+serves "<i>two.pcap" --universe 1
+both='"name":"\u003ci\u003etwo.pcap"'
+answers "the state before the second source" 200 "$at/state?at=499"
+has "one source on universe 1 at 499 ms" "$both" '"name":"\u003cb\u003eMain \u0026 more"' "\"levels\":\"1020$(zeros 1020)\"" '"alarms":[]' '"counts":{"datagrams":20,'
+answers "the state with both" 200 "$at/state?at=500"
+# (the packet of 400 ms is taken at 500, the latest moment so far; its numbers 1 to 3 were skipped)
+has "both sources at 500 ms" '"name":"Spare","address":"10.0.0.2","port":5000,"state":"live"' "\"levels\":\"3020$(zeros 1020)\"" "\"winners\":\"00150001$(zeros 2040)\"" \
+  '{"ms":500,"kind":"rivals","text":"universe 1: 2 sources share the top priority 100"}' '{"ms":500,"kind":"skipped","text":"universe 1: \u003cb\u003eMain \u0026 more skipped 3 numbers"}' '"counts":{"datagrams":22,'
+lost='{"ms":3000,"kind":"lost","text":"universe 1: Spare is lost"}'
+answers "a moment before the losses" 200 "$at/state?at=2599"
+! grep -qF '"kind":"lost"' body
+verdict "none is lost at 2599 ms" $?
+answers "a moment of silence" 200 "$at/state?at=2999"
+has "both light universe 1 at 2999 ms" "\"levels\":\"3020$(zeros 1020)\"" '{"ms":2600,"kind":"lost","text":"universe 101: Spare is lost"}'
+! grep -qF '"kind":"lost","text":"universe 1:' body
+verdict "none of universe 1 is lost at 2999 ms" $?
+answers "2500 ms after their packets" 200 "$at/state?at=3000"
+has "both are lost at 3000 ms" "$lost" "\"levels\":\"$(zeros 1024)\"" '{"ms":3000,"kind":"lost","text":"universe 1: \u003cb\u003eMain \u0026 more is lost"}'
+answers "the end of it" 200 "$at/state"
+has "a loss stands at its own moment" '{"ms":10000,' "$lost" '{"ms":10000,"kind":"came_back","text":"universe 1: \u003cb\u003eMain \u0026 more is back"}' "\"levels\":\"12$(zeros 1022)\""
+for universe in 101 119 110 118; do
+  answers "universe $universe of twenty" 200 "$at/state?universe=$universe&at=100"
+  has "universe $universe has its levels" "\"universe\":$universe," "\"levels\":\"$(printf %02x "$universe")$(zeros 1022)\""
+done
+ends
+
+# Two viewers at different moments, over and over: each is given its own.
+serves two.pcap
+wrong=0
+for _ in $(seq 20); do
+  curl -s -m 30 "$at/state?at=499" >early &
+  first=$!
+  curl -s -m 30 "$at/state?at=3000" >late &
+  wait "$first" "$!"
+  grep -q '^{"ms":499,.*"counts":{"datagrams":20,' early && grep -q '^{"ms":3000,.*"counts":{"datagrams":22,' late || wrong=$((wrong + 1))
+done
+[ "$wrong" = 0 ]
+verdict "two viewers at different moments" $? "$wrong of 20: $(head -c 60 early) $(head -c 60 late)"
+ends
+
+# 60,000 packets: others are answered while the recording is read, moving back gives what was there, and memory stays small.
+python3 write.py many many.pcap
+serves many.pcap
+slowest=0
+for _ in $(seq 5); do
+  asked=()
+  for moment in 7475 2500; do
+    curl -s -m 30 -o "state.$moment" "$at/state?at=$moment" &
+    asked+=("$!")
+  done
+  took=$(curl -s -m 30 -o body -w '%{time_total}' $at/recording | tr -d . | sed 's/^0*//')
+  [ "${took:-0}" -le "$slowest" ] || slowest=$took
+  wait "${asked[@]}"
+done
+[ "$slowest" -lt 1000000 ]
+verdict "others are answered while it is read" $? "$slowest us"
+full() { for _ in $(seq 512); do printf %02x "$1"; done; }
+grep -q "^{\"ms\":2500,.*\"levels\":\"$(full 100)\"" state.2500 && grep -qF '"counts":{"datagrams":20200,' state.2500
+verdict "the state in the middle" $? "$(head -c 80 state.2500)"
+grep -q "^{\"ms\":7475,.*\"levels\":\"$(full 43)\"" state.7475 && grep -qF '"counts":{"datagrams":60000,' state.7475
+verdict "the state at the end" $? "$(head -c 80 state.7475)"
+memory=$(sed -n 's/^VmRSS:[^0-9]*\([0-9]*\).*/\1/p' "/proc/$page/status")
+[ "${memory:-0}" -gt 0 ] && [ "$memory" -lt 20000 ]
+verdict "memory stays small" $? "$memory kB"
+
+# As many viewers as there is room for, none of which asks, and one more.
+lines=()
+for _ in $(seq 32); do
+  exec {line}<>"/dev/tcp/127.0.0.1/$tcp" || break
+  lines+=("$line")
+done
+sleep 0.3
+answers "a 33rd viewer" 503 "$at/state"
+for line in "${lines[@]}"; do exec {line}>&-; done
+sleep 0.5
+answers "the state once they went" 200 "$at/state?at=0"
+has "200 packets at the start" '"counts":{"datagrams":200,'
+ends
