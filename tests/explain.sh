@@ -79,6 +79,23 @@ grep -vE '"universe":1,' ola.json >other.json
 tells "another universe" 0 "" other.json "$top/examples/ola.pcap" --json --universe 2
 tells "two universes" 0 "" ola.json "$top/examples/ola.pcap" --json --universe 2 --universe 1
 
+# What QLC+ 4.12 sent of a scene that fades in within 200 ms, recorded by tcpdump: sixteen packets, numbered from 1, of which the first two are dark.
+# The moments and slots were read off the octets; the node shows slots 1 to 3. Two packets came in one millisecond, 35.
+cat >qlc.json <<'E'
+{"ms":0,"event":"appeared","universe":1,"cid":"fb3c1065a17f4de29919c6820b91bc79","name":"Q Light Controller Plus - E1.31","address":"10.9.0.1","port":51474,"priority":100}
+{"row":"source","universe":1,"cid":"fb3c1065a17f4de29919c6820b91bc79","name":"Q Light Controller Plus - E1.31","address":"10.9.0.1","port":51474,"state":"live","priority":100,"first":0,"last":269,"live":16,"preview":0,"terminated":0,"other":0,"skipped":0,"late":0,"repeated":0,"gap":35,"last_second":0}
+{"row":"universe","universe":1,"sources":1,"sending":1,"taken":16,"skipped":0,"discarded":0}
+{"row":"counts","datagrams":16,"refused":0,"pages":0,"pages_untracked":0,"synchronization":0,"untracked":0,"other_ports":0,"other_frames":0,"went_back":0,"ms":269}
+E
+tells "what QLC+ sent, as JSON" 0 "" qlc.json "$top/examples/qlcplus.pcap" --json
+printf '%s\n' '1 0 00000000' '1 35 00190c06' '1 35 0033190c' '1 49 004c2613' '1 73 00663319' '1 89 007f4020' '1 109 00994c26' '1 129 00b2592c' '1 149 00cc6633' '1 169 00e57339' '1 189 00ff8040' >qlc.frames
+timeout 60 "$sacn" explain "$top/examples/qlcplus.pcap" --setup "$top/examples/node.toml" </dev/null 2>err | grep -E '^[0-9]+ [0-9]+ [0-9a-f]{1026}$' | sed 's/^\([0-9]* [0-9]* [0-9a-f]\{8\}\).*/\1/' >out
+if cmp -s qlc.frames out; then
+  echo "ok explain: what a node shows of QLC+"
+else
+  echo "not ok explain: what a node shows of QLC+: $(diff qlc.frames out | head -n 4 | tr '\n' '|')"
+fi
+
 # Faulty recordings: what was told before the fault stays, and the tables follow.
 head -c 1311 "$top/examples/ola.pcap" >cut.pcap
 {

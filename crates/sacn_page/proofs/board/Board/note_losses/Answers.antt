@@ -1,5 +1,0 @@
-use Rattle.sacn_page.proofs.Losses.{ticked_at}
-use Rattle.sacn_page.proofs.board.Board.note_losses.Goals as goal
-
-pub loop-preserved : goal.loop-preserved
-loop-preserved g c = ticked_at _ _ _ _ _ c.in-Some.ensures c.loop.invariant c.note_loss.ensures
