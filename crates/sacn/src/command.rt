@@ -219,11 +219,22 @@ pub fn told(alloc: Global, words: &[&str]) -> Result<String, AllocError> {
     for word in words {
         owned.push(String::from_str(alloc, word)?)?;
     }
-    match matches(alloc, owned.as_slice()) {
-        Ok(_) => Ok(String::new(alloc)),
-        Err(error) if error.kind() == ErrorKind::OutOfMemory => Err(AllocError),
-        Err(error) => format!(in alloc; "{error}"),
+    told_of(alloc, owned.as_slice())
+}
+
+fn told_of(alloc: Global, words: &[String]) -> Result<String, AllocError> {
+    match matches(alloc, words) {
+        Ok(_matches) => Ok(String::new(alloc)),
+        Err(error) => said(alloc, &error),
     }
+}
+
+// What an error of clap prints.
+fn said(alloc: Global, error: &Error) -> Result<String, AllocError> {
+    if error.kind() == ErrorKind::OutOfMemory {
+        return Err(AllocError);
+    }
+    format!(in alloc; "{error}")
 }
 
 // The call of clap's parser stands alone: checking it takes longest.

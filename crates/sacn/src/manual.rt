@@ -43,7 +43,16 @@ pub fn print<O: Write>(alloc: Global, form: Form, out: &mut O) -> Result<(), End
 fn text_of(alloc: Global, form: Form) -> Result<Vec<u8>, AllocError> {
     let table = table(alloc)?;
     let helps = helps(alloc, table.get_subcommands())?;
-    let program = program_of(alloc, &table, helps.as_slice())?;
+    rendered(alloc, form, &table, helps.as_slice())
+}
+
+fn rendered(
+    alloc: Global,
+    form: Form,
+    table: &Command<'static>,
+    helps: &[String],
+) -> Result<Vec<u8>, AllocError> {
+    let program = program_of(alloc, table, helps)?;
     render(alloc, form, &program)
 }
 
@@ -59,7 +68,7 @@ fn helps(alloc: Global, commands: &[Command<'_>]) -> Result<Vec<String>, AllocEr
 
 fn program_of<'t>(
     alloc: Global,
-    table: &'t Command<'t>,
+    table: &'t Command<'static>,
     helps: &'t [String],
 ) -> Result<Program<'t>, AllocError> {
     let mut commands = Vec::new(alloc);
@@ -88,7 +97,7 @@ fn help_at<'t>(helps: &'t [String], place: usize) -> &'t str {
 
 fn command_of<'t>(
     alloc: Global,
-    command: &'t Command<'t>,
+    command: &'t Command<'static>,
     help: &'t str,
 ) -> Result<sacn_manual::Command<'t>, AllocError> {
     Ok(sacn_manual::Command {
@@ -101,7 +110,7 @@ fn command_of<'t>(
 
 fn arguments_of<'t>(
     alloc: Global,
-    arguments: &'t [Arg<'t>],
+    arguments: &'t [Arg<'static>],
     help: &'t str,
 ) -> Result<Vec<Argument<'t>>, AllocError> {
     let mut found = Vec::new(alloc);
@@ -119,7 +128,7 @@ fn arguments_of<'t>(
     Ok(found)
 }
 
-fn argument_of<'t>(argument: &'t Arg<'t>, help: &'t str) -> Argument<'t> {
+fn argument_of<'t>(argument: &'t Arg<'static>, help: &'t str) -> Argument<'t> {
     let (spelling, name, value) = match argument.get_long() {
         Some(long) => (Spelling::Long, long, value_in(help, long)),
         None => (
