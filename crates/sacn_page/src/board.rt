@@ -1,7 +1,8 @@
 //! What is known of a network, for all viewers.
 
-ghost use Rattle.std.specs.Prelude.{◌≡◌, ◌≤◌, IfOk, IfSome};
-ghost use Rattle.sacn_monitor.specs.Books.{new_book};
+ghost use Rattle.std.specs.Prelude.{◌≡◌, ◌≤◌, IfOk, IfSome, OnOk};
+ghost use Rattle.sacn_monitor.specs.Books.{new_book, after_tick};
+ghost use Rattle.sacn_explain.specs.Following.{IsTicked, IsTaken};
 
 use crate::alarms::{Alarms, Trouble};
 use crate::lit::LitUniverse;
@@ -51,7 +52,9 @@ impl Board {
     /// once.
     ///
     /// Errors: OutOfMemory.
-    pub fn take(&mut self, now: u64, sender: Sender, octets: &[u8]) -> Result<(), AllocError> {
+    pub fn take(&mut self, now: u64, sender: Sender, octets: &[u8]) -> Result<(), AllocError>
+        ensures taken { OnOk result (IsTaken now sender octets.now self.old.monitor self.new.monitor) }
+    {
         self.tick(now)?;
         match self.monitor.take(now, sender, octets) {
             Noted::Refused(fault) => self.alarms.add(now, Trouble::Refused(sender, fault))?,
@@ -67,14 +70,18 @@ impl Board {
     /// Moves the clock, and answers whether a source was lost.
     ///
     /// Errors: OutOfMemory.
-    pub fn tick(&mut self, now: u64) -> Result<bool, AllocError> {
+    pub fn tick(&mut self, now: u64) -> Result<bool, AllocError>
+        ensures ticked { OnOk result (IsTicked now self.old.monitor self.new.monitor) }
+    {
         let is_lost = self.note_losses(now)?;
         let _ = self.monitor.tick(now);
         Ok(is_lost)
     }
 
     // Notes the sources that are lost by a moment, each at its own, and answers whether there was one.
-    fn note_losses(&mut self, now: u64) -> Result<bool, AllocError> {
+    fn note_losses(&mut self, now: u64) -> Result<bool, AllocError>
+        ensures { IsTicked now self.old.monitor self.new.monitor }
+    {
         let mut is_lost = false;
         for _ in 0..sacn_monitor::MAX_STREAMS {
             let Some(at) = loss_by(now, self.monitor.next_loss()) else {
@@ -87,7 +94,9 @@ impl Board {
     }
 
     // Notes the source that is lost at a moment.
-    fn note_loss(&mut self, at: u64) -> Result<(), AllocError> {
+    fn note_loss(&mut self, at: u64) -> Result<(), AllocError>
+        ensures { self.new.monitor ≡ after_tick at self.old.monitor }
+    {
         let Some(place) = self.monitor.tick(at) else {
             return Ok(());
         };
