@@ -72,7 +72,7 @@ slot = 1
 wide = 1
 E
 tells "a show of many faults" 3 show --as show <<'E'
-show: colour: "red\u001b[31m": UnknownKey: the keys here are version, cid, name, priority, universes, send_to, cue, patch
+show: colour: "red\u001B[31m": UnknownKey: the keys here are version, cid, name, priority, universes, send_to, cue, patch
 show: cue[1].fade: 3: UnknownKey: the keys here are number, up, down, levels
 show: cue[1].up: MissingKey: an up time in milliseconds is 0 to 3600000
 show: cue[1].down: MissingKey: a down time in milliseconds is 0 to 3600000

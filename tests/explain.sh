@@ -83,7 +83,7 @@ tells "two universes" 0 "" ola.json "$top/examples/ola.pcap" --json --universe 2
 # The moments and slots were read off the octets; the node shows slots 1 to 3. Two packets came in one millisecond, 35.
 cat >qlc.json <<'E'
 {"ms":0,"event":"appeared","universe":1,"cid":"fb3c1065a17f4de29919c6820b91bc79","name":"Q Light Controller Plus - E1.31","address":"10.9.0.1","port":51474,"priority":100}
-{"row":"source","universe":1,"cid":"fb3c1065a17f4de29919c6820b91bc79","name":"Q Light Controller Plus - E1.31","address":"10.9.0.1","port":51474,"state":"live","priority":100,"first":0,"last":269,"live":16,"preview":0,"terminated":0,"other":0,"skipped":0,"late":0,"repeated":0,"gap":35,"last_second":0}
+{"row":"source","universe":1,"cid":"fb3c1065a17f4de29919c6820b91bc79","name":"Q Light Controller Plus - E1.31","address":"10.9.0.1","port":51474,"state":"sending","priority":100,"first":0,"last":269,"live":16,"preview":0,"terminated":0,"other":0,"skipped":0,"late":0,"repeated":0,"gap":35,"last_second":0}
 {"row":"universe","universe":1,"sources":1,"sending":1,"taken":16,"skipped":0,"discarded":0}
 {"row":"counts","datagrams":16,"refused":0,"pages":0,"pages_untracked":0,"synchronization":0,"untracked":0,"other_ports":0,"other_frames":0,"went_back":0,"ms":269}
 E
