@@ -136,16 +136,16 @@ enum sacn_packet_kind {
 #define SACN_FRAME_OCTETS 513
 /* The octets of the longest data packet, and of the longest packet that a console gives. */
 #define SACN_DATA_OCTETS 638
-#define SACN_MOST_OCTETS 1144
+#define SACN_MAX_DATAGRAM 1144
 #define SACN_UDP_PORT 5568
 /* The universe to whose group pages are sent (8). */
 #define SACN_DISCOVERY_UNIVERSE 64214
 /* The most universe numbers of a page (8.5). */
 #define SACN_PAGE_UNIVERSES 512
 /* How many sources of one universe a node or a table holds, how many ports a node has, and how many universes. */
-#define SACN_MOST_SOURCES 16
-#define SACN_MOST_PORTS 16
-#define SACN_MOST_UNIVERSES 16
+#define SACN_MAX_SOURCES 16
+#define SACN_MAX_PORTS 16
+#define SACN_MAX_UNIVERSES 16
 /* A source that sent nothing for so many milliseconds is lost (6.7.1), and a list of universes whose latest page is so old is forgotten. */
 #define SACN_DATA_LOSS 2500
 #define SACN_LIST_LOSS 25000
@@ -166,7 +166,8 @@ struct sacn_packet {
     uint16_t universe;
     /* How many slots the data packet gives, or universe numbers the page has: 0 to 512. */
     uint16_t count;
-    /* Of both: the component identifier (5.6), and the name (6.2.2): up to 64 octets, and NUL to the end. */
+    /* Of both: the component identifier (5.6), and the field of the name (6.2.2): what stands before its first NUL, or all 64 octets, is the name,
+       and behind that NUL stands whatever the sender left there (sacn_packet_name). */
     uint8_t cid[16];
     uint8_t name[64];
 };
@@ -178,15 +179,16 @@ int sacn_read_packet(const uint8_t *octets, size_t count, struct sacn_packet *pa
 
 /* Writes a data packet of these fields (cid, name, priority, number, preview, terminated, universe, start) and of 0 to 512 slots, and its
    length: 126, and one for each slot. All 64 octets of the name are written as they are; E1.31 wants a NUL among them (6.2.2). The octets of
-   `out` after the packet stay as they were. What is written is read back as these fields. A synchronization address isn't written, and a packet
-   that forces synchronization neither (6.2.4, 6.2.6). Status: SACN_PACKET_PRIORITY, SACN_PACKET_UNIVERSE or SACN_PACKET_VALUE_COUNT where one is
-   out of range. */
+   `out` after the packet stay as they were. What is written is read back as these fields, and fields that were read, with their slots, are
+   written as the packet that they were read from, but for what is ignored: a synchronization address isn't written, and a packet that forces
+   synchronization neither (6.2.4, 6.2.6). Status: SACN_PACKET_PRIORITY, SACN_PACKET_UNIVERSE or SACN_PACKET_VALUE_COUNT where one is out of
+   range. */
 int sacn_write_data(const struct sacn_packet *packet, const uint8_t *slots, size_t slot_count, uint8_t out[SACN_DATA_OCTETS], size_t *length);
 
 #define SACN_TEXT_OCTETS 65
 
-/* The source's name of a packet as text: the octets of its field, and a NUL after them. (A field of 64 octets may have no NUL.) Status:
-   SACN_NULL. */
+/* The source's name of a packet as text: what stands before the first NUL of its field, or all 64 octets, and NUL to the end. So two packets have
+   one name where these 65 octets are the same. Status: SACN_NULL. */
 int sacn_packet_name(const struct sacn_packet *packet, char text[SACN_TEXT_OCTETS]);
 
 /* Reads the universe numbers of the page at the front of `count` octets, in the order and range in which they came, to a room of `room` numbers,
@@ -197,7 +199,7 @@ int sacn_read_universes(const uint8_t *octets, size_t count, uint16_t *universes
 /* Writes a page of a list of `count` universes, each above the one before: the page `page` of these fields (page, cid, name), and its length:
    120, and two for each of its universes, of which a page has 512 and the last one the rest. So a list of none has one page, and write pages from
    0 on until one is refused. Status: SACN_RANGE where the list doesn't ascend or has no such page. */
-int sacn_write_page(const struct sacn_packet *packet, const uint16_t *universes, size_t count, uint8_t out[SACN_MOST_OCTETS], size_t *length);
+int sacn_write_page(const struct sacn_packet *packet, const uint16_t *universes, size_t count, uint8_t out[SACN_MAX_DATAGRAM], size_t *length);
 
 /* 1 where a packet with the number `arrived` is in sequence after one with the number `held`, else 0 (6.7.2). */
 int sacn_in_sequence(uint8_t held, uint8_t arrived);
@@ -251,7 +253,7 @@ int sacn_node_frame(struct sacn_node *node, uint64_t now, uint8_t port, uint8_t 
 /* The first moment at which a source is lost if no datagram comes, UINT64_MAX where there is none. */
 int sacn_node_wakes(struct sacn_node *node, uint64_t *moment);
 
-/* Copies the numbers of the ports, ascending, to a room of `room` octets, and tells how many there are in `count`: at most SACN_MOST_PORTS. Status:
+/* Copies the numbers of the ports, ascending, to a room of `room` octets, and tells how many there are in `count`: at most SACN_MAX_PORTS. Status:
    SACN_LENGTH where there is too little room, with `count` told. */
 int sacn_node_ports(struct sacn_node *node, uint8_t *ports, size_t room, size_t *count);
 
@@ -365,7 +367,7 @@ int sacn_console_command(struct sacn_console *console, uint64_t now, uint8_t com
 /* Gives the datagram that is due, if one is: its octets at the front of `out`, and their number in `count`, 0 where none is. Poll until none is.
    Octet 21, from 0 on, is 4 in a data packet, whose universe is octets 113 and 114, the high one first; it is 8 in a page, which goes to the group
    of SACN_DISCOVERY_UNIVERSE. */
-int sacn_console_poll(struct sacn_console *console, uint64_t now, uint8_t out[SACN_MOST_OCTETS], size_t *count);
+int sacn_console_poll(struct sacn_console *console, uint64_t now, uint8_t out[SACN_MAX_DATAGRAM], size_t *count);
 
 /* The first moment at which something can be due as long as no command comes: no earlier poll gives anything. */
 int sacn_console_wakes(struct sacn_console *console, uint64_t *moment);
@@ -401,7 +403,7 @@ int sacn_console_cue(struct sacn_console *console, uint16_t *number);
 /* ---- monitor ---- */
 
 /* The most pairs of a universe and a source that have an account. */
-#define SACN_MOST_STREAMS 1024
+#define SACN_MAX_STREAMS 1024
 
 /* What a monitor noted of a datagram. */
 enum sacn_noted {

@@ -31,8 +31,13 @@ fi
 
 room=$(mktemp -d)
 trap 'rm -rf "$room"' EXIT
-"$compiler" -std=c99 -O2 -fPIC -Wall -Wextra -I"$top/include" -c -o "$room/border.o" "$top/crates/sacn_c/border/border.c"
-(cd "$room" && ar x "$heap" && ar x "$archive" && ar rcs libsacn.a ./*.o)
+"$compiler" -std=c99 -O2 -fPIC -falign-functions=32 -Wall -Wextra -I"$top/include" -c -o "$room/border.o" "$top/crates/sacn_c/border/border.c"
+(cd "$room" && ar x "$heap" && ar x "$archive")
+# Functions begin at multiples of 32 octets, wherever a program's linker puts them: on some processors a jump across such a border costs a read 3 ns.
+if command -v objcopy >/dev/null; then
+  for it in "$room"/*.o; do objcopy --set-section-alignment '.text*=32' "$it" || echo "sacn: objcopy aligns no sections here" >&2; done
+fi
+(cd "$room" && ar rcs libsacn.a ./*.o)
 # The shared object gives out what the header names, and not the proved calls beneath, which refuse no null pointer.
 printf '{ global: %s local: *; };\n' "$(grep -oE '\bsacn_[a-z_]+\(' "$top/include/sacn.h" | tr '(' ';' | sort -u | tr -d '\n')" >"$room/names"
 "$compiler" -shared -o "$room/libsacn.so" -Wl,--whole-archive "$room/libsacn.a" -Wl,--no-whole-archive -Wl,--version-script="$room/names" -Wl,-soname,libsacn.so ||

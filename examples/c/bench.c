@@ -21,8 +21,9 @@ static struct sacn_console console;
 static struct sacn_monitor monitor;
 static const uint8_t address[4] = {10, 0, 0, 1};
 static struct sacn_news news;
-static uint8_t wire[256][4][SACN_DATA_OCTETS], frame[SACN_FRAME_OCTETS], out[SACN_MOST_OCTETS], taken;
+static uint8_t wire[256][4][SACN_DATA_OCTETS], frame[SACN_FRAME_OCTETS], out[SACN_MAX_DATAGRAM], taken;
 static struct sacn_packet packet;
+static char text[SACN_TEXT_OCTETS];
 static size_t length;
 
 /* (the same check as in each call, and no call beneath it) */
@@ -30,6 +31,7 @@ static void nothing(unsigned i) { sacn_node_wakes(NULL, (uint64_t *)&wire[i % 25
 static void sequence(unsigned i) { taken ^= (uint8_t)sacn_in_sequence((uint8_t)i, (uint8_t)(i >> 8)); }
 static void read(unsigned i) { sacn_read_packet(wire[i % 256][0], SACN_DATA_OCTETS, &packet, NULL); }
 static void read_data(unsigned i) { sacn_read_packet(wire[i % 256][0], SACN_DATA_OCTETS, &packet, frame); }
+static void name(unsigned i) { packet.name[63] = (uint8_t)i, sacn_packet_name(&packet, text); }
 static void write(unsigned i) { packet.number = (uint8_t)i, sacn_write_data(&packet, frame + 1, SACN_SLOTS, out, &length); }
 static void take(unsigned i) { sacn_sources_take(&sources, 0, wire[i / 4 % 256][i % 4], SACN_DATA_OCTETS, &taken); }
 static void merge(unsigned i) { take(i), sacn_sources_merged(&sources, 0, frame + 1); }
@@ -68,6 +70,7 @@ int main(int count, char **words) {
     time_of("sequence rule", sequence, calls);
     time_of("read", read, calls);
     time_of("read with its slots", read_data, calls);
+    time_of("name of what was read", name, calls);
     time_of("write", write, calls);
     time_of("take from 4 sources", take, calls);
     time_of("take from 4 sources and merge", merge, calls);

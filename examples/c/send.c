@@ -34,7 +34,7 @@ int main(int count, char **words) {
     sacn_console_command(&console, 0, SACN_GO, 0, 0);
     // (after its end a universe is told three times that it has ended)
     for (uint64_t moment = 0; moment < end + 200; moment = now() - start) {
-        uint8_t octets[SACN_MOST_OCTETS];
+        uint8_t octets[SACN_MAX_DATAGRAM];
         size_t octet_count;
         if (moment >= end && !universe_ends) {
             universe_ends = 1;

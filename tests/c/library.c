@@ -46,12 +46,19 @@ static void packets(void) {
     CHECK(sacn_write_data(&packet, NULL, 0, out, &length) == SACN_DONE && length == 126);
     CHECK(sacn_read_packet(out, length, &got, NULL) == SACN_DONE && got.preview == 1 && got.terminated == 1 && got.count == 0);
 
-    /* (what stands behind the first NUL of a name is not told; a name may fill its field) */
+    /* (a name may fill its field; what stands behind its first NUL is kept in the field, and is no part of the text) */
+    uint8_t again[SACN_DATA_OCTETS];
+    char text[SACN_TEXT_OCTETS];
     memset(out + 44, 'n', 64);
     CHECK(sacn_read_packet(out, length, &got, NULL) == SACN_DONE && !memcmp(got.name, out + 44, 64));
+    CHECK(sacn_packet_name(&got, text) == SACN_DONE && !memcmp(text, out + 44, 64) && text[64] == 0);
     out[44 + 5] = 0;
     memset(got.name, 77, 64);
-    CHECK(sacn_read_packet(out, length, &got, NULL) == SACN_DONE && !memcmp(got.name, "nnnnn", 6) && got.name[6] == 0 && got.name[63] == 0);
+    memset(text, 77, sizeof text);
+    CHECK(sacn_read_packet(out, length, &got, NULL) == SACN_DONE && !memcmp(got.name, out + 44, 64) && got.name[5] == 0 && got.name[6] == 'n');
+    /* (what was read is written as it was) */
+    CHECK(sacn_write_data(&got, NULL, 0, again, &length) == SACN_DONE && length == 126 && !memcmp(again, out, 126));
+    CHECK(sacn_packet_name(&got, text) == SACN_DONE && !memcmp(text, "nnnnn", 6) && text[6] == 0 && text[63] == 0 && text[64] == 0);
     CHECK(sacn_read_packet(out, 125, &got, frame) == SACN_PACKET_TOO_SHORT);
     CHECK(sacn_read_packet(NULL, 0, &got, frame) == SACN_PACKET_TOO_SHORT);
     CHECK(sacn_read_packet(NULL, 1, &got, frame) == SACN_NULL);
@@ -76,7 +83,6 @@ static void packets(void) {
     CHECK(sacn_write_data(&packet, slots, 3, out, NULL) == SACN_NULL);
     CHECK(sacn_write_data(&packet, slots, SIZE_MAX, out, &length) == SACN_LENGTH);
 
-    char text[SACN_TEXT_OCTETS];
     memset(packet.name, 'n', sizeof packet.name);
     CHECK(sacn_packet_name(&packet, text) == SACN_DONE && strlen(text) == 64 && text[63] == 'n');
     packet.name[5] = 0;
@@ -90,7 +96,7 @@ static void packets(void) {
 
 static void pages(void) {
     static uint16_t list[513], got[600];
-    uint8_t out[SACN_MOST_OCTETS];
+    uint8_t out[SACN_MAX_DATAGRAM];
     struct sacn_packet packet = fields(0), told;
     size_t length = 77, given = 77;
     for (int i = 0; i < 513; i++) list[i] = (uint16_t)(2 * i + 1);
@@ -136,7 +142,7 @@ static void node(void) {
     struct sacn_console console = {0};
     struct sacn_source source;
     struct sacn_universe universe;
-    uint8_t out[SACN_MOST_OCTETS], frame[SACN_FRAME_OCTETS], slots[SACN_SLOTS], cid[16], taken = 77;
+    uint8_t out[SACN_MAX_DATAGRAM], frame[SACN_FRAME_OCTETS], slots[SACN_SLOTS], cid[16], taken = 77;
     uint16_t port = 0;
     uint64_t wakes = 0;
     size_t lost = 77;
@@ -230,7 +236,7 @@ static void collector(void) {
     struct sacn_console console = {0};
     struct sacn_sources sources = {0};
     struct sacn_packet packet;
-    uint8_t out[SACN_MOST_OCTETS];
+    uint8_t out[SACN_MAX_DATAGRAM];
     uint16_t universes[2] = {0, 77};
     uint64_t wakes;
     size_t page = 0, count = 77;
@@ -267,7 +273,7 @@ static void collector(void) {
 static void console(void) {
     struct sacn_console console = {0}, empty = {0};
     struct sacn_node node = {0};
-    uint8_t out[SACN_MOST_OCTETS], frame[SACN_FRAME_OCTETS], taken;
+    uint8_t out[SACN_MAX_DATAGRAM], frame[SACN_FRAME_OCTETS], taken;
     struct sacn_packet packet;
     struct sacn_universe universe;
     uint64_t wakes = 77;

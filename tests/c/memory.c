@@ -25,7 +25,7 @@ static struct sacn_collector collector;
 static struct sacn_console console;
 static struct sacn_monitor monitor;
 static struct sacn_packet packet;
-static uint8_t page[SACN_MOST_OCTETS];
+static uint8_t page[SACN_MAX_DATAGRAM];
 static size_t length, count;
 static uint16_t port, universes[3] = {1, 2, 7}, got[3];
 

@@ -1,49 +1,59 @@
+//! The worked rows of cue lists and players.
+mod stories;
+
 ghost use Rattle.std.specs.Prelude.{◌≡◌};
 ghost use Rattle.sacn_cues.specs.Playing.{moved, level_mastered};
 
 use sacn_cues::*;
-use sacn_patch::{LevelOf, Patch, SLOTS};
+use sacn_patch::{LevelOf, Patch, PatchFault};
+use sacn_universe::SLOTS;
 use std::alloc::{AllocError, Global};
 use std::test::*;
+use stories::STORIES;
 
-// A cue of one channel, or of none.
-fn cue(
-    alloc: Global,
-    number: u16,
-    up: u32,
-    down: u32,
-    pairs: &[(u16, u16)],
-) -> Result<Cue, AllocError> {
-    let mut levels = Vec::new(alloc);
-    for pair in pairs {
-        levels.push(*pair)?;
-    }
+/// A cue's number, its times up and down, its levels, and what is answered where it is added.
+type CueRow = (u16, u32, u32, &'static [(u16, u16)], Result<(), CueFault>);
+
+/// What happens at a player, and what is then so.
+enum Step {
+    /// The next cue is called at a moment, and this is answered.
+    Go(u64, Result<(), PlayFault>),
+    /// The cue of a number is called.
+    GoTo(u64, u16, Result<(), PlayFault>),
+    /// A channel is set to a level.
+    Set(u64, u16, u16, Result<(), PlayFault>),
+    Master(u64, u16),
+    /// A channel's level at a moment, before the master.
+    Level(u64, u16, u16),
+    /// The same after the master.
+    Reading(u64, u16, u16),
+    /// At each millisecond up to 3000 channel 1 has its part of full.
+    Rises,
+    /// Universe 1 begins with these slots.
+    Fills(u64, &'static [u8]),
+    Still(bool),
+}
+
+/// So many cues without levels, numbered from 0, and then others as they are added; entries of a patch on universe 1 by channel,
+/// slot and whether they are wide; and what then happens.
+struct Story {
+    name: &'static str,
+    plain: u16,
+    cues: &'static [CueRow],
+    patch: &'static [(u16, u16, bool)],
+    steps: &'static [Step],
+}
+
+fn cue(alloc: Global, row: &CueRow) -> Result<Cue, AllocError> {
     Ok(Cue {
-        number,
-        up,
-        down,
-        levels,
+        number: row.0,
+        up: row.1,
+        down: row.2,
+        levels: Vec::from_slice(alloc, row.3)?,
     })
 }
 
-// Channel 1 fades to full in three seconds, and then to 0 in three.
-fn up_and_down(alloc: Global) -> Result<CueList, Fail> {
-    let mut list = CueList::new(alloc);
-    list.add(cue(alloc, 1, 3000, 0, [(1, 65535)].as_slice())?)?;
-    list.add(cue(alloc, 2, 0, 3000, [(1, 0)].as_slice())?)?;
-    Ok(list)
-}
-
-// Cues 10, 20 and 30, all at once, added out of their order.
-fn three_cues(alloc: Global) -> Result<CueList, Fail> {
-    let mut list = CueList::new(alloc);
-    list.add(cue(alloc, 20, 0, 0, [(2, 30000)].as_slice())?)?;
-    list.add(cue(alloc, 10, 0, 0, [(1, 65535)].as_slice())?)?;
-    list.add(cue(alloc, 30, 0, 0, [(1, 0)].as_slice())?)?;
-    Ok(list)
-}
-
-// What a caller knows of a reading after the master, and of the player once it is over.
+/// What a caller knows of a reading after the master, and of the player once it is over.
 fn reading(player: &mut Player, now: u64, channel: u16) -> u16
     ensures moved { player.new ≡ moved now player.old }
     ensures level { result ≡ level_mastered (moved now player.old) channel }
@@ -52,268 +62,201 @@ fn reading(player: &mut Player, now: u64, channel: u16) -> u16
     at.level_of(channel)
 }
 
-#[test]
-fn first_fade_at_each_millisecond(rt: HostRuntime) -> Result<(), Fail> {
-    let alloc = rt.alloc();
-    let mut player = Player::new(alloc, up_and_down(alloc)?)?;
-    player.go(0)?;
+fn fills(player: &mut Player, patch: &Patch, now: u64, wanted: &[u8]) -> bool {
+    let mut slots = [7; SLOTS];
+    patch.fill(1, &player.at(now), &mut slots);
+    slots.starts_with(wanted)
+}
+
+fn rises(player: &mut Player) -> bool {
     for now in 0..3001u64 {
-        let wanted = if now >= 3000 {
-            65535
-        } else {
-            65535 * now / 3000
-        };
-        assert_eq!(rt; player.level(now, 1) as u64, wanted, "at {now} ms");
-    }
-    assert_eq!(rt; player.level(0, 1), 65535);
-    Ok(())
-}
-
-#[test]
-fn fades_up_and_down(rt: HostRuntime) -> Result<(), Fail> {
-    let alloc = rt.alloc();
-    let list = up_and_down(alloc)?;
-    let copy = list.try_copy()?;
-    let mut patch = Patch::new(alloc);
-    patch.add(1, 1, 1, false)?;
-    let mut slots = [7; SLOTS];
-    let mut player = Player::new(alloc, list)?;
-    player.go(0)?;
-    assert_eq!(rt; player.level(1000, 1), 21845);
-    patch.fill(1, &player.at(1000), &mut slots);
-    assert_eq!(rt; slots[0], 85);
-    assert_eq!(rt; player.level(3000, 1), 65535);
-    player.go(3000)?;
-    assert_eq!(rt; player.level(3001, 1), 65514);
-    let mut player = Player::new(alloc, copy)?;
-    player.go(0)?;
-    player.go(1500)?;
-    assert_eq!(rt; player.level(1500, 1), 32767);
-    assert_eq!(rt; player.level(3000, 1), 16384);
-    Ok(())
-}
-
-#[test]
-fn times_up_and_down_are_separate(rt: HostRuntime) -> Result<(), Fail> {
-    let alloc = rt.alloc();
-    let mut list = CueList::new(alloc);
-    list.add(cue(alloc, 1, 1000, 2000, [(1, 65535)].as_slice())?)?;
-    list.add(cue(alloc, 2, 1000, 2000, [(1, 0)].as_slice())?)?;
-    let mut patch = Patch::new(alloc);
-    patch.add(1, 1, 1, false)?;
-    let mut player = Player::new(alloc, list)?;
-    player.go(0)?;
-    let mut slots = [7; SLOTS];
-    for (now, wanted) in [(500, 127), (1000, 255)] {
-        patch.fill(1, &player.at(now), &mut slots);
-        assert_eq!(rt; slots[0], wanted, "at {now} ms");
-    }
-    player.go(1000)?;
-    for (now, wanted) in [(2000, 128), (3000, 0)] {
-        patch.fill(1, &player.at(now), &mut slots);
-        assert_eq!(rt; slots[0], wanted, "at {now} ms");
-    }
-    Ok(())
-}
-
-#[test]
-fn tracked_levels(rt: HostRuntime) -> Result<(), Fail> {
-    let alloc = rt.alloc();
-    let list = three_cues(alloc)?;
-    let copy = list.try_copy()?;
-    for played in [list, copy] {
-        let mut player = Player::new(alloc, played)?;
-        player.go_to(0, 20)?;
-        assert_eq!(rt; (player.level(0, 1), player.level(0, 2)), (65535, 30000));
-        player.go(0)?;
-        assert_eq!(rt; (player.level(0, 1), player.level(0, 2)), (0, 30000));
-        assert_eq!(rt; player.go(0), Err(PlayFault::NoCue));
-        assert_eq!(rt; player.go_to(0, 15), Err(PlayFault::NoCue));
-        assert_eq!(rt; (player.level(0, 1), player.level(0, 2)), (0, 30000));
-        player.go_to(0, 10)?;
-        assert_eq!(rt; (player.level(0, 1), player.level(0, 2)), (65535, 0));
-        for channel in [0, 2049, 65535] {
-            assert_eq!(rt; player.set(0, channel, 1), Err(PlayFault::ChannelRange));
-            assert_eq!(rt; player.level(0, channel), 0);
+        if player.level(now, 1) as u64 != 65535 * now / 3000 {
+            return false;
         }
-        assert_eq!(rt; (player.level(0, 1), player.level(0, 2)), (65535, 0));
-        player.set(0, 2048, 3)?;
-        assert_eq!(rt; player.level(0, 2048), 3);
     }
-    Ok(())
+    true
+}
+
+fn is_so(player: &mut Player, patch: &Patch, step: &Step) -> bool {
+    match step {
+        Step::Go(now, answer) => player.go(*now) == *answer,
+        Step::GoTo(now, number, answer) => player.go_to(*now, *number) == *answer,
+        Step::Set(now, channel, level, answer) => player.set(*now, *channel, *level) == *answer,
+        Step::Master(now, level) => {
+            player.master(*now, *level);
+            true
+        }
+        Step::Level(now, channel, level) => player.level(*now, *channel) == *level,
+        Step::Reading(now, channel, level) => reading(player, *now, *channel) == *level,
+        Step::Rises => rises(player),
+        Step::Fills(now, slots) => fills(player, patch, *now, slots),
+        Step::Still(is_still) => player.is_still() == *is_still,
+    }
+}
+
+/// The place of the first step that isn't so.
+fn wrong_step(player: &mut Player, patch: &Patch, steps: &[Step]) -> Option<usize> {
+    for place in 0..steps.len() {
+        if !is_so(player, patch, &steps[place]) {
+            return Some(place);
+        }
+    }
+    None
+}
+
+fn patch_of(alloc: Global, rows: &[(u16, u16, bool)]) -> Result<Patch, PatchFault> {
+    let mut patch = Patch::new(alloc);
+    for (channel, slot, is_wide) in rows {
+        patch.add(*channel, 1, *slot, *is_wide)?;
+    }
+    Ok(patch)
+}
+
+/// The place of the first wrong step at a new player of a list.
+fn wrong_played(
+    alloc: Global,
+    list: Result<CueList, CueFault>,
+    story: &Story,
+) -> Result<Option<usize>, CueFault> {
+    let mut player = Player::new(alloc, list?)?;
+    match patch_of(alloc, story.patch) {
+        Ok(patch) => Ok(wrong_step(&mut player, &patch, story.steps)),
+        Err(_) => Err(CueFault::OutOfMemory),
+    }
+}
+
+fn add(alloc: Global, list: &mut CueList, row: &CueRow) -> Result<(), CueFault> {
+    match cue(alloc, row) {
+        Ok(cue) => list.add(cue),
+        Err(_) => Err(CueFault::OutOfMemory),
+    }
+}
+
+/// The place of the first cue that is answered otherwise as it is added.
+fn wrong_cue(alloc: Global, list: &mut CueList, story: &Story) -> Result<Option<usize>, CueFault> {
+    for number in 0..story.plain {
+        add(alloc, list, &(number, 0, 0, &[], Ok(())))?;
+    }
+    for place in 0..story.cues.len() {
+        if add(alloc, list, &story.cues[place]) != story.cues[place].4 {
+            return Ok(Some(place));
+        }
+    }
+    Ok(None)
+}
+
+/// The first wrong cue, and the first wrong step with their list and with a copy of it.
+fn wrong_places(alloc: Global, story: &Story) -> [Result<Option<usize>, CueFault>; 3] {
+    let mut list = CueList::new(alloc);
+    let cue = wrong_cue(alloc, &mut list, story);
+    let copy = list.try_copy();
+    [
+        cue,
+        wrong_played(alloc, Ok(list), story),
+        wrong_played(alloc, copy, story),
+    ]
 }
 
 #[test]
-fn refused_cues(rt: HostRuntime) -> Result<(), Fail> {
-    let alloc = rt.alloc();
-    let mut list = three_cues(alloc)?;
-    for (number, up, down, channel, fault) in [
-        (10, 0, 0, 1, CueFault::NumberTaken),
-        (10, 3600001, 0, 1, CueFault::FadeRange),
-        (10, 0, 3600001, 1, CueFault::FadeRange),
-        (10, 3600001, 0, 0, CueFault::ChannelRange),
-        (40, 4294967295, 0, 2049, CueFault::ChannelRange),
-        (40, 0, 0, 65535, CueFault::ChannelRange),
-    ] {
-        let refused = list.add(cue(alloc, number, up, down, [(1, 1), (channel, 1)].as_slice())?);
+fn stories_of_a_player(rt: HostRuntime) {
+    for story in &STORIES {
         assert_eq!(rt;
-            refused,
-            Err(fault),
-            "cue {number}, {up} up, {down} down, channel {channel}"
+            wrong_places(rt.alloc(), story),
+            [Ok(None); 3],
+            "{}",
+            story.name
         );
     }
-    list.add(cue(alloc, 40, 3600000, 3600000, [(2048, 65535)].as_slice())?)?;
-    let mut player = Player::new(alloc, list)?;
-    player.go_to(0, 40)?;
-    assert_eq!(rt; player.level(1800000, 2048), 32767);
-    Ok(())
-}
-
-#[test]
-fn list_of_a_thousand_cues(rt: HostRuntime) -> Result<(), Fail> {
-    let alloc = rt.alloc();
-    let mut list = CueList::new(alloc);
-    for number in 0..1000u16 {
-        list.add(cue(alloc, number, 0, 0, [].as_slice())?)?;
-    }
-    let full = list.add(cue(alloc, 1000, 0, 0, [].as_slice())?);
-    assert_eq!(rt; full, Err(CueFault::Full));
-    let taken = list.add(cue(alloc, 999, 0, 0, [].as_slice())?);
-    assert_eq!(rt; taken, Err(CueFault::NumberTaken));
-    let mut player = Player::new(alloc, list)?;
-    assert_eq!(rt; player.go_to(0, 1000), Err(PlayFault::NoCue));
-    player.go_to(0, 999)?;
-    assert_eq!(rt; player.go(0), Err(PlayFault::NoCue));
-    Ok(())
-}
-
-// Where a channel stands twice in a cue the later level counts, from the level before the cue.
-#[test]
-fn channel_twice_in_one_cue(rt: HostRuntime) -> Result<(), Fail> {
-    let alloc = rt.alloc();
-    let mut list = CueList::new(alloc);
-    list.add(cue(alloc, 1, 1000, 0, [(1, 0), (2, 7), (1, 65535)].as_slice())?)?;
-    let copy = list.try_copy()?;
-    let mut player = Player::new(alloc, list)?;
-    player.set(0, 1, 65535)?;
-    player.go(0)?;
-    assert_eq!(rt; player.level(500, 1), 65535);
-    let mut player = Player::new(alloc, copy)?;
-    player.set(0, 1, 65535)?;
-    player.go_to(0, 1)?;
-    assert_eq!(rt; player.level(500, 1), 65535);
-    Ok(())
-}
-
-#[test]
-fn moments_that_go_back(rt: HostRuntime) -> Result<(), Fail> {
-    let alloc = rt.alloc();
-    let mut player = Player::new(alloc, up_and_down(alloc)?)?;
-    assert_eq!(rt; player.go_to(1000, 9), Err(PlayFault::NoCue));
-    player.go(0)?;
-    assert_eq!(rt; player.level(0, 1), 0);
-    assert_eq!(rt; player.set(2000, 0, 1), Err(PlayFault::ChannelRange));
-    assert_eq!(rt; player.level(500, 1), 21845);
-    player.go(u64::MAX)?;
-    assert_eq!(rt; player.level(0, 1), 65535);
-    assert_eq!(rt; player.level(u64::MAX, 1), 65535);
-    assert!(rt; !player.is_still());
-    Ok(())
-}
-
-#[test]
-fn still_between_fades(rt: HostRuntime) -> Result<(), Fail> {
-    let alloc = rt.alloc();
-    let mut player = Player::new(alloc, up_and_down(alloc)?)?;
-    assert!(rt; player.is_still());
-    player.go(100)?;
-    for (now, wanted) in [(100, false), (3099, false), (3100, true), (3099, true)] {
-        let _ = player.level(now, 1);
-        assert_eq!(rt; player.is_still(), wanted, "at {now} ms");
-    }
-    player.set(3200, 1, 5)?;
-    player.master(3300, 5);
-    assert!(rt; player.is_still());
-    Ok(())
-}
-
-#[test]
-fn frame_after_the_master(rt: HostRuntime) -> Result<(), Fail> {
-    let alloc = rt.alloc();
-    let mut patch = Patch::new(alloc);
-    patch.add(1, 1, 1, true)?;
-    patch.add(2, 1, 3, false)?;
-    let mut player = Player::new(alloc, CueList::new(alloc))?;
-    player.set(0, 1, 4660)?;
-    player.set(0, 2, 65535)?;
-    let mut slots = [7; SLOTS];
-    patch.fill(1, &player.at(0), &mut slots);
-    assert_eq!(rt; &slots[..4], [18, 52, 255, 0].as_slice());
-    player.master(0, 32768);
-    patch.fill(1, &player.at(0), &mut slots);
-    assert_eq!(rt; &slots[..4], [9, 26, 128, 0].as_slice());
-    assert_eq!(rt; player.level(0, 1), 4660);
-    assert_eq!(rt; reading(&mut player, 5, 1), 2330);
-    Ok(())
 }
 
 #[test]
 fn numbers_of_faults(rt: HostRuntime) {
-    assert_eq!(rt; CueFault::OutOfMemory.number(), 1);
-    assert_eq!(rt; CueFault::NumberTaken.number(), 2);
-    assert_eq!(rt; CueFault::ChannelRange.number(), 3);
-    assert_eq!(rt; CueFault::FadeRange.number(), 4);
-    assert_eq!(rt; CueFault::Full.number(), 5);
-    assert_eq!(rt; PlayFault::NoCue.number(), 1);
-    assert_eq!(rt; PlayFault::ChannelRange.number(), 2);
+    let numbers = [
+        CueFault::OutOfMemory.number(),
+        CueFault::NumberTaken.number(),
+        CueFault::ChannelRange.number(),
+        CueFault::FadeRange.number(),
+        CueFault::Full.number(),
+        PlayFault::NoCue.number(),
+        PlayFault::ChannelRange.number(),
+    ];
+    assert_eq!(rt; numbers, [1, 2, 3, 4, 5, 1, 2]);
 }
 
-// The cue, also where one request for memory is refused.
-fn cue_at_last(alloc: Global, number: u16) -> Result<Cue, AllocError> {
-    match cue(alloc, number, 0, 0, [(1, number)].as_slice()) {
-        Ok(made) => Ok(made),
-        Err(_) => cue(alloc, number, 0, 0, [(1, number)].as_slice()),
+/// Adds a cue that sets channel 1 to its number at once. A refused request is made again: the number is then free and the cues
+/// before it are there, or one of these is refused.
+fn add_at_last(alloc: Global, list: &mut CueList, number: u16) -> Result<(), CueFault> {
+    let levels: [(u16, u16); 1] = [(1, number)];
+    for _ in 0..2 {
+        if let Ok(levels) = Vec::from_slice(alloc, &levels) {
+            let added = list.add(Cue {
+                number,
+                up: 0,
+                down: 0,
+                levels,
+            });
+            if added != Err(CueFault::OutOfMemory) {
+                return added;
+            }
+        }
     }
+    Err(CueFault::OutOfMemory)
 }
 
-// Each call that takes memory says so where a request is refused, leaves what it is called on as it
-// was, and can be made again. `rt try --test --fail-alloc N` refuses the Nth request.
-#[test]
-fn refused_requests(rt: HostRuntime) -> Result<(), Fail> {
-    let alloc = rt.alloc();
+/// A list of cues that set channel 1 to 1, 2 .. 12, of which none is added again.
+fn twelve_cues(alloc: Global) -> Result<CueList, CueFault> {
     let mut list = CueList::new(alloc);
     for number in 1..13u16 {
-        let added = list.add(cue_at_last(alloc, number)?);
-        if added.is_err() {
-            assert_eq!(rt; added, Err(CueFault::OutOfMemory));
-            // The number is free and the cues before it are there, or one of these is refused.
-            list.add(cue_at_last(alloc, number)?)?;
+        add_at_last(alloc, &mut list, number)?;
+        let again = add_at_last(alloc, &mut list, number);
+        if again != Err(CueFault::NumberTaken) {
+            return Err(CueFault::Full);
         }
-        let again = list.add(cue_at_last(alloc, number)?);
-        assert_eq!(rt; again, Err(CueFault::NumberTaken));
     }
-    let copy = match list.try_copy() {
-        Ok(copy) => copy,
-        Err(fault) => {
-            assert_eq!(rt; fault, CueFault::OutOfMemory);
-            list.try_copy()?
-        }
-    };
-    let spare = match copy.try_copy() {
-        Ok(spare) => spare,
-        Err(_) => copy.try_copy()?,
-    };
-    let mut player = match Player::new(alloc, copy) {
-        Ok(player) => player,
-        Err(fault) => {
-            assert_eq!(rt; fault, CueFault::OutOfMemory);
-            Player::new(alloc, spare)?
-        }
-    };
+    Ok(list)
+}
+
+fn copy_at_last(list: &CueList) -> Result<CueList, CueFault> {
+    match list.try_copy() {
+        Err(CueFault::OutOfMemory) => list.try_copy(),
+        answer => answer,
+    }
+}
+
+/// A copy of a list, and a copy of that.
+fn copies(list: &CueList) -> Result<(CueList, CueList), CueFault> {
+    let copy = copy_at_last(list)?;
+    let spare = copy_at_last(&copy)?;
+    Ok((copy, spare))
+}
+
+/// A player of one list, or of the other one where the first was refused for want of memory.
+fn player_at_last(alloc: Global, lists: (CueList, CueList)) -> Result<Player, CueFault> {
+    match Player::new(alloc, lists.0) {
+        Err(CueFault::OutOfMemory) => Player::new(alloc, lists.1),
+        answer => answer,
+    }
+}
+
+/// Whether cues that set channel 1 to 1, 2 .. 12 are played, and then none is left.
+fn plays_twelve(player: &mut Player) -> bool {
     for number in 1..13u16 {
-        player.go(0)?;
-        assert_eq!(rt; player.level(0, 1), number);
+        if player.go(0) != Ok(()) || player.level(0, 1) != number {
+            return false;
+        }
     }
-    assert_eq!(rt; player.go(0), Err(PlayFault::NoCue));
-    Ok(())
+    player.go(0) == Err(PlayFault::NoCue)
+}
+
+fn are_played(alloc: Global) -> Result<bool, CueFault> {
+    let list = twelve_cues(alloc)?;
+    let mut player = player_at_last(alloc, copies(&list)?)?;
+    Ok(plays_twelve(&mut player))
+}
+
+/// Each call that takes memory says so where a request is refused, leaves what it is called on as it was, and can be made
+/// again. `rt try --test --fail-alloc N` refuses the Nth request.
+#[test]
+fn refused_requests(rt: HostRuntime) {
+    assert_eq!(rt; are_played(rt.alloc()), Ok(true));
 }

@@ -4,9 +4,10 @@ mod octets;
 mod plain_node;
 mod stories;
 
-use crate::sent::{MAX_SLOTS, Numbers, Sent, cid_of, live, write_sent};
+use crate::sent::{Numbers, Sent, cid_of, live, write_sent};
 use sacn_node::*;
 use sacn_sources::{HeldView, Kind, Taken};
+use sacn_universe::SLOTS;
 use std::alloc::Global;
 use std::test::*;
 use stories::STORIES;
@@ -77,7 +78,7 @@ fn has_no_port(node: &mut NodeCore, now: u64, port: u8) -> bool {
 fn has_slots(held: &HeldView<'_>, slots: &[u8]) -> bool {
     match held.levels() {
         Some(levels) => {
-            for at in 0..slots.len().min(MAX_SLOTS) {
+            for at in 0..slots.len().min(SLOTS) {
                 if levels.at(at) != slots[at] {
                     return false;
                 }
@@ -196,7 +197,7 @@ fn stories_of_a_node(rt: HostRuntime) -> Result<(), Fail> {
 /// The first packet of a source gives all 512 slots, each another level than those beside it.
 #[test]
 fn all_slots_of_a_first_packet(rt: HostRuntime) -> Result<(), Fail> {
-    let mut slots = [0; MAX_SLOTS];
+    let mut slots = [0; SLOTS];
     for (at, level) in slots.iter_mut().enumerate() {
         *level = (at % 251) as u8;
     }

@@ -3,9 +3,7 @@ ghost use Rattle.std.specs.Prelude.{◌≤◌};
 
 use sacn_framing::{DataFields, write_data};
 use sacn_sources::Kind;
-
-/// The most slots of a universe.
-pub(crate) const MAX_SLOTS: usize = 512;
+use sacn_universe::SLOTS;
 
 /// A packet of a source, whose CID repeats four octets.
 #[derive(Clone, Copy)]
@@ -49,7 +47,7 @@ pub(crate) fn cid_of(cid: u32) -> [u8; 16] {
 pub(crate) fn write_sent(sent: &Sent<'_>, octets: &mut [u8; 638]) -> usize
     ensures { result ≤ 638 }
 {
-    if sent.priority > 200 || sent.slots.len() > MAX_SLOTS {
+    if sent.priority > 200 || sent.slots.len() > SLOTS {
         return 0;
     }
     if sent.universe < 1 || sent.universe > 63999 {

@@ -2,9 +2,10 @@
 mod compared;
 mod stories;
 
-use crate::sent::{FIRST, MAX_SLOTS, Sent, cid_of, live, write_sent};
+use crate::sent::{FIRST, Sent, cid_of, live, write_sent};
 use sacn_framing::{Packet, read_packet};
 use sacn_sources::{HeldView, Kind, SourceTable, TableFault, Taken};
+use sacn_universe::SLOTS;
 use std::alloc::Global;
 use std::test::*;
 use stories::STORIES;
@@ -57,7 +58,7 @@ fn takes(table: &mut SourceTable, now: u64, sent: &Sent<'_>, taken: Taken) -> bo
 fn has_slots(held: &HeldView<'_>, slots: &[u8]) -> bool {
     match held.levels() {
         Some(levels) => {
-            for at in 0..slots.len().min(MAX_SLOTS) {
+            for at in 0..slots.len().min(SLOTS) {
                 if levels.at(at) != slots[at] {
                     return false;
                 }
@@ -197,7 +198,7 @@ const THREE: [Sent<'static>; 3] = [
     Sent {
         cid: 3,
         priority: 90,
-        slots: &[255; MAX_SLOTS],
+        slots: &[255; SLOTS],
         ..FIRST
     },
 ];
@@ -215,7 +216,7 @@ fn follows(alloc: Global, order: [usize; 3]) -> Result<bool, TableFault> {
         Step::Merges(0, &[50, 200, 7]),
         Step::Other(Kind::Termination, 0, 1, 1, Taken::EndedNow),
         Step::Other(Kind::Termination, 0, 2, 1, Taken::EndedNow),
-        Step::Merges(0, &[255; MAX_SLOTS]),
+        Step::Merges(0, &[255; SLOTS]),
     ] {
         is_held = is_held & is_so(&mut table, &step);
     }

@@ -1,6 +1,6 @@
 //! Shows, scripts and the console core.
 use crate::Outcome;
-use sacn_console::limits::MOST_OCTETS;
+use sacn_console::limits::MAX_DATAGRAM;
 use sacn_console::{Command, ConsoleCore, Show, ShowFault, TextFault, read_script, read_show};
 use std::alloc::Global;
 
@@ -47,7 +47,7 @@ fn is_read(show: &Show) -> bool {
 /// Whether a core is new, and plays the show: after `go` it sends universe 1 as packet 9, dark at first,
 /// since channel 1 takes a second to come up.
 fn is_new(mut core: ConsoleCore) -> bool {
-    let mut octets = [7; MOST_OCTETS];
+    let mut octets = [7; MAX_DATAGRAM];
     let sent = core.command(0, Command::Go).is_ok() && core.poll(0, &mut octets) == Some(638);
     let dark = octets[126..638].iter().all(|level| *level == 0);
     let header = octets[22..38].starts_with(&CID) && octets[111..115].starts_with(&[9, 0, 0, 1]);

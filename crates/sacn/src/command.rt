@@ -65,7 +65,7 @@ pub const SCRIPT_HELP: &str =
 pub const SETUP_HELP: &str =
     "A setup: a TOML file of a node's ports, each with a universe or ranges of slots, as examples/node.toml";
 
-const MOST_TURNS: i64 = 1_000_000_000;
+const MAX_TURNS: i64 = 1_000_000_000;
 
 /// What the words ask for.
 pub enum Asked<'a> {
@@ -122,7 +122,7 @@ fn turns<'a>(alloc: Global) -> Arg<'a> {
         .value_name("N")
         .help("How many turns it makes, 1 to 1000000000")
         .required(true)
-        .value_parser(value_parser!(u64).range(1..=MOST_TURNS))
+        .value_parser(value_parser!(u64).range(1..=MAX_TURNS))
 }
 
 pub fn first<'a>(alloc: Global) -> Arg<'a> {

@@ -9,9 +9,9 @@ use clap::{ArgMatches, Command, Error};
 use sacn_capture::{CaptureFault, FaultKind};
 use sacn_explain::{ExplainFault, Form, Options, explain};
 use sacn_files::words::short_in;
-use sacn_framing::{LEAST_UNIVERSE, MOST_UNIVERSE};
 use sacn_live::SACN_PORT;
 use sacn_node::NodeSetup;
+use sacn_universe::{MAX_UNIVERSE, MIN_UNIVERSE};
 use std::alloc::Global;
 use std::fs;
 use std::io::{BufRead, BufReader, BufWriter, Write};
@@ -95,7 +95,7 @@ pub fn universes_in<'a>(alloc: Global, matches: &ArgMatches<'a>) -> Result<Vec<u
 
 // Whether data may be of this universe (E1.31, 6.2.7).
 fn is_universe(universe: u16) -> bool {
-    (LEAST_UNIVERSE <= universe) & (universe <= MOST_UNIVERSE)
+    (MIN_UNIVERSE <= universe) & (universe <= MAX_UNIVERSE)
 }
 
 // Where a page is served, if it is asked for; nothing is printed then, and no node's frames are told.

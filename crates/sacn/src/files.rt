@@ -1,6 +1,6 @@
 //! The files that the words name.
 use crate::ending::Ending;
-use sacn_text::{MOST_OCTETS, read_limited};
+use sacn_text::{MAX_FILE_OCTETS, read_limited};
 use std::alloc::Alloc;
 use std::fs;
 use std::rt::Files;
@@ -10,7 +10,7 @@ pub fn octets_of_file<R: AllocGlobal + Files>(rt: &R, path: &str) -> Result<Vec<
     let Ok(file) = fs::open(rt, path) else {
         return Err(Ending::DeviceRead);
     };
-    Ok(read_limited(rt.alloc(), file, MOST_OCTETS)?)
+    Ok(read_limited(rt.alloc(), file, MAX_FILE_OCTETS)?)
 }
 
 /// The octets of all files, in their order.

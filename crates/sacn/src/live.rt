@@ -6,7 +6,7 @@ use crate::network::tell;
 use sacn_console::{Command, ConsoleCore, Show, TextFault, read_script, read_show};
 use sacn_edge::{ConsoleReport, Link, WriterOut};
 use sacn_framing::multicast_group;
-use sacn_live::limits::{MOST_ROUNDS, RECEIVE_ROOM};
+use sacn_live::limits::{MAX_ROUNDS, RECEIVE_ROOM};
 use sacn_live::{
     DISCOVERY_UNIVERSE, DeskOrders, Destinations, Plan, RigClock, Span, UdpReceiver, UdpSender,
     Watch, Widget, guard_standard_descriptors, run_desk, run_gateway,
@@ -307,7 +307,7 @@ fn run_orders<R: Clock, L: Link, O: Write>(
     out: &mut O,
 ) -> Result<ConsoleReport, Ending> {
     let mut orders = DeskOrders::new(alloc, plan, clock.twin(), out)?;
-    let report = run_desk(link, &mut clock, &mut orders, core, MOST_ROUNDS);
+    let report = run_desk(link, &mut clock, &mut orders, core, MAX_ROUNDS);
     if orders.write_failed() {
         return Err(Ending::DeviceWrite);
     }

@@ -3,7 +3,7 @@ use crate::command::{
     Asked, SCRIPT_HELP, SETUP_HELP, SHOW_HELP, file, first, number, refused_words, subcommand, text,
 };
 use clap::{Arg, ArgAction, ArgMatches, Command, Error, value_parser};
-use sacn_live::{AddressFault, MOST_DESTINATIONS, Octets4, SACN_PORT, destination_of, host_of};
+use sacn_live::{AddressFault, MAX_DESTINATIONS, Octets4, SACN_PORT, destination_of, host_of};
 use std::alloc::Global;
 use std::net::{Ipv4Addr, SocketAddrV4};
 
@@ -18,7 +18,7 @@ const GROUPS_ABOUT: &str =
 
 const GROUPS_HELP: &str = "A setup or a show, as those of a gateway and of a desk";
 
-const MOST_SECONDS: i64 = 1_000_000_000;
+const MAX_SECONDS: i64 = 1_000_000_000;
 
 /// What a gateway is asked.
 #[derive(Drop)]
@@ -65,7 +65,7 @@ pub fn flag<'a>(alloc: Global, name: &'a str, help: &'a str) -> Arg<'a> {
 
 pub fn seconds<'a>(alloc: Global) -> Arg<'a> {
     let help = "How many seconds it runs, 1 to 1000000000";
-    word(alloc, "seconds", "S", help).value_parser(value_parser!(u64).range(1..=MOST_SECONDS))
+    word(alloc, "seconds", "S", help).value_parser(value_parser!(u64).range(1..=MAX_SECONDS))
 }
 
 fn ttl<'a>(alloc: Global) -> Arg<'a> {
@@ -199,7 +199,7 @@ fn hosts<'a>(alloc: Global, matches: &ArgMatches<'a>) -> Result<Vec<SocketAddrV4
             }
         }
     }
-    if hosts.len() > MOST_DESTINATIONS {
+    if hosts.len() > MAX_DESTINATIONS {
         return Err(refused_words(alloc, "--to", "TooManyDestinations"));
     }
     Ok(hosts)

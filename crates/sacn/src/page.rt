@@ -6,7 +6,7 @@ use crate::live_words::fault_name;
 use clap::{ArgMatches, Error};
 use sacn_files::words::short_in;
 use sacn_live::{AddressFault, destination_of};
-use sacn_page::{Board, Ear, MOST_ALARMS, Pages};
+use sacn_page::{Board, Ear, MAX_ALARMS, Pages};
 use sacn_watch::{WatchFault, run_watch};
 use std::alloc::Global;
 use std::io::{ErrorKind, Write};
@@ -64,7 +64,7 @@ pub fn serve<R: AllocGlobal + Net + Clock, E: Write>(
     until: u64,
     err: &mut E,
 ) -> Result<(), Ending> {
-    let board = Board::new(rt.alloc(), universe, MOST_ALARMS)?;
+    let board = Board::new(rt.alloc(), universe, MAX_ALARMS)?;
     let mut pages = match Pages::bind(rt, rt.alloc(), place, board) {
         Ok(pages) => pages,
         Err(ErrorKind::OutOfMemory) => return Err(Ending::OutOfMemory),

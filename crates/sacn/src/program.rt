@@ -3,7 +3,9 @@ use crate::command::{Asked, parse};
 use crate::ending::{DONE, Ending, ended, explained};
 use crate::files::{octets_of_files, text_of_file};
 use crate::{check, explain, live, manual, network, watch};
-use sacn_text::{MOST_OCTETS, Printed, octets_of_digits, print_looks, print_packets, read_limited};
+use sacn_text::{
+    MAX_FILE_OCTETS, Printed, octets_of_digits, print_looks, print_packets, read_limited,
+};
 use std::alloc::Global;
 use std::env::Env;
 use std::io::{Read, Write};
@@ -99,7 +101,7 @@ fn simulate<R: AllocGlobal + Files, O: Write + Drop>(
 
 // The one datagram on standard input.
 fn standard_input<I: Read + Drop>(alloc: Global, input: I) -> Result<Vec<Vec<u8>>, Ending> {
-    let text = read_limited(alloc, input, MOST_OCTETS)?;
+    let text = read_limited(alloc, input, MAX_FILE_OCTETS)?;
     let octets = octets_of_digits(alloc, text.as_slice())?;
     let mut datagrams = Vec::new(alloc);
     if datagrams.push(octets).is_err() {

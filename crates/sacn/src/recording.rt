@@ -13,7 +13,7 @@ use std::net::{Net, SocketAddrV4};
 use std::rt::{Clock, Files};
 
 /// The steps in which a recording is read between two looks at standard input.
-const MOST_STEPS: usize = 65_536;
+const MAX_STEPS: usize = 65_536;
 
 /// An open file, read from its start as often as is wanted.
 #[derive(Drop)]
@@ -93,7 +93,7 @@ fn read_all<R: Files, L: Listener>(
     listener: &mut L,
 ) -> Result<bool, SeekFault> {
     for _ in 0..u64::MAX {
-        if recording.read(MOST_STEPS)? {
+        if recording.read(MAX_STEPS)? {
             return Ok(true);
         }
         if listener.has_ended() {

@@ -20,7 +20,7 @@ const ABOUT: &str =
     "Hears a network until it is stopped, and tells each thing that happens, then tables; in a terminal it shows a screen";
 
 /// The most columns and rows that a terminal is taken to have.
-const MOST_EXTENT: u16 = 1000;
+const MAX_EXTENT: u16 = 1000;
 
 /// What a watch is asked.
 #[derive(Drop)]
@@ -159,7 +159,7 @@ fn is_set<R: AllocGlobal + Env>(rt: &R, name: &str) -> bool {
 fn extent<R: AllocGlobal + Env>(rt: &R, name: &str, otherwise: usize) -> usize {
     match env::var(rt, name) {
         Ok(value) => match short_in(value.as_str()) {
-            Some(number) if (number > 0) & (number <= MOST_EXTENT) => usize::from(number),
+            Some(number) if (number > 0) & (number <= MAX_EXTENT) => usize::from(number),
             _ => otherwise,
         },
         Err(_) => otherwise,

@@ -1,15 +1,15 @@
 -- What C is told of a packet, and what it tells to a writer.
-use Rattle.std.specs.Prelude.{◌≡◌, ℕ, nat_lt, Bool, true, false, not, ◌==◌, ◌||◌, List, length, Result, Ok, Err, if◌then◌else◌}
+use Rattle.std.specs.Prelude.{◌≡◌, ℕ, nat_lt, Bool, true, false, not, ◌==◌, ◌||◌, List, [], ◌∷◌, ◌++◌, length, ⊤, Result, Ok, Err, if◌then◌else◌}
 use Rattle.std.specs.List.{before_first}
 use Rattle.sacn_root.specs.FaultNumbers.{fault_number}
 use Rattle.sacn_root.specs.declared.fault.PacketFault.{PacketFault}
 use Rattle.sacn_root.specs.declared.fault.PacketFault.TheVariants.{Priority, Universe, ValueCount}
-use Rattle.sacn_framing.specs.declared.framing.TheConstants.{MOST_PRIORITY, MOST_UNIVERSE}
+use Rattle.sacn_universe.specs.declared.limits.TheConstants.{MAX_PRIORITY, MAX_UNIVERSE}
 use Rattle.sacn_framing.specs.Data.{Data, frame_of}
 use Rattle.sacn_framing.specs.Page.{Page}
 use Rattle.sacn_framing.specs.declared.packet.Packet.{Packet}
 use Rattle.sacn_framing.specs.declared.packet.Packet.TheVariants.{DataPacket, PagePacket, SyncPacket}
-use Rattle.sacn_monitor.specs.Accounts.{fitted, name_of}
+use Rattle.sacn_monitor.specs.Accounts.{fitted}
 use Rattle.sacn_border.specs.declared.status.TheConstants.{DONE}
 use Rattle.sacn_border.specs.declared.packets.PacketFields.{PacketFields}
 
@@ -25,7 +25,8 @@ bit_of false = 0
 pub record TellsData (f : PacketFields) (d : Data) : Type 0 where
   pub kind : f.kind ≡ 1
   pub cid : f.cid ≡ d.cid
-  pub name : f.name ≡ name_of d
+  -- the whole field: the name, and behind its first NUL what the sender left there
+  pub name : f.name ≡ d.name
   pub priority : f.priority ≡ d.priority
   pub number : f.number ≡ d.number
   pub preview : f.preview ≡ bit_of d.preview
@@ -37,7 +38,7 @@ pub record TellsData (f : PacketFields) (d : Data) : Type 0 where
 pub record TellsPage (f : PacketFields) (p : Page) : Type 0 where
   pub kind : f.kind ≡ 2
   pub cid : f.cid ≡ p.cid
-  pub name : f.name ≡ fitted (before_first (λ octet. octet == 0) p.name)
+  pub name : f.name ≡ p.name
   pub page : f.page ≡ p.page
   pub last : f.last ≡ p.last
   pub count : f.count ≡ length p.numbers
@@ -53,7 +54,7 @@ abbrev pub fields_with : PacketFields → Packet → PacketFields
 fields_with f (DataPacket d) = record f {
   kind = 1;
   cid = d.cid;
-  name = name_of d;
+  name = d.name;
   priority = d.priority;
   number = d.number;
   preview = bit_of d.preview;
@@ -65,7 +66,7 @@ fields_with f (DataPacket d) = record f {
 fields_with f (PagePacket p) = record f {
   kind = 2;
   cid = p.cid;
-  name = fitted (before_first (λ octet. octet == 0) p.name);
+  name = p.name;
   page = p.page;
   last = p.last;
   count = length p.numbers;
@@ -76,6 +77,10 @@ fields_with f SyncPacket = record f { kind = 3 }
 abbrev pub fields_after : PacketFields → Result Packet PacketFault → PacketFields
 fields_after f (Ok packet) = fields_with f packet
 fields_after f (Err fault) = f
+
+-- a name's field as text of C: the name up to its first NUL, NUL to the field's end, and one more
+abbrev pub text_of : List ℕ → List ℕ
+text_of name = fitted (before_first (λ octet. octet == 0) name) ++ 0 ∷ []
 
 -- the frame is that of a data packet, and else as it was
 abbrev pub ShowsFrame : List ℕ → List ℕ → Packet → Type 0
@@ -97,10 +102,16 @@ written f slots = record {
   slots = slots;
 }
 
+-- with its slots the fields ask for that very data packet
+abbrev pub AskFor : Packet → PacketFields → Type 0
+AskFor (DataPacket d) f = written f d.slots ≡ d
+AskFor (PagePacket p) f = ⊤
+AskFor SyncPacket f = ⊤
+
 -- the fault of the first field that is out of range
 abbrev pub write_status : PacketFields → List ℕ → ℕ
 write_status f slots =
-    if nat_lt MOST_PRIORITY f.priority then fault_number Priority
-    else if f.universe == 0 || nat_lt MOST_UNIVERSE f.universe then fault_number Universe
+    if nat_lt MAX_PRIORITY f.priority then fault_number Priority
+    else if f.universe == 0 || nat_lt MAX_UNIVERSE f.universe then fault_number Universe
     else if nat_lt 512 (length slots) then fault_number ValueCount
     else DONE

@@ -1,8 +1,9 @@
 //! Collectors of universe discovery.
-ghost use Rattle.std.specs.Prelude.{◌≡◌, None, IfOk, IfErr, IfSome};
+ghost use Rattle.std.specs.Prelude.{◌≡◌, ◌+◌, true, false, None, IfOk, IfErr, IfSome};
+ghost use Rattle.std.specs.FinMap as map;
 ghost use Rattle.sacn_framing.specs.PacketReading.{reading_packet};
 ghost use Rattle.sacn_discovery.specs.Lists.{forgotten as gone};
-ghost use Rattle.sacn_discovery.specs.Known.{nothing_known, after_expire, known_list};
+ghost use Rattle.sacn_discovery.specs.Known.{State, nothing_known, after_expire, known_list};
 ghost use Rattle.sacn_border.specs.Collecting.{after_reading, collect_status, collected, list_status, list_count, list_room, ShowsList};
 ghost use Rattle.sacn_border.specs.Kinds.{of_collector};
 ghost use Rattle.sacn_border.specs.declared.status.TheConstants.{DONE, OUT_OF_MEMORY, WRONG_HANDLE};
@@ -60,6 +61,7 @@ pub fn take(held: &mut Held, now: u64, octets: &[u8]) -> u32
 pub fn tick(held: &mut Held, now: u64, forgotten: &mut usize) -> u32
     ensures status { result ≡ of_collector WRONG_HANDLE (λ s. DONE) held.old }
     ensures forgotten { forgotten.new ≡ of_collector forgotten.old (λ s. gone now s) held.old }
+    ensures fewer { (s : State) → held.old ≡ Held.Collector s → forgotten.new + map.len (after_expire now s).sources ≡ map.len s.sources }
     ensures held { held.new ≡ of_collector held.old (λ s. Held.Collector (after_expire now s)) held.old }
 {
     match held {
@@ -85,6 +87,7 @@ pub fn list(
     ensures count { (result ≡ OUT_OF_MEMORY → ⊥) → count.new ≡ of_collector count.old (λ s. list_count count.old (known_list (after_expire now s) cid.now)) held.old }
     ensures room { (result ≡ OUT_OF_MEMORY → ⊥) → universes.new ≡ of_collector universes.old (λ s. list_room universes.old (known_list (after_expire now s) cid.now)) held.old }
     ensures lacking { result ≡ OUT_OF_MEMORY → (universes.new ≡ universes.old) × (count.new ≡ count.old) }
+    ensures wrong { of_collector true (λ s. false) held.old ≡ true → result ≡ WRONG_HANDLE }
 {
     match held {
         Held::Collector(collector) => match collector.list_of(now, cid) {

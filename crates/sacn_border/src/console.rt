@@ -1,5 +1,5 @@
 //! Consoles.
-ghost use Rattle.std.specs.Prelude.{◌≡◌, ◌<◌, ◌≤◌, ◌&&◌, ◌+◌, min, None, Some, ℕ, nat_lt, is_some, true, false, IfOk, IfErr, IfSome, IfNone};
+ghost use Rattle.std.specs.Prelude.{◌≡◌, ◌↔◌, ◌<◌, ◌≤◌, ◌&&◌, ◌+◌, min, None, Some, ℕ, nat_lt, is_some, true, false, IfOk, IfErr, IfSome, IfNone};
 ghost use Rattle.std.specs.Str.{IsUtf8};
 ghost use Rattle.toml.specs.Parse.{parse_document};
 ghost use Rattle.sacn_files.specs.Document.{Gives};
@@ -16,7 +16,7 @@ ghost use Rattle.sacn_border.specs.declared.status.TheConstants.{DONE, RANGE, WR
 
 use crate::held::Held;
 use crate::status::{DONE, RANGE, WRONG_HANDLE};
-use sacn_console::limits::MOST_OCTETS;
+use sacn_console::limits::MAX_DATAGRAM;
 use sacn_console::{Command, ConsoleCore, ConsoleFault, Show, ShowFault, read_show};
 use std::alloc::Global;
 
@@ -39,6 +39,7 @@ fn show_of(alloc: Global, octets: &[u8]) -> Result<Show, ShowFault>
 #[tactic(auto, using(crate::proofs::Refusals::show_lacks, crate::proofs::Refusals::show_counts))]
 pub fn new(alloc: Global, octets: &[u8], first: u8) -> Result<Box<Held>, u32>
     ensures made { IfOk result (λ made. ConsoleOf (show_or_toml (parse_document octets.now)) first made.value) }
+    ensures is_text { IfOk result (λ made. IsUtf8 octets.now) }
     ensures refused { IfErr result (ShowStatus octets.now) }
     ensures told { IfErr result (λ status. 1 ≤ status) }
 {
@@ -104,11 +105,13 @@ fn order(held: &mut Held, now: u64, command: Command) -> u32
 }
 
 /// Gives the datagram that is due, as `ConsoleCore::poll`; the count is 0 where none is.
-pub fn poll(held: &mut Held, now: u64, out: &mut [u8; MOST_OCTETS], count: &mut usize) -> u32
+#[tactic(auto, using(crate::proofs::Told::none_due))]
+pub fn poll(held: &mut Held, now: u64, out: &mut [u8; MAX_DATAGRAM], count: &mut usize) -> u32
     ensures status { result ≡ of_console WRONG_HANDLE (λ c. DONE) held.old }
     ensures lawful { (c : Core) (d : Datagram) → held.old ≡ Held.Console c → due (at now c) ≡ Some d → IsLawful c.sender d }
     ensures octets { out.new ≡ of_console out.old (λ c. over c.sender (due (at now c)) out.old) held.old }
     ensures count { count.new ≡ of_console count.old (λ c. due_size (due (at now c))) held.old }
+    ensures none { (c : Core) → held.old ≡ Held.Console c → (count.new ≡ 0) ↔ (due (at now c) ≡ None) }
     ensures held { held.new ≡ of_console held.old (λ c. Held.Console (after_poll now c)) held.old }
 {
     match held {

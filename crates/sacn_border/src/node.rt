@@ -25,7 +25,7 @@ use crate::rooms::put_list;
 use crate::sources::{SourceFields, put_source};
 use crate::status::{DONE, RANGE, WRONG_HANDLE};
 use sacn_node::{NodeCore, NodeSetup, SetupFault, read_node};
-use sacn_slots::FRAME_OCTETS;
+use sacn_universe::FRAME_OCTETS;
 use std::alloc::Global;
 
 /// A setup of octets, as `read_node`; `Toml` where they aren't UTF-8.
@@ -47,6 +47,7 @@ fn setup_of(alloc: Global, octets: &[u8]) -> Result<NodeSetup, SetupFault>
 #[tactic(auto, using(crate::proofs::Refusals::setup_lacks, crate::proofs::Refusals::setup_counts))]
 pub fn new(alloc: Global, octets: &[u8], udp_port: &mut u16) -> Result<Box<Held>, u32>
     ensures made { IfOk result (λ made. NodeOf (setup_or_toml (parse_document octets.now)) made.value udp_port.new) }
+    ensures is_text { IfOk result (λ made. IsUtf8 octets.now) }
     ensures refused { IfErr result (SetupStatus octets.now) }
     ensures told { IfErr result (λ status. 1 ≤ status) }
     ensures unwritten { OnErr result (udp_port.new ≡ udp_port.old) }

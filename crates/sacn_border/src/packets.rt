@@ -1,22 +1,23 @@
 //! Packets.
-ghost use Rattle.std.specs.Prelude.{◌≡◌, ◌≤◌, ◌==◌, ◌+◌, ◌++◌, ◌∷◌, [], List, ℕ, length, take, drop, not, IfOk, IfErr, Ok, if◌then◌else◌};
+ghost use Rattle.std.specs.Prelude.{◌≡◌, ◌↔◌, ◌≤◌, ◌==◌, ◌+◌, ◌-◌, ◌%◌, ◌++◌, ◌∷◌, [], List, ℕ, length, take, drop, not, IfOk, IfErr, Ok, if◌then◌else◌};
 ghost use Rattle.sacn_framing.specs.Naming.{group_of};
-ghost use Rattle.sacn_sequence.specs.Sequence.{is_late};
+ghost use Rattle.sacn_sequence.specs.Sequence.{is_late, IsOutOfSequence};
 ghost use Rattle.sacn_framing.specs.FramingText.{nothing};
 ghost use Rattle.sacn_framing.specs.PacketReading.{reading_packet};
-ghost use Rattle.sacn_framing.specs.PacketText.{data_text};
+ghost use Rattle.sacn_framing.specs.PacketText.{Reads, data_text};
+ghost use Rattle.sacn_framing.specs.declared.packet.Packet.{Packet};
 ghost use Rattle.sacn_framing.specs.declared.packet.Packet.TheVariants.{DataPacket};
 ghost use Rattle.sacn_monitor.specs.Accounts.{fitted};
-ghost use Rattle.sacn_border.specs.Packets.{packet_status, write_status, Tells, fields_with, fields_after, ShowsFrame, bit_of, written};
+ghost use Rattle.sacn_border.specs.Packets.{packet_status, write_status, Tells, AskFor, fields_with, fields_after, ShowsFrame, bit_of, text_of, written};
 ghost use Rattle.sacn_border.specs.declared.status.TheConstants.{DONE};
 
 use crate::status::DONE;
 use sacn_framing::{
-    DataFields, DataView, MOST_PRIORITY, MOST_UNIVERSE, Packet, PageView, multicast_group,
-    read_packet, write_data,
+    DataFields, DataView, Packet, PageView, multicast_group, read_packet, up_to_nul, write_data,
 };
 use sacn_root::{PacketFault, put};
 use sacn_sequence::in_sequence;
+use sacn_universe::{MAX_PRIORITY, MAX_UNIVERSE};
 
 /// What a packet says, but its slots and universe numbers. `sacn.h` says what each field means.
 #[repr(C)]
@@ -36,22 +37,12 @@ pub struct PacketFields {
     pub name: [u8; 64],
 }
 
-/// Writes a name's octets, and NUL to the end of its field.
-#[inline(always)]
-fn put_name(name: &[u8], field: &mut [u8; 64])
-    ensures { field.new ≡ fitted name.now }
-{
-    field.fill(0);
-    if name.len() <= 64 {
-        put(field, 0, name);
-    }
-}
-
 fn put_data(view: &DataView<'_>, packet: &mut PacketFields)
     ensures told { Tells packet.new (DataPacket view.now) }
     ensures others { packet.new ≡ fields_with packet.old (DataPacket view.now) }
 {
-    put_name(view.name(), &mut packet.name);
+    // The whole field, whose length is known, costs less than a look for the name's end would.
+    packet.name = *view.name_field();
     packet.kind = 1;
     packet.cid = view.cid();
     packet.priority = view.priority();
@@ -67,7 +58,7 @@ fn put_page(page: &PageView<'_>, packet: &mut PacketFields)
     ensures told { Tells packet.new (Packet.PagePacket page.now) }
     ensures others { packet.new ≡ fields_with packet.old (Packet.PagePacket page.now) }
 {
-    put_name(page.name(), &mut packet.name);
+    packet.name = *page.name_field();
     packet.kind = 2;
     packet.cid = page.cid();
     packet.page = page.page();
@@ -76,10 +67,17 @@ fn put_page(page: &PageView<'_>, packet: &mut PacketFields)
 }
 
 /// Reads a packet, as `read_packet`. The status is the fault's number.
+#[tactic(auto, using(crate::proofs::Told::only_told, crate::proofs::Told::asked_again))]
 pub fn read_fields(octets: &[u8], packet: &mut PacketFields) -> u32
+    // What is told stands there.
+    ensures found { IfOk (reading_packet octets.now) (Reads octets.now) }
+    // What stands there is told.
+    ensures only { (p : Packet) → Reads octets.now p → (result ≡ DONE) × (packet.new ≡ fields_with packet.old p) }
     ensures status { result ≡ packet_status (reading_packet octets.now) }
     ensures fields { IfOk (reading_packet octets.now) (Tells packet.new) }
     ensures others { packet.new ≡ fields_after packet.old (reading_packet octets.now) }
+    // What was read can be written again.
+    ensures again { IfOk (reading_packet octets.now) (λ p. AskFor p packet.new) }
 {
     match read_packet(octets) {
         Ok(Packet::DataPacket(data)) => {
@@ -99,10 +97,17 @@ pub fn read_fields(octets: &[u8], packet: &mut PacketFields) -> u32
 }
 
 /// The same, and the frame of a data packet: its start code, and then its slots, 0 where none is given.
+#[tactic(auto, using(crate::proofs::Told::only_told, crate::proofs::Told::asked_again))]
 pub fn read_data(octets: &[u8], packet: &mut PacketFields, frame: &mut [u8; 513]) -> u32
+    // What is told stands there.
+    ensures found { IfOk (reading_packet octets.now) (Reads octets.now) }
+    // What stands there is told.
+    ensures only { (p : Packet) → Reads octets.now p → (result ≡ DONE) × (packet.new ≡ fields_with packet.old p) }
     ensures status { result ≡ packet_status (reading_packet octets.now) }
     ensures fields { IfOk (reading_packet octets.now) (Tells packet.new) }
     ensures others { packet.new ≡ fields_after packet.old (reading_packet octets.now) }
+    // What was read can be written again.
+    ensures again { IfOk (reading_packet octets.now) (λ p. AskFor p packet.new) }
     ensures frame { IfOk (reading_packet octets.now) (ShowsFrame frame.old frame.new) }
     ensures unwritten { IfErr (reading_packet octets.now) (λ fault. frame.new ≡ frame.old) }
 {
@@ -137,10 +142,10 @@ pub fn write_fields(
     ensures status { result ≡ write_status packet.now slots.now }
     ensures count { count.new ≡ (if result == DONE then 126 + length slots.now else count.old) }
 {
-    if packet.priority > MOST_PRIORITY {
+    if packet.priority > MAX_PRIORITY {
         return u32::from(PacketFault::Priority.number());
     }
-    if packet.universe == 0 || packet.universe > MOST_UNIVERSE {
+    if packet.universe == 0 || packet.universe > MAX_UNIVERSE {
         return u32::from(PacketFault::Universe.number());
     }
     if slots.len() > 512 {
@@ -164,10 +169,19 @@ pub fn write_fields(
 }
 
 /// Whether a packet is in sequence, as `in_sequence`: 1 or 0.
+#[tactic(auto, using(crate::proofs::Told::zero_where, crate::proofs::Told::one_where))]
 pub fn sequence_bit(held: u8, arrived: u8) -> u8
-    ensures { result ≡ bit_of (not (is_late held arrived)) }
+    ensures value { result ≡ bit_of (not (is_late held arrived)) }
+    ensures discarded { (result ≡ 0) ↔ IsOutOfSequence held arrived }
+    ensures ahead { (result ≡ 1) ↔ (1 ≤ (arrived + 256 - held) % 256) × ((arrived + 256 - held) % 256 ≤ 236) }
 {
-    u8::from(in_sequence(held, arrived))
+    bit_of(in_sequence(held, arrived))
+}
+
+fn bit_of(holds: bool) -> u8
+    ensures { result ≡ bit_of holds }
+{
+    u8::from(holds)
 }
 
 /// The multicast group of a universe, as `multicast_group`.
@@ -177,11 +191,20 @@ pub fn put_group(universe: u16, group: &mut [u8; 4])
     *group = multicast_group(universe);
 }
 
-/// The source's name as text of C: the octets of its field, and a NUL after them.
+/// The source's name as text of C: what stands before the first NUL of its field, or all 64 octets, and NUL to the end.
 pub fn put_text(packet: &PacketFields, text: &mut [u8; 65])
-    ensures { text.new ≡ packet.now.name ++ 0 ∷ [] }
+    ensures { text.new ≡ text_of packet.now.name }
 {
-    let name = packet.name;
-    text[..64].copy_from_slice(&name);
-    text[64] = 0;
+    put_name(up_to_nul(&packet.name), text);
+}
+
+/// Writes a name's octets, and NUL to the end.
+#[inline(always)]
+fn put_name(name: &[u8], text: &mut [u8; 65])
+    ensures { text.new ≡ fitted name.now ++ 0 ∷ [] }
+{
+    text.fill(0);
+    if name.len() <= 64 {
+        put(text, 0, name);
+    }
 }

@@ -52,6 +52,13 @@ static int is_bad(const void *at, size_t count) { return !at && count; }
 /* A count that no object has, which would be no slice either. */
 static int is_long(size_t count) { return count > PTRDIFF_MAX; }
 
+/* Whether octets and their count are a slice; those of a null pointer and no count begin there. One test where the pointer isn't null. */
+static int is_slice(const uint8_t **at, size_t count) {
+    if (*at) return 1;
+    *at = nothing;
+    return !count;
+}
+
 static const uint8_t *start(const void *at) { return at ? at : nothing; }
 
 /* The same of numbers of two octets. */
@@ -61,15 +68,15 @@ static uint16_t no_room[1];
 static int is_long_list(size_t count) { return count > PTRDIFF_MAX / 2; }
 
 int sacn_read_packet(const uint8_t *octets, size_t count, struct sacn_packet *packet, uint8_t frame[SACN_FRAME_OCTETS]) {
-    if (is_bad(octets, count) || !packet) return SACN_NULL;
+    if (!is_slice(&octets, count) || !packet) return SACN_NULL;
     if (is_long(count)) return SACN_LENGTH;
-    return (int)(frame ? sacn_proved_read_data(start(octets), count, packet, frame) : sacn_proved_read_packet(start(octets), count, packet));
+    return (int)(frame ? sacn_proved_read_data(octets, count, packet, frame) : sacn_proved_read_packet(octets, count, packet));
 }
 
 int sacn_write_data(const struct sacn_packet *packet, const uint8_t *slots, size_t slot_count, uint8_t out[SACN_DATA_OCTETS], size_t *length) {
-    if (!packet || is_bad(slots, slot_count) || !out || !length) return SACN_NULL;
+    if (!packet || !is_slice(&slots, slot_count) || !out || !length) return SACN_NULL;
     if (is_long(slot_count)) return SACN_LENGTH;
-    return (int)sacn_proved_write_data(packet, start(slots), slot_count, out, length);
+    return (int)sacn_proved_write_data(packet, slots, slot_count, out, length);
 }
 
 int sacn_packet_name(const struct sacn_packet *packet, char text[SACN_TEXT_OCTETS]) {
@@ -79,12 +86,12 @@ int sacn_packet_name(const struct sacn_packet *packet, char text[SACN_TEXT_OCTET
 }
 
 int sacn_read_universes(const uint8_t *octets, size_t count, uint16_t *universes, size_t room, size_t *given) {
-    if (is_bad(octets, count) || is_bad(universes, room) || !given) return SACN_NULL;
+    if (!is_slice(&octets, count) || is_bad(universes, room) || !given) return SACN_NULL;
     if (is_long(count) || is_long_list(room)) return SACN_LENGTH;
-    return (int)sacn_proved_read_universes(start(octets), count, universes ? universes : no_room, room, given);
+    return (int)sacn_proved_read_universes(octets, count, universes ? universes : no_room, room, given);
 }
 
-int sacn_write_page(const struct sacn_packet *packet, const uint16_t *universes, size_t count, uint8_t out[SACN_MOST_OCTETS], size_t *length) {
+int sacn_write_page(const struct sacn_packet *packet, const uint16_t *universes, size_t count, uint8_t out[SACN_MAX_DATAGRAM], size_t *length) {
     if (!packet || is_bad(universes, count) || !out || !length) return SACN_NULL;
     if (is_long_list(count)) return SACN_LENGTH;
     return (int)sacn_proved_write_page(packet, universes ? universes : no_numbers, count, out, length);
@@ -112,9 +119,9 @@ int sacn_node_free(struct sacn_node *node) {
 }
 
 int sacn_node_take(struct sacn_node *node, uint64_t now, const uint8_t *octets, size_t count, uint8_t *taken) {
-    if (!node || !node->behind || is_bad(octets, count) || !taken) return SACN_NULL;
+    if (!node || !node->behind || !is_slice(&octets, count) || !taken) return SACN_NULL;
     if (is_long(count)) return SACN_LENGTH;
-    return (int)sacn_proved_node_take(&node->behind, now, start(octets), count, taken);
+    return (int)sacn_proved_node_take(&node->behind, now, octets, count, taken);
 }
 
 int sacn_node_tick(struct sacn_node *node, uint64_t now, size_t *lost) {
@@ -157,9 +164,9 @@ int sacn_sources_free(struct sacn_sources *sources) {
 }
 
 int sacn_sources_take(struct sacn_sources *sources, uint64_t now, const uint8_t *octets, size_t count, uint8_t *taken) {
-    if (!sources || !sources->behind || is_bad(octets, count) || !taken) return SACN_NULL;
+    if (!sources || !sources->behind || !is_slice(&octets, count) || !taken) return SACN_NULL;
     if (is_long(count)) return SACN_LENGTH;
-    return (int)sacn_proved_sources_take(&sources->behind, now, start(octets), count, taken);
+    return (int)sacn_proved_sources_take(&sources->behind, now, octets, count, taken);
 }
 
 int sacn_sources_merged(struct sacn_sources *sources, uint64_t now, uint8_t slots[SACN_SLOTS]) {
@@ -195,9 +202,9 @@ int sacn_collector_free(struct sacn_collector *collector) {
 }
 
 int sacn_collector_take(struct sacn_collector *collector, uint64_t now, const uint8_t *octets, size_t count) {
-    if (!collector || !collector->behind || is_bad(octets, count)) return SACN_NULL;
+    if (!collector || !collector->behind || !is_slice(&octets, count)) return SACN_NULL;
     if (is_long(count)) return SACN_LENGTH;
-    return (int)sacn_proved_collector_take(&collector->behind, now, start(octets), count);
+    return (int)sacn_proved_collector_take(&collector->behind, now, octets, count);
 }
 
 int sacn_collector_list(struct sacn_collector *collector, uint64_t now, const uint8_t cid[16], uint16_t *universes, size_t room, size_t *count) {
@@ -229,7 +236,7 @@ int sacn_console_command(struct sacn_console *console, uint64_t now, uint8_t com
     return (int)sacn_proved_console_command(&console->behind, now, command, number, level);
 }
 
-int sacn_console_poll(struct sacn_console *console, uint64_t now, uint8_t out[SACN_MOST_OCTETS], size_t *count) {
+int sacn_console_poll(struct sacn_console *console, uint64_t now, uint8_t out[SACN_MAX_DATAGRAM], size_t *count) {
     if (!console || !console->behind || !out || !count) return SACN_NULL;
     return (int)sacn_proved_console_poll(&console->behind, now, out, count);
 }
@@ -263,9 +270,9 @@ int sacn_monitor_free(struct sacn_monitor *monitor) {
 
 int sacn_monitor_take(struct sacn_monitor *monitor, uint64_t now, const uint8_t address[4], uint16_t port, const uint8_t *octets, size_t count,
                       struct sacn_news *news) {
-    if (!monitor || !monitor->behind || !address || is_bad(octets, count) || !news) return SACN_NULL;
+    if (!monitor || !monitor->behind || !address || !is_slice(&octets, count) || !news) return SACN_NULL;
     if (is_long(count)) return SACN_LENGTH;
-    return (int)sacn_proved_monitor_take(&monitor->behind, now, address, port, start(octets), count, news);
+    return (int)sacn_proved_monitor_take(&monitor->behind, now, address, port, octets, count, news);
 }
 
 int sacn_monitor_tick(struct sacn_monitor *monitor, uint64_t now, size_t *place) {

@@ -1,9 +1,10 @@
 //! Collectors of universe discovery, for C.
-ghost use Rattle.std.specs.Prelude.{◌≡◌, is_some, true, None, Some, IfSome};
+ghost use Rattle.std.specs.Prelude.{◌≡◌, ◌+◌, is_some, true, false, None, Some, IfSome};
+ghost use Rattle.std.specs.FinMap as map;
 ghost use Rattle.std.specs.Option.{option_map};
 ghost use Rattle.sacn_framing.specs.PacketReading.{reading_packet};
 ghost use Rattle.sacn_discovery.specs.Lists.{forgotten as gone};
-ghost use Rattle.sacn_discovery.specs.Known.{nothing_known, after_expire, known_list};
+ghost use Rattle.sacn_discovery.specs.Known.{State, nothing_known, after_expire, known_list};
 ghost use Rattle.sacn_border.specs.Collecting.{after_reading, collect_status, collected, list_status, list_count, list_room, ShowsList};
 ghost use Rattle.sacn_border.specs.Kinds.{of_collector};
 ghost use Rattle.sacn_border.specs.declared.status.TheConstants.{DONE, OUT_OF_MEMORY, WRONG_HANDLE};
@@ -58,6 +59,7 @@ pub extern "C" fn sacn_proved_collector_tick(
     requires { is_some handle.old.value ≡ true }
     ensures status { IfSome handle.old.value (λ held. result ≡ of_collector WRONG_HANDLE (λ s. DONE) held) }
     ensures forgotten { IfSome handle.old.value (λ held. forgotten.new ≡ of_collector forgotten.old (λ s. gone now s) held) }
+    ensures fewer { (s : State) → handle.old.value ≡ Some (Held.Collector s) → forgotten.new + map.len (after_expire now s).sources ≡ map.len s.sources }
     ensures after { handle.new.value ≡ option_map (λ held. of_collector held (λ s. Held.Collector (after_expire now s)) held) handle.old.value }
 {
     let mut held = take_out(alloc, handle);
@@ -83,6 +85,7 @@ pub extern "C" fn sacn_proved_collector_list(
     ensures count { (result ≡ OUT_OF_MEMORY → ⊥) → IfSome handle.old.value (λ held. count.new ≡ of_collector count.old (λ s. list_count count.old (known_list (after_expire now s) cid.now)) held) }
     ensures room { (result ≡ OUT_OF_MEMORY → ⊥) → IfSome handle.old.value (λ held. universes.new ≡ of_collector universes.old (λ s. list_room universes.old (known_list (after_expire now s) cid.now)) held) }
     ensures lacking { result ≡ OUT_OF_MEMORY → (universes.new ≡ universes.old) × (count.new ≡ count.old) }
+    ensures wrong { IfSome handle.old.value (λ held. of_collector true (λ s. false) held ≡ true → result ≡ WRONG_HANDLE) }
 {
     let mut held = take_out(alloc, handle);
     let status = collector::list(held.as_mut(), now, cid, universes, count);

@@ -1,9 +1,11 @@
 //! Consoles, for C.
-ghost use Rattle.std.specs.Prelude.{◌≡◌, ◌<◌, ◌&&◌, ◌≤◌, ◌+◌, min, is_some, slice_get, true, false, [], None, Some, IfSome, IfNone, MatchOption, ℕ, nat_lt};
+ghost use Rattle.std.specs.Prelude.{◌≡◌, ◌↔◌, ◌<◌, ◌&&◌, ◌≤◌, ◌+◌, min, is_some, slice_get, true, false, [], None, Some, IfSome, IfNone, MatchOption, ℕ, nat_lt};
 ghost use Rattle.std.specs.Option.{option_map};
+ghost use Rattle.std.specs.Str.{IsUtf8};
 ghost use Rattle.toml.specs.Parse.{parse_document};
 ghost use Rattle.sacn_cues.specs.Playing.{is_still};
-ghost use Rattle.sacn_console.specs.Core.{Core, IsLawful, Rising, after_command, after_poll, answer, at, due, over, universes_of};
+ghost use Rattle.sacn_universe.specs.Universe.{Rising};
+ghost use Rattle.sacn_console.specs.Core.{Core, IsLawful, after_command, after_poll, answer, at, due, over, universes_of};
 ghost use Rattle.sacn_console.specs.Lines.{Datagram};
 ghost use Rattle.sacn_console.specs.ShowReading.{show_or_toml};
 ghost use Rattle.sacn_console.specs.Wakes.{last_moment};
@@ -15,7 +17,7 @@ ghost use Rattle.sacn_border.specs.declared.status.TheConstants.{DONE, RANGE, WR
 
 use crate::handle::{Handle, take_out};
 use sacn_border::{DONE, Held, LineFields, console, state};
-use sacn_console::limits::MOST_OCTETS;
+use sacn_console::limits::MAX_DATAGRAM;
 use std::alloc::Global;
 
 /// A console of a show's text, as `read_show` and `ConsoleCore::new`. The status is the show's fault.
@@ -27,6 +29,7 @@ pub extern "C" fn sacn_proved_console_new(
     first: u8,
 ) -> u32
     ensures made { result ≡ DONE → MatchOption handle.new.value ⊥ (ConsoleOf (show_or_toml (parse_document text.now)) first) }
+    ensures is_text { result ≡ DONE → IsUtf8 text.now }
     ensures refused { (result ≡ DONE → ⊥) → handle.new.value ≡ handle.old.value }
     ensures status { (result ≡ DONE → ⊥) → ShowStatus text.now result }
 {
@@ -67,7 +70,7 @@ pub extern "C" fn sacn_proved_console_poll(
     alloc: Global,
     handle: &mut Handle,
     now: u64,
-    out: &mut [u8; MOST_OCTETS],
+    out: &mut [u8; MAX_DATAGRAM],
     count: &mut usize,
 ) -> u32
     requires { is_some handle.old.value ≡ true }
@@ -75,6 +78,7 @@ pub extern "C" fn sacn_proved_console_poll(
     ensures lawful { (c : Core) (d : Datagram) → handle.old.value ≡ Some (Held.Console c) → due (at now c) ≡ Some d → IsLawful c.sender d }
     ensures octets { IfSome handle.old.value (λ held. out.new ≡ of_console out.old (λ c. over c.sender (due (at now c)) out.old) held) }
     ensures count { IfSome handle.old.value (λ held. count.new ≡ of_console count.old (λ c. due_size (due (at now c))) held) }
+    ensures none { (c : Core) → handle.old.value ≡ Some (Held.Console c) → (count.new ≡ 0) ↔ (due (at now c) ≡ None) }
     ensures after { handle.new.value ≡ option_map (λ held. of_console held (λ c. Held.Console (after_poll now c)) held) handle.old.value }
 {
     let mut held = take_out(alloc, handle);

@@ -2,6 +2,7 @@
 ghost use Rattle.std.specs.Prelude.{◌≡◌, ◌<◌, ◌≤◌, ◌^◌, ◌-◌, is_some, true, false, [], None, IfSome, MatchOption, ℕ, nat_lt, length, slice_index};
 ghost use Rattle.std.specs.List.Sorted.{IsStrictlyIncreasing};
 ghost use Rattle.std.specs.Option.{option_map};
+ghost use Rattle.std.specs.Str.{IsUtf8};
 ghost use Rattle.toml.specs.Parse.{parse_document};
 ghost use Rattle.sacn_framing.specs.PacketReading.{reading_packet};
 ghost use Rattle.sacn_node.specs.Cores.{core_at, core_lost, core_row, node_frame};
@@ -18,7 +19,7 @@ ghost use Rattle.sacn_border.specs.declared.status.TheConstants.{DONE, WRONG_HAN
 
 use crate::handle::{Handle, take_out};
 use sacn_border::{DONE, Held, SourceFields, node};
-use sacn_slots::FRAME_OCTETS;
+use sacn_universe::FRAME_OCTETS;
 use std::alloc::Global;
 
 /// Takes a datagram, as `NodeCore::take`. The status is the fault of one that is no packet.
@@ -50,6 +51,7 @@ pub extern "C" fn sacn_proved_node_new(
     udp_port: &mut u16,
 ) -> u32
     ensures made { result ≡ DONE → MatchOption handle.new.value ⊥ (λ held. NodeOf (setup_or_toml (parse_document text.now)) held udp_port.new) }
+    ensures is_text { result ≡ DONE → IsUtf8 text.now }
     ensures refused { (result ≡ DONE → ⊥) → handle.new.value ≡ handle.old.value }
     ensures status { (result ≡ DONE → ⊥) → SetupStatus text.now result }
     ensures unwritten { (result ≡ DONE → ⊥) → udp_port.new ≡ udp_port.old }

@@ -1,14 +1,15 @@
 //! Packets, for C.
-ghost use Rattle.std.specs.Prelude.{◌≡◌, ◌==◌, ◌+◌, ◌*◌, ◌++◌, ◌∷◌, [], List, ℕ, length, take, drop, not, IfOk, IfErr, Ok, if◌then◌else◌};
+ghost use Rattle.std.specs.Prelude.{◌≡◌, ◌↔◌, ◌≤◌, ◌==◌, ◌+◌, ◌-◌, ◌*◌, ◌%◌, ◌++◌, List, ℕ, length, take, drop, not, IfOk, IfErr, Ok, if◌then◌else◌};
 ghost use Rattle.sacn_framing.specs.Naming.{group_of};
-ghost use Rattle.sacn_sequence.specs.Sequence.{is_late};
+ghost use Rattle.sacn_sequence.specs.Sequence.{is_late, IsOutOfSequence};
 ghost use Rattle.sacn_framing.specs.FramingText.{nothing};
 ghost use Rattle.sacn_framing.specs.PacketReading.{reading_packet};
-ghost use Rattle.sacn_framing.specs.PacketText.{data_text, page_text, unused};
+ghost use Rattle.sacn_framing.specs.PacketText.{Reads, data_text, page_text, unused};
+ghost use Rattle.sacn_framing.specs.declared.packet.Packet.{Packet};
 ghost use Rattle.sacn_framing.specs.declared.packet.Packet.TheVariants.{DataPacket, PagePacket};
 ghost use Rattle.sacn_discovery.specs.Pages.{numbers_on, page_of_list};
 ghost use Rattle.sacn_border.specs.Pages.{universes_status, universes_count, universes_room, IsPageOf};
-ghost use Rattle.sacn_border.specs.Packets.{packet_status, write_status, Tells, fields_after, ShowsFrame, bit_of, written};
+ghost use Rattle.sacn_border.specs.Packets.{packet_status, write_status, Tells, AskFor, fields_with, fields_after, ShowsFrame, bit_of, text_of, written};
 ghost use Rattle.sacn_border.specs.declared.status.TheConstants.{DONE, RANGE};
 
 use sacn_border::{PacketFields, packets, pages};
@@ -16,9 +17,15 @@ use sacn_border::{PacketFields, packets, pages};
 /// Reads a packet, as `read_packet`. The status is the fault's number.
 #[unsafe(no_mangle)]
 pub extern "C" fn sacn_proved_read_packet(octets: &[u8], packet: &mut PacketFields) -> u32
+    // What is told stands there.
+    ensures found { IfOk (reading_packet octets.now) (Reads octets.now) }
+    // What stands there is told.
+    ensures only { (p : Packet) → Reads octets.now p → (result ≡ DONE) × (packet.new ≡ fields_with packet.old p) }
     ensures status { result ≡ packet_status (reading_packet octets.now) }
     ensures fields { IfOk (reading_packet octets.now) (Tells packet.new) }
     ensures others { packet.new ≡ fields_after packet.old (reading_packet octets.now) }
+    // What was read can be written again.
+    ensures again { IfOk (reading_packet octets.now) (λ p. AskFor p packet.new) }
 {
     packets::read_fields(octets, packet)
 }
@@ -30,9 +37,15 @@ pub extern "C" fn sacn_proved_read_data(
     packet: &mut PacketFields,
     frame: &mut [u8; 513],
 ) -> u32
+    // What is told stands there.
+    ensures found { IfOk (reading_packet octets.now) (Reads octets.now) }
+    // What stands there is told.
+    ensures only { (p : Packet) → Reads octets.now p → (result ≡ DONE) × (packet.new ≡ fields_with packet.old p) }
     ensures status { result ≡ packet_status (reading_packet octets.now) }
     ensures fields { IfOk (reading_packet octets.now) (Tells packet.new) }
     ensures others { packet.new ≡ fields_after packet.old (reading_packet octets.now) }
+    // What was read can be written again.
+    ensures again { IfOk (reading_packet octets.now) (λ p. AskFor p packet.new) }
     ensures frame { IfOk (reading_packet octets.now) (ShowsFrame frame.old frame.new) }
     ensures unwritten { IfErr (reading_packet octets.now) (λ fault. frame.new ≡ frame.old) }
 {
@@ -59,7 +72,9 @@ pub extern "C" fn sacn_proved_write_data(
 /// Whether a packet is in sequence, as `in_sequence`: 1 or 0.
 #[unsafe(no_mangle)]
 pub extern "C" fn sacn_proved_in_sequence(held: u8, arrived: u8) -> u8
-    ensures { result ≡ bit_of (not (is_late held arrived)) }
+    ensures value { result ≡ bit_of (not (is_late held arrived)) }
+    ensures discarded { (result ≡ 0) ↔ IsOutOfSequence held arrived }
+    ensures ahead { (result ≡ 1) ↔ (1 ≤ (arrived + 256 - held) % 256) × ((arrived + 256 - held) % 256 ≤ 236) }
 {
     packets::sequence_bit(held, arrived)
 }
@@ -72,10 +87,10 @@ pub extern "C" fn sacn_proved_multicast_group(universe: u16, group: &mut [u8; 4]
     packets::put_group(universe, group);
 }
 
-/// The source's name of a packet as text of C: the octets of its field, and a NUL after them.
+/// The source's name of a packet as text of C: what stands before the first NUL of its field, or all 64 octets, and NUL to the end.
 #[unsafe(no_mangle)]
 pub extern "C" fn sacn_proved_packet_name(packet: &PacketFields, text: &mut [u8; 65])
-    ensures { text.new ≡ packet.now.name ++ 0 ∷ [] }
+    ensures { text.new ≡ text_of packet.now.name }
 {
     packets::put_text(packet, text);
 }

@@ -20,7 +20,7 @@ use crate::octets::ByteOrder;
 use crate::pcapng::{
     BLOCK_FRAME, ENHANCED_HEAD, EnhancedHead, SIMPLE_HEAD, enhanced_in, interface_in, simple_in,
 };
-use crate::pieces::{MOST_INTERFACES, Pieces};
+use crate::pieces::{MAX_INTERFACES, Pieces};
 use std::io::BufRead;
 
 impl<R: BufRead> Pieces<R> {
@@ -29,10 +29,8 @@ impl<R: BufRead> Pieces<R> {
         requires { 12 ≤ size }
         ensures { ReadsPiece R.Read.remaining (interface_piece order size (state_of self.old)) self.old self.new result }
     {
-        match self.interface_len(size) {
-            Ok(len) => self.described_in(order, size, len),
-            Err(fault) => Err(fault),
-        }
+        let len = self.interface_len(size)?;
+        self.described_in(order, size, len)
     }
 
     // The octets that describe an interface in a block of `size` octets.
@@ -45,7 +43,7 @@ impl<R: BufRead> Pieces<R> {
         if len > LONGEST_KEPT {
             return Err(FaultKind::Length);
         }
-        if self.interfaces.len() >= MOST_INTERFACES {
+        if self.interfaces.len() >= MAX_INTERFACES {
             return Err(FaultKind::Interface);
         }
         Ok(len)
@@ -61,10 +59,8 @@ impl<R: BufRead> Pieces<R> {
         requires { len ≤ 65535 }
         ensures { ReadsPiece R.Read.remaining (described_by len order size (state_of self.old)) self.old self.new result }
     {
-        match self.buffer.fill(&mut self.input, len) {
-            Ok(()) => self.added(order, size, len),
-            Err(fault) => Err(fault),
-        }
+        self.buffer.fill(&mut self.input, len)?;
+        self.added(order, size, len)
     }
 
     // An interface whose description was read, and its block's end.
@@ -72,10 +68,8 @@ impl<R: BufRead> Pieces<R> {
         requires { len ≤ 65535 }
         ensures { ReadsPiece R.Read.remaining (interface_body order size (state_of self.old) (take len self.old.buffer.octets.items)) self.old self.new result }
     {
-        match interface_in(order, self.buffer.front(len)) {
-            Ok(interface) => self.pushed(order, size, interface),
-            Err(fault) => Err(fault),
-        }
+        let interface = interface_in(order, self.buffer.front(len))?;
+        self.pushed(order, size, interface)
     }
 
     // An interface, and its block's end.
@@ -87,12 +81,10 @@ impl<R: BufRead> Pieces<R> {
     ) -> Result<Option<Frame>, FaultKind>
         ensures { ReadsPiece R.Read.remaining (interface_end order size (state_of self.old) (interface_of interface)) self.old self.new result }
     {
-        match end_of_block(&mut self.input, order, size) {
-            Ok(()) => match self.interfaces.push(interface) {
-                Ok(()) => Ok(None),
-                Err(_) => Err(FaultKind::OutOfMemory),
-            },
-            Err(fault) => Err(fault),
+        end_of_block(&mut self.input, order, size)?;
+        match self.interfaces.push(interface) {
+            Ok(()) => Ok(None),
+            Err(_) => Err(FaultKind::OutOfMemory),
         }
     }
 
@@ -115,14 +107,10 @@ impl<R: BufRead> Pieces<R> {
         requires { head.captured + 32 ≤ size }
         ensures { ReadsPiece R.Read.remaining (enhanced_behind order size (state_of self.old) head) self.old self.new result }
     {
-        match self.interface_at(head.interface as usize) {
-            Ok(interface) => {
-                let moment = milliseconds_of(head.ticks, interface.units);
-                let rest = size - 32 - head.captured;
-                self.packet_frame(interface.link, head.captured, moment, rest, order, size)
-            }
-            Err(fault) => Err(fault),
-        }
+        let interface = self.interface_at(head.interface as usize)?;
+        let moment = milliseconds_of(head.ticks, interface.units);
+        let rest = size - 32 - head.captured;
+        self.packet_frame(interface.link, head.captured, moment, rest, order, size)
     }
 
     // The interface of a number in its section.

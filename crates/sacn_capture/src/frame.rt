@@ -10,7 +10,7 @@ use crate::links::{LinkType, Passed, packet_place};
 use crate::octets::ByteOrder;
 
 /// The least header of IPv4, in octets.
-const LEAST_HEAD: usize = 20;
+const MIN_HEAD: usize = 20;
 
 /// The header of UDP, in octets.
 const UDP_HEAD: usize = 8;
@@ -49,14 +49,14 @@ pub fn datagram_in(link: LinkType, frame: &[u8]) -> Result<Datagram<'_>, Passed>
 fn datagram_of(packet: &[u8]) -> Result<Datagram<'_>, Passed>
     ensures { map_ok sent_of result ≡ reading_packet packet.now }
 {
-    if packet.len() < LEAST_HEAD {
+    if packet.len() < MIN_HEAD {
         return Err(Passed::Cut);
     }
     if packet[0] >> 4 != 4 {
         return Err(Passed::NotIpv4);
     }
     let head = head_len(packet);
-    if head < LEAST_HEAD {
+    if head < MIN_HEAD {
         return Err(Passed::NotIpv4);
     }
     if packet[9] != UDP {

@@ -104,10 +104,8 @@ fn leave_out<R: BufRead>(reader: &mut R, count: u64) -> Result<(), FaultKind>
     let mut left = count;
     while left > 0 {
         let step = left.min(PIECE);
-        match leave_piece(reader, step as usize) {
-            Ok(()) => left -= step,
-            Err(fault) => return Err(fault),
-        }
+        leave_piece(reader, step as usize)?;
+        left -= step;
     }
     Ok(())
 }

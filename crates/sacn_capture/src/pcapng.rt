@@ -40,7 +40,7 @@ const ORDER_MAGIC: u32 = 0x1a2b_3c4d;
 const MAJOR: u16 = 1;
 
 /// A section header without options.
-const LEAST_SECTION: u32 = 28;
+const MIN_SECTION: u32 = 28;
 
 /// The options of an interface that are looked at, by their codes.
 const OPTION_END: u16 = 0;
@@ -158,7 +158,7 @@ fn checked_section(order: ByteOrder, octets: &[u8]) -> Result<Section, FaultKind
         return Err(FaultKind::Version);
     }
     let length = order.u32_at(octets, 4);
-    if length < LEAST_SECTION {
+    if length < MIN_SECTION {
         return Err(FaultKind::Length);
     }
     if length % 4 != 0 {

@@ -21,7 +21,7 @@ use std::alloc::Global;
 use std::io::BufRead;
 
 /// The most interfaces of a section.
-pub const MOST_INTERFACES: usize = 256;
+pub const MAX_INTERFACES: usize = 256;
 
 /// A recording that is read, piece by piece, in memory that doesn't grow with it.
 #[derive(Drop)]
@@ -44,20 +44,18 @@ impl<R: BufRead + Drop> Pieces<R> {
         let Ok(buffer) = Buffer::new(alloc) else {
             return Err(FaultKind::OutOfMemory);
         };
-        let Ok(interfaces) = Vec::with_capacity(alloc, MOST_INTERFACES) else {
+        let Ok(interfaces) = Vec::with_capacity(alloc, MAX_INTERFACES) else {
             return Err(FaultKind::OutOfMemory);
         };
         let mut input = Input { reader, at: 0 };
-        match first_header(&mut input) {
-            Ok(format) => Ok(Pieces {
-                input,
-                format,
-                interfaces,
-                buffer,
-                moment: 0,
-            }),
-            Err(fault) => Err(fault),
-        }
+        let format = first_header(&mut input)?;
+        Ok(Pieces {
+            input,
+            format,
+            interfaces,
+            buffer,
+            moment: 0,
+        })
     }
 }
 
@@ -93,10 +91,8 @@ impl<R: BufRead> Pieces<R> {
         ensures exact { ReadsPiece R.Read.remaining (record_piece header (state_of self.old)) self.old self.new result }
     {
         let mut octets = [0; RECORD_HEAD];
-        match self.input.fill(&mut octets) {
-            Ok(()) => self.framed(header, &octets),
-            Err(fault) => Err(fault),
-        }
+        self.input.fill(&mut octets)?;
+        self.framed(header, &octets)
     }
 
     // The frame behind a record's head.
@@ -105,16 +101,10 @@ impl<R: BufRead> Pieces<R> {
         ensures frame { IfOk result (λ found. IfSome found (λ frame. ReadsFrame header octets.now frame self.new.moment (R.Read.remaining self.old.input.reader) (R.Read.remaining self.new.input.reader) self.new.buffer.octets.items)) }
         ensures exact { ReadsPiece R.Read.remaining (record_behind header (state_of self.old) octets.now) self.old self.new result }
     {
-        match pcap_record_head(header.stamp, octets) {
-            Ok(head) => match self.taken(Some(header.link), head.captured) {
-                Ok(frame) => {
-                    self.moment = head.moment;
-                    Ok(Some(frame))
-                }
-                Err(fault) => Err(fault),
-            },
-            Err(fault) => Err(fault),
-        }
+        let head = pcap_record_head(header.stamp, octets)?;
+        let frame = self.taken(Some(header.link), head.captured)?;
+        self.moment = head.moment;
+        Ok(Some(frame))
     }
 
     // A block of a pcapng file.
@@ -122,10 +112,8 @@ impl<R: BufRead> Pieces<R> {
         ensures { ReadsPiece R.Read.remaining (so_many 8 ▷ λ head. block_behind order (state_of self.old) head) self.old self.new result }
     {
         let mut octets = [0; BLOCK_HEAD];
-        match self.input.fill(&mut octets) {
-            Ok(()) => self.behind(order, octets),
-            Err(fault) => Err(fault),
-        }
+        self.input.fill(&mut octets)?;
+        self.behind(order, octets)
     }
 
     // What stands behind a block's head.
@@ -150,10 +138,8 @@ impl<R: BufRead> Pieces<R> {
     ) -> Result<Option<Frame>, FaultKind>
         ensures { ReadsPiece R.Read.remaining (other_behind order (state_of self.old) octets) self.old self.new result }
     {
-        match pcapng_block_head(order, &octets) {
-            Ok(head) => self.by_kind(order, head),
-            Err(fault) => Err(fault),
-        }
+        let head = pcapng_block_head(order, &octets)?;
+        self.by_kind(order, head)
     }
 
     // A section header: the interfaces before it are forgotten.

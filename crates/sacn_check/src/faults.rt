@@ -16,7 +16,7 @@ use sacn_node::{SetupFault, read_node};
 use sacn_schedule::{WorldTextFault, read_schedule, read_world};
 use std::alloc::{AllocError, Global};
 
-/// All faults of a text that should be a file of this kind, at most [`MOST_TOLD`](crate::MOST_TOLD) told and the rest
+/// All faults of a text that should be a file of this kind, at most [`MAX_TOLD`](crate::MAX_TOLD) told and the rest
 /// counted.
 ///
 /// There are none exactly where the kind's reader gives a value, and else the first is the one that the reader answers.

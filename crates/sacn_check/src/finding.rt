@@ -8,7 +8,7 @@ use crate::spelling::{push_found, push_place, push_wanted};
 use std::alloc::{AllocError, Global};
 
 /// How many faults of a file are told; the others are counted.
-pub const MOST_TOLD: usize = 100;
+pub const MAX_TOLD: usize = 100;
 
 /// Why a cue or an entry of the patch is refused, more closely than its reader says.
 #[derive(Clone, Copy, Debug, PartialEq, Eq)]
@@ -47,7 +47,7 @@ pub struct Finding {
 /// The faults of a file.
 #[derive(Drop)]
 pub struct Findings {
-    /// The first of them, at most [`MOST_TOLD`].
+    /// The first of them, at most [`MAX_TOLD`].
     pub told: Vec<Finding>,
     /// How many others there are.
     pub more: usize,
@@ -97,7 +97,7 @@ impl Findings {
 
     /// Takes a fault after those before it, or counts it.
     pub(crate) fn take(&mut self, alloc: Global, fault: &Fault<'_>) -> Result<(), AllocError> {
-        if MOST_TOLD <= self.told.len() {
+        if MAX_TOLD <= self.told.len() {
             self.more = self.more.saturating_add(1);
             return Ok(());
         }

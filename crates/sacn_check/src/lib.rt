@@ -21,7 +21,7 @@ mod values;
 mod worlds;
 
 pub use faults::faults_of;
-pub use finding::{Detail, Finding, Findings, MOST_TOLD};
+pub use finding::{Detail, Finding, Findings, MAX_TOLD};
 pub use kinds::{FileKind, kind_of};
 pub use refusal::Refusal;
 pub use report::{ReportFault, write_report, write_unread};

@@ -1,10 +1,9 @@
 //! The keys of each table, and what has to stand there: a line for each line of the readers' definitions.
 
-use sacn_cues::{FULL, MAX_CHANNELS, MOST_FADE};
-use sacn_files::limits::{LEAST_UDP_PORT, MOST_UDP_PORT};
-use sacn_framing::{LEAST_UNIVERSE, MOST_PRIORITY, MOST_UNIVERSE};
-use sacn_node::{LEAST_PORT, MOST_PORT};
-use sacn_slots::SLOTS;
+use sacn_cues::{FULL, MAX_CHANNELS, MAX_FADE};
+use sacn_files::limits::{MAX_UDP_PORT, MIN_UDP_PORT};
+use sacn_node::{MAX_PORT, MIN_PORT};
+use sacn_universe::{MAX_PRIORITY, MAX_UNIVERSE, MIN_UNIVERSE, SLOTS};
 
 /// The tables that have keys of their own.
 #[derive(Clone, Copy)]
@@ -85,7 +84,7 @@ const BYTES: Span = Span { low: 0, high: 255 };
 
 const PRIORITIES: Span = Span {
     low: 0,
-    high: MOST_PRIORITY as u32,
+    high: MAX_PRIORITY as u32,
 };
 
 pub(crate) const CHANNELS: Span = Span {
@@ -101,12 +100,12 @@ pub(crate) const LEVELS: Span = Span {
 /// Milliseconds of a fade.
 pub(crate) const TIMES: Span = Span {
     low: 0,
-    high: MOST_FADE,
+    high: MAX_FADE,
 };
 
 pub(crate) const UNIVERSES: Span = Span {
-    low: LEAST_UNIVERSE as u32,
-    high: MOST_UNIVERSE as u32,
+    low: MIN_UNIVERSE as u32,
+    high: MAX_UNIVERSE as u32,
 };
 
 pub(crate) const SLOTS_OF_ONE: Span = Span {
@@ -121,13 +120,13 @@ pub(crate) const WIDE_SLOTS: Span = Span {
 };
 
 pub(crate) const UDP_PORTS: Span = Span {
-    low: LEAST_UDP_PORT as u32,
-    high: MOST_UDP_PORT as u32,
+    low: MIN_UDP_PORT as u32,
+    high: MAX_UDP_PORT as u32,
 };
 
 const PORTS: Span = Span {
-    low: LEAST_PORT as u32,
-    high: MOST_PORT as u32,
+    low: MIN_PORT as u32,
+    high: MAX_PORT as u32,
 };
 
 const SHOW: &[Rule] = &[

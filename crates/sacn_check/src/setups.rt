@@ -5,9 +5,8 @@ use crate::place::{Found, Path, Place};
 use crate::refusal::Owner;
 use crate::rules::Wanted;
 use sacn_files::values::{byte_at, inner_rows, rows_at, short_at, value_in};
-use sacn_framing::{LEAST_UNIVERSE, MOST_UNIVERSE};
-use sacn_node::{LEAST_PORT, MAX_PORTS, MAX_UNIVERSES, MOST_PORT, SetupFault};
-use sacn_slots::SLOTS;
+use sacn_node::{MAX_PORT, MAX_PORTS, MAX_UNIVERSES, MIN_PORT, SetupFault};
+use sacn_universe::{MAX_UNIVERSE, MIN_UNIVERSE, SLOTS};
 use std::alloc::{AllocError, Global};
 use std::collections::BTreeSet;
 use toml::{Table, Value};
@@ -78,7 +77,7 @@ fn taken_numbers(
 ) -> Result<(), AllocError> {
     let mut numbers = BTreeSet::new(alloc);
     for (index, row) in rows.iter().enumerate() {
-        if let Some(number) = byte_at(row, "number", LEAST_PORT, MOST_PORT) {
+        if let Some(number) = byte_at(row, "number", MIN_PORT, MAX_PORT) {
             if !numbers.insert(number)? {
                 let place = Place::Key(Path::top(owner).below("port", index), "number");
                 let found = found_in(row, "number");
@@ -120,7 +119,7 @@ fn too_many_universes(
 
 // Notes a range's universe: whether there are now too many.
 fn is_one_too_many(universes: &mut BTreeSet<u16>, range: &Value) -> Result<bool, AllocError> {
-    let Some(universe) = short_at(range, "universe", LEAST_UNIVERSE, MOST_UNIVERSE) else {
+    let Some(universe) = short_at(range, "universe", MIN_UNIVERSE, MAX_UNIVERSE) else {
         return Ok(false);
     };
     universes.insert(universe)?;

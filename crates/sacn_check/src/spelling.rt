@@ -10,7 +10,7 @@ use std::alloc::AllocError;
 use std::fmt::{InlineText, Write};
 
 /// The letters of a value, a line or a key that are shown.
-const MOST_LETTERS: usize = 40;
+const MAX_LETTERS: usize = 40;
 
 /// Octets enough for that many letters.
 const ROOM: usize = 192;
@@ -41,7 +41,7 @@ pub(crate) fn push_shown(text: &mut String, shown: &str) -> Result<(), AllocErro
 
 /// The first letters of a text that comes from outside, and two dots where there are more.
 pub(crate) fn push_cut(text: &mut String, shown: &str) -> Result<(), AllocError> {
-    let mut left = MOST_LETTERS;
+    let mut left = MAX_LETTERS;
     for letter in shown.chars() {
         if left == 0 {
             return text.push_str("..");

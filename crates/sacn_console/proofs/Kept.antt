@@ -7,7 +7,7 @@ use Rattle.sacn_cues.specs.Playing.{Played, moved, level_mastered}
 use Rattle.sacn_cues.specs.Playing as play
 use Rattle.sacn_cues.specs.History as history
 use Rattle.sacn_cues.specs.History.{History, StepsFollowTheCalls, ReadingsShowTheLevels}
-use Rattle.sacn_console.specs.declared.limits.TheConstants.{LEAST_GAP, TERMINATIONS, DISCOVERY_INTERVAL}
+use Rattle.sacn_console.specs.declared.limits.TheConstants.{MIN_GAP, TERMINATIONS, DISCOVERY_INTERVAL}
 use Rattle.sacn_discovery.specs.Pages.{page_count}
 use Rattle.sacn_console.specs.Lights.{Lights, lights_at, frame, frame_now, ordered, player_command}
 use Rattle.sacn_console.proofs.Frames.{later, twice, after_moved}
@@ -40,7 +40,7 @@ module _ (reads : ReadingsShowTheLevels) (follows : StepsFollowTheCalls) where
   line_due_same : (life : Life) (t : ℕ) (ds : List Deed) (u : ℕ) → line_due (lights_by life t ds) t (line_by life.first ds u) ≡ universe_due life t ds u
   unfolding line_due universe_due mode
   line_due_same life t ds u =
-      ap (λ (f : List ℕ). passed LEAST_GAP t (latest (packets u ds)) && asks t (latest (packets u ds)) f (state_by (is_ended u ds) (packets_since u ds))) (frame_same life t ds u)
+      ap (λ (f : List ℕ). passed MIN_GAP t (latest (packets u ds)) && asks t (latest (packets u ds)) f (state_by (is_ended u ds) (packets_since u ds))) (frame_same life t ds u)
       ∙ state_due_same (frame_by life u t ds) t (latest (packets u ds)) (is_ended u ds) (packets_since u ds)
 
   found_same : (life : Life) (t : ℕ) (ds : List Deed) (us : List ℕ) →

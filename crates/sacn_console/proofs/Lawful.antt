@@ -8,7 +8,7 @@ use Rattle.std.proofs.lemmas.Option.{same_Some}
 use Rattle.sacn_framing.specs.Data.{IsData}
 use Rattle.sacn_framing.specs.Page.{IsPage}
 use Rattle.sacn_discovery.specs.Pages.{page_count, page_of_list}
-use Rattle.sacn_console.specs.Shows.{IsUniverse}
+use Rattle.sacn_universe.specs.Universe.{IsUniverse}
 use Rattle.sacn_console.specs.Lights.{Lights}
 use Rattle.sacn_console.specs.Lines.{Page, Datagram, Paged, line_due, is_stopped}
 use Rattle.sacn_console.specs.Core.{Core, IsLawful, at, due, due_by, line_found, page_by, page_due, standing, packet_with, packet_of, universes_of}
@@ -35,8 +35,7 @@ lawful_packet sender p t l cid name priority u = record {
   cid = cid;
   name = name;
   priority = priority;
-  least_universe = u.0;
-  most_universe = u.1;
+  universe = u;
   slots = let e = frame_len p l.universe t in omega (arith, e);
 }
 

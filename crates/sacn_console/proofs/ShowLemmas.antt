@@ -1,5 +1,5 @@
 -- What is read as a show keeps the limits of a console.
-use Rattle.std.proofs.Common.{◌≡◌, ℕ, pos, negsuc, ◌≤◌, nat_le, Bool, true, false, ◌&&◌, if◌then◌else◌, List, [], ◌∷◌, length, map, Option, None, Some, option_and_then, option_map, refl, sym, ap, ◌∙◌, arith, codes}
+use Rattle.std.proofs.Common.{◌≡◌, ℕ, pos, negsuc, ◌≤◌, nat_le, Bool, true, false, ◌&&◌, if◌then◌else◌, List, [], ◌∷◌, length, map, Option, None, Some, Ok, option_and_then, option_map, refl, sym, ap, ◌∙◌, arith}
 use Rattle.std.specs.Prelude.{All}
 use Rattle.std.specs.List.{AllByRecursion}
 use Rattle.std.specs.List.Sorted.{IsStrictlyIncreasing}
@@ -7,17 +7,17 @@ use Rattle.std.proofs.lemmas.Bool.Decides.{nat_tests}
 use Rattle.std.proofs.lemmas.Bool.{and_parts}
 use Rattle.std.proofs.lemmas.List.Elements.{All-from_recursion, recursion_from_All}
 use Rattle.std.proofs.lemmas.List.Sorted.{All-permutation, length_permutation}
-use Rattle.toml.specs.Data.{Data, Members, string, integer, float, boolean, datetime, array, table, get_member, as_str}
-use Rattle.sacn_framing.specs.Naming.{is_nameable, name_from, padded}
-use Rattle.sacn_patch.specs.declared.limits.TheConstants.{MAX_UNIVERSE}
+use Rattle.toml.specs.Data.{Data, string, integer, float, boolean, datetime, array, table}
+use Rattle.sacn_universe.specs.declared.limits.TheConstants.{MAX_UNIVERSE}
 use Rattle.sacn_files.specs.Values.{number_in}
 use Rattle.sacn_files.specs.Rows.{each}
 use Rattle.sacn_files.specs.Numbered.{has_repeat, in_order}
 use Rattle.sacn_files.proofs.AscentLemmas.{in_order_rises, in_order_keeps}
 use Rattle.sacn_console.specs.declared.limits.TheConstants.{CONSOLE_UNIVERSES, MAX_DESTINATIONS}
-use Rattle.sacn_files.specs.declared.limits.TheConstants.{LEAST_UDP_PORT, MOST_UDP_PORT}
-use Rattle.sacn_console.specs.Shows.{IsUniverse, AreUniverses}
-use Rattle.sacn_console.specs.ShowReading.{name_in, cid_in, priority_of, identity_in}
+use Rattle.sacn_files.specs.declared.limits.TheConstants.{MIN_UDP_PORT, MAX_UDP_PORT}
+use Rattle.sacn_universe.specs.Universe.{IsUniverse}
+use Rattle.sacn_console.specs.Shows.{AreUniverses}
+use Rattle.sacn_console.specs.ShowReading.{required}
 
 -- chains of readings
 some_is : {X : Type 0} (x y : X) → Some x ≡ Some y → x ≡ y
@@ -73,9 +73,17 @@ each_long {X} read (d ∷ ds) xs e =
     let long : length rest.0 ≡ length ds = each_long read ds rest.0 rest.1 in
     rw (← rest.2, long) refl
 
+-- what was required is there
+is_there : {X : Type 0} (o : Option X) (x : X) → required o ≡ Ok x → o ≡ Some x
+is_there None x e = let bad : ⊥ = cc in absurd bad
+is_there (Some y) x e = let is : y ≡ x = cc in ap Some is
+
 -- as many ports as there are values
-pub ports_written : (ds : List Data) (ps : List ℕ) → each (number_in LEAST_UDP_PORT MOST_UDP_PORT) ds ≡ Some ps → length ds ≤ MAX_DESTINATIONS → length ps ≤ MAX_DESTINATIONS
-ports_written ds ps e few = let long : length ps ≡ length ds = each_long (number_in LEAST_UDP_PORT MOST_UDP_PORT) ds ps e in rw long few
+pub ports_written : (ds : List Data) (ps : List ℕ) → required (each (number_in MIN_UDP_PORT MAX_UDP_PORT) ds) ≡ Ok ps → length ds ≤ MAX_DESTINATIONS → length ps ≤ MAX_DESTINATIONS
+ports_written ds ps e few =
+    let there = is_there (each (number_in MIN_UDP_PORT MAX_UDP_PORT) ds) ps e in
+    let long : length ps ≡ length ds = each_long (number_in MIN_UDP_PORT MAX_UDP_PORT) ds ps there in
+    rw long few
 
 -- the universes, in ascending order
 same_numbers : (xs : List ℕ) → map (λ n. n) xs ≡ xs
@@ -90,11 +98,12 @@ ascend us once =
     let once2 : has_repeat (map (λ n. n) us) ≡ false = rw (same_numbers us) once in
     rw (same_numbers (in_order (λ n. n) us)) at (in_order_rises (λ (n : ℕ). n) us once2)
 
-pub universes_written : (ds : List Data) (us : List ℕ) → each (number_in 1 MAX_UNIVERSE) ds ≡ Some us → length ds ≤ CONSOLE_UNIVERSES → has_repeat us ≡ false → AreUniverses (in_order (λ n. n) us)
+pub universes_written : (ds : List Data) (us : List ℕ) → required (each (number_in 1 MAX_UNIVERSE) ds) ≡ Ok us → length ds ≤ CONSOLE_UNIVERSES → has_repeat us ≡ false → AreUniverses (in_order (λ n. n) us)
 universes_written ds us e few once =
+    let there = is_there (each (number_in 1 MAX_UNIVERSE) ds) us e in
     let kept = in_order_keeps (λ (n : ℕ). n) us in
-    let long : length us ≡ length ds = each_long (number_in 1 MAX_UNIVERSE) ds us e in
-    let all : All IsUniverse us = All-from_recursion IsUniverse us (each_all (number_in 1 MAX_UNIVERSE) IsUniverse universe_written ds us e) in
+    let long : length us ≡ length ds = each_long (number_in 1 MAX_UNIVERSE) ds us there in
+    let all : All IsUniverse us = All-from_recursion IsUniverse us (each_all (number_in 1 MAX_UNIVERSE) IsUniverse universe_written ds us there) in
     record {
       ascending = ascend us once;
       universes = recursion_from_All IsUniverse (in_order (λ n. n) us) (All-permutation IsUniverse us (in_order (λ n. n) us) kept all);
@@ -106,30 +115,3 @@ once xs ys b e h k =
     let a : has_repeat (map (λ n. n) xs) ≡ false = sym h ∙ k in
     let a2 : has_repeat xs ≡ false = rw (same_numbers xs) at a in
     rw e at a2
-
--- ---- who sends
-
-not_named : (b : Bool) (t n : List ℕ) → (if b then Some n else None) ≡ None → (if b then Some t else None) ≡ None
-not_named true t n e = let bad : ⊥ = cc in absurd bad
-not_named false t n e = refl
-
-is_named : (b : Bool) (t n m : List ℕ) → (if b then Some n else None) ≡ Some m → (if b then Some t else None) ≡ Some t
-is_named true t n m e = refl
-is_named false t n m e = let bad : ⊥ = cc in absurd bad
-
-name_missing : (o : Option Data) (t : List ℕ) → option_and_then as_str o ≡ Some t → name_from t ≡ None → option_and_then name_in o ≡ None
-name_missing None t e h = refl
-name_missing (Some d) t e h = rw e (not_named (is_nameable t) t (padded t) h)
-
-name_there : (o : Option Data) (t m : List ℕ) → option_and_then as_str o ≡ Some t → name_from t ≡ Some m → option_and_then name_in o ≡ Some t
-name_there None t m e h = let bad : ⊥ = cc in absurd bad
-name_there (Some d) t m e h = rw e (is_named (is_nameable t) t (padded t) m h)
-
-pub no_identity : (ms : Members) (cid t : List ℕ) → option_and_then cid_in (get_member (codes "cid") ms) ≡ Some cid → option_and_then as_str (get_member (codes "name") ms) ≡ Some t → name_from t ≡ None → identity_in ms ≡ None
-no_identity ms cid t ce te h = rw (ce, name_missing (get_member (codes "name") ms) t te h) refl
-
-pub no_priority : (ms : Members) (cid t m : List ℕ) → option_and_then cid_in (get_member (codes "cid") ms) ≡ Some cid → option_and_then as_str (get_member (codes "name") ms) ≡ Some t → name_from t ≡ Some m → priority_of ms ≡ None → identity_in ms ≡ None
-no_priority ms cid t m ce te h pe = rw (ce, name_there (get_member (codes "name") ms) t m te h, pe) refl
-
-pub identity_is : (ms : Members) (cid t m : List ℕ) (p : ℕ) → option_and_then cid_in (get_member (codes "cid") ms) ≡ Some cid → option_and_then as_str (get_member (codes "name") ms) ≡ Some t → name_from t ≡ Some m → priority_of ms ≡ Some p → identity_in ms ≡ Some (record { cid = cid; name = t; priority = p })
-identity_is ms cid t m p ce te h pe = rw (ce, name_there (get_member (codes "name") ms) t m te h, pe) refl

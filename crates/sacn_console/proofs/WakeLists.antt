@@ -4,7 +4,7 @@ use Rattle.std.proofs.lemmas.Bool.Decides.{nat_tests}
 use Rattle.std.proofs.lemmas.List.{length-set, length-replicate, get_or-set_other, get_or_read}
 use Rattle.std.proofs.lemmas.Grind.{get_or-set_at}
 use Rattle.sacn_cues.specs.Playing.{is_still}
-use Rattle.sacn_console.specs.declared.limits.TheConstants.{LEAST_GAP}
+use Rattle.sacn_console.specs.declared.limits.TheConstants.{MIN_GAP}
 use Rattle.sacn_console.specs.Lights.{Lights, lights_at, frame}
 use Rattle.sacn_console.specs.Lines.{same, passed, asks, line_due}
 use Rattle.sacn_console.specs.Core.{Core, no_line}
@@ -138,7 +138,7 @@ wakes_cleared w new p q t s lines ok is = rw is (record {
 
 pub line_later : (p : Lights) (t s : ℕ) (l : Line) → t ≤ s → line_due (lights_at t p) s l ≡ line_due p s l
 unfolding line_due
-line_later p t s l le = ap (λ (f : List ℕ). passed LEAST_GAP s l.last && asks s l.last f l.state) (frame_later p l.universe t s le)
+line_later p t s l le = ap (λ (f : List ℕ). passed MIN_GAP s l.last && asks s l.last f l.state) (frame_later p l.universe t s le)
 
 -- the clock moves on, and the fades run or rest as before
 pub wakes_later : (w : Waking) (p : Lights) (t now s from : ℕ) (lines : List Line) → WakesOk w p t lines → t ≤ s → now ≤ s → (is_still (lights_at now p).player ≡ true → is_still p.player ≡ true) →

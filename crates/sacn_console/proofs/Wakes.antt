@@ -2,7 +2,7 @@
 use Rattle.std.proofs.Common.{◌≡◌, ℕ, ◌+◌, ◌-◌, ◌%◌, ◌<◌, ◌≤◌, min, Bool, true, false, not, ◌&&◌, ◌||◌, ◌==◌, if◌then◌else◌, nat_lt, nat_le, List, Option, Some, None, refl, arith, sym, ◌∙◌}
 use Rattle.std.proofs.lemmas.Bool.Decides.{nat_tests}
 use Rattle.sacn_cues.specs.Playing.{StaysAsItIs, is_still}
-use Rattle.sacn_console.specs.declared.limits.TheConstants.{LEAST_GAP, KEEP_ALIVE}
+use Rattle.sacn_console.specs.declared.limits.TheConstants.{MIN_GAP, KEEP_ALIVE}
 use Rattle.sacn_console.specs.Lights.{Lights, frame, frame_now}
 use Rattle.sacn_console.specs.Lines.{same, passed, asks, line_due, line_sent, state_sent, fresh_run, is_stopped}
 use Rattle.sacn_console.specs.Wakes.{Finds, FrameStays, IsWake, IsQuiet, last_moment, when_passed, wake_sent}
@@ -51,9 +51,9 @@ ahead wait t (Some m) e = next_first wait last_moment t m (is_above wait (t - m)
 longer_gap : (a b t m : ℕ) → a ≤ b → b ≤ t - m → a ≤ t - m
 longer_gap a b t m le h = omega (arith, le, h)
 
-gap_passed : (t : ℕ) (last : Option ℕ) → passed KEEP_ALIVE t last ≡ true → passed LEAST_GAP t last ≡ true
+gap_passed : (t : ℕ) (last : Option ℕ) → passed KEEP_ALIVE t last ≡ true → passed MIN_GAP t last ≡ true
 gap_passed t None e = refl
-gap_passed t (Some m) e = le_true LEAST_GAP (t - m) (longer_gap LEAST_GAP KEEP_ALIVE t m (omega arith) (is_le KEEP_ALIVE (t - m) e))
+gap_passed t (Some m) e = le_true MIN_GAP (t - m) (longer_gap MIN_GAP KEEP_ALIVE t m (omega arith) (is_le KEEP_ALIVE (t - m) e))
 
 goes_on : (wait t w m : ℕ) → t ≤ w → wait ≤ t - m → wait ≤ w - m
 goes_on wait t w m le h = omega (arith, le, h)
@@ -122,19 +122,19 @@ quiet_alive t last f st go h = elim (passed KEEP_ALIVE t last) as (λ b. passed 
 
 stopped_sleeps : (p : Lights) (s : ℕ) (l : Line) → is_stopped l.state ≡ true → line_due p s l ≡ false
 unfolding line_due
-stopped_sleeps p s l e = second_false (passed LEAST_GAP s l.last) _ (stopped_asks s l.last (frame p l.universe s) l.state e)
+stopped_sleeps p s l e = second_false (passed MIN_GAP s l.last) _ (stopped_asks s l.last (frame p l.universe s) l.state e)
 
-early_sleeps : (p : Lights) (s : ℕ) (l : Line) → passed LEAST_GAP s l.last ≡ false → line_due p s l ≡ false
+early_sleeps : (p : Lights) (s : ℕ) (l : Line) → passed MIN_GAP s l.last ≡ false → line_due p s l ≡ false
 unfolding line_due
-early_sleeps p s l e = first_false (passed LEAST_GAP s l.last) _ e
+early_sleeps p s l e = first_false (passed MIN_GAP s l.last) _ e
 
 asks_sleeps : (p : Lights) (s : ℕ) (l : Line) (f : List ℕ) → frame p l.universe s ≡ f → asks s l.last f l.state ≡ false → line_due p s l ≡ false
 unfolding line_due
-asks_sleeps p s l f fe e = second_false (passed LEAST_GAP s l.last) _ (rw fe e)
+asks_sleeps p s l f fe e = second_false (passed MIN_GAP s l.last) _ (rw fe e)
 
-asks_due : (p : Lights) (s : ℕ) (l : Line) (f : List ℕ) → frame p l.universe s ≡ f → passed LEAST_GAP s l.last ≡ true → asks s l.last f l.state ≡ true → line_due p s l ≡ true
+asks_due : (p : Lights) (s : ℕ) (l : Line) (f : List ℕ) → frame p l.universe s ≡ f → passed MIN_GAP s l.last ≡ true → asks s l.last f l.state ≡ true → line_due p s l ≡ true
 unfolding line_due
-asks_due p s l f fe e h = both_true (passed LEAST_GAP s l.last) _ e (rw fe h)
+asks_due p s l f fe e h = both_true (passed MIN_GAP s l.last) _ e (rw fe h)
 
 alive_due : (p : Lights) (s : ℕ) (l : Line) → is_stopped l.state ≡ false → passed KEEP_ALIVE s l.last ≡ true → line_due p s l ≡ true
 alive_due p s l go e = asks_due p s l (frame p l.universe s) refl (gap_passed s l.last e) (asks_alive s l.last (frame p l.universe s) l.state go e)
@@ -151,22 +151,22 @@ pub both_ways : (b : Bool) → b ≡ true → b ≡ false → ⊥
 both_ways true e f = absurd (cc)
 both_ways false e f = absurd (cc)
 
-pub look_fading : (p : Lights) (t : ℕ) (l : Line) (f : List ℕ) (w : ℕ) (b : Bool) → b ≡ is_still p.player → b ≡ false → passed LEAST_GAP t l.last ≡ false → w ≡ when_passed LEAST_GAP l.last → Finds p t l f (Asleep w)
+pub look_fading : (p : Lights) (t : ℕ) (l : Line) (f : List ℕ) (w : ℕ) (b : Bool) → b ≡ is_still p.player → b ≡ false → passed MIN_GAP t l.last ≡ false → w ≡ when_passed MIN_GAP l.last → Finds p t l f (Asleep w)
 look_fading p t l f w b tells not_still e is = (
-  (early_sleeps p t l e, rw is (ahead LEAST_GAP t l.last e)),
-  (λ s from lt. early_sleeps p s l (not_passed LEAST_GAP s l.last (omega arith) (rw is at lt)), λ still from lt. absurd (both_ways b (tells ∙ still) not_still)),
+  (early_sleeps p t l e, rw is (ahead MIN_GAP t l.last e)),
+  (λ s from lt. early_sleeps p s l (not_passed MIN_GAP s l.last (omega arith) (rw is at lt)), λ still from lt. absurd (both_ways b (tells ∙ still) not_still)),
 )
 
-pub look_waiting : (p : Lights) (t : ℕ) (l : Line) (f : List ℕ) (w : ℕ) → p.player.moment ≡ t → StaysAsItIs p.player → f ≡ frame_now p l.universe → passed LEAST_GAP t l.last ≡ false → asks t l.last f l.state ≡ true → w ≡ when_passed LEAST_GAP l.last → Finds p t l f (Asleep w)
+pub look_waiting : (p : Lights) (t : ℕ) (l : Line) (f : List ℕ) (w : ℕ) → p.player.moment ≡ t → StaysAsItIs p.player → f ≡ frame_now p l.universe → passed MIN_GAP t l.last ≡ false → asks t l.last f l.state ≡ true → w ≡ when_passed MIN_GAP l.last → Finds p t l f (Asleep w)
 look_waiting p t l f w m stays fe e h is = (
-  (early_sleeps p t l e, rw is (ahead LEAST_GAP t l.last e)),
+  (early_sleeps p t l e, rw is (ahead MIN_GAP t l.last e)),
   (
-    λ s from lt. early_sleeps p s l (not_passed LEAST_GAP s l.last (omega arith) (rw is at lt)),
-    λ still from lt. asks_due p w l f (frame_stays p l.universe w stays ∙ sym fe) (passed_then LEAST_GAP w l.last is lt) (asks_on t w l.last f l.state (omega (arith, from)) h),
+    λ s from lt. early_sleeps p s l (not_passed MIN_GAP s l.last (omega arith) (rw is at lt)),
+    λ still from lt. asks_due p w l f (frame_stays p l.universe w stays ∙ sym fe) (passed_then MIN_GAP w l.last is lt) (asks_on t w l.last f l.state (omega (arith, from)) h),
   ),
 )
 
-pub look_due : (p : Lights) (t : ℕ) (l : Line) (f : List ℕ) → p.player.moment ≡ t → passed LEAST_GAP t l.last ≡ true → f ≡ frame_now p l.universe → asks t l.last f l.state ≡ true → Finds p t l f Due
+pub look_due : (p : Lights) (t : ℕ) (l : Line) (f : List ℕ) → p.player.moment ≡ t → passed MIN_GAP t l.last ≡ true → f ≡ frame_now p l.universe → asks t l.last f l.state ≡ true → Finds p t l f Due
 look_due p t l f m e fe h =
     let is : frame p l.universe t ≡ f = now_is p l.universe t m ∙ sym fe in
     (asks_due p t l f is e h, sym is)
@@ -251,8 +251,8 @@ before_gap t last = omega arith
 before_keep : (t last : ℕ) → min (t + 1) last ≤ min (t + 900) last
 before_keep t last = omega arith
 
-gap_starts : (t : ℕ) → nat_le LEAST_GAP (t - t) ≡ false
-gap_starts t = le_false LEAST_GAP (t - t) (omega arith)
+gap_starts : (t : ℕ) → nat_le MIN_GAP (t - t) ≡ false
+gap_starts t = le_false MIN_GAP (t - t) (omega arith)
 
 -- what holds of a line right after its packet: f is its frame
 abbrev pub SentAt : Lights → ℕ → List ℕ → Line → Type 0
@@ -265,20 +265,20 @@ same_as : (f g : List ℕ) → f ≡ g → same f g ≡ true
 same_as f g e = rw e (same_self g)
 
 -- a state that asks at each moment: the next packet comes with the least gap
-gap_wake : (p : Lights) (t : ℕ) (l : Line) → l.last ≡ Some t → (is_still p.player ≡ true → (s : ℕ) (f : List ℕ) → asks s l.last f l.state ≡ true) → IsQuiet p t (when_passed LEAST_GAP l.last) l × IsWake p t (when_passed LEAST_GAP l.last) l
+gap_wake : (p : Lights) (t : ℕ) (l : Line) → l.last ≡ Some t → (is_still p.player ≡ true → (s : ℕ) (f : List ℕ) → asks s l.last f l.state ≡ true) → IsQuiet p t (when_passed MIN_GAP l.last) l × IsWake p t (when_passed MIN_GAP l.last) l
 gap_wake p t l e h =
-    let early : passed LEAST_GAP t l.last ≡ false = rw e (gap_starts t) in (
-      (early_sleeps p t l early, ahead LEAST_GAP t l.last early),
+    let early : passed MIN_GAP t l.last ≡ false = rw e (gap_starts t) in (
+      (early_sleeps p t l early, ahead MIN_GAP t l.last early),
       (
-        λ s from lt. early_sleeps p s l (not_passed LEAST_GAP s l.last (omega arith) lt),
-        λ still from lt. asks_due p (when_passed LEAST_GAP l.last) l (frame p l.universe (when_passed LEAST_GAP l.last)) refl (passed_then LEAST_GAP (when_passed LEAST_GAP l.last) l.last refl lt) (h still (when_passed LEAST_GAP l.last) (frame p l.universe (when_passed LEAST_GAP l.last))),
+        λ s from lt. early_sleeps p s l (not_passed MIN_GAP s l.last (omega arith) lt),
+        λ still from lt. asks_due p (when_passed MIN_GAP l.last) l (frame p l.universe (when_passed MIN_GAP l.last)) refl (passed_then MIN_GAP (when_passed MIN_GAP l.last) l.last refl lt) (h still (when_passed MIN_GAP l.last) (frame p l.universe (when_passed MIN_GAP l.last))),
       ),
     )
 
 -- nothing is owed, and no fade runs: a keep-alive packet comes next
 keep_wake : (p : Lights) (t : ℕ) (l : Line) (r : Run) (f : List ℕ) → l.last ≡ Some t → l.state ≡ Running (Some r) → r.owed ≡ 0 → r.frame ≡ f → ((s : ℕ) → frame p l.universe s ≡ f) → IsQuiet p t (when_passed KEEP_ALIVE l.last) l × IsWake p t (when_passed KEEP_ALIVE l.last) l
 keep_wake p t l r f e st owed fr stays =
-    let early : passed LEAST_GAP t l.last ≡ false = rw e (gap_starts t) in
+    let early : passed MIN_GAP t l.last ≡ false = rw e (gap_starts t) in
     let first : min (t + 1) last_moment ≤ when_passed KEEP_ALIVE l.last = rw e (before_keep t last_moment) in (
       (early_sleeps p t l early, first),
       (
@@ -288,7 +288,7 @@ keep_wake p t l r f e st owed fr stays =
     )
 
 run_wake : (p : Lights) (t : ℕ) (l : Line) (r : Run) (f : List ℕ) (still b : Bool) → (still && r.owed == 0) ≡ b → l.last ≡ Some t → l.state ≡ Running (Some r) → r.frame ≡ f → f ≡ frame p l.universe t → p.player.moment ≡ t → still ≡ is_still p.player → (still ≡ true → StaysAsItIs p.player) →
-    IsQuiet p t (if b then when_passed KEEP_ALIVE l.last else when_passed LEAST_GAP l.last) l × IsWake p t (if b then when_passed KEEP_ALIVE l.last else when_passed LEAST_GAP l.last) l
+    IsQuiet p t (if b then when_passed KEEP_ALIVE l.last else when_passed MIN_GAP l.last) l × IsWake p t (if b then when_passed KEEP_ALIVE l.last else when_passed MIN_GAP l.last) l
 run_wake p t l r f still true is e st fr fe m tells stays = keep_wake p t l r f e st (zero_if still r.owed is) fr (λ s. frame_of p t s l.universe f m (stays (still_if still r.owed is)) fe)
 run_wake p t l r f still false is e st fr fe m tells stays = gap_wake p t l e (λ yes s g. rw st (owed_asks r.owed (passed KEEP_ALIVE s l.last || not (same r.frame g)) (owed_if still r.owed is (tells ∙ yes))))
 

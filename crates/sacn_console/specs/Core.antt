@@ -10,7 +10,7 @@ use Rattle.sacn_discovery.specs.Pages.{page_count, page_of_list, numbers_on}
 use Rattle.sacn_cues.specs.Playing.{refusal}
 use Rattle.sacn_cues.specs.Playing as play
 use Rattle.sacn_console.specs.Lights.{Lights, frame, lights_at, player_command, ordered, play_answer}
-use Rattle.sacn_console.specs.Shows.{IsUniverse}
+use Rattle.sacn_universe.specs.Universe.{IsUniverse, IsPriority, Rising}
 use Rattle.sacn_console.specs.declared.limits.TheConstants.{CONSOLE_UNIVERSES, DISCOVERY_INTERVAL}
 use Rattle.sacn_console.specs.Lines.{Page, Datagram, Packet, Paged, Deed, Accepted, Gave, line_due, line_after, is_ending, is_stopped}
 use Rattle.sacn_console.specs.declared.sender.Sender.{Sender}
@@ -191,16 +191,11 @@ after_command now k c = taken k (answer k (at now c)) (at now c)
 abbrev pub universes_of : List Line → List ℕ
 universes_of lines = map (λ l. l.universe) lines
 
--- each number is below all later ones
-abbrev pub Rising : List ℕ → Type 0
-Rising [] = Unit {0}
-Rising (x ∷ xs) = AllByRecursion (λ y. x < y) xs × Rising xs
-
 pub record CoreOk (c : Core) : Type 0 where
   pub rising : Rising (universes_of c.lines)
   pub universes : AllByRecursion IsUniverse (universes_of c.lines)
   pub few : length c.lines ≤ CONSOLE_UNIVERSES
   pub listed : Rising c.listed
-  pub priority : c.sender.priority ≤ 200
+  pub priority : IsPriority c.sender.priority
   pub clock : c.lights.player.moment ≡ c.moment
   pub later : (b : Begun) → c.cycle ≡ Some b → 0 < b.next

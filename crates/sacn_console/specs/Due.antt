@@ -10,7 +10,7 @@ use Rattle.sacn_cues.specs.History.{History, Order, accepted, current_cue, maste
 use Rattle.sacn_cues.specs.declared.limits.TheConstants.{FULL}
 use Rattle.sacn_console.specs.Lights.{player_command, play_answer}
 use Rattle.sacn_console.specs.Shows.{ShowContent}
-use Rattle.sacn_console.specs.declared.limits.TheConstants.{LEAST_GAP, KEEP_ALIVE, REPEATS, TERMINATIONS}
+use Rattle.sacn_console.specs.declared.limits.TheConstants.{MIN_GAP, KEEP_ALIVE, REPEATS, TERMINATIONS}
 use Rattle.sacn_framing.specs.Naming.{padded}
 use Rattle.sacn_console.specs.Lines.{Datagram, Packet, Paged, Deed, Accepted, Gave, same, passed}
 use Rattle.sacn_console.specs.Core.{page_by}
@@ -114,8 +114,8 @@ latest [] = None
 latest (a ∷ ss) = Some a.moment
 
 abbrev pub due_in : Mode → ℕ → Option ℕ → List ℕ → List Sent → Bool
-due_in Runs t last f ss = (passed LEAST_GAP t last && (would_be_new f ss || nat_lt (follow_new ss) REPEATS)) || passed KEEP_ALIVE t last
-due_in Ends t last f ss = passed LEAST_GAP t last
+due_in Runs t last f ss = (passed MIN_GAP t last && (would_be_new f ss || nat_lt (follow_new ss) REPEATS)) || passed KEEP_ALIVE t last
+due_in Ends t last f ss = passed MIN_GAP t last
 due_in Stops t last f ss = false
 
 abbrev pub with_player : ℕ → Option play.Command → History → History

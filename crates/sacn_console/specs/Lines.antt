@@ -4,7 +4,7 @@ use Rattle.std.specs.Cmp.Lexicographic.{pointwise}
 use Rattle.std.specs.Bool.{nat_eq}
 use Rattle.sacn_framing.specs.Data.{Data}
 use Rattle.sacn_console.specs.Lights.{Lights, frame}
-use Rattle.sacn_console.specs.declared.limits.TheConstants.{LEAST_GAP, KEEP_ALIVE, REPEATS, TERMINATIONS}
+use Rattle.sacn_console.specs.declared.limits.TheConstants.{MIN_GAP, KEEP_ALIVE, REPEATS, TERMINATIONS}
 use Rattle.sacn_console.specs.declared.command.Command.{Command}
 use Rattle.sacn_console.specs.declared.command.Command.TheVariants.{EndUniverse, StartUniverse}
 use Rattle.sacn_console.specs.declared.line.Run.{Run}
@@ -43,7 +43,7 @@ asks t last f Stopped = false
 
 -- the universe is due at t
 unfoldable pub line_due : Lights → ℕ → Line → Bool
-line_due p t l = passed LEAST_GAP t l.last && asks t l.last (frame p l.universe t) l.state
+line_due p t l = passed MIN_GAP t l.last && asks t l.last (frame p l.universe t) l.state
 
 abbrev pub fresh_run : List ℕ → Run
 fresh_run f = record { frame = f; owed = REPEATS }

@@ -1,24 +1,25 @@
 -- A show file: its faults by phases, and its value (profile).
-use Rattle.std.specs.Prelude.{◌≡◌, ◌&&◌, ◌==◌, ℕ, nat_le, Bool, not, false, List, [], ◌∷◌, length, Option, None, Some, if◌then◌else◌, codes, option_and_then, option_map, Result, Ok, Err}
-use Rattle.std.specs.Prelude.{◌⊎◌}
+use Rattle.std.specs.Prelude.{◌≡◌, ◌⊎◌, ◌&&◌, ◌==◌, ℕ, nat_le, Bool, not, false, List, [], ◌∷◌, length, Option, None, Some, if◌then◌else◌, codes, option_and_then, ok_or, Result, Ok, Err}
 use Rattle.std.specs.List.{list_any}
 use Rattle.std.specs.FinMap.{insert, empty}
 use Rattle.toml.specs.Data.{Data, Members, get_member, as_str, as_bool}
 use Rattle.uuid.specs.Text.{parsed}
 use Rattle.sacn_framing.specs.Naming.{is_nameable}
-use Rattle.sacn_framing.specs.declared.framing.TheConstants.{MOST_PRIORITY}
+use Rattle.sacn_universe.specs.declared.limits.TheConstants.{MAX_PRIORITY}
 use Rattle.sacn_patch.specs.Patch.{Patched, with_slot, refusal}
 use Rattle.sacn_patch.specs.declared.fault.PatchFault.{PatchFault}
-use Rattle.sacn_patch.specs.declared.limits.TheConstants.{MAX_UNIVERSE}
-use Rattle.sacn_cues.specs.Adding.{refusal_at}
+use Rattle.sacn_universe.specs.declared.limits.TheConstants.{MAX_UNIVERSE}
+use Rattle.sacn_cues.specs.Adding.{refusal_at, kept_of}
 use Rattle.sacn_cues.specs.Cues.{Cues, KeptCue}
+use Rattle.sacn_cues.specs.declared.cue.Cue.{Cue as CueValue}
 use Rattle.sacn_cues.specs.declared.fault.CueFault.{CueFault}
 use Rattle.sacn_files.specs.Keys.{has_known_keys, has_keys, rows_are_known, rows_have_keys}
 use Rattle.sacn_files.specs.Values.{rows_at, has_rows, number_in, number_at, array_values, array_at, members_or_none, value_or}
 use Rattle.sacn_files.specs.Rows.{each}
+use Rattle.sacn_files.specs.Lines.{before}
 use Rattle.sacn_files.specs.Numbered.{has_repeat, in_order}
 use Rattle.sacn_files.specs.Document.{version_in}
-use Rattle.sacn_files.specs.declared.limits.TheConstants.{DEFAULT_UDP_PORT, LEAST_UDP_PORT, MOST_UDP_PORT}
+use Rattle.sacn_files.specs.declared.limits.TheConstants.{DEFAULT_UDP_PORT, MIN_UDP_PORT, MAX_UDP_PORT}
 use Rattle.sacn_files.specs.declared.faults.FileFault.{FileFault}
 use Rattle.sacn_files.specs.declared.faults.FileFault.TheVariants as file
 use Rattle.sacn_console.specs.Shows.{ShowContent}
@@ -27,12 +28,27 @@ use Rattle.sacn_console.specs.declared.show.fault.ShowFault.{ShowFault}
 use Rattle.sacn_console.specs.declared.show.fault.ShowFault.TheVariants.{OutOfMemory, Toml, MissingKey, UnknownKey, KeyValue, Version, Cue, Patch}
 use Rattle.sacn_console.specs.declared.show.patches.PatchRow.{PatchRow}
 
--- a cue as a row gives it
-pub record CueRow : Type 0 where
-  pub number : ℕ
-  pub up : ℕ
-  pub down : ℕ
-  pub levels : List (ℕ × ℕ)
+-- one reading after another: what the last gives, or the first fault
+infixl 10 ◌>>=◌
+abbrev pub ◌>>=◌ : {A B : Type 0} → Result A ShowFault → (A → Result B ShowFault) → Result B ShowFault
+(Ok x) >>= next = next x
+(Err fault) >>= next = Err fault
+
+-- a value that has to be there, of its kind and in its range
+abbrev pub required : {X : Type 0} → Option X → Result X ShowFault
+required o = ok_or o KeyValue
+
+-- a call gives what stands for this value, or this fault, unless a request for memory was refused
+abbrev pub GivesAs : {X Y : Type 0} → (X → Y) → Result X ShowFault → Result Y ShowFault → Type 0
+GivesAs value (Ok x) wanted = wanted ≡ Ok (value x)
+GivesAs value (Err fault) wanted = (fault ≡ OutOfMemory) ⊎ (wanted ≡ Err fault)
+
+-- a cue: its number, and its times and levels
+abbrev pub NumberedCue : Type 0
+NumberedCue = ℕ × KeptCue
+
+abbrev pub numbered : CueValue → NumberedCue
+numbered cue = (cue.number, kept_of cue)
 
 -- who sends: the values that stand alone
 pub record Identity : Type 0 where
@@ -40,7 +56,7 @@ pub record Identity : Type 0 where
   pub name : List ℕ
   pub priority : ℕ
 
--- the keys of each table
+-- the keys of a show's own table, and those of them that are required
 abbrev pub top_keys : List (List ℕ)
 top_keys = codes "version" ∷ codes "cid" ∷ codes "name" ∷ codes "priority" ∷ codes "universes" ∷ codes "send_to" ∷ codes "cue" ∷ codes "patch" ∷ []
 
@@ -54,27 +70,24 @@ abbrev pub patch_rows : Members → List Data
 patch_rows ms = rows_at (codes "patch") ms
 
 -- each key of a cue is required
-abbrev pub cues_known : ℕ → List Data → Bool
-cues_known version rows =
-    if version == 1 then rows_are_known (codes "number" ∷ codes "fade" ∷ codes "levels" ∷ []) rows
-    else rows_are_known (codes "number" ∷ codes "up" ∷ codes "down" ∷ codes "levels" ∷ []) rows
+abbrev pub cue_keys : ℕ → List (List ℕ)
+cue_keys version =
+    if version == 1 then codes "number" ∷ codes "fade" ∷ codes "levels" ∷ []
+    else codes "number" ∷ codes "up" ∷ codes "down" ∷ codes "levels" ∷ []
 
-abbrev pub cues_complete : ℕ → List Data → Bool
-cues_complete version rows =
-    if version == 1 then rows_have_keys (codes "number" ∷ codes "fade" ∷ codes "levels" ∷ []) rows
-    else rows_have_keys (codes "number" ∷ codes "up" ∷ codes "down" ∷ codes "levels" ∷ []) rows
+abbrev pub patch_keys : List (List ℕ)
+patch_keys = codes "channel" ∷ codes "universe" ∷ codes "slot" ∷ codes "wide" ∷ []
 
-abbrev pub patches_known : List Data → Bool
-patches_known rows = rows_are_known (codes "channel" ∷ codes "universe" ∷ codes "slot" ∷ codes "wide" ∷ []) rows
+abbrev pub patch_required : List (List ℕ)
+patch_required = codes "channel" ∷ codes "universe" ∷ codes "slot" ∷ []
 
-abbrev pub patches_complete : List Data → Bool
-patches_complete rows = rows_have_keys (codes "channel" ∷ codes "universe" ∷ codes "slot" ∷ []) rows
-
+-- no table has another key
 abbrev pub keys_are_known : ℕ → Members → Bool
-keys_are_known version ms = has_known_keys top_keys ms && (cues_known version (cue_rows ms) && patches_known (patch_rows ms))
+keys_are_known version ms = has_known_keys top_keys ms && (rows_are_known (cue_keys version) (cue_rows ms) && rows_are_known patch_keys (patch_rows ms))
 
+-- each required key is there
 abbrev pub keys_are_there : ℕ → Members → Bool
-keys_are_there version ms = has_keys top_required ms && (cues_complete version (cue_rows ms) && patches_complete (patch_rows ms))
+keys_are_there version ms = has_keys top_required ms && (rows_have_keys (cue_keys version) (cue_rows ms) && rows_have_keys patch_required (patch_rows ms))
 
 -- a name: at most 63 octets, none of them NUL
 abbrev pub name_in : Data → Option (List ℕ)
@@ -84,12 +97,14 @@ abbrev pub cid_in : Data → Option (List ℕ)
 cid_in d = option_and_then parsed (as_str d)
 
 abbrev pub priority_of : Members → Option ℕ
-priority_of ms = value_or DEFAULT_PRIORITY (number_in 0 MOST_PRIORITY) (get_member (codes "priority") ms)
+priority_of ms = value_or DEFAULT_PRIORITY (number_in 0 MAX_PRIORITY) (get_member (codes "priority") ms)
 
-abbrev pub identity_in : Members → Option Identity
-identity_in ms =
-    option_and_then (λ c. option_and_then (λ n. option_map (λ p. record { cid = c; name = n; priority = p })
-    (priority_of ms)) (option_and_then name_in (get_member (codes "name") ms))) (option_and_then cid_in (get_member (codes "cid") ms))
+abbrev pub identity_in : Members → Result Identity ShowFault
+identity_in ms = do
+  cid ← required (option_and_then cid_in (get_member (codes "cid") ms))
+  name ← required (option_and_then name_in (get_member (codes "name") ms))
+  priority ← required (priority_of ms)
+  Ok (record { cid = cid; name = name; priority = priority })
 
 -- at most CONSOLE_UNIVERSES different numbers, in ascending order
 abbrev pub different : List ℕ → Option (List ℕ)
@@ -103,7 +118,7 @@ universes_of ms = option_and_then (λ d. option_and_then universes_in (array_val
 
 -- at most MAX_DESTINATIONS ports, in the file's order
 abbrev pub send_to_in : List Data → Option (List ℕ)
-send_to_in ds = if nat_le (length ds) MAX_DESTINATIONS then each (number_in LEAST_UDP_PORT MOST_UDP_PORT) ds else None
+send_to_in ds = if nat_le (length ds) MAX_DESTINATIONS then each (number_in MIN_UDP_PORT MAX_UDP_PORT) ds else None
 
 abbrev pub send_to_of : Members → Option (List ℕ)
 send_to_of ms = value_or (DEFAULT_UDP_PORT ∷ []) (λ d. option_and_then send_to_in (array_values d)) (get_member (codes "send_to") ms)
@@ -125,13 +140,16 @@ times_in version d =
     if version == 1 then option_and_then (λ t. Some (t, t)) (number_at 0 4294967295 (codes "fade") d)
     else option_and_then (λ up. option_and_then (λ down. Some (up, down)) (number_at 0 4294967295 (codes "down") d)) (number_at 0 4294967295 (codes "up") d)
 
-abbrev pub cue_in : ℕ → Data → Option CueRow
-cue_in version d =
-    option_and_then (λ n. option_and_then (λ t. option_map (λ ls. record { number = n; up = t.0; down = t.1; levels = ls })
-    (levels_at d)) (times_in version d)) (number_at 0 65535 (codes "number") d)
+abbrev pub cue_in : ℕ → Data → Result NumberedCue ShowFault
+cue_in version d = do
+  number ← required (number_at 0 65535 (codes "number") d)
+  times ← required (times_in version d)
+  levels ← required (levels_at d)
+  Ok (number, record { up = times.0; down = times.1; levels = levels })
 
-abbrev pub cues_in : ℕ → List Data → Option (List CueRow)
-cues_in version ds = each (cue_in version) ds
+abbrev pub cues_in : ℕ → List Data → Result (List NumberedCue) ShowFault
+cues_in version [] = Ok []
+cues_in version (d ∷ ds) = before (cue_in version d) (cues_in version ds)
 
 abbrev pub wide_of : Data → Option Bool
 wide_of d = value_or false as_bool (get_member (codes "wide") (members_or_none d))
@@ -145,73 +163,65 @@ patch_in d =
 abbrev pub patches_in : List Data → Option (List PatchRow)
 patches_in ds = each patch_in ds
 
--- the times and the levels of a row's cue
-abbrev pub kept_of : CueRow → KeptCue
-kept_of c = record { up = c.up; down = c.down; levels = c.levels }
+-- what a file says, value by value
+pub record Draft : Type 0 where
+  pub identity : Identity
+  pub universes : List ℕ
+  pub send_to : List ℕ
+  pub cues : List NumberedCue
+  pub patch : List PatchRow
 
--- the last phase: each cue added to those before it, then each row of the patch, whose universe is one of the show's
-abbrev pub unless_cue : Option CueFault → Option Cues → Option Cues
+abbrev pub draft_in : ℕ → Members → Result Draft ShowFault
+draft_in version ms = do
+  identity ← identity_in ms
+  universes ← required (universes_of ms)
+  send_to ← required (send_to_of ms)
+  cues ← cues_in version (cue_rows ms)
+  patch ← required (patches_in (patch_rows ms))
+  Ok (record { identity = identity; universes = universes; send_to = send_to; cues = cues; patch = patch })
+
+-- each cue added to those before it
+abbrev pub unless_cue : Option CueFault → Result Cues ShowFault → Result Cues ShowFault
 unless_cue None later = later
-unless_cue (Some fault) later = None
+unless_cue (Some fault) later = Err Cue
 
-abbrev pub cues_added : Cues → List CueRow → Option Cues
-cues_added done [] = Some done
-cues_added done (c ∷ cs) = unless_cue (refusal_at done c.number (kept_of c)) (cues_added (insert done c.number (kept_of c)) cs)
+abbrev pub cues_added : Cues → List NumberedCue → Result Cues ShowFault
+cues_added done [] = Ok done
+cues_added done (c ∷ cs) = unless_cue (refusal_at done c.0 c.1) (cues_added (insert done c.0 c.1) cs)
 
-abbrev pub unless_patch : Option PatchFault → Option Patched → Option Patched
+-- each row of the patch, whose universe is one of the show's, added to those before it
+abbrev pub unless_patch : Option PatchFault → Result Patched ShowFault → Result Patched ShowFault
 unless_patch None later = later
-unless_patch (Some fault) later = None
+unless_patch (Some fault) later = Err Patch
 
-abbrev pub patches_added : List ℕ → Patched → List PatchRow → Option Patched
-patches_added us done [] = Some done
+abbrev pub patches_added : List ℕ → Patched → List PatchRow → Result Patched ShowFault
+patches_added us done [] = Ok done
 patches_added us done (r ∷ rs) =
-    if list_any (λ u. u == r.universe) us then unless_patch (refusal done r.channel r.universe r.slot r.wide) (patches_added us (with_slot done r.channel r.universe r.slot r.wide) rs) else None
+    if list_any (λ u. u == r.universe) us then unless_patch (refusal done r.channel r.universe r.slot r.wide) (patches_added us (with_slot done r.channel r.universe r.slot r.wide) rs) else Err Patch
 
-abbrev pub with_patch : Identity → List ℕ → List ℕ → Cues → Option Patched → Result ShowContent ShowFault
-with_patch identity us to cs None = Err Patch
-with_patch identity us to cs (Some es) = Ok (record { cid = identity.cid; name = identity.name; priority = identity.priority; universes = us; send_to = to; cues = cs; patch = es })
+-- the last phase: the cues, and then the patch
+abbrev pub last_phase : Draft → Result ShowContent ShowFault
+last_phase draft = do
+  cues ← cues_added empty draft.cues
+  patch ← patches_added draft.universes empty draft.patch
+  Ok (record { cid = draft.identity.cid; name = draft.identity.name; priority = draft.identity.priority; universes = draft.universes; send_to = draft.send_to; cues = cues; patch = patch })
 
-abbrev pub with_cues : Identity → List ℕ → List ℕ → List PatchRow → Option Cues → Result ShowContent ShowFault
-with_cues identity us to es None = Err Cue
-with_cues identity us to es (Some cs) = with_patch identity us to cs (patches_added us empty es)
-
-abbrev pub own_phase : Identity → List ℕ → List ℕ → List CueRow → List PatchRow → Result ShowContent ShowFault
-own_phase identity us to cs es = with_cues identity us to es (cues_added empty cs)
-
--- a value that has to be there
-abbrev pub or_key_value : {X : Type 0} → (X → Result ShowContent ShowFault) → Option X → Result ShowContent ShowFault
-or_key_value next None = Err KeyValue
-or_key_value next (Some x) = next x
-
--- the values one after another, and then the last phase
-abbrev pub patch_phase : Members → Identity → List ℕ → List ℕ → List CueRow → Result ShowContent ShowFault
-patch_phase ms identity us to cs = or_key_value (own_phase identity us to cs) (patches_in (patch_rows ms))
-
-abbrev pub cue_phase : ℕ → Members → Identity → List ℕ → List ℕ → Result ShowContent ShowFault
-cue_phase version ms identity us to = or_key_value (patch_phase ms identity us to) (cues_in version (cue_rows ms))
-
-abbrev pub send_to_phase : ℕ → Members → Identity → List ℕ → Result ShowContent ShowFault
-send_to_phase version ms identity us = or_key_value (cue_phase version ms identity us) (send_to_of ms)
-
-abbrev pub universe_phase : ℕ → Members → Identity → Result ShowContent ShowFault
-universe_phase version ms identity = or_key_value (send_to_phase version ms identity) (universes_of ms)
-
+-- the values, and then the last phase
 abbrev pub value_phase : ℕ → Members → Result ShowContent ShowFault
-value_phase version ms =
-    if has_rows (codes "cue") ms && has_rows (codes "patch") ms then or_key_value (universe_phase version ms) (identity_in ms) else Err KeyValue
+value_phase version ms = if has_rows (codes "cue") ms && has_rows (codes "patch") ms then draft_in version ms >>= last_phase else Err KeyValue
 
 -- the same fault of a show
-abbrev pub fault_of : FileFault → ShowFault
-fault_of file.OutOfMemory = OutOfMemory
-fault_of file.Toml = Toml
-fault_of file.MissingKey = MissingKey
-fault_of file.UnknownKey = UnknownKey
-fault_of file.KeyValue = KeyValue
-fault_of file.Version = Version
+abbrev pub show_fault_of : FileFault → ShowFault
+show_fault_of file.OutOfMemory = OutOfMemory
+show_fault_of file.Toml = Toml
+show_fault_of file.MissingKey = MissingKey
+show_fault_of file.UnknownKey = UnknownKey
+show_fault_of file.KeyValue = KeyValue
+show_fault_of file.Version = Version
 
 -- the phases after the version
 abbrev pub after_version : Result ℕ FileFault → Members → Result ShowContent ShowFault
-after_version (Err fault) ms = Err (fault_of fault)
+after_version (Err fault) ms = Err (show_fault_of fault)
 after_version (Ok version) ms =
     if not (keys_are_known version ms) then Err UnknownKey
     else if not (keys_are_there version ms) then Err MissingKey
@@ -225,8 +235,3 @@ show_in ms = after_version (version_in NEWEST_SHOW (get_member (codes "version")
 abbrev pub show_or_toml : Option Members → Result ShowContent ShowFault
 show_or_toml None = Err Toml
 show_or_toml (Some ms) = show_in ms
-
--- a list to which others are added, of which one may be refused; want of memory apart
-abbrev pub Adds : {X : Type 0} → ShowFault → Result X ShowFault → Option X → Type 0
-Adds refused (Ok xs) wanted = wanted ≡ Some xs
-Adds refused (Err fault) wanted = (fault ≡ OutOfMemory) ⊎ ((fault ≡ refused) × (wanted ≡ None))

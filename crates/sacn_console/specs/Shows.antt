@@ -3,7 +3,7 @@ use Rattle.std.specs.Prelude.{◌≡◌, ℕ, ◌≤◌, true, List, length}
 use Rattle.std.specs.List.{AllByRecursion}
 use Rattle.std.specs.List.Sorted.{IsStrictlyIncreasing}
 use Rattle.sacn_patch.specs.Patch.{Patched}
-use Rattle.sacn_patch.specs.declared.limits.TheConstants.{MAX_UNIVERSE}
+use Rattle.sacn_universe.specs.Universe.{IsUniverse, IsPriority}
 use Rattle.sacn_cues.specs.Cues.{Cues}
 use Rattle.sacn_framing.specs.Naming.{is_nameable}
 use Rattle.sacn_console.specs.declared.limits.TheConstants.{CONSOLE_UNIVERSES, MAX_DESTINATIONS}
@@ -18,9 +18,6 @@ pub record ShowContent : Type 0 where
   pub cues : Cues
   pub patch : Patched
 
-abbrev pub IsUniverse : ℕ → Type 0
-IsUniverse u = (1 ≤ u) × (u ≤ MAX_UNIVERSE)
-
 -- what holds of the universes of each show
 pub record AreUniverses (us : List ℕ) : Type 0 where
   pub ascending : IsStrictlyIncreasing us
@@ -30,7 +27,7 @@ pub record AreUniverses (us : List ℕ) : Type 0 where
 -- what holds of each show
 pub record ShowOk (s : ShowContent) : Type 0 where
   pub name : is_nameable s.name ≡ true
-  pub priority : s.priority ≤ 200
+  pub priority : IsPriority s.priority
   pub ascending : IsStrictlyIncreasing s.universes
   pub universes : AllByRecursion IsUniverse s.universes
   pub few : length s.universes ≤ CONSOLE_UNIVERSES

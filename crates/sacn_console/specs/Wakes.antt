@@ -3,7 +3,7 @@ use Rattle.std.specs.Prelude.{◌≡◌, ℕ, ◌+◌, ◌<◌, ◌≤◌, min, 
 use Rattle.sacn_cues.specs.Playing.{is_still}
 use Rattle.sacn_cues.specs.Levels as levels
 use Rattle.sacn_console.specs.Lights.{Lights, frame, frame_now}
-use Rattle.sacn_console.specs.declared.limits.TheConstants.{LEAST_GAP, KEEP_ALIVE}
+use Rattle.sacn_console.specs.declared.limits.TheConstants.{MIN_GAP, KEEP_ALIVE}
 use Rattle.sacn_console.specs.declared.line.Look.{Look}
 use Rattle.sacn_console.specs.declared.line.Look.TheVariants.{Due, Asleep}
 use Rattle.sacn_console.specs.Lines.{line_due}
@@ -47,9 +47,9 @@ Finds p t l slots (Asleep wake) = IsQuiet p t wake l × IsWake p t wake l
 
 -- the wake of a line in a state, right after its packet
 abbrev pub wake_sent : Bool → Option ℕ → State → ℕ
-wake_sent still last (Running None) = when_passed LEAST_GAP last
-wake_sent still last (Running (Some r)) = if still && r.owed == 0 then when_passed KEEP_ALIVE last else when_passed LEAST_GAP last
-wake_sent still last (Ending n) = when_passed LEAST_GAP last
+wake_sent still last (Running None) = when_passed MIN_GAP last
+wake_sent still last (Running (Some r)) = if still && r.owed == 0 then when_passed KEEP_ALIVE last else when_passed MIN_GAP last
+wake_sent still last (Ending n) = when_passed MIN_GAP last
 wake_sent still last Stopped = last_moment
 
 -- the wakes of all lines, a moment that is none the later, and a place before which no line is due

@@ -8,7 +8,7 @@ ghost use Rattle.sacn_console.specs.Lights.{told};
 mod giving;
 
 use crate::command::{Command, ConsoleFault};
-use crate::limits::{CONSOLE_UNIVERSES, MOST_OCTETS, TERMINATIONS};
+use crate::limits::{CONSOLE_UNIVERSES, MAX_DATAGRAM, TERMINATIONS};
 use crate::line::{Begun, Line, State, can_end, can_start};
 use crate::lines::{first_lines, place_of};
 use crate::sender::Sender;
@@ -61,7 +61,8 @@ impl ConsoleCore {
     ghost use Rattle.sacn_console.specs.Lights.{frame};
     ghost use Rattle.sacn_console.specs.Due.{life_of};
     ghost use Rattle.sacn_console.specs.Runs.{core_by};
-    ghost use Rattle.sacn_console.specs.Core.{Core, Rising, universes_of, taken, is_of, end_answer, start_answer, line_found, line_at, packet_at, page_due, standing, due, IsLawful, at, after, after_poll, after_command, given, answer, over, size, text};
+    ghost use Rattle.sacn_universe.specs.Universe.{Rising};
+    ghost use Rattle.sacn_console.specs.Core.{Core, universes_of, taken, is_of, end_answer, start_answer, line_found, line_at, packet_at, page_due, standing, due, IsLawful, at, after, after_poll, after_command, given, answer, over, size, text};
     ghost use Rattle.sacn_console.specs.Lines.{line_in, Datagram, Packet, Paged, Gave, Accepted, Page};
     ghost use Rattle.sacn_console.specs.declared.line.Line.{Line as KeptLine};
     ghost use Rattle.sacn_console.specs.declared.show.fault.ShowFault.TheVariants.{OutOfMemory};
@@ -102,7 +103,7 @@ impl ConsoleCore {
     /// octets at the front of `out`, and their number. The least-numbered due universe goes first;
     /// where none is due, the next discovery page. Octets past the answer, and all after None, are
     /// as they were.
-    pub fn poll(&mut self, now: u64, out: &mut [u8; MOST_OCTETS]) -> Option<usize>
+    pub fn poll(&mut self, now: u64, out: &mut [u8; MAX_DATAGRAM]) -> Option<usize>
         ensures answer { result ≡ option_map size (due (at now self.old)) }
         ensures octets { out.new ≡ over self.old.sender (due (at now self.old)) out.old }
         ensures core { self.new ≡ after_poll now self.old }

@@ -3,7 +3,7 @@ ghost use Rattle.sacn_console.specs.Runs.{PacketsAreNumbered, StepsAreTheList};
 ghost use Rattle.sacn_console.specs.PageCounts.{PagesAreCounted};
 ghost use Rattle.sacn_console.specs.Least.{LeastGoesFirst};
 ghost use Rattle.std.specs.Prelude.{◌≡◌};
-ghost use Rattle.sacn_console.specs.declared.limits.TheConstants.{CONSOLE_UNIVERSES, DEFAULT_PRIORITY, DISCOVERY_INTERVAL, KEEP_ALIVE, LEAST_GAP, MAX_DESTINATIONS, MOST_OCTETS, NEWEST_SHOW, REPEATS, TERMINATIONS};
+ghost use Rattle.sacn_console.specs.declared.limits.TheConstants.{CONSOLE_UNIVERSES, DEFAULT_PRIORITY, DISCOVERY_INTERVAL, KEEP_ALIVE, MIN_GAP, MAX_DESTINATIONS, MAX_DATAGRAM, NEWEST_SHOW, REPEATS, TERMINATIONS};
 
 use sacn_cues::laws::{readings_show_the_levels, steps_follow_the_calls};
 
@@ -22,7 +22,7 @@ pub fn packets_are_numbered()
 {}
 
 /// Which discovery page comes next follows from counting: its number is how many pages were given
-/// since the latest cycle's first one, until the cycle's list has no more (E1.31 section 8).
+/// since the latest cycle's first one, until the cycle's list has no more (E1.31, 8).
 pub fn pages_are_counted()
     ensures { PagesAreCounted }
 {}
@@ -36,13 +36,13 @@ pub fn least_goes_first()
 /// What the numbers of a console and of its shows are, times in milliseconds.
 pub fn numbers()
     ensures universes { CONSOLE_UNIVERSES ≡ 1024 }
-    ensures gap { LEAST_GAP ≡ 25 }
+    ensures gap { MIN_GAP ≡ 25 }
     ensures keep_alive { KEEP_ALIVE ≡ 900 }
     ensures repeats { REPEATS ≡ 3 }
     ensures terminations { TERMINATIONS ≡ 3 }
     ensures discovery { DISCOVERY_INTERVAL ≡ 10000 }
     ensures destinations { MAX_DESTINATIONS ≡ 8 }
     ensures priority { DEFAULT_PRIORITY ≡ 100 }
-    ensures octets { MOST_OCTETS ≡ 1144 }
+    ensures octets { MAX_DATAGRAM ≡ 1144 }
     ensures version { NEWEST_SHOW ≡ 2 }
 {}

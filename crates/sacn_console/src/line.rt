@@ -9,9 +9,10 @@ ghost use Rattle.sacn_console.specs.Core.{end_answer, start_answer};
 ghost use Rattle.sacn_console.specs.declared.limits.TheConstants as limits;
 
 use crate::command::ConsoleFault;
-use crate::limits::{KEEP_ALIVE, LEAST_GAP, REPEATS};
+use crate::limits::{KEEP_ALIVE, MIN_GAP, REPEATS};
 use sacn_cues::PlayerAt;
-use sacn_patch::{FlatPatch, SLOTS};
+use sacn_patch::FlatPatch;
+use sacn_universe::SLOTS;
 
 /// The frame of the latest packet, and how many repeats of it are owed.
 #[derive(Clone, Copy)]
@@ -134,7 +135,7 @@ impl Line {
         if self.is_stopped() {
             return Look::Asleep(u64::MAX);
         }
-        if !passed(LEAST_GAP, moment, self.last) {
+        if !passed(MIN_GAP, moment, self.last) {
             return self.look_early(patch, player, is_still, moment, slots);
         }
         fill(patch, player, self.universe, slots);
@@ -163,11 +164,11 @@ impl Line {
         requires clock { player.now.player.now.moment ≡ moment }
         requires tells { is_still ≡ play.is_still player.now.player.now }
         requires still { is_still ≡ true → StaysAsItIs player.now.player.now }
-        requires early { passed limits.LEAST_GAP moment self.now.last ≡ false }
+        requires early { passed limits.MIN_GAP moment self.now.last ≡ false }
         requires goes { is_stopped self.now.state ≡ false }
         ensures { Finds (record { patch = patch.now; player = player.now.player.now }) moment self.now slots.new result }
     {
-        let gap = when_passed(LEAST_GAP, self.last);
+        let gap = when_passed(MIN_GAP, self.last);
         if !is_still {
             return Look::Asleep(gap);
         }
@@ -183,15 +184,15 @@ impl Line {
         ensures { result ≡ wake_sent is_still self.now.last self.now.state }
     {
         match &self.state {
-            State::Running(None) => when_passed(LEAST_GAP, self.last),
+            State::Running(None) => when_passed(MIN_GAP, self.last),
             State::Running(Some(run)) => {
                 if is_still && run.owed == 0 {
                     when_passed(KEEP_ALIVE, self.last)
                 } else {
-                    when_passed(LEAST_GAP, self.last)
+                    when_passed(MIN_GAP, self.last)
                 }
             }
-            State::Ending(_) => when_passed(LEAST_GAP, self.last),
+            State::Ending(_) => when_passed(MIN_GAP, self.last),
             State::Stopped => u64::MAX,
         }
     }

@@ -1,6 +1,6 @@
 //! A script's text.
-ghost use Rattle.std.specs.Prelude.{◌≡◌, map};
-ghost use Rattle.sacn_files.specs.Document.{Gives};
+ghost use Rattle.std.specs.Prelude.{◌≡◌, map, ok_or};
+ghost use Rattle.sacn_files.specs.Words.{number_in};
 ghost use Rattle.sacn_console.specs.Scripts.{none_in, one_in, two_in, command_in, order_in, script_in, Orders};
 
 use crate::command::Command;
@@ -8,6 +8,13 @@ use sacn_files::faults::TextFault;
 use sacn_files::lines::said_lines;
 use sacn_files::words::{number_in, short_in};
 use std::alloc::Global;
+
+/// A whole number of sixteen bits.
+fn number_of(line: usize, word: &str) -> Result<u16, TextFault>
+    ensures { result ≡ ok_or (number_in 65535 word.now) (TextFault.Number line) }
+{
+    short_in(word).ok_or(TextFault::Number(line))
+}
 
 fn go_in(line: usize, words: &[&str]) -> Result<Command, TextFault>
     ensures { result ≡ none_in line Command.Go (map (λ w. w.now) words.now) }
@@ -22,10 +29,7 @@ fn go_to_in(line: usize, words: &[&str]) -> Result<Command, TextFault>
     ensures { result ≡ one_in line (λ n. Command.GoTo n) (map (λ w. w.now) words.now) }
 {
     match words {
-        [number] => match short_in(number) {
-            Some(number) => Ok(Command::GoTo(number)),
-            None => Err(TextFault::Number(line)),
-        },
+        [number] => Ok(Command::GoTo(number_of(line, number)?)),
         _ => Err(TextFault::WordCount(line)),
     }
 }
@@ -34,13 +38,11 @@ fn set_in(line: usize, words: &[&str]) -> Result<Command, TextFault>
     ensures { result ≡ two_in line (λ n m. Command.SetLevel n m) (map (λ w. w.now) words.now) }
 {
     match words {
-        [channel, level] => match short_in(channel) {
-            Some(channel) => match short_in(level) {
-                Some(level) => Ok(Command::SetLevel(channel, level)),
-                None => Err(TextFault::Number(line)),
-            },
-            None => Err(TextFault::Number(line)),
-        },
+        [channel, level] => {
+            let channel = number_of(line, channel)?;
+            let level = number_of(line, level)?;
+            Ok(Command::SetLevel(channel, level))
+        }
         _ => Err(TextFault::WordCount(line)),
     }
 }
@@ -49,10 +51,7 @@ fn master_in(line: usize, words: &[&str]) -> Result<Command, TextFault>
     ensures { result ≡ one_in line (λ n. Command.Master n) (map (λ w. w.now) words.now) }
 {
     match words {
-        [number] => match short_in(number) {
-            Some(number) => Ok(Command::Master(number)),
-            None => Err(TextFault::Number(line)),
-        },
+        [number] => Ok(Command::Master(number_of(line, number)?)),
         _ => Err(TextFault::WordCount(line)),
     }
 }
@@ -61,10 +60,7 @@ fn end_in(line: usize, words: &[&str]) -> Result<Command, TextFault>
     ensures { result ≡ one_in line (λ n. Command.EndUniverse n) (map (λ w. w.now) words.now) }
 {
     match words {
-        [number] => match short_in(number) {
-            Some(number) => Ok(Command::EndUniverse(number)),
-            None => Err(TextFault::Number(line)),
-        },
+        [number] => Ok(Command::EndUniverse(number_of(line, number)?)),
         _ => Err(TextFault::WordCount(line)),
     }
 }
@@ -73,10 +69,7 @@ fn start_in(line: usize, words: &[&str]) -> Result<Command, TextFault>
     ensures { result ≡ one_in line (λ n. Command.StartUniverse n) (map (λ w. w.now) words.now) }
 {
     match words {
-        [number] => match short_in(number) {
-            Some(number) => Ok(Command::StartUniverse(number)),
-            None => Err(TextFault::Number(line)),
-        },
+        [number] => Ok(Command::StartUniverse(number_of(line, number)?)),
         _ => Err(TextFault::WordCount(line)),
     }
 }
@@ -113,16 +106,12 @@ pub fn command_of(words: &[&str], line: usize) -> Result<Command, TextFault>
 fn order_in(line: usize, words: &[&str]) -> Result<(u64, Command), TextFault>
     ensures { result ≡ order_in line (map (λ w. w.now) words.now) }
 {
-    match words.split_first() {
-        None => Err(TextFault::WordCount(line)),
-        Some((first, rest)) => match command_of(rest, line) {
-            Ok(command) => match number_in(u64::MAX, first) {
-                Some(moment) => Ok((moment, command)),
-                None => Err(TextFault::Number(line)),
-            },
-            Err(fault) => Err(fault),
-        },
-    }
+    let Some((first, rest)) = words.split_first() else {
+        return Err(TextFault::WordCount(line));
+    };
+    let command = command_of(rest, line)?;
+    let moment = number_in(u64::MAX, first).ok_or(TextFault::Number(line))?;
+    Ok((moment, command))
 }
 
 /// The orders of a script, each with its moment in milliseconds, or the first faulty line's fault;
@@ -138,12 +127,9 @@ pub fn read_script(alloc: Global, text: &str) -> Result<Vec<(u64, Command)>, Tex
     };
     let mut orders = Vec::new(alloc);
     for line in lines.as_slice() {
-        match order_in(line.number, line.words.as_slice()) {
-            Ok(order) => match orders.push(order) {
-                Ok(()) => {}
-                Err(_) => return Err(TextFault::OutOfMemory),
-            },
-            Err(fault) => return Err(fault),
+        let order = order_in(line.number, line.words.as_slice())?;
+        if orders.push(order).is_err() {
+            return Err(TextFault::OutOfMemory);
         }
     }
     Ok(orders)

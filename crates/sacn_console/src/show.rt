@@ -7,11 +7,13 @@ use sacn_patch::Patch;
 use std::marker::Model;
 
 mod cues;
+mod draft;
 mod fault;
 mod identity;
 mod patches;
 mod phases;
 mod ports;
+mod rows;
 mod universes;
 
 pub use fault::ShowFault;
@@ -54,7 +56,8 @@ impl Show {
     ghost use Rattle.std.specs.List.{AllByRecursion};
     ghost use Rattle.std.specs.List.Sorted.{IsStrictlyIncreasing};
     ghost use Rattle.sacn_framing.specs.Naming.{padded, is_nameable};
-    ghost use Rattle.sacn_console.specs.Shows.{ShowContent, ShowOk, IsUniverse};
+    ghost use Rattle.sacn_universe.specs.Universe.{IsUniverse};
+    ghost use Rattle.sacn_console.specs.Shows.{ShowContent, ShowOk};
     ghost use Rattle.sacn_console.specs.declared.limits.TheConstants.{CONSOLE_UNIVERSES, MAX_DESTINATIONS};
 
     fn new(
@@ -77,14 +80,14 @@ impl Show {
         }
     }
 
-    /// The CID of the show's packets (E1.31 section 5.6).
+    /// The CID of the show's packets (E1.31, 5.6).
     pub fn cid(&self) -> [u8; 16]
         ensures { result ≡ self.now.cid }
     {
         self.sender.cid
     }
 
-    /// The source name of its packets (E1.31 section 6.2.2): at most 63 octets, none of them NUL.
+    /// The source name of its packets (E1.31, 6.2.2): at most 63 octets, none of them NUL.
     pub fn name(&self) -> &str
         ensures text { result.now ≡ self.now.name }
         ensures nameable { is_nameable result.now ≡ true }
@@ -92,7 +95,7 @@ impl Show {
         self.name.as_str()
     }
 
-    /// The priority of its packets, 0 to 200 (E1.31 section 6.2.3).
+    /// The priority of its packets, 0 to 200 (E1.31, 6.2.3).
     pub fn priority(&self) -> u8
         ensures priority { result ≡ self.now.priority }
         ensures most { result ≤ 200 }

@@ -9,7 +9,7 @@ use Rattle.sacn_patch.specs.Parts.{AreOctets, place_in_pair, byte_of_level}
 use Rattle.sacn_cues.specs.declared.limits.TheConstants.{FULL}
 use Rattle.sacn_cues.specs.Channels.{is_channel}
 use Rattle.sacn_cues.specs.Levels.{Ramp, level_in, level_at, still}
-use Rattle.sacn_cues.specs.Shown.{HasLevel, IsBlankBefore}
+use Rattle.sacn_cues.specs.LevelOctets.{HasLevel, IsBlankBefore}
 
 module _ (octets new : List ℕ) (at level : ℕ) (room : 2 * at + 3 < length octets) (is : new ≡ set (set octets (2 * at + 2) (level / 256)) (2 * at + 3) (level % 256)) where
   other_place : (k : ℕ) → (k ≡ 2 * at + 2 → ⊥) → (k ≡ 2 * at + 3 → ⊥) → get_or new k 0 ≡ get_or octets k 0

@@ -45,10 +45,10 @@ impl Fades {
     ghost use Rattle.std.specs.Prelude.{◌≡◌, ◌≤◌, ◌<◌, true};
     ghost use Rattle.std.specs.Prelude.{◌*◌, ◌/◌};
     ghost use Rattle.sacn_patch.specs.Parts.{AreOctets};
-    ghost use Rattle.sacn_cues.specs.declared.shown.TheConstants.{OCTETS};
+    ghost use Rattle.sacn_cues.specs.declared.level_octets.TheConstants.{OCTETS};
     ghost use Rattle.sacn_cues.specs.declared.limits.TheConstants.{FULL};
     ghost use Rattle.sacn_cues.specs.Levels.{last_moment, StaysLit, StaysAt};
-    ghost use Rattle.sacn_cues.specs.Shown.{IsBlankBefore};
+    ghost use Rattle.sacn_cues.specs.LevelOctets.{IsBlankBefore};
 
     /// The fades of channels that all rest at level 0.
     pub(crate) fn new(alloc: Global) -> Result<Fades, AllocError>

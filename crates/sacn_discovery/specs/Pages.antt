@@ -1,4 +1,4 @@
--- The pages of a list of universes (E1.31, section 8).
+-- The pages of a list of universes (E1.31, 8).
 use Rattle.std.specs.Prelude.{◌≡◌, ℕ, zero, suc, ◌+◌, ◌-◌, ◌*◌, ◌/◌, List, [], ◌∷◌, ◌++◌, length, take, drop, ◌==◌, if◌then◌else◌}
 use Rattle.std.specs.Int.{w32, to_be_bytes}
 use Rattle.sacn_root.specs.RootText.{flags_and_length}

@@ -5,7 +5,7 @@ ghost use Rattle.std.specs.Option.{option_map};
 ghost use Rattle.std.specs.FinMap as map;
 
 use crate::fault::DiscoveryFault;
-use crate::heard::Heard;
+use crate::source_pages::SourcePages;
 use sacn_framing::PageView;
 use std::alloc::{AllocError, Global};
 use std::collections::BTreeMap;
@@ -19,7 +19,7 @@ use std::marker::Model;
 #[derive(Drop)]
 pub struct Collector {
     alloc: Global,
-    sources: BTreeMap<[u8; 16], Heard>,
+    sources: BTreeMap<[u8; 16], SourcePages>,
     moment: u64,
 }
 
@@ -107,7 +107,7 @@ impl Collector {
     {
         let moment = self.moment;
         self.sources.retain(
-            |_cid: &[u8; 16], heard: &mut Heard| -> bool
+            |_cid: &[u8; 16], heard: &mut SourcePages| -> bool
                 ensures { (result ≡ is_fresh moment heard.old) × (heard.new ≡ heard.old) }
             { heard.is_fresh(moment) },
         );
@@ -153,7 +153,7 @@ impl Collector {
         ensures ok { OnOk result (self.new ≡ with_source cid (with_page self.old.moment page last numbers.items (map.get self.old.sources cid)) self.old) }
         ensures err { OnErr result (self.new ≡ self.old) }
     {
-        let Ok(heard) = Heard::begin(self.alloc, self.moment, page, last, numbers) else {
+        let Ok(heard) = SourcePages::begin(self.alloc, self.moment, page, last, numbers) else {
             return Err(DiscoveryFault::OutOfMemory);
         };
         match self.sources.insert(cid, heard) {

@@ -1,4 +1,4 @@
-//! Universe discovery (ANSI E1.31-2018, sections 6.4 and 8): a console's list of universes written as
+//! Universe discovery (ANSI E1.31, 6.4 and 8): a console's list of universes written as
 //! pages, and the lists of all consoles collected from the pages that came.
 //!
 //! A collector keeps, for each source, the latest copy of each page since the last page number
@@ -7,10 +7,10 @@
 
 mod collector;
 mod fault;
-mod heard;
 pub mod laws;
 mod limits;
 mod pages;
+mod source_pages;
 
 pub use collector::Collector;
 pub use fault::DiscoveryFault;

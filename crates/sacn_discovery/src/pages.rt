@@ -1,4 +1,4 @@
-//! The pages of a list of universes (E1.31 sections 6.4 and 8).
+//! The pages of a list of universes (E1.31, 6.4 and 8).
 
 ghost use Rattle.std.specs.Prelude.{◌≡◌, ℕ, ◌+◌, ◌*◌, ◌-◌, ◌<◌, ◌≤◌, List, ◌++◌, length, drop, take, Ok};
 ghost use Rattle.sacn_framing.specs.PacketReading.{reading_packet};
@@ -8,19 +8,23 @@ ghost use Rattle.sacn_framing.specs.declared.packet.Packet.TheVariants.{PagePack
 ghost use Rattle.sacn_discovery.specs.Pages.{page_count, numbers_on, page_of_list, page_head};
 ghost use Rattle.std.specs.List.Sorted.{IsStrictlyIncreasing};
 
+use sacn_framing::layout::{
+    DISCOVERY_AT, LAST_PAGE_AT, LIST_VECTOR_AT, NAME_AT, PAGE_AT, UNIVERSES_AT, VECTOR_AT,
+};
 use sacn_framing::{DISCOVERY_VECTOR, LIST_VECTOR, PAGE_NUMBERS};
+use sacn_root::layout::BODY_AT;
 use sacn_root::{EXTENDED_VECTOR, pdu_field, put, write_root};
 
 /// Where the framing layer begins, and where the universe numbers do.
-const FRAMING_AT: usize = 38;
+const FRAMING_AT: usize = BODY_AT;
 
-const NUMBERS_AT: usize = FRAMING_AT + LAYERS;
+const NUMBERS_AT: usize = FRAMING_AT + UNIVERSES_AT;
 
-/// The octets of the framing and discovery layers before the universe numbers, and of the discovery
-/// layer's alone.
-const LAYERS: usize = 82;
+/// The octets of the discovery layer before the universe numbers.
+const DISCOVERY_HEAD: usize = UNIVERSES_AT - DISCOVERY_AT;
 
-const DISCOVERY_HEAD: usize = 8;
+/// Where the reserved octets stand, after the source name.
+const RESERVED_AT: usize = NAME_AT + 64;
 
 /// The four reserved octets of the framing layer (6.4.3), written as 0.
 const RESERVED: [u8; 4] = [0; 4];
@@ -55,7 +59,7 @@ pub fn write_page(
     let start = PAGE_NUMBERS * k;
     let count = (list.len() - start).min(PAGE_NUMBERS);
     let numbers = &list[start..start + count];
-    write_root(&mut out[..], EXTENDED_VECTOR, cid, LAYERS + 2 * count);
+    write_root(&mut out[..], EXTENDED_VECTOR, cid, UNIVERSES_AT + 2 * count);
     let last = page_count(list.len()) - 1;
     write_layers(&mut out[FRAMING_AT..], name, k as u8, last as u8, count);
     NUMBERS_AT + write_numbers(&mut out[NUMBERS_AT..], numbers)
@@ -67,14 +71,14 @@ fn write_layers(out: &mut [u8], name: &[u8; 64], page: u8, last: u8, count: usiz
     requires few { count ≤ 512 }
     ensures { out.new ≡ page_head name.now page last (2 * count) ++ drop 82 out.old }
 {
-    put(out, 0, &pdu_field(LAYERS + 2 * count));
-    put(out, 2, &DISCOVERY_VECTOR.to_be_bytes());
-    put(out, 6, name);
-    put(out, 70, &RESERVED);
-    put(out, 74, &pdu_field(DISCOVERY_HEAD + 2 * count));
-    put(out, 76, &LIST_VECTOR.to_be_bytes());
-    put(out, 80, &[page]);
-    put(out, 81, &[last]);
+    put(out, 0, &pdu_field(UNIVERSES_AT + 2 * count));
+    put(out, VECTOR_AT, &DISCOVERY_VECTOR.to_be_bytes());
+    put(out, NAME_AT, name);
+    put(out, RESERVED_AT, &RESERVED);
+    put(out, DISCOVERY_AT, &pdu_field(DISCOVERY_HEAD + 2 * count));
+    put(out, LIST_VECTOR_AT, &LIST_VECTOR.to_be_bytes());
+    put(out, PAGE_AT, &[page]);
+    put(out, LAST_PAGE_AT, &[last]);
 }
 
 // The universe numbers, two octets each.

@@ -1,5 +1,5 @@
 pub mod ToldLemmas
-pub mod ShownLemmas
+pub mod PortLineLemmas
 pub mod Settled
 pub mod NodeLemmas
 pub mod ConsoleLemmas

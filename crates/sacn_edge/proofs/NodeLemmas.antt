@@ -7,14 +7,14 @@ use Rattle.std.proofs.lemmas.List.{take_at}
 use Rattle.std.proofs.lemmas.List.Sums.{sum_by-cons}
 use Rattle.sacn_node.specs.Setup.{port_numbers}
 use Rattle.sacn_node.specs.Cores.{Node, node_frame}
-use Rattle.sacn_edge.specs.declared.shown.PortShown.{PortShown}
+use Rattle.sacn_edge.specs.declared.port_lines.PortShown.{PortShown}
 use Rattle.sacn_edge.specs.Told.{Adds, Extends}
 use Rattle.sacn_edge.specs.Heard.{Heard, Transcript, Hears}
 use Rattle.sacn_edge.specs.NodeText.{Turn, Line, line_text, is_shown, last_frame, with_frame, with_ports, lines_after, node_after, text_of}
 use Rattle.sacn_edge.specs.NodeRun.{Turned, StopsIn, readings, hearings}
-use Rattle.sacn_edge.specs.Shown.{frame_text, later, unshown, port_text, port_after, ports_text, FailsAmong}
+use Rattle.sacn_edge.specs.PortLines.{frame_text, later, unshown, port_text, port_after, ports_text, FailsAmong}
 use Rattle.sacn_edge.proofs.ToldLemmas.{Adds-append}
-use Rattle.sacn_edge.proofs.ShownLemmas.{append_nil, shown_last}
+use Rattle.sacn_edge.proofs.PortLineLemmas.{append_nil, shown_last}
 
 -- ---- numbers that differ
 

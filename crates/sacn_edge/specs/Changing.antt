@@ -4,8 +4,8 @@ use Rattle.std.specs.List.{list_any}
 use Rattle.sacn_node.specs.Cores.{Core, Node, core_slots, node_frame}
 use Rattle.sacn_node.specs.Changes.{node_shows}
 use Rattle.sacn_edge.specs.declared.changes.Changes.{Changes}
-use Rattle.sacn_edge.specs.declared.shown.PortShown.{PortShown}
-use Rattle.sacn_edge.specs.Shown.{later}
+use Rattle.sacn_edge.specs.declared.port_lines.PortShown.{PortShown}
+use Rattle.sacn_edge.specs.PortLines.{later}
 
 -- the slots of a universe may have changed
 abbrev pub changes_universe : Changes → ℕ → Bool

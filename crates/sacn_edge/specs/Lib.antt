@@ -2,7 +2,7 @@ pub mod Told
 pub mod Writers
 pub mod Heard
 pub mod NodeText
-pub mod Shown
+pub mod PortLines
 pub mod Changing
 pub mod NodeRun
 pub mod ConsoleSends

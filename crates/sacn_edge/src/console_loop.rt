@@ -8,7 +8,7 @@ ghost use Rattle.sacn_edge.specs.ConsoleSends.{come, commanded, refusals, sent_a
 use crate::clock::Clock;
 use crate::link::Link;
 use crate::report::ConsoleReport;
-use sacn_console::limits::MOST_OCTETS;
+use sacn_console::limits::MAX_DATAGRAM;
 use sacn_console::{Command, ConsoleCore};
 
 /// What a turn gave a console of its script.
@@ -43,8 +43,8 @@ fn order(core: &mut ConsoleCore, now: u64, greatest: u64, script: &[(u64, Comman
 }
 
 /// Hands over the front of these octets.
-fn hand<L: Link>(link: &mut L, octets: &[u8; MOST_OCTETS], len: usize) -> bool
-    requires { len ≤ MOST_OCTETS }
+fn hand<L: Link>(link: &mut L, octets: &[u8; MAX_DATAGRAM], len: usize) -> bool
+    requires { len ≤ MAX_DATAGRAM }
     ensures { Hands (L.told link.old) (L.told link.new) ((take len octets.now, result) ∷ []) }
 {
     link.send(&octets[..len])
@@ -55,7 +55,7 @@ pub fn send<L: Link>(
     link: &mut L,
     core: &mut ConsoleCore,
     now: u64,
-    octets: &mut [u8; MOST_OCTETS],
+    octets: &mut [u8; MAX_DATAGRAM],
 ) -> Option<bool>
     ensures due { is_some result ≡ is_some (due (at now core.old)) }
     ensures link { Hands (L.told link.old) (L.told link.new) (handed_of (sent_at now core.old) result) }
@@ -106,7 +106,7 @@ pub fn run_console<L: Link, C: Clock>(
         failed: 0,
         refused: 0,
     };
-    let mut octets = [0; MOST_OCTETS];
+    let mut octets = [0; MAX_DATAGRAM];
     let mut greatest = 0;
     let mut next = 0;
     for turn in 0..turns {

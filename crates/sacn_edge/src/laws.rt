@@ -6,7 +6,7 @@
 ghost use Rattle.std.specs.Prelude.{◌≡◌};
 ghost use Rattle.sacn_edge.specs.PlainText.{LinesAreByThePlainRule, StopsByThePlainRule, TextIsByThePlainRule};
 ghost use Rattle.sacn_edge.specs.SendsByList.{SendsAreByTheList};
-ghost use Rattle.sacn_edge.specs.declared.line.TheConstants.{FRAME_OCTETS, LINE_OCTETS};
+ghost use Rattle.sacn_edge.specs.declared.line.TheConstants.{LINE_OCTETS};
 ghost use Rattle.sacn_edge.specs.declared.link.TheConstants.{BUFFER_OCTETS};
 
 use sacn_console::laws as console;
@@ -45,7 +45,6 @@ pub fn sends_are_by_the_list()
 /// What the numbers of the loops are, in octets: a frame with its start code, the longest line, and the buffer that a
 /// receive is given.
 pub fn numbers()
-    ensures frame { FRAME_OCTETS ≡ 513 }
     ensures line { LINE_OCTETS ≡ 1052 }
     ensures buffer { BUFFER_OCTETS ≡ 2048 }
 {}

@@ -5,9 +5,7 @@ ghost use Rattle.sacn_edge.specs.NodeText.{Line, line_text};
 
 use arrayvec::ArrayVec;
 use itoa::Buffer;
-
-/// The octets of a frame: the start code and 512 slots (E1.11).
-pub const FRAME_OCTETS: usize = 513;
+use sacn_universe::FRAME_OCTETS;
 
 /// Two digits for each octet of a frame.
 const FRAME_DIGITS: usize = 1026;

@@ -7,15 +7,15 @@ ghost use Rattle.sacn_edge.specs.Told.{Adds, Extends};
 ghost use Rattle.sacn_edge.specs.Heard.{Hears, heard_of, is_datagram, is_failure};
 ghost use Rattle.sacn_edge.specs.NodeText.{Turn, call_at, node_after, node_text};
 ghost use Rattle.sacn_edge.specs.NodeRun.{Turned, report_of, StopsIn};
-ghost use Rattle.sacn_edge.specs.Shown.{unshown};
+ghost use Rattle.sacn_edge.specs.PortLines.{unshown};
 ghost use Rattle.sacn_edge.specs.Changing.{Grows, IsTold};
 
 use crate::changes::Changes;
 use crate::clock::Clock;
 use crate::link::{BUFFER_OCTETS, Link, Received};
 use crate::out::Out;
+use crate::port_lines::{PortShown, show_changed};
 use crate::report::NodeReport;
-use crate::shown::{PortShown, show_changed};
 use crate::text::WriteFailed;
 use arrayvec::ArrayVec;
 use sacn_node::{MAX_PORTS, NodeCore};

@@ -11,7 +11,7 @@ use Rattle.sacn_monitor.specs.declared.news.Noted.TheVariants.{Refused, Page, Sy
 use Rattle.sacn_monitor.specs.Kinds.{more}
 use Rattle.sacn_monitor.specs.Histories.{Call, Take, Tick}
 use Rattle.sacn_explain.specs.declared.listings.Listings.{Listings}
-use Rattle.sacn_explain.specs.declared.listings.TheConstants.{MOST_LISTINGS}
+use Rattle.sacn_explain.specs.declared.listings.TheConstants.{MAX_LISTINGS}
 
 -- the CIDs of the sources whose lists are kept, in the order of their first pages, and how many pages came of others
 pub record Listed : Type 0 where
@@ -23,7 +23,7 @@ none_listed = record { sources = []; passed = 0 }
 
 -- of a source that isn't kept: it is from now on, where there is room, and else the page is counted
 abbrev pub admitted : List ℕ → Listed → Listed
-admitted cid l = if nat_lt (length l.sources) MOST_LISTINGS then record l { sources = l.sources ++ cid ∷ [] } else record l { passed = more 1 l.passed }
+admitted cid l = if nat_lt (length l.sources) MAX_LISTINGS then record l { sources = l.sources ++ cid ∷ [] } else record l { passed = more 1 l.passed }
 
 -- a page of a source
 abbrev pub after_page : List ℕ → Listed → Listed

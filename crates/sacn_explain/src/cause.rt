@@ -1,7 +1,8 @@
 //! Why a frame of a node is another one.
 
 use crate::json;
-use crate::spelling::{push_cid, push_name, up_to_nul};
+use crate::spelling::{push_cid, push_name};
+use sacn_framing::up_to_nul;
 use sacn_monitor::Stream;
 use std::alloc::AllocError;
 use std::fmt::Write;

@@ -1,5 +1,7 @@
 //! Why a recording isn't told to its end.
 
+ghost use Rattle.std.specs.Prelude.{◌≡◌};
+ghost use Rattle.sacn_explain.specs.declared.fault.TellFault.TheVariants.{OutOfMemory, Device};
 ghost use Rattle.sacn_explain.specs.Faults.{IsMadeOf, IsOfTelling};
 
 use sacn_capture::{CaptureFault, FaultKind};
@@ -33,24 +35,32 @@ pub enum TellFault {
 }
 
 impl From<AllocError> for TellFault {
+    ghost from_gives = { λ _ fault. fault ≡ OutOfMemory };
+
     fn from(_fault: AllocError) -> Self {
         TellFault::OutOfMemory
     }
 }
 
 impl From<DiscoveryFault> for TellFault {
+    ghost from_gives = { λ _ fault. fault ≡ OutOfMemory };
+
     fn from(_fault: DiscoveryFault) -> Self {
         TellFault::OutOfMemory
     }
 }
 
 impl From<TableFault> for TellFault {
+    ghost from_gives = { λ _ fault. fault ≡ OutOfMemory };
+
     fn from(_fault: TableFault) -> Self {
         TellFault::OutOfMemory
     }
 }
 
 impl From<io::Error> for TellFault {
+    ghost from_gives = { λ _ fault. fault ≡ Device };
+
     fn from(_fault: io::Error) -> Self {
         TellFault::Device
     }

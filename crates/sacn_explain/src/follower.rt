@@ -1,6 +1,6 @@
 //! What happens, told as it happens.
 
-ghost use Rattle.std.specs.Prelude.{◌≡◌, ◌≤◌, ◌⊎◌, IfErr, IfOk, IfSome, OnOk, max};
+ghost use Rattle.std.specs.Prelude.{◌≡◌, ◌≤◌, ◌⊎◌, IfErr, IfOk, IfSome, OnOk, is_some, max};
 ghost use Rattle.sacn_framing.specs.PacketReading.{reading_packet};
 ghost use Rattle.sacn_monitor.specs.Books.{new_book, after_take, after_tick};
 ghost use Rattle.sacn_explain.specs.Faults.{IsOfTelling};
@@ -28,7 +28,7 @@ use std::io::Write;
 ///
 /// Moments are in milliseconds. Each call uses the greatest moment that was handed in so far. Its memory doesn't grow with the
 /// number of datagrams: it follows up to `sacn_monitor::MAX_STREAMS` sources on universes, and the lists of up to
-/// `MOST_LISTINGS` sources.
+/// `MAX_LISTINGS` sources.
 #[derive(Drop)]
 pub struct Follower<'a, O> {
     monitor: Monitor,
@@ -56,6 +56,8 @@ impl<'a, O: Write> Follower<'a, O> {
         ensures nothing { IfOk result (λ f. f.monitor ≡ new_book) }
         ensures listed { IfOk result (λ f. listed_in f.listings ≡ none_listed) }
         ensures moment { IfOk result (λ f. f.moment ≡ 0) }
+        ensures options { IfOk result (λ f. f.options ≡ options.entry) }
+        ensures stage { IfOk result (λ f. is_some f.stage ≡ is_some setup.entry) }
         ensures fault { IfErr result IsOfTelling }
     {
         let monitor = Monitor::new(alloc)?;

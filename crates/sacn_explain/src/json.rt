@@ -1,6 +1,7 @@
 //! Members of JSON objects.
 
-use crate::spelling::{push_address, push_cid, push_name, up_to_nul};
+use crate::spelling::{push_address, push_cid, push_name};
+use sacn_framing::up_to_nul;
 use sacn_monitor::{Sender, Stream};
 use std::alloc::AllocError;
 use std::fmt::Write;

@@ -24,6 +24,6 @@ mod words;
 pub use fault::ExplainFault;
 pub use follow::{Timeline, explain};
 pub use follower::Follower;
-pub use listings::MOST_LISTINGS;
+pub use listings::MAX_LISTINGS;
 pub use options::{Form, Options};
 pub use report::Report;

@@ -12,7 +12,7 @@ use sacn_monitor::Stream;
 use std::alloc::{AllocError, Global};
 
 /// The most sources whose lists are kept. Pages of further sources are counted alone.
-pub const MOST_LISTINGS: usize = 256;
+pub const MAX_LISTINGS: usize = 256;
 
 /// A source, and the latest list of universes of which all pages came.
 #[derive(Drop)]
@@ -36,7 +36,7 @@ pub enum PageNews {
     Changes,
 }
 
-/// The lists of up to `MOST_LISTINGS` sources.
+/// The lists of up to `MAX_LISTINGS` sources.
 #[derive(Drop)]
 pub struct Listings {
     alloc: Global,
@@ -67,7 +67,9 @@ impl Listings {
     }
 
     /// The sources in the order of their first pages.
-    pub fn known(&self) -> &[Listing] {
+    pub fn known(&self) -> &[Listing]
+        ensures { result.now ≡ self.now.known.items }
+    {
         self.known.as_slice()
     }
 
@@ -96,7 +98,7 @@ impl Listings {
         if self.is_known(&cid) {
             return self.collect(now, page);
         }
-        if self.sources.len() >= MOST_LISTINGS {
+        if self.sources.len() >= MAX_LISTINGS {
             self.passed = self.passed.saturating_add(1);
             return Ok(PageNews::Nothing);
         }

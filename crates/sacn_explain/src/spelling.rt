@@ -114,11 +114,3 @@ pub fn push_numbers(text: &mut String, key: &str, numbers: &[u16]) -> Result<(),
     }
     text.push(']')
 }
-
-/// A name up to its first NUL (E1.31, 6.2.2).
-pub fn up_to_nul(name: &[u8; 64]) -> &[u8] {
-    match name.iter().position(|octet| *octet == 0) {
-        Some(len) => &name[..len],
-        None => name,
-    }
-}

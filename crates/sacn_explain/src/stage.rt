@@ -2,7 +2,7 @@
 
 ghost use Rattle.std.specs.Prelude.{◌≡◌, IfOk, OnOk, map};
 ghost use Rattle.sacn_node.specs.Calls.{step, Tick};
-ghost use Rattle.sacn_edge.specs.Shown.{port_after, ports_text};
+ghost use Rattle.sacn_edge.specs.PortLines.{port_after, ports_text};
 
 use crate::cause::Cause;
 use crate::fault::TellFault;

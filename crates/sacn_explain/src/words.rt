@@ -1,6 +1,7 @@
 //! Things that happen, in words for people.
 
-use crate::spelling::{push_cid, push_moment, push_name, push_sender, up_to_nul};
+use crate::spelling::{push_cid, push_moment, push_name, push_sender};
+use sacn_framing::up_to_nul;
 use sacn_monitor::{Change, Event, News, Sender, Stream};
 use sacn_root::PacketFault;
 use std::alloc::AllocError;

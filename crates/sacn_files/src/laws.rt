@@ -2,7 +2,7 @@
 ghost use Rattle.std.specs.Prelude.{◌≡◌, false, map, IsPermutation};
 ghost use Rattle.std.specs.List.Sorted.{IsNonDecreasingBy, IsStrictlyIncreasing};
 ghost use Rattle.sacn_files.specs.Numbered.{in_order, has_repeat};
-ghost use Rattle.sacn_files.specs.declared.limits.TheConstants.{DEFAULT_UDP_PORT, LEAST_UDP_PORT, MOST_UDP_PORT};
+ghost use Rattle.sacn_files.specs.declared.limits.TheConstants.{DEFAULT_UDP_PORT, MIN_UDP_PORT, MAX_UDP_PORT};
 
 use crate::numbered::Numbered;
 
@@ -17,6 +17,6 @@ pub fn order_rises<T: Numbered>(items: &[T])
 /// What the numbers of the files are.
 pub fn numbers()
     ensures default_port { DEFAULT_UDP_PORT ≡ 5568 }
-    ensures least_port { LEAST_UDP_PORT ≡ 1 }
-    ensures most_port { MOST_UDP_PORT ≡ 65535 }
+    ensures least_port { MIN_UDP_PORT ≡ 1 }
+    ensures most_port { MAX_UDP_PORT ≡ 65535 }
 {}

@@ -5,7 +5,7 @@
 pub const DEFAULT_UDP_PORT: u16 = 5568;
 
 /// The least UDP port that a file may name (profile).
-pub const LEAST_UDP_PORT: u16 = 1;
+pub const MIN_UDP_PORT: u16 = 1;
 
 /// The greatest UDP port.
-pub const MOST_UDP_PORT: u16 = 65535;
+pub const MAX_UDP_PORT: u16 = 65535;

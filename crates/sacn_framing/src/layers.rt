@@ -3,16 +3,12 @@
 ghost use Rattle.std.specs.Prelude.{◌≡◌, ◌+◌, ◌≤◌, length, slice_range};
 ghost use Rattle.sacn_root.specs.Octets.{length_of};
 
+use crate::layout;
+use sacn_root::layout::{BODY_AT, CID_AT, PDU_AT};
 use sacn_root::length_at;
 
-/// Where the root PDU begins: after the preamble. Its length counts from here (E1.31, 5.4).
-const PDU_AT: usize = 16;
-
-/// Where the CID stands (5.6).
-const CID_AT: usize = 22;
-
 /// Where the source name stands, in data packets (6.2.2) and in pages (6.4.2).
-const NAME_AT: usize = 44;
+const NAME_AT: usize = BODY_AT + layout::NAME_AT;
 
 const NAME_END: usize = NAME_AT + 64;
 
@@ -22,7 +18,7 @@ pub fn cid_in(octets: &[u8]) -> [u8; 16]
     ensures { result ≡ slice_range octets.now 22 38 }
 {
     let mut cid = [0; 16];
-    cid.copy_from_slice(&octets[CID_AT..CID_AT + 16]);
+    cid.copy_from_slice(&octets[CID_AT..BODY_AT]);
     cid
 }
 
@@ -32,6 +28,14 @@ pub fn name_in(octets: &[u8]) -> &[u8]
     ensures { result.now ≡ slice_range octets.now 44 108 }
 {
     &octets[NAME_AT..NAME_END]
+}
+
+/// The same field, as an array: what copies it copies a length that is known.
+pub fn name_field_in(octets: &[u8]) -> &[u8; 64]
+    requires { 108 ≤ length octets.now }
+    ensures { result.now ≡ slice_range octets.now 44 108 }
+{
+    <&[u8; 64]>::try_from(name_in(octets)).unwrap()
 }
 
 /// Where the root PDU ends.

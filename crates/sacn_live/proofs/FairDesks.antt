@@ -12,7 +12,7 @@ use Rattle.sacn_console.specs.Due.{life_of}
 use Rattle.sacn_console.specs.Runs.{core_by, line_by}
 use Rattle.sacn_console.specs.Lines.{Page, Datagram, Packet, Paged, Gave, Accepted, line_after}
 use Rattle.sacn_console.specs.Core.{Core, at, due, due_by, given, after, taken, answer, line_found, page_due, page_by, standing}
-use Rattle.sacn_live.specs.declared.limits.TheConstants.{MOST_POLLS}
+use Rattle.sacn_live.specs.declared.limits.TheConstants.{MAX_POLLS}
 use Rattle.sacn_live.specs.DeskSends.{Round, ordered, polled, desk_after, AreQuiet}
 use Rattle.sacn_live.specs.Fairness.{most_due, AreShort, IsOfAConsole, AreFair, ShortRoundsAreFair, RoundsAreFair, RoundsOfShowsAreFair}
 use Rattle.sacn_live.proofs.Fair.{at_given, some_is}
@@ -97,7 +97,7 @@ module _ (n : ℕ) where
 -- ---- all rounds
 
 -- a desk of so few universes has nothing due after the most polls
-due_few : (c : Core) → IsOfAConsole c → most_due c ≤ MOST_POLLS
+due_few : (c : Core) → IsOfAConsole c → most_due c ≤ MAX_POLLS
 due_few c few =
     let old : page_count (length c.listed) ≤ 2 = more_pages (length c.listed) 1024 few.1 in
     let new : page_count (length c.lines) ≤ 2 = more_pages (length c.lines) 1024 few.0 in
@@ -122,7 +122,7 @@ rounds_fair first [] few quiet = tt
 rounds_fair first (r ∷ rs) few quiet =
     let mid = ordered r.now r.orders (desk_after first rs) in
     let small = few_ordered 1024 r.now r.orders (desk_after first rs) (few_after 1024 first rs few) in
-    (λ u. once mid r.now r.polls u (ended MOST_POLLS r.now r.polls mid (due_few mid small) quiet.0 quiet.2), rounds_fair first rs few quiet.3)
+    (λ u. once mid r.now r.polls u (ended MAX_POLLS r.now r.polls mid (due_few mid small) quiet.0 quiet.2), rounds_fair first rs few quiet.3)
 
 pub shows_fair : RoundsOfShowsAreFair
 unfolding core_by

@@ -10,7 +10,7 @@ use Rattle.sacn_edge.specs.Told.{Extends}
 use Rattle.sacn_edge.specs.ConsoleSends.{Handed, datagrams, sent_at, handed_of, counted_send, sends_report}
 use Rattle.sacn_edge.proofs.NodeLemmas.{Extends-append}
 use Rattle.sacn_edge.proofs.ConsoleLemmas.{datagrams_more, counted_more}
-use Rattle.sacn_live.specs.declared.limits.TheConstants.{MOST_POLLS}
+use Rattle.sacn_live.specs.declared.limits.TheConstants.{MAX_POLLS}
 use Rattle.sacn_live.specs.DeskSends.{Round, Talk, Asked, ordered, polled, sends, given, asked_last, refusals, desk_after, desk_sends, desk_refusals, talk, AreQuiet}
 
 -- ---- orders
@@ -82,5 +82,5 @@ module _ (first core mid new : Core) (rs : List Round) (now n : ℕ) (ks : List 
   refused_round refused more sofar is =
       ap (λ n. n + more) sofar ∙ ap (λ m. desk_refusals first rs + m) (is ∙ ap (refusals now ks) was)
 
-  pub quiet_round : AreQuiet first rs → 0 < n → n ≤ MOST_POLLS → (n < MOST_POLLS → due new ≡ None) → AreQuiet first (round ∷ rs)
+  pub quiet_round : AreQuiet first rs → 0 < n → n ≤ MAX_POLLS → (n < MAX_POLLS → due new ≡ None) → AreQuiet first (round ∷ rs)
   quiet_round sofar some most quiet = (some, most, λ few. subst (λ (d : Core). due d ≡ None) core_round (quiet few), sofar)

@@ -2,10 +2,10 @@
 use Rattle.std.proofs.Common.{◌≡◌, ℕ, List, [], ◌∷◌, ◌++◌, length, map, sym, ap, subst, ◌∙◌, refl, arith, Option, Some, None}
 use Rattle.sacn_node.specs.Setup.{port_numbers}
 use Rattle.sacn_node.specs.Cores.{Node}
-use Rattle.sacn_edge.specs.declared.shown.PortShown.{PortShown}
+use Rattle.sacn_edge.specs.declared.port_lines.PortShown.{PortShown}
 use Rattle.sacn_edge.specs.Told.{Adds, Extends}
 use Rattle.sacn_edge.specs.NodeText.{with_ports, node_after, text_of}
-use Rattle.sacn_edge.specs.Shown.{port_after, ports_text, FailsAmong}
+use Rattle.sacn_edge.specs.PortLines.{port_after, ports_text, FailsAmong}
 use Rattle.sacn_edge.proofs.ToldLemmas.{Adds-append}
 use Rattle.sacn_edge.proofs.NodeLemmas.{Distinct, numbers, Remembers, turn_text, turn_remembered, numbers_after, stops, Extends-append}
 use Rattle.sacn_live.specs.Hearings.{Hearing, turns_of, in_order, emptied_after}

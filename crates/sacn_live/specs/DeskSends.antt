@@ -4,7 +4,7 @@ use Rattle.sacn_console.specs.declared.command.Command.{Command}
 use Rattle.sacn_console.specs.declared.command.ConsoleFault.{ConsoleFault}
 use Rattle.sacn_console.specs.Core.{Core, at, after_command, after_poll, answer, due}
 use Rattle.sacn_edge.specs.ConsoleSends.{sent_at}
-use Rattle.sacn_live.specs.declared.limits.TheConstants.{MOST_ORDERS, MOST_POLLS}
+use Rattle.sacn_live.specs.declared.limits.TheConstants.{MAX_ORDERS, MAX_POLLS}
 
 -- what passes between a desk and where its orders come from: a request at a moment, with the order or none, and the answer to an order
 pub data Talk : Type 0 where
@@ -47,7 +47,7 @@ desk_sends first (r ∷ rs) = desk_sends first rs ++ sends r.now r.polls (ordere
 -- each round polls at least once, and at most so often; after it nothing is due at its reading, unless it polled the most times
 abbrev pub AreQuiet : Core → List Round → Type 0
 AreQuiet first [] = ⊤
-AreQuiet first (r ∷ rs) = (0 < r.polls) × (r.polls ≤ MOST_POLLS) × (r.polls < MOST_POLLS → due (desk_after first (r ∷ rs)) ≡ None) × AreQuiet first rs
+AreQuiet first (r ∷ rs) = (0 < r.polls) × (r.polls ≤ MAX_POLLS) × (r.polls < MAX_POLLS → due (desk_after first (r ∷ rs)) ≡ None) × AreQuiet first rs
 
 -- ---- what is said
 
@@ -58,7 +58,7 @@ given now (k ∷ ks) c = given now ks c ++ Asked now (Some k) ∷ Answered (answ
 
 -- a round asks until there is no order, or at most so often
 abbrev pub asked_last : ℕ → List Command → List Talk
-asked_last now ks = if length ks == MOST_ORDERS then [] else Asked now None ∷ []
+asked_last now ks = if length ks == MAX_ORDERS then [] else Asked now None ∷ []
 
 abbrev pub talk : Core → List Round → List Talk
 talk first [] = []

@@ -9,7 +9,7 @@ use Rattle.sacn_console.specs.Shows.{ShowContent}
 use Rattle.sacn_console.specs.Due.{life_of}
 use Rattle.sacn_console.specs.Runs.{core_by}
 use Rattle.sacn_console.specs.declared.limits.TheConstants.{CONSOLE_UNIVERSES}
-use Rattle.sacn_live.specs.declared.limits.TheConstants.{MOST_POLLS}
+use Rattle.sacn_live.specs.declared.limits.TheConstants.{MAX_POLLS}
 use Rattle.sacn_live.specs.DeskSends.{Round, ordered, polled, sends, desk_after, desk_sends, AreQuiet}
 
 -- ---- what is due
@@ -77,7 +77,7 @@ EachReadingEnds = (c : Core) (now n : ℕ) → most_due c ≤ n → due (at now 
 -- no round polls the most times
 abbrev pub AreShort : List Round → Type 0
 AreShort [] = ⊤
-AreShort (r ∷ rs) = (r.polls < MOST_POLLS) × AreShort rs
+AreShort (r ∷ rs) = (r.polls < MAX_POLLS) × AreShort rs
 
 -- no more universes than a console may have, and no longer a list of them
 abbrev pub IsOfAConsole : Core → Type 0

@@ -5,7 +5,7 @@ use Rattle.sacn_edge.specs.Told.{Adds}
 use Rattle.sacn_edge.specs.NodeText.{Line, line_text, text_of}
 use Rattle.sacn_live.specs.Hearings.{Hearing, in_order, is_datagram}
 use Rattle.sacn_live.specs.GatewayText.{gateway_lines}
-use Rattle.sacn_live.specs.declared.limits.TheConstants.{MOST_BURST}
+use Rattle.sacn_live.specs.declared.limits.TheConstants.{MAX_BURST}
 
 -- all that was heard, in the order of the calls
 abbrev pub all_heard : List (List Hearing) → List Hearing
@@ -18,7 +18,7 @@ ends_with_datagram (h ∷ hs) = is_datagram h.came
 
 -- a turn takes all that waits: it ends where no datagram is there any more, or at the greatest number of receives
 abbrev pub IsWhole : List Hearing → Type 0
-IsWhole hs = ends_with_datagram hs ≡ true → length hs ≡ MOST_BURST
+IsWhole hs = ends_with_datagram hs ≡ true → length hs ≡ MAX_BURST
 
 abbrev pub AreWhole : List (List Hearing) → Type 0
 AreWhole [] = ⊤

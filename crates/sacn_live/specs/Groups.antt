@@ -1,4 +1,4 @@
--- Where a datagram goes by multicast (E1.31 section 9.3).
+-- Where a datagram goes by multicast (E1.31, 9.3).
 use Rattle.std.specs.Prelude.{ℕ, List, Option, None, Some, Result, Ok, Err}
 use Rattle.sacn_framing.specs.Naming.{group_of}
 use Rattle.sacn_framing.specs.declared.packet.Packet.{Packet}

@@ -37,12 +37,12 @@ impl<'a, R: MachineClock> RigClock<'a, R> {
     pub(crate) fn left(&mut self, until: u64) -> i32
         ensures { pos 0 ≤ℤ result }
     {
-        until.saturating_sub(self.now()).min(MOST_MILLIS) as i32
+        until.saturating_sub(self.now()).min(MAX_MILLIS) as i32
     }
 }
 
 /// The longest wait of one call of the machine.
-const MOST_MILLIS: u64 = 60_000;
+const MAX_MILLIS: u64 = 60_000;
 
 impl<'a, R: MachineClock> Clock for RigClock<'a, R> {
     fn now(&mut self) -> u64 {

@@ -4,7 +4,7 @@ use arrayvec::ArrayVec;
 use std::io::Write;
 
 /// The most names that are counted apart.
-const MOST_NAMES: usize = 32;
+const MAX_NAMES: usize = 32;
 
 /// How often something happened since it was said, and when it was said.
 #[derive(Clone, Copy, Default)]
@@ -30,7 +30,7 @@ impl Counted {
 /// Counts what happens by name, and says it, each name at most once a second.
 #[derive(Drop)]
 pub struct Counts {
-    counted: ArrayVec<Counted, MOST_NAMES>,
+    counted: ArrayVec<Counted, MAX_NAMES>,
 }
 
 impl Counts {

@@ -5,12 +5,12 @@ ghost use Rattle.sacn_console.specs.declared.command.Command.{Command as Order};
 ghost use Rattle.sacn_edge.specs.Told.{Extends};
 ghost use Rattle.sacn_edge.specs.Heard.{Hands};
 ghost use Rattle.sacn_edge.specs.ConsoleSends.{Handed, datagrams, sends_report};
-ghost use Rattle.sacn_live.specs.declared.limits.TheConstants.{IDLE_WAIT, MOST_POLLS, MOST_ROUNDS, MOST_ORDERS};
+ghost use Rattle.sacn_live.specs.declared.limits.TheConstants.{IDLE_WAIT, MAX_POLLS, MAX_ROUNDS, MAX_ORDERS};
 ghost use Rattle.sacn_live.specs.DeskSends.{Round, Answered, ordered, polled, sends, given, asked_last, refusals, desk_after, desk_sends, desk_refusals, talk, readings, AreQuiet};
 
-use crate::limits::{IDLE_WAIT, MOST_ORDERS, MOST_POLLS};
+use crate::limits::{IDLE_WAIT, MAX_ORDERS, MAX_POLLS};
 use crate::orders::Orders;
-use sacn_console::limits::MOST_OCTETS;
+use sacn_console::limits::MAX_DATAGRAM;
 use sacn_console::{Command, ConsoleCore};
 use sacn_edge::{Clock, ConsoleReport, Link, count_send, send};
 
@@ -28,14 +28,14 @@ fn give<O: Orders>(orders: &mut O, core: &mut ConsoleCore, now: u64, command: Co
 
 /// Gives the core the orders that are there, or as many as a round takes. Answers how many it refused.
 fn order<O: Orders>(orders: &mut O, core: &mut ConsoleCore, now: u64) -> u64
-    ensures given { (ks : List Order) × (length ks ≤ MOST_ORDERS)
+    ensures given { (ks : List Order) × (length ks ≤ MAX_ORDERS)
         × Extends (O.told orders.old) (O.told orders.new) (given now ks core.old ++ asked_last now ks)
         × (core.new ≡ ordered now ks core.old)
         × (result ≡ refusals now ks core.old) }
-    ensures few { result ≤ MOST_ORDERS }
+    ensures few { result ≤ MAX_ORDERS }
 {
     let mut refused = 0;
-    for _count in 0..MOST_ORDERS {
+    for _count in 0..MAX_ORDERS {
         match orders.next(now) {
             None => return refused,
             Some(command) => refused += give(orders, core, now, command),
@@ -49,20 +49,20 @@ fn send_due<L: Link>(
     link: &mut L,
     core: &mut ConsoleCore,
     now: u64,
-    octets: &mut [u8; MOST_OCTETS],
+    octets: &mut [u8; MAX_DATAGRAM],
     report: &mut ConsoleReport,
 )
-    requires { report.old.sent + report.old.failed < 2 ^ 64 - MOST_POLLS }
-    ensures sent { (n : ℕ) × (handed : Handed) × (0 < n) × (n ≤ MOST_POLLS)
+    requires { report.old.sent + report.old.failed < 2 ^ 64 - MAX_POLLS }
+    ensures sent { (n : ℕ) × (handed : Handed) × (0 < n) × (n ≤ MAX_POLLS)
         × Hands (L.told link.old) (L.told link.new) handed
         × (datagrams handed ≡ sends now n core.old)
         × (core.new ≡ polled now n core.old)
-        × (n < MOST_POLLS → due core.new ≡ None)
+        × (n < MAX_POLLS → due core.new ≡ None)
         × ((earlier : Handed) (refused : ℕ) → report.old ≡ sends_report earlier refused → report.new ≡ sends_report (earlier ++ handed) refused) }
-    ensures few { report.new.sent + report.new.failed ≤ report.old.sent + report.old.failed + MOST_POLLS }
+    ensures few { report.new.sent + report.new.failed ≤ report.old.sent + report.old.failed + MAX_POLLS }
     ensures refused { report.new.refused ≡ report.old.refused }
 {
-    for _count in 0..MOST_POLLS {
+    for _count in 0..MAX_POLLS {
         let sent = send(link, core, now, octets);
         count_send(report, sent);
         if sent.is_none() {
@@ -93,7 +93,7 @@ pub fn run_desk<L: Link, C: Clock, O: Orders>(
     core: &mut ConsoleCore,
     rounds: u64,
 ) -> ConsoleReport
-    requires { rounds ≤ MOST_ROUNDS }
+    requires { rounds ≤ MAX_ROUNDS }
     ensures { (rs : List Round) × (handed : Handed)
         × (length rs ≤ rounds)
         × Extends (C.readings clock.old) (C.readings clock.new) (readings rs)
@@ -109,7 +109,7 @@ pub fn run_desk<L: Link, C: Clock, O: Orders>(
         failed: 0,
         refused: 0,
     };
-    let mut octets = [0; MOST_OCTETS];
+    let mut octets = [0; MAX_DATAGRAM];
     let mut wake = 0;
     for _round in 0..rounds {
         orders.wait(wake);

@@ -10,7 +10,7 @@ ghost use Rattle.sacn_live.specs.declared.limits.TheConstants.{LONGEST_WAIT};
 ghost use Rattle.sacn_live.specs.GatewayRun.{all_heard, IsWhole, AreWhole, latest_reading, AllBefore, IsRun, StopsIn};
 
 use crate::hearing::{Notes, hear};
-use crate::limits::{LONGEST_WAIT, MOST_BURST};
+use crate::limits::{LONGEST_WAIT, MAX_BURST};
 use crate::receiver::{Octets4, Receiver};
 use sacn_edge::{BUFFER_OCTETS, Changes, Out, WriteFailed, ports_of, show_changed};
 use sacn_node::NodeCore;
@@ -50,7 +50,7 @@ fn drain<G: Receiver, N: Notes>(
     ensures changed { IsTold changes.new core.old.core core.new.core }
 {
     let mut step = hear(receiver, core, changes, notes, senders, emptied, buffer);
-    for _count in 1..MOST_BURST {
+    for _count in 1..MAX_BURST {
         if !step.is_more {
             return Drained {
                 now: step.now,
@@ -88,7 +88,7 @@ fn next_wait(core: &NodeCore, now: u64, until: u64) -> u64
 }
 
 /// Runs a gateway. In each turn it waits until a datagram is there or something is to be done, then receives until
-/// nothing is there any more, at most `MOST_BURST` times, each time reading the clock before. A datagram goes to the
+/// nothing is there any more, at most `MAX_BURST` times, each time reading the clock before. A datagram goes to the
 /// node at its reading, unless it comes from another sender than these (an empty list admits all), or nothing was found
 /// waiting for more than 2500 ms, so that it may be older than the network data loss time. Then for each
 /// port in ascending number it writes a line, where the port's frame isn't that of the last line written for it, or

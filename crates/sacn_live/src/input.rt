@@ -9,7 +9,7 @@ use std::alloc::{AllocError, Global};
 const PIECE_OCTETS: usize = 4096;
 
 /// The most pieces that are read for one line.
-const MOST_PIECES: usize = 1024;
+const MAX_PIECES: usize = 1024;
 
 /// What standard input has.
 #[derive(Clone, Copy)]
@@ -103,7 +103,7 @@ impl TypedInput {
 
     /// Reads what is there, up to the end of a line. A line that the end of the input ends is one too.
     pub(crate) fn next(&mut self) -> Input {
-        for _ in 0..MOST_PIECES {
+        for _ in 0..MAX_PIECES {
             match self.gather() {
                 Ok(true) => return Input::Line,
                 Ok(false) => {}

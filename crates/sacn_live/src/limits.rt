@@ -1,23 +1,23 @@
 //! The numbers that bound the loops. Times are milliseconds.
 
-/// The age at which a datagram is no longer shown: the network data loss time (E1.31 section 6.7.1,
+/// The age at which a datagram is no longer shown: the network data loss time (E1.31, 6.7.1,
 /// E131_NETWORK_DATA_LOSS_TIMEOUT).
 pub const LATE_AFTER: u64 = 2500;
 
 /// The most receives of one turn of a gateway.
-pub const MOST_BURST: usize = 4096;
+pub const MAX_BURST: usize = 4096;
 
 /// The longest wait of a turn: a stop of the process is then seen, and interfaces get their frame twice a second.
 pub const LONGEST_WAIT: u64 = 500;
 
 /// The most orders that a desk takes in one round; what is left waits for the next one.
-pub const MOST_ORDERS: usize = 256;
+pub const MAX_ORDERS: usize = 256;
 
 /// The most polls of one round of a desk. A console of 1024 universes has little more than a thousand datagrams due at one reading.
-pub const MOST_POLLS: u64 = 1 << 20;
+pub const MAX_POLLS: u64 = 1 << 20;
 
 /// The most rounds of a desk: more than it makes in ten thousand years.
-pub const MOST_ROUNDS: u64 = 1 << 43;
+pub const MAX_ROUNDS: u64 = 1 << 43;
 
 /// The longest wait of a desk's round.
 pub const IDLE_WAIT: u64 = 1000;

@@ -13,7 +13,7 @@ use std::net::{Ipv4Addr, Net, SocketAddrV4, UdpSocket};
 use std::rt::Clock as MachineClock;
 
 /// The most destinations of a desk.
-pub const MOST_DESTINATIONS: usize = 64;
+pub const MAX_DESTINATIONS: usize = 64;
 
 /// The universe whose group hears discovery pages and, before it, what a group's number stands for (E1.31 section
 /// 9.3.2, E131_DISCOVERY_UNIVERSE).

@@ -5,7 +5,7 @@ use arrayvec::ArrayVec;
 use std::io::Write;
 
 /// The most sources of which the watch knows: those of sixteen universes.
-const MOST_WATCHED: usize = 256;
+const MAX_WATCHED: usize = 256;
 
 /// A source on a universe, and its latest packet that renewed it.
 #[derive(Clone, Copy, Default)]
@@ -18,7 +18,7 @@ struct Watched {
 /// The sources that are there.
 #[derive(Drop)]
 pub struct Sources {
-    watched: ArrayVec<Watched, MOST_WATCHED>,
+    watched: ArrayVec<Watched, MAX_WATCHED>,
     // The earliest moment at which one may be lost.
     next_check: u64,
 }

@@ -10,13 +10,13 @@ use std::net::{Net, SocketAddrV4, UdpSocket};
 use std::os::fd::{AsRawFd, OwnedFd, RawFd};
 
 /// Standard input.
-pub(crate) const STDIN: RawFd = 0;
+pub const STDIN: RawFd = 0;
 
 /// Standard output.
 const STDOUT: RawFd = 1;
 
 /// No descriptor: `poll` passes it over.
-pub(crate) const NO_DESCRIPTOR: RawFd = -1;
+pub const NO_DESCRIPTOR: RawFd = -1;
 
 /// What of two descriptors can be read.
 #[derive(Clone, Copy)]
@@ -83,7 +83,7 @@ fn number_value(number: i32) -> [u8; 16] {
 }
 
 /// A UDP socket at this address, which lets others have its port, with as much room for what waits as the machine gives.
-pub(crate) fn bind_shared<R: Net>(_rt: &R, address: SocketAddrV4) -> Result<UdpSocket, ErrorKind> {
+pub fn bind_shared<R: Net>(_rt: &R, address: SocketAddrV4) -> Result<UdpSocket, ErrorKind> {
     let fd = unsafe {
         c::socket(
             c::AF_INET,
@@ -107,7 +107,7 @@ pub(crate) fn bind_shared<R: Net>(_rt: &R, address: SocketAddrV4) -> Result<UdpS
 
 /// The room for what waits in a socket, in octets; the machine counts its own needs too, so it tells twice what it
 /// was asked for.
-pub(crate) fn room_of(socket: &UdpSocket) -> Option<u32> {
+pub fn room_of(socket: &UdpSocket) -> Option<u32> {
     let mut value = [0; 16];
     let mut len = 4;
     let status = unsafe {
@@ -169,7 +169,7 @@ pub(crate) fn write_device(device: &OwnedFd, octets: &[u8]) -> Result<(), ErrorK
 }
 
 /// Octets of standard input, 0 at its end; None where it fails.
-pub(crate) fn read_input(buffer: &mut [u8]) -> Option<usize>
+pub fn read_input(buffer: &mut [u8]) -> Option<usize>
     ensures { IfSome result (λ n. n ≤ length buffer.new) }
 {
     let count = libc::read(STDIN, buffer);

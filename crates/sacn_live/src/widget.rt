@@ -4,7 +4,8 @@ ghost use Rattle.sacn_live.specs.Widgets.{widget_text};
 
 use crate::limits::{REFRESH, SAID_EACH};
 use crate::sys::{open_device, write_device};
-use sacn_edge::{FRAME_OCTETS, PortShown};
+use sacn_edge::PortShown;
+use sacn_universe::FRAME_OCTETS;
 use std::io::{ErrorKind, Write};
 use std::os::fd::OwnedFd;
 

@@ -1,5 +1,5 @@
 -- What is read as a setup keeps the limits of a node.
-use Rattle.std.proofs.Common.{◌≡◌, ℕ, pos, negsuc, ◌≤◌, ◌+◌, nat_lt, nat_le, Bool, true, false, ◌&&◌, ◌==◌, if◌then◌else◌, List, [], ◌∷◌, length, Option, None, Some, option_and_then, option_map, refl, sym, arith, codes}
+use Rattle.std.proofs.Common.{◌≡◌, ℕ, pos, negsuc, ◌≤◌, ◌+◌, nat_lt, nat_le, Bool, true, false, ◌&&◌, ◌==◌, if◌then◌else◌, List, [], ◌∷◌, length, Option, None, Some, Result, Ok, Err, option_and_then, option_map, refl, sym, ap, arith, codes}
 use Rattle.std.specs.Prelude.{All}
 use Rattle.std.specs.List.{list_any, AllByRecursion}
 use Rattle.std.specs.List.Sorted.{IsStrictlyIncreasing}
@@ -8,18 +8,20 @@ use Rattle.std.proofs.lemmas.Bool.{and_parts}
 use Rattle.std.proofs.lemmas.List.Elements.{All-from_recursion}
 use Rattle.std.proofs.lemmas.List.Sorted.{All-permutation, length_permutation}
 use Rattle.toml.specs.Data.{Data, Members, string, integer, float, boolean, datetime, array, table, get_member}
-use Rattle.sacn_framing.specs.declared.framing.TheConstants.{LEAST_UNIVERSE, MOST_UNIVERSE}
-use Rattle.sacn_slots.specs.declared.universe.TheConstants.{SLOTS}
-use Rattle.sacn_files.specs.declared.limits.TheConstants.{DEFAULT_UDP_PORT, LEAST_UDP_PORT, MOST_UDP_PORT}
+use Rattle.sacn_universe.specs.declared.limits.TheConstants.{MIN_UNIVERSE, MAX_UNIVERSE}
+use Rattle.sacn_universe.specs.declared.limits.TheConstants.{SLOTS}
+use Rattle.sacn_files.specs.declared.limits.TheConstants.{DEFAULT_UDP_PORT, MIN_UDP_PORT, MAX_UDP_PORT}
 use Rattle.sacn_files.specs.Values.{number_in, number_at, value_or, array_at, members_or_none}
 use Rattle.sacn_files.specs.Rows.{each}
+use Rattle.sacn_files.specs.Lines.{before}
 use Rattle.sacn_files.specs.Numbered.{has_repeat, in_order}
 use Rattle.sacn_files.proofs.AscentLemmas.{or_parts, in_order_rises, in_order_keeps}
-use Rattle.sacn_node.specs.declared.limits.TheConstants.{MAX_PORTS, MAX_UNIVERSES, MAX_RANGES, LEAST_PORT, MOST_PORT}
+use Rattle.sacn_node.specs.declared.limits.TheConstants.{MAX_PORTS, MAX_UNIVERSES, MAX_RANGES, MIN_PORT, MAX_PORT}
 use Rattle.sacn_node.specs.declared.setup.SlotRange.{SlotRange}
+use Rattle.sacn_node.specs.declared.setup.fault.SetupFault.{SetupFault}
 use Rattle.sacn_node.specs.declared.setup.fault.SetupFault.TheVariants.{Limit, RangeEnd, Overlap}
 use Rattle.sacn_node.specs.Setup.{Port, port_numbers, universes, passes_end, has_overlap, IsRange, IsPort, Fits, IsSetup}
-use Rattle.sacn_node.specs.SetupReading.{universe_at, slot_at, range_in, whole, ranges_in, ranges_of, port_in, udp_port_of, order_fault}
+use Rattle.sacn_node.specs.SetupReading.{universe_at, slot_at, range_in, whole, ranges_in, ranges_of, port_in, ports_in, udp_port_of, order_fault, required, ◌>>=◌}
 
 -- chains of readings
 some_is : {X : Type 0} (x y : X) → Some x ≡ Some y → x ≡ y
@@ -68,17 +70,16 @@ range_written d r e =
     let c = and_then _ (slot_at (codes "count") d) r s.2 in
     let p = and_then _ (slot_at (codes "port_slot") d) r c.2 in
     let is : record { universe = u.0; slot = s.0; count = c.0; port_slot = p.0 } ≡ r = some_is _ r p.2 in
-    let ub = at_bounds LEAST_UNIVERSE MOST_UNIVERSE u.0 (codes "universe") d u.1 in
+    let ub = at_bounds MIN_UNIVERSE MAX_UNIVERSE u.0 (codes "universe") d u.1 in
     rw (← is) (record {
-      least_universe = ub.0;
-      most_universe = ub.1;
+      universe = ub;
       slot = (at_bounds 1 SLOTS s.0 (codes "slot") d s.1).0;
       count = (at_bounds 1 SLOTS c.0 (codes "count") d c.1).0;
       port_slot = (at_bounds 1 SLOTS p.0 (codes "port_slot") d p.1).0;
     })
 
-whole_written : (u : ℕ) → LEAST_UNIVERSE ≤ u → u ≤ MOST_UNIVERSE → IsRange (whole u)
-whole_written u low high = record { least_universe = low; most_universe = high; slot = omega arith; count = omega arith; port_slot = omega arith }
+whole_written : (u : ℕ) → MIN_UNIVERSE ≤ u → u ≤ MAX_UNIVERSE → IsRange (whole u)
+whole_written u low high = record { universe = (low, high); slot = omega arith; count = omega arith; port_slot = omega arith }
 
 -- what each row gives
 each_all : {X : Type 0} (read : Data → Option X) (P : X → Type 0) → ((d : Data) (x : X) → read d ≡ Some x → P x) → (ds : List Data) (xs : List X) → each read ds ≡ Some xs → AllByRecursion P xs
@@ -115,34 +116,63 @@ listed ds rs e =
     let bounds = in_range 1 MAX_RANGES (length ds) (length rs) kept.0 long in
     record { some = bounds.0; most = bounds.1; each_is = All-from_recursion IsRange rs (each_all range_in IsRange range_written ds rs kept.1) }
 
-one_listed : (u : ℕ) (rs : List SlotRange) → LEAST_UNIVERSE ≤ u → u ≤ MOST_UNIVERSE → whole u ∷ [] ≡ rs → AreRanges rs
+one_listed : (u : ℕ) (rs : List SlotRange) → MIN_UNIVERSE ≤ u → u ≤ MAX_UNIVERSE → whole u ∷ [] ≡ rs → AreRanges rs
 one_listed u rs low high is =
     rw (← is) (record { some = omega arith; most = omega arith; each_is = All-from_recursion IsRange (whole u ∷ []) (whole_written u low high, tt) })
 
 ranges_when : (b : Bool) (d : Data) (rs : List SlotRange) → (if b then option_map (λ u. whole u ∷ []) (universe_at d) else option_and_then ranges_in (array_at (codes "range") d)) ≡ Some rs → AreRanges rs
 ranges_when true d rs e =
     let u = mapped (λ u. whole u ∷ []) (universe_at d) rs e in
-    let bounds = at_bounds LEAST_UNIVERSE MOST_UNIVERSE u.0 (codes "universe") d u.1 in
+    let bounds = at_bounds MIN_UNIVERSE MAX_UNIVERSE u.0 (codes "universe") d u.1 in
     one_listed u.0 rs bounds.0 bounds.1 u.2
 ranges_when false d rs e = let ds = and_then ranges_in (array_at (codes "range") d) rs e in listed ds.0 rs ds.2
 
 -- ports
-port_written : (version : ℕ) (d : Data) (p : Port) → port_in version d ≡ Some p → IsPort p
+abbrev done : {X : Type 0} → X → Result X SetupFault
+done x = Ok x
+
+is_ok : {X : Type 0} (x y : X) → done x ≡ done y → x ≡ y
+is_ok x y e = cc
+
+is_there : {X : Type 0} (o : Option X) (x : X) → required o ≡ Ok x → o ≡ Some x
+is_there None x e = let bad : ⊥ = cc in absurd bad
+is_there (Some y) x e = let is : y ≡ x = cc in ap Some is
+
+then_ok : {X Y : Type 0} (next : X → Result Y SetupFault) (r : Result X SetupFault) (y : Y) → (r >>= next) ≡ Ok y → (x : X) × (r ≡ Ok x) × (next x ≡ Ok y)
+then_ok next (Err fault) y e = let bad : ⊥ = cc in absurd bad
+then_ok next (Ok x) y e = (x, refl, e)
+
+port_written : (version : ℕ) (d : Data) (p : Port) → port_in version d ≡ Ok p → IsPort p
 port_written version d p e =
-    let n = and_then _ (number_at LEAST_PORT MOST_PORT (codes "number") d) p e in
-    let rs = mapped (λ rs. record { number = n.0; ranges = rs }) (ranges_of version d) p n.2 in
-    let ranges = ranges_when (version == 1) d rs.0 rs.1 in
-    let bounds = at_bounds LEAST_PORT MOST_PORT n.0 (codes "number") d n.1 in
-    rw (← rs.2) (record { number = bounds.0; some = ranges.some; most = ranges.most; ranges = ranges.each_is })
+    let n = then_ok _ (required (number_at MIN_PORT MAX_PORT (codes "number") d)) p e in
+    let rs = then_ok _ (required (ranges_of version d)) p n.2 in
+    let is : record { number = n.0; ranges = rs.0 } ≡ p = is_ok _ p rs.2 in
+    let ranges = ranges_when (version == 1) d rs.0 (is_there (ranges_of version d) rs.0 rs.1) in
+    let bounds = at_bounds MIN_PORT MAX_PORT n.0 (codes "number") d (is_there (number_at MIN_PORT MAX_PORT (codes "number") d) n.0 n.1) in
+    rw (← is) (record { number = bounds.0; some = ranges.some; most = ranges.most; ranges = ranges.each_is })
 
-pub ports_written : (version : ℕ) (ds : List Data) (ps : List Port) → each (port_in version) ds ≡ Some ps → All IsPort ps
-ports_written version ds ps e = All-from_recursion IsPort ps (each_all (port_in version) IsPort (port_written version) ds ps e)
+both_ok : (first : Result Port SetupFault) (later : Result (List Port) SetupFault) (ps : List Port) → before first later ≡ Ok ps
+    → (p : Port) × (qs : List Port) × (first ≡ Ok p) × (later ≡ Ok qs) × (p ∷ qs ≡ ps)
+both_ok (Err fault) later ps e = let bad : ⊥ = cc in absurd bad
+both_ok (Ok p) (Err fault) ps e = let bad : ⊥ = cc in absurd bad
+both_ok (Ok p) (Ok qs) ps e = (p, qs, refl, refl, is_ok (p ∷ qs) ps e)
 
-default_port : (o : Option Data) (u : ℕ) → value_or DEFAULT_UDP_PORT (number_in LEAST_UDP_PORT MOST_UDP_PORT) o ≡ Some u → LEAST_UDP_PORT ≤ u
+each_written : (version : ℕ) (ds : List Data) (ps : List Port) → ports_in version ds ≡ Ok ps → AllByRecursion IsPort ps
+each_written version [] ps e = let is : [] ≡ ps = is_ok [] ps e in rw (← is) tt
+each_written version (d ∷ ds) ps e =
+    let both = both_ok (port_in version d) (ports_in version ds) ps e in
+    let here : IsPort both.0 = port_written version d both.0 both.2 in
+    let later : AllByRecursion IsPort both.1 = each_written version ds both.1 both.3 in
+    rw (← both.4) (here, later)
+
+pub ports_written : (version : ℕ) (ds : List Data) (ps : List Port) → ports_in version ds ≡ Ok ps → All IsPort ps
+ports_written version ds ps e = All-from_recursion IsPort ps (each_written version ds ps e)
+
+default_port : (o : Option Data) (u : ℕ) → value_or DEFAULT_UDP_PORT (number_in MIN_UDP_PORT MAX_UDP_PORT) o ≡ Some u → MIN_UDP_PORT ≤ u
 default_port None u e = let is : DEFAULT_UDP_PORT ≡ u = some_is DEFAULT_UDP_PORT u e in rw (← is) (omega arith)
-default_port (Some d) u e = (number_bounds LEAST_UDP_PORT MOST_UDP_PORT u d e).0
+default_port (Some d) u e = (number_bounds MIN_UDP_PORT MAX_UDP_PORT u d e).0
 
-pub udp_written : (ms : Members) (u : ℕ) → udp_port_of ms ≡ Some u → LEAST_UDP_PORT ≤ u
+pub udp_written : (ms : Members) (u : ℕ) → udp_port_of ms ≡ Some u → MIN_UDP_PORT ≤ u
 udp_written ms u e = default_port (get_member (codes "udp_port") ms) u e
 
 -- the last phase
@@ -167,7 +197,7 @@ fits r e =
 all_fit : (p : Port) → list_any passes_end p.ranges ≡ false → All Fits p.ranges
 all_fit p e = All-from_recursion Fits p.ranges (none_passes passes_end Fits fits p.ranges e)
 
-pub keeps_limits : (udp : ℕ) (ps : List Port) → LEAST_UDP_PORT ≤ udp → IsStrictlyIncreasing (port_numbers ps) → length ps ≤ MAX_PORTS → All IsPort ps → order_fault ps ≡ None → IsSetup (record { udp_port = udp; ports = ps })
+pub keeps_limits : (udp : ℕ) (ps : List Port) → MIN_UDP_PORT ≤ udp → IsStrictlyIncreasing (port_numbers ps) → length ps ≤ MAX_PORTS → All IsPort ps → order_fault ps ≡ None → IsSetup (record { udp_port = udp; ports = ps })
 keeps_limits udp ps least rising few ports e =
     let good = none_of (nat_lt MAX_UNIVERSES (length (universes ps))) (list_any (λ p. list_any passes_end p.ranges) ps) (list_any (λ p. has_overlap p.ranges) ps) e in
     record {

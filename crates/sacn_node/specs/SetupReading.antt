@@ -1,22 +1,39 @@
 -- A setup's file: its faults by phases, and its value (profile).
-use Rattle.std.specs.Prelude.{◌&&◌, ◌==◌, ◌||◌, ℕ, nat_le, nat_lt, Bool, true, not, List, [], ◌∷◌, length, Option, None, Some, if◌then◌else◌, codes, option_and_then, option_map, Result, Ok, Err}
+use Rattle.std.specs.Prelude.{◌≡◌, ◌⊎◌, ◌&&◌, ◌==◌, ◌||◌, ℕ, nat_le, nat_lt, Bool, not, List, [], ◌∷◌, length, Option, None, Some, if◌then◌else◌, codes, option_and_then, option_map, ok_or, Result, Ok, Err, Vec}
+use Rattle.std.specs.declared.alloc.Global.{Global}
 use Rattle.std.specs.List.{list_any}
 use Rattle.toml.specs.Data.{Data, Members, get_member}
-use Rattle.sacn_framing.specs.declared.framing.TheConstants.{LEAST_UNIVERSE, MOST_UNIVERSE}
-use Rattle.sacn_slots.specs.declared.universe.TheConstants.{SLOTS}
-use Rattle.sacn_files.specs.declared.limits.TheConstants.{DEFAULT_UDP_PORT, LEAST_UDP_PORT, MOST_UDP_PORT}
+use Rattle.sacn_universe.specs.declared.limits.TheConstants.{MIN_UNIVERSE, MAX_UNIVERSE}
+use Rattle.sacn_universe.specs.declared.limits.TheConstants.{SLOTS}
+use Rattle.sacn_files.specs.declared.limits.TheConstants.{DEFAULT_UDP_PORT, MIN_UDP_PORT, MAX_UDP_PORT}
 use Rattle.sacn_files.specs.declared.faults.FileFault.{FileFault}
 use Rattle.sacn_files.specs.Document.{version_in}
 use Rattle.sacn_files.specs.Keys.{has_known_keys, rows_are_known, rows_have_keys, inner_rows_are_known, inner_rows_have_keys}
 use Rattle.sacn_files.specs.Values.{rows_at, has_rows, number_in, number_at, array_at, value_or}
 use Rattle.sacn_files.specs.Rows.{each}
+use Rattle.sacn_files.specs.Lines.{before}
 use Rattle.sacn_files.specs.Numbered.{has_repeat, in_order}
-use Rattle.sacn_node.specs.declared.limits.TheConstants.{MAX_PORTS, MAX_UNIVERSES, MAX_RANGES, LEAST_PORT, MOST_PORT, NEWEST_SETUP}
+use Rattle.sacn_node.specs.declared.limits.TheConstants.{MAX_PORTS, MAX_UNIVERSES, MAX_RANGES, MIN_PORT, MAX_PORT, NEWEST_SETUP}
 use Rattle.sacn_node.specs.declared.setup.SlotRange.{SlotRange}
 use Rattle.sacn_node.specs.declared.setup.fault.SetupFault.{SetupFault}
-use Rattle.sacn_node.specs.declared.setup.fault.SetupFault.TheVariants.{Toml, MissingKey, UnknownKey, KeyValue, PortTaken, Limit, RangeEnd, Overlap}
+use Rattle.sacn_node.specs.declared.setup.fault.SetupFault.TheVariants.{OutOfMemory, Toml, MissingKey, UnknownKey, KeyValue, PortTaken, Limit, RangeEnd, Overlap}
 use Rattle.sacn_node.specs.Setup.{Port, Setup, port_numbers, universes, passes_end, has_overlap}
 use Rattle.sacn_node.specs.SetupFaults.{setup_fault_of}
+
+-- one reading after another: what the last gives, or the first fault
+infixl 10 ◌>>=◌
+abbrev pub ◌>>=◌ : {A B : Type 0} → Result A SetupFault → (A → Result B SetupFault) → Result B SetupFault
+(Ok x) >>= next = next x
+(Err fault) >>= next = Err fault
+
+-- a value that has to be there, of its kind and in its range
+abbrev pub required : {X : Type 0} → Option X → Result X SetupFault
+required o = ok_or o KeyValue
+
+-- a call gives this list or this fault, unless a growth was refused
+abbrev pub GivesList : {X : Type 0} → Result (Vec X Global) SetupFault → Result (List X) SetupFault → Type 0
+GivesList (Ok found) wanted = wanted ≡ Ok found.items
+GivesList (Err fault) wanted = (fault ≡ OutOfMemory) ⊎ (wanted ≡ Err fault)
 
 -- the keys of each table; each key of a port and of a range is required
 abbrev pub top_keys : List (List ℕ)
@@ -45,7 +62,7 @@ keys_are_there version ms =
     && ((version == 1) || inner_rows_have_keys (codes "range") range_keys (port_rows ms))
 
 abbrev pub universe_at : Data → Option ℕ
-universe_at d = number_at LEAST_UNIVERSE MOST_UNIVERSE (codes "universe") d
+universe_at d = number_at MIN_UNIVERSE MAX_UNIVERSE (codes "universe") d
 
 -- a number of slots, or a slot's number
 abbrev pub slot_at : List ℕ → Data → Option ℕ
@@ -71,13 +88,19 @@ ranges_of version d =
     if version == 1 then option_map (λ u. whole u ∷ []) (universe_at d)
     else option_and_then ranges_in (array_at (codes "range") d)
 
-abbrev pub port_in : ℕ → Data → Option Port
-port_in version d =
-    option_and_then (λ n. option_map (λ rs. record { number = n; ranges = rs }) (ranges_of version d))
-    (number_at LEAST_PORT MOST_PORT (codes "number") d)
+abbrev pub port_in : ℕ → Data → Result Port SetupFault
+port_in version d = do
+  number ← required (number_at MIN_PORT MAX_PORT (codes "number") d)
+  ranges ← required (ranges_of version d)
+  Ok (record { number = number; ranges = ranges })
+
+-- each row's port, in the file's order
+abbrev pub ports_in : ℕ → List Data → Result (List Port) SetupFault
+ports_in version [] = Ok []
+ports_in version (d ∷ ds) = before (port_in version d) (ports_in version ds)
 
 abbrev pub udp_port_of : Members → Option ℕ
-udp_port_of ms = value_or DEFAULT_UDP_PORT (number_in LEAST_UDP_PORT MOST_UDP_PORT) (get_member (codes "udp_port") ms)
+udp_port_of ms = value_or DEFAULT_UDP_PORT (number_in MIN_UDP_PORT MAX_UDP_PORT) (get_member (codes "udp_port") ms)
 
 -- the last phase's fault over ports in order of number
 abbrev pub order_fault : List Port → Option SetupFault
@@ -99,9 +122,11 @@ last_phase udp ps =
     else unless (order_fault (in_order (λ p. p.number) ps)) (record { udp_port = udp; ports = in_order (λ p. p.number) ps })
 
 -- the values, and then the last phase
-abbrev pub value_phase : Option ℕ → Bool → Option (List Port) → Result Setup SetupFault
-value_phase (Some udp) true (Some ps) = last_phase udp ps
-value_phase _ _ _ = Err KeyValue
+abbrev pub value_phase : ℕ → Members → Result Setup SetupFault
+value_phase version ms = do
+  udp ← required (udp_port_of ms)
+  ports ← if has_rows (codes "port") ms then ports_in version (port_rows ms) else Err KeyValue
+  last_phase udp ports
 
 -- the phases after the version
 abbrev pub after_version : Result ℕ FileFault → Members → Result Setup SetupFault
@@ -109,7 +134,7 @@ after_version (Err fault) ms = Err (setup_fault_of fault)
 after_version (Ok version) ms =
     if not (keys_are_known version ms) then Err UnknownKey
     else if not (keys_are_there version ms) then Err MissingKey
-    else value_phase (udp_port_of ms) (has_rows (codes "port") ms) (each (port_in version) (port_rows ms))
+    else value_phase version ms
 
 -- a setup's value, or the fault of the first phase that fails
 abbrev pub setup_in : Members → Result Setup SetupFault

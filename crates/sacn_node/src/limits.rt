@@ -10,10 +10,10 @@ pub const MAX_UNIVERSES: usize = 16;
 pub const MAX_RANGES: usize = 8;
 
 /// The least number of a port.
-pub const LEAST_PORT: u8 = 1;
+pub const MIN_PORT: u8 = 1;
 
 /// The greatest number of a port.
-pub const MOST_PORT: u8 = 255;
+pub const MAX_PORT: u8 = 255;
 
 /// The newest version of a setup's file: 1 has a whole universe for each port, 2 has ranges.
 pub const NEWEST_SETUP: u8 = 2;

@@ -10,8 +10,8 @@ use crate::tables::Tables;
 use crate::taken::{NoPort, NodeChange, NodeTaken};
 use arrayvec::ArrayVec;
 use sacn_framing::{Packet, read_packet};
-use sacn_slots::FRAME_OCTETS;
 use sacn_sources::{HeldView, TableFault};
+use sacn_universe::FRAME_OCTETS;
 use std::alloc::Global;
 use std::marker::Model;
 

@@ -3,7 +3,7 @@
 ghost use Rattle.std.specs.Prelude.{◌≡◌, ◌==◌, ◌+◌, ◌≤◌, ◌<◌, ℕ, true, false, length, slice_index, All, IfOk, IfSome, List, [], ◌∷◌};
 ghost use Rattle.std.specs.Option.{option_map};
 ghost use Rattle.std.specs.List.{list_any};
-ghost use Rattle.sacn_slots.specs.declared.universe.TheConstants.{SLOTS, FRAME_OCTETS};
+ghost use Rattle.sacn_universe.specs.declared.limits.TheConstants.{SLOTS, FRAME_OCTETS};
 ghost use Rattle.sacn_node.specs.Cores.{core_at, core_slots};
 ghost use Rattle.sacn_node.specs.Setup.{port_numbers};
 ghost use Rattle.sacn_node.specs.Ports.{IsShown, covers, level_in, port_frame, port_of};
@@ -12,8 +12,8 @@ use crate::limits::MAX_PORTS;
 use crate::setup::{PortSetup, SlotRange};
 use crate::tables::Tables;
 use arrayvec::ArrayVec;
-use sacn_slots::{FRAME_OCTETS, SLOTS};
 use sacn_sources::TableFault;
+use sacn_universe::{FRAME_OCTETS, SLOTS};
 use std::alloc::Global;
 use std::marker::Model;
 

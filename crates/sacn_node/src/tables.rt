@@ -1,17 +1,18 @@
 //! The tables of a node, one for each of its universes.
 ghost use Rattle.std.specs.Prelude.{◌≡◌, ◌+◌, ◌<◌, ◌≤◌, ◌^◌, ℕ, List, [], map, length, take, drop, slice_index_or, slice_set, IfOk, IfErr, IfSome, IfNone, AllPairs};
 ghost use Rattle.sacn_sources.specs.Packets.{packet_of};
-ghost use Rattle.sacn_slots.specs.declared.universe.TheConstants.{SLOTS};
+ghost use Rattle.sacn_universe.specs.declared.limits.TheConstants.{SLOTS};
 ghost use Rattle.sacn_sources.specs.Rows.{slots_of};
 ghost use Rattle.sacn_node.specs.declared.limits.TheConstants.{MAX_UNIVERSES};
 ghost use Rattle.sacn_node.specs.Seen.{one_expired, lost_in, new_one, Rise};
 ghost use Rattle.sacn_sources.specs.Wakes.{oldest_by, oldest_of};
 
 use crate::limits::MAX_UNIVERSES;
-use crate::taken::{NodeChange, NodeTaken, told};
+use crate::taken::{NodeChange, NodeTaken, change_by};
 use sacn_framing::DataView;
-use sacn_slots::{SLOTS, merge_into};
+use sacn_slots::merge_into;
 use sacn_sources::{HeldView, NETWORK_DATA_LOSS, SourceTable, TableFault, Taken};
+use sacn_universe::SLOTS;
 use std::alloc::Global;
 use std::marker::Model;
 
@@ -98,12 +99,12 @@ impl Tables {
         let lost = self.expire(now);
         let universe = packet.universe();
         match self.search(universe) {
-            Ok(at) => told(
+            Ok(at) => change_by(
                 NodeTaken::FromTable(self.take_at(at, packet)),
                 lost,
                 universe,
             ),
-            Err(_) => told(NodeTaken::OtherUniverse, lost, universe),
+            Err(_) => change_by(NodeTaken::OtherUniverse, lost, universe),
         }
     }
 

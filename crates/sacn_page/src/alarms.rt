@@ -1,13 +1,14 @@
 //! What a viewer is to look at: the latest things that went wrong.
 
 use crate::json::{push_foreign, push_word};
+use sacn_framing::up_to_nul;
 use sacn_monitor::{Account, Sender, Stream};
 use sacn_root::PacketFault;
 use std::alloc::{AllocError, Global};
 use std::fmt::Write;
 
 /// The most alarms of a network that are kept: the latest.
-pub const MOST_ALARMS: usize = 32;
+pub const MAX_ALARMS: usize = 32;
 
 /// What happened. A place is that of a source on a universe.
 #[derive(Clone, Copy, Debug, PartialEq, Eq)]
@@ -168,12 +169,4 @@ fn push_source(text: &mut String, stream: &Stream) -> Result<(), AllocError> {
 /// The name of a source (E1.31, 6.2.2), within quotes.
 pub fn push_name(text: &mut String, account: &Account) -> Result<(), AllocError> {
     push_foreign(text, up_to_nul(&account.name))
-}
-
-// A name up to its first NUL.
-fn up_to_nul(name: &[u8; 64]) -> &[u8] {
-    match name.iter().position(|octet| *octet == 0) {
-        Some(len) => &name[..len],
-        None => name,
-    }
 }

@@ -4,7 +4,7 @@ use crate::board::Board;
 use crate::document::{Extent, Given, push_document, push_facts};
 use crate::markup::{Subject, page};
 use crate::request::{Asked, Refusal};
-use crate::response::{Kind, opened, push_event, refused, whole};
+use crate::response::{Kind, event_stream_head, push_event, refused, whole};
 use crate::scene::Scene;
 use crate::viewer::{Connection, Goal, Phase, Viewer};
 use std::alloc::{AllocError, Global};
@@ -163,7 +163,7 @@ fn begin_events<C: Connection + Drop, S: Scene + Drop>(
         Extent::Whole,
     )?;
     viewer.given = given;
-    let mut text = opened(alloc)?;
+    let mut text = event_stream_head(alloc)?;
     push_event(&mut text, "state", document.as_str())?;
     viewer.give(text.as_str(), Phase::Watching(named), now)
 }

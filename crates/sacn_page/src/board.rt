@@ -5,17 +5,17 @@ ghost use Rattle.sacn_monitor.specs.Books.{new_book, after_tick};
 ghost use Rattle.sacn_explain.specs.Following.{IsTicked, IsTaken};
 
 use crate::alarms::{Alarms, Trouble};
-use crate::lit::LitUniverse;
+use crate::lit_universe::LitUniverse;
 use sacn_framing::{DataView, Packet, read_packet};
 use sacn_monitor::{Event, Monitor, News, Noted, Sender, Stream};
 use std::alloc::{AllocError, Global};
 
 /// The most universes that are merged at once.
-pub const MOST_LIT: usize = 16;
+pub const MAX_LIT: usize = 16;
 
 /// What is known of a network. Moments are milliseconds.
 ///
-/// Up to `MOST_LIT` universes are merged: the first ones heard, and those that are looked at, which take the room of others.
+/// Up to `MAX_LIT` universes are merged: the first ones heard, and those that are looked at, which take the room of others.
 #[derive(Drop)]
 pub struct Board {
     alloc: Global,
@@ -150,7 +150,7 @@ impl Board {
         if self.lit(number).is_some() {
             return Ok(true);
         }
-        if self.lit.len() < MOST_LIT {
+        if self.lit.len() < MAX_LIT {
             self.lit.push(unlit(self.alloc, number)?)?;
             return Ok(true);
         }
@@ -238,7 +238,7 @@ impl Board {
         ensures monitor { self.new.monitor ≡ self.old.monitor }
     {
         let number = packet.universe();
-        if self.lit(number).is_none() && self.lit.len() < MOST_LIT {
+        if self.lit(number).is_none() && self.lit.len() < MAX_LIT {
             self.lit.push(unlit(self.alloc, number)?)?;
         }
         for lit in self.lit.iter_mut() {

@@ -5,9 +5,9 @@ use crate::board::Board;
 use crate::json::{
     push_digits, push_foreign, push_long_digits, push_number, push_numbers, push_word,
 };
-use crate::lit::SLOTS;
 use crate::scene::Facts;
 use sacn_monitor::{State, Stream, Tally};
+use sacn_universe::SLOTS;
 use std::alloc::{AllocError, Global};
 use std::fmt::Write;
 

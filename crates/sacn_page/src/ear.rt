@@ -1,10 +1,9 @@
 //! Where a server hears the network: a UDP socket, whose wait also ends where a browser calls.
 
-use crate::sys::{
-    NO_DESCRIPTOR, STDIN, bind_shared, is_readable, read_input, room_of, wait_readable,
-};
+use crate::sys::{is_readable, wait_readable};
 use sacn_edge::{BUFFER_OCTETS, Clock};
 use sacn_live::limits::FAILED_WAIT;
+use sacn_live::sys::{NO_DESCRIPTOR, STDIN, bind_shared, read_input, room_of};
 use sacn_live::{Arrival, Octets4, Receipt, Receiver, RigClock};
 use sacn_watch::Listener;
 use std::io::ErrorKind;
@@ -13,7 +12,7 @@ use std::os::fd::{AsRawFd, RawFd};
 use std::rt::Clock as MachineClock;
 
 /// The longest wait of one call of the machine, in milliseconds.
-const MOST_MILLIS: u64 = 60_000;
+const MAX_MILLIS: u64 = 60_000;
 
 /// The most octets of standard input that are passed over at once.
 const PASSED_OCTETS: usize = 256;
@@ -72,7 +71,7 @@ fn place_of(sender: SocketAddr) -> (Octets4, u16) {
 
 impl<'a, R: Net + MachineClock> Receiver for Ear<'a, R> {
     fn wait(&mut self, until: u64) {
-        let left = until.saturating_sub(self.clock.now()).min(MOST_MILLIS) as i32;
+        let left = until.saturating_sub(self.clock.now()).min(MAX_MILLIS) as i32;
         if self.is_failing {
             let millis = left.max(1).min(FAILED_WAIT);
             wait_readable(NO_DESCRIPTOR, self.input, self.beside, millis);
@@ -149,7 +148,7 @@ impl<'a, R: MachineClock> Quiet<'a, R> {
 
 impl<'a, R: MachineClock> Receiver for Quiet<'a, R> {
     fn wait(&mut self, until: u64) {
-        let left = until.saturating_sub(self.clock.now()).min(MOST_MILLIS) as i32;
+        let left = until.saturating_sub(self.clock.now()).min(MAX_MILLIS) as i32;
         wait_readable(NO_DESCRIPTOR, self.input, self.beside, left);
     }
 

@@ -9,7 +9,7 @@ use std::alloc::{AllocError, Global};
 use std::io::{self, BufRead, ErrorKind};
 
 /// The most alarms of a recording that are kept: the latest up to a moment.
-pub const MOST_MARKS: usize = 256;
+pub const MAX_MARKS: usize = 256;
 
 /// Where the octets of a recording are, to be read as often as is wanted.
 pub trait Tape {
@@ -49,7 +49,7 @@ impl<T: Tape + Drop> Recording<T> {
         preferred: Option<u16>,
     ) -> Result<Self, CaptureFault> {
         let mut tape = tape;
-        let replay = begun(alloc, &mut tape, port, preferred, None)?;
+        let replay = replay_from_start(alloc, &mut tape, port, preferred, None)?;
         let Ok(name) = String::from_str(alloc, name) else {
             return Err(at_start(FaultKind::OutOfMemory));
         };
@@ -103,7 +103,7 @@ fn at_start(kind: FaultKind) -> CaptureFault {
 }
 
 // A recording from its start, with this universe merged from there on.
-fn begun<T: Tape>(
+fn replay_from_start<T: Tape>(
     alloc: Global,
     tape: &mut T,
     port: u16,
@@ -129,7 +129,7 @@ fn board_of(
     preferred: Option<u16>,
     universe: Option<u16>,
 ) -> Result<Board, AllocError> {
-    let mut board = Board::new(alloc, preferred, MOST_MARKS)?;
+    let mut board = Board::new(alloc, preferred, MAX_MARKS)?;
     if let Some(preferred) = preferred {
         board.open(preferred, &[])?;
     }
@@ -176,7 +176,7 @@ impl<T: Tape + Drop> Scene for Recording<T> {
         if !self.reaches(universe, until) {
             self.is_broken = true;
             let tape = &mut self.tape;
-            match begun(self.alloc, tape, self.port, self.preferred, universe) {
+            match replay_from_start(self.alloc, tape, self.port, self.preferred, universe) {
                 Ok(replay) => self.replay = replay,
                 Err(fault) if fault.kind == FaultKind::OutOfMemory => {
                     return Err(SeekFault::OutOfMemory);

@@ -190,14 +190,18 @@ fn pending_of(
     let mut clock = clock;
     clock.advance(frame.moment);
     match &frame.content {
-        Ok(datagram) if datagram.destination_port == port => kept(clock, datagram, octets),
-        Ok(_) => Ok(unkept(clock)),
-        Err(_) => Ok(unkept(clock)),
+        Ok(datagram) if datagram.destination_port == port => with_datagram(clock, datagram, octets),
+        Ok(_) => Ok(without_datagram(clock)),
+        Err(_) => Ok(without_datagram(clock)),
     }
 }
 
 // A frame with a datagram to the port.
-fn kept(clock: Timeline, datagram: &Datagram<'_>, octets: &mut Vec<u8>) -> Result<Next, SeekFault> {
+fn with_datagram(
+    clock: Timeline,
+    datagram: &Datagram<'_>,
+    octets: &mut Vec<u8>,
+) -> Result<Next, SeekFault> {
     octets.clear();
     octets.extend_from_slice(datagram.payload)?;
     let sender = Sender {
@@ -211,7 +215,7 @@ fn kept(clock: Timeline, datagram: &Datagram<'_>, octets: &mut Vec<u8>) -> Resul
 }
 
 // A frame with none.
-fn unkept(clock: Timeline) -> Next {
+fn without_datagram(clock: Timeline) -> Next {
     Next::Frame(Pending {
         clock,
         sender: None,

@@ -8,15 +8,13 @@ ghost use Rattle.sacn_page.specs.declared.request.Reading.TheVariants.{More};
 
 use crate::hosts::{Hosts, is_word};
 use httparse::{EMPTY_HEADER, Error, Header, Request, Status};
+use sacn_universe::{MAX_UNIVERSE, MIN_UNIVERSE};
 
 /// The most octets of a request's head.
-pub const MOST_HEAD: usize = 4096;
+pub const MAX_HEAD: usize = 4096;
 
 /// The most header fields of a request.
-pub const MOST_FIELDS: usize = 32;
-
-/// The greatest number of a universe (E1.31, 6.2.7).
-const MOST_UNIVERSE: u16 = 63999;
+pub const MAX_FIELDS: usize = 32;
 
 /// What a request asks for.
 #[derive(Clone, Copy, Debug, PartialEq, Eq)]
@@ -47,7 +45,7 @@ pub enum Refusal {
     Missing,
     /// Another method than GET.
     Method,
-    /// The head is longer than `MOST_HEAD` octets, or has more than `MOST_FIELDS` fields.
+    /// The head is longer than `MAX_HEAD` octets, or has more than `MAX_FIELDS` fields.
     TooLarge,
     /// There is no room for a further viewer, or for a further universe.
     Busy,
@@ -87,22 +85,22 @@ impl Refusal {
 }
 
 /// What the octets ask for that came of a request so far, of one of these hosts. Something is asked for only by a whole head of a
-/// GET that names one of them; and only where fewer than `MOST_HEAD` octets came the answer may be that more have to come.
+/// GET that names one of them; and only where fewer than `MAX_HEAD` octets came the answer may be that more have to come.
 pub fn read_request(octets: &[u8], hosts: &Hosts) -> Reading
     ensures asked { OnAsked result (IsOwnGet hosts.now octets.now) }
-    ensures more { result ≡ More → length octets.now < MOST_HEAD }
+    ensures more { result ≡ More → length octets.now < MAX_HEAD }
 {
-    let mut fields = [EMPTY_HEADER; MOST_FIELDS];
+    let mut fields = [EMPTY_HEADER; MAX_FIELDS];
     let mut request = Request::new(&mut fields);
     match request.parse(octets) {
         Ok(Status::Complete(len)) => {
-            if len > MOST_HEAD {
+            if len > MAX_HEAD {
                 return Reading::Refused(Refusal::TooLarge);
             }
             decided(asked_by(&request, hosts))
         }
         Ok(Status::Partial) => {
-            if octets.len() >= MOST_HEAD {
+            if octets.len() >= MAX_HEAD {
                 return Reading::Refused(Refusal::TooLarge);
             }
             Reading::More
@@ -248,7 +246,7 @@ fn named_in(query: &str) -> Result<Named, Refusal> {
 
 fn universe_of(digits: &str) -> Result<u16, Refusal> {
     match sacn_files::words::short_in(digits) {
-        Some(universe) if (universe > 0) & (universe <= MOST_UNIVERSE) => Ok(universe),
+        Some(universe) if (universe >= MIN_UNIVERSE) & (universe <= MAX_UNIVERSE) => Ok(universe),
         _ => Err(Refusal::Malformed),
     }
 }

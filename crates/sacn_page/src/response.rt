@@ -68,7 +68,7 @@ impl Refusal {
 ///
 /// Errors: a growth was refused.
 pub fn whole(alloc: Global, kind: Kind, body: &str) -> Result<String, AllocError> {
-    let mut text = begun(alloc, 200, "OK", kind)?;
+    let mut text = head_of(alloc, 200, "OK", kind)?;
     finish(&mut text, body)?;
     Ok(text)
 }
@@ -76,8 +76,8 @@ pub fn whole(alloc: Global, kind: Kind, body: &str) -> Result<String, AllocError
 /// The head of an answer whose events follow.
 ///
 /// Errors: a growth was refused.
-pub fn opened(alloc: Global) -> Result<String, AllocError> {
-    let mut text = begun(alloc, 200, "OK", Kind::Events)?;
+pub fn event_stream_head(alloc: Global) -> Result<String, AllocError> {
+    let mut text = head_of(alloc, 200, "OK", Kind::Events)?;
     text.push_str("\r\n")?;
     Ok(text)
 }
@@ -86,7 +86,7 @@ pub fn opened(alloc: Global) -> Result<String, AllocError> {
 ///
 /// Errors: a growth was refused.
 pub fn refused(alloc: Global, refusal: Refusal) -> Result<String, AllocError> {
-    let mut text = begun(alloc, refusal.status(), refusal.reason(), Kind::Text)?;
+    let mut text = head_of(alloc, refusal.status(), refusal.reason(), Kind::Text)?;
     match refusal {
         Refusal::Method => text.push_str("Allow: GET\r\n")?,
         Refusal::Busy => text.push_str("Retry-After: 5\r\n")?,
@@ -100,7 +100,7 @@ pub fn refused(alloc: Global, refusal: Refusal) -> Result<String, AllocError> {
 }
 
 // The front of a head.
-fn begun(alloc: Global, status: u16, reason: &str, kind: Kind) -> Result<String, AllocError> {
+fn head_of(alloc: Global, status: u16, reason: &str, kind: Kind) -> Result<String, AllocError> {
     let mut text = String::new(alloc);
     let media_type = kind.media_type();
     write!(text, "HTTP/1.1 {status} {reason}\r\n")?;

@@ -11,21 +11,21 @@ use std::alloc::{AllocError, Global};
 use std::net::SocketAddrV4;
 
 /// The most viewers.
-pub const MOST_VIEWERS: usize = 32;
+pub const MAX_VIEWERS: usize = 32;
 
 /// The most connections beyond them, which are answered that there is no room.
-pub const MOST_SURPLUS: usize = 8;
+pub const MAX_SURPLUS: usize = 8;
 
-const MOST_CONNECTIONS: usize = MOST_VIEWERS + MOST_SURPLUS;
+const MAX_CONNECTIONS: usize = MAX_VIEWERS + MAX_SURPLUS;
 
 /// The least milliseconds between two events of a viewer.
-pub const LEAST_WAIT: u64 = 100;
+pub const MIN_WAIT: u64 = 100;
 
 /// The most milliseconds between two events of a viewer that takes all.
-pub const MOST_WAIT: u64 = 1000;
+pub const MAX_WAIT: u64 = 1000;
 
 /// The most steps in which a recording is followed in one turn.
-const MOST_STEPS: usize = 4096;
+const MAX_STEPS: usize = 4096;
 
 /// A network or a recording, and those who look at it. Moments are milliseconds.
 #[derive(Drop)]
@@ -51,7 +51,7 @@ impl<C: Connection + Drop, S: Scene + Drop> Room<C, S> {
         Ok(Room {
             alloc,
             scene,
-            viewers: Slab::with_capacity(alloc, MOST_CONNECTIONS)?,
+            viewers: Slab::with_capacity(alloc, MAX_CONNECTIONS)?,
             next: 0,
             beat: 0,
             is_stale: false,
@@ -79,14 +79,14 @@ impl<C: Connection + Drop, S: Scene + Drop> Room<C, S> {
 
     /// The key of the next connection, where there is room for it.
     pub fn vacancy(&self) -> Option<usize> {
-        if self.viewers.len() < MOST_CONNECTIONS {
+        if self.viewers.len() < MAX_CONNECTIONS {
             Some(self.viewers.vacant_key())
         } else {
             None
         }
     }
 
-    /// Takes a connection that came to this address. Past `MOST_VIEWERS` it is answered that there is no room.
+    /// Takes a connection that came to this address. Past `MAX_VIEWERS` it is answered that there is no room.
     ///
     /// Errors: OutOfMemory.
     pub fn admit(
@@ -95,7 +95,7 @@ impl<C: Connection + Drop, S: Scene + Drop> Room<C, S> {
         address: SocketAddrV4,
         now: u64,
     ) -> Result<(), AllocError> {
-        let is_surplus = self.guests() >= MOST_VIEWERS;
+        let is_surplus = self.guests() >= MAX_VIEWERS;
         let hosts = Hosts::of(self.alloc, address)?;
         let viewer = Viewer::new(self.alloc, connection, hosts, is_surplus, now);
         match self.viewers.insert(viewer) {
@@ -107,7 +107,7 @@ impl<C: Connection + Drop, S: Scene + Drop> Room<C, S> {
     // The viewers for whom there was room, and that aren't leaving.
     fn guests(&self) -> usize {
         let mut count = 0_usize;
-        for key in 0..MOST_CONNECTIONS {
+        for key in 0..MAX_CONNECTIONS {
             if let Some(viewer) = self.viewers.get(key) {
                 if !viewer.is_surplus() & (viewer.phase() != Phase::Leaving) {
                     count = count.saturating_add(1);
@@ -148,7 +148,7 @@ impl<C: Connection + Drop, S: Scene + Drop> Room<C, S> {
     // The universes that are looked at.
     fn watched(&self) -> Result<Vec<u16>, AllocError> {
         let mut universes = Vec::new(self.alloc);
-        for key in 0..MOST_CONNECTIONS {
+        for key in 0..MAX_CONNECTIONS {
             if let Some(viewer) = self.viewers.get(key) {
                 if let Phase::Watching(named) = viewer.phase() {
                     if let Some(universe) = self.scene.board().chosen(named) {
@@ -172,16 +172,16 @@ impl<C: Connection + Drop, S: Scene + Drop> Room<C, S> {
             return Ok(());
         }
         self.is_stale = false;
-        self.next = now.saturating_add(LEAST_WAIT);
+        self.next = now.saturating_add(MIN_WAIT);
         if is_beat {
-            self.beat = now.saturating_add(MOST_WAIT);
+            self.beat = now.saturating_add(MAX_WAIT);
         }
         let watched = self.watched()?;
         for universe in watched.as_slice() {
             let _ = self.scene.open(*universe, watched.as_slice())?;
         }
         self.scene.refresh(now, watched.as_slice());
-        for key in 0..MOST_CONNECTIONS {
+        for key in 0..MAX_CONNECTIONS {
             self.push(key, is_beat, now);
         }
         Ok(())
@@ -207,11 +207,11 @@ impl<C: Connection + Drop, S: Scene + Drop> Room<C, S> {
 
     // Answers those who wait for a moment of the recording, the first that asked first, as far as one turn reads.
     fn seek(&mut self, now: u64) {
-        for _ in 0..MOST_CONNECTIONS {
+        for _ in 0..MAX_CONNECTIONS {
             let Some((key, goal)) = self.first_waiting() else {
                 return;
             };
-            match self.scene.seek(goal.universe, goal.moment, MOST_STEPS) {
+            match self.scene.seek(goal.universe, goal.moment, MAX_STEPS) {
                 Ok(true) => self.answer_goal(key, goal, Ok(()), now),
                 Ok(false) => return,
                 Err(fault) => self.answer_goal(key, goal, Err(fault), now),
@@ -222,7 +222,7 @@ impl<C: Connection + Drop, S: Scene + Drop> Room<C, S> {
     // The viewer that has waited the longest for a moment of the recording.
     fn first_waiting(&self) -> Option<(usize, Goal)> {
         let mut first: Option<(usize, Goal)> = None;
-        for key in 0..MOST_CONNECTIONS {
+        for key in 0..MAX_CONNECTIONS {
             if let Some(viewer) = self.viewers.get(key) {
                 if let Phase::Waiting(goal) = viewer.phase() {
                     first = match first {
@@ -252,7 +252,7 @@ impl<C: Connection + Drop, S: Scene + Drop> Room<C, S> {
 
     // Closes the viewers whose time is up.
     fn close_late(&mut self, now: u64) {
-        for key in 0..MOST_CONNECTIONS {
+        for key in 0..MAX_CONNECTIONS {
             let is_late = match self.viewers.get(key) {
                 Some(viewer) => viewer.deadline() <= now,
                 None => false,
@@ -266,7 +266,7 @@ impl<C: Connection + Drop, S: Scene + Drop> Room<C, S> {
     /// The moment at which there is something to do, where nothing comes; `u64::MAX` where there never is.
     pub fn wakes(&self) -> u64 {
         let mut least = self.scene.next_change();
-        for key in 0..MOST_CONNECTIONS {
+        for key in 0..MAX_CONNECTIONS {
             if let Some(viewer) = self.viewers.get(key) {
                 least = least.min(viewer.deadline());
                 match viewer.phase() {

@@ -16,10 +16,10 @@ use std::time::Duration;
 const LISTENER: Token = Token(usize::MAX);
 
 /// The most connections that are taken in one turn.
-const MOST_CALLS: usize = 64;
+const MAX_CALLS: usize = 64;
 
 /// The most readinesses that are looked at in one turn.
-const MOST_EVENTS: usize = 64;
+const MAX_EVENTS: usize = 64;
 
 /// The milliseconds after which a server that could take no connection tries again.
 const RETRY: u64 = 1000;
@@ -61,7 +61,7 @@ impl<S: Scene + Drop> Pages<S> {
     fn bound<R: Net>(rt: &R, alloc: Global, address: SocketAddrV4, scene: S) -> io::Result<Self> {
         let room = Room::new(alloc, scene)?;
         let poll = Poll::new(rt)?;
-        let events = Events::with_capacity(alloc, MOST_EVENTS)?;
+        let events = Events::with_capacity(alloc, MAX_EVENTS)?;
         let mut listener = TcpListener::bind(rt, SocketAddr::V4(address))?;
         poll.registry()
             .register(&mut listener, LISTENER, Interest::READABLE)?;
@@ -83,7 +83,7 @@ impl<S: Scene + Drop> Pages<S> {
     // Takes the connections that wait.
     fn accept(&mut self, now: u64) {
         self.calls = now;
-        for _ in 0..MOST_CALLS {
+        for _ in 0..MAX_CALLS {
             match self.listener.accept() {
                 Ok((stream, _)) => self.admit(stream, now),
                 Err(error) => match error.kind() {

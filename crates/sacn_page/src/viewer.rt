@@ -5,7 +5,7 @@ ghost use Rattle.std.specs.Prelude.{◌≤◌, length, IfSome};
 use crate::document::Given;
 use crate::hosts::Hosts;
 use crate::outbox::Outbox;
-use crate::request::{MOST_HEAD, Reading, Refusal, read_request};
+use crate::request::{MAX_HEAD, Reading, Refusal, read_request};
 use std::alloc::{AllocError, Global};
 use std::io::{ErrorKind, Read, Write};
 
@@ -22,7 +22,7 @@ pub const LEAVE_TIME: u64 = 1000;
 const CHUNK: usize = 2048;
 
 /// The most receives of one turn. A viewer that sends more than they take is closed.
-const MOST_RECEIVES: usize = 64;
+const MAX_RECEIVES: usize = 64;
 
 /// A connection whose reads and writes don't wait.
 pub trait Connection: Read + Write {
@@ -125,7 +125,7 @@ impl<C: Connection> Viewer<C> {
     pub fn hear(&mut self) -> Result<Reading, AllocError> {
         let mut reading = Reading::More;
         let mut chunk = [0; CHUNK];
-        for _ in 0..MOST_RECEIVES {
+        for _ in 0..MAX_RECEIVES {
             match self.receive(&mut chunk) {
                 Some(0) => {
                     self.has_ended = true;

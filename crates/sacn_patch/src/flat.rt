@@ -1,11 +1,11 @@
 //! A patch in one row.
 ghost use Rattle.std.specs.Prelude.{◌≡◌, ◌<◌, ◌≤◌, ◌&&◌, nat_le, ℕ, length, slice_index_or, map, get_or, true, IfOk};
-ghost use Rattle.sacn_patch.specs.declared.limits.TheConstants as limits;
+ghost use Rattle.sacn_universe.specs.declared.limits.TheConstants.{SLOTS};
 ghost use Rattle.sacn_patch.specs.Flat.{Row, Sorted, AllBelow, AllFrom, IsStart, AreStarts, is_within, mark_of};
 
 use crate::level::{LevelOf, RestOf};
-use crate::limits::SLOTS;
 use crate::part::{Part, byte_of, octet_place};
+use sacn_universe::SLOTS;
 use std::alloc::{AllocError, Global};
 use std::marker::Model;
 
@@ -125,15 +125,15 @@ impl FlatPatch {
 // Whether a place is a slot of the universe.
 fn is_within(at: (u16, u16), universe: u16) -> bool
     ensures within { result ≡ is_within universe at }
-    ensures range { result ≡ true → (1 ≤ at.1) × (at.1 ≤ limits.SLOTS) }
+    ensures range { result ≡ true → (1 ≤ at.1) × (at.1 ≤ SLOTS) }
 {
     at.0 == universe && 1 <= at.1 && at.1 as usize <= SLOTS
 }
 
 // Whether this is the number of a slot.
 fn is_slot(slot: u16) -> bool
-    ensures slot { result ≡ (nat_le 1 slot && nat_le slot limits.SLOTS) }
-    ensures range { result ≡ true → (1 ≤ slot) × (slot ≤ limits.SLOTS) }
+    ensures slot { result ≡ (nat_le 1 slot && nat_le slot SLOTS) }
+    ensures range { result ≡ true → (1 ≤ slot) × (slot ≤ SLOTS) }
 {
     1 <= slot && slot as usize <= SLOTS
 }

@@ -1,10 +1,8 @@
 //! Laws of patches. They cost nothing when they run.
 ghost use Rattle.std.specs.Prelude.{◌≡◌};
-ghost use Rattle.sacn_patch.specs.declared.limits.TheConstants.{MAX_CHANNELS, MAX_UNIVERSE, SLOTS};
+ghost use Rattle.sacn_patch.specs.declared.limits.TheConstants.{MAX_CHANNELS};
 
-/// What the numbers of a patch are: its channels, the greatest universe, and the slots of one.
+/// What the number of a patch is: its channels.
 pub fn numbers()
     ensures channels { MAX_CHANNELS ≡ 2048 }
-    ensures universe { MAX_UNIVERSE ≡ 63999 }
-    ensures slots { SLOTS ≡ 512 }
 {}

@@ -17,5 +17,5 @@ mod tests;
 pub use fault::PatchFault;
 pub use flat::FlatPatch;
 pub use level::{LevelOf, RestOf};
-pub use limits::{MAX_CHANNELS, MAX_UNIVERSE, SLOTS};
+pub use limits::MAX_CHANNELS;
 pub use patch::Patch;

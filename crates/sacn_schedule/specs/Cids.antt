@@ -1,4 +1,4 @@
--- Consoles and their CIDs (E1.31 section 5.6: a CID is of one component alone).
+-- Consoles and their CIDs (E1.31, 5.6: a CID is of one component alone).
 use Rattle.std.specs.Prelude.{◌≢◌, ◌||◌, ℕ, Bool, false, List, [], ◌∷◌, AllPairs}
 use Rattle.std.specs.List.{list_any}
 use Rattle.std.specs.Str.{bytes_eq}

@@ -1,5 +1,5 @@
 -- A schedule: what happens, a line for each event (profile).
-use Rattle.std.specs.Prelude.{◌≡◌, ℕ, List, [], ◌∷◌, ◌++◌, map, Option, None, Some, Result, Ok, Err, codes, if◌then◌else◌, Vec}
+use Rattle.std.specs.Prelude.{◌≡◌, ℕ, List, [], ◌∷◌, ◌++◌, map, Option, None, Some, ok_or, Result, Ok, Err, codes, if◌then◌else◌, Vec}
 use Rattle.std.specs.declared.alloc.Global.{Global}
 use Rattle.std.specs.Str.{bytes_eq}
 use Rattle.hex.specs.Hex.{decode_of}
@@ -7,9 +7,8 @@ use Rattle.hex.specs.declared.error.FromHexError.{FromHexError}
 use Rattle.sacn_files.specs.Words.{number_in}
 use Rattle.sacn_files.specs.Lines.{Said, entries_in}
 use Rattle.sacn_files.specs.declared.faults.TextFault.{TextFault}
-use Rattle.sacn_files.specs.declared.faults.TextFault.TheVariants.{OutOfMemory, UnknownWord, WordCount, Hex}
-use Rattle.sacn_console.specs.Scripts.{or_number, command_in}
-use Rattle.sacn_console.specs.declared.command.Command.{Command}
+use Rattle.sacn_files.specs.declared.faults.TextFault.TheVariants.{OutOfMemory, UnknownWord, WordCount, Number, Hex}
+use Rattle.sacn_console.specs.Scripts.{command_in}
 use Rattle.sacn_schedule.specs.declared.event.Event.{Event}
 use Rattle.sacn_schedule.specs.Events.{Happening, Order, Poll, Deliver, Look, RestartConsole, RestartNode, Noise, happening}
 use Rattle.sacn_schedule.specs.Reads.{GivesAs}
@@ -21,18 +20,36 @@ wide = 18446744073709551615
 abbrev pub narrow : ℕ
 narrow = 255
 
+-- one reading after another: what the last gives, or the first fault
+infixl 10 ◌>>=◌
+abbrev pub ◌>>=◌ : {A B : Type 0} → Result A TextFault → (A → Result B TextFault) → Result B TextFault
+(Ok x) >>= next = next x
+(Err fault) >>= next = Err fault
+
+-- the number of a word, at most the limit
+unfoldable pub number_of : ℕ → ℕ → List ℕ → Result ℕ TextFault
+number_of line limit w = ok_or (number_in limit w) (Number line)
+
 -- what one, two or three numbers make, each with its limit; they are read from left to right
 abbrev pub one_in : ℕ → (ℕ → Happening) → ℕ → List (List ℕ) → Result Happening TextFault
-one_in line make a (x ∷ []) = or_number line (λ x. Ok (make x)) (number_in a x)
+one_in line make a (x ∷ []) = do
+  x ← number_of line a x
+  Ok (make x)
 one_in line make a _ = Err (WordCount line)
 
 abbrev pub two_in : ℕ → (ℕ → ℕ → Happening) → ℕ → ℕ → List (List ℕ) → Result Happening TextFault
-two_in line make a b (x ∷ y ∷ []) = or_number line (λ x. or_number line (λ y. Ok (make x y)) (number_in b y)) (number_in a x)
+two_in line make a b (x ∷ y ∷ []) = do
+  x ← number_of line a x
+  y ← number_of line b y
+  Ok (make x y)
 two_in line make a b _ = Err (WordCount line)
 
 abbrev pub three_in : ℕ → (ℕ → ℕ → ℕ → Happening) → ℕ → ℕ → ℕ → List (List ℕ) → Result Happening TextFault
-three_in line make a b c (x ∷ y ∷ z ∷ []) =
-    or_number line (λ x. or_number line (λ y. or_number line (λ z. Ok (make x y z)) (number_in c z)) (number_in b y)) (number_in a x)
+three_in line make a b c (x ∷ y ∷ z ∷ []) = do
+  x ← number_of line a x
+  y ← number_of line b y
+  z ← number_of line c z
+  Ok (make x y z)
 three_in line make a b c _ = Err (WordCount line)
 
 -- the lines whose words after the first are numbers
@@ -52,12 +69,12 @@ abbrev pub restart_node_in : ℕ → List (List ℕ) → Result Happening TextFa
 restart_node_in line ws = one_in line RestartNode wide ws
 
 -- an order: its command is looked at before its numbers
-abbrev pub with_command : ℕ → List (List ℕ) → Result Command TextFault → Result Happening TextFault
-with_command line numbers (Err fault) = Err fault
-with_command line numbers (Ok command) = two_in line (λ c m. Order c m command) wide wide numbers
-
 abbrev pub order_in : ℕ → List (List ℕ) → Result Happening TextFault
-order_in line (c ∷ m ∷ command) = with_command line (c ∷ m ∷ []) (command_in line command)
+order_in line (c ∷ m ∷ command) = do
+  command ← command_in line command
+  console ← number_of line wide c
+  moment ← number_of line wide m
+  Ok (Order console moment command)
 order_in line _ = Err (WordCount line)
 
 -- the octets of a word in hexadecimal digits of either case, of which - has none
@@ -68,13 +85,16 @@ some_octets (Err fault) = None
 abbrev pub octets_in : List ℕ → Option (List ℕ)
 octets_in w = if bytes_eq w (codes "-") then Some [] else some_octets (decode_of w)
 
--- noise: its digits are looked at after its numbers
-abbrev pub with_octets : ℕ → ℕ → ℕ → Option (List ℕ) → Result Happening TextFault
-with_octets line n m None = Err (Hex line)
-with_octets line n m (Some octets) = Ok (Noise n m octets)
+unfoldable pub octets_of : ℕ → List ℕ → Result (List ℕ) TextFault
+octets_of line w = ok_or (octets_in w) (Hex line)
 
+-- noise: its digits are looked at after its numbers
 abbrev pub noise_in : ℕ → List (List ℕ) → Result Happening TextFault
-noise_in line (n ∷ m ∷ h ∷ []) = or_number line (λ n. or_number line (λ m. with_octets line n m (octets_in h)) (number_in wide m)) (number_in wide n)
+noise_in line (n ∷ m ∷ h ∷ []) = do
+  node ← number_of line wide n
+  moment ← number_of line wide m
+  octets ← octets_of line h
+  Ok (Noise node moment octets)
 noise_in line _ = Err (WordCount line)
 
 -- the event of a line, from its first word and the others

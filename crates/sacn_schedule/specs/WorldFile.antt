@@ -99,16 +99,18 @@ abbrev pub each_from : {X : Type 0} → (ℕ → Data → Result X WorldTextFaul
 each_from read i [] = Ok []
 each_from read i (d ∷ ds) = before (read i d) (each_from read (i + 1) ds)
 
+-- one reading after another: what the last gives, or the first fault
+infixl 10 ◌>>=◌
+abbrev pub ◌>>=◌ : {X Y : Type 0} → Result X WorldTextFault → (X → Result Y WorldTextFault) → Result Y WorldTextFault
+(Ok x) >>= next = next x
+(Err fault) >>= next = Err fault
+
 -- the last phase: the consoles, then the nodes, then two consoles of one CID
-abbrev pub or_fault : {X Y : Type 0} → (X → Result Y WorldTextFault) → Result X WorldTextFault → Result Y WorldTextFault
-or_fault next (Err fault) = Err fault
-or_fault next (Ok x) = next x
-
-abbrev pub unless_same : List Desk → List Setup → Result WorldContent WorldTextFault
-unless_same desks setups = if has_same_cid desks then Err SameCid else Ok (desks, setups)
-
 abbrev pub last_phase : List Data → List Data → Result WorldContent WorldTextFault
-last_phase consoles nodes = or_fault (λ desks. or_fault (unless_same desks) (each_from setup_at 0 nodes)) (each_from desk_in 0 consoles)
+last_phase consoles nodes = do
+  desks ← each_from desk_in 0 consoles
+  setups ← each_from setup_at 0 nodes
+  if has_same_cid desks then Err SameCid else Ok (desks, setups)
 
 -- the values, and then the last phase
 abbrev pub value_phase : Members → Result WorldContent WorldTextFault

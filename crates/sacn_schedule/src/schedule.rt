@@ -60,12 +60,10 @@ fn events_of(alloc: Global, text: &str) -> Result<Vec<Event>, TextFault>
     };
     let mut events = Vec::new(alloc);
     for line in lines.as_slice() {
-        match event_in(alloc, line.number, line.words.as_slice()) {
-            Ok(event) => match events.push(event) {
-                Ok(()) => {}
-                Err(_) => return Err(TextFault::OutOfMemory),
-            },
-            Err(fault) => return Err(fault),
+        let event = event_in(alloc, line.number, line.words.as_slice())?;
+        match events.push(event) {
+            Ok(()) => {}
+            Err(_) => return Err(TextFault::OutOfMemory),
         }
     }
     Ok(events)

@@ -1,10 +1,10 @@
-//! The rule of sequence numbers, E1.31-2018, section 6.7.2.
+//! The rule of sequence numbers, E1.31, 6.7.2.
 ghost use Rattle.std.specs.Prelude.{◌≡◌, ◌↔◌, ◌≤◌, ◌+◌, ◌-◌, ◌%◌, IsTrue, false, not};
 ghost use Rattle.sacn_sequence.specs.Sequence.{step, is_late, IsStep, IsOutOfSequence};
 
 /// A step above this one, up to 0, is out of sequence.
 ///
-/// The number is the standard's (E1.31-2018, section 6.7.2). A packet that seems to lie twenty or more behind is
+/// The number is the standard's (E1.31, 6.7.2). A packet that seems to lie twenty or more behind is
 /// taken, since its source more likely began its numbers anew.
 pub const LATE_ABOVE: i8 = -20;
 
@@ -12,7 +12,7 @@ pub const LATE_ABOVE: i8 = -20;
 ///
 /// It is the one number from -128 to 127 that is congruent to `b - a` modulo 256, for every pair of numbers: 1 where
 /// `b` is the next number after `a`, 0 where they are equal, and below 0 where `b` seems to be the earlier one.
-/// (E1.31-2018, section 6.7.2.)
+/// (E1.31, 6.7.2.)
 pub fn signed_step(a: u8, b: u8) -> i8
     ensures value { result ≡ step a b }
     ensures congruent { IsStep a b result }
@@ -25,7 +25,7 @@ pub fn signed_step(a: u8, b: u8) -> i8
 ///
 /// The answer is false exactly where `-20 < arrived - held <= 0` in signed eight-bit arithmetic: the receiver is to
 /// discard such a packet. Of the 256 numbers 20 are out of sequence, from 19 behind to the held one itself; the
-/// others, from 1 to 236 ahead, are in sequence. (E1.31-2018, section 6.7.2.)
+/// others, from 1 to 236 ahead, are in sequence. (E1.31, 6.7.2.)
 pub fn in_sequence(held: u8, arrived: u8) -> bool
     ensures value { result ≡ not (is_late held arrived) }
 

@@ -7,7 +7,7 @@ use Rattle.sacn_slots.specs.Merge.{merge}
 use Rattle.sacn_sources.specs.Order.{order}
 use Rattle.sacn_sources.specs.declared.limits.TheConstants.{MAX_SOURCES}
 use Rattle.sacn_sources.specs.Rows.{Row, Packet, Kind, Termination, Preview, Live, Other, Taken, Held, Observed, EndedNow, OutOfSequence, SourcesExceeded, UnknownIgnored, rows_kept, row_of, take_unknown, take_known, take_by, taken, observed, rows_after, take_row, layers}
-use Rattle.sacn_sources.specs.Kept.{Kept, renews, due_at, loses_live}
+use Rattle.sacn_sources.specs.Kept.{Kept, due_at, loses_live}
 use Rattle.sacn_sources.specs.Calls.{Call, Take, Expire, Merge, Took, Expired, Slots, moment_of, step, answer_to, after_calls, moment_in_use}
 use Rattle.sacn_sources.specs.PlainRule.{Entry, Sources, unexpired, live, ended, renumbered, Outcome, unknown_row, known_row, row_for, source_row, change, held_after, answer_at, plain_rule, expires_live, renews_source, is_news, is_due, renewal_count}
 use Rattle.sacn_sources.specs.Laws.{row_with, AnswersByThePlainRule, HoldsByThePlainRule, CountsRenewals}
@@ -145,14 +145,6 @@ or_false : (a : Bool) → a ≡ (a || false)
 or_false true = refl
 or_false false = refl
 
-renews_is : (a : Taken) → renews a ≡ renews_source (Took a)
-renews_is Held = refl
-renews_is EndedNow = refl
-renews_is Observed = refl
-renews_is OutOfSequence = refl
-renews_is SourcesExceeded = refl
-renews_is UnknownIgnored = refl
-
 renewed_once : (most r n : ℕ) (b : Bool) → r ≡ min n most → cond b (min (r + 1) most) r ≡ min (n + cond b 1 0) most
 renewed_once most r n true is = ap (λ k. min (k + 1) most) is ∙ capped most n
   where
@@ -178,7 +170,7 @@ module _ (earlier : List Call) (due : (after_calls earlier).due ≡ is_due earli
       ∙ regrouped (is_due earlier) (expires_live (moment_in_use (call ∷ earlier)) (held_after earlier)) (renews_source (plain_rule call earlier))
 
   due_after : (call : Call) → (step call before).due ≡ is_due (call ∷ earlier)
-  due_after (Take now x) = ap (λ b. due_at now before || b) (renews_is (taken x (rows_kept (max before.table.moment now) before.table.rows))) ∙ with_news (Take now x)
+  due_after (Take now x) = with_news (Take now x)
   due_after (Expire now) = or_false (due_at now before) ∙ with_news (Expire now)
   due_after (Merge now) = refl
 

@@ -7,7 +7,7 @@ use Rattle.sacn_sequence.specs.Sequence.{is_late}
 use Rattle.sacn_slots.specs.Merge.{Shown, merge}
 use Rattle.sacn_sources.specs.Order.{order}
 use Rattle.sacn_sources.specs.declared.limits.TheConstants.{MAX_SOURCES, NETWORK_DATA_LOSS}
-use Rattle.sacn_sources.specs.Rows.{Packet, Kind, Termination, Preview, Live, Other, Taken, Held, Observed, EndedNow, OutOfSequence, SourcesExceeded, UnknownIgnored}
+use Rattle.sacn_sources.specs.Rows.{Packet, Kind, Termination, Preview, Live, Other, Taken, Held, Observed, EndedNow, OutOfSequence, SourcesExceeded, UnknownIgnored, renews}
 use Rattle.sacn_sources.specs.Calls.{Call, Take, Expire, Merge, Answer, Took, Expired, Slots, moment_in_use}
 
 pub record Entry : Type 0 where
@@ -104,12 +104,7 @@ abbrev pub expires_live : ℕ → Sources → Bool
 expires_live t held = list_any (λ e. not (is_unexpired t e.1) && is_some e.1.shown) (entries held)
 
 abbrev pub renews_source : Answer → Bool
-renews_source (Took Held) = true
-renews_source (Took EndedNow) = true
-renews_source (Took Observed) = false
-renews_source (Took OutOfSequence) = false
-renews_source (Took SourcesExceeded) = false
-renews_source (Took UnknownIgnored) = false
+renews_source (Took taken) = renews taken
 renews_source (Expired n) = false
 renews_source (Slots s) = false
 

@@ -72,6 +72,15 @@ take_by x room (Some r) = take_known x.kind (is_late r.number x.number)
 abbrev pub taken : Packet → List Row → Taken
 taken x rs = take_by x (nat_lt (length rs) MAX_SOURCES) (row_of x.source rs)
 
+-- whether the packet renews its source
+abbrev pub renews : Taken → Bool
+renews Held = true
+renews EndedNow = true
+renews Observed = false
+renews OutOfSequence = false
+renews SourcesExceeded = false
+renews UnknownIgnored = false
+
 -- ---- and the rows after it
 
 abbrev pub row_live : Packet → ℕ → Row

@@ -49,7 +49,8 @@ impl Store {
     ghost use Rattle.sacn_sequence.specs.Sequence.{is_late};
     ghost use Rattle.sacn_sources.specs.Rows.{Row, new_table, row_renewed, rows_kept, rows_lost, row_of, put_row, row_live, row_ended, row_observed, taken, take_row, after_expire, layers, slots_of};
     ghost use Rattle.sacn_sources.specs.Packets.{packet_of};
-    ghost use Rattle.sacn_sources.specs.Kept.{loses_live, renews};
+    ghost use Rattle.sacn_sources.specs.Kept.{loses_live};
+    ghost use Rattle.sacn_sources.specs.Rows.{renews};
     ghost use Rattle.sacn_sources.specs.Places.{IsAt, IsGap};
     ghost use Rattle.sacn_sources.specs.Wakes.{oldest_of};
 

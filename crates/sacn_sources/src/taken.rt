@@ -1,7 +1,7 @@
 //! What became of a packet.
 
 ghost use Rattle.std.specs.Prelude.{◌≡◌};
-ghost use Rattle.sacn_sources.specs.Kept.{renews};
+ghost use Rattle.sacn_sources.specs.Rows.{renews};
 
 /// What became of a packet (E1.31, 6.7; the rows of the profile's source table).
 #[derive(Clone, Copy, Debug, PartialEq, Eq)]
@@ -21,8 +21,8 @@ pub enum Taken {
 }
 
 impl Taken {
-    /// Whether the packet renewed its source.
-    pub(crate) fn renews(self) -> bool
+    /// Whether the packet renewed its source: a live packet that is held, or a termination.
+    pub fn renews(self) -> bool
         ensures { result ≡ renews self }
     {
         match self {

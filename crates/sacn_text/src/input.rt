@@ -7,7 +7,7 @@ use std::io::{ErrorKind, Read};
 use thiserror::Error;
 
 /// The most octets of a file or of standard input, 1 MiB.
-pub const MOST_OCTETS: u64 = 1_048_576;
+pub const MAX_FILE_OCTETS: u64 = 1_048_576;
 
 /// Why an input isn't read.
 #[derive(Clone, Copy, Debug, PartialEq, Eq, Error)]

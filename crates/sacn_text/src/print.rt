@@ -8,7 +8,7 @@ ghost use Rattle.sacn_text.specs.Printing.{Has, StopsDecoding, StopsSimulating};
 
 use crate::decode::decode_text;
 use crate::fault::{DecodeFault, SimFault};
-use crate::marked::Marked;
+use crate::marked_writer::MarkedWriter;
 use crate::simulate::sim_text;
 use sacn_edge::WriterOut;
 use std::alloc::Global;
@@ -18,7 +18,7 @@ use std::io::Write;
 #[derive(Drop)]
 pub struct Printed<W, F> {
     /// The writer, which has what was printed after what it had. It isn't flushed.
-    pub out: Marked<W>,
+    pub out: MarkedWriter<W>,
     /// Nothing, or why printing ended.
     pub ended: Result<(), F>,
 }
@@ -33,7 +33,7 @@ pub fn print_packets<W: Write + Drop>(
         × Has W.contents writer result.out.writer (decoded nothing_known 0 (octets_of datagrams.now)).text) }
     ensures err { IfErr result.ended (λ fault. StopsDecoding fault (Has W.contents writer result.out.writer) (decoded nothing_known 0 (octets_of datagrams.now))) }
 {
-    let mut out = WriterOut::new(Marked::new(writer));
+    let mut out = WriterOut::new(MarkedWriter::new(writer));
     let ended = decode_text(alloc, datagrams, &mut out);
     Printed {
         out: out.writer,
@@ -52,7 +52,7 @@ pub fn print_looks<W: Write + Drop>(
     ensures ok { OnOk result.ended (Ends false (Has W.contents writer result.out.writer) world.now schedule.now) }
     ensures err { IfErr result.ended (λ fault. StopsSimulating fault (Has W.contents writer result.out.writer) world.now schedule.now) }
 {
-    let mut out = WriterOut::new(Marked::new(writer));
+    let mut out = WriterOut::new(MarkedWriter::new(writer));
     let ended = sim_text(alloc, world, schedule, &mut out);
     Printed {
         out: out.writer,

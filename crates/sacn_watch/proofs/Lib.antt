@@ -1,1 +1,3 @@
 mod Ticking
+mod Handing
+mod Following

@@ -1,2 +1,4 @@
 pub mod Pages
 pub mod Views
+pub mod Watches
+pub mod Screens

@@ -7,10 +7,18 @@ use Rattle.sacn_watch.specs.declared.page.Size.{Size}
 abbrev pub is_shown : ℕ → Bool
 is_shown code = (nat_le 32 code && nat_le code 126) || ((nat_le 161 code && nat_le code 591) && not (code == 173))
 
+-- the letter, or a question mark (63) in the place of one that isn't shown
+abbrev pub shown_as : ℕ → ℕ
+shown_as code = if is_shown code then code else 63
+
 -- a row with room for so many columns, and what stands there
 pub record Line : Type 0 where
   pub width : ℕ
   pub cells : List Cell
+
+-- a letter more, where there is room for it behind the others
+abbrev pub with_cell : Cell → Line → Line
+with_cell cell row = if nat_lt (length row.cells) row.width then record row { cells = row.cells ++ cell ∷ [] } else row
 
 -- a row more, where there is room for it below the others
 abbrev pub with_row : ℕ → Line → List Line → List Line

@@ -4,14 +4,16 @@ ghost use Rattle.std.specs.Prelude.{◌≡◌, IfOk};
 ghost use Rattle.sacn_watch.specs.Pages.{FitsOn};
 
 use crate::page::{Ink, Page, Row, Size};
-use crate::view::{SLOTS, View};
+use crate::view::View;
+use sacn_framing::up_to_nul;
 use sacn_monitor::{Account, State, Stream};
+use sacn_universe::SLOTS;
 use std::alloc::{AllocError, Global};
 use std::fmt::Write;
 use std::str;
 
 /// The most rows of alarms.
-const MOST_ALARMS: usize = 6;
+const MAX_ALARMS: usize = 6;
 
 /// The columns of a name.
 const NAME_COLUMNS: usize = 20;
@@ -73,7 +75,7 @@ fn push_alarms(alloc: Global, page: &mut Page, view: &View) -> Result<(), AllocE
     for stream in view.monitor.streams() {
         text.clear();
         push_alarm(&mut text, view, stream)?;
-        if (text.len() > 0) & (count < MOST_ALARMS) {
+        if (text.len() > 0) & (count < MAX_ALARMS) {
             count += 1;
             page.push_text(alloc, text.as_str(), Ink::Alarm)?;
         }
@@ -184,14 +186,6 @@ fn push_name(text: &mut String, account: &Account) -> Result<(), AllocError> {
         text.push(' ')?;
     }
     Ok(())
-}
-
-// A name up to its first NUL (E1.31, 6.2.2).
-fn up_to_nul(name: &[u8; 64]) -> &[u8] {
-    match name.iter().position(|octet| *octet == 0) {
-        Some(len) => &name[..len],
-        None => name,
-    }
 }
 
 // How many levels stand in a row.

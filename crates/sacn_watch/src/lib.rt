@@ -16,6 +16,6 @@ pub use layout::screen;
 pub use listener::Listener;
 pub use page::{Cell, Ink, Page, Row, Size, is_shown, shown};
 pub use run::{watch_lines, watch_terminal};
-pub use terminal::{LEAST_WAIT, Terminal};
-pub use view::{SLOTS, View};
+pub use terminal::{MIN_WAIT, Terminal};
+pub use view::View;
 pub use watch::{Watcher, run_watch};

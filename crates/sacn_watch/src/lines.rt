@@ -10,6 +10,10 @@ use std::io::Write;
 
 /// Tells each thing as it happens, and tables at the end, as a recording is told.
 impl<'a, O: Write> Watcher for Follower<'a, O> {
+    ghost use Rattle.sacn_explain.specs.Following.{IsFollowing};
+
+    ghost Handed = { λ follower calls. IsFollowing calls follower };
+
     fn take(&mut self, now: u64, sender: Sender, octets: &[u8]) -> Result<(), WatchFault> {
         self.take(now, sender, octets)?;
         Ok(())

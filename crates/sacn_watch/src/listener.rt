@@ -1,5 +1,7 @@
 //! Where a watch hears.
 
+ghost use Rattle.std.specs.Prelude.{◌≡◌, true, ⊤};
+
 use sacn_live::memory::MemoryReceiver;
 use sacn_live::{Receiver, UdpReceiver};
 use std::net::Net;
@@ -7,11 +9,16 @@ use std::rt::Clock;
 
 /// A receiver of a watch.
 pub trait Listener: Receiver {
+    /// Whether its input may have ended. That of a device of the machine may end at any time.
+    ghost Ended: { Self → Type 0 } = { λ _. ⊤ };
+
     /// The UDP port that the latest datagram came from.
     fn sender_port(&self) -> u16;
 
     /// Whether the watch is to end now.
-    fn has_ended(&mut self) -> bool;
+    fn has_ended(&mut self) -> bool
+        ensures told { Self.told self.new ≡ Self.told self.old }
+        ensures ended { result ≡ true → Ended self.new };
 }
 
 impl<'a, R: Net + Clock> Listener for UdpReceiver<'a, R> {
@@ -24,8 +31,10 @@ impl<'a, R: Net + Clock> Listener for UdpReceiver<'a, R> {
     }
 }
 
-/// A list of datagrams, each from the port 0.
+/// A list of datagrams, each from the port 0. It never ends.
 impl Listener for MemoryReceiver {
+    ghost Ended = { λ _. ⊥ };
+
     fn sender_port(&self) -> u16 {
         0
     }

@@ -1,7 +1,7 @@
 //! Rows of letters, and how they are written to a terminal.
 
 ghost use Rattle.std.specs.Prelude.{◌≡◌, ◌≤◌, [], true, length, OnOk};
-ghost use Rattle.sacn_watch.specs.Pages.{is_shown, with_row, FitsOn};
+ghost use Rattle.sacn_watch.specs.Pages.{is_shown, shown_as, with_cell, with_row, FitsOn};
 
 use std::alloc::{AllocError, Global};
 use std::fmt::Write;
@@ -47,7 +47,8 @@ pub fn is_shown(code: u32) -> bool
 
 /// The letter, or a question mark where it can't be shown.
 pub fn shown(code: u32) -> u32
-    ensures { is_shown result ≡ true }
+    ensures letter { result ≡ shown_as code }
+    ensures shown { is_shown result ≡ true }
 {
     if is_shown(code) { code } else { UNKNOWN }
 }
@@ -92,6 +93,7 @@ impl Row {
     /// A letter more, where there is room for it.
     pub fn put(&mut self, code: u32, ink: Ink) -> Result<(), AllocError>
         ensures width { self.new.width ≡ self.old.width }
+        ensures kept { OnOk result (self.new ≡ with_cell (record { code = shown_as code; ink = ink }) self.old) }
     {
         if self.cells.len() < self.width {
             self.cells.push(Cell {

@@ -1,5 +1,9 @@
 //! Watches of each kind.
 
+ghost use Rattle.std.specs.Prelude.{List, OnOk};
+ghost use Rattle.sacn_edge.specs.Told.{Extends};
+ghost use Rattle.sacn_watch.specs.Watches.{Receive, heard_by, IsWatch};
+
 use crate::fault::WatchFault;
 use crate::listener::Listener;
 use crate::page::Size;
@@ -18,7 +22,11 @@ pub fn watch_lines<L: Listener, O: Write>(
     options: &Options<'_>,
     until: u64,
     out: &mut O,
-) -> Result<(), WatchFault> {
+) -> Result<(), WatchFault>
+    ensures { (turns : List (List Receive))
+        × Extends (L.Receiver.told listener.old) (L.Receiver.told listener.new) (heard_by turns)
+        × OnOk result (IsWatch until (L.Ended listener.new) turns) }
+{
     let mut follower = Follower::new(alloc, *options, None, out)?;
     run_watch(listener, &mut follower, until)
 }
@@ -34,7 +42,11 @@ pub fn watch_terminal<L: Listener, O: Write>(
     has_colours: bool,
     until: u64,
     out: &mut O,
-) -> Result<(), WatchFault> {
+) -> Result<(), WatchFault>
+    ensures { (turns : List (List Receive))
+        × Extends (L.Receiver.told listener.old) (L.Receiver.told listener.new) (heard_by turns)
+        × OnOk result (IsWatch until (L.Ended listener.new) turns) }
+{
     let mut terminal = Terminal::new(alloc, universe, size, has_colours, out)?;
     run_watch(listener, &mut terminal, until)
 }

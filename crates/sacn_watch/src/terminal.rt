@@ -1,5 +1,8 @@
 //! A screen on a terminal.
 
+ghost use Rattle.std.specs.Prelude.{◌≡◌, [], IfOk};
+ghost use Rattle.sacn_watch.specs.Screens.{IsShowing};
+
 use crate::fault::WatchFault;
 use crate::layout::screen;
 use crate::page::Size;
@@ -10,7 +13,7 @@ use std::alloc::Global;
 use std::io::Write;
 
 /// The least milliseconds between two drawings.
-pub const LEAST_WAIT: u64 = 250;
+pub const MIN_WAIT: u64 = 250;
 
 /// The milliseconds after which rates are looked at anew.
 const SECOND: u64 = 1000;
@@ -48,7 +51,12 @@ impl<'a, O: Write> Terminal<'a, O> {
         size: Size,
         has_colours: bool,
         out: &'a mut O,
-    ) -> Result<Self, WatchFault> {
+    ) -> Result<Self, WatchFault>
+        ensures nothing { IfOk result (IsShowing []) }
+        ensures universe { IfOk result (λ t. t.view.universe ≡ universe) }
+        ensures size { IfOk result (λ t. t.size ≡ size) }
+        ensures colours { IfOk result (λ t. t.has_colours ≡ has_colours) }
+    {
         Ok(Terminal {
             alloc,
             view: View::new(alloc, universe)?,
@@ -62,7 +70,9 @@ impl<'a, O: Write> Terminal<'a, O> {
     }
 
     // Draws the screen where it isn't the one that was drawn last.
-    fn draw(&mut self, now: u64) -> Result<(), WatchFault> {
+    fn draw(&mut self, now: u64) -> Result<(), WatchFault>
+        ensures { self.new.view.monitor ≡ self.old.view.monitor }
+    {
         self.view.refresh(now);
         let page = screen(self.alloc, &self.view, self.size)?;
         let text = page.text(self.alloc, self.has_colours)?;
@@ -79,6 +89,10 @@ impl<'a, O: Write> Terminal<'a, O> {
 }
 
 impl<'a, O: Write> Watcher for Terminal<'a, O> {
+    ghost use Rattle.sacn_watch.specs.Screens.{IsShowing};
+
+    ghost Handed = { λ terminal calls. IsShowing calls terminal };
+
     fn take(&mut self, now: u64, sender: Sender, octets: &[u8]) -> Result<(), WatchFault> {
         self.view.take(now, sender, octets);
         self.is_stale = true;
@@ -86,16 +100,14 @@ impl<'a, O: Write> Watcher for Terminal<'a, O> {
     }
 
     fn show(&mut self, now: u64) -> Result<(), WatchFault> {
-        if self.view.tick(now) {
-            self.is_stale = true;
-        }
+        self.is_stale = self.view.tick(now) | self.is_stale;
         if (now < self.next)
-            | (!self.is_stale & (now < self.next.saturating_add(SECOND - LEAST_WAIT)))
+            | (!self.is_stale & (now < self.next.saturating_add(SECOND - MIN_WAIT)))
         {
             return Ok(());
         }
         self.is_stale = false;
-        self.next = now.saturating_add(LEAST_WAIT);
+        self.next = now.saturating_add(MIN_WAIT);
         self.draw(now)
     }
 
@@ -106,11 +118,12 @@ impl<'a, O: Write> Watcher for Terminal<'a, O> {
         if self.view.monitor.streams().is_empty() {
             return u64::MAX;
         }
-        let next = self.next.saturating_add(SECOND - LEAST_WAIT);
+        let next = self.next.saturating_add(SECOND - MIN_WAIT);
         next.min(self.view.monitor.next_loss())
     }
 
-    fn end(&mut self, _now: u64) -> Result<(), WatchFault> {
+    fn end(&mut self, now: u64) -> Result<(), WatchFault> {
+        self.view.tick(now);
         if self.drawn.len() > 0 {
             self.out.write_all(END)?;
             self.out.flush()?;

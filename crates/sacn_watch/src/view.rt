@@ -13,10 +13,8 @@ use sacn_framing::{DataView, Packet, read_packet};
 use sacn_monitor::{Monitor, Sender, Stream};
 use sacn_slots::Levels;
 use sacn_sources::SourceTable;
+use sacn_universe::SLOTS;
 use std::alloc::Global;
-
-/// The slots of a universe.
-pub const SLOTS: usize = 512;
 
 /// What is known of a network, and the levels of one of its universes.
 #[derive(Drop)]

@@ -1,25 +1,38 @@
 //! The loop of a watch.
 
+ghost use Rattle.std.specs.Prelude.{◌≡◌, ◌∷◌, ◌++◌, [], List, IfOk, OnOk, ⊤};
+ghost use Rattle.sacn_edge.specs.Told.{Extends};
+ghost use Rattle.sacn_live.specs.GatewayRun.{IsWhole};
+ghost use Rattle.sacn_live.specs.Hearings.{in_order, is_datagram};
+ghost use Rattle.sacn_monitor.specs.Histories.{Call, Take, Tick};
+ghost use Rattle.sacn_watch.specs.Watches.{Receive, heard_in, heard_by, reading_after, reading_by, calls_for, calls_in, calls_by, IsWatch};
+
 use crate::fault::WatchFault;
 use crate::listener::Listener;
 use sacn_edge::BUFFER_OCTETS;
 use sacn_live::Arrival;
-use sacn_live::limits::MOST_BURST;
+use sacn_live::limits::MAX_BURST;
 use sacn_monitor::Sender;
 
 /// What is done with what is heard. Moments are in milliseconds.
 pub trait Watcher {
+    /// Whether it may be what these calls leave, the latest first. A watcher that promises nothing may be what any calls leave.
+    ghost Handed: { Self → List Call → Type 0 } = { λ _ _. ⊤ };
+
     /// Takes a datagram that came at a moment from a sender.
-    fn take(&mut self, now: u64, sender: Sender, octets: &[u8]) -> Result<(), WatchFault>;
+    fn take(&mut self, now: u64, sender: Sender, octets: &[u8]) -> Result<(), WatchFault>
+        ensures handed { OnOk result ((calls : List Call) → Handed self.old calls → Handed self.new (Take now sender octets.now ∷ calls)) };
 
     /// Shows what is to be shown, after all that had come by a moment was taken.
-    fn show(&mut self, now: u64) -> Result<(), WatchFault>;
+    fn show(&mut self, now: u64) -> Result<(), WatchFault>
+        ensures handed { OnOk result ((calls : List Call) → Handed self.old calls → Handed self.new (Tick now ∷ calls)) };
 
     /// The moment at which there is something to show, where nothing comes; `u64::MAX` where there never is.
     fn wakes(&self) -> u64;
 
     /// Ends.
-    fn end(&mut self, now: u64) -> Result<(), WatchFault>;
+    fn end(&mut self, now: u64) -> Result<(), WatchFault>
+        ensures handed { OnOk result ((calls : List Call) → Handed self.old calls → Handed self.new (Tick now ∷ calls)) };
 }
 
 /// Hears until a moment, or until the listener has ended, and hands each datagram to a watcher, at the reading of the listener's
@@ -30,7 +43,12 @@ pub fn run_watch<L: Listener, W: Watcher>(
     listener: &mut L,
     watcher: &mut W,
     until: u64,
-) -> Result<(), WatchFault> {
+) -> Result<(), WatchFault>
+    ensures { (turns : List (List Receive))
+        × Extends (L.Receiver.told listener.old) (L.Receiver.told listener.new) (heard_by turns)
+        × OnOk result (IsWatch until (L.Ended listener.new) turns
+        × ((calls : List Call) → W.Handed watcher.old calls → W.Handed watcher.new (Tick (reading_by turns) ∷ (calls_by turns ++ calls)))) }
+{
     let mut heard = Heard { now: 0 };
     let watched = watch(listener, watcher, until, &mut heard);
     let finished = watcher.end(heard.now);
@@ -51,15 +69,25 @@ fn watch<L: Listener, W: Watcher>(
     watcher: &mut W,
     until: u64,
     heard: &mut Heard,
-) -> Result<(), WatchFault> {
+) -> Result<(), WatchFault>
+    requires { heard.old.now ≡ 0 }
+    ensures { (turns : List (List Receive))
+        × Extends (L.Receiver.told listener.old) (L.Receiver.told listener.new) (heard_by turns)
+        × (heard.new.now ≡ reading_by turns)
+        × OnOk result (IsWatch until (L.Ended listener.new) turns
+        × ((calls : List Call) → W.Handed watcher.old calls → W.Handed watcher.new (calls_by turns ++ calls))) }
+{
     let mut buffer = [0; BUFFER_OCTETS];
     let mut wake = 0;
-    for _ in 0..u64::MAX {
+    for _turn in 0..u64::MAX {
         listener.wait(wake.min(until));
         drain(listener, watcher, heard, &mut buffer)?;
         watcher.show(heard.now)?;
-        if (heard.now >= until) | listener.has_ended() {
-            break;
+        if heard.now >= until {
+            return Ok(());
+        }
+        if listener.has_ended() {
+            return Ok(());
         }
         wake = watcher.wakes();
     }
@@ -72,20 +100,47 @@ fn drain<L: Listener, W: Watcher>(
     watcher: &mut W,
     heard: &mut Heard,
     buffer: &mut [u8; BUFFER_OCTETS],
-) -> Result<(), WatchFault> {
-    for _ in 0..MOST_BURST {
-        let receipt = listener.receive(buffer);
-        heard.now = receipt.now;
-        match receipt.arrival {
-            Arrival::Datagram { octets, sender } => {
-                let sender = Sender {
-                    address: sender,
-                    port: listener.sender_port(),
-                };
-                watcher.take(heard.now, sender, &buffer[..octets])?;
-            }
-            _ => break,
+) -> Result<(), WatchFault>
+    ensures { (rs : List Receive)
+        × Extends (L.Receiver.told listener.old) (L.Receiver.told listener.new) (in_order (heard_in rs))
+        × (heard.new.now ≡ reading_after heard.old.now rs)
+        × OnOk result (IsWhole (heard_in rs)
+        × ((calls : List Call) → W.Handed watcher.old calls → W.Handed watcher.new (calls_in rs ++ calls))) }
+{
+    for _count in 0..MAX_BURST {
+        let is_more = hear(listener, watcher, heard, buffer)?;
+        if !is_more {
+            return Ok(());
         }
     }
     Ok(())
+}
+
+// Receives once, and hands on what came. Answers whether a datagram was there, so that there may be another.
+fn hear<L: Listener, W: Watcher>(
+    listener: &mut L,
+    watcher: &mut W,
+    heard: &mut Heard,
+    buffer: &mut [u8; BUFFER_OCTETS],
+) -> Result<bool, WatchFault>
+    ensures { (r : Receive)
+        × Extends (L.Receiver.told listener.old) (L.Receiver.told listener.new) (r.hearing ∷ [])
+        × (heard.new.now ≡ r.hearing.now)
+        × IfOk result (λ is_more. (is_more ≡ is_datagram r.hearing.came)
+        × ((calls : List Call) → W.Handed watcher.old calls → W.Handed watcher.new (calls_for r.hearing.now r.port r.hearing.came ++ calls))) }
+{
+    let receipt = listener.receive(buffer);
+    heard.now = receipt.now;
+    match receipt.arrival {
+        Arrival::Datagram { octets, sender } => {
+            let sender = Sender {
+                address: sender,
+                port: listener.sender_port(),
+            };
+            watcher.take(receipt.now, sender, &buffer[..octets])?;
+            Ok(true)
+        }
+        Arrival::Nothing => Ok(false),
+        Arrival::Failed => Ok(false),
+    }
 }

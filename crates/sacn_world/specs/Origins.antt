@@ -3,7 +3,7 @@ use Rattle.std.specs.Prelude.{◌≡◌, ◌↔◌, ℕ, ◌+◌, ◌-◌, ◌<�
 use Rattle.sacn_framing.specs.Data.{Data}
 use Rattle.sacn_framing.specs.declared.packet.Packet.TheVariants.{DataPacket}
 use Rattle.sacn_slots.specs.Merge.{Shown, merge}
-use Rattle.sacn_slots.specs.declared.universe.TheConstants.{SLOTS, FRAME_OCTETS}
+use Rattle.sacn_universe.specs.declared.limits.TheConstants.{SLOTS, FRAME_OCTETS}
 use Rattle.sacn_node.specs.declared.setup.SlotRange.{SlotRange}
 use Rattle.sacn_node.specs.Setup.{Port}
 use Rattle.sacn_node.specs.Ports.{port_of, covers}

@@ -3,8 +3,7 @@ use Rattle.std.specs.Prelude.{◌≡◌, ℕ, ◌+◌, nat_lt, nat_le, max, Bool
 use Rattle.std.specs.List.{AllByRecursion}
 use Rattle.std.specs.Option.{option_map}
 use Rattle.sacn_sources.specs.Order.{same}
-use Rattle.sacn_sources.specs.Rows.{Row}
-use Rattle.sacn_sources.specs.declared.taken.Taken.TheVariants.{Held, Observed, EndedNow, OutOfSequence, SourcesExceeded, UnknownIgnored}
+use Rattle.sacn_sources.specs.Rows.{Row, renews}
 use Rattle.sacn_node.specs.declared.taken.NodeTaken.{NodeTaken}
 use Rattle.sacn_node.specs.declared.taken.NodeTaken.TheVariants.{FromTable, OtherUniverse, Discovery, Sync, Refused}
 use Rattle.sacn_node.specs.Setup.{Port}
@@ -28,12 +27,7 @@ mark_of s u marks = find (is_mark_of s u) marks
 
 -- the reply moves the place that is held
 abbrev pub moves : NodeTaken → Bool
-moves (FromTable Held) = true
-moves (FromTable EndedNow) = true
-moves (FromTable Observed) = false
-moves (FromTable OutOfSequence) = false
-moves (FromTable SourcesExceeded) = false
-moves (FromTable UnknownIgnored) = false
+moves (FromTable taken) = renews taken
 moves OtherUniverse = false
 moves Discovery = false
 moves Sync = false

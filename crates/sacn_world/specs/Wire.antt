@@ -5,8 +5,8 @@ use Rattle.sacn_framing.specs.declared.packet.Packet.TheVariants.{DataPacket, Pa
 use Rattle.sacn_framing.specs.PacketReading.{reading_packet}
 use Rattle.sacn_sources.specs.Order.{same}
 use Rattle.sacn_node.specs.Readings.{Reading}
-pub use Rattle.sacn_world.specs.declared.sent.SentDatagram.{SentDatagram}
-pub use Rattle.sacn_world.specs.declared.sent.InStream.{InStream}
+pub use Rattle.sacn_world.specs.declared.datagram.SentDatagram.{SentDatagram}
+pub use Rattle.sacn_world.specs.declared.datagram.InStream.{InStream}
 use Rattle.std.specs.Prelude.{Vec}
 use Rattle.std.specs.Option.{option_map}
 use Rattle.std.specs.declared.alloc.Global.{Global}

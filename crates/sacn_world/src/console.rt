@@ -4,7 +4,7 @@ ghost use Rattle.std.specs.Prelude.{◌≡◌, ◌+◌, OnOk, OnErr, IfOk};
 ghost use Rattle.sacn_world.specs.Wire.{AreFiled, posted};
 ghost use Rattle.sacn_world.specs.Worlds.{begun};
 
-use crate::sent::{SentDatagram, stream_next};
+use crate::datagram::{SentDatagram, stream_next};
 use sacn_console::{ConsoleCore, Show};
 use std::alloc::{AllocError, Global};
 

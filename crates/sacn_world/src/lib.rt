@@ -11,13 +11,13 @@
 
 mod answer;
 mod console;
+mod datagram;
 mod fault;
 pub mod laws;
 mod limits;
 mod mark;
-mod sent;
-mod watched;
 mod world;
+mod world_node;
 
 pub use answer::Answer;
 pub use fault::{NewFault, RunFault, WorldFault};

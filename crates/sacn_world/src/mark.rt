@@ -6,7 +6,6 @@ ghost use Rattle.sacn_sources.specs.Order.{same};
 ghost use Rattle.sacn_world.specs.Watches.{is_mark_of, mark_of, first_mark, marked, remarked, moves};
 
 use sacn_node::NodeTaken;
-use sacn_sources::Taken;
 
 /// A stream of a source and a universe at a node: the newest place that was delivered and its life, and the place that the
 /// node last held.
@@ -24,14 +23,7 @@ pub(crate) fn moves(reply: &NodeTaken) -> bool
     ensures { result ≡ moves reply.now }
 {
     match reply {
-        NodeTaken::FromTable(taken) => match taken {
-            Taken::Held => true,
-            Taken::EndedNow => true,
-            Taken::Observed => false,
-            Taken::OutOfSequence => false,
-            Taken::SourcesExceeded => false,
-            Taken::UnknownIgnored => false,
-        },
+        NodeTaken::FromTable(taken) => taken.renews(),
         NodeTaken::OtherUniverse => false,
         NodeTaken::Discovery => false,
         NodeTaken::Sync => false,

@@ -10,10 +10,10 @@ ghost use Rattle.sacn_world.specs.Worlds.{step, new_world, new_console, Apart, s
 
 use crate::answer::Answer;
 use crate::console::Console;
+use crate::datagram::SentDatagram;
 use crate::fault::{NewFault, RunFault, WorldFault};
-use crate::sent::SentDatagram;
-use crate::watched::Watched;
-use sacn_console::limits::MOST_OCTETS;
+use crate::world_node::WorldNode;
+use sacn_console::limits::MAX_DATAGRAM;
 use sacn_console::{Command, Show};
 use sacn_framing::laws::{written_is_read, written_page_is_read};
 use sacn_framing::read_packet;
@@ -30,7 +30,7 @@ pub struct World {
     alloc: Global,
     consoles: Vec<Console>,
     sent: Vec<SentDatagram>,
-    nodes: Vec<Watched>,
+    nodes: Vec<WorldNode>,
 }
 
 impl Model for World {
@@ -163,13 +163,13 @@ impl World {
         if console >= self.consoles.len() {
             return Err(WorldFault::NoConsole);
         }
-        let Ok(room) = Vec::with_capacity(self.alloc, MOST_OCTETS) else {
+        let Ok(room) = Vec::with_capacity(self.alloc, MAX_DATAGRAM) else {
             return Err(WorldFault::OutOfMemory);
         };
         let Ok(()) = self.sent.reserve(1) else {
             return Err(WorldFault::OutOfMemory);
         };
-        let mut out = [0; MOST_OCTETS];
+        let mut out = [0; MAX_DATAGRAM];
         let Some(len) = self.consoles[console].core.poll(now, &mut out) else {
             return Ok(Answer::Idle);
         };
@@ -233,7 +233,7 @@ impl World {
             return Err(WorldFault::NoNode);
         }
         let frame = self.nodes[node].look(now, port);
-        Ok(shown(frame))
+        Ok(look_answer(frame))
     }
 
     fn noise(&mut self, node: usize, now: u64, octets: &Vec<u8>) -> Result<Answer, WorldFault>
@@ -250,10 +250,10 @@ impl World {
 }
 
 /// The first octets of a datagram, in a vector of their own length; in the room that there is, where memory for one is refused.
-fn in_own_length(alloc: Global, room: Vec<u8>, out: &[u8; MOST_OCTETS], len: usize) -> Vec<u8>
+fn in_own_length(alloc: Global, room: Vec<u8>, out: &[u8; MAX_DATAGRAM], len: usize) -> Vec<u8>
     requires empty { room.items ≡ [] }
-    requires room { MOST_OCTETS ≤ vec_capacity room }
-    requires len { len ≤ MOST_OCTETS }
+    requires room { MAX_DATAGRAM ≤ vec_capacity room }
+    requires len { len ≤ MAX_DATAGRAM }
     ensures { result.items ≡ take len out.now }
 {
     match Vec::from_slice(alloc, &out[..len]) {
@@ -267,7 +267,7 @@ fn in_own_length(alloc: Global, room: Vec<u8>, out: &[u8; MOST_OCTETS], len: usi
 }
 
 /// The answer to a look: a frame, where the node has the port.
-fn shown(frame: Option<[u8; 513]>) -> Answer
+fn look_answer(frame: Option<[u8; 513]>) -> Answer
     ensures { result ≡ shown frame }
 {
     match frame {
@@ -291,12 +291,12 @@ fn new_consoles(alloc: Global, shows: Vec<(Show, u8)>) -> Result<Vec<Console>, A
 }
 
 /// The nodes of these setups, which hold nothing.
-fn new_nodes(alloc: Global, setups: Vec<NodeSetup>) -> Result<Vec<Watched>, AllocError>
+fn new_nodes(alloc: Global, setups: Vec<NodeSetup>) -> Result<Vec<WorldNode>, AllocError>
     ensures { IfOk result (λ nodes. nodes.items ≡ map (λ n. new_watch n.ports) setups.items) }
 {
     let mut nodes = Vec::new(alloc);
     for setup in setups {
-        let node = Watched::new(alloc, setup)?;
+        let node = WorldNode::new(alloc, setup)?;
         if nodes.push(node).is_err() {
             return Err(AllocError);
         }

@@ -1,37 +1,48 @@
 //! One case on both sides: what a loop writes, and what the looks of a world are answered.
-use sacn_console::limits::MOST_OCTETS;
+use fixtures::texts::frame_line;
+use sacn_console::limits::MAX_DATAGRAM;
 use sacn_console::{Command, ConsoleCore, Show};
 use sacn_edge::memory::{Incoming, ListClock, MemoryLink};
 use sacn_edge::{WriterOut, run_node};
-use sacn_node::{NodeCore, NodeSetup};
+use sacn_node::NodeCore;
 use sacn_schedule::examples::WORLD;
 use sacn_schedule::{read_schedule, read_world};
 use sacn_world::{Answer, World};
 use std::alloc::Global;
-use std::test::Fail;
+use std::test::*;
 
 /// The datagram that the console sends at 0, once its cue was called: slot 1 of universe 1 at 255.
-fn datagram(alloc: Global, show: &Show) -> Result<Vec<u8>, Fail> {
-    let mut core = ConsoleCore::new(alloc, show, 0).ok().ok_or("no core")?;
-    core.command(0, Command::Go).ok().ok_or("no cue")?;
-    let mut octets = [0; MOST_OCTETS];
-    let len = core.poll(0, &mut octets).ok_or("nothing is due")?;
-    let sent = octets.get(..len).ok_or("too long")?;
-    Ok(Vec::from_slice(alloc, sent)?)
+fn datagram(alloc: Global, core: &mut ConsoleCore) -> Option<Vec<u8>> {
+    core.command(0, Command::Go).ok()?;
+    let mut octets = [0; MAX_DATAGRAM];
+    let len = core.poll(0, &mut octets)?;
+    Vec::from_slice(alloc, octets.get(..len)?).ok()
 }
 
-/// What the node writes in three turns: the datagram comes at 0, and nothing at 100 and 2500.
-fn written(alloc: Global, setup: &NodeSetup, octets: Vec<u8>) -> Result<Vec<u8>, Fail> {
-    let mut incoming = Vec::new(alloc);
-    incoming.push(Incoming::Datagram(octets))?;
-    let mut link = MemoryLink::new(alloc, incoming, None);
-    let readings: [u64; 3] = [0, 100, 2500];
-    let mut clock = ListClock::new(readings.to_vec(alloc)?);
-    let mut core = NodeCore::new(alloc, setup).ok().ok_or("no core")?;
+/// A link that brings the datagram of the first console.
+fn link(alloc: Global, desks: &[(Show, u8)]) -> Option<MemoryLink> {
+    let mut core = ConsoleCore::new(alloc, &desks.first()?.0, 0).ok()?;
+    let octets = datagram(alloc, &mut core)?;
+    let incoming = vec![in alloc; Incoming::Datagram(octets)].ok()?;
+    Some(MemoryLink::new(alloc, incoming, None))
+}
+
+/// What a node writes in three turns: the link brings something at 0, and nothing at 100 and 2500.
+fn written(alloc: Global, core: &mut NodeCore, link: &mut MemoryLink) -> Option<Vec<u8>> {
+    let mut clock = ListClock::new(Vec::from_slice(alloc, &[0, 100, 2500]).ok()?);
     let mut out = WriterOut::new(Vec::new(alloc));
-    let run = run_node(&mut link, &mut clock, &mut out, &mut core, 3);
-    run.ok().ok_or("it did not write")?;
-    Ok(out.writer)
+    match run_node(link, &mut clock, &mut out, core, 3) {
+        Ok(_) => Some(out.writer),
+        Err(_) => None,
+    }
+}
+
+/// What the node of the example's world writes.
+fn loop_text(alloc: Global) -> Option<Vec<u8>> {
+    let (desks, setups) = read_world(alloc, WORLD).ok()?;
+    let mut link = link(alloc, desks.as_slice())?;
+    let mut core = NodeCore::new(alloc, setups.first()?).ok()?;
+    written(alloc, &mut core, &mut link)
 }
 
 /// The same as a schedule: the console sends, the datagram comes, and where nothing comes there is noise.
@@ -45,39 +56,46 @@ noise 0 2500 -
 look 0 1 2500
 ";
 
-/// Slot 1 of each frame that a look was answered, of which the other octets are 0.
-fn levels_shown(alloc: Global, answers: &[Answer]) -> Result<Vec<u8>, Fail> {
-    let mut levels = Vec::new(alloc);
+/// Whether the looks are answered frames of these levels of slot 1, whose other octets are 0.
+fn are_shown(answers: &[Answer], levels: &[u8]) -> bool {
+    let mut shown = 0usize;
     for answer in answers {
         if let Answer::Shown(frame) = answer {
-            if frame[0] == 0 && frame[2..].iter().all(|level| *level == 0) {
-                levels.push(frame[1])?;
+            let is_dark = frame[0] == 0 && frame[2..].iter().all(|level| *level == 0);
+            if !is_dark || levels.get(shown) != Some(&frame[1]) {
+                return false;
             }
+            shown = shown.saturating_add(1);
         }
     }
-    Ok(levels)
+    shown == levels.len()
 }
 
-/// A line of port 1: the moment, and slot 1 in two digits.
-fn line(alloc: Global, moment: &str, slot: &str) -> Result<String, Fail> {
-    let dark = "00".repeat(alloc, 511)?;
-    Ok(format!(in alloc; "1 {moment} 00{slot}{dark}\n")?)
+/// The answers of the example's world to the schedule.
+fn answers(alloc: Global) -> Option<Vec<Answer>> {
+    let events = read_schedule(alloc, SCHEDULE).ok()?;
+    let (desks, setups) = read_world(alloc, WORLD).ok()?;
+    let mut world = World::new(alloc, desks, setups).ok()?;
+    world.run(events.as_slice()).ok()
+}
+
+fn is_shown(alloc: Global) -> bool {
+    match answers(alloc) {
+        Some(answers) => are_shown(answers.as_slice(), &[255, 255, 0]),
+        None => false,
+    }
+}
+
+fn is_written(alloc: Global) -> Option<bool> {
+    let mut lines = frame_line(alloc, "0", "00ff").ok()?;
+    let last = frame_line(alloc, "2500", "").ok()?;
+    lines.extend_from_slice(last.as_slice()).ok()?;
+    Some(loop_text(alloc)? == lines)
 }
 
 /// The looks at 0, 100 and 2500 show 255, 255 and dark, so the loop writes a line at 0 and one at 2500.
 #[test]
-fn a_loop_writes_what_a_world_shows(rt: HostRuntime) -> Result<(), Fail> {
-    let alloc = rt.alloc();
-    let (desks, setups) = read_world(alloc, WORLD)?;
-    let octets = datagram(alloc, &desks.first().ok_or("no console")?.0)?;
-    let text = written(alloc, setups.first().ok_or("no node")?, octets)?;
-    let mut lines = line(alloc, "0", "ff")?;
-    lines.push_str(line(alloc, "2500", "00")?.as_str())?;
-    assert_eq!(rt; text.as_slice(), lines.as_bytes());
-    let mut world = World::new(alloc, desks, setups).ok().ok_or("no world")?;
-    let events = read_schedule(alloc, SCHEDULE)?;
-    let answers = world.run(events.as_slice()).ok().ok_or("a refused event")?;
-    let levels = levels_shown(alloc, answers.as_slice())?;
-    assert_eq!(rt; levels.as_slice(), [255u8, 255, 0].as_slice());
-    Ok(())
+fn a_loop_writes_what_a_world_shows(rt: HostRuntime) {
+    let found = (is_written(rt.alloc()), is_shown(rt.alloc()));
+    assert_eq!(rt; found, (Some(true), true));
 }

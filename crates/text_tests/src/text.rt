@@ -1,5 +1,4 @@
-//! Printed texts of packets laid out by hand.
+//! Printed texts of packets laid out by hand, and of simulations.
 mod datagrams;
 mod decoding;
-mod rows;
 mod simulating;

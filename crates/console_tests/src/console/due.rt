@@ -158,8 +158,12 @@ fn step(
 }
 
 /// How many of so many steps agree, from a generator's state on. Moments go forth and back.
-fn agreeing(alloc: Global, steps: u64, seed: u64) -> Result<u64, Fail> {
-    let mut core = core(alloc, SHOW, FIRST as u8)?;
+fn agreeing(
+    alloc: Global,
+    core: &mut ConsoleCore,
+    steps: u64,
+    seed: u64,
+) -> Result<u64, AllocError> {
     let mut deeds = Vec::new(alloc);
     let mut state = seed;
     let mut moment = 0u64;
@@ -167,16 +171,26 @@ fn agreeing(alloc: Global, steps: u64, seed: u64) -> Result<u64, Fail> {
         let ahead = next(&mut state) % 40;
         let now = moment.saturating_add(ahead).saturating_sub(10);
         moment = moment.max(now);
-        if !step(&mut core, &mut deeds, now, moment, &mut state)? {
+        if !step(core, &mut deeds, now, moment, &mut state)? {
             return Ok(done);
         }
     }
     Ok(steps)
 }
 
+/// The same from a new console on.
+fn agreeing_anew(alloc: Global, steps: u64, seed: u64) -> Option<u64> {
+    let mut core = core(alloc, SHOW, FIRST as u8).ok()?;
+    agreeing(alloc, &mut core, steps, seed).ok()
+}
+
 #[test]
-fn the_core_gives_what_is_due(rt: HostRuntime) -> Result<(), Fail> {
-    assert_eq!(rt; agreeing(rt.alloc(), 3000, 1)?, 3000);
-    assert_eq!(rt; agreeing(rt.alloc(), 3000, 2026)?, 3000);
-    Ok(())
+fn the_core_gives_what_is_due(rt: HostRuntime) {
+    for seed in [1, 2026] {
+        assert_eq!(rt;
+            agreeing_anew(rt.alloc(), 3000, seed),
+            Some(3000),
+            "from {seed}"
+        );
+    }
 }

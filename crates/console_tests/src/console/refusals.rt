@@ -1,59 +1,74 @@
 //! Calls that meet a refused request for memory. `rt try --test --fail-alloc N` refuses the Nth.
-use super::{DESK, NOTHING, PACKET, polled, show};
-use sacn_console::{Command, ConsoleCore, ShowFault, TextFault, read_script, read_show, show_of};
+use super::{NOTHING, PACKET, Step, wrong_step};
+use fixtures::texts::DESK;
+use sacn_console::{
+    Command, ConsoleCore, Show, ShowFault, TextFault, read_script, read_show, show_of,
+};
 use std::alloc::Global;
 use std::test::*;
 
-/// A show that is read, or refused for want of memory and then read.
-fn read_again(alloc: Global) -> Result<bool, Fail> {
+/// A show that is read, at once or after a refused request.
+fn show_at_last(alloc: Global) -> Result<Show, ShowFault> {
     match read_show(alloc, DESK) {
-        Ok(show) => Ok(show.priority() == 100),
-        Err(fault) => Ok(
-            fault == ShowFault::OutOfMemory && read_show(alloc, DESK)?.priority() == 100,
-        ),
+        Err(ShowFault::OutOfMemory) => read_show(alloc, DESK),
+        answer => answer,
     }
 }
 
-#[test]
-fn a_refused_show(rt: HostRuntime) -> Result<(), Fail> {
-    assert_eq!(rt; read_again(rt.alloc())?, true);
-    Ok(())
-}
-
-#[test]
-fn a_refused_table(rt: HostRuntime) -> Result<(), Fail> {
-    let table = toml::table_from_str(rt.alloc(), DESK)
-        .ok()
-        .ok_or("no table")?;
-    match show_of(rt.alloc(), &table) {
-        Ok(show) => assert_eq!(rt; show.name(), "Desk"),
-        Err(fault) => assert_eq!(rt; fault, ShowFault::OutOfMemory),
+fn is_show_read(alloc: Global) -> bool {
+    match show_at_last(alloc) {
+        Ok(show) => show.priority() == 100,
+        Err(_) => false,
     }
-    Ok(())
 }
 
-#[test]
-fn a_refused_core(rt: HostRuntime) -> Result<(), Fail> {
-    let show = show(rt.alloc(), DESK)?;
-    let made = ConsoleCore::new(rt.alloc(), &show, 9);
-    let mut core = match made {
-        Ok(core) => core,
-        Err(fault) => {
-            assert_eq!(rt; fault, ShowFault::OutOfMemory);
-            ConsoleCore::new(rt.alloc(), &show, 9)?
-        }
-    };
-    assert_eq!(rt; core.command(0, Command::Go), Ok(()));
-    assert_eq!(rt; polled(&mut core, 0), (PACKET, 9, 0, 1, 255));
-    assert_eq!(rt; polled(&mut core, 0), (122, 0, 0, 0, 0));
-    assert_eq!(rt; polled(&mut core, 0), NOTHING);
-    Ok(())
-}
-
-#[test]
-fn a_refused_script(rt: HostRuntime) {
-    match read_script(rt.alloc(), "0 go\n10 start 1\n") {
-        Ok(orders) => assert_eq!(rt; orders.len(), 2),
-        Err(fault) => assert_eq!(rt; fault, TextFault::OutOfMemory),
+/// Whether the desk's table is a show, or is refused for want of memory.
+fn is_table_answered(alloc: Global) -> bool {
+    match toml::table_from_str(alloc, DESK) {
+        Ok(table) => match show_of(alloc, &table) {
+            Ok(show) => show.name() == "Desk",
+            Err(fault) => fault == ShowFault::OutOfMemory,
+        },
+        Err(fault) => fault.is_memory(),
     }
+}
+
+/// A core of a show, at once or after a refused request.
+fn core_at_last(alloc: Global, show: &Show) -> Result<ConsoleCore, ShowFault> {
+    match ConsoleCore::new(alloc, show, 9) {
+        Err(ShowFault::OutOfMemory) => ConsoleCore::new(alloc, show, 9),
+        answer => answer,
+    }
+}
+
+fn is_script_answered(alloc: Global) -> bool {
+    match read_script(alloc, "0 go\n10 start 1\n") {
+        Ok(orders) => orders.len() == 2,
+        Err(fault) => fault == TextFault::OutOfMemory,
+    }
+}
+
+/// What the desk's console gives at its first cue.
+const FIRST_CUE: &[Step] = &[
+    Step::Ordered(0, Command::Go, Ok(())),
+    Step::Polled(0, (PACKET, 9, 0, 1, 255)),
+    Step::Polled(0, (122, 0, 0, 0, 0)),
+    Step::Polled(0, NOTHING),
+];
+
+fn is_core_so(alloc: Global) -> Result<bool, ShowFault> {
+    let show = show_at_last(alloc)?;
+    let mut core = core_at_last(alloc, &show)?;
+    Ok(wrong_step(&mut core, FIRST_CUE).is_none())
+}
+
+#[test]
+fn want_of_memory_is_told(rt: HostRuntime) {
+    let found = [
+        is_show_read(rt.alloc()),
+        is_table_answered(rt.alloc()),
+        is_script_answered(rt.alloc()),
+        is_core_so(rt.alloc()) == Ok(true),
+    ];
+    assert!(rt; found == [true; 4], "show, table, script, core: {found:?}");
 }

@@ -1,160 +1,130 @@
-//! Worked rows of shows.
-use super::{DESK, show};
-use sacn_console::{ConsoleFault, ShowFault, read_show, show_of};
+//! The worked rows of shows.
+use fixtures::packets::CID;
+use fixtures::texts::DESK;
+use sacn_console::{ConsoleFault, Show, ShowFault, read_show, show_of};
 use std::alloc::Global;
 use std::test::*;
 
-/// The fault of a text whose lines after the version are these, or none.
-fn fault(alloc: Global, text: &str) -> Option<ShowFault> {
-    match read_show(alloc, text) {
-        Ok(_) => None,
-        Err(fault) => Some(fault),
+/// A show of three universes and three ports.
+const THREE: &str =
+    "version = 2\ncid = \"000102030405060708090a0b0c0d0e0f\"\nname = \"\"\npriority = 200\nuniverses = [63999, 5, 70]\nsend_to = [9, 5, 9]\n";
+
+/// A text, and the name, priority, universes and ports of its show, whose CID is the desk's.
+type Row = (
+    &'static str,
+    &'static str,
+    u8,
+    &'static [u16],
+    &'static [u16],
+);
+
+const ROWS: [Row; 2] = [
+    (DESK, "Desk", 100, &[1], &[5568]),
+    (THREE, "", 200, &[5, 70, 63999], &[9, 5, 9]),
+];
+
+fn says(show: &Show, row: &Row) -> bool {
+    show.cid() == CID
+        && show.name() == row.1
+        && show.priority() == row.2
+        && show.universes() == row.3
+        && show.send_to() == row.4
+}
+
+fn is_read(alloc: Global, row: &Row) -> bool {
+    match read_show(alloc, row.0) {
+        Ok(show) => says(&show, row),
+        Err(_) => false,
     }
 }
 
-/// The fault of the desk's show with some text in place of other text.
-fn edited(alloc: Global, old: &str, new: &str) -> Result<Option<ShowFault>, Fail> {
-    let text = DESK.replace(alloc, old, new)?;
-    Ok(fault(alloc, text.as_str()))
+/// Whether the table of a text is the same show, as it is in a world file.
+fn is_table_read(alloc: Global, row: &Row) -> bool {
+    match toml::table_from_str(alloc, row.0) {
+        Ok(table) => match show_of(alloc, &table) {
+            Ok(show) => says(&show, row),
+            Err(_) => false,
+        },
+        Err(_) => false,
+    }
 }
 
 #[test]
-fn readers_of_a_show(rt: HostRuntime) -> Result<(), Fail> {
-    let show = show(rt.alloc(), DESK)?;
-    assert_eq!(rt;
-        show.cid(),
-        [0, 1, 2, 3, 4, 5, 6, 7, 8, 9, 10, 11, 12, 13, 14, 15]
-    );
-    assert_eq!(rt; show.name(), "Desk");
-    assert_eq!(rt; show.priority(), 100);
-    assert_eq!(rt; show.universes(), [1].as_slice());
-    assert_eq!(rt; show.send_to(), [5568].as_slice());
-    Ok(())
+fn shows_are_read(rt: HostRuntime) {
+    for row in &ROWS {
+        let found = (is_read(rt.alloc(), row), is_table_read(rt.alloc(), row));
+        assert!(rt; found == (true, true), "{}", row.0);
+    }
+}
+
+/// A text of the desk's show, what stands in its place, and how the show is then refused.
+const EDITS: [(&str, &str, ShowFault); 14] = [
+    ("version = 1", "version = 2", ShowFault::UnknownKey),
+    ("version = 1", "version = 3", ShowFault::Version),
+    ("version = 1", "version = true", ShowFault::KeyValue),
+    ("version = 1", "version = ", ShowFault::Toml),
+    ("version = 1\n", "", ShowFault::MissingKey),
+    ("name = \"Desk\"\n", "", ShowFault::MissingKey),
+    (
+        "version = 1",
+        "version = 1\ncolour = 1",
+        ShowFault::UnknownKey,
+    ),
+    (
+        "version = 1",
+        "version = 1\npriority = 201",
+        ShowFault::KeyValue,
+    ),
+    ("universe = 1", "universe = 2", ShowFault::Patch),
+    ("slot = 1", "slot = 513", ShowFault::Patch),
+    ("fade = 0", "fade = 3600001", ShowFault::Cue),
+    ("fade = 0", "fade = 4294967296", ShowFault::KeyValue),
+    (
+        "universes = [1]",
+        "universes = [1, 2, 1]",
+        ShowFault::KeyValue,
+    ),
+    ("[[1, 65535]]", "[[1, 65535, 0]]", ShowFault::KeyValue),
+];
+
+/// The fault of the desk's show with some text in place of other text, or none.
+fn edited(alloc: Global, old: &str, new: &str) -> Option<ShowFault> {
+    match DESK.replace(alloc, old, new) {
+        Ok(text) => match read_show(alloc, text.as_str()) {
+            Ok(_) => None,
+            Err(fault) => Some(fault),
+        },
+        Err(_) => Some(ShowFault::OutOfMemory),
+    }
 }
 
 #[test]
-fn readers_of_given_values(rt: HostRuntime) -> Result<(), Fail> {
-    let text =
-        "version = 2\ncid = \"000102030405060708090a0b0c0d0e0f\"\nname = \"\"\npriority = 200\nuniverses = [63999, 5, 70]\nsend_to = [9, 5, 9]\n";
-    let table = toml::table_from_str(rt.alloc(), text)
-        .ok()
-        .ok_or("no table")?;
-    let show = show_of(rt.alloc(), &table)?;
-    assert_eq!(rt; show.name(), "");
-    assert_eq!(rt; show.priority(), 200);
-    assert_eq!(rt; show.universes(), [5, 70, 63999].as_slice());
-    assert_eq!(rt; show.send_to(), [9, 5, 9].as_slice());
-    Ok(())
-}
-
-#[test]
-fn versions_and_keys(rt: HostRuntime) -> Result<(), Fail> {
-    let alloc = rt.alloc();
-    assert_eq!(rt;
-        edited(alloc, "version = 1", "version = 2")?,
-        Some(ShowFault::UnknownKey)
-    );
-    assert_eq!(rt;
-        edited(alloc, "version = 1", "version = 3")?,
-        Some(ShowFault::Version)
-    );
-    assert_eq!(rt;
-        edited(alloc, "version = 1", "version = true")?,
-        Some(ShowFault::KeyValue)
-    );
-    assert_eq!(rt;
-        edited(alloc, "version = 1", "version = ")?,
-        Some(ShowFault::Toml)
-    );
-    assert_eq!(rt;
-        edited(alloc, "version = 1\n", "")?,
-        Some(ShowFault::MissingKey)
-    );
-    assert_eq!(rt;
-        edited(alloc, "name = \"Desk\"\n", "")?,
-        Some(ShowFault::MissingKey)
-    );
-    assert_eq!(rt;
-        edited(alloc, "version = 1", "version = 1\ncolour = 1")?,
-        Some(ShowFault::UnknownKey)
-    );
-    Ok(())
-}
-
-#[test]
-fn values_cues_and_patch(rt: HostRuntime) -> Result<(), Fail> {
-    let alloc = rt.alloc();
-    assert_eq!(rt;
-        edited(alloc, "version = 1", "version = 1\npriority = 201")?,
-        Some(ShowFault::KeyValue)
-    );
-    assert_eq!(rt;
-        edited(alloc, "universe = 1", "universe = 2")?,
-        Some(ShowFault::Patch)
-    );
-    assert_eq!(rt;
-        edited(alloc, "slot = 1", "slot = 513")?,
-        Some(ShowFault::Patch)
-    );
-    assert_eq!(rt;
-        edited(alloc, "fade = 0", "fade = 3600001")?,
-        Some(ShowFault::Cue)
-    );
-    assert_eq!(rt;
-        edited(alloc, "fade = 0", "fade = 4294967296")?,
-        Some(ShowFault::KeyValue)
-    );
-    assert_eq!(rt;
-        edited(alloc, "universes = [1]", "universes = [1, 2, 1]")?,
-        Some(ShowFault::KeyValue)
-    );
-    assert_eq!(rt;
-        edited(alloc, "[[1, 65535]]", "[[1, 65535, 0]]")?,
-        Some(ShowFault::KeyValue)
-    );
-    Ok(())
+fn shows_are_refused(rt: HostRuntime) {
+    for (old, new, wanted) in EDITS {
+        assert!(rt;
+            edited(rt.alloc(), old, new) == Some(wanted),
+            "{old} -> {new}"
+        );
+    }
 }
 
 #[test]
 fn numbers_of_faults(rt: HostRuntime) {
-    assert_eq!(rt;
-        (ShowFault::OutOfMemory.number(), ShowFault::Toml.number()),
-        (1, 2)
-    );
-    assert_eq!(rt;
-        (
-            ShowFault::MissingKey.number(),
-            ShowFault::UnknownKey.number()
-        ),
-        (3, 4)
-    );
-    assert_eq!(rt;
-        (ShowFault::KeyValue.number(), ShowFault::Version.number()),
-        (5, 6)
-    );
-    assert_eq!(rt;
-        (ShowFault::Cue.number(), ShowFault::Patch.number()),
-        (7, 8)
-    );
-    assert_eq!(rt;
-        (
-            ConsoleFault::NoCue.number(),
-            ConsoleFault::ChannelRange.number()
-        ),
-        (1, 2)
-    );
-    assert_eq!(rt;
-        (
-            ConsoleFault::NoUniverse.number(),
-            ConsoleFault::Ending.number()
-        ),
-        (3, 4)
-    );
-    assert_eq!(rt;
-        (
-            ConsoleFault::Running.number(),
-            ConsoleFault::Stopped.number()
-        ),
-        (5, 6)
-    );
+    let numbers = [
+        ShowFault::OutOfMemory.number(),
+        ShowFault::Toml.number(),
+        ShowFault::MissingKey.number(),
+        ShowFault::UnknownKey.number(),
+        ShowFault::KeyValue.number(),
+        ShowFault::Version.number(),
+        ShowFault::Cue.number(),
+        ShowFault::Patch.number(),
+        ConsoleFault::NoCue.number(),
+        ConsoleFault::ChannelRange.number(),
+        ConsoleFault::NoUniverse.number(),
+        ConsoleFault::Ending.number(),
+        ConsoleFault::Running.number(),
+        ConsoleFault::Stopped.number(),
+    ];
+    assert_eq!(rt; numbers, [1, 2, 3, 4, 5, 6, 7, 8, 1, 2, 3, 4, 5, 6]);
 }

@@ -1,74 +1,81 @@
-use super::packets::console;
-use sacn_console::read_script;
+//! What a console hands over, turn by turn.
+use super::desk;
+use sacn_console::{Command, ConsoleCore, read_script};
 use sacn_edge::memory::{ListClock, MemoryLink};
-use sacn_edge::{ConsoleReport, run_console};
+use sacn_edge::run_console;
 use std::alloc::Global;
-use std::test::Fail;
+use std::test::*;
 
 /// Of a datagram its length, and of a data packet the number, the universe and slot 1.
-fn seen(datagram: &[u8]) -> (usize, u8, u8, u8) {
+type Seen = (usize, u8, u8, u8);
+
+/// A script, the send that fails, how many datagrams are sent and fail, how many lines are refused, and what is handed over.
+type Run = (&'static str, Option<u64>, (u64, u64, u64), [Seen; 3]);
+
+/// Orders that are carried out at once, of which the second is refused.
+const AT_ONCE: &str = "0 go\n10 start 1\n";
+
+/// What is handed over where slot 1 is lit at 0.
+const LIT: [Seen; 3] = [(638, 0, 1, 255), (122, 0, 0, 0), (638, 1, 1, 255)];
+
+const RUNS: [Run; 5] = [
+    (AT_ONCE, None, (3, 0, 1), LIT),
+    (AT_ONCE, Some(0), (2, 1, 1), LIT),
+    (AT_ONCE, Some(1), (2, 1, 1), LIT),
+    (AT_ONCE, Some(2), (2, 1, 1), LIT),
+    // a line waits for its moment
+    (
+        "10 set 1 65535\n0 go\n",
+        None,
+        (3, 0, 0),
+        [(638, 0, 1, 0), (122, 0, 0, 0), (638, 1, 1, 255)],
+    ),
+];
+
+fn seen(datagram: &[u8]) -> Seen {
     match datagram.len() {
         638 => (638, datagram[111], datagram[114], datagram[126]),
         len => (len, 0, 0, 0),
     }
 }
 
-/// Runs the desk by a script for four turns at 0, 10, 25 and 25, with one send failing.
-fn desk_run(
-    alloc: Global,
-    script: &str,
-    failing: Option<u64>,
-) -> Result<(MemoryLink, ConsoleReport), Fail> {
-    let script = read_script(alloc, script)?;
-    let readings: [u64; 4] = [0, 10, 25, 25];
-    let mut clock = ListClock::new(readings.to_vec(alloc)?);
-    let mut link = MemoryLink::new(alloc, Vec::new(alloc), failing);
-    let mut core = console(alloc)?;
-    let report = run_console(&mut link, &mut clock, &mut core, script.as_slice(), 4);
-    Ok((link, report))
-}
-
-#[test]
-fn what_is_due_is_handed_over(rt: HostRuntime) -> Result<(), Fail> {
-    let runs = [
-        (None, 3, 0),
-        (Some(0), 2, 1),
-        (Some(1), 2, 1),
-        (Some(2), 2, 1),
-    ];
-    for (failing, sent, failed) in runs {
-        let (link, report) = desk_run(rt.alloc(), "0 go\n10 start 1\n", failing)?;
-        assert_eq!(rt;
-            report,
-            ConsoleReport {
-                sent,
-                failed,
-                refused: 1
-            }
-        );
-        let handed = link.handed();
-        assert_eq!(rt; handed.len(), 3);
-        assert_eq!(rt; seen(handed[0].as_slice()), (638, 0, 1, 255));
-        assert_eq!(rt; seen(handed[1].as_slice()), (122, 0, 0, 0));
-        assert_eq!(rt; seen(handed[2].as_slice()), (638, 1, 1, 255));
-    }
-    Ok(())
-}
-
-#[test]
-fn a_line_waits_for_its_moment(rt: HostRuntime) -> Result<(), Fail> {
-    let (link, report) = desk_run(rt.alloc(), "10 set 1 65535\n0 go\n", None)?;
-    assert_eq!(rt;
-        report,
-        ConsoleReport {
-            sent: 3,
-            failed: 0,
-            refused: 0
-        }
-    );
+fn is_handed(link: &MemoryLink, wanted: &[Seen]) -> bool {
     let handed = link.handed();
-    assert_eq!(rt; handed.len(), 3);
-    assert_eq!(rt; seen(handed[0].as_slice()), (638, 0, 1, 0));
-    assert_eq!(rt; seen(handed[2].as_slice()), (638, 1, 1, 255));
-    Ok(())
+    handed.len() == wanted.len()
+        && handed
+            .iter()
+            .zip(wanted)
+            .all(|(datagram, wanted)| seen(datagram.as_slice()) == *wanted)
+}
+
+/// Whether a console does so in four turns at 0, 10, 25 and 25.
+fn hands_over(alloc: Global, core: &mut ConsoleCore, orders: &[(u64, Command)], run: &Run) -> bool {
+    match Vec::from_slice(alloc, &[0, 10, 25, 25]) {
+        Ok(readings) => {
+            let mut clock = ListClock::new(readings);
+            let mut link = MemoryLink::new(alloc, Vec::new(alloc), run.1);
+            let report = run_console(&mut link, &mut clock, core, orders, 4);
+            (report.sent, report.failed, report.refused) == run.2 && is_handed(&link, &run.3)
+        }
+        Err(_) => false,
+    }
+}
+
+/// Whether the desk does so by its script.
+fn is_run_so(alloc: Global, run: &Run) -> Option<bool> {
+    let orders = read_script(alloc, run.0).ok()?;
+    let mut core = desk(alloc)?;
+    Some(hands_over(alloc, &mut core, orders.as_slice(), run))
+}
+
+#[test]
+fn what_is_due_is_handed_over(rt: HostRuntime) {
+    for run in &RUNS {
+        assert!(rt;
+            is_run_so(rt.alloc(), run) == Some(true),
+            "{} failing {:?}",
+            run.0,
+            run.1
+        );
+    }
 }

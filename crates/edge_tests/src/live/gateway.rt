@@ -1,18 +1,89 @@
 //! Gateways over memory.
+use crate::edge::port_node;
+use fixtures::packets::{DESK, ONE_SLOT, Said, data};
 use sacn_edge::{PortShown, WriterOut};
-use sacn_framing::{DataFields, source_name, write_data};
 use sacn_live::memory::{Incoming, MemoryReceiver};
-use sacn_live::{Arrival, Notes, Octets4, PassedOver, Span, run_gateway};
-use sacn_node::{NodeCore, NodeTaken, read_node};
-use std::alloc::Global;
-use std::test::Fail;
-
-/// One port that shows universe 1.
-const ONE_PORT: &str = "version = 1\n[[port]]\nnumber = 1\nuniverse = 1\n";
+use sacn_live::{Notes, Octets4, PassedOver, Span, run_gateway};
+use sacn_node::{NodeCore, NodeTaken};
+use std::alloc::{AllocError, Global};
+use std::test::*;
 
 const NEAR: Octets4 = [10, 0, 0, 7];
 
 const FAR: Octets4 = [10, 0, 0, 8];
+
+/// What comes to a gateway.
+#[derive(Clone, Copy)]
+enum Coming {
+    Nothing(u64),
+    /// A packet of one slot at a moment, from a sender, of this number and level.
+    Packet(u64, Octets4, u8, u8),
+}
+
+/// What comes, the moment after it, the senders that are heard, the turns, the beginnings of the lines that are written, and how
+/// many packets are taken, late and another sender's.
+struct Story {
+    name: &'static str,
+    coming: &'static [Coming],
+    last: u64,
+    senders: &'static [Octets4],
+    turns: u64,
+    lines: &'static [&'static str],
+    counts: (u64, u64, u64),
+}
+
+/// A line begins with the port, the moment, the start code and slot 1.
+const STORIES: [Story; 4] = [
+    Story {
+        name: "a burst costs one line",
+        coming: &[
+            Coming::Packet(10, NEAR, 1, 17),
+            Coming::Packet(11, NEAR, 2, 18),
+        ],
+        last: 12,
+        senders: &[],
+        turns: 1,
+        lines: &["1 12 0012"],
+        counts: (2, 0, 0),
+    },
+    Story {
+        name: "what waited through a stop is dropped",
+        coming: &[
+            Coming::Nothing(0),
+            Coming::Packet(2501, NEAR, 1, 17),
+            Coming::Packet(2501, NEAR, 2, 18),
+            Coming::Nothing(2502),
+            Coming::Packet(2503, NEAR, 3, 20),
+        ],
+        last: 2503,
+        senders: &[],
+        turns: 3,
+        lines: &["1 0 0000", "1 2503 0014"],
+        counts: (1, 2, 0),
+    },
+    Story {
+        name: "what waited as long as a source may is shown",
+        coming: &[Coming::Nothing(0), Coming::Packet(2500, NEAR, 1, 17)],
+        last: 2500,
+        senders: &[],
+        turns: 2,
+        lines: &["1 0 0000", "1 2500 0011"],
+        counts: (1, 0, 0),
+    },
+    Story {
+        name: "only listed senders are heard",
+        coming: &[
+            Coming::Packet(0, FAR, 1, 17),
+            Coming::Packet(0, NEAR, 1, 18),
+            Coming::Packet(0, FAR, 2, 19),
+        ],
+        last: 0,
+        senders: &[NEAR],
+        turns: 1,
+        lines: &["1 0 0012"],
+        counts: (1, 0, 2),
+    },
+];
 
 /// Counts what it sees.
 #[derive(Drop)]
@@ -42,66 +113,35 @@ impl Notes for Tally {
     }
 }
 
-/// A packet of one slot, of this number and level.
-fn packet(alloc: Global, number: u8, level: u8) -> Result<Vec<u8>, Fail> {
-    let fields = DataFields {
-        cid: [7; 16],
-        name: source_name("Desk").ok_or("no name")?,
-        priority: 100,
-        number,
-        preview: false,
-        terminated: false,
-        universe: 1,
-        start: 0,
-        slots: &[level],
-    };
-    let mut octets = [0; 638];
-    let len = write_data(&fields, &mut octets);
-    Ok(octets[..len].to_vec(alloc)?)
-}
-
-fn arrives(
-    alloc: Global,
-    now: u64,
-    sender: Octets4,
-    number: u8,
-    level: u8,
-) -> Result<Incoming, Fail> {
-    Ok(Incoming::Datagram(now, sender, packet(alloc, number, level)?))
-}
-
-/// The port, the moment and the first slot of each line, and what was seen.
-#[derive(Drop)]
-struct Shown {
-    lines: Vec<String>,
-    tally: Tally,
-}
-
-/// The front of a line: the port, the moment, the start code and the first slot.
-fn front(alloc: Global, line: &str) -> Result<String, Fail> {
-    match line.split_once(' ') {
-        Some((port, rest)) => match rest.split_once(' ') {
-            Some((moment, frame)) => Ok(format!(in alloc;
-                "{port} {moment} {}",
-                frame.get(..4).unwrap_or("")
-            )?),
-            None => Err("no frame".into()),
-        },
-        None => Err("no moment".into()),
+fn incoming(alloc: Global, coming: &[Coming]) -> Result<Vec<Incoming>, AllocError> {
+    let mut list = Vec::new(alloc);
+    for one in coming {
+        list.push(match *one {
+            Coming::Nothing(now) => Incoming::Nothing(now),
+            Coming::Packet(now, sender, number, level) => {
+                let said = Said {
+                    cid: [7; 16],
+                    number,
+                    ..DESK
+                };
+                Incoming::Datagram(now, sender, data(alloc, ONE_SLOT, &said, &[level])?)
+            }
+        })?;
     }
+    Ok(list)
 }
 
-/// Runs a gateway of one port for so many turns.
-fn run(
-    alloc: Global,
-    incoming: Vec<Incoming>,
-    last: u64,
-    senders: &[Octets4],
-    turns: u64,
-) -> Result<Shown, Fail> {
-    let setup = read_node(alloc, ONE_PORT).ok().ok_or("refused")?;
-    let mut core = NodeCore::new(alloc, &setup).ok().ok_or("no room")?;
-    let mut receiver = MemoryReceiver::new(incoming, last);
+fn are_begun(text: &str, wanted: &[&str]) -> bool {
+    text.lines().count() == wanted.len()
+        && text
+            .lines()
+            .zip(wanted)
+            .all(|(line, wanted)| line.starts_with(*wanted))
+}
+
+/// Whether a gateway writes these lines and sees so many packets.
+fn tells(alloc: Global, core: &mut NodeCore, incoming: Vec<Incoming>, story: &Story) -> bool {
+    let mut receiver = MemoryReceiver::new(incoming, story.last);
     let mut tally = Tally {
         taken: 0,
         late: 0,
@@ -110,80 +150,41 @@ fn run(
     };
     let mut out = WriterOut::new(Vec::new(alloc));
     let span = Span {
-        turns,
+        turns: story.turns,
         until: u64::MAX,
     };
-    run_gateway(
+    let is_written = run_gateway(
         &mut receiver,
         &mut tally,
         &mut out,
-        &mut core,
-        senders,
+        core,
+        story.senders,
         span,
-    )?;
-    let mut lines = Vec::new(alloc);
-    let text = String::from_utf8(out.writer)?;
-    for line in text.as_str().lines() {
-        lines.push(front(alloc, line)?)?;
+    )
+    .is_ok();
+    is_written
+        && (tally.taken, tally.late, tally.other) == story.counts
+        && tally.turns == story.turns
+        && match str::from_utf8(out.writer.as_slice()) {
+            Ok(text) => are_begun(text, story.lines),
+            Err(_) => false,
+        }
+}
+
+/// Whether a gateway of one port does so.
+fn is_told_so(alloc: Global, story: &Story) -> Option<bool> {
+    let incoming = incoming(alloc, story.coming).ok()?;
+    let mut core = port_node(alloc)?;
+    Some(tells(alloc, &mut core, incoming, story))
+}
+
+#[test]
+fn stories_of_a_gateway(rt: HostRuntime) {
+    for story in &STORIES {
+        assert!(rt;
+            is_told_so(rt.alloc(), story) == Some(true),
+            "{}",
+            story.name
+        );
     }
-    Ok(Shown { lines, tally })
-}
-
-fn shows(shown: &Shown, lines: &[&str]) -> bool {
-    shown.lines.len() == lines.len()
-        && shown
-            .lines
-            .as_slice()
-            .iter()
-            .zip(lines.iter())
-            .all(|(line, wanted)| line.as_str() == *wanted)
-}
-
-#[test]
-fn a_burst_costs_one_line(rt: HostRuntime) -> Result<(), Fail> {
-    let mut incoming = Vec::new(rt.alloc());
-    incoming.push(arrives(rt.alloc(), 10, NEAR, 1, 17)?)?;
-    incoming.push(arrives(rt.alloc(), 11, NEAR, 2, 18)?)?;
-    let shown = run(rt.alloc(), incoming, 12, &[], 1)?;
-    assert!(rt; shows(&shown, &["1 12 0012"]));
-    assert_eq!(rt; shown.tally.taken, 2);
-    assert_eq!(rt; shown.tally.turns, 1);
-    Ok(())
-}
-
-#[test]
-fn what_waited_through_a_stop_is_dropped(rt: HostRuntime) -> Result<(), Fail> {
-    let mut incoming = Vec::new(rt.alloc());
-    incoming.push(Incoming::Nothing(0))?;
-    incoming.push(arrives(rt.alloc(), 2501, NEAR, 1, 17)?)?;
-    incoming.push(arrives(rt.alloc(), 2501, NEAR, 2, 18)?)?;
-    incoming.push(Incoming::Nothing(2502))?;
-    incoming.push(arrives(rt.alloc(), 2503, NEAR, 3, 20)?)?;
-    let shown = run(rt.alloc(), incoming, 2503, &[], 3)?;
-    assert!(rt; shows(&shown, &["1 0 0000", "1 2503 0014"]));
-    assert_eq!(rt; shown.tally.late, 2);
-    Ok(())
-}
-
-#[test]
-fn what_waited_as_long_as_a_source_may_is_shown(rt: HostRuntime) -> Result<(), Fail> {
-    let mut incoming = Vec::new(rt.alloc());
-    incoming.push(Incoming::Nothing(0))?;
-    incoming.push(arrives(rt.alloc(), 2500, NEAR, 1, 17)?)?;
-    let shown = run(rt.alloc(), incoming, 2500, &[], 2)?;
-    assert!(rt; shows(&shown, &["1 0 0000", "1 2500 0011"]));
-    assert_eq!(rt; shown.tally.late, 0);
-    Ok(())
-}
-
-#[test]
-fn only_listed_senders_are_heard(rt: HostRuntime) -> Result<(), Fail> {
-    let mut incoming = Vec::new(rt.alloc());
-    incoming.push(arrives(rt.alloc(), 0, FAR, 1, 17)?)?;
-    incoming.push(arrives(rt.alloc(), 0, NEAR, 1, 18)?)?;
-    incoming.push(arrives(rt.alloc(), 0, FAR, 2, 19)?)?;
-    let shown = run(rt.alloc(), incoming, 0, &[NEAR], 1)?;
-    assert!(rt; shows(&shown, &["1 0 0012"]));
-    assert_eq!(rt; shown.tally.other, 2);
-    Ok(())
 }

@@ -2,68 +2,73 @@
 use sacn_live::{
     AddressFault, Gathered, LineBuffer, destination_of, group_for, host_of, widget_packet,
 };
-use std::test::Fail;
+use std::alloc::Global;
+use std::test::*;
 
-#[test]
-fn addresses_are_read(rt: HostRuntime) -> Result<(), Fail> {
-    assert_eq!(rt;
-        host_of("10.0.0.255").ok().map(|host| host.octets()),
-        Some([10, 0, 0, 255])
-    );
-    for word in [
-        "",
-        "10.0.0",
-        "10.0.0.256",
-        "10.0.0.1.2",
-        "10.0.0.01",
-        " 10.0.0.1",
-        "localhost",
-    ] {
-        assert_eq!(rt; host_of(word).err(), Some(AddressFault::Address));
-    }
-    assert_eq!(rt;
-        destination_of("10.0.0.1", 5568).ok().map(|to| to.port()),
-        Some(5568)
-    );
-    assert_eq!(rt;
-        destination_of("10.0.0.1:65535", 5568)
-            .ok()
-            .map(|to| to.port()),
-        Some(65535)
-    );
-    for word in ["10.0.0.1:0", "10.0.0.1:65536", "10.0.0.1:", "10.0.0.1:x"] {
-        assert_eq!(rt; destination_of(word, 5568).err(), Some(AddressFault::Port));
-    }
-    assert_eq!(rt;
-        destination_of("10.0.0.x:7", 5568).err(),
-        Some(AddressFault::Address)
-    );
-    Ok(())
+/// Words, and the hosts that they are.
+const HOSTS: [(&str, Result<[u8; 4], AddressFault>); 8] = [
+    ("10.0.0.255", Ok([10, 0, 0, 255])),
+    ("", Err(AddressFault::Address)),
+    ("10.0.0", Err(AddressFault::Address)),
+    ("10.0.0.256", Err(AddressFault::Address)),
+    ("10.0.0.1.2", Err(AddressFault::Address)),
+    ("10.0.0.01", Err(AddressFault::Address)),
+    (" 10.0.0.1", Err(AddressFault::Address)),
+    ("localhost", Err(AddressFault::Address)),
+];
+
+/// Words, and the ports that they name, 5568 where they name none.
+const PORTS: [(&str, Result<u16, AddressFault>); 7] = [
+    ("10.0.0.1", Ok(5568)),
+    ("10.0.0.1:65535", Ok(65535)),
+    ("10.0.0.1:0", Err(AddressFault::Port)),
+    ("10.0.0.1:65536", Err(AddressFault::Port)),
+    ("10.0.0.1:", Err(AddressFault::Port)),
+    ("10.0.0.1:x", Err(AddressFault::Port)),
+    ("10.0.0.x:7", Err(AddressFault::Address)),
+];
+
+fn host(word: &str) -> Result<[u8; 4], AddressFault> {
+    Ok(host_of(word)?.octets())
+}
+
+fn port(word: &str) -> Result<u16, AddressFault> {
+    Ok(destination_of(word, 5568)?.port())
 }
 
 #[test]
-fn an_interface_gets_518_octets(rt: HostRuntime) -> Result<(), Fail> {
+fn addresses_are_read(rt: HostRuntime) {
+    for (word, wanted) in HOSTS {
+        assert!(rt; host(word) == wanted, "{word}");
+    }
+    for (word, wanted) in PORTS {
+        assert!(rt; port(word) == wanted, "{word}");
+    }
+}
+
+/// Whether an interface gets 518 octets of a frame whose slot 1 is 9.
+fn is_widget_packet() -> bool {
     let mut frame = [0; 513];
     frame[1] = 9;
     let packet = widget_packet(&frame);
-    assert!(rt; packet[..6] == [0x7e, 6, 1, 2, 0, 9]);
-    assert_eq!(rt; packet[517], 0xe7);
-    Ok(())
+    packet.starts_with(&[0x7e, 6, 1, 2, 0, 9]) && packet[517] == 0xe7
 }
 
-#[test]
-fn what_is_no_packet_goes_to_no_group(rt: HostRuntime) -> Result<(), Fail> {
-    assert_eq!(rt; group_for(b"x"), None);
-    Ok(())
-}
-
-#[test]
-fn lines_come_in_pieces(rt: HostRuntime) -> Result<(), Fail> {
-    let mut line = LineBuffer::new(rt.alloc());
-    assert_eq!(rt; line.gather(b"go")?, Gathered::Partly);
-    assert_eq!(rt; line.gather(b" 1\r\nquit\n")?, Gathered::Ended(4));
-    assert!(rt; line.line() == Some(b"go 1".as_slice()));
+/// Whether lines come in pieces.
+fn is_gathered(alloc: Global) -> bool {
+    let mut line = LineBuffer::new(alloc);
+    let found = [line.gather(b"go"), line.gather(b" 1\r\nquit\n")];
+    let is_line = line.line() == Some(b"go 1".as_slice());
     line.clear();
-    assert!(rt; line.is_empty());
-    Ok(())
+    found == [Ok(Gathered::Partly), Ok(Gathered::Ended(4))] && is_line && line.is_empty()
+}
+
+#[test]
+fn packets_groups_and_lines(rt: HostRuntime) {
+    let found = [
+        is_widget_packet(),
+        group_for(b"x").is_none(),
+        is_gathered(rt.alloc()),
+    ];
+    assert!(rt; found == [true; 3], "packet, no group, line: {found:?}");
 }

@@ -1,11 +1,12 @@
 //! The table beside the plain program, call by call.
 ghost use Rattle.std.specs.Prelude.{◌<◌};
 
-use crate::sent::{MAX_SLOTS, Numbers, Sent, cid_of, write_sent};
+use crate::sent::{Numbers, Sent, cid_of, write_sent};
 use sacn_framing::{Packet, read_packet};
 use sacn_slots::Levels;
 use sacn_sources::plain::PlainTable;
 use sacn_sources::{HeldView, Kind, SourceTable, Taken};
+use sacn_universe::SLOTS;
 use std::test::*;
 
 /// How many calls are made.
@@ -35,7 +36,7 @@ fn any_moment(numbers: &mut Numbers, before: u64) -> u64 {
 }
 
 /// A packet with levels out of the given ones.
-fn any_packet<'a>(numbers: &mut Numbers, levels: &'a [u8; MAX_SLOTS]) -> Sent<'a> {
+fn any_packet<'a>(numbers: &mut Numbers, levels: &'a [u8; SLOTS]) -> Sent<'a> {
     let len = numbers.below(513) as usize;
     Sent {
         cid: u32::from(numbers.octet(SOURCES)),
@@ -43,7 +44,7 @@ fn any_packet<'a>(numbers: &mut Numbers, levels: &'a [u8; MAX_SLOTS]) -> Sent<'a
         number: numbers.octet(255),
         kind: any_kind(numbers),
         priority: 98 + numbers.octet(4) % 4,
-        slots: &levels[..len.min(MAX_SLOTS)],
+        slots: &levels[..len.min(SLOTS)],
     }
 }
 
@@ -69,7 +70,7 @@ fn place_of(taken: Taken) -> usize
 }
 
 fn same_slots(a: &Levels, b: &Levels) -> bool {
-    for slot in 0..MAX_SLOTS {
+    for slot in 0..SLOTS {
         if a.at(slot) != b.at(slot) {
             return false;
         }
@@ -129,7 +130,7 @@ impl Both {
     }
 
     /// One call of both at a moment: expiry, a merge or a packet.
-    fn does_the_same(&mut self, numbers: &mut Numbers, now: u64, levels: &[u8; MAX_SLOTS]) -> bool {
+    fn does_the_same(&mut self, numbers: &mut Numbers, now: u64, levels: &[u8; SLOTS]) -> bool {
         let is_same = match numbers.below(8) {
             0 => self.expires_the_same(now),
             1 | 2 => self.merges_the_same(now),
@@ -156,7 +157,7 @@ impl Both {
 
 #[test]
 fn plain_program_agrees(rt: HostRuntime) -> Result<(), Fail> {
-    let mut levels = [0; MAX_SLOTS];
+    let mut levels = [0; SLOTS];
     let mut numbers = Numbers { state: 1 };
     for level in &mut levels {
         *level = numbers.octet(255);

@@ -1,7 +1,7 @@
 //! What a table answers, keeps, shows and loses, step by step.
 use super::Step;
-use crate::sent::MAX_SLOTS;
 use sacn_sources::{Kind, Taken};
+use sacn_universe::SLOTS;
 
 /// The first moment from which on no source is ever lost.
 const LAST: u64 = u64::MAX - 2500;
@@ -84,8 +84,8 @@ pub(super) const STORIES: [(&str, &[Step<'static>]); 21] = [
     (
         "a shorter packet",
         &[
-            Step::Live(0, 1, 0, &[9; MAX_SLOTS], Taken::Held),
-            Step::Merges(0, &[9; MAX_SLOTS]),
+            Step::Live(0, 1, 0, &[9; SLOTS], Taken::Held),
+            Step::Merges(0, &[9; SLOTS]),
             Step::Live(0, 1, 1, &[1, 2], Taken::Held),
             Step::Merges(0, &[1, 2]),
         ],

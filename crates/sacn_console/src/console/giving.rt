@@ -3,14 +3,14 @@ ghost use Rattle.std.specs.Prelude.{◌≡◌, ◌<◌, ◌≤◌, ◌++◌, len
 ghost use Rattle.sacn_console.specs.Core.{packet_text, packet_with};
 
 use super::ConsoleCore;
-use crate::limits::{DISCOVERY_INTERVAL, MOST_OCTETS};
+use crate::limits::{DISCOVERY_INTERVAL, MAX_DATAGRAM};
 use crate::line::{Begun, Line};
 use crate::lines::{first_due, list_standing};
 use crate::sender::Sender;
 use sacn_cues::Player;
 use sacn_discovery::{page_count, write_page};
 use sacn_framing::{DataFields, write_data};
-use sacn_patch::SLOTS;
+use sacn_universe::SLOTS;
 
 impl ConsoleCore {
     ghost use Rattle.std.specs.Prelude.{Some, None, MatchOption, ℕ, is_some, true, ◌+◌, min};
@@ -84,7 +84,7 @@ impl ConsoleCore {
     }
 
     // Gives the datagram that is due at the moment in use.
-    pub(super) fn give(&mut self, out: &mut [u8; MOST_OCTETS]) -> Option<usize>
+    pub(super) fn give(&mut self, out: &mut [u8; MAX_DATAGRAM]) -> Option<usize>
         ensures answer { result ≡ option_map size (due self.old) }
         ensures octets { out.new ≡ over self.old.sender (due self.old) out.old }
         ensures core { self.new ≡ given (due self.old) self.old }
@@ -124,7 +124,7 @@ impl ConsoleCore {
         &mut self,
         place: usize,
         slots: &[u8; SLOTS],
-        out: &mut [u8; MOST_OCTETS],
+        out: &mut [u8; MAX_DATAGRAM],
     ) -> usize
         requires there { place < length self.old.lines }
         requires frame { slots.now ≡ frame self.old.lights (line_at self.old place).universe self.old.moment }
@@ -143,7 +143,7 @@ impl ConsoleCore {
     }
 
     // The next page of the cycle, or the first of a new one.
-    fn give_page(&mut self, out: &mut [u8; MOST_OCTETS]) -> Option<usize>
+    fn give_page(&mut self, out: &mut [u8; MAX_DATAGRAM]) -> Option<usize>
         ensures answer { result ≡ option_map size (option_map Paged (page_due self.old)) }
         ensures octets { out.new ≡ over self.old.sender (option_map Paged (page_due self.old)) out.old }
         ensures core { self.new ≡ given (option_map Paged (page_due self.old)) self.old }
@@ -154,7 +154,7 @@ impl ConsoleCore {
         }
     }
 
-    fn give_later_page(&mut self, begun: Begun, out: &mut [u8; MOST_OCTETS]) -> Option<usize>
+    fn give_later_page(&mut self, begun: Begun, out: &mut [u8; MAX_DATAGRAM]) -> Option<usize>
         requires { self.old.cycle ≡ Some begun }
         ensures answer { result ≡ option_map size (option_map Paged (page_due self.old)) }
         ensures octets { out.new ≡ over self.old.sender (option_map Paged (page_due self.old)) out.old }
@@ -170,7 +170,7 @@ impl ConsoleCore {
     }
 
     // The first page of a new cycle.
-    fn write_first(&mut self, out: &mut [u8; MOST_OCTETS]) -> usize
+    fn write_first(&mut self, out: &mut [u8; MAX_DATAGRAM]) -> usize
         ensures answer { result ≡ size (Paged (record { list = standing self.old.lines; page = 0 })) }
         ensures octets { out.new ≡ over self.old.sender (Some (Paged (record { list = standing self.old.lines; page = 0 }))) out.old }
         ensures core { self.new ≡ after (Gave self.old.moment (Paged (record { list = standing self.old.lines; page = 0 }))) self.old }
@@ -190,7 +190,7 @@ impl ConsoleCore {
     }
 
     // The next page of a cycle.
-    fn write_next(&mut self, begun: Begun, out: &mut [u8; MOST_OCTETS]) -> usize
+    fn write_next(&mut self, begun: Begun, out: &mut [u8; MAX_DATAGRAM]) -> usize
         requires begun { self.old.cycle ≡ Some begun }
         requires page { begun.next < pages_of (length self.old.listed) }
         requires fits { begun.next < usize.MAX }
@@ -225,7 +225,7 @@ fn write_packet(
     sender: &Sender,
     line: &Line,
     slots: &[u8; SLOTS],
-    out: &mut [u8; MOST_OCTETS],
+    out: &mut [u8; MAX_DATAGRAM],
 ) -> usize
     requires priority { sender.now.priority ≤ 200 }
     requires least { 1 ≤ line.now.universe }

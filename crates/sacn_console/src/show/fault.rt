@@ -1,8 +1,9 @@
 //! Why a show is refused.
 ghost use Rattle.std.specs.Prelude.{◌≡◌};
-ghost use Rattle.sacn_console.specs.ShowReading.{fault_of};
+ghost use Rattle.sacn_console.specs.declared.show.fault.ShowFault.TheVariants.{OutOfMemory};
 
 use sacn_files::faults::FileFault;
+use std::alloc::{AllocError, AllocFailed};
 use thiserror::Error;
 
 /// Why a show is refused. Nothing was made.
@@ -49,16 +50,35 @@ impl ShowFault {
     }
 }
 
-/// The same fault of a show.
-pub(crate) fn fault_of(fault: FileFault) -> ShowFault
-    ensures { result ≡ fault_of fault }
-{
-    match fault {
-        FileFault::OutOfMemory => ShowFault::OutOfMemory,
-        FileFault::Toml => ShowFault::Toml,
-        FileFault::MissingKey => ShowFault::MissingKey,
-        FileFault::UnknownKey => ShowFault::UnknownKey,
-        FileFault::KeyValue => ShowFault::KeyValue,
-        FileFault::Version => ShowFault::Version,
+impl From<FileFault> for ShowFault {
+    ghost use Rattle.sacn_console.specs.ShowReading.{show_fault_of};
+
+    ghost from_gives = { λ fault show_fault. show_fault ≡ show_fault_of fault };
+
+    fn from(fault: FileFault) -> ShowFault {
+        match fault {
+            FileFault::OutOfMemory => ShowFault::OutOfMemory,
+            FileFault::Toml => ShowFault::Toml,
+            FileFault::MissingKey => ShowFault::MissingKey,
+            FileFault::UnknownKey => ShowFault::UnknownKey,
+            FileFault::KeyValue => ShowFault::KeyValue,
+            FileFault::Version => ShowFault::Version,
+        }
+    }
+}
+
+impl From<AllocError> for ShowFault {
+    ghost from_gives = { λ _ fault. fault ≡ OutOfMemory };
+
+    fn from(_refused: AllocError) -> ShowFault {
+        ShowFault::OutOfMemory
+    }
+}
+
+impl<T: Drop> From<AllocFailed<T>> for ShowFault {
+    ghost from_gives = { λ _ fault. fault ≡ OutOfMemory };
+
+    fn from(_refused: AllocFailed<T>) -> ShowFault {
+        ShowFault::OutOfMemory
     }
 }

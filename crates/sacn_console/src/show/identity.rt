@@ -1,16 +1,18 @@
 //! Who sends: the values of a show that stand alone.
-ghost use Rattle.std.specs.Prelude.{◌≡◌, ◌≤◌, codes, option_map, option_and_then, string_bytes, IfOk, IfSome};
+ghost use Rattle.std.specs.Prelude.{◌≡◌, ◌≤◌, codes, true, option_map, option_and_then, IfSome};
 ghost use Rattle.toml.specs.Data.{get_member, as_str};
 ghost use Rattle.toml.specs.View.{view, table_view};
-ghost use Rattle.uuid.specs.Text.{parsed};
-ghost use Rattle.sacn_framing.specs.Naming.{is_nameable, name_from};
+ghost use Rattle.sacn_files.specs.Document.{Gives};
+ghost use Rattle.sacn_framing.specs.Naming.{is_nameable, padded};
 ghost use Rattle.sacn_console.specs.ShowReading.{name_in, cid_in, priority_of, identity_in};
 
+use super::ShowFault;
 use crate::limits::DEFAULT_PRIORITY;
 use crate::sender::Sender;
 use sacn_files::values::{byte_in, value_at};
-use sacn_framing::{MOST_PRIORITY, source_name};
-use std::alloc::{AllocError, Global};
+use sacn_framing::source_name;
+use sacn_universe::MAX_PRIORITY;
+use std::alloc::Global;
 use std::marker::Model;
 use toml::{Table, Value};
 use uuid::Uuid;
@@ -48,19 +50,24 @@ fn cid_of(value: &Value) -> Option<[u8; 16]>
 fn cid_at(table: &Table) -> Option<[u8; 16]>
     ensures { result ≡ option_and_then cid_in (get_member (codes "cid") (table_view table.now)) }
 {
-    match value_at(table, "cid") {
-        Some(value) => cid_of(value),
-        None => None,
-    }
+    cid_of(value_at(table, "cid")?)
 }
 
 fn text_at(table: &Table) -> Option<&str>
     ensures { option_map (λ s. s.now) result ≡ option_and_then as_str (get_member (codes "name") (table_view table.now)) }
 {
-    match value_at(table, "name") {
-        Some(value) => value.as_str(),
-        None => None,
-    }
+    value_at(table, "name")?.as_str()
+}
+
+/// The name, and its octets padded to the field of a packet.
+fn name_at(table: &Table) -> Option<(&str, [u8; 64])>
+    ensures name { option_map (λ n. n.0.now) result ≡ option_and_then name_in (get_member (codes "name") (table_view table.now)) }
+    ensures padded { IfSome result (λ n. n.1 ≡ padded n.0.now) }
+    ensures nameable { IfSome result (λ n. is_nameable n.0.now ≡ true) }
+{
+    let text = text_at(table)?;
+    let padded = source_name(text)?;
+    Some((text, padded))
 }
 
 fn priority_of(table: &Table) -> Option<u8>
@@ -68,40 +75,23 @@ fn priority_of(table: &Table) -> Option<u8>
     ensures most { IfSome result (λ p. p ≤ 200) }
 {
     match value_at(table, "priority") {
-        Some(value) => byte_in(value, 0, MOST_PRIORITY),
+        Some(value) => byte_in(value, 0, MAX_PRIORITY),
         None => Some(DEFAULT_PRIORITY),
     }
 }
 
-fn copied(alloc: Global, text: &str) -> Result<String, AllocError>
-    ensures { IfOk result (λ s. string_bytes s ≡ text.now) }
-{
-    String::from_str(alloc, text)
-}
-
 /// The CID, the name and the priority of a table.
-pub(super) fn identity_in(alloc: Global, table: &Table) -> Result<Option<Identity>, AllocError>
-    ensures { IfOk result (λ o. o ≡ identity_in (table_view table.now)) }
+pub(super) fn identity_in(alloc: Global, table: &Table) -> Result<Identity, ShowFault>
+    ensures { Gives ShowFault.OutOfMemory result (identity_in (table_view table.now)) }
 {
-    let Some(cid) = cid_at(table) else {
-        return Ok(None);
-    };
-    let Some(text) = text_at(table) else {
-        return Ok(None);
-    };
-    let Some(name) = source_name(text) else {
-        return Ok(None);
-    };
-    let Some(priority) = priority_of(table) else {
-        return Ok(None);
-    };
+    let cid = cid_at(table).ok_or(ShowFault::KeyValue)?;
+    let (text, name) = name_at(table).ok_or(ShowFault::KeyValue)?;
+    let priority = priority_of(table).ok_or(ShowFault::KeyValue)?;
     let sender = Sender {
         cid,
         name,
         priority,
     };
-    match copied(alloc, text) {
-        Ok(name) => Ok(Some(Identity { sender, name })),
-        Err(error) => Err(error),
-    }
+    let name = String::from_str(alloc, text)?;
+    Ok(Identity { sender, name })
 }

@@ -1,12 +1,14 @@
 //! The patch of a show.
-ghost use Rattle.std.specs.Prelude.{◌≡◌, ◌==◌, map, option_map, IfOk};
+ghost use Rattle.std.specs.Prelude.{◌≡◌, ◌==◌, map};
 ghost use Rattle.std.specs.List.{list_any};
 ghost use Rattle.std.specs.FinMap.{empty};
 ghost use Rattle.toml.specs.View.{view};
-ghost use Rattle.sacn_console.specs.ShowReading.{wide_of, patch_in, patches_in, patches_added, Adds};
+ghost use Rattle.sacn_files.specs.Document.{Gives};
+ghost use Rattle.sacn_console.specs.ShowReading.{wide_of, patch_in, patches_in, patches_added, required, GivesAs};
 
 use super::ShowFault;
-use sacn_files::rows::{ReadRow, read_rows};
+use super::rows::rows_in;
+use sacn_files::rows::ReadRow;
 use sacn_files::values::{short_at, value_in};
 use sacn_patch::{Patch, PatchFault};
 use std::alloc::{AllocError, Global};
@@ -62,10 +64,10 @@ impl ReadRow for PatchReader {
 }
 
 /// Each row, in the file's order.
-pub(super) fn patches_in(alloc: Global, rows: &[Value]) -> Result<Option<Vec<PatchRow>>, AllocError>
-    ensures { IfOk result (λ o. option_map (λ v. v.items) o ≡ patches_in (map view rows.now)) }
+pub(super) fn patches_in(alloc: Global, rows: &[Value]) -> Result<Vec<PatchRow>, ShowFault>
+    ensures { GivesAs (λ v. v.items) result (required (patches_in (map view rows.now))) }
 {
-    read_rows(alloc, &PatchReader, rows)
+    rows_in(alloc, &PatchReader, rows)
 }
 
 fn is_among(universe: u16, universes: &[u16]) -> bool
@@ -80,7 +82,7 @@ pub(super) fn patches_added(
     universes: &[u16],
     rows: &[PatchRow],
 ) -> Result<Patch, ShowFault>
-    ensures { Adds ShowFault.Patch result (patches_added universes.now empty rows.now) }
+    ensures { Gives ShowFault.OutOfMemory result (patches_added universes.now empty rows.now) }
 {
     let mut patch = Patch::new(alloc);
     for row in rows {

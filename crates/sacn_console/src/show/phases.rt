@@ -1,16 +1,16 @@
 //! The phases of reading a show.
-ghost use Rattle.std.specs.Prelude.{◌≡◌, Ok, map, option_map, codes};
+ghost use Rattle.std.specs.Prelude.{◌≡◌, Ok, map};
 ghost use Rattle.toml.specs.Parse.{parse_document};
 ghost use Rattle.toml.specs.View.{view, table_view};
 ghost use Rattle.sacn_files.specs.Document.{Gives};
-ghost use Rattle.sacn_console.specs.ShowReading.{cue_rows, patch_rows, cues_known, cues_complete, patches_known, patches_complete, keys_are_known, keys_are_there, own_phase, patch_phase, cue_phase, send_to_phase, universe_phase, value_phase, after_version, show_in, show_or_toml};
+ghost use Rattle.sacn_console.specs.ShowReading.{cue_rows, patch_rows, cue_keys, keys_are_known, keys_are_there, draft_in, last_phase, after_version, show_in, show_or_toml};
 
-use super::cues::{CueRow, cues_added, cues_in};
-use super::fault::fault_of;
-use super::identity::{Identity, identity_in};
-use super::patches::{PatchRow, patches_added, patches_in};
-use super::ports::{Destinations, send_to_of};
-use super::universes::{Universes, universes_of};
+use super::cues::{cues_added, cues_in};
+use super::draft::Draft;
+use super::identity::identity_in;
+use super::patches::{patches_added, patches_in};
+use super::ports::send_to_of;
+use super::universes::universes_of;
 use super::{Show, ShowFault};
 use crate::limits::NEWEST_SHOW;
 use sacn_files::document::{read_table, version_in};
@@ -33,39 +33,18 @@ fn patch_rows(table: &Table) -> &[Value]
     rows_at(table, "patch")
 }
 
-fn cues_known(version: u8, rows: &[Value]) -> bool
-    ensures { result ≡ cues_known version (map view rows.now) }
+/// The keys of a cue; each is required.
+fn cue_keys(version: u8) -> &'static [&'static str]
+    ensures { map (λ key. key.now) result.now ≡ cue_keys version }
 {
     if version == 1 {
-        rows_are_known(rows, &["number", "fade", "levels"])
+        &["number", "fade", "levels"]
     } else {
-        rows_are_known(rows, &["number", "up", "down", "levels"])
+        &["number", "up", "down", "levels"]
     }
 }
 
-fn cues_complete(version: u8, rows: &[Value]) -> bool
-    ensures { result ≡ cues_complete version (map view rows.now) }
-{
-    if version == 1 {
-        rows_have_keys(rows, &["number", "fade", "levels"])
-    } else {
-        rows_have_keys(rows, &["number", "up", "down", "levels"])
-    }
-}
-
-fn patches_known(rows: &[Value]) -> bool
-    ensures { result ≡ patches_known (map view rows.now) }
-{
-    rows_are_known(rows, &["channel", "universe", "slot", "wide"])
-}
-
-fn patches_complete(rows: &[Value]) -> bool
-    ensures { result ≡ patches_complete (map view rows.now) }
-{
-    rows_have_keys(rows, &["channel", "universe", "slot"])
-}
-
-/// Whether each key is known.
+/// Whether no table has a key that isn't listed for it.
 fn keys_are_known(version: u8, table: &Table) -> bool
     ensures { result ≡ keys_are_known version (table_view table.now) }
 {
@@ -81,117 +60,51 @@ fn keys_are_known(version: u8, table: &Table) -> bool
             "cue",
             "patch",
         ],
-    ) && (cues_known(version, cue_rows(table)) && patches_known(patch_rows(table)))
+    ) && (rows_are_known(cue_rows(table), cue_keys(version))
+        && rows_are_known(patch_rows(table), &["channel", "universe", "slot", "wide"]))
 }
 
-/// Whether each required key is there.
+/// Whether each table has its required keys.
 fn keys_are_there(version: u8, table: &Table) -> bool
     ensures { result ≡ keys_are_there version (table_view table.now) }
 {
     has_keys(table, &["cid", "name", "universes"])
-        && (cues_complete(version, cue_rows(table)) && patches_complete(patch_rows(table)))
+        && (rows_have_keys(cue_rows(table), cue_keys(version))
+            && rows_have_keys(patch_rows(table), &["channel", "universe", "slot"]))
 }
 
-/// The last phase.
-fn own_phase(
-    alloc: Global,
-    identity: Identity,
-    universes: Universes,
-    send_to: Destinations,
-    cues: Vec<CueRow>,
-    rows: Vec<PatchRow>,
-) -> Result<Show, ShowFault>
-    ensures { Gives ShowFault.OutOfMemory result (own_phase identity universes send_to cues.items rows.items) }
+/// What a table says, value by value.
+fn draft_in(alloc: Global, version: u8, table: &Table) -> Result<Draft, ShowFault>
+    ensures { Gives ShowFault.OutOfMemory result (draft_in version (table_view table.now)) }
 {
-    match cues_added(alloc, cues) {
-        Ok(cues) => match patches_added(alloc, universes.numbers.as_slice(), rows.as_slice()) {
-            Ok(patch) => Ok(Show::new(identity, universes, send_to, cues, patch)),
-            Err(fault) => Err(fault),
-        },
-        Err(fault) => Err(fault),
-    }
+    let identity = identity_in(alloc, table)?;
+    let universes = universes_of(alloc, table)?;
+    let send_to = send_to_of(alloc, table)?;
+    let cues = cues_in(alloc, version, cue_rows(table))?;
+    let patch = patches_in(alloc, patch_rows(table))?;
+    Ok(Draft {
+        identity,
+        universes,
+        send_to,
+        cues,
+        patch,
+    })
 }
 
-fn patch_phase(
-    alloc: Global,
-    table: &Table,
-    identity: Identity,
-    universes: Universes,
-    send_to: Destinations,
-    cues: Vec<CueRow>,
-) -> Result<Show, ShowFault>
-    ensures { Gives ShowFault.OutOfMemory result (patch_phase (table_view table.now) identity universes send_to cues.items) }
+/// The last phase: the cues, and then the patch.
+fn last_phase(alloc: Global, draft: Draft) -> Result<Show, ShowFault>
+    ensures { Gives ShowFault.OutOfMemory result (last_phase draft) }
 {
-    match patches_in(alloc, patch_rows(table)) {
-        Ok(Some(rows)) => own_phase(alloc, identity, universes, send_to, cues, rows),
-        Ok(None) => Err(ShowFault::KeyValue),
-        Err(_) => Err(ShowFault::OutOfMemory),
-    }
-}
-
-fn cue_phase(
-    alloc: Global,
-    version: u8,
-    table: &Table,
-    identity: Identity,
-    universes: Universes,
-    send_to: Destinations,
-) -> Result<Show, ShowFault>
-    ensures { Gives ShowFault.OutOfMemory result (cue_phase version (table_view table.now) identity universes send_to) }
-{
-    match cues_in(alloc, version, cue_rows(table)) {
-        Ok(Some(cues)) => patch_phase(alloc, table, identity, universes, send_to, cues),
-        Ok(None) => Err(ShowFault::KeyValue),
-        Err(_) => Err(ShowFault::OutOfMemory),
-    }
-}
-
-fn send_to_phase(
-    alloc: Global,
-    version: u8,
-    table: &Table,
-    identity: Identity,
-    universes: Universes,
-) -> Result<Show, ShowFault>
-    ensures { Gives ShowFault.OutOfMemory result (send_to_phase version (table_view table.now) identity universes) }
-{
-    match send_to_of(alloc, table) {
-        Ok(Some(send_to)) => cue_phase(alloc, version, table, identity, universes, send_to),
-        Ok(None) => Err(ShowFault::KeyValue),
-        Err(_) => Err(ShowFault::OutOfMemory),
-    }
-}
-
-fn universe_phase(
-    alloc: Global,
-    version: u8,
-    table: &Table,
-    identity: Identity,
-) -> Result<Show, ShowFault>
-    ensures { Gives ShowFault.OutOfMemory result (universe_phase version (table_view table.now) identity) }
-{
-    match universes_of(alloc, table) {
-        Ok(Some(universes)) => send_to_phase(alloc, version, table, identity, universes),
-        Ok(None) => Err(ShowFault::KeyValue),
-        Err(_) => Err(ShowFault::OutOfMemory),
-    }
-}
-
-/// The values, and then the last phase.
-fn value_phase(alloc: Global, version: u8, table: &Table) -> Result<Show, ShowFault>
-    ensures { Gives ShowFault.OutOfMemory result (value_phase version (table_view table.now)) }
-{
-    if !has_rows(table, "cue") {
-        return Err(ShowFault::KeyValue);
-    }
-    if !has_rows(table, "patch") {
-        return Err(ShowFault::KeyValue);
-    }
-    match identity_in(alloc, table) {
-        Ok(Some(identity)) => universe_phase(alloc, version, table, identity),
-        Ok(None) => Err(ShowFault::KeyValue),
-        Err(_) => Err(ShowFault::OutOfMemory),
-    }
+    let Draft {
+        identity,
+        universes,
+        send_to,
+        cues,
+        patch,
+    } = draft;
+    let cues = cues_added(alloc, cues)?;
+    let patch = patches_added(alloc, universes.numbers.as_slice(), patch.as_slice())?;
+    Ok(Show::new(identity, universes, send_to, cues, patch))
 }
 
 /// The phases after the version.
@@ -204,7 +117,11 @@ fn after_version(alloc: Global, version: u8, table: &Table) -> Result<Show, Show
     if !keys_are_there(version, table) {
         return Err(ShowFault::MissingKey);
     }
-    value_phase(alloc, version, table)
+    if !(has_rows(table, "cue") && has_rows(table, "patch")) {
+        return Err(ShowFault::KeyValue);
+    }
+    let draft = draft_in(alloc, version, table)?;
+    last_phase(alloc, draft)
 }
 
 /// The show of a table of version 1 or 2, or the fault of the first phase that fails; `OutOfMemory`
@@ -212,10 +129,8 @@ fn after_version(alloc: Global, version: u8, table: &Table) -> Result<Show, Show
 pub fn show_of(alloc: Global, table: &Table) -> Result<Show, ShowFault>
     ensures { Gives ShowFault.OutOfMemory result (show_in (table_view table.now)) }
 {
-    match version_in(value_at(table, "version"), NEWEST_SHOW) {
-        Ok(version) => after_version(alloc, version, table),
-        Err(fault) => Err(fault_of(fault)),
-    }
+    let version = version_in(value_at(table, "version"), NEWEST_SHOW)?;
+    after_version(alloc, version, table)
 }
 
 /// The show of a text, or the fault of the first phase that fails: `Toml` where the text is no
@@ -223,8 +138,6 @@ pub fn show_of(alloc: Global, table: &Table) -> Result<Show, ShowFault>
 pub fn read_show(alloc: Global, text: &str) -> Result<Show, ShowFault>
     ensures { Gives ShowFault.OutOfMemory result (show_or_toml (parse_document text.now)) }
 {
-    match read_table(alloc, text) {
-        Ok(table) => show_of(alloc, &table),
-        Err(fault) => Err(fault_of(fault)),
-    }
+    let table = read_table(alloc, text)?;
+    show_of(alloc, &table)
 }

@@ -1,12 +1,15 @@
 //! The UDP ports to which a show is sent.
 ghost use Rattle.std.specs.Prelude.{◌≡◌, ◌≤◌, ◌∷◌, [], length, map, IfOk};
 ghost use Rattle.toml.specs.View.{view, table_view};
-ghost use Rattle.sacn_console.specs.ShowReading.{send_to_in, send_to_of};
+ghost use Rattle.sacn_files.specs.Document.{Gives};
+ghost use Rattle.sacn_console.specs.ShowReading.{send_to_in, send_to_of, required};
 ghost use Rattle.sacn_console.specs.declared.limits.TheConstants.{MAX_DESTINATIONS};
 
+use super::ShowFault;
+use super::rows::rows_in;
 use crate::limits::MAX_DESTINATIONS;
-use sacn_files::limits::{DEFAULT_UDP_PORT, LEAST_UDP_PORT, MOST_UDP_PORT};
-use sacn_files::rows::{Numbers, read_rows};
+use sacn_files::limits::{DEFAULT_UDP_PORT, MAX_UDP_PORT, MIN_UDP_PORT};
+use sacn_files::rows::Numbers;
 use sacn_files::values::{array_values, value_at};
 use std::alloc::{AllocError, Global};
 use std::marker::Model;
@@ -36,21 +39,18 @@ fn kept(ports: Vec<u16>) -> Destinations
     Destinations { ports }
 }
 
-fn send_to_in(alloc: Global, values: &[Value]) -> Result<Option<Destinations>, AllocError>
-    ensures { IfOk result (λ o. o ≡ send_to_in (map view values.now)) }
+fn send_to_in(alloc: Global, values: &[Value]) -> Result<Destinations, ShowFault>
+    ensures { Gives ShowFault.OutOfMemory result (required (send_to_in (map view values.now))) }
 {
     if MAX_DESTINATIONS < values.len() {
-        return Ok(None);
+        return Err(ShowFault::KeyValue);
     }
     let range = Numbers {
-        low: LEAST_UDP_PORT,
-        high: MOST_UDP_PORT,
+        low: MIN_UDP_PORT,
+        high: MAX_UDP_PORT,
     };
-    match read_rows(alloc, &range, values) {
-        Ok(Some(ports)) => Ok(Some(kept(ports))),
-        Ok(None) => Ok(None),
-        Err(error) => Err(error),
-    }
+    let ports = rows_in(alloc, &range, values)?;
+    Ok(kept(ports))
 }
 
 fn one_port(alloc: Global) -> Result<Destinations, AllocError>
@@ -62,17 +62,11 @@ fn one_port(alloc: Global) -> Result<Destinations, AllocError>
 }
 
 /// The ports of a table, in the file's order.
-pub(super) fn send_to_of(alloc: Global, table: &Table) -> Result<Option<Destinations>, AllocError>
-    ensures { IfOk result (λ o. o ≡ send_to_of (table_view table.now)) }
+pub(super) fn send_to_of(alloc: Global, table: &Table) -> Result<Destinations, ShowFault>
+    ensures { Gives ShowFault.OutOfMemory result (required (send_to_of (table_view table.now))) }
 {
     match value_at(table, "send_to") {
-        Some(value) => match array_values(value) {
-            Some(values) => send_to_in(alloc, values),
-            None => Ok(None),
-        },
-        None => match one_port(alloc) {
-            Ok(ports) => Ok(Some(ports)),
-            Err(error) => Err(error),
-        },
+        Some(value) => send_to_in(alloc, array_values(value).ok_or(ShowFault::KeyValue)?),
+        None => Ok(one_port(alloc)?),
     }
 }

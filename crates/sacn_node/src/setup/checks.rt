@@ -1,5 +1,5 @@
 //! The faults that only a whole setup can have.
-ghost use Rattle.std.specs.Prelude.{◌≡◌, ◌==◌, ◌+◌, [], IfOk, OnOk};
+ghost use Rattle.std.specs.Prelude.{◌≡◌, ◌⊎◌, ◌==◌, ◌+◌, [], None, Some, IfOk, OnOk, MatchResult};
 ghost use Rattle.std.specs.List.{list_any};
 ghost use Rattle.sacn_node.specs.Setup.{with_universe, universes_after, universes, passes_end, shares_slot, has_overlap};
 ghost use Rattle.sacn_node.specs.SetupReading.{order_fault};
@@ -7,7 +7,7 @@ ghost use Rattle.sacn_node.specs.SetupReading.{order_fault};
 use super::{PortSetup, SetupFault, SlotRange};
 use crate::limits::MAX_UNIVERSES;
 use sacn_files::numbered::place;
-use sacn_slots::SLOTS;
+use sacn_universe::SLOTS;
 use std::alloc::{AllocError, Global};
 
 /// The place after the last slot; slots count from 1.
@@ -114,18 +114,18 @@ pub fn universes_of(alloc: Global, ports: &[PortSetup]) -> Result<Vec<u16>, Allo
     Ok(universes)
 }
 
-/// The fault of ports in order of number, whose numbers differ and are not too many.
-pub fn order_fault(alloc: Global, ports: &[PortSetup]) -> Result<Option<SetupFault>, AllocError>
-    ensures { IfOk result (λ o. o ≡ order_fault ports.now) }
+/// Checks ports in order of number, whose numbers differ and are not too many.
+pub fn check_order(alloc: Global, ports: &[PortSetup]) -> Result<(), SetupFault>
+    ensures { MatchResult result (λ _. order_fault ports.now ≡ None) (λ fault. (fault ≡ SetupFault.OutOfMemory) ⊎ (order_fault ports.now ≡ Some fault)) }
 {
     let universes = universes_of(alloc, ports)?;
     if MAX_UNIVERSES < universes.len() {
-        Ok(Some(SetupFault::Limit))
+        Err(SetupFault::Limit)
     } else if one_passes_end(ports) {
-        Ok(Some(SetupFault::RangeEnd))
+        Err(SetupFault::RangeEnd)
     } else if one_has_overlap(ports) {
-        Ok(Some(SetupFault::Overlap))
+        Err(SetupFault::Overlap)
     } else {
-        Ok(None)
+        Ok(())
     }
 }

@@ -1,7 +1,9 @@
 //! Why a setup is refused.
 ghost use Rattle.std.specs.Prelude.{◌≡◌};
+ghost use Rattle.sacn_node.specs.declared.setup.fault.SetupFault.TheVariants.{OutOfMemory};
 
 use sacn_files::faults::FileFault;
+use std::alloc::{AllocError, AllocFailed};
 use thiserror::Error;
 
 /// The first phase of reading a setup that fails (profile).
@@ -64,5 +66,21 @@ impl From<FileFault> for SetupFault {
             FileFault::KeyValue => SetupFault::KeyValue,
             FileFault::Version => SetupFault::Version,
         }
+    }
+}
+
+impl From<AllocError> for SetupFault {
+    ghost from_gives = { λ _ fault. fault ≡ OutOfMemory };
+
+    fn from(_refused: AllocError) -> SetupFault {
+        SetupFault::OutOfMemory
+    }
+}
+
+impl<T: Drop> From<AllocFailed<T>> for SetupFault {
+    ghost from_gives = { λ _ fault. fault ≡ OutOfMemory };
+
+    fn from(_refused: AllocFailed<T>) -> SetupFault {
+        SetupFault::OutOfMemory
     }
 }

@@ -1,16 +1,13 @@
 //! Reading a setup, phase by phase.
-ghost use Rattle.std.specs.Prelude.{◌≡◌, ◌≤◌, ◌==◌, true, Some, Ok, map, option_map, codes, length, All};
+ghost use Rattle.std.specs.Prelude.{◌≡◌, ◌≤◌, Ok, map, length, All};
 ghost use Rattle.std.specs.List.Sorted.{IsStrictlyIncreasing};
 ghost use Rattle.toml.specs.Parse.{parse_document};
 ghost use Rattle.toml.specs.View.{view, table_view};
-ghost use Rattle.sacn_files.specs.Document.{Gives, version_in};
-ghost use Rattle.sacn_files.specs.Keys.{rows_are_known};
-ghost use Rattle.sacn_files.specs.Values.{has_rows};
-ghost use Rattle.sacn_files.specs.Rows.{each};
+ghost use Rattle.sacn_files.specs.Document.{Gives};
 ghost use Rattle.sacn_node.specs.Setup.{IsPort, port_numbers};
-ghost use Rattle.sacn_node.specs.SetupReading.{port_rows, port_in, keys_are_known, keys_are_there, udp_port_of, order_fault, unless, last_phase, value_phase, after_version, setup_in, setup_or_toml};
+ghost use Rattle.sacn_node.specs.SetupReading.{port_rows, port_keys, keys_are_known, keys_are_there, udp_port_of, order_fault, unless, last_phase, value_phase, after_version, setup_in, setup_or_toml};
 
-use super::checks::order_fault;
+use super::checks::check_order;
 use super::ports::ports_in;
 use super::{NodeSetup, PortSetup, SetupFault};
 use crate::limits::{MAX_PORTS, NEWEST_SETUP};
@@ -18,7 +15,7 @@ use sacn_files::document::{read_table, version_in};
 use sacn_files::keys::{
     has_known_keys, inner_rows_are_known, inner_rows_have_keys, rows_are_known, rows_have_keys,
 };
-use sacn_files::limits::{DEFAULT_UDP_PORT, LEAST_UDP_PORT, MOST_UDP_PORT};
+use sacn_files::limits::{DEFAULT_UDP_PORT, MAX_UDP_PORT, MIN_UDP_PORT};
 use sacn_files::numbered::{has_repeat, in_order};
 use sacn_files::values::{has_rows, rows_at, short_in, value_at};
 use std::alloc::Global;
@@ -31,18 +28,28 @@ fn port_rows(table: &Table) -> &[Value]
     rows_at(table, "port")
 }
 
+/// The keys of a port; each is required.
+fn port_keys(version: u8) -> &'static [&'static str]
+    ensures { map (λ key. key.now) result.now ≡ port_keys version }
+{
+    if version == 1 {
+        &["number", "universe"]
+    } else {
+        &["number", "range"]
+    }
+}
+
+/// The keys of a range; each is required.
+const RANGE_KEYS: &[&str] = &["universe", "slot", "count", "port_slot"];
+
 /// Whether no table has a key that isn't listed for it.
 fn keys_are_known(version: u8, table: &Table) -> bool
     ensures { result ≡ keys_are_known version (table_view table.now) }
 {
     let rows = port_rows(table);
-    let top = has_known_keys(table, &["version", "udp_port", "port"]);
-    if version == 1 {
-        top && rows_are_known(rows, &["number", "universe"])
-    } else {
-        top && rows_are_known(rows, &["number", "range"])
-            && inner_rows_are_known(rows, "range", &["universe", "slot", "count", "port_slot"])
-    }
+    has_known_keys(table, &["version", "udp_port", "port"])
+        && rows_are_known(rows, port_keys(version))
+        && (version == 1 || inner_rows_are_known(rows, "range", RANGE_KEYS))
 }
 
 /// Whether each table has its required keys.
@@ -50,12 +57,8 @@ fn keys_are_there(version: u8, table: &Table) -> bool
     ensures { result ≡ keys_are_there version (table_view table.now) }
 {
     let rows = port_rows(table);
-    if version == 1 {
-        rows_have_keys(rows, &["number", "universe"])
-    } else {
-        rows_have_keys(rows, &["number", "range"])
-            && inner_rows_have_keys(rows, "range", &["universe", "slot", "count", "port_slot"])
-    }
+    rows_have_keys(rows, port_keys(version))
+        && (version == 1 || inner_rows_have_keys(rows, "range", RANGE_KEYS))
 }
 
 /// The UDP port that the node hears.
@@ -63,29 +66,26 @@ fn udp_port_of(table: &Table) -> Option<u16>
     ensures { result ≡ udp_port_of (table_view table.now) }
 {
     match value_at(table, "udp_port") {
-        Some(value) => short_in(value, LEAST_UDP_PORT, MOST_UDP_PORT),
+        Some(value) => short_in(value, MIN_UDP_PORT, MAX_UDP_PORT),
         None => Some(DEFAULT_UDP_PORT),
     }
 }
 
 /// The last phase, over ports in order of number.
 fn order_phase(alloc: Global, udp_port: u16, ports: Vec<PortSetup>) -> Result<NodeSetup, SetupFault>
-    requires port { LEAST_UDP_PORT ≤ udp_port }
+    requires port { MIN_UDP_PORT ≤ udp_port }
     requires rising { IsStrictlyIncreasing (port_numbers ports.items) }
     requires few { length ports.items ≤ MAX_PORTS }
     requires ports { All IsPort ports.items }
     ensures { Gives SetupFault.OutOfMemory result (unless (order_fault ports.items) (record { udp_port = udp_port; ports = ports.items })) }
 {
-    match order_fault(alloc, ports.as_slice()) {
-        Ok(None) => Ok(NodeSetup::new(udp_port, ports)),
-        Ok(Some(fault)) => Err(fault),
-        Err(_) => Err(SetupFault::OutOfMemory),
-    }
+    check_order(alloc, ports.as_slice())?;
+    Ok(NodeSetup::new(udp_port, ports))
 }
 
 /// The last phase, over ports in the file's order.
 fn last_phase(alloc: Global, udp_port: u16, ports: Vec<PortSetup>) -> Result<NodeSetup, SetupFault>
-    requires port { LEAST_UDP_PORT ≤ udp_port }
+    requires port { MIN_UDP_PORT ≤ udp_port }
     requires ports { All IsPort ports.items }
     ensures { Gives SetupFault.OutOfMemory result (last_phase udp_port ports.items) }
 {
@@ -95,27 +95,20 @@ fn last_phase(alloc: Global, udp_port: u16, ports: Vec<PortSetup>) -> Result<Nod
     if MAX_PORTS < ports.len() {
         return Err(SetupFault::Limit);
     }
-    match in_order(alloc, ports) {
-        Ok(sorted) => order_phase(alloc, udp_port, sorted),
-        Err(_) => Err(SetupFault::OutOfMemory),
-    }
+    let sorted = in_order(alloc, ports)?;
+    order_phase(alloc, udp_port, sorted)
 }
 
 /// The values, and then the last phase.
 fn value_phase(alloc: Global, version: u8, table: &Table) -> Result<NodeSetup, SetupFault>
-    ensures { Gives SetupFault.OutOfMemory result (value_phase (udp_port_of (table_view table.now)) (has_rows (codes "port") (table_view table.now)) (each (port_in version) (port_rows (table_view table.now)))) }
+    ensures { Gives SetupFault.OutOfMemory result (value_phase version (table_view table.now)) }
 {
-    let Some(udp_port) = udp_port_of(table) else {
-        return Err(SetupFault::KeyValue);
-    };
+    let udp_port = udp_port_of(table).ok_or(SetupFault::KeyValue)?;
     if !has_rows(table, "port") {
         return Err(SetupFault::KeyValue);
     }
-    match ports_in(alloc, version, port_rows(table)) {
-        Ok(Some(ports)) => last_phase(alloc, udp_port, ports),
-        Ok(None) => Err(SetupFault::KeyValue),
-        Err(_) => Err(SetupFault::OutOfMemory),
-    }
+    let ports = ports_in(alloc, version, port_rows(table))?;
+    last_phase(alloc, udp_port, ports)
 }
 
 /// The phases after the version.
@@ -136,10 +129,8 @@ fn after_version(alloc: Global, version: u8, table: &Table) -> Result<NodeSetup,
 pub fn setup_of(alloc: Global, table: &Table) -> Result<NodeSetup, SetupFault>
     ensures { Gives SetupFault.OutOfMemory result (setup_in (table_view table.now)) }
 {
-    match version_in(value_at(table, "version"), NEWEST_SETUP) {
-        Ok(version) => after_version(alloc, version, table),
-        Err(fault) => Err(SetupFault::from(fault)),
-    }
+    let version = version_in(value_at(table, "version"), NEWEST_SETUP)?;
+    after_version(alloc, version, table)
 }
 
 /// The setup of a text, or the fault of the first phase that fails; OutOfMemory may stand in place of
@@ -147,8 +138,6 @@ pub fn setup_of(alloc: Global, table: &Table) -> Result<NodeSetup, SetupFault>
 pub fn read_node(alloc: Global, text: &str) -> Result<NodeSetup, SetupFault>
     ensures { Gives SetupFault.OutOfMemory result (setup_or_toml (parse_document text.now)) }
 {
-    match read_table(alloc, text) {
-        Ok(table) => setup_of(alloc, &table),
-        Err(fault) => Err(SetupFault::from(fault)),
-    }
+    let table = read_table(alloc, text)?;
+    setup_of(alloc, &table)
 }

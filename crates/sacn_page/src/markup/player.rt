@@ -3,7 +3,7 @@
 /// It follows the script of the page.
 pub const PLAYER: &str = r##"
 // A recording: the document of a moment is asked for, one at a time; a later wish takes the place of one that waits.
-const SECOND = 1000, LEAP = 10000, MOST_MARKS = 256;
+const SECOND = 1000, LEAP = 10000, MAX_MARKS = 256;
 const film = { name: '', length: 0, at: 0, universe: null, alarms: [], isKnown: false, isWanted: false, isAsking: false, isLost: false, from: null };
 
 function spelled(ms) {
@@ -70,7 +70,7 @@ function showMarks() {
     add(part('marks'), 'option').value = String(alarm.ms);
   }
   part('no-alarms').hidden = count > 0;
-  part('most-alarms').hidden = count < MOST_MARKS;
+  part('most-alarms').hidden = count < MAX_MARKS;
   put(part('most-alarms'), `These are the latest ${count}.`);
 }
 function showTime() {

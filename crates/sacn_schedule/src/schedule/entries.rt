@@ -1,6 +1,7 @@
 //! The lines of a schedule, each from its words after the first.
-ghost use Rattle.std.specs.Prelude.{◌≡◌, ◌⊎◌, map, MatchResult, Some, None};
-ghost use Rattle.sacn_schedule.specs.Schedules.{order_in, poll_in, deliver_in, look_in, restart_console_in, restart_node_in, octets_in, noise_in, GivesEvent};
+ghost use Rattle.std.specs.Prelude.{◌≡◌, map};
+ghost use Rattle.sacn_schedule.specs.Reads.{GivesAs};
+ghost use Rattle.sacn_schedule.specs.Schedules.{wide, narrow, number_of, order_in, poll_in, deliver_in, look_in, restart_console_in, restart_node_in, octets_of, noise_in, GivesEvent};
 
 use crate::event::Event;
 use hex::FromHexError;
@@ -9,18 +10,41 @@ use sacn_files::faults::TextFault;
 use sacn_files::words::{byte_in, index_in, number_in};
 use std::alloc::Global;
 
+/// The number of a console, a node or a datagram.
+#[tactic(auto, unfolding(crate::specs::Schedules::number_of))]
+fn index_of(line: usize, word: &str) -> Result<usize, TextFault>
+    ensures { result ≡ number_of line wide word.now }
+{
+    index_in(word).ok_or(TextFault::Number(line))
+}
+
+/// A moment in milliseconds.
+#[tactic(auto, unfolding(crate::specs::Schedules::number_of))]
+fn moment_of(line: usize, word: &str) -> Result<u64, TextFault>
+    ensures { result ≡ number_of line wide word.now }
+{
+    number_in(u64::MAX, word).ok_or(TextFault::Number(line))
+}
+
+/// A port, or the first number of a console's packets.
+#[tactic(auto, unfolding(crate::specs::Schedules::number_of))]
+fn byte_of(line: usize, word: &str) -> Result<u8, TextFault>
+    ensures { result ≡ number_of line narrow word.now }
+{
+    byte_in(word).ok_or(TextFault::Number(line))
+}
+
 /// A console, a moment and a command; the command is looked at first.
 pub(super) fn order_in(line: usize, words: &[&str]) -> Result<Event, TextFault>
     ensures { GivesEvent result (order_in line (map (λ w. w.now) words.now)) }
 {
     match words {
-        [console, moment, command @ ..] => match command_of(command, line) {
-            Ok(command) => match (index_in(console), number_in(u64::MAX, moment)) {
-                (Some(console), Some(moment)) => Ok(Event::Order(console, moment, command)),
-                _ => Err(TextFault::Number(line)),
-            },
-            Err(fault) => Err(fault),
-        },
+        [console, moment, command @ ..] => {
+            let command = command_of(command, line)?;
+            let console = index_of(line, console)?;
+            let moment = moment_of(line, moment)?;
+            Ok(Event::Order(console, moment, command))
+        }
         _ => Err(TextFault::WordCount(line)),
     }
 }
@@ -30,10 +54,11 @@ pub(super) fn poll_in(line: usize, words: &[&str]) -> Result<Event, TextFault>
     ensures { GivesEvent result (poll_in line (map (λ w. w.now) words.now)) }
 {
     match words {
-        [console, moment] => match (index_in(console), number_in(u64::MAX, moment)) {
-            (Some(console), Some(moment)) => Ok(Event::Poll(console, moment)),
-            _ => Err(TextFault::Number(line)),
-        },
+        [console, moment] => {
+            let console = index_of(line, console)?;
+            let moment = moment_of(line, moment)?;
+            Ok(Event::Poll(console, moment))
+        }
         _ => Err(TextFault::WordCount(line)),
     }
 }
@@ -44,16 +69,10 @@ pub(super) fn deliver_in(line: usize, words: &[&str]) -> Result<Event, TextFault
 {
     match words {
         [datagram, node, moment] => {
-            match (
-                index_in(datagram),
-                index_in(node),
-                number_in(u64::MAX, moment),
-            ) {
-                (Some(datagram), Some(node), Some(moment)) => {
-                    Ok(Event::Deliver(datagram, node, moment))
-                }
-                _ => Err(TextFault::Number(line)),
-            }
+            let datagram = index_of(line, datagram)?;
+            let node = index_of(line, node)?;
+            let moment = moment_of(line, moment)?;
+            Ok(Event::Deliver(datagram, node, moment))
         }
         _ => Err(TextFault::WordCount(line)),
     }
@@ -65,10 +84,10 @@ pub(super) fn look_in(line: usize, words: &[&str]) -> Result<Event, TextFault>
 {
     match words {
         [node, port, moment] => {
-            match (index_in(node), byte_in(port), number_in(u64::MAX, moment)) {
-                (Some(node), Some(port), Some(moment)) => Ok(Event::Look(node, port, moment)),
-                _ => Err(TextFault::Number(line)),
-            }
+            let node = index_of(line, node)?;
+            let port = byte_of(line, port)?;
+            let moment = moment_of(line, moment)?;
+            Ok(Event::Look(node, port, moment))
         }
         _ => Err(TextFault::WordCount(line)),
     }
@@ -79,10 +98,11 @@ pub(super) fn restart_console_in(line: usize, words: &[&str]) -> Result<Event, T
     ensures { GivesEvent result (restart_console_in line (map (λ w. w.now) words.now)) }
 {
     match words {
-        [console, first] => match (index_in(console), byte_in(first)) {
-            (Some(console), Some(first)) => Ok(Event::RestartConsole(console, first)),
-            _ => Err(TextFault::Number(line)),
-        },
+        [console, first] => {
+            let console = index_of(line, console)?;
+            let first = byte_of(line, first)?;
+            Ok(Event::RestartConsole(console, first))
+        }
         _ => Err(TextFault::WordCount(line)),
     }
 }
@@ -92,18 +112,15 @@ pub(super) fn restart_node_in(line: usize, words: &[&str]) -> Result<Event, Text
     ensures { GivesEvent result (restart_node_in line (map (λ w. w.now) words.now)) }
 {
     match words {
-        [node] => match index_in(node) {
-            Some(node) => Ok(Event::RestartNode(node)),
-            None => Err(TextFault::Number(line)),
-        },
+        [node] => Ok(Event::RestartNode(index_of(line, node)?)),
         _ => Err(TextFault::WordCount(line)),
     }
 }
 
 /// The octets of a word in hexadecimal digits of either case, of which `-` has none.
-fn octets_in(alloc: Global, line: usize, word: &str) -> Result<Vec<u8>, TextFault>
-    ensures { MatchResult result (λ octets. octets_in word.now ≡ Some octets.items)
-        (λ fault. (fault ≡ TextFault.OutOfMemory) ⊎ ((fault ≡ TextFault.Hex line) × (octets_in word.now ≡ None))) }
+#[tactic(auto, unfolding(crate::specs::Schedules::octets_of))]
+fn octets_of(alloc: Global, line: usize, word: &str) -> Result<Vec<u8>, TextFault>
+    ensures { GivesAs (λ octets. octets.items) TextFault.OutOfMemory result (octets_of line word.now) }
 {
     if word == "-" {
         return Ok(Vec::new(alloc));
@@ -120,13 +137,12 @@ pub(super) fn noise_in(alloc: Global, line: usize, words: &[&str]) -> Result<Eve
     ensures { GivesEvent result (noise_in line (map (λ w. w.now) words.now)) }
 {
     match words {
-        [node, moment, octets] => match (index_in(node), number_in(u64::MAX, moment)) {
-            (Some(node), Some(moment)) => match octets_in(alloc, line, octets) {
-                Ok(octets) => Ok(Event::Noise(node, moment, octets)),
-                Err(fault) => Err(fault),
-            },
-            _ => Err(TextFault::Number(line)),
-        },
+        [node, moment, octets] => {
+            let node = index_of(line, node)?;
+            let moment = moment_of(line, moment)?;
+            let octets = octets_of(alloc, line, octets)?;
+            Ok(Event::Noise(node, moment, octets))
+        }
         _ => Err(TextFault::WordCount(line)),
     }
 }

@@ -1,9 +1,11 @@
 //! Why a world's file is refused.
 ghost use Rattle.std.specs.Prelude.{◌≡◌};
+ghost use Rattle.sacn_schedule.specs.declared.world_file.fault.WorldTextFault.TheVariants.{OutOfMemory};
 
 use sacn_console::ShowFault;
 use sacn_files::faults::FileFault;
 use sacn_node::SetupFault;
+use std::alloc::AllocFailed;
 use thiserror::Error;
 
 /// Why a world's file is refused: the first phase of reading it that fails (profile). Nothing was made.
@@ -75,5 +77,13 @@ impl From<FileFault> for WorldTextFault {
             FileFault::KeyValue => WorldTextFault::KeyValue,
             FileFault::Version => WorldTextFault::Version,
         }
+    }
+}
+
+impl<T: Drop> From<AllocFailed<T>> for WorldTextFault {
+    ghost from_gives = { λ _ fault. fault ≡ OutOfMemory };
+
+    fn from(_refused: AllocFailed<T>) -> WorldTextFault {
+        WorldTextFault::OutOfMemory
     }
 }

@@ -25,23 +25,16 @@ fn first_of(row: &Value) -> Option<u8>
 fn table_at<'a>(row: &'a Value, key: &str) -> Option<&'a Table>
     ensures { option_map (λ t. table_view t.now) result ≡ table_at key.now (view row.now) }
 {
-    match value_in(row, key) {
-        Some(value) => value.as_table(),
-        None => None,
-    }
+    value_in(row, key)?.as_table()
 }
 
 /// A console's show, not yet read, and its first number.
 fn console_in(row: &Value) -> Option<(&Table, u8)>
     ensures { option_map (λ c. (table_view c.0.now, c.1)) result ≡ console_in (view row.now) }
 {
-    match first_of(row) {
-        Some(first) => match table_at(row, "show") {
-            Some(table) => Some((table, first)),
-            None => None,
-        },
-        None => None,
-    }
+    let first = first_of(row)?;
+    let table = table_at(row, "show")?;
+    Some((table, first))
 }
 
 fn is_console(row: &Value) -> bool
@@ -117,13 +110,11 @@ impl ReadMember for Desks {
         number: usize,
         row: &Value,
     ) -> Result<(Show, u8), WorldTextFault> {
-        match console_in(row) {
-            Some((table, first)) => match show_of(alloc, table) {
-                Ok(show) => Ok((show, first)),
-                Err(ShowFault::OutOfMemory) => Err(WorldTextFault::OutOfMemory),
-                Err(fault) => Err(WorldTextFault::Console(number, fault)),
-            },
-            None => Err(WorldTextFault::KeyValue),
+        let (table, first) = console_in(row).ok_or(WorldTextFault::KeyValue)?;
+        match show_of(alloc, table) {
+            Ok(show) => Ok((show, first)),
+            Err(ShowFault::OutOfMemory) => Err(WorldTextFault::OutOfMemory),
+            Err(fault) => Err(WorldTextFault::Console(number, fault)),
         }
     }
 }
@@ -140,13 +131,11 @@ impl ReadMember for Setups {
     ghost reads = { λ _ number d. setup_at number d };
 
     fn read(&self, alloc: Global, number: usize, row: &Value) -> Result<NodeSetup, WorldTextFault> {
-        match table_at(row, "setup") {
-            Some(table) => match setup_of(alloc, table) {
-                Ok(setup) => Ok(setup),
-                Err(SetupFault::OutOfMemory) => Err(WorldTextFault::OutOfMemory),
-                Err(fault) => Err(WorldTextFault::Node(number, fault)),
-            },
-            None => Err(WorldTextFault::KeyValue),
+        let table = table_at(row, "setup").ok_or(WorldTextFault::KeyValue)?;
+        match setup_of(alloc, table) {
+            Ok(setup) => Ok(setup),
+            Err(SetupFault::OutOfMemory) => Err(WorldTextFault::OutOfMemory),
+            Err(fault) => Err(WorldTextFault::Node(number, fault)),
         }
     }
 }
@@ -161,13 +150,7 @@ pub(super) fn read_members<R: ReadMember>(
 {
     let mut found = Vec::new(alloc);
     for i in 0..rows.len() {
-        match reader.read(alloc, i, &rows[i]) {
-            Ok(member) => match found.push(member) {
-                Ok(()) => {}
-                Err(_) => return Err(WorldTextFault::OutOfMemory),
-            },
-            Err(fault) => return Err(fault),
-        }
+        found.push(reader.read(alloc, i, &rows[i])?)?;
     }
     Ok(found)
 }

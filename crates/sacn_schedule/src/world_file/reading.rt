@@ -62,19 +62,12 @@ fn last_phase(alloc: Global, consoles: &[Value], nodes: &[Value]) -> Result<Memb
     ensures world { GivesWorld result (last_phase (map view consoles.now) (map view nodes.now)) }
     ensures different { IfOk result (λ world. HaveOwnCids world.0.items) }
 {
-    match read_members(alloc, &Desks, consoles) {
-        Ok(desks) => match read_members(alloc, &Setups, nodes) {
-            Ok(setups) => {
-                if has_same_cid(desks.as_slice()) {
-                    Err(WorldTextFault::SameCid)
-                } else {
-                    Ok((desks, setups))
-                }
-            }
-            Err(fault) => Err(fault),
-        },
-        Err(fault) => Err(fault),
+    let desks = read_members(alloc, &Desks, consoles)?;
+    let setups = read_members(alloc, &Setups, nodes)?;
+    if has_same_cid(desks.as_slice()) {
+        return Err(WorldTextFault::SameCid);
     }
+    Ok((desks, setups))
 }
 
 /// The values, and then the last phase.
@@ -107,10 +100,8 @@ fn world_of(alloc: Global, table: &Table) -> Result<Members, WorldTextFault>
     ensures world { GivesWorld result (world_in (table_view table.now)) }
     ensures different { IfOk result (λ world. HaveOwnCids world.0.items) }
 {
-    match version_in(value_at(table, "version"), NEWEST_WORLD) {
-        Ok(_) => after_version(alloc, table),
-        Err(fault) => Err(WorldTextFault::from(fault)),
-    }
+    version_in(value_at(table, "version"), NEWEST_WORLD)?;
+    after_version(alloc, table)
 }
 
 /// The world of a text: its consoles, each with the first number of its packets, and its nodes' setups,
@@ -126,8 +117,6 @@ pub fn read_world(
     ensures world { GivesWorld result (world_or_toml (parse_document text.now)) }
     ensures different { IfOk result (λ world. HaveOwnCids world.0.items) }
 {
-    match read_table(alloc, text) {
-        Ok(table) => world_of(alloc, &table),
-        Err(fault) => Err(WorldTextFault::from(fault)),
-    }
+    let table = read_table(alloc, text)?;
+    world_of(alloc, &table)
 }

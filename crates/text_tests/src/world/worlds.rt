@@ -1,60 +1,173 @@
-//! Worked rows of a world of one console and one node, on universe 1.
+//! The worked rows of a world of one console and one node, on universe 1.
+use fixtures::packets::{CID, empty_data};
+use fixtures::texts::{DESK, ONE_PORT};
 use sacn_console::{Command, Show, read_show};
 use sacn_node::{NodeSetup, NodeTaken, read_node};
 use sacn_root::PacketFault;
 use sacn_sources::Taken;
 use sacn_world::{Answer, Event, NewFault, World, WorldFault};
-use std::alloc::{AllocError, Global};
-use std::test::Fail;
+use std::alloc::Global;
+use std::test::*;
 
-const DESK: &str =
-    "version = 1\ncid = \"00010203-0405-0607-0809-0a0b0c0d0e0f\"\nname = \"Desk\"\nuniverses = [1]\n[[cue]]\nnumber = 1\nfade = 0\nlevels = [[1, 65535]]\n[[patch]]\nchannel = 1\nuniverse = 1\nslot = 1\n";
+/// An event without octets of its own.
+#[derive(Clone, Copy)]
+enum Deed {
+    /// The console's cue is called at 0.
+    Go,
+    /// A console is polled at 0.
+    Poll(usize),
+    /// A datagram comes to the node at a moment.
+    Deliver(usize, u64),
+    /// The console starts anew with this first number.
+    RestartConsole(u8),
+    RestartNode(usize),
+}
 
-const ONE_PORT: &str = "version = 1\n[[port]]\nnumber = 1\nuniverse = 1\n";
+/// What a node holds of the console: number, priority, the levels of slots 1 and 2, and the moment.
+type Held = (u8, u8, u8, u8, u64);
 
-const CID: [u8; 16] = [0, 1, 2, 3, 4, 5, 6, 7, 8, 9, 10, 11, 12, 13, 14, 15];
+/// What happens in a world, and what is then so.
+enum Step {
+    /// Polls so many times, a second apart from 0 on, each of which sends a datagram.
+    Polls(u64),
+    /// An event is accepted, or refused so.
+    Does(Deed, Option<WorldFault>),
+    /// The datagrams from one number on, up to another, are all answered so, or refused, by the node at 0.
+    Take(usize, usize, Result<NodeTaken, WorldFault>),
+    /// The place of the packet that the node holds.
+    Place(Option<usize>),
+    Holds(Option<Held>),
+    /// Slot 1 of a port at a moment, none where there is no frame.
+    Look(u8, u64, Option<u8>),
+}
 
-fn shows(alloc: Global, count: u8, first: u8) -> Result<Vec<(Show, u8)>, Fail> {
+const HELD: Result<NodeTaken, WorldFault> = Ok(NodeTaken::FromTable(Taken::Held));
+
+const LATE: Result<NodeTaken, WorldFault> = Ok(NodeTaken::FromTable(Taken::OutOfSequence));
+
+/// The console's first number, and what happens.
+struct Story {
+    name: &'static str,
+    first: u8,
+    steps: &'static [Step],
+}
+
+const STORIES: [Story; 5] = [
+    Story {
+        name: "after a gap of 237 twenty are late",
+        first: 0,
+        steps: &[
+            Step::Polls(258),
+            Step::Take(0, 1, HELD),
+            Step::Take(237, 257, LATE),
+            Step::Take(257, 258, HELD),
+            Step::Place(Some(257)),
+        ],
+    },
+    Story {
+        name: "a gap of 235 is bridged",
+        first: 0,
+        steps: &[
+            Step::Polls(237),
+            Step::Take(0, 1, HELD),
+            Step::Take(236, 237, HELD),
+        ],
+    },
+    Story {
+        name: "a new life and an old one",
+        first: 30,
+        steps: &[
+            Step::Polls(1),
+            Step::Take(0, 1, HELD),
+            Step::Place(Some(0)),
+            Step::Does(Deed::RestartConsole(20), None),
+            Step::Polls(12),
+            Step::Take(1, 2, LATE),
+            Step::Holds(Some((30, 100, 0, 0, 0))),
+            Step::Take(0, 1, Err(WorldFault::OldLife)),
+            Step::Place(Some(0)),
+            Step::Holds(Some((30, 100, 0, 0, 0))),
+            Step::Take(2, 12, LATE),
+            Step::Take(12, 13, HELD),
+            Step::Place(Some(12)),
+            Step::Take(0, 1, Err(WorldFault::OldLife)),
+            Step::Place(Some(12)),
+            Step::Holds(Some((31, 100, 0, 0, 0))),
+        ],
+    },
+    Story {
+        name: "too far behind, and what isn't there",
+        first: 0,
+        steps: &[
+            Step::Polls(21),
+            Step::Take(20, 21, HELD),
+            Step::Take(0, 1, Err(WorldFault::TooFarBehind)),
+            Step::Take(1, 2, LATE),
+            Step::Take(999, 1000, Err(WorldFault::NoDatagram)),
+            Step::Does(Deed::Poll(5), Some(WorldFault::NoConsole)),
+            Step::Does(Deed::RestartNode(5), Some(WorldFault::NoNode)),
+        ],
+    },
+    // Levels of the world of one cue.
+    Story {
+        name: "a node starts anew",
+        first: 0,
+        steps: &[
+            Step::Look(1, 0, Some(0)),
+            Step::Does(Deed::Go, None),
+            Step::Polls(1),
+            Step::Does(Deed::Deliver(0, 1000), None),
+            Step::Look(1, 3499, Some(255)),
+            Step::Place(Some(0)),
+            Step::Holds(Some((0, 100, 255, 0, 1000))),
+            Step::Does(Deed::RestartNode(0), None),
+            Step::Look(1, 900, Some(0)),
+            Step::Place(None),
+            Step::Holds(None),
+            Step::Look(2, 3500, None),
+        ],
+    },
+];
+
+/// So many shows of the desk, each with this first number.
+fn shows(alloc: Global, count: u8, first: u8) -> Option<Vec<(Show, u8)>> {
     let mut shows = Vec::new(alloc);
     for _ in 0..count {
-        let show = read_show(alloc, DESK).ok().ok_or("refused")?;
-        if shows.push((show, first)).is_err() {
-            return Err("no room".into());
-        }
+        let show = read_show(alloc, DESK).ok()?;
+        shows.push((show, first)).ok()?;
     }
-    Ok(shows)
+    Some(shows)
 }
 
-fn setups(alloc: Global) -> Result<Vec<NodeSetup>, Fail> {
+fn setups(alloc: Global) -> Option<Vec<NodeSetup>> {
+    let setup = read_node(alloc, ONE_PORT).ok()?;
     let mut setups = Vec::new(alloc);
-    let setup = read_node(alloc, ONE_PORT).ok().ok_or("refused")?;
-    if setups.push(setup).is_err() {
-        return Err("no room".into());
-    }
-    Ok(setups)
+    setups.push(setup).ok()?;
+    Some(setups)
 }
 
-fn world(alloc: Global, first: u8) -> Result<World, Fail> {
-    let shows = shows(alloc, 1, first)?;
+/// A world of so many consoles of the desk. None where there is no memory.
+fn made(alloc: Global, count: u8, first: u8) -> Option<Result<World, NewFault>> {
+    let shows = shows(alloc, count, first)?;
     let setups = setups(alloc)?;
-    match World::new(alloc, shows, setups) {
-        Ok(world) => Ok(world),
-        Err(_) => Err("no world".into()),
-    }
+    Some(World::new(alloc, shows, setups))
 }
 
-/// Polls so many times, a second apart from 0 on. Answers how many datagrams were sent.
-fn poll(world: &mut World, count: u64) -> u64 {
-    let mut sent = 0;
+fn world(alloc: Global, first: u8) -> Option<World> {
+    made(alloc, 1, first)?.ok()
+}
+
+fn polls(world: &mut World, count: u64) -> bool {
     for second in 0..count {
-        if let Ok(Answer::Sent(_)) = world.step(&Event::Poll(0, second.saturating_mul(1000))) {
-            sent = second.saturating_add(1);
+        let event = Event::Poll(0, second.saturating_mul(1000));
+        if !matches!(world.step(&event), Ok(Answer::Sent(_))) {
+            return false;
         }
     }
-    sent
+    true
 }
 
-/// What the node answers to a datagram, or the fault.
+/// What the node answers to a datagram at 0, or the fault.
 fn take(world: &mut World, datagram: usize) -> Result<NodeTaken, WorldFault> {
     match world.step(&Event::Deliver(datagram, 0, 0)) {
         Ok(Answer::Taken(reply)) => Ok(reply),
@@ -63,19 +176,31 @@ fn take(world: &mut World, datagram: usize) -> Result<NodeTaken, WorldFault> {
     }
 }
 
-/// Whether the datagrams from one number on, up to another, are all out of sequence.
-fn all_late(world: &mut World, from: usize, to: usize) -> bool {
-    for datagram in from..to {
-        if take(world, datagram) != Ok(NodeTaken::FromTable(Taken::OutOfSequence)) {
-            return false;
+fn holds(world: &World, wanted: Option<Held>) -> bool {
+    match (world.held(0, 1, &CID), wanted) {
+        (Some(view), Some((number, priority, first, second, moment))) => {
+            (view.number(), view.priority(), view.moment()) == (number, priority, moment)
+                && match view.levels() {
+                    Some(levels) => (levels.at(0), levels.at(1)) == (first, second),
+                    None => false,
+                }
         }
+        (None, None) => true,
+        _ => false,
     }
-    true
 }
 
-const HELD: Result<NodeTaken, WorldFault> = Ok(NodeTaken::FromTable(Taken::Held));
+fn event(deed: Deed) -> Event {
+    match deed {
+        Deed::Go => Event::Order(0, 0, Command::Go),
+        Deed::Poll(console) => Event::Poll(console, 0),
+        Deed::Deliver(datagram, now) => Event::Deliver(datagram, 0, now),
+        Deed::RestartConsole(first) => Event::RestartConsole(0, first),
+        Deed::RestartNode(node) => Event::RestartNode(node),
+    }
+}
 
-/// The first slot that port 1 shows, none where there is no frame.
+/// Slot 1 of a port, none where there is no frame.
 fn look(world: &mut World, port: u8, now: u64) -> Option<u8> {
     match world.step(&Event::Look(0, port, now)) {
         Ok(Answer::Shown(frame)) => Some(frame[1]),
@@ -83,159 +208,115 @@ fn look(world: &mut World, port: u8, now: u64) -> Option<u8> {
     }
 }
 
-#[test]
-fn after_a_gap_of_237_twenty_are_late(rt: HostRuntime) -> Result<(), Fail> {
-    let mut world = world(rt.alloc(), 0)?;
-    assert_eq!(rt; poll(&mut world, 258), 258);
-    assert_eq!(rt; take(&mut world, 0), HELD);
-    assert!(rt; all_late(&mut world, 237, 257));
-    assert_eq!(rt; take(&mut world, 257), HELD);
-    assert_eq!(rt; world.place(0, &CID, 1), Some(257));
-    Ok(())
-}
-
-#[test]
-fn a_gap_of_235_is_bridged(rt: HostRuntime) -> Result<(), Fail> {
-    let mut world = world(rt.alloc(), 0)?;
-    assert_eq!(rt; poll(&mut world, 237), 237);
-    assert_eq!(rt; take(&mut world, 0), HELD);
-    assert_eq!(rt; take(&mut world, 236), HELD);
-    Ok(())
-}
-
-#[test]
-fn a_new_life_and_an_old_one(rt: HostRuntime) -> Result<(), Fail> {
-    let mut world = world(rt.alloc(), 30)?;
-    assert_eq!(rt; poll(&mut world, 1), 1);
-    assert_eq!(rt; take(&mut world, 0), HELD);
-    assert_eq!(rt; world.place(0, &CID, 1), Some(0));
-    assert!(rt; world.step(&Event::RestartConsole(0, 20)).is_ok());
-    assert_eq!(rt; poll(&mut world, 12), 12);
-    assert!(rt; all_late(&mut world, 1, 2));
-    assert_eq!(rt; held(&world), Some((30, 100, 0, 0, 0)));
-    assert_eq!(rt; take(&mut world, 0), Err(WorldFault::OldLife));
-    assert_eq!(rt; world.place(0, &CID, 1), Some(0));
-    assert_eq!(rt; held(&world), Some((30, 100, 0, 0, 0)));
-    assert!(rt; all_late(&mut world, 2, 12));
-    assert_eq!(rt; take(&mut world, 12), HELD);
-    assert_eq!(rt; world.place(0, &CID, 1), Some(12));
-    assert_eq!(rt; take(&mut world, 0), Err(WorldFault::OldLife));
-    assert_eq!(rt; world.place(0, &CID, 1), Some(12));
-    assert_eq!(rt; held(&world), Some((31, 100, 0, 0, 0)));
-    Ok(())
-}
-
-#[test]
-fn too_far_behind(rt: HostRuntime) -> Result<(), Fail> {
-    let mut world = world(rt.alloc(), 0)?;
-    assert_eq!(rt; poll(&mut world, 21), 21);
-    assert_eq!(rt; take(&mut world, 20), HELD);
-    assert_eq!(rt; take(&mut world, 0), Err(WorldFault::TooFarBehind));
-    assert!(rt; all_late(&mut world, 1, 2));
-    assert_eq!(rt; take(&mut world, 999), Err(WorldFault::NoDatagram));
-    assert_eq!(rt;
-        world.step(&Event::Poll(5, 0)).err(),
-        Some(WorldFault::NoConsole)
-    );
-    assert_eq!(rt;
-        world.step(&Event::RestartNode(5)).err(),
-        Some(WorldFault::NoNode)
-    );
-    Ok(())
-}
-
-#[test]
-fn two_shows_of_one_cid(rt: HostRuntime) -> Result<(), Fail> {
-    let shows = shows(rt.alloc(), 2, 0)?;
-    let setups = setups(rt.alloc())?;
-    assert_eq!(rt;
-        World::new(rt.alloc(), shows, setups).err(),
-        Some(NewFault::SameCid)
-    );
-    Ok(())
-}
-
-/// What the node holds of the console: number, priority, the levels of slots 1 and 2, and the moment.
-fn held(world: &World) -> Option<(u8, u8, u8, u8, u64)> {
-    let view = world.held(0, 1, &CID)?;
-    let levels = view.levels()?;
-    Some((
-        view.number(),
-        view.priority(),
-        levels.at(0),
-        levels.at(1),
-        view.moment(),
-    ))
-}
-
-/// Levels of the world of one cue; the node starts anew before the look at 900.
-#[test]
-fn a_node_starts_anew(rt: HostRuntime) -> Result<(), Fail> {
-    let mut world = world(rt.alloc(), 0)?;
-    assert_eq!(rt; look(&mut world, 1, 0), Some(0));
-    assert!(rt; world.step(&Event::Order(0, 0, Command::Go)).is_ok());
-    assert_eq!(rt; poll(&mut world, 1), 1);
-    assert!(rt; world.step(&Event::Deliver(0, 0, 1000)).is_ok());
-    assert_eq!(rt; look(&mut world, 1, 3499), Some(255));
-    assert_eq!(rt; world.place(0, &CID, 1), Some(0));
-    assert_eq!(rt; held(&world), Some((0, 100, 255, 0, 1000)));
-    assert!(rt; world.step(&Event::RestartNode(0)).is_ok());
-    assert_eq!(rt; look(&mut world, 1, 900), Some(0));
-    assert_eq!(rt; world.place(0, &CID, 1), None);
-    assert!(rt; world.held(0, 1, &CID).is_none());
-    assert_eq!(rt; look(&mut world, 2, 3500), None);
-    Ok(())
-}
-
-/// The shortest data packet, without slots, up to its source name.
-const SHORTEST: [u8; 48] = [
-    0x00, 0x10, 0x00, 0x00, 0x41, 0x53, 0x43, 0x2d, 0x45, 0x31, 0x2e, 0x31, 0x37, 0x00, 0x00, 0x00,
-    0x70, 0x6e, 0x00, 0x00, 0x00, 0x04, 0, 1, 2, 3, 4, 5, 6, 7, 8, 9, 10, 11, 12, 13, 14, 15, 0x70,
-    0x58, 0x00, 0x00, 0x00, 0x02, 0x44, 0x65, 0x73, 0x6b,
-];
-
-/// And what follows the name, which has 60 octets more.
-const SHORTEST_END: [u8; 18] = [
-    0x64, 0x00, 0x00, 0x00, 0x00, 0x00, 0x01, 0x70, 0x0b, 0x02, 0xa1, 0x00, 0x00, 0x00, 0x01, 0x00,
-    0x01, 0x00,
-];
-
-fn shortest(alloc: Global) -> Result<Vec<u8>, AllocError> {
-    let mut octets = Vec::new(alloc);
-    octets.extend_from_slice(&SHORTEST)?;
-    octets.extend_from_slice(&[0; 60])?;
-    octets.extend_from_slice(&SHORTEST_END)?;
-    Ok(octets)
-}
-
-/// Octets of no length are noise; the shortest data packet is none.
-#[test]
-fn noise(rt: HostRuntime) -> Result<(), Fail> {
-    let mut world = world(rt.alloc(), 0)?;
-    match world.step(&Event::Noise(0, 0, Vec::new(rt.alloc()))) {
-        Ok(Answer::Taken(reply)) => {
-            assert_eq!(rt; reply, NodeTaken::Refused(PacketFault::TooShort));
+fn take_alike(
+    world: &mut World,
+    from: usize,
+    to: usize,
+    wanted: Result<NodeTaken, WorldFault>,
+) -> bool {
+    for datagram in from..to {
+        if take(world, datagram) != wanted {
+            return false;
         }
-        _ => return Err("not taken".into()),
     }
-    let packet = shortest(rt.alloc())?;
-    assert_eq!(rt; packet.len(), 126);
-    let fault = world.step(&Event::Noise(0, 0, packet)).err();
-    assert_eq!(rt; fault, Some(WorldFault::NoiseIsPacket));
-    Ok(())
+    true
+}
+
+fn is_so(world: &mut World, step: &Step) -> bool {
+    match step {
+        Step::Polls(count) => polls(world, *count),
+        Step::Does(deed, fault) => world.step(&event(*deed)).err() == *fault,
+        Step::Take(from, to, wanted) => take_alike(world, *from, *to, *wanted),
+        Step::Place(place) => world.place(0, &CID, 1) == *place,
+        Step::Holds(wanted) => holds(world, *wanted),
+        Step::Look(port, now, level) => look(world, *port, *now) == *level,
+    }
+}
+
+/// The place of the first step that isn't so.
+fn wrong_step(world: &mut World, steps: &[Step]) -> Option<usize> {
+    for place in 0..steps.len() {
+        if !is_so(world, &steps[place]) {
+            return Some(place);
+        }
+    }
+    None
+}
+
+/// The place of the first step that isn't so at a new world, if that can be made.
+fn wrong_of_new(alloc: Global, story: &Story) -> Option<Option<usize>> {
+    let mut world = world(alloc, story.first)?;
+    Some(wrong_step(&mut world, story.steps))
 }
 
 #[test]
-fn a_run_stops_at_the_first_fault(rt: HostRuntime) -> Result<(), Fail> {
-    let mut world = world(rt.alloc(), 0)?;
+fn stories_of_a_world(rt: HostRuntime) {
+    for story in &STORIES {
+        assert_eq!(rt;
+            wrong_of_new(rt.alloc(), story),
+            Some(None),
+            "{}",
+            story.name
+        );
+    }
+}
+
+/// What a world answers to noise: octets of no length are noise, and the shortest data packet is none.
+fn answers_noise(alloc: Global, world: &mut World, packet: Vec<u8>) -> bool {
+    let is_taken = match world.step(&Event::Noise(0, 0, Vec::new(alloc))) {
+        Ok(Answer::Taken(reply)) => reply == NodeTaken::Refused(PacketFault::TooShort),
+        _ => false,
+    };
+    let is_shortest = packet.len() == 126;
+    let fault = world.step(&Event::Noise(0, 0, packet)).err();
+    is_taken && is_shortest && fault == Some(WorldFault::NoiseIsPacket)
+}
+
+fn is_noise_answered(alloc: Global) -> Option<bool> {
+    let mut world = world(alloc, 0)?;
+    let packet = empty_data(alloc).ok()?;
+    Some(answers_noise(alloc, &mut world, packet))
+}
+
+/// Whether a run of four events stops at the third, and leaves what the first two made.
+fn stops_at_fault(world: &mut World) -> bool {
     let events = [
         Event::Poll(0, 0),
         Event::Deliver(0, 0, 0),
         Event::Deliver(1, 0, 0),
         Event::RestartNode(0),
     ];
-    let fault = world.run(&events[..]).err().ok_or("no fault")?;
-    assert_eq!(rt; (fault.step, fault.fault), (2, WorldFault::NoDatagram));
-    assert_eq!(rt; world.place(0, &CID, 1), Some(0));
-    Ok(())
+    match world.run(&events[..]) {
+        Ok(_) => false,
+        Err(stopped) => {
+            (stopped.step, stopped.fault) == (2, WorldFault::NoDatagram)
+                && world.place(0, &CID, 1) == Some(0)
+        }
+    }
+}
+
+fn is_run_stopped(alloc: Global) -> Option<bool> {
+    let mut world = world(alloc, 0)?;
+    Some(stops_at_fault(&mut world))
+}
+
+/// Whether two shows of one CID make no world.
+fn is_same_refused(alloc: Global) -> bool {
+    match made(alloc, 2, 0) {
+        Some(Err(fault)) => fault == NewFault::SameCid,
+        _ => false,
+    }
+}
+
+#[test]
+fn worlds_runs_and_noise(rt: HostRuntime) {
+    let found = [
+        Some(is_same_refused(rt.alloc())),
+        is_noise_answered(rt.alloc()),
+        is_run_stopped(rt.alloc()),
+    ];
+    assert!(rt;
+        found == [Some(true); 3],
+        "one CID, noise, a run: {found:?}"
+    );
 }

@@ -7,6 +7,6 @@ loop-left-preserved g c =
     let step : c.min-step.result ≤ c.loop-left.left = omega (arith, c.min-step.ensures) in (
       omega (arith, step, c.loop-left.invariant.0),
       left_out_more (g.R.Read.remaining c.args.reader.now) (g.R.Read.remaining c.loop-left.reader) (g.R.Read.remaining c.leave_piece.new.reader)
-          (c.args.count - c.loop-left.left) c.min-step.result (c.args.count - (c.loop-left.left - c.min-step.result)) c.loop-left.invariant.1 c.in-Ok.ensures.octets
+          (c.args.count - c.loop-left.left) c.min-step.result (c.args.count - (c.loop-left.left - c.min-step.result)) c.loop-left.invariant.1 c.in_ok-leave_piece.ensures.octets
           (omega (arith, step, c.loop-left.invariant.0)),
     )

@@ -1,7 +1,7 @@
 use Rattle.std.proofs.Common.{◌≡◌, ℕ, ◌<◌, ◌+◌, ◌*◌, ◌/◌, length, get_or}
 use Rattle.sacn_cues.specs.declared.limits.TheConstants.{FULL}
 use Rattle.sacn_cues.specs.Levels.{Ramp, level_in}
-use Rattle.sacn_cues.specs.Shown.{HasLevel}
+use Rattle.sacn_cues.specs.LevelOctets.{HasLevel}
 use Rattle.sacn_cues.proofs.fade.fill_octets.Given as goal
 
 abbrev pub invariant-loop-at : goal.invariant-loop-at

@@ -1,5 +1,5 @@
 use Rattle.std.proofs.Common.{◌≡◌, ◌++◌, map, length, drop}
-use Rattle.sacn_edge.specs.Shown.{unshown}
+use Rattle.sacn_edge.specs.PortLines.{unshown}
 use Rattle.sacn_edge.proofs.node_loop.ports_of.Given as goal
 
 -- what is made, then what is left, is all

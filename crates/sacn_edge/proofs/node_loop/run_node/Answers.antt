@@ -7,10 +7,10 @@ use Rattle.sacn_node.specs.Calls.{step}
 use Rattle.sacn_edge.specs.declared.report.NodeReport.{NodeReport}
 use Rattle.sacn_edge.specs.Heard.{heard_of, is_datagram, is_failure}
 use Rattle.sacn_edge.specs.NodeText.{Turn, call_at, node_after, lines_after}
-use Rattle.sacn_edge.specs.Shown.{port_after}
+use Rattle.sacn_edge.specs.PortLines.{port_after}
 use Rattle.sacn_edge.specs.Changing.{AreCurrentBut}
 use Rattle.sacn_edge.proofs.Changing.{all_but, still_but, current_but}
-use Rattle.sacn_edge.proofs.ShownLemmas.{Adds-nil}
+use Rattle.sacn_edge.proofs.PortLineLemmas.{Adds-nil}
 use Rattle.sacn_edge.proofs.Settled.{turn_settled}
 use Rattle.sacn_edge.proofs.NodeLemmas.{rising_distinct, numbers, numbers_unshown, nothing_shown, Remembers, more_text, more_remembered, more_numbers, stops_in, turned_more, counted, put_back, nothing_told}
 use Rattle.sacn_edge.proofs.node_loop.run_node.Goals as goal

@@ -9,7 +9,7 @@ loop-line-preserved c =
     let i = c.loop-line.line-index in
     let line = c.line-item.result in
     let here : drop i lines ≡ line ∷ drop (i + 1) lines = drop_more lines i line c.loop-line-test.true ∙ ap (λ l. l ∷ drop (i + 1) lines) (sym c.line-item.is) in
-    read_more _ lines i line c.loop-line.events.items c.push.new.self.items c.in-Ok-event_in.event here
-    (rw c.as_slice.ensures.value at c.in-Ok-event_in.ensures)
+    read_more _ lines i line c.loop-line.events.items c.push.new.self.items c.in_ok-event.event here
+    (rw c.as_slice.ensures.value at c.in_ok-event.ensures)
     c.in-Ok-push.ensures.items
     c.loop-line.invariant

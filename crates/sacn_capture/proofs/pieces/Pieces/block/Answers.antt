@@ -6,10 +6,10 @@ use Rattle.sacn_capture.specs.Streams.{gives_piece, file_place, state_of}
 use Rattle.sacn_capture.specs.Recordings.{block_behind}
 use Rattle.sacn_capture.proofs.pieces.Pieces.block.Goals as goal
 
-pub returns-in-Ok : goal.returns-in-Ok
-returns-in-Ok g c =
+pub returns : goal.returns
+returns g c =
     let remaining = g.R.Read.remaining in
     let old = c.args.self.now in
     let new = c.behind.new.self in
     then_did (octets 8) (λ head. block_behind c.args.order (state_of old) head) (file_place remaining old) (place_of remaining c.fill.new.self) (file_place remaining new) c.fill.new.buffer
-    (map_ok (λ found. gives_piece found new) c.behind.result) c.in-Ok.ensures.exact c.behind.ensures
+    (map_ok (λ found. gives_piece found new) c.behind.result) c.in_ok-fill.ensures.exact c.behind.ensures

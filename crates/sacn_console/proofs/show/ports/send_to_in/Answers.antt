@@ -1,4 +1,4 @@
-use Rattle.std.proofs.Common.{◌≤◌, length, map, sym, rules}
+use Rattle.std.proofs.Common.{◌≤◌, length, map, rules}
 use Rattle.std.proofs.lemmas.List.{length-map}
 use Rattle.toml.specs.View.{view}
 use Rattle.sacn_console.specs.declared.limits.TheConstants.{MAX_DESTINATIONS}
@@ -8,4 +8,4 @@ use Rattle.sacn_console.proofs.show.ports.send_to_in.Goals as goal
 pub kept-requires : goal.kept-requires
 kept-requires c =
     let few : length c.args.values.now ≤ MAX_DESTINATIONS = search rules in
-    ports_written (map view c.args.values.now) c.in-Ok-Some.ports.items (sym (rw c.in-Ok-Some.field-0-is at c.in-Ok-Some.ensures)) (rw length-map few)
+    ports_written (map view c.args.values.now) c.in_ok-ports.ports.items c.in_ok-ports.ensures (rw length-map few)

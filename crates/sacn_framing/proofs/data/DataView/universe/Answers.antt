@@ -7,7 +7,7 @@ pub returns-clause-universe : goal.returns-clause-universe
 returns-clause-universe c = c.u16_at.ensures ∙ universe_there c.self.inside.octets.now c.self.invariant.laid_out ∙ ap (λ (d : Data). d.universe) c.self.view_is
 
 pub returns-clause-least : goal.returns-clause-least
-returns-clause-least c = omega (arith, c.u16_at.ensures, universe_there c.self.inside.octets.now c.self.invariant.laid_out, c.self.invariant.is_data.least_universe)
+returns-clause-least c = omega (arith, c.u16_at.ensures, universe_there c.self.inside.octets.now c.self.invariant.laid_out, c.self.invariant.is_data.universe.0)
 
 pub returns-clause-most : goal.returns-clause-most
-returns-clause-most c = omega (arith, c.u16_at.ensures, universe_there c.self.inside.octets.now c.self.invariant.laid_out, c.self.invariant.is_data.most_universe)
+returns-clause-most c = omega (arith, c.u16_at.ensures, universe_there c.self.inside.octets.now c.self.invariant.laid_out, c.self.invariant.is_data.universe.1)

@@ -18,7 +18,7 @@ returns-in-Ok-clause-taken c =
     let n = c.expire-lost.new.self in
     let found = c.in-Ok.ensures.found in
     let expired = c.expire-lost.ensures.core in
-    ap (λ (r : NodeChange). r.taken) c.told.ensures
+    ap (λ (r : NodeChange). r.taken) c.change_by.ensures
     ∙ ap FromTable (c.take_at.ensures.answer blank ∙ ap (taken x) (kept_in n c.args.self.now c.args.now c.in-Ok.at blank expired found.0))
     ∙ sym (ap (core_reply_on x) (table_at c.universe-universe.result (λ rs. rs) n.tables c.in-Ok.at blank found.0 found.1 found.2))
     ∙ ap (λ (n : Core). core_reply_on x (table_of c.universe-universe.result n.tables)) expired
@@ -35,7 +35,7 @@ returns-in-Ok-clause-core c =
 pub returns-in-Err-clause-taken : goal.returns-in-Err-clause-taken
 returns-in-Err-clause-taken c =
     let x = packet_of c.args.packet.now in
-    ap (λ (r : NodeChange). r.taken) c.told-in-Err.ensures
+    ap (λ (r : NodeChange). r.taken) c.change_by-in-Err.ensures
     ∙ sym (ap (core_reply_on x) (table_absent c.universe-universe.result (λ rs. rs) c.expire-lost.new.self.tables c.in-Err.field-0 c.in-Err.ensures.absent))
     ∙ ap (λ (n : Core). core_reply_on x (table_of c.universe-universe.result n.tables)) c.expire-lost.ensures.core
     ∙ ap (λ u. core_reply u x c.args.now c.args.self.now) c.universe-universe.ensures.universe
@@ -48,12 +48,12 @@ returns-in-Err-clause-core c =
 
 pub returns-in-Ok-clause-universe : goal.returns-in-Ok-clause-universe
 returns-in-Ok-clause-universe c =
-    ap (λ (r : NodeChange). r.universe) c.told.ensures
-    ∙ ap (universe_by c.universe-universe.result) (sym (ap (λ (r : NodeChange). r.taken) c.told.ensures) ∙ returns-in-Ok-clause-taken c)
+    ap (λ (r : NodeChange). r.universe) c.change_by.ensures
+    ∙ ap (universe_by c.universe-universe.result) (sym (ap (λ (r : NodeChange). r.taken) c.change_by.ensures) ∙ returns-in-Ok-clause-taken c)
     ∙ ap (λ u. universe_by u (core_reply c.args.packet.now.universe (packet_of c.args.packet.now) c.args.now c.args.self.now)) c.universe-universe.ensures.universe
 
 pub returns-in-Err-clause-universe : goal.returns-in-Err-clause-universe
 returns-in-Err-clause-universe c =
-    ap (λ (r : NodeChange). r.universe) c.told-in-Err.ensures
-    ∙ ap (universe_by c.universe-universe.result) (sym (ap (λ (r : NodeChange). r.taken) c.told-in-Err.ensures) ∙ returns-in-Err-clause-taken c)
+    ap (λ (r : NodeChange). r.universe) c.change_by-in-Err.ensures
+    ∙ ap (universe_by c.universe-universe.result) (sym (ap (λ (r : NodeChange). r.taken) c.change_by-in-Err.ensures) ∙ returns-in-Err-clause-taken c)
     ∙ ap (λ u. universe_by u (core_reply c.args.packet.now.universe (packet_of c.args.packet.now) c.args.now c.args.self.now)) c.universe-universe.ensures.universe

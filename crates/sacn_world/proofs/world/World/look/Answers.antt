@@ -22,4 +22,4 @@ returns c =
     let y : Watch = c.index_mut.result.now in
     let e = slice_get_read s.nodes.items s.nodes.len c.args.node y (search rules) (omega arith) c.index_mut.ensures.value in
     let d = look_done s.consoles.items s.sent.items s.nodes.items c.self.invariant c.args.self.now c.self.view_is c.args.node c.args.port c.args.now y e c.look-frame.new.self c.look-frame.ensures.core c.look-frame.result c.look-frame.ensures.frame in
-    answered_as d.step (sym c.shown.ensures)
+    answered_as d.step (sym c.look_answer.ensures)

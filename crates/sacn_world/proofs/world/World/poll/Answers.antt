@@ -1,7 +1,7 @@
 use Rattle.std.proofs.Common.{rules, refl, sym, ap, subst, ◌∙◌, ◌++◌, ◌∷◌, [], arith, inl, inr}
 use Rattle.std.proofs.lemmas.Option.{slice_get_read}
 use Rattle.sacn_world.specs.declared.console.Console.{Console}
-use Rattle.sacn_world.specs.declared.sent.SentDatagram.{SentDatagram}
+use Rattle.sacn_world.specs.declared.datagram.SentDatagram.{SentDatagram}
 use Rattle.sacn_world.specs.Kept.{seen_world}
 use Rattle.sacn_world.specs.Wire.{AreFiled}
 use Rattle.sacn_world.proofs.Keeping.{no_console_poll, there_is}

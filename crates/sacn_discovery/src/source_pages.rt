@@ -1,0 +1,123 @@
+//! What is kept of one source of pages.
+
+ghost use Rattle.std.specs.Prelude.{◌≡◌, ◌≤◌, ◌+◌, ◌<◌, ◌==◌, length, replicate, IfOk, None};
+ghost use Rattle.std.specs.Option.{option_map};
+ghost use Rattle.sacn_discovery.specs.Shown.{pages_of};
+ghost use Rattle.sacn_discovery.specs.Known.{first_page, one_more, is_fresh, ascending, joined, list_in};
+
+use crate::limits::FORGOTTEN_AFTER;
+use std::alloc::{AllocError, Global};
+use std::marker::Model;
+
+/// The latest copy of each page, by page number.
+#[derive(Drop)]
+pub struct SourcePages {
+    last: u8,
+    pages: Vec<Option<Vec<u16>>>,
+    moment: u64,
+}
+
+impl Model for SourcePages {
+    ghost use Rattle.std.specs.Prelude.{◌≡◌, ◌+◌, length};
+    ghost use Rattle.sacn_discovery.specs.Known.{Known, known_code};
+    ghost use Rattle.sacn_discovery.specs.Shown.{pages_of};
+
+    ghost Value = { Known };
+
+    ghost coded = { known_code };
+
+    ghost view = { λ h. record { last = h.last; pages = pages_of h.pages.items; moment = h.moment } };
+
+    ghost invariant = { λ h. length h.pages.items ≡ h.last + 1 };
+}
+
+impl SourcePages {
+    /// A source of one page.
+    pub fn begin(
+        alloc: Global,
+        moment: u64,
+        page: u8,
+        last: u8,
+        numbers: Vec<u16>,
+    ) -> Result<SourcePages, AllocError>
+        requires { page ≤ last }
+        ensures { IfOk result (λ heard. heard ≡ first_page moment page last numbers.items) }
+    {
+        let mut pages = no_pages(alloc, last as usize + 1)?;
+        pages[page as usize] = Some(numbers);
+        Ok(SourcePages {
+            last,
+            pages,
+            moment,
+        })
+    }
+
+    /// Keeps one page more.
+    pub fn add(&mut self, moment: u64, page: u8, numbers: Vec<u16>)
+        requires { page ≤ self.old.last }
+        ensures { self.new ≡ one_more moment page numbers.items self.old }
+    {
+        self.pages[page as usize] = Some(numbers);
+        self.moment = moment;
+    }
+
+    /// The number of the last page.
+    pub fn last(&self) -> u8
+        ensures { result ≡ self.now.last }
+    {
+        self.last
+    }
+
+    /// Whether the latest page isn't too old.
+    pub fn is_fresh(&self, moment: u64) -> bool
+        ensures { result ≡ is_fresh moment self.now }
+    {
+        moment.saturating_sub(self.moment) < FORGOTTEN_AFTER
+    }
+
+    /// The numbers of all pages, ascending, each once. None where a page is lacking.
+    pub fn list(&self, alloc: Global) -> Result<Option<Vec<u16>>, AllocError>
+        ensures { IfOk result (λ list. option_map (λ v. v.items) list ≡ list_in self.now) }
+    {
+        let found = all_numbers(alloc, self.pages.as_slice())?;
+        match found {
+            Some(numbers) => Ok(Some(in_order(numbers))),
+            None => Ok(None),
+        }
+    }
+}
+
+// So many places for pages, all empty.
+fn no_pages(alloc: Global, count: usize) -> Result<Vec<Option<Vec<u16>>>, AllocError>
+    ensures pages { IfOk result (λ pages. pages.items ≡ replicate count None) }
+{
+    let mut pages = Vec::with_capacity(alloc, count)?;
+    for _ in 0..count {
+        pages.push(None)?;
+    }
+    Ok(pages)
+}
+
+// The numbers of all pages in their order, where every page is there.
+fn all_numbers(alloc: Global, pages: &[Option<Vec<u16>>]) -> Result<Option<Vec<u16>>, AllocError>
+    ensures { IfOk result (λ found. option_map (λ v. v.items) found ≡ joined (pages_of pages.now)) }
+{
+    let mut numbers = Vec::new(alloc);
+    for i in 0..pages.len() {
+        match &pages[i] {
+            Some(more) => numbers.extend_from_slice(more.as_slice())?,
+            None => return Ok(None),
+        }
+    }
+    Ok(Some(numbers))
+}
+
+// Ascending, each once.
+fn in_order(numbers: Vec<u16>) -> Vec<u16>
+    ensures { result.items ≡ ascending numbers.items }
+{
+    let mut numbers = numbers;
+    numbers.sort_unstable();
+    numbers.dedup();
+    numbers
+}

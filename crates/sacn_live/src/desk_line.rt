@@ -1,0 +1,66 @@
+//! What a line of standard input says to a desk.
+use sacn_console::{Command, TextFault, command_of};
+use sacn_files::words::words;
+use std::alloc::Global;
+
+/// What a line of standard input says.
+pub(crate) enum DeskLine {
+    Nothing,
+    Order(Command),
+    Status,
+    Help,
+    Quit,
+    Fault(&'static str),
+}
+
+fn fault_name(fault: TextFault) -> &'static str {
+    match fault {
+        TextFault::OutOfMemory => "OutOfMemory",
+        TextFault::UnknownWord(_) => "UnknownWord",
+        TextFault::WordCount(_) => "WordCount",
+        TextFault::Number(_) => "Number",
+        TextFault::Hex(_) => "Hex",
+    }
+}
+
+/// The meaning of a line's words, of which there is one at least.
+fn said_by(words: &[&str], number: usize) -> DeskLine {
+    if let [word] = words {
+        if *word == "status" {
+            return DeskLine::Status;
+        }
+        if *word == "help" {
+            return DeskLine::Help;
+        }
+        if *word == "quit" {
+            return DeskLine::Quit;
+        }
+    }
+    match command_of(words, number) {
+        Ok(command) => DeskLine::Order(command),
+        Err(fault) => DeskLine::Fault(fault_name(fault)),
+    }
+}
+
+/// The meaning of a line. One without words, or whose first begins with `#`, says nothing.
+pub(crate) fn line_said(alloc: Global, line: Option<&[u8]>, number: usize) -> DeskLine {
+    let Some(octets) = line else {
+        return DeskLine::Fault("TooLong");
+    };
+    let Ok(text) = std::str::from_utf8(octets) else {
+        return DeskLine::Fault("NotText");
+    };
+    let Ok(words) = words(alloc, text) else {
+        return DeskLine::Fault("OutOfMemory");
+    };
+    match words.as_slice().first() {
+        None => DeskLine::Nothing,
+        Some(word) => {
+            if word.starts_with('#') {
+                DeskLine::Nothing
+            } else {
+                said_by(words.as_slice(), number)
+            }
+        }
+    }
+}
