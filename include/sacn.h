@@ -250,7 +250,7 @@ int sacn_node_tick(struct sacn_node *node, uint64_t now, size_t *lost);
 /* Writes the frame of a port: start code 0 and 512 slots. Status: SACN_RANGE where the node has no such port. */
 int sacn_node_frame(struct sacn_node *node, uint64_t now, uint8_t port, uint8_t frame[SACN_FRAME_OCTETS]);
 
-/* The first moment at which a source is lost if no datagram comes, UINT64_MAX where there is none. */
+/* The first moment at which a source is lost if no datagram comes. Status: SACN_RANGE where there is none, and then `moment` is UINT64_MAX. */
 int sacn_node_wakes(struct sacn_node *node, uint64_t *moment);
 
 /* Copies the numbers of the ports, ascending, to a room of `room` octets, and tells how many there are in `count`: at most SACN_MAX_PORTS. Status:
@@ -299,7 +299,8 @@ int sacn_sources_merged(struct sacn_sources *sources, uint64_t now, uint8_t slot
 /* Drops the sources that are lost, and tells how many those were, ended ones too. */
 int sacn_sources_tick(struct sacn_sources *sources, uint64_t now, size_t *lost);
 
-/* The first moment at which a source is lost if no datagram comes, ended ones too, UINT64_MAX where there is none. */
+/* The first moment at which a source is lost if no datagram comes, ended ones too. Status: SACN_RANGE where there is none, and then `moment` is
+   UINT64_MAX. */
 int sacn_sources_wakes(struct sacn_sources *sources, uint64_t *moment);
 
 /* What is held of the source of a CID, and the levels that it shows: 0 in each slot that it doesn't give, and in all where it has ended. No source

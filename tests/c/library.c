@@ -149,7 +149,7 @@ static void node(void) {
     memset(cid, 'c', sizeof cid);
     CHECK(sacn_node_new(&node, setup, strlen(setup), &port) == SACN_DONE && port == SACN_UDP_PORT);
     CHECK(sacn_node_new(&node, setup, strlen(setup), &port) == SACN_NOT_EMPTY);
-    CHECK(sacn_node_wakes(&node, &wakes) == SACN_DONE && wakes == UINT64_MAX);
+    CHECK(sacn_node_wakes(&node, &wakes) == SACN_RANGE && wakes == UINT64_MAX);
     CHECK(sacn_node_ports(&node, frame, 2, &lost) == SACN_DONE && lost == 1 && frame[0] == 1);
     CHECK(sacn_node_ports(&node, NULL, 0, &lost) == SACN_LENGTH && lost == 1);
     CHECK(sacn_node_ports(&node, NULL, 1, &lost) == SACN_NULL && sacn_node_ports(&node, frame, 2, NULL) == SACN_NULL);
@@ -172,6 +172,7 @@ static void node(void) {
     CHECK(sacn_node_tick(&node, 2509, &lost) == SACN_DONE && lost == 0);
     CHECK(sacn_node_tick(&node, 2510, &lost) == SACN_DONE && lost == 1);
     CHECK(sacn_node_frame(&node, 2510, 1, frame) == SACN_DONE && frame[1] == 0);
+    CHECK(sacn_node_wakes(&node, &wakes) == SACN_RANGE && wakes == UINT64_MAX);
     CHECK(sacn_node_take(&node, 2510, out, packet_of(2, 1, 1, out), &taken) == SACN_DONE && taken == SACN_TAKEN_UNKNOWN_IGNORED);
     CHECK(sacn_node_take(&node, 2510, NULL, 0, &taken) == SACN_PACKET_TOO_SHORT && taken == SACN_TAKEN_REFUSED);
     CHECK(sacn_node_take(&node, 2510, NULL, 1, &taken) == SACN_NULL);
@@ -221,7 +222,13 @@ static void sources(void) {
     /* (it ended at 6) */
     CHECK(sacn_sources_wakes(&sources, &wakes) == SACN_DONE && wakes == 2506);
     CHECK(sacn_sources_tick(&sources, 2505, &lost) == SACN_DONE && lost == 0 && sacn_sources_tick(&sources, 2506, &lost) == SACN_DONE && lost == 1);
+    CHECK(sacn_sources_wakes(&sources, &wakes) == SACN_RANGE && wakes == UINT64_MAX);
+    /* (lost at the last moment that there is, and a millisecond later: at none) */
+    const uint64_t last = UINT64_MAX - SACN_DATA_LOSS;
+    CHECK(sacn_sources_take(&sources, last, out, packet_of(3, 9, 0, out), &taken) == SACN_DONE && taken == SACN_TAKEN_HELD);
     CHECK(sacn_sources_wakes(&sources, &wakes) == SACN_DONE && wakes == UINT64_MAX);
+    CHECK(sacn_sources_take(&sources, last + 1, out, packet_of(4, 9, 0, out), &taken) == SACN_DONE && taken == SACN_TAKEN_HELD);
+    CHECK(sacn_sources_wakes(&sources, &wakes) == SACN_RANGE && wakes == UINT64_MAX);
     CHECK(sacn_sources_tick(&empty, 0, &lost) == SACN_NULL && sacn_sources_tick(&sources, 0, NULL) == SACN_NULL);
     CHECK(sacn_sources_wakes(&empty, &wakes) == SACN_NULL && sacn_sources_wakes(&sources, NULL) == SACN_NULL);
     node.behind = sources.behind;

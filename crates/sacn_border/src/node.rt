@@ -1,5 +1,5 @@
 //! Nodes.
-ghost use Rattle.std.specs.Prelude.{◌≡◌, ◌<◌, ◌≤◌, ◌^◌, ◌-◌, ℕ, nat_lt, true, false, [], length, slice_index, None, IfOk, IfErr, IfSome, OnErr};
+ghost use Rattle.std.specs.Prelude.{◌≡◌, ◌==◌, ◌<◌, ◌≤◌, ◌^◌, ◌-◌, ℕ, [], length, slice_index, None, IfOk, IfErr, IfSome, OnErr, if◌then◌else◌};
 ghost use Rattle.std.specs.List.Sorted.{IsStrictlyIncreasing};
 ghost use Rattle.std.specs.Option.{option_map};
 ghost use Rattle.std.specs.Str.{IsUtf8};
@@ -17,7 +17,7 @@ ghost use Rattle.sacn_border.specs.Making.{NodeOf, SetupStatus};
 ghost use Rattle.sacn_border.specs.Merging.{source_told, levels_told};
 ghost use Rattle.sacn_border.specs.Numbers.{node_taken_number, node_taken_status, frame_status, frame_or, found_status, found_or};
 ghost use Rattle.sacn_border.specs.Rooms.{room_status, room_with};
-ghost use Rattle.sacn_border.specs.declared.status.TheConstants.{DONE, WRONG_HANDLE};
+ghost use Rattle.sacn_border.specs.declared.status.TheConstants.{DONE, RANGE, WRONG_HANDLE};
 
 use crate::held::Held;
 use crate::numbers::{node_taken_number, node_taken_status};
@@ -114,18 +114,26 @@ pub fn frame(held: &mut Held, now: u64, port: u8, frame: &mut [u8; FRAME_OCTETS]
     }
 }
 
-/// The first moment at which a tick drops a source, as `NodeCore::wakes`, and `u64::MAX` where none does.
+/// The first moment at which a tick drops a source, as `NodeCore::wakes`. The status is `RANGE`, and the moment `u64::MAX`, where no tick drops any.
 pub fn wakes(held: &Held, moment: &mut u64) -> u32
-    ensures status { result ≡ of_node WRONG_HANDLE (λ n. DONE) held.now }
+    ensures status { result ≡ of_node WRONG_HANDLE (λ n. if result == RANGE then RANGE else DONE) held.now }
     ensures unwritten { result ≡ WRONG_HANDLE → moment.new ≡ moment.old }
-    ensures asleep { (t : ℕ) → t < moment.new → of_node 0 (λ n. core_lost t n.core) held.now ≡ 0 }
-    ensures awake { of_node false (λ n. nat_lt moment.new (2 ^ 64 - 1)) held.now ≡ true → 1 ≤ of_node 0 (λ n. core_lost moment.new n.core) held.now }
+    ensures never { result ≡ RANGE → (t : ℕ) → t < 2 ^ 64 → of_node 0 (λ n. core_lost t n.core) held.now ≡ 0 }
+    ensures latest { result ≡ RANGE → moment.new ≡ 2 ^ 64 - 1 }
+    ensures asleep { result ≡ DONE → (t : ℕ) → t < moment.new → of_node 0 (λ n. core_lost t n.core) held.now ≡ 0 }
+    ensures awake { result ≡ DONE → 1 ≤ of_node 0 (λ n. core_lost moment.new n.core) held.now }
 {
     match held {
-        Held::Node(node) => {
-            *moment = node.wakes().unwrap_or(u64::MAX);
-            DONE
-        }
+        Held::Node(node) => match node.wakes() {
+            Some(first) => {
+                *moment = first;
+                DONE
+            }
+            None => {
+                *moment = u64::MAX;
+                RANGE
+            }
+        },
         _ => WRONG_HANDLE,
     }
 }

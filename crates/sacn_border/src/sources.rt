@@ -1,5 +1,5 @@
 //! The sources of one universe.
-ghost use Rattle.std.specs.Prelude.{◌≡◌, ◌<◌, ◌≤◌, ◌^◌, ◌-◌, ℕ, nat_lt, max, true, false, None, slice_index, IfOk, IfErr, IfSome};
+ghost use Rattle.std.specs.Prelude.{◌≡◌, ◌==◌, ◌<◌, ◌≤◌, ◌^◌, ◌-◌, ℕ, max, None, slice_index, IfOk, IfErr, IfSome, if◌then◌else◌};
 ghost use Rattle.std.specs.Option.{option_map};
 ghost use Rattle.sacn_framing.specs.PacketReading.{reading_packet};
 ghost use Rattle.sacn_sources.specs.Kept.{new_kept, kept_after_expire, kept_after_merged};
@@ -9,7 +9,7 @@ ghost use Rattle.sacn_border.specs.Kinds.{of_sources};
 ghost use Rattle.sacn_border.specs.Merging.{after_reading, source_number, source_told, levels_told};
 ghost use Rattle.sacn_border.specs.Numbers.{found_status, found_or};
 ghost use Rattle.sacn_border.specs.Packets.{packet_status};
-ghost use Rattle.sacn_border.specs.declared.status.TheConstants.{DONE, WRONG_HANDLE};
+ghost use Rattle.sacn_border.specs.declared.status.TheConstants.{DONE, RANGE, WRONG_HANDLE};
 
 use crate::held::Held;
 use crate::numbers::taken_number;
@@ -105,18 +105,26 @@ pub fn tick(held: &mut Held, now: u64, lost: &mut usize) -> u32
     }
 }
 
-/// The first moment at which a tick drops a source, as `SourceTable::wakes`, and `u64::MAX` where none does.
+/// The first moment at which a tick drops a source, as `SourceTable::wakes`. The status is `RANGE`, and the moment `u64::MAX`, where no tick drops any.
 pub fn wakes(held: &Held, moment: &mut u64) -> u32
-    ensures status { result ≡ of_sources WRONG_HANDLE (λ k. DONE) held.now }
+    ensures status { result ≡ of_sources WRONG_HANDLE (λ k. if result == RANGE then RANGE else DONE) held.now }
     ensures unwritten { result ≡ WRONG_HANDLE → moment.new ≡ moment.old }
-    ensures asleep { (t : ℕ) → t < moment.new → of_sources 0 (λ k. rows_lost (max k.table.moment t) k.table.rows) held.now ≡ 0 }
-    ensures awake { of_sources false (λ k. nat_lt moment.new (2 ^ 64 - 1)) held.now ≡ true → 1 ≤ of_sources 0 (λ k. rows_lost (max k.table.moment moment.new) k.table.rows) held.now }
+    ensures never { result ≡ RANGE → (t : ℕ) → t < 2 ^ 64 → of_sources 0 (λ k. rows_lost (max k.table.moment t) k.table.rows) held.now ≡ 0 }
+    ensures latest { result ≡ RANGE → moment.new ≡ 2 ^ 64 - 1 }
+    ensures asleep { result ≡ DONE → (t : ℕ) → t < moment.new → of_sources 0 (λ k. rows_lost (max k.table.moment t) k.table.rows) held.now ≡ 0 }
+    ensures awake { result ≡ DONE → 1 ≤ of_sources 0 (λ k. rows_lost (max k.table.moment moment.new) k.table.rows) held.now }
 {
     match held {
-        Held::Sources(table) => {
-            *moment = table.wakes().unwrap_or(u64::MAX);
-            DONE
-        }
+        Held::Sources(table) => match table.wakes() {
+            Some(first) => {
+                *moment = first;
+                DONE
+            }
+            None => {
+                *moment = u64::MAX;
+                RANGE
+            }
+        },
         _ => WRONG_HANDLE,
     }
 }

@@ -1,5 +1,5 @@
 //! Nodes, for C.
-ghost use Rattle.std.specs.Prelude.{◌≡◌, ◌<◌, ◌≤◌, ◌^◌, ◌-◌, is_some, true, false, [], None, IfSome, MatchOption, ℕ, nat_lt, length, slice_index};
+ghost use Rattle.std.specs.Prelude.{◌≡◌, ◌==◌, ◌<◌, ◌≤◌, ◌^◌, ◌-◌, is_some, true, [], None, IfSome, MatchOption, ℕ, length, slice_index, if◌then◌else◌};
 ghost use Rattle.std.specs.List.Sorted.{IsStrictlyIncreasing};
 ghost use Rattle.std.specs.Option.{option_map};
 ghost use Rattle.std.specs.Str.{IsUtf8};
@@ -15,7 +15,7 @@ ghost use Rattle.sacn_border.specs.Making.{NodeOf, SetupStatus};
 ghost use Rattle.sacn_border.specs.Merging.{source_told, levels_told};
 ghost use Rattle.sacn_border.specs.Numbers.{node_taken_number, node_taken_status, frame_status, frame_or, found_status, found_or};
 ghost use Rattle.sacn_border.specs.Rooms.{room_status, room_with};
-ghost use Rattle.sacn_border.specs.declared.status.TheConstants.{DONE, WRONG_HANDLE};
+ghost use Rattle.sacn_border.specs.declared.status.TheConstants.{DONE, RANGE, WRONG_HANDLE};
 
 use crate::handle::{Handle, take_out};
 use sacn_border::{DONE, Held, SourceFields, node};
@@ -104,7 +104,7 @@ pub extern "C" fn sacn_proved_node_frame(
     status
 }
 
-/// The first moment at which a tick drops a source, as `NodeCore::wakes`, and `u64::MAX` where none does.
+/// The first moment at which a tick drops a source, as `NodeCore::wakes`. The status is `RANGE`, and the moment `u64::MAX`, where no tick drops any.
 #[unsafe(no_mangle)]
 pub extern "C" fn sacn_proved_node_wakes(
     alloc: Global,
@@ -112,10 +112,12 @@ pub extern "C" fn sacn_proved_node_wakes(
     moment: &mut u64,
 ) -> u32
     requires { is_some handle.old.value ≡ true }
-    ensures status { IfSome handle.old.value (λ held. result ≡ of_node WRONG_HANDLE (λ n. DONE) held) }
+    ensures status { IfSome handle.old.value (λ held. result ≡ of_node WRONG_HANDLE (λ n. if result == RANGE then RANGE else DONE) held) }
     ensures unwritten { result ≡ WRONG_HANDLE → moment.new ≡ moment.old }
-    ensures asleep { IfSome handle.old.value (λ held. (t : ℕ) → t < moment.new → of_node 0 (λ n. core_lost t n.core) held ≡ 0) }
-    ensures awake { IfSome handle.old.value (λ held. of_node false (λ n. nat_lt moment.new (2 ^ 64 - 1)) held ≡ true → 1 ≤ of_node 0 (λ n. core_lost moment.new n.core) held) }
+    ensures never { IfSome handle.old.value (λ held. result ≡ RANGE → (t : ℕ) → t < 2 ^ 64 → of_node 0 (λ n. core_lost t n.core) held ≡ 0) }
+    ensures latest { result ≡ RANGE → moment.new ≡ 2 ^ 64 - 1 }
+    ensures asleep { IfSome handle.old.value (λ held. result ≡ DONE → (t : ℕ) → t < moment.new → of_node 0 (λ n. core_lost t n.core) held ≡ 0) }
+    ensures awake { IfSome handle.old.value (λ held. result ≡ DONE → 1 ≤ of_node 0 (λ n. core_lost moment.new n.core) held) }
     ensures after { handle.new.value ≡ handle.old.value }
 {
     let held = take_out(alloc, handle);

@@ -1,5 +1,5 @@
 //! The sources of one universe, for C.
-ghost use Rattle.std.specs.Prelude.{◌≡◌, ◌<◌, ◌≤◌, ◌^◌, ◌-◌, ℕ, nat_lt, max, is_some, true, false, Some, None, IfSome, slice_index};
+ghost use Rattle.std.specs.Prelude.{◌≡◌, ◌==◌, ◌<◌, ◌≤◌, ◌^◌, ◌-◌, ℕ, max, is_some, true, Some, None, IfSome, slice_index, if◌then◌else◌};
 ghost use Rattle.std.specs.Option.{option_map};
 ghost use Rattle.sacn_framing.specs.PacketReading.{reading_packet};
 ghost use Rattle.sacn_sources.specs.Kept.{new_kept, kept_after_expire, kept_after_merged};
@@ -9,7 +9,7 @@ ghost use Rattle.sacn_border.specs.Kinds.{of_sources};
 ghost use Rattle.sacn_border.specs.Merging.{after_reading, source_number, source_told, levels_told};
 ghost use Rattle.sacn_border.specs.Numbers.{found_status, found_or};
 ghost use Rattle.sacn_border.specs.Packets.{packet_status};
-ghost use Rattle.sacn_border.specs.declared.status.TheConstants.{DONE, WRONG_HANDLE};
+ghost use Rattle.sacn_border.specs.declared.status.TheConstants.{DONE, RANGE, WRONG_HANDLE};
 
 use crate::handle::{Handle, take_out};
 use sacn_border::{DONE, Held, SourceFields, sources};
@@ -90,7 +90,7 @@ pub extern "C" fn sacn_proved_sources_tick(
     status
 }
 
-/// The first moment at which a tick drops a source, as `SourceTable::wakes`, and `u64::MAX` where none does.
+/// The first moment at which a tick drops a source, as `SourceTable::wakes`. The status is `RANGE`, and the moment `u64::MAX`, where no tick drops any.
 #[unsafe(no_mangle)]
 pub extern "C" fn sacn_proved_sources_wakes(
     alloc: Global,
@@ -98,10 +98,12 @@ pub extern "C" fn sacn_proved_sources_wakes(
     moment: &mut u64,
 ) -> u32
     requires { is_some handle.old.value ≡ true }
-    ensures status { IfSome handle.old.value (λ held. result ≡ of_sources WRONG_HANDLE (λ k. DONE) held) }
+    ensures status { IfSome handle.old.value (λ held. result ≡ of_sources WRONG_HANDLE (λ k. if result == RANGE then RANGE else DONE) held) }
     ensures unwritten { result ≡ WRONG_HANDLE → moment.new ≡ moment.old }
-    ensures asleep { IfSome handle.old.value (λ held. (t : ℕ) → t < moment.new → of_sources 0 (λ k. rows_lost (max k.table.moment t) k.table.rows) held ≡ 0) }
-    ensures awake { IfSome handle.old.value (λ held. of_sources false (λ k. nat_lt moment.new (2 ^ 64 - 1)) held ≡ true → 1 ≤ of_sources 0 (λ k. rows_lost (max k.table.moment moment.new) k.table.rows) held) }
+    ensures never { IfSome handle.old.value (λ held. result ≡ RANGE → (t : ℕ) → t < 2 ^ 64 → of_sources 0 (λ k. rows_lost (max k.table.moment t) k.table.rows) held ≡ 0) }
+    ensures latest { result ≡ RANGE → moment.new ≡ 2 ^ 64 - 1 }
+    ensures asleep { IfSome handle.old.value (λ held. result ≡ DONE → (t : ℕ) → t < moment.new → of_sources 0 (λ k. rows_lost (max k.table.moment t) k.table.rows) held ≡ 0) }
+    ensures awake { IfSome handle.old.value (λ held. result ≡ DONE → 1 ≤ of_sources 0 (λ k. rows_lost (max k.table.moment moment.new) k.table.rows) held) }
     ensures after { handle.new.value ≡ handle.old.value }
 {
     let held = take_out(alloc, handle);
