@@ -1,13 +1,14 @@
 #!/usr/bin/env python3
 """Measures the built program on loopback, as a rig loads it. The gate doesn't run it.
 
-usage: measure.py [moments] [fades N] [resting] [node] [gateway]
+usage: measure.py [moments] [fades N] [resting] [node] [gateway] [recording]
 
 moments   how long after its moment a packet goes out: of a change that is ordered, and of each repeat 25 ms after a packet
 fades N   1024 universes of 512 slots that all fade, sent to N destinations: each universe's greatest gap, and pages
 resting   1024 universes of 27 slots of which the lower half rests and the upper half fades: packets a second of each
 node      a node of 16 ports and 16 universes of 16 sources: processor time for each datagram
 gateway   the same of a gateway
+recording a recording of 1,000,000 packets of 200 universes, explained, and one of a tenth of it: packets a second, most memory
 
 It takes the program crates/sacn/out/sacn, or the path in SACN, and prints the machine's load before each.
 """
@@ -234,9 +235,55 @@ def gateway():
     load_of(["gateway", "--listen", "127.0.0.1", "--seconds", "20"], FIRST_PORT + 42, True, 18 * 44, 0)
 
 
+def recorded(path, count):
+    """Writes a recording of so many packets of 200 universes, 512 slots each, of which every one is a change."""
+    frames = {}
+    for universe in range(1, 201):
+        octets = packet(universe, 1, 0, 0)
+        to = bytes([239, 255, universe >> 8, universe & 255])
+        ip = struct.pack(">BBHHHBBH4s4s", 0x45, 0, 28 + len(octets), 0, 0, 16, 17, 0, bytes([10, 0, 0, 1]), to)
+        frames[universe] = bytearray(bytes(12) + b"\x08\x00" + ip + struct.pack(">HHHH", 5568, 5568, 8 + len(octets), 0) + octets)
+    with open(path, "wb", buffering=1 << 22) as out:
+        out.write(struct.pack("<IHHiIII", 0xA1B2C3D4, 2, 4, 0, 0, 65535, 1))
+        for n in range(count):
+            frame, turn, micros = frames[n % 200 + 1], n // 200, 125 * n
+            # (behind 42 octets of Ethernet, IP and UDP: the sequence number and the first slot)
+            frame[42 + 111], frame[42 + 126] = turn % 256, turn % 251
+            out.write(struct.pack("<IIII", micros // 1_000_000, micros % 1_000_000, len(frame), len(frame)))
+            out.write(frame)
+
+
+def resident(process):
+    """The most memory that a process had so far, in kilobytes."""
+    try:
+        with open(f"/proc/{process}/status", encoding="utf-8") as lines:
+            return next((int(line.split()[1]) for line in lines if line.startswith("VmHWM:")), 0)
+    except OSError:
+        return 0
+
+
+def recording():
+    path = f"{ROOM}/recording.pcap"
+    for count in (100_000, 1_000_000):
+        recorded(path, count)
+        for _ in range(3):
+            with open(f"{ROOM}/told", "w", encoding="utf-8") as told:
+                begin, most = time.monotonic(), 0
+                run = subprocess.Popen([SACN, "explain", path, "--json"], stdin=subprocess.DEVNULL, stdout=told)
+                while run.poll() is None:
+                    most = max(most, resident(run.pid))
+                    time.sleep(0.005)
+                took = time.monotonic() - begin
+            with open(f"{ROOM}/told", encoding="utf-8") as told:
+                is_whole = f'"datagrams":{count},"refused":0,' in told.read() and run.returncode == 0
+            counted = "all counted" if is_whole else "NOT COUNTED"
+            print(f"  {count} packets in {took:.2f} s: {count / took:.0f} a second, at most {most / 1024:.1f} MB, {counted}")
+    os.remove(path)
+
+
 def main(words):
-    jobs = {"moments": moments, "resting": resting, "node": node, "gateway": gateway}
-    words = words or ["moments", "fades", "2", "fades", "8", "resting", "node", "gateway"]
+    jobs = {"recording": recording, "moments": moments, "resting": resting, "node": node, "gateway": gateway}
+    words = words or ["moments", "fades", "2", "fades", "8", "resting", "node", "gateway", "recording"]
     while words:
         name = words.pop(0)
         more = [int(words.pop(0))] if name == "fades" else []
