@@ -1,7 +1,7 @@
 //! Rows of letters, and how they are written to a terminal.
 
 ghost use Rattle.std.specs.Prelude.{◌≡◌, ◌≤◌, [], true, length, OnOk};
-ghost use Rattle.sacn_watch.specs.Pages.{is_shown, shown_as, with_cell, with_row, FitsOn};
+ghost use Rattle.sacn_watch.specs.Pages.{is_shown, shown_as, with_cell, with_text, with_row, row_of, FitsOn};
 
 use std::alloc::{AllocError, Global};
 use std::fmt::Write;
@@ -107,7 +107,9 @@ impl Row {
     /// A text more, as much of it as there is room for.
     pub fn put_text(&mut self, text: &str, ink: Ink) -> Result<(), AllocError>
         ensures width { self.new.width ≡ self.old.width }
+        ensures kept { OnOk result (self.new ≡ with_text ink text.now self.old) }
     {
+        let _ = &self.width;
         for letter in text.chars() {
             self.put(letter as u32, ink)?;
         }
@@ -149,6 +151,8 @@ impl Page {
     /// A row of one ink more, where there is room for it.
     pub fn push_text(&mut self, alloc: Global, text: &str, ink: Ink) -> Result<(), AllocError>
         ensures size { self.new.size ≡ self.old.size }
+        ensures kept { OnOk result (self.new.rows.items
+            ≡ with_row self.old.size.height (row_of self.old.size.width ink text.now) self.old.rows.items) }
         ensures fits { FitsOn self.old.size self.old.rows.items → FitsOn self.new.size self.new.rows.items }
     {
         let mut row = Row::new(alloc, self.size.width);
