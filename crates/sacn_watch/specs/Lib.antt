@@ -1,4 +1,5 @@
 pub mod Pages
+pub mod Drawn
 pub mod Views
 pub mod Watches
 pub mod Screens
