@@ -3,3 +3,4 @@ pub mod Drawn
 pub mod Views
 pub mod Watches
 pub mod Screens
+pub mod Faults
