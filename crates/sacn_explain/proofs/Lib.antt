@@ -2,3 +2,5 @@ pub mod Following
 pub mod Story
 pub mod Counts
 pub mod Known
+pub mod Amounts
+pub mod Contested

@@ -4,3 +4,6 @@ pub mod Lists
 pub mod Listed
 pub mod Following
 pub mod Story
+pub mod Amounts
+pub mod Staging
+pub mod Contested

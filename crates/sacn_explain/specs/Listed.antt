@@ -1,7 +1,8 @@
 -- The sources whose lists of universes are kept (E1.31, 8), and the pages of the others.
-use Rattle.std.specs.Prelude.{ℕ, nat_lt, List, [], ◌∷◌, ◌++◌, length, Result, Ok, Err, if◌then◌else◌}
+use Rattle.std.specs.Prelude.{ℕ, nat_lt, Bool, ◌||◌, Option, slice_get, List, [], ◌∷◌, ◌++◌, length, Result, Ok, Err, if◌then◌else◌}
 use Rattle.std.specs.Str.{bytes_eq}
-use Rattle.std.specs.List.{list_any}
+use Rattle.std.specs.List.{list_any, position}
+use Rattle.std.specs.Option.{option_and_then}
 use Rattle.sacn_root.specs.declared.fault.PacketFault.{PacketFault}
 use Rattle.sacn_framing.specs.declared.packet.Packet.{Packet}
 use Rattle.sacn_framing.specs.declared.packet.Packet.TheVariants.{DataPacket, PagePacket, SyncPacket}
@@ -10,6 +11,9 @@ use Rattle.sacn_monitor.specs.declared.news.Noted.{Noted}
 use Rattle.sacn_monitor.specs.declared.news.Noted.TheVariants.{Refused, Page, Sync, Untracked, Heard}
 use Rattle.sacn_monitor.specs.Kinds.{more}
 use Rattle.sacn_monitor.specs.Histories.{Call, Take, Tick}
+use Rattle.sacn_discovery.specs.Known.{State, after_expire, after_take}
+use Rattle.sacn_framing.specs.Page.{Page as PageFields}
+use Rattle.sacn_explain.specs.declared.listings.Listing.{Listing}
 use Rattle.sacn_explain.specs.declared.listings.Listings.{Listings}
 use Rattle.sacn_explain.specs.declared.listings.TheConstants.{MAX_LISTINGS}
 
@@ -44,9 +48,21 @@ abbrev pub listed_by : List Call → Listed
 listed_by [] = none_listed
 listed_by (call ∷ earlier) = listed_with call (listed_by earlier)
 
+-- a page is read where its source is kept, or there is room for it
+abbrev pub is_read : List ℕ → Listed → Bool
+is_read cid l = list_any (λ source. bytes_eq source cid) l.sources || nat_lt (length l.sources) MAX_LISTINGS
+
+-- the pages that a collector has once this one came and the list of its source was asked for
+abbrev pub collected : ℕ → PageFields → State → State
+collected now page c = after_expire now (after_take now page c)
+
 -- what is kept
 abbrev pub listed_in : Listings → Listed
 listed_in l = record { sources = l.sources.items; passed = l.passed }
+
+-- the list at the first place whose source has this CID
+abbrev pub listing_of : List ℕ → Listings → Option Listing
+listing_of cid l = option_and_then (λ place. slice_get l.known.items place) (position (λ source. bytes_eq source cid) l.sources.items)
 
 -- a datagram of which this was noted: a page counts
 abbrev pub after_noted : Noted → Result Packet PacketFault → Listed → Listed

@@ -1,10 +1,11 @@
 //! The universes that sources list (E1.31, 8).
 
-ghost use Rattle.std.specs.Prelude.{◌≡◌, ◌++◌, ◌∷◌, [], IfOk, OnOk, length};
+ghost use Rattle.std.specs.Prelude.{◌≡◌, ◌++◌, ◌∷◌, [], IfOk, OnOk, length, if◌then◌else◌};
 ghost use Rattle.std.specs.Str.{bytes_eq};
-ghost use Rattle.std.specs.List.{list_any};
+ghost use Rattle.std.specs.List.{list_any, position};
+ghost use Rattle.std.specs.Option.{option_map};
 ghost use Rattle.sacn_explain.specs.Lists.{is_heard, silent, is_unlisted, unlisted};
-ghost use Rattle.sacn_explain.specs.Listed.{after_page, listed_in, none_listed};
+ghost use Rattle.sacn_explain.specs.Listed.{after_page, collected, is_read, listed_in, listing_of, none_listed};
 
 use sacn_discovery::{Collector, DiscoveryFault};
 use sacn_framing::PageView;
@@ -62,7 +63,9 @@ impl Listings {
         }
     }
 
-    pub fn alloc(&self) -> Global {
+    pub fn alloc(&self) -> Global
+        ensures { result ≡ self.now.alloc }
+    {
         self.alloc
     }
 
@@ -81,7 +84,9 @@ impl Listings {
     }
 
     /// The list of a source.
-    pub fn of(&self, cid: &[u8; 16]) -> Option<&Listing> {
+    pub fn of(&self, cid: &[u8; 16]) -> Option<&Listing>
+        ensures { option_map (λ l. l.now) result ≡ listing_of cid.now self.now }
+    {
         match self.place_of(cid) {
             Some(place) => self.known.get(place),
             None => None,
@@ -92,7 +97,8 @@ impl Listings {
     ///
     /// Errors: OutOfMemory.
     pub fn take(&mut self, now: u64, page: &PageView<'_>) -> Result<PageNews, DiscoveryFault>
-        ensures { OnOk result (listed_in self.new ≡ after_page page.now.cid (listed_in self.old)) }
+        ensures listed { OnOk result (listed_in self.new ≡ after_page page.now.cid (listed_in self.old)) }
+        ensures collector { OnOk result (self.new.collector ≡ (if is_read page.now.cid (listed_in self.old) then collected now page.now self.old.collector else self.old.collector)) }
     {
         let cid = page.cid();
         if self.is_known(&cid) {
@@ -113,7 +119,9 @@ impl Listings {
         self.sources.iter().any(|source| *source == *cid)
     }
 
-    fn place_of(&self, cid: &[u8; 16]) -> Option<usize> {
+    fn place_of(&self, cid: &[u8; 16]) -> Option<usize>
+        ensures { result ≡ position (λ source. bytes_eq source cid.now) self.now.sources.items }
+    {
         self.sources.iter().position(|source| *source == *cid)
     }
 
@@ -121,6 +129,7 @@ impl Listings {
     fn admit(&mut self, cid: [u8; 16]) -> Result<(), DiscoveryFault>
         ensures sources { OnOk result ((listed_in self.new).sources ≡ (listed_in self.old).sources ++ cid ∷ []) }
         ensures passed { self.new.passed ≡ self.old.passed }
+        ensures collector { self.new.collector ≡ self.old.collector }
     {
         let listing = Listing {
             cid,
@@ -138,7 +147,8 @@ impl Listings {
 
     // A page of a source that is known.
     fn collect(&mut self, now: u64, page: &PageView<'_>) -> Result<PageNews, DiscoveryFault>
-        ensures { listed_in self.new ≡ listed_in self.old }
+        ensures listed { listed_in self.new ≡ listed_in self.old }
+        ensures collector { OnOk result (self.new.collector ≡ collected now page.now self.old.collector) }
     {
         self.collector.take(now, page)?;
         let Some(universes) = self.collector.list_of(now, &page.cid())? else {

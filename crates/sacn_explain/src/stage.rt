@@ -1,8 +1,11 @@
 //! The frames of a node.
 
-ghost use Rattle.std.specs.Prelude.{◌≡◌, IfOk, OnOk, map};
-ghost use Rattle.sacn_node.specs.Calls.{step, Tick};
-ghost use Rattle.sacn_edge.specs.PortLines.{port_after, ports_text};
+ghost use Rattle.std.specs.Prelude.{◌≡◌, ◌<◌, ◌≤◌, ◌-◌, ◌^◌, ℕ, IfOk, OnOk, map};
+ghost use Rattle.sacn_node.specs.Calls.{step, Take, Tick};
+ghost use Rattle.sacn_node.specs.Cores.{new_node, core_lost};
+ghost use Rattle.sacn_node.specs.Setup.{port_numbers};
+ghost use Rattle.sacn_edge.specs.PortLines.{port_after, ports_text, unshown};
+ghost use Rattle.sacn_explain.specs.Staging.{may_change_frames};
 
 use crate::cause::Cause;
 use crate::fault::TellFault;
@@ -23,14 +26,21 @@ pub struct Stage {
 
 impl Stage {
     /// A node of a setup, of which no frame was shown.
-    pub fn new(alloc: Global, setup: &NodeSetup) -> Result<Self, TellFault> {
+    pub fn new(alloc: Global, setup: &NodeSetup) -> Result<Self, TellFault>
+        ensures core { IfOk result (λ s. s.core ≡ new_node setup.now.ports) }
+        ensures ports { IfOk result (λ s. s.ports.items ≡ map unshown (port_numbers setup.now.ports)) }
+    {
         let core = NodeCore::new(alloc, setup)?;
         let ports = ports_of(&core);
         Ok(Stage { alloc, core, ports })
     }
 
     /// Gives the node a datagram, and answers whether a frame may have changed.
-    pub fn take(&mut self, now: u64, octets: &[u8]) -> bool {
+    pub fn take(&mut self, now: u64, octets: &[u8]) -> bool
+        ensures answer { result ≡ may_change_frames now octets.now self.old.core.core }
+        ensures core { self.new.core ≡ step (Take now octets.now) (step (Tick now) self.old.core) }
+        ensures ports { self.new.ports ≡ self.old.ports }
+    {
         let is_still = self.core.tick(now) == 0;
         match self.core.take(now, octets) {
             NodeTaken::FromTable(_) => true,
@@ -39,7 +49,10 @@ impl Stage {
     }
 
     /// The first moment at which a source that is held is lost; `u64::MAX` where there is none.
-    pub fn wakes(&self) -> u64 {
+    pub fn wakes(&self) -> u64
+        ensures asleep { (t : ℕ) → t < result → core_lost t self.now.core.core ≡ 0 }
+        ensures awake { result < 2 ^ 64 - 1 → 1 ≤ core_lost result self.now.core.core }
+    {
         match self.core.wakes() {
             Some(moment) => moment,
             None => u64::MAX,

@@ -1,3 +1,4 @@
 mod Ticking
 mod Handing
 mod Following
+mod Letters

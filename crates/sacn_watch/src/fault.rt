@@ -1,5 +1,9 @@
 //! Why a watch ends before its time.
 
+ghost use Rattle.std.specs.Prelude.{◌≡◌};
+ghost use Rattle.sacn_watch.specs.Faults.{watch_fault_of};
+ghost use Rattle.sacn_watch.specs.declared.fault.WatchFault.TheVariants.{OutOfMemory, Device};
+
 use sacn_explain::ExplainFault;
 use sacn_sources::TableFault;
 use std::alloc::AllocError;
@@ -18,24 +22,32 @@ pub enum WatchFault {
 }
 
 impl From<AllocError> for WatchFault {
+    ghost from_gives = { λ _ fault. fault ≡ OutOfMemory };
+
     fn from(_fault: AllocError) -> Self {
         WatchFault::OutOfMemory
     }
 }
 
 impl From<TableFault> for WatchFault {
+    ghost from_gives = { λ _ fault. fault ≡ OutOfMemory };
+
     fn from(_fault: TableFault) -> Self {
         WatchFault::OutOfMemory
     }
 }
 
 impl From<io::Error> for WatchFault {
+    ghost from_gives = { λ _ fault. fault ≡ Device };
+
     fn from(_fault: io::Error) -> Self {
         WatchFault::Device
     }
 }
 
 impl From<ExplainFault> for WatchFault {
+    ghost from_gives = { λ fault watch_fault. watch_fault ≡ watch_fault_of fault };
+
     fn from(fault: ExplainFault) -> Self {
         match fault {
             ExplainFault::OutOfMemory => WatchFault::OutOfMemory,

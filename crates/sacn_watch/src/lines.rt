@@ -1,5 +1,9 @@
 //! A line for each thing that happens.
 
+ghost use Rattle.std.specs.Prelude.{◌≡◌};
+ghost use Rattle.sacn_monitor.specs.Books.{next_loss};
+ghost use Rattle.sacn_monitor.specs.Streams.{loss_of};
+
 use crate::fault::WatchFault;
 use crate::watch::Watcher;
 use sacn_capture::Counts;
@@ -24,12 +28,10 @@ impl<'a, O: Write> Watcher for Follower<'a, O> {
         Ok(())
     }
 
-    fn wakes(&self) -> u64 {
-        let mut least = u64::MAX;
-        for stream in self.streams() {
-            least = least.min(loss(stream));
-        }
-        least
+    fn wakes(&self) -> u64
+        ensures { result ≡ next_loss self.now.monitor.streams }
+    {
+        next_loss(self.streams())
     }
 
     fn end(&mut self, now: u64) -> Result<(), WatchFault> {
@@ -50,8 +52,21 @@ impl<'a, O: Write> Watcher for Follower<'a, O> {
     }
 }
 
+// The first moment at which a source is lost that isn't told lost.
+fn next_loss(streams: &[Stream]) -> u64
+    ensures { result ≡ next_loss streams.now }
+{
+    let mut least = u64::MAX;
+    for stream in streams {
+        least = least.min(loss(stream));
+    }
+    least
+}
+
 // The moment at which a source that isn't told lost is lost where it stays silent.
-fn loss(stream: &Stream) -> u64 {
+fn loss(stream: &Stream) -> u64
+    ensures { result ≡ loss_of stream.now }
+{
     if stream.told | stream.account.ended {
         u64::MAX
     } else {

@@ -35,7 +35,9 @@ impl<'a, R: Net + Clock> Listener for UdpReceiver<'a, R> {
 impl Listener for MemoryReceiver {
     ghost Ended = { λ _. ⊥ };
 
-    fn sender_port(&self) -> u16 {
+    fn sender_port(&self) -> u16
+        ensures { result ≡ 0 }
+    {
         0
     }
 

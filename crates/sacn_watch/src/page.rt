@@ -1,7 +1,9 @@
 //! Rows of letters, and how they are written to a terminal.
 
-ghost use Rattle.std.specs.Prelude.{◌≡◌, ◌≤◌, [], true, length, OnOk};
-ghost use Rattle.sacn_watch.specs.Pages.{is_shown, shown_as, with_cell, with_row, FitsOn};
+ghost use Rattle.std.specs.Prelude.{◌≡◌, ◌≤◌, [], ◌++◌, true, length, string_bytes, OnOk, IfOk};
+ghost use Rattle.sacn_watch.specs.Pages.{is_shown, shown_as, with_cell, with_text, with_row, row_of, FitsOn};
+ghost use Rattle.sacn_watch.specs.Drawn.{is_same, ink_code, change_code, letter_of, inked, placed_row, cleared_from, page_text};
+ghost use Rattle.sacn_watch.specs.declared.page.Ink.TheVariants.{Plain};
 
 use std::alloc::{AllocError, Global};
 use std::fmt::Write;
@@ -107,7 +109,9 @@ impl Row {
     /// A text more, as much of it as there is room for.
     pub fn put_text(&mut self, text: &str, ink: Ink) -> Result<(), AllocError>
         ensures width { self.new.width ≡ self.old.width }
+        ensures kept { OnOk result (self.new ≡ with_text ink text.now self.old) }
     {
+        let _ = &self.width;
         for letter in text.chars() {
             self.put(letter as u32, ink)?;
         }
@@ -149,6 +153,8 @@ impl Page {
     /// A row of one ink more, where there is room for it.
     pub fn push_text(&mut self, alloc: Global, text: &str, ink: Ink) -> Result<(), AllocError>
         ensures size { self.new.size ≡ self.old.size }
+        ensures kept { OnOk result (self.new.rows.items
+            ≡ with_row self.old.size.height (row_of self.old.size.width ink text.now) self.old.rows.items) }
         ensures fits { FitsOn self.old.size self.old.rows.items → FitsOn self.new.size self.new.rows.items }
     {
         let mut row = Row::new(alloc, self.size.width);
@@ -157,40 +163,62 @@ impl Page {
     }
 
     /// The text that draws the page over whatever a terminal shows, in colours or without them.
-    pub fn text(&self, alloc: Global, has_colours: bool) -> Result<String, AllocError> {
+    pub fn text(&self, alloc: Global, has_colours: bool) -> Result<String, AllocError>
+        ensures { IfOk result (λ text. string_bytes text ≡ page_text has_colours self.now.size.height self.now.rows.items) }
+    {
         let mut text = String::new(alloc);
         let mut number = 1_usize;
         for row in self.rows.iter() {
-            write!(text, "\u{1b}[{number};1H")?;
-            push_row(&mut text, row, has_colours)?;
-            text.push_str("\u{1b}[K")?;
+            push_placed(&mut text, row, number, has_colours)?;
             number = number.saturating_add(1);
         }
-        if number <= self.size.height {
-            write!(text, "\u{1b}[{number};1H\u{1b}[J")?;
-        }
+        push_rest(&mut text, number, self.size.height)?;
         Ok(text)
     }
 }
 
-fn push_row(text: &mut String, row: &Row, has_colours: bool) -> Result<(), AllocError> {
+// The letters of a row, each after the code of its ink where the letter before has another one.
+fn push_row(text: &mut String, row: &Row, has_colours: bool) -> Result<(), AllocError>
+    ensures { OnOk result (string_bytes text.new ≡ string_bytes text.old ++ inked has_colours Plain row.now.cells) }
+{
     let mut ink = Ink::Plain;
     for cell in row.cells() {
-        if has_colours && cell.ink != ink {
-            ink = cell.ink;
-            push_ink(text, ink)?;
-        }
-        if let Some(letter) = char::from_u32(cell.code) {
-            text.push(letter)?;
-        }
+        let next = if has_colours { cell.ink } else { Ink::Plain };
+        push_change(text, ink, next)?;
+        push_letter(text, cell.code)?;
+        ink = next;
     }
-    if ink != Ink::Plain {
-        push_ink(text, Ink::Plain)?;
-    }
-    Ok(())
+    push_change(text, ink, Ink::Plain)
 }
 
-fn push_ink(text: &mut String, ink: Ink) -> Result<(), AllocError> {
+fn is_same(before: Ink, after: Ink) -> bool
+    ensures { result ≡ is_same before after }
+{
+    before == after
+}
+
+fn push_change(text: &mut String, before: Ink, after: Ink) -> Result<(), AllocError>
+    ensures { OnOk result (string_bytes text.new ≡ string_bytes text.old ++ change_code before after) }
+{
+    if is_same(before, after) {
+        Ok(())
+    } else {
+        push_ink(text, after)
+    }
+}
+
+fn push_letter(text: &mut String, code: u32) -> Result<(), AllocError>
+    ensures { OnOk result (string_bytes text.new ≡ string_bytes text.old ++ letter_of code) }
+{
+    match char::from_u32(code) {
+        Some(letter) => text.push(letter),
+        None => Ok(()),
+    }
+}
+
+fn push_ink(text: &mut String, ink: Ink) -> Result<(), AllocError>
+    ensures { OnOk result (string_bytes text.new ≡ string_bytes text.old ++ ink_code ink) }
+{
     match ink {
         Ink::Plain => text.push_str("\u{1b}[0m"),
         Ink::Heading => text.push_str("\u{1b}[0;1m"),
@@ -199,5 +227,30 @@ fn push_ink(text: &mut String, ink: Ink) -> Result<(), AllocError> {
             let colour = 31 + place % COLOURS;
             write!(text, "\u{1b}[0;{colour}m")
         }
+    }
+}
+
+// A row at its place, and nothing right of it.
+fn push_placed(
+    text: &mut String,
+    row: &Row,
+    number: usize,
+    has_colours: bool,
+) -> Result<(), AllocError>
+    ensures { OnOk result (string_bytes text.new ≡ string_bytes text.old ++ placed_row has_colours number row.now) }
+{
+    write!(text, "\u{1b}[{number};1H")?;
+    push_row(text, row, has_colours)?;
+    text.push_str("\u{1b}[K")
+}
+
+// The lines below the rows, where there are any.
+fn push_rest(text: &mut String, number: usize, height: usize) -> Result<(), AllocError>
+    ensures { OnOk result (string_bytes text.new ≡ string_bytes text.old ++ cleared_from height number) }
+{
+    if number <= height {
+        write!(text, "\u{1b}[{number};1H\u{1b}[J")
+    } else {
+        Ok(())
     }
 }

@@ -1,7 +1,7 @@
 //! A screen on a terminal.
 
 ghost use Rattle.std.specs.Prelude.{◌≡◌, [], IfOk};
-ghost use Rattle.sacn_watch.specs.Screens.{IsShowing};
+ghost use Rattle.sacn_watch.specs.Screens.{IsShowing, wake_of};
 
 use crate::fault::WatchFault;
 use crate::layout::screen;
@@ -111,7 +111,9 @@ impl<'a, O: Write> Watcher for Terminal<'a, O> {
         self.draw(now)
     }
 
-    fn wakes(&self) -> u64 {
+    fn wakes(&self) -> u64
+        ensures { result ≡ wake_of self.now }
+    {
         if self.is_stale {
             return self.next;
         }
