@@ -7,6 +7,7 @@ use sacn_node::SetupFault;
 use sacn_root::PacketFault;
 use sacn_sources::TableFault;
 use sacn_text::{DecodeFault, ReadFault, SimFault};
+use sacn_watch::WatchFault;
 use sacn_world::{WorldFault, WorldTextFault};
 use std::alloc::{AllocError, Global};
 use std::io::Write;
@@ -118,6 +119,15 @@ impl From<TableFault> for Ending {
 impl From<SocketFailed> for Ending {
     fn from(_fault: SocketFailed) -> Ending {
         Ending::DeviceSocket
+    }
+}
+
+impl From<WatchFault> for Ending {
+    fn from(fault: WatchFault) -> Ending {
+        match fault {
+            WatchFault::OutOfMemory => Ending::OutOfMemory,
+            WatchFault::Device => Ending::DeviceWrite,
+        }
     }
 }
 

@@ -180,11 +180,14 @@ pub fn seconds_in<'a>(alloc: Global, matches: &ArgMatches<'a>) -> Result<Option<
 
 pub fn gateway_asked<'a>(alloc: Global, matches: &ArgMatches<'a>) -> Result<Asked<'a>, Error> {
     let seconds = seconds_in(alloc, matches)?;
+    let listen = host(alloc, matches, "listen", Ipv4Addr::UNSPECIFIED)?;
+    let from = senders(alloc, matches)?;
+    let widgets = widgets(alloc, matches)?;
     Ok(Asked::Gateway(GatewayAsked {
         setup: text(matches, "SETUP"),
-        listen: host(alloc, matches, "listen", Ipv4Addr::UNSPECIFIED)?,
-        from: senders(alloc, matches)?,
-        widgets: widgets(alloc, matches)?,
+        listen,
+        from,
+        widgets,
         seconds,
     }))
 }

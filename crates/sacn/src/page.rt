@@ -7,7 +7,7 @@ use clap::{ArgMatches, Error};
 use sacn_files::words::short_in;
 use sacn_live::{AddressFault, destination_of};
 use sacn_page::{Board, Ear, MAX_ALARMS, Pages};
-use sacn_watch::{WatchFault, run_watch};
+use sacn_watch::run_watch;
 use std::alloc::Global;
 use std::io::{ErrorKind, Write};
 use std::net::{Ipv4Addr, Net, SocketAddrV4};
@@ -76,9 +76,5 @@ pub fn serve<R: AllocGlobal + Net + Clock, E: Write>(
     };
     say_hearing(address, ear.room(), err);
     say_page(place, err);
-    match run_watch(&mut ear, &mut pages, until) {
-        Ok(()) => Ok(()),
-        Err(WatchFault::OutOfMemory) => Err(Ending::OutOfMemory),
-        Err(WatchFault::Device) => Err(Ending::DeviceWrite),
-    }
+    Ok(run_watch(&mut ear, &mut pages, until)?)
 }

@@ -47,15 +47,8 @@ fn run<R: AllocGlobal + Files + Env + Net + Clock, I: Read + Drop, O: Write + Dr
             script,
             turns,
             first,
-        } => {
-            let show = text_of_file(rt, show)?;
-            let script = text_of_file(rt, script)?;
-            network::console(rt, (show.as_str(), script.as_str()), first, turns, &mut out)
-        }
-        Asked::Node { setup, turns } => {
-            let setup = text_of_file(rt, setup)?;
-            network::node(rt, setup.as_str(), turns, &mut out)
-        }
+        } => console(rt, (show, script), first, turns, &mut out),
+        Asked::Node { setup, turns } => node(rt, setup, turns, &mut out),
         Asked::Gateway(asked) => live::gateway(rt, &asked, &mut out, err),
         Asked::Desk(asked) => live::desk(rt, &asked, &mut out, err),
         Asked::Groups { file, device } => live::groups(rt, file, device, &mut out, err),
@@ -97,6 +90,30 @@ fn simulate<R: AllocGlobal + Files, O: Write + Drop>(
     let schedule = text_of_file(rt, schedule)?;
     let printed = print_looks(rt.alloc(), world.as_str(), schedule.as_str(), out);
     finished(printed)
+}
+
+// Runs a console of a show's file, as a script's file orders.
+fn console<R: AllocGlobal + Files + Net + Clock, O: Write>(
+    rt: &R,
+    (show, script): (&str, &str),
+    first: u8,
+    turns: u64,
+    out: &mut O,
+) -> Result<(), Ending> {
+    let show = text_of_file(rt, show)?;
+    let script = text_of_file(rt, script)?;
+    network::console(rt, (show.as_str(), script.as_str()), first, turns, out)
+}
+
+// Runs a node of a setup's file.
+fn node<R: AllocGlobal + Files + Net + Clock, O: Write>(
+    rt: &R,
+    setup: &str,
+    turns: u64,
+    out: &mut O,
+) -> Result<(), Ending> {
+    let setup = text_of_file(rt, setup)?;
+    network::node(rt, setup.as_str(), turns, out)
 }
 
 // The one datagram on standard input.

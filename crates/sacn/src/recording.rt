@@ -48,9 +48,19 @@ pub fn serve<R: AllocGlobal + Files + Net + Clock, E: Write>(
     err: &mut E,
 ) -> Result<(), Ending> {
     guard_standard_descriptors();
-    let Ok(file) = fs::open(rt, asked.capture) else {
-        return Err(unread(asked.capture, err));
-    };
+    match fs::open(rt, asked.capture) {
+        Ok(file) => serve_file(rt, asked, file, place, err),
+        Err(_) => Err(unread(asked.capture, err)),
+    }
+}
+
+fn serve_file<R: AllocGlobal + Files + Net + Clock, E: Write>(
+    rt: &R,
+    asked: &ExplainAsked<'_>,
+    file: R::File,
+    place: SocketAddrV4,
+    err: &mut E,
+) -> Result<(), Ending> {
     let tape: FileTape<R> = FileTape {
         alloc: rt.alloc(),
         file,
@@ -111,16 +121,22 @@ fn serve_pages<R: AllocGlobal + Files + Net + Clock, E: Write>(
     until: u64,
     err: &mut E,
 ) -> Result<(), Ending> {
-    let mut pages = match Pages::bind(rt, rt.alloc(), place, recording) {
-        Ok(pages) => pages,
-        Err(ErrorKind::OutOfMemory) => return Err(Ending::OutOfMemory),
-        Err(kind) => return Err(said_of_socket(place, kind, err)),
-    };
+    match Pages::bind(rt, rt.alloc(), place, recording) {
+        Ok(pages) => Ok(show(pages, quiet, place, until, err)?),
+        Err(ErrorKind::OutOfMemory) => Err(Ending::OutOfMemory),
+        Err(kind) => Err(said_of_socket(place, kind, err)),
+    }
+}
+
+// Serves pages that have their place.
+fn show<R: AllocGlobal + Files + Net + Clock, E: Write>(
+    mut pages: Pages<Recording<FileTape<R>>>,
+    quiet: &mut Quiet<'_, R>,
+    place: SocketAddrV4,
+    until: u64,
+    err: &mut E,
+) -> Result<(), WatchFault> {
     quiet.wait_for(pages.descriptor());
     say_page(place, err);
-    match run_watch(quiet, &mut pages, until) {
-        Ok(()) => Ok(()),
-        Err(WatchFault::OutOfMemory) => Err(Ending::OutOfMemory),
-        Err(WatchFault::Device) => Err(Ending::DeviceWrite),
-    }
+    run_watch(quiet, &mut pages, until)
 }

@@ -101,17 +101,14 @@ pub fn watch<R: AllocGlobal + Env + Net + Clock, O: Write, E: Write>(
         let universe = asked.universes.first().copied();
         return serve(rt, address, place, universe, until, err);
     }
-    let mut receiver = match UdpReceiver::bind(rt, address, clock_of(rt)?) {
+    let clock = clock_of(rt)?;
+    let mut receiver = match UdpReceiver::bind(rt, address, clock) {
         Ok(receiver) => receiver,
         Err(kind) => return Err(said_of_socket(address, kind, err)),
     };
     receiver.wait_for_input();
     say_hearing(address, receiver.room(), err);
-    match tell(rt, &mut receiver, asked, until, out) {
-        Ok(()) => Ok(()),
-        Err(WatchFault::OutOfMemory) => Err(Ending::OutOfMemory),
-        Err(WatchFault::Device) => Err(Ending::DeviceWrite),
-    }
+    Ok(tell(rt, &mut receiver, asked, until, out)?)
 }
 
 // Tells what a receiver hears, line by line, or shows it on a terminal.

@@ -34,6 +34,3 @@ pub use pcapng::{
     pcapng_block_head, section_in, simple_in,
 };
 pub use stream::{Capture, Record};
-
-#[cfg(test)]
-mod tests;

@@ -1,4 +1,5 @@
-use super::*;
+//! Recordings written octet by octet, and what is read of them.
+use sacn_capture::{Capture, Datagram, LinkType, Passed, Record, datagram_in};
 use std::alloc::{AllocError, Global};
 use std::fmt::Write;
 use std::test::*;
