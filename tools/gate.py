@@ -1,0 +1,263 @@
+#!/usr/bin/env python3
+"""The kit's gate, `rt ci`, with its must-fail edits tried several to a check.
+
+usage: gate.py               the gate, at the top of the repository
+       gate.py edits NAME..  the edits of these crates alone, over what is built
+
+The kit tries each edit by a check of its own, which reads all libraries below each time: with some 650 edits that was more than half of
+the gate. Here all edits of a crate that change the body of one function each are applied together, one to a function, and one check
+must refuse every one of those functions for a goal of its own: a function that is refused only since it calls another that is, doesn't
+count. So it is told more than by the kit's way, by which an edit falls with whatever function falls. Edits of constants are applied
+together too, and each must fall by the clause of a law that states its constant. What isn't refused so, or can't be told, is tried by the
+kit's own way. All else is the kit's: every proof from nothing, each edit's text, what is printed, and the last line.
+"""
+import difflib
+import importlib.machinery
+import importlib.util
+import os
+import re
+import shutil
+import sys
+import tempfile
+from collections import namedtuple
+
+FUNCTION = re.compile(r"( *)(?:pub(?:\([^)]*\))? )?((?:const |unsafe )*)(?:extern \"C\" )?fn (\w+)")
+CONSTANT = re.compile(r" *(?:pub(?:\([^)]*\))? )?const (\w+): [^=]*= -?[\d_]+;")
+LAW = re.compile(r" *ensures (\w+) \{ (\w+) ≡ ")
+IMPL = re.compile(r"impl(?:<[^{]*?>)? (?:(\w+)(?:<[^{]*?>)? for )?&?(?:'\w+ )?(\w+)")
+# One function of a source file: its first and last line and where it stands.
+Function = namedtuple("Function", "first last name is_const")
+# One edit: its file, the pairs of texts by file, and what must fall: functions by their path, and for a constant its clause.
+Edit = namedtuple("Edit", "file pairs targets clause")
+
+
+def load(path):
+    loader = importlib.machinery.SourceFileLoader("rt", path)
+    made = importlib.util.module_from_spec(importlib.util.spec_from_loader("rt", loader))
+    sys.modules["rt"] = made
+    loader.exec_module(made)
+    return made
+
+
+def module_of(path):
+    """The path of a source file's module below its crate."""
+    parts = path[len("src/") : -len(".rt")].split("/")
+    return [it for it in parts if it not in ("lib", "main", "mod")]
+
+
+def impl_of(lines, at, indent):
+    """The name that the kit gives the impl around a line: its type, and its trait where it has one."""
+    if not indent:
+        return []
+    for line in reversed(lines[:at]):
+        if line and not line.startswith(" "):
+            found = IMPL.match(line)
+            return [found[2][0].upper() + found[2][1:] + (found[1] or "")] if found else None
+    return None
+
+
+def functions_of(path, text):
+    """The functions of a source file as the kit's formatter lays them out: each ends at a brace under its first letter."""
+    lines, found = text.split("\n"), []
+    for at, line in enumerate(lines):
+        head = FUNCTION.match(line)
+        if not head:
+            continue
+        around = impl_of(lines, at, head[1])
+        if around is None:
+            continue
+        ends = (head[1] + "}", head[1] + "{}")
+        last = next((it for it in range(at, len(lines)) if lines[it] in ends or lines[it].startswith(head[1] + "{ ")), at)
+        name = "::".join([*module_of(path), *around, head[3]])
+        found.append(Function(at, last, name, "const " in head[2]))
+    return found
+
+
+def pairs_of(file):
+    """An edit's pairs of texts, each with the file that it changes (the kit has read them once, so they are well formed)."""
+    path, old, pairs = "", "", []
+    with open(file, encoding="utf-8") as lines:
+        for line in lines.read().split("\n"):
+            if line.startswith("file: "):
+                path = line[len("file: ") :].strip()
+            elif line.startswith("old: "):
+                old = line[len("old: ") :]
+            elif line.startswith("new:"):
+                pairs.append((path, old, line[len("new:") :].removeprefix(" ")))
+    return pairs
+
+
+class Texts:
+    """The texts of a crate, and what edits make of them."""
+
+    def __init__(self, folder):
+        self.folder, self.read, self.laws = folder, {}, {}
+        for at, _, names in os.walk(f"{folder}/src"):
+            for name in sorted(names):
+                path = os.path.relpath(f"{at}/{name}", folder)
+                text = self.of(path)
+                functions = functions_of(path, text)
+                for number, line in enumerate(text.split("\n")):
+                    law = LAW.match(line)
+                    holder = [it for it in functions if it.first < number <= it.last]
+                    if law and holder:
+                        self.laws[law[2]] = holder[0].name, law[1]
+        # (a clause that stands alone has no name in its function's goal)
+        alone = [name for name, _ in self.laws.values()]
+        self.laws = {it: (name, "returns" if alone.count(name) == 1 else f"returns-clause-{clause}") for it, (name, clause) in self.laws.items()}
+
+    def of(self, path):
+        if path not in self.read:
+            with open(f"{self.folder}/{path}", encoding="utf-8") as it:
+                self.read[path] = it.read()
+        return self.read[path]
+
+    def with_edits(self, edits):
+        """The changed texts by path, or None where an edit's text doesn't stand once among the others'."""
+        texts = {}
+        for edit in edits:
+            for path, old, new in edit.pairs:
+                text = texts.get(path) or self.of(path)
+                if text.count(old) != 1:
+                    return None
+                texts[path] = text.replace(old, new)
+        return texts
+
+    def edit(self, file):
+        """An edit with what must fall by it: nothing where that can't be told."""
+        edit = Edit(file, pairs_of(file), set(), "")
+        texts = self.with_edits([edit])
+        targets, clause, constants = set(), "", 0
+        for path, text in (texts or {}).items():
+            if not path.startswith("src/"):
+                return edit
+            before, after = self.of(path).split("\n"), text.split("\n")
+            functions = functions_of(path, self.of(path))
+            for what, first, end, start, stop in difflib.SequenceMatcher(None, before, after, autojunk=False).get_opcodes():
+                if what == "equal":
+                    continue
+                inside = [it for it in functions if it.first < first and end <= it.last and not it.is_const]
+                constant = CONSTANT.fullmatch("\n".join(after[start:stop]))
+                if inside:
+                    targets.add(inside[-1].name)
+                elif constant and constant[1] in self.laws:
+                    law, clause = self.laws[constant[1]]
+                    targets.add(law)
+                    constants += 1
+                else:
+                    return edit
+        if constants and len(targets) + constants != 2:
+            return edit
+        return edit._replace(targets=targets, clause=clause)
+
+
+def fallen(rt, crate, texts, said):
+    """The functions that a check refused for goals of their own, with the line that says so; None where the check says nothing of contracts."""
+    lines = said.stdout.rstrip("\n").split("\n")
+    if said.returncode != 1 or not re.match(r"logic=not-proved|only=\d+ proved=", lines[-1]) or rt.rtlib.STALE.search(said.stdout):
+        return None
+    if any(rt.unread(it, texts) for it in lines):
+        return None
+    named = re.compile(r"(\./)?proofs/.*(has no field|is not in scope|has no `|was not admitted)")
+    errors = [it for it in lines if re.match(r"(\./)?proofs/\S+:\d+:\d+: error", it) and not named.match(it)]
+    found = {}
+    for line in lines:
+        told = re.match(rf"fn {crate.name}::(\S+): (.*)", line)
+        if not told:
+            continue
+        folder = f"proofs/{told[1].replace('::', '/')}/"
+        if "`search` did not prove" in told[2]:
+            found[told[1]] = told[2]
+        elif told[2].startswith("not proved") and any(it.removeprefix("./").startswith(folder) for it in errors):
+            found[told[1]] = next(it for it in errors if it.removeprefix("./").startswith(folder))
+    return found
+
+
+def is_of(name, target):
+    """Whether a function is the target or a closure in it, which the kit names by the module, `fn`, and the function."""
+    module, _, last = target.rpartition("::")
+    parents = [module, module.rpartition("::")[0]]
+    return name == target or any(name.startswith("::".join([*filter(None, [it]), "fn", target[len(it) :].removeprefix("::")]) + "::") for it in parents)
+
+
+def words_of(fell):
+    return re.sub(r"^no proof: (expected answers in \S+ )?", "", fell)[:160]
+
+
+class Crate:
+    """The edits of a crate, under way: those that were refused, by file, and the folder of what their checks proved."""
+
+    def __init__(self, rt, crate, files, flags, kept):
+        self.rt, self.crate, self.flags, self.kept = rt, crate, flags, kept
+        self.texts, self.told = Texts(crate.folder), {}
+        self.edits = [self.texts.edit(it) for it in files if not rt.read_edit(it, crate.folder)[1]]
+
+    def check(self, edits):
+        texts = self.texts.with_edits(edits)
+        if texts is None:
+            return {}
+        only = [word for it in sorted({target for edit in edits for target in edit.targets}) for word in ("--only", it)]
+        said = self.rt.checked(self.crate, texts, [*self.flags, *only], self.kept)
+        found = fallen(self.rt, self.crate, texts, said)
+        targets = {it for edit in edits for it in edit.targets}
+        # A function that falls though no edit touched it: this check isn't trusted with any of them.
+        odd = [name for name in found or {} if not any(is_of(name, it) for it in targets)]
+        return {} if found is None or odd else found
+
+    def refused(self, edit, found):
+        """What refuses an edit, if anything does."""
+        own = [said for name, said in found.items() if any(is_of(name, it) for it in edit.targets)]
+        if edit.clause:
+            own = [it for it in own if f"`{edit.clause}`" in it]
+        return own[0] if own else None
+
+    def note(self, edits, found):
+        """Notes the edits that are refused, and says whether there was one."""
+        for edit in edits:
+            why = self.refused(edit, found)
+            if why:
+                label = f"must-fail {self.crate.name}/{os.path.basename(edit.file)}"
+                self.told[edit.file] = True, f"{label}: refused, as it must be: {'::'.join(sorted(edit.targets))}: {words_of(why)}"
+        return any(it.file in self.told for it in edits)
+
+    def together(self, edits):
+        """Tries edits that have targets, as many in a check as touch different functions or constants, for as long as that refuses some."""
+        while edits:
+            batch, taken = [], set()
+            for edit in edits:
+                touched = {edit.clause} if edit.clause else edit.targets
+                if not taken & touched and self.texts.with_edits([*batch, edit]) is not None:
+                    batch, taken = [*batch, edit], taken | touched
+            if not self.note(batch, self.check(batch)):
+                break
+            edits = [it for it in edits if it.file not in self.told]
+
+
+def must_fail_all(rt, crate, files, flags):
+    """As the kit's function of this name: for each edit whether it is refused, and what to say."""
+    with tempfile.TemporaryDirectory(prefix="rt-edits-") as kept:
+        tried = Crate(rt, crate, files, flags, kept)
+        tried.together([it for it in tried.edits if it.targets and not it.clause])
+        tried.together([it for it in tried.edits if it.clause])
+        rest = [it for it in files if it not in tried.told]
+        if rest:
+            print(f"rt: {crate.name}: {len(files) - len(rest)} of {len(files)} edits refused together; one by one: {', '.join(os.path.basename(it) for it in rest)}", flush=True)
+        alone = {it: rt.must_fail(crate, it, flags, kept) for it in rest}
+        if any(not it[0] for it in alone.values()) or (len(rest) > 1 and rt.checked(crate, {}, flags, kept).returncode):
+            alone = {it: rt.must_fail(crate, it, flags) for it in rest}
+    return [tried.told.get(it) or alone[it] for it in files]
+
+
+def main(words):
+    found = shutil.which("rt")
+    if not found:
+        sys.exit("gate: the kit's command rt isn't on the PATH")
+    rt = load(os.path.realpath(found))
+    rt.must_fail_all = lambda crate, files, flags: must_fail_all(rt, crate, files, flags)
+    if words[:1] == ["edits"]:
+        return rt.edits_alone(words[1:])
+    return rt.ci()
+
+
+if __name__ == "__main__":
+    sys.exit(main(sys.argv[1:]))
