@@ -24,10 +24,11 @@ from collections import namedtuple
 FUNCTION = re.compile(r"( *)(?:pub(?:\([^)]*\))? )?((?:const |unsafe )*)(?:extern \"C\" )?fn (\w+)")
 CONSTANT = re.compile(r" *(?:pub(?:\([^)]*\))? )?const (\w+): [^=]*= -?[\d_]+;")
 LAW = re.compile(r" *ensures (\w+) \{ (\w+) ≡ ")
-IMPL = re.compile(r"impl(?:<[^{]*?>)? (?:(\w+)(?:<[^{]*?>)? for )?&?(?:'\w+ )?(\w+)")
-# One function of a source file: its first and last line and where it stands.
-Function = namedtuple("Function", "first last name is_const")
-# One edit: its file, the pairs of texts by file, and what must fall: functions by their path, and for a constant its clause.
+IMPL = re.compile(r"impl(?:<[^{]*?>)? (?:(\w+)(?:<(.*?)>)? for )?&?(?:'\w+ )?(\w+)")
+# A function: its module, and the paths that it may have in what a check says. One of a source file: the lines that its body stands between.
+Target = namedtuple("Target", "module names")
+Function = namedtuple("Function", "head first last target is_const")
+# One edit: its file, the pairs of texts by file, the functions that must fall, and for a constant the goal of its law's clause.
 Edit = namedtuple("Edit", "file pairs targets clause")
 
 
@@ -45,15 +46,17 @@ def module_of(path):
     return [it for it in parts if it not in ("lib", "main", "mod")]
 
 
-def impl_of(lines, at, indent):
-    """The name that the kit gives the impl around a line: its type, and its trait where it has one."""
+def impls_of(lines, at, indent):
+    """The names that the kit may give the impl around a line: its type, and its trait where it has one, with the trait's own types or without."""
     if not indent:
+        return [""]
+    line = next((it for it in reversed(lines[:at]) if it and not it.startswith(" ")), "")
+    found = IMPL.match(line)
+    if not found:
         return []
-    for line in reversed(lines[:at]):
-        if line and not line.startswith(" "):
-            found = IMPL.match(line)
-            return [found[2][0].upper() + found[2][1:] + (found[1] or "")] if found else None
-    return None
+    name = found[3][0].upper() + found[3][1:] + (found[1] or "")
+    given = re.findall(r"(?:^|, )&?(?:'\w+ )?(\w+)", found[2] or "")
+    return [name, name + "".join(it[0].upper() + it[1:] for it in given)]
 
 
 def functions_of(path, text):
@@ -63,13 +66,18 @@ def functions_of(path, text):
         head = FUNCTION.match(line)
         if not head:
             continue
-        around = impl_of(lines, at, head[1])
-        if around is None:
+        around = impls_of(lines, at, head[1])
+        if not around:
             continue
-        ends = (head[1] + "}", head[1] + "{}")
-        last = next((it for it in range(at, len(lines)) if lines[it] in ends or lines[it].startswith(head[1] + "{ ")), at)
-        name = "::".join([*module_of(path), *around, head[3]])
-        found.append(Function(at, last, name, "const " in head[2]))
+        # (a body stands between a line that is an opening brace or ends the head by one, and the brace that closes it)
+        opens = (it for it in range(at, len(lines)) if lines[it].startswith(head[1] + "{") or lines[it].startswith((line, head[1] + ")")) and lines[it].endswith((" {", "}")))
+        first = next(opens, None)
+        if first is None:
+            continue
+        last = first if lines[first].endswith("}") else next((it for it in range(first, len(lines)) if lines[it] == head[1] + "}"), first)
+        module = "::".join(module_of(path))
+        names = frozenset("::".join(filter(None, [module, it, head[3]])) for it in around)
+        found.append(Function(at, first, last, Target(module, names), "const " in head[2]))
     return found
 
 
@@ -99,12 +107,12 @@ class Texts:
                 functions = functions_of(path, text)
                 for number, line in enumerate(text.split("\n")):
                     law = LAW.match(line)
-                    holder = [it for it in functions if it.first < number <= it.last]
+                    holder = [it for it in functions if it.head < number < it.first]
                     if law and holder:
-                        self.laws[law[2]] = holder[0].name, law[1]
+                        self.laws[law[2]] = holder[0].target, law[1]
         # (a clause that stands alone has no name in its function's goal)
-        alone = [name for name, _ in self.laws.values()]
-        self.laws = {it: (name, "returns" if alone.count(name) == 1 else f"returns-clause-{clause}") for it, (name, clause) in self.laws.items()}
+        alone = [target for target, _ in self.laws.values()]
+        self.laws = {it: (target, "returns" if alone.count(target) == 1 else f"returns-clause-{clause}") for it, (target, clause) in self.laws.items()}
 
     def of(self, path):
         if path not in self.read:
@@ -139,7 +147,7 @@ class Texts:
                 inside = [it for it in functions if it.first < first and end <= it.last and not it.is_const]
                 constant = CONSTANT.fullmatch("\n".join(after[start:stop]))
                 if inside:
-                    targets.add(inside[-1].name)
+                    targets.add(inside[-1].target)
                 elif constant and constant[1] in self.laws:
                     law, clause = self.laws[constant[1]]
                     targets.add(law)
@@ -154,6 +162,8 @@ class Texts:
 def fallen(rt, crate, texts, said):
     """The functions that a check refused for goals of their own, with the line that says so; None where the check says nothing of contracts."""
     lines = said.stdout.rstrip("\n").split("\n")
+    if not said.returncode:
+        return {}
     if said.returncode != 1 or not re.match(r"logic=not-proved|only=\d+ proved=", lines[-1]) or rt.rtlib.STALE.search(said.stdout):
         return None
     if any(rt.unread(it, texts) for it in lines):
@@ -175,9 +185,11 @@ def fallen(rt, crate, texts, said):
 
 def is_of(name, target):
     """Whether a function is the target or a closure in it, which the kit names by the module, `fn`, and the function."""
-    module, _, last = target.rpartition("::")
-    parents = [module, module.rpartition("::")[0]]
-    return name == target or any(name.startswith("::".join([*filter(None, [it]), "fn", target[len(it) :].removeprefix("::")]) + "::") for it in parents)
+    parts = name.split("::")
+    if "fn" in parts[:-1]:
+        at = parts.index("fn")
+        return any("::".join(parts[:at] + parts[at + 1 : end]) in target.names for end in range(at + 2, len(parts)))
+    return name in target.names
 
 
 def words_of(fell):
@@ -189,19 +201,22 @@ class Crate:
 
     def __init__(self, rt, crate, files, flags, kept):
         self.rt, self.crate, self.flags, self.kept = rt, crate, flags, kept
-        self.texts, self.told = Texts(crate.folder), {}
+        self.texts, self.told, self.why = Texts(crate.folder), {}, ""
         self.edits = [self.texts.edit(it) for it in files if not rt.read_edit(it, crate.folder)[1]]
 
     def check(self, edits):
         texts = self.texts.with_edits(edits)
         if texts is None:
             return {}
-        only = [word for it in sorted({target for edit in edits for target in edit.targets}) for word in ("--only", it)]
-        said = self.rt.checked(self.crate, texts, [*self.flags, *only], self.kept)
-        found = fallen(self.rt, self.crate, texts, said)
         targets = {it for edit in edits for it in edit.targets}
+        # (the modules of what is touched, and what stands in none by its name)
+        reached = sorted({it.module or min(it.names) for it in targets})
+        said = self.rt.checked(self.crate, texts, [*self.flags, *(word for it in reached for word in ("--only", it))], self.kept)
+        found = fallen(self.rt, self.crate, texts, said)
         # A function that falls though no edit touched it: this check isn't trusted with any of them.
         odd = [name for name in found or {} if not any(is_of(name, it) for it in targets)]
+        if found is None or odd:
+            self.why = f"; a check of {len(edits)} edits wasn't used: {', '.join(odd) or said.stdout[-300:]}"
         return {} if found is None or odd else found
 
     def refused(self, edit, found):
@@ -217,7 +232,7 @@ class Crate:
             why = self.refused(edit, found)
             if why:
                 label = f"must-fail {self.crate.name}/{os.path.basename(edit.file)}"
-                self.told[edit.file] = True, f"{label}: refused, as it must be: {'::'.join(sorted(edit.targets))}: {words_of(why)}"
+                self.told[edit.file] = True, f"{label}: refused, as it must be: {'; '.join(sorted(min(it.names) for it in edit.targets))}: {words_of(why)}"
         return any(it.file in self.told for it in edits)
 
     def together(self, edits):
@@ -241,9 +256,10 @@ def must_fail_all(rt, crate, files, flags):
         tried.together([it for it in tried.edits if it.clause])
         rest = [it for it in files if it not in tried.told]
         if rest:
-            print(f"rt: {crate.name}: {len(files) - len(rest)} of {len(files)} edits refused together; one by one: {', '.join(os.path.basename(it) for it in rest)}", flush=True)
+            names = " ".join(os.path.basename(it) for it in rest)
+            print(f"rt: {crate.name}: {len(files) - len(rest)} of {len(files)} edits refused together; one by one: {names}{tried.why}", flush=True)
         alone = {it: rt.must_fail(crate, it, flags, kept) for it in rest}
-        if any(not it[0] for it in alone.values()) or (len(rest) > 1 and rt.checked(crate, {}, flags, kept).returncode):
+        if any(not it[0] for it in alone.values()) or rest and rt.checked(crate, {}, flags, kept).returncode:
             alone = {it: rt.must_fail(crate, it, flags) for it in rest}
     return [tried.told.get(it) or alone[it] for it in files]
 
