@@ -22,7 +22,8 @@ import tempfile
 from collections import namedtuple
 
 FUNCTION = re.compile(r"( *)(?:pub(?:\([^)]*\))? )?((?:const |unsafe )*)(?:extern \"C\" )?fn (\w+)")
-CONSTANT = re.compile(r" *(?:pub(?:\([^)]*\))? )?const (\w+): [^=]*= -?[\d_]+;")
+TYPE = re.compile(r"(?:pub(?:\([^)]*\))? )?(?:struct|enum|union) (\w+)")
+CONSTANT = re.compile(r" *(?:pub(?:\([^)]*\))? )?const (\w+): [^=]*= (?:-?[\d_]+|0x[\da-fA-F_]+);")
 LAW = re.compile(r" *ensures (\w+) \{ (\w+) ≡ ")
 IMPL = re.compile(r"impl(?:<[^{]*?>)? (?:(\w+)(?:<(.*?)>)? for )?&?(?:'\w+ )?(\w+)")
 # A function: its module, and the paths that it may have in what a check says. One of a source file: the lines that its body stands between.
@@ -46,29 +47,28 @@ def module_of(path):
     return [it for it in parts if it not in ("lib", "main", "mod")]
 
 
-def impls_of(lines, at, indent):
-    """The names that the kit may give the impl around a line: its type, and its trait where it has one, with the trait's own types or without."""
+def impl_of(lines, at, indent):
+    """The impl around a line: its type, and the names that the kit may give it, which have its trait where it has one, with the trait's own types or without."""
     if not indent:
-        return [""]
+        return "", [""]
     line = next((it for it in reversed(lines[:at]) if it and not it.startswith(" ")), "")
     found = IMPL.match(line)
     if not found:
-        return []
+        return "", []
     name = found[3][0].upper() + found[3][1:] + (found[1] or "")
     given = re.findall(r"(?:^|, )&?(?:'\w+ )?(\w+)", found[2] or "")
-    return [name, name + "".join(it[0].upper() + it[1:] for it in given)]
+    return found[3], [name, name + "".join(it[0].upper() + it[1:] for it in given)]
 
 
-def functions_of(path, text):
-    """The functions of a source file as the kit's formatter lays them out: each ends at a brace under its first letter."""
+def functions_of(path, text, homes):
+    """The functions of a source file as the kit's formatter lays them out: each ends at a brace under its first letter. A method is named by the module of
+    its type, of which homes has the crate's."""
     lines, found = text.split("\n"), []
     for at, line in enumerate(lines):
         head = FUNCTION.match(line)
         if not head:
             continue
-        around = impls_of(lines, at, head[1])
-        if not around:
-            continue
+        of_type, around = impl_of(lines, at, head[1])
         # (a body stands between a line that is an opening brace or ends the head by one, and the brace that closes it)
         opens = (it for it in range(at, len(lines)) if lines[it].startswith(head[1] + "{") or lines[it].startswith((line, head[1] + ")")) and lines[it].endswith((" {", "}")))
         first = next(opens, None)
@@ -76,7 +76,8 @@ def functions_of(path, text):
             continue
         last = first if lines[first].endswith("}") else next((it for it in range(first, len(lines)) if lines[it] == head[1] + "}"), first)
         module = "::".join(module_of(path))
-        names = frozenset("::".join(filter(None, [module, it, head[3]])) for it in around)
+        modules = {module, *homes.get(of_type, ())} if module not in homes.get(of_type, ()) else {module}
+        names = frozenset("::".join(filter(None, [home, it, head[3]])) for it in around for home in modules)
         found.append(Function(at, first, last, Target(module, names), "const " in head[2]))
     return found
 
@@ -99,17 +100,20 @@ class Texts:
     """The texts of a crate, and what edits make of them."""
 
     def __init__(self, folder):
-        self.folder, self.read, self.laws = folder, {}, {}
-        for at, _, names in os.walk(f"{folder}/src"):
-            for name in sorted(names):
-                path = os.path.relpath(f"{at}/{name}", folder)
-                text = self.of(path)
-                functions = functions_of(path, text)
-                for number, line in enumerate(text.split("\n")):
-                    law = LAW.match(line)
-                    holder = [it for it in functions if it.head < number < it.first]
-                    if law and holder:
-                        self.laws[law[2]] = holder[0].target, law[1]
+        self.folder, self.read, self.laws, self.homes = folder, {}, {}, {}
+        paths = sorted(os.path.relpath(f"{at}/{name}", folder) for at, _, names in os.walk(f"{folder}/src") for name in names)
+        for path in paths:
+            for line in self.of(path).split("\n"):
+                found = TYPE.match(line)
+                if found:
+                    self.homes.setdefault(found[1], set()).add("::".join(module_of(path)))
+        for path in paths:
+            functions = functions_of(path, self.of(path), self.homes)
+            for number, line in enumerate(self.of(path).split("\n")):
+                law = LAW.match(line)
+                holder = [it for it in functions if it.head < number < it.first]
+                if law and holder:
+                    self.laws[law[2]] = holder[0].target, law[1]
         # (a clause that stands alone has no name in its function's goal)
         alone = [target for target, _ in self.laws.values()]
         self.laws = {it: (target, "returns" if alone.count(target) == 1 else f"returns-clause-{clause}") for it, (target, clause) in self.laws.items()}
@@ -140,7 +144,7 @@ class Texts:
             if not path.startswith("src/"):
                 return edit
             before, after = self.of(path).split("\n"), text.split("\n")
-            functions = functions_of(path, self.of(path))
+            functions = functions_of(path, self.of(path), self.homes)
             for what, first, end, start, stop in difflib.SequenceMatcher(None, before, after, autojunk=False).get_opcodes():
                 if what == "equal":
                     continue
@@ -159,8 +163,9 @@ class Texts:
         return edit._replace(targets=targets, clause=clause)
 
 
-def fallen(rt, crate, texts, said):
-    """The functions that a check refused for goals of their own, with the line that says so; None where the check says nothing of contracts."""
+def fallen(rt, crate, texts, homes, said):
+    """The functions that a check refused for their own sake, each with the line that says which goal fell, or none where only a proof file names what an
+    edit took away; None where the check says nothing of contracts."""
     lines = said.stdout.rstrip("\n").split("\n")
     if not said.returncode:
         return {}
@@ -169,17 +174,20 @@ def fallen(rt, crate, texts, said):
     if any(rt.unread(it, texts) for it in lines):
         return None
     named = re.compile(r"(\./)?proofs/.*(has no field|is not in scope|has no `|was not admitted)")
-    errors = [it for it in lines if re.match(r"(\./)?proofs/\S+:\d+:\d+: error", it) and not named.match(it)]
+    errors = [it.removeprefix("./") for it in lines if re.match(r"(\./)?proofs/\S+:\d+:\d+: error", it) and not named.match(it)]
+    functions = {path: functions_of(path, text, homes) for path, text in texts.items()}
+    goals = {}
+    for path, line, goal in re.findall(r"^note: (src/\S+?):(\d+):\d+: (it is not proved .*)", said.stdout, re.M):
+        inside = [it.target for it in functions.get(path, ()) if it.head < int(line) <= it.last + 1]
+        goals.update({name: goal for it in inside[-1:] for name in it.names})
     found = {}
     for line in lines:
         told = re.match(rf"fn {crate.name}::(\S+): (.*)", line)
-        if not told:
-            continue
-        folder = f"proofs/{told[1].replace('::', '/')}/"
-        if "`search` did not prove" in told[2]:
+        if told and "`search` did not prove" in told[2]:
             found[told[1]] = told[2]
-        elif told[2].startswith("not proved") and any(it.removeprefix("./").startswith(folder) for it in errors):
-            found[told[1]] = next(it for it in errors if it.removeprefix("./").startswith(folder))
+        elif told and told[2].startswith("not proved"):
+            folder = f"proofs/{told[1].replace('::', '/')}/"
+            found[told[1]] = next((it for it in errors if it.startswith(folder)), goals.get(told[1]))
     return found
 
 
@@ -212,7 +220,7 @@ class Crate:
         # (the modules of what is touched, and what stands in none by its name)
         reached = sorted({it.module or min(it.names) for it in targets})
         said = self.rt.checked(self.crate, texts, [*self.flags, *(word for it in reached for word in ("--only", it))], self.kept)
-        found = fallen(self.rt, self.crate, texts, said)
+        found = fallen(self.rt, self.crate, texts, self.texts.homes, said)
         # A function that falls though no edit touched it: this check isn't trusted with any of them.
         odd = [name for name in found or {} if not any(is_of(name, it) for it in targets)]
         if found is None or odd:
@@ -220,19 +228,18 @@ class Crate:
         return {} if found is None or odd else found
 
     def refused(self, edit, found):
-        """What refuses an edit, if anything does."""
-        own = [said for name, said in found.items() if any(is_of(name, it) for it in edit.targets)]
-        if edit.clause:
-            own = [it for it in own if f"`{edit.clause}`" in it]
-        return own[0] if own else None
+        """The function that falls by an edit, with the line that says so."""
+        for name, said in found.items():
+            if said and any(is_of(name, it) for it in edit.targets) and (not edit.clause or f"`{edit.clause}`" in said):
+                return f"{name}: {words_of(said)}"
+        return None
 
     def note(self, edits, found):
         """Notes the edits that are refused, and says whether there was one."""
         for edit in edits:
             why = self.refused(edit, found)
             if why:
-                label = f"must-fail {self.crate.name}/{os.path.basename(edit.file)}"
-                self.told[edit.file] = True, f"{label}: refused, as it must be: {'; '.join(sorted(min(it.names) for it in edit.targets))}: {words_of(why)}"
+                self.told[edit.file] = True, f"must-fail {self.crate.name}/{os.path.basename(edit.file)}: refused, as it must be: {why}"
         return any(it.file in self.told for it in edits)
 
     def together(self, edits):
