@@ -201,15 +201,16 @@ def heard(browser, desk):
 
 
 def followed(browser, desk):
-    """A fade of four seconds: what the page shows beside what the fade is at, by the clock, within a tenth of full."""
+    """A fade of four seconds: the page shows what the fade was at within the last second, and never what it isn't at yet."""
     desk.stdin.write(b"go\n")
     desk.stdin.flush()
-    begin = browser.until(f"{LEVEL} > 0", 2)
     began, seen = time.monotonic(), []
-    while time.monotonic() - began < 3.6:
-        seen.append((time.monotonic() - began, browser.js(f"return {LEVEL}")))
+    begin = browser.until(f"{LEVEL} > 0", 2)
+    while time.monotonic() - began < 3.9:
+        asked = time.monotonic() - began
+        seen.append((asked, browser.js(f"return {LEVEL}"), time.monotonic() - began))
         time.sleep(0.1)
-    far = [(round(at, 2), level) for at, level in seen if abs(level - 255 * at / 4) > 26]
+    far = [(round(asked, 2), level) for asked, level, told in seen if not 255 * (asked - 1) / 4 - 2 <= level <= 255 * told / 4 + 2]
     verdict("levels follow a fade", begin is not None and len(seen) > 10 and not far, f"{far[:5]}")
     took = browser.until(f"{LEVEL} == 255", 2)
     verdict("a fade ends at full", took is not None)
