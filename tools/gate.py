@@ -271,15 +271,28 @@ def must_fail_all(rt, crate, files, flags):
     return [tried.told.get(it) or alone[it] for it in files]
 
 
-def main(words):
+def gate():
+    """The kit's command as a module, with its way of trying edits changed; where that fails it tries them by its own."""
     found = shutil.which("rt")
     if not found:
         sys.exit("gate: the kit's command rt isn't on the PATH")
     rt = load(os.path.realpath(found))
-    rt.must_fail_all = lambda crate, files, flags: must_fail_all(rt, crate, files, flags)
-    if words[:1] == ["edits"]:
-        return rt.edits_alone(words[1:])
-    return rt.ci()
+    own = rt.must_fail_all
+
+    def tried(crate, files, flags):
+        try:
+            return must_fail_all(rt, crate, files, flags)
+        except Exception as error:  # (whatever it is: the gate goes on)
+            print(f"rt: {crate.name}: its edits can't be tried together: {error!r}", flush=True)
+            return own(crate, files, flags)
+
+    rt.must_fail_all = tried
+    return rt
+
+
+def main(words):
+    rt = gate()
+    return rt.edits_alone(words[1:]) if words[:1] == ["edits"] else rt.ci()
 
 
 if __name__ == "__main__":
