@@ -217,12 +217,14 @@ class Crate:
         if texts is None:
             return {}
         targets = {it for edit in edits for it in edit.targets}
-        # (the modules of what is touched, and what stands in none by its name)
-        reached = sorted({it.module or min(it.names) for it in targets})
+        is_of_constants = any(it.clause for it in edits)
+        # (the modules of what is touched; what stands in none, and a law, by its name)
+        reached = sorted({min(it.names) if is_of_constants or not it.module else it.module for it in targets})
         said = self.rt.checked(self.crate, texts, [*self.flags, *(word for it in reached for word in ("--only", it))], self.kept)
         found = fallen(self.rt, self.crate, texts, self.texts.homes, said)
-        # A function that falls though no edit touched it: this check isn't trusted with any of them.
-        odd = [name for name in found or {} if not any(is_of(name, it) for it in targets)]
+        # A function that falls though no edit touched it: this check isn't trusted with any of them. (What a law calls may fall with a constant. The
+        # law's own clause is an equation of the constant and a number.)
+        odd = [name for name in found or {} if not is_of_constants and not any(is_of(name, it) for it in targets)]
         if found is None or odd:
             self.why = f"; a check of {len(edits)} edits wasn't used: {', '.join(odd) or said.stdout[-300:]}"
         return {} if found is None or odd else found
