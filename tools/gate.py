@@ -8,8 +8,8 @@ The kit tries each edit by a check of its own, which reads all libraries below e
 the gate. Here all edits of a crate that change the body of one function each are applied together, one to a function, and one check
 must refuse every one of those functions for a goal of its own: a function that is refused only since it calls another that is, doesn't
 count. So it is told more than by the kit's way, by which an edit falls with whatever function falls. Edits of constants are applied
-together too, and each must fall by the clause of a law that states its constant. What isn't refused so, or can't be told, is tried by the
-kit's own way. All else is the kit's: every proof from nothing, each edit's text, what is printed, and the last line.
+together too, and each must fall by the clause of a law that states its constant. Any other edit of a source file is tried by itself, on that
+file's module. What isn't refused so is tried by the kit's own way. All else is the kit's: every proof from nothing, each edit's text, what is printed, and the last line.
 """
 import difflib
 import importlib.machinery
@@ -29,7 +29,8 @@ IMPL = re.compile(r"impl(?:<[^{]*?>)? (?:(\w+)(?:<(.*?)>)? for )?&?(?:'\w+ )?(\w
 # A function: its module, and the paths that it may have in what a check says. One of a source file: the lines that its body stands between.
 Target = namedtuple("Target", "module names")
 Function = namedtuple("Function", "head first last target is_const")
-# One edit: its file, the pairs of texts by file, the functions that must fall, and for a constant the goal of its law's clause.
+# One edit: its file, the pairs of texts by file, the functions that must fall, and for a constant the goal of its law's clause. Where these can't be told
+# there are none.
 Edit = namedtuple("Edit", "file pairs targets clause")
 
 
@@ -212,7 +213,13 @@ class Crate:
         self.texts, self.told, self.why = Texts(crate.folder), {}, ""
         self.edits = [self.texts.edit(it) for it in files if not rt.read_edit(it, crate.folder)[1]]
 
+    def only(self, texts, paths):
+        """What falls of some modules and functions, and what they reach, with these texts, and what the check said."""
+        said = self.rt.checked(self.crate, texts, [*self.flags, *(word for it in paths for word in ("--only", it))], self.kept)
+        return fallen(self.rt, self.crate, texts, self.texts.homes, said), said.stdout
+
     def check(self, edits):
+        """The functions that fall by edits that are applied together, where the check can be trusted with them."""
         texts = self.texts.with_edits(edits)
         if texts is None:
             return {}
@@ -220,13 +227,12 @@ class Crate:
         is_of_constants = any(it.clause for it in edits)
         # (the modules of what is touched; what stands in none, and a law, by its name)
         reached = sorted({min(it.names) if is_of_constants or not it.module else it.module for it in targets})
-        said = self.rt.checked(self.crate, texts, [*self.flags, *(word for it in reached for word in ("--only", it))], self.kept)
-        found = fallen(self.rt, self.crate, texts, self.texts.homes, said)
+        found, said = self.only(texts, reached)
         # A function that falls though no edit touched it: this check isn't trusted with any of them. (What a law calls may fall with a constant. The
         # law's own clause is an equation of the constant and a number.)
         odd = [name for name in found or {} if not is_of_constants and not any(is_of(name, it) for it in targets)]
         if found is None or odd:
-            self.why = f"; a check of {len(edits)} edits wasn't used: {', '.join(odd) or said.stdout[-300:]}"
+            self.why = f"; a check of {len(edits)} edits wasn't used: {', '.join(odd) or said[-300:]}"
         return {} if found is None or odd else found
 
     def refused(self, edit, found):
@@ -236,13 +242,26 @@ class Crate:
                 return f"{name}: {words_of(said)}"
         return None
 
+    def tell(self, edit, why):
+        self.told[edit.file] = True, f"must-fail {self.crate.name}/{os.path.basename(edit.file)}: refused, as it must be: {why}"
+
     def note(self, edits, found):
         """Notes the edits that are refused, and says whether there was one."""
-        for edit in edits:
-            why = self.refused(edit, found)
-            if why:
-                self.told[edit.file] = True, f"must-fail {self.crate.name}/{os.path.basename(edit.file)}: refused, as it must be: {why}"
-        return any(it.file in self.told for it in edits)
+        told = [(edit, why) for edit in edits for why in [self.refused(edit, found)] if why]
+        for edit, why in told:
+            self.tell(edit, why)
+        return bool(told)
+
+    def by_module(self, edit):
+        """Tries an edit of source files by itself, on their modules alone, of which some function must fall and some must not."""
+        modules = sorted({"::".join(module_of(path)) for path, _, _ in edit.pairs if path.startswith("src/")})
+        texts = self.texts.with_edits([edit])
+        if texts is None or "" in modules or any(not path.startswith("src/") for path in texts):
+            return
+        found, said = self.only(texts, modules)
+        fell = [f"{name}: {words_of(why)}" for name, why in (found or {}).items() if why and any(name.startswith(f"{it}::") for it in modules)]
+        if fell and re.search(r"^only=\d+ proved=[1-9]", said, re.M):
+            self.tell(edit, fell[0])
 
     def together(self, edits):
         """Tries edits that have targets, as many in a check as touch different functions or constants, for as long as that refuses some."""
@@ -263,6 +282,9 @@ def must_fail_all(rt, crate, files, flags):
         tried = Crate(rt, crate, files, flags, kept)
         tried.together([it for it in tried.edits if it.targets and not it.clause])
         tried.together([it for it in tried.edits if it.clause])
+        for edit in tried.edits:
+            if edit.file not in tried.told:
+                tried.by_module(edit)
         rest = [it for it in files if it not in tried.told]
         if rest:
             names = " ".join(os.path.basename(it) for it in rest)
