@@ -11,7 +11,7 @@ use std::alloc::{AllocError, Global};
 
 /// The version, and the kit that it was proved with.
 const VERSION: &str = "1, streaming ACN by ANSI E1.31-2018
-kit rattle-kit-13b logic dac8208d650f15bf";
+kit rattle-kit-13f logic dac8208d650f15bf";
 
 pub const ABOUT: &str =
     "Streaming ACN (ANSI E1.31-2018): datagrams read and checked, consoles and nodes run.
