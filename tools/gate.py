@@ -1,17 +1,19 @@
 #!/usr/bin/env python3
 """The kit's gate, `rt ci`, with its must-fail edits tried several to a check.
 
-usage: gate.py               the gate, at the top of the repository
-       gate.py edits NAME..  the edits of these crates alone, over what is built
+usage: gate.py [--anew] [NAME..]      as `rt ci`, at the top of the repository: the gate, or some crates and those below them
+       gate.py edits [--anew] NAME..  as `rt must-fail`: the edits of these crates alone, begun with what `rt check` kept
 
 The kit tries each edit by a check of its own, which reads all libraries below each time: with some 650 edits that was more than half of
 the gate. Here all edits of a crate that change the body of one function each are applied together, one to a function, and one check
 must refuse every one of those functions for a goal of its own: a function that is refused only since it calls another that is, doesn't
 count. So it is told more than by the kit's way, by which an edit falls with whatever function falls. Edits of constants are applied
 together too, and each must fall by the clause of a law that states its constant. Any other edit of a source file is tried by itself, on that
-file's module. What isn't refused so is tried by the kit's own way. All else is the kit's: every proof from nothing, each edit's text, what is printed, and the last line.
+file's module. What isn't refused so is tried by the kit's own way. All else is the kit's: every proof from nothing or kept of an earlier run on
+this machine of the same files, each edit's text, what is printed, and the last line.
 """
 import difflib
+import hashlib
 import importlib.machinery
 import importlib.util
 import os
@@ -208,14 +210,16 @@ def words_of(fell):
 class Crate:
     """The edits of a crate, under way: those that were refused, by file, and the folder of what their checks proved."""
 
-    def __init__(self, rt, crate, files, flags, kept):
-        self.rt, self.crate, self.flags, self.kept = rt, crate, flags, kept
+    def __init__(self, rt, crate, files, flags, seed):
+        self.rt, self.crate, self.flags, self.seed = rt, crate, flags, seed
         self.texts, self.told, self.why = Texts(crate.folder), {}, ""
         self.edits = [self.texts.edit(it) for it in files if not rt.read_edit(it, crate.folder)[1]]
 
     def only(self, texts, paths):
         """What falls of some modules and functions, and what they reach, with these texts, and what the check said."""
-        said = self.rt.checked(self.crate, texts, [*self.flags, *(word for it in paths for word in ("--only", it))], self.kept)
+        with tempfile.TemporaryDirectory(prefix=f"rt-edits-{os.getpid()}-") as room:
+            self.rt.linked(self.seed, f"{room}/kept")
+            said = self.rt.checked(self.crate, texts, [*self.flags, *(word for it in paths for word in ("--only", it))], f"{room}/kept")
         return fallen(self.rt, self.crate, texts, self.texts.homes, said), said.stdout
 
     def check(self, edits):
@@ -243,7 +247,7 @@ class Crate:
         return None
 
     def tell(self, edit, why):
-        self.told[edit.file] = True, f"must-fail {self.crate.name}/{os.path.basename(edit.file)}: refused, as it must be: {why}"
+        self.told[edit.file] = self.rt.REFUSED, f"must-fail {self.crate.name}/{os.path.basename(edit.file)}: refused, as it must be: {why}"
 
     def note(self, edits, found):
         """Notes the edits that are refused, and says whether there was one."""
@@ -276,47 +280,70 @@ class Crate:
             edits = [it for it in edits if it.file not in self.told]
 
 
-def must_fail_all(rt, crate, files, flags):
-    """As the kit's function of this name: for each edit whether it is refused, and what to say."""
-    with tempfile.TemporaryDirectory(prefix="rt-edits-") as kept:
-        tried = Crate(rt, crate, files, flags, kept)
+class Together:
+    """The kit's way with edits, but that those of a crate are first tried together, over what the kit's check of the crate as it stands proved."""
+
+    def __init__(self, rt):
+        self.rt, self.edits, self.told = rt, {}, {}
+        self.kits = {it: getattr(rt, it) for it in ("add_edits", "seeded", "must_fail")}
+        for name in self.kits:
+            setattr(rt, name, getattr(self, name))
+        # (what an edit came to is kept from run to run: under names of this way's own, so that neither takes the other's)
+        with open(os.path.realpath(__file__), "rb") as it:
+            own = hashlib.sha256(it.read()).hexdigest()
+        name_of = rt.Kept.of_edit
+        rt.Kept.of_edit = lambda kept, edit, sum: name_of(kept, edit, f"{own} {sum}")
+
+    def add_edits(self, tasks, crate, edits, *given, **named):
+        """As the kit's, which gives what tells the results, and what tells those of earlier runs, by the edits' numbers."""
+        results, known = self.kits["add_edits"](tasks, crate, edits, *given, **named)
+        self.edits[crate.folder] = edits, known
+        return results, known
+
+    def seeded(self, crate, flags, start=None):
+        """As the kit's: makes the folder over which each edit of a crate is tried. All are then tried together over copies of it."""
+        room = self.kits["seeded"](crate, flags, start)
+        if room:
+            edits, known = self.edits[crate.folder]
+            try:
+                self.try_all(crate, [it for at, it in enumerate(edits) if at not in known()], flags, f"{room}/seed")
+            except Exception as error:  # (whatever it is: the kit's way is left)
+                print(f"rt: {crate.name}: its edits can't be tried together: {error!r}", flush=True)
+        return room
+
+    def must_fail(self, crate, edit, flags, kept=None):
+        """As the kit's, of what wasn't refused together: what an edit comes to, and what to say."""
+        return kept and self.told.get(edit) or self.kits["must_fail"](crate, edit, flags, kept)
+
+    def try_all(self, crate, files, flags, seed):
+        tried = Crate(self.rt, crate, files, flags, seed)
         tried.together([it for it in tried.edits if it.targets and not it.clause])
         tried.together([it for it in tried.edits if it.clause])
         for edit in tried.edits:
             if edit.file not in tried.told:
                 tried.by_module(edit)
-        rest = [it for it in files if it not in tried.told]
+        self.told.update(tried.told)
+        rest = [os.path.basename(it) for it in files if it not in tried.told]
         if rest:
-            names = " ".join(os.path.basename(it) for it in rest)
-            print(f"rt: {crate.name}: {len(files) - len(rest)} of {len(files)} edits refused together; one by one: {names}{tried.why}", flush=True)
-        alone = {it: rt.must_fail(crate, it, flags, kept) for it in rest}
-        if any(not it[0] for it in alone.values()) or rest and rt.checked(crate, {}, flags, kept).returncode:
-            alone = {it: rt.must_fail(crate, it, flags) for it in rest}
-    return [tried.told.get(it) or alone[it] for it in files]
+            print(f"rt: {crate.name}: {len(files) - len(rest)} of {len(files)} edits refused together; one by one: {' '.join(rest)}{tried.why}", flush=True)
 
 
 def gate():
-    """The kit's command as a module, with its way of trying edits changed; where that fails it tries them by its own."""
+    """The kit's command as a module, with its way of trying edits changed."""
     found = shutil.which("rt")
     if not found:
         sys.exit("gate: the kit's command rt isn't on the PATH")
     rt = load(os.path.realpath(found))
-    own = rt.must_fail_all
-
-    def tried(crate, files, flags):
-        try:
-            return must_fail_all(rt, crate, files, flags)
-        except Exception as error:  # (whatever it is: the gate goes on)
-            print(f"rt: {crate.name}: its edits can't be tried together: {error!r}", flush=True)
-            return own(crate, files, flags)
-
-    rt.must_fail_all = tried
+    Together(rt)
     return rt
 
 
 def main(words):
     rt = gate()
-    return rt.edits_alone(words[1:]) if words[:1] == ["edits"] else rt.ci()
+    names = words[1:]
+    if words[:1] == ["edits"]:
+        return rt.where_disk_lasts(rt.edits_alone, names)
+    return rt.where_disk_lasts(rt.ci, "--anew" in words, [it for it in words if it != "--anew"])
 
 
 if __name__ == "__main__":
