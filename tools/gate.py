@@ -19,9 +19,11 @@ import importlib.util
 import os
 import re
 import shutil
+import subprocess
 import sys
 import tempfile
-from collections import namedtuple
+import time
+from collections import Counter, namedtuple
 
 FUNCTION = re.compile(r"( *)(?:pub(?:\([^)]*\))? )?((?:const |unsafe )*)(?:extern \"C\" )?fn (\w+)")
 TYPE = re.compile(r"(?:pub(?:\([^)]*\))? )?(?:struct|enum|union) (\w+)")
@@ -328,6 +330,49 @@ class Together:
             print(f"rt: {crate.name}: {len(files) - len(rest)} of {len(files)} edits refused together; one by one: {' '.join(rest)}{tried.why}", flush=True)
 
 
+class Spent:
+    """The processor seconds of the kit's checks, by crate and by what they were for. It stands where the kit looks for Python's `subprocess`."""
+
+    KINDS = "proof", "tests", "edits"
+
+    def __init__(self, rt):
+        self.took, self.began, in_lanes = [], time.monotonic(), rt.in_lanes
+        rt.subprocess = rt.rtlib.subprocess = self
+
+        def told(tasks):
+            given = in_lanes(tasks)
+            self.tell()
+            return given
+
+        rt.in_lanes = told
+
+    def __getattr__(self, name):
+        return getattr(subprocess, name)
+
+    def run(self, words, **how):
+        """As the library's, which doesn't say what a process took."""
+        if "--crate-name" not in words or how.get("stdout") != subprocess.PIPE or how.get("stderr") != subprocess.STDOUT:
+            return subprocess.run(words, **how)
+        with subprocess.Popen(words, **how) as ran:
+            said = ran.stdout.read()
+            _, status, took = os.wait4(ran.pid, 0)
+            ran.returncode = os.waitstatus_to_exitcode(status)
+        kind = "tests" if "--test" in words else "edits" if "--incremental" in words else "proof"
+        self.took.append((words[words.index("--crate-name") + 1], kind, took.ru_utime + took.ru_stime))
+        return subprocess.CompletedProcess(words, ran.returncode, said)
+
+    def tell(self):
+        seconds, by_kind = Counter(), Counter()
+        for crate, kind, took in self.took:
+            seconds[crate, kind] += took
+            by_kind[kind] += took
+        for crate in sorted({it for it, _ in seconds}):
+            parts = [f"{kind} {seconds[crate, kind]:.0f}" for kind in self.KINDS if seconds[crate, kind]]
+            print(f"rt: processor seconds, {crate}: {', '.join(parts)}")
+        minutes = [f"{kind} {by_kind[kind] / 60:.0f}" for kind in self.KINDS]
+        print(f"rt: processor minutes: {', '.join(minutes)}; by the clock {(time.monotonic() - self.began) / 60:.0f}", flush=True)
+
+
 def gate():
     """The kit's command as a module, with its way of trying edits changed."""
     found = shutil.which("rt")
@@ -335,6 +380,7 @@ def gate():
         sys.exit("gate: the kit's command rt isn't on the PATH")
     rt = load(os.path.realpath(found))
     Together(rt)
+    Spent(rt)
     return rt
 
 
