@@ -21,7 +21,8 @@ use Rattle.sacn_node.specs.declared.setup.SlotRange.{SlotRange}
 use Rattle.sacn_node.specs.declared.setup.fault.SetupFault.{SetupFault}
 use Rattle.sacn_node.specs.declared.setup.fault.SetupFault.TheVariants.{Limit, RangeEnd, Overlap}
 use Rattle.sacn_node.specs.Setup.{Port, port_numbers, universes, passes_end, has_overlap, IsRange, IsPort, Fits, IsSetup}
-use Rattle.sacn_node.specs.SetupReading.{universe_at, slot_at, range_in, whole, ranges_in, ranges_of, port_in, ports_in, udp_port_of, order_fault, required, ◌>>=◌}
+use Rattle.sacn_node.specs.SetupReading.{universe_at, slot_at, range_in, whole, ranges_in, ranges_of, port_in, ports_in, udp_port_of, order_fault, required}
+use Rattle.sacn_universe.specs.Results.{◌>>=◌}
 
 -- chains of readings
 some_is : {X : Type 0} (x y : X) → Some x ≡ Some y → x ≡ y

@@ -7,7 +7,7 @@ use Rattle.sacn_framing.specs.declared.packet.Packet.{Packet}
 use Rattle.sacn_framing.specs.declared.packet.Packet.TheVariants.{DataPacket, PagePacket, SyncPacket}
 use Rattle.sacn_node.specs.Cores.{Core, core_at}
 use Rattle.sacn_node.specs.Readings.{reply_to, after_reading}
-use Rattle.sacn_node.specs.Seen.{Rise}
+use Rattle.sacn_universe.specs.Universe.{Rising}
 use Rattle.sacn_world.specs.declared.limits.TheConstants.{TOO_FAR_BEHIND}
 use Rattle.sacn_world.specs.declared.fault.WorldFault.TheVariants.{TooFarBehind, OldLife}
 use Rattle.sacn_world.specs.Streams.{Sent, is_of, is_on, stream_of, life_at, place_of}
@@ -127,13 +127,13 @@ again sent w core ms n e fit ports ds =
       delivered = sym ds i;
     }
 
-again_ok : (sent : List Sent) (w : Watch) (core : Core) (ms : List Mark) (n : Node) → core ≡ seen_core sent n → Fits ms n.holdings → n.ports ≡ w.node.ports → n.delivered ≡ map delivery_of ms → AllByRecursion (MarkOk sent) ms → Rise (map (λ (g : Holding). g.universe) n.holdings) → AllByRecursion (λ (g : Holding). Sorted g.held) n.holdings → WatchOk sent (record { node = record { ports = w.node.ports; core = core }; marks = ms })
+again_ok : (sent : List Sent) (w : Watch) (core : Core) (ms : List Mark) (n : Node) → core ≡ seen_core sent n → Fits ms n.holdings → n.ports ≡ w.node.ports → n.delivered ≡ map delivery_of ms → AllByRecursion (MarkOk sent) ms → Rising (map (λ (g : Holding). g.universe) n.holdings) → AllByRecursion (λ (g : Holding). Sorted g.held) n.holdings → WatchOk sent (record { node = record { ports = w.node.ports; core = core }; marks = ms })
 again_ok sent w core ms n e fit ports ds marks rise sorted =
     let is = again sent w core ms n e fit ports ds in
     record {
       core = e ∙ ap (seen_core sent) (sym is);
       marks = marks;
-      rise = subst (λ (x : Node). Rise (map (λ (g : Holding). g.universe) x.holdings)) (sym is) rise;
+      rise = subst (λ (x : Node). Rising (map (λ (g : Holding). g.universe) x.holdings)) (sym is) rise;
       sorted = subst (λ (x : Node). AllByRecursion (λ (g : Holding). Sorted g.held) x.holdings) (sym is) sorted;
     }
 
@@ -154,7 +154,7 @@ at_moved sent m w ok =
     let fit = fits_kept w.marks (max n.moment m) n.holdings (fits_now w) in
     record {
       places = again sent w (core_at m w.node.core) w.marks (node_at m n) e fit refl refl;
-      ok = again_ok sent w (core_at m w.node.core) w.marks (node_at m n) e fit refl refl ok.marks (subst Rise (sym (universes_kept (max n.moment m) n.holdings)) ok.rise) (sorted_kept (max n.moment m) n.holdings ok.sorted);
+      ok = again_ok sent w (core_at m w.node.core) w.marks (node_at m n) e fit refl refl ok.marks (subst Rising (sym (universes_kept (max n.moment m) n.holdings)) ok.rise) (sorted_kept (max n.moment m) n.holdings ok.sorted);
     }
 
 -- ---- a datagram comes
@@ -205,7 +205,7 @@ module _ (w : World) (ok : WorldOk w) (k i m : ℕ) (y : Watch) (x : Sent) (ther
       let after = node_after w.sent s u q m n in
       let ms = marked (moves (reply_to (Ok (DataPacket d)) m y.node.core)) mark y.marks in
       let kept = fits_kept y.marks t n.holdings (fits_now y) in
-      let rise = subst Rise (sym (universes_kept t n.holdings)) yok.rise in
+      let rise = subst Rising (sym (universes_kept t n.holdings)) yok.rise in
       let sorted = sorted_kept t n.holdings yok.sorted in
       let fit0 = fits_change (stream_of s u w.sent) t mark y.marks (unexpired_all t n.holdings) rise sorted kept in
       let fit : Fits ms after.holdings = subst (λ r. Fits (marked (moves r) mark y.marks) after.holdings) (sym (reply_is (DataPacket d) ep may)) fit0 in
@@ -213,7 +213,7 @@ module _ (w : World) (ok : WorldOk w) (k i m : ℕ) (y : Watch) (x : Sent) (ther
       let e : core ≡ seen_core w.sent after = core_is (DataPacket d) ep may in
       record {
         places = again w.sent y core ms after e fit ports_same ds;
-        ok = again_ok w.sent y core ms after e fit ports_same ds (marked_ok w.sent (moves (reply_to (Ok (DataPacket d)) m y.node.core)) mark y.marks (life_is u (own_stream (DataPacket d) u ep (eq-eqb u u refl))) yok.marks) (subst Rise (sym (universes_changed u _ (unexpired_all t n.holdings))) rise) (sorted_changed u _ (λ hs so. sorted_after _ _ hs so) (unexpired_all t n.holdings) sorted);
+        ok = again_ok w.sent y core ms after e fit ports_same ds (marked_ok w.sent (moves (reply_to (Ok (DataPacket d)) m y.node.core)) mark y.marks (life_is u (own_stream (DataPacket d) u ep (eq-eqb u u refl))) yok.marks) (subst Rising (sym (universes_changed u _ (unexpired_all t n.holdings))) rise) (sorted_changed u _ (λ hs so. sorted_after _ _ hs so) (unexpired_all t n.holdings) sorted);
       }
   taken_moved (PagePacket p) ep may = at_moved w.sent m y yok
   taken_moved SyncPacket ep may = at_moved w.sent m y yok

@@ -11,7 +11,7 @@ use Rattle.sacn_sources.specs.declared.taken.Taken.{Taken}
 use Rattle.sacn_sources.specs.declared.taken.Taken.TheVariants.{Held, Observed, EndedNow, OutOfSequence, SourcesExceeded, UnknownIgnored}
 use Rattle.sacn_node.specs.declared.taken.NodeTaken.TheVariants.{FromTable}
 use Rattle.sacn_node.specs.Cores.{Table}
-use Rattle.sacn_node.specs.Seen.{Rise, Above}
+use Rattle.sacn_universe.specs.Universe.{Rising}
 use Rattle.sacn_world.specs.Streams.{Sent}
 use Rattle.sacn_world.specs.Holdings.{Hold, Sorted, is_renewed, put, answer, holding_after, delivered}
 use Rattle.sacn_world.specs.Nodes.{Holding, unexpired_all, holding_of, reply_on, change, seen_table}
@@ -98,11 +98,11 @@ other_universe b d ms u hs ne fit =
     let no' : (d.universe == u) ≡ false = ne_eqb _ _ (λ e. ne (sym e)) in
     place_of_other b d h.source u ms (elim (same h.source d.source) as (λ t. (t && (d.universe == u)) ≡ false) [ true ↦ no' | false ↦ refl ]) ∙ f) hs fit
 
-above_all : (b : Bool) (d : Mark) (ms : List Mark) (v : ℕ) (gs : List Holding) → Above v (map (λ (g : Holding). g.universe) gs) → d.universe ≤ v → Fits ms gs → Fits (marked b d ms) gs
+above_all : (b : Bool) (d : Mark) (ms : List Mark) (v : ℕ) (gs : List Holding) → AllByRecursion (λ u. v < u) (map (λ (g : Holding). g.universe) gs) → d.universe ≤ v → Fits ms gs → Fits (marked b d ms) gs
 above_all b d ms v [] above le fit = tt
 above_all b d ms v (g ∷ gs) above le fit = (
   other_universe b d ms g.universe g.held (λ e. absurd (let l = above.0 in omega (arith, e, l, le))) fit.0,
-  above_all b d ms g.universe gs above.1 (let l = above.0 in omega (arith, l, le)) fit.1,
+  above_all b d ms v gs above.1 le fit.1,
 )
 
 other_source : (d : Mark) (ms : List Mark) (h : Hold) → same h.source d.source ≡ false → Fit ms d.universe h → Fit (marked true d ms) d.universe h
@@ -152,11 +152,7 @@ after_fits OutOfSequence d ms n hs es ep so fit = unmoved d ms d.universe hs fit
 after_fits SourcesExceeded d ms n hs es ep so fit = unmoved d ms d.universe hs fit
 after_fits UnknownIgnored d ms n hs es ep so fit = unmoved d ms d.universe hs fit
 
-risen : (u : ℕ) (us : List ℕ) → Above u us → Rise us
-risen u [] above = tt
-risen u (v ∷ vs) above = above.1
-
-pub fits_change : (st : List Sent) (t : ℕ) (d : Mark) (ms : List Mark) (gs : List Holding) → Rise (map (λ (g : Holding). g.universe) gs) → AllByRecursion (λ (g : Holding). Sorted g.held) gs → Fits ms gs → Fits (marked (moves (reply_on st d.source d.held (holding_of d.universe gs))) d ms) (change d.universe (delivered st d.source d.held t) gs)
+pub fits_change : (st : List Sent) (t : ℕ) (d : Mark) (ms : List Mark) (gs : List Holding) → Rising (map (λ (g : Holding). g.universe) gs) → AllByRecursion (λ (g : Holding). Sorted g.held) gs → Fits ms gs → Fits (marked (moves (reply_on st d.source d.held (holding_of d.universe gs))) d ms) (change d.universe (delivered st d.source d.held t) gs)
 fits_change st t d ms [] rise sorted fit = tt
 fits_change st t d ms (g ∷ gs) rise sorted fit =
     elim (g.universe == d.universe) as (λ b. (g.universe == d.universe) ≡ b → Fits (marked (moves (reply_on st d.source d.held (cond b (Some g) (holding_of d.universe gs)))) d ms) (if b then record { universe = g.universe; held = delivered st d.source d.held t g.held } ∷ gs else g ∷ change d.universe (delivered st d.source d.held t) gs)) [
@@ -166,10 +162,10 @@ fits_change st t d ms (g ∷ gs) rise sorted fit =
           let here : AllByRecursion (Fit ms d.universe) g.held = subst (λ v. AllByRecursion (Fit ms v) g.held) eu fit.0 in
           let f = after_fits a d ms (record { source = d.source; place = d.held; moment = t }) g.held refl refl sorted.0 here in (
             subst (λ v. AllByRecursion (Fit (marked (moves (FromTable a)) d ms) v) (delivered st d.source d.held t g.held)) (sym eu) f,
-            above_all (moves (FromTable a)) d ms g.universe gs rise (omega (arith, eu)) fit.1,
+            above_all (moves (FromTable a)) d ms g.universe gs rise.0 (omega (arith, eu)) fit.1,
           )
       | false ↦ λ e. (
         other_universe _ d ms g.universe g.held (λ eu. absurd (let x = eq-eqb g.universe d.universe eu in cc)) fit.0,
-        fits_change st t d ms gs (risen g.universe (map (λ (x : Holding). x.universe) gs) rise) sorted.1 fit.1,
+        fits_change st t d ms gs rise.1 sorted.1 fit.1,
       )
     ] refl

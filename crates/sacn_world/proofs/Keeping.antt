@@ -18,7 +18,7 @@ use Rattle.std.specs.declared.alloc.Global.{Global}
 use Rattle.sacn_node.specs.declared.taken.NodeTaken.{NodeTaken}
 use Rattle.sacn_node.specs.declared.taken.NodeTaken.TheVariants.{Refused}
 use Rattle.sacn_node.specs.Setup.{Port, universes}
-use Rattle.sacn_node.specs.Seen.{Rise}
+use Rattle.sacn_universe.specs.Universe.{Rising}
 use Rattle.sacn_node.specs.Laws.{HasTheUniversesOfItsRanges}
 use Rattle.sacn_node.specs.Cores as numbers
 use Rattle.sacn_world.specs.Holdings.{Sorted}
@@ -70,7 +70,7 @@ pub new_seen : (sent : List Sent) (ports : List Port) → (new_watch ports).node
 unfolding seen_core
 new_seen sent ports = λ i. record { moment = 0; tables = new_tables sent (universes ports) i }
 
-pub new_moved : (sent : List Sent) (y : Watch) (ports : List Port) → Rise (universes ports) → Moved sent y (new_watch ports) (node_of ports)
+pub new_moved : (sent : List Sent) (y : Watch) (ports : List Port) → Rising (universes ports) → Moved sent y (new_watch ports) (node_of ports)
 new_moved sent y ports rise =
     let e = new_places ports in
     record {
@@ -78,7 +78,7 @@ new_moved sent y ports rise =
       ok = record {
         core = new_seen sent ports ∙ ap (seen_core sent) (sym e);
         marks = tt;
-        rise = subst (λ (n : Node). Rise (map (λ (g : Holding). g.universe) n.holdings)) (sym e) (subst Rise (sym (new_universes (universes ports))) rise);
+        rise = subst (λ (n : Node). Rising (map (λ (g : Holding). g.universe) n.holdings)) (sym e) (subst Rising (sym (new_universes (universes ports))) rise);
         sorted = subst (λ (n : Node). AllByRecursion (λ (g : Holding). Sorted g.held) n.holdings) (sym e) (new_sorted (universes ports));
       };
     }

@@ -15,7 +15,7 @@ use Rattle.sacn_world.specs.declared.fault.WorldFault.{WorldFault}
 use Rattle.sacn_world.specs.declared.fault.WorldFault.TheVariants.{TooFarBehind, OldLife}
 use Rattle.sacn_world.specs.declared.limits.TheConstants.{TOO_FAR_BEHIND}
 use Rattle.sacn_world.specs.Streams.{Sent, stream_of, life_at}
-use Rattle.sacn_node.specs.Seen.{Rise}
+use Rattle.sacn_universe.specs.Universe.{Rising}
 use Rattle.sacn_world.specs.Holdings.{Hold, Delivery, Sorted}
 use Rattle.sacn_world.specs.Nodes.{Holding, Node, seen_core}
 
@@ -110,7 +110,7 @@ node_by_places w = by_places w.marks w.node
 pub record WatchOk (sent : List Sent) (w : Watch) : Type 0 where
   pub core : w.node.core ≡ seen_core sent (node_by_places w)
   pub marks : AllByRecursion (MarkOk sent) w.marks
-  pub rise : Rise (map (λ g. g.universe) (node_by_places w).holdings)
+  pub rise : Rising (map (λ g. g.universe) (node_by_places w).holdings)
   pub sorted : AllByRecursion (λ g. Sorted g.held) (node_by_places w).holdings
 
 -- the place noted of a source that the core holds
