@@ -7,7 +7,7 @@ use Rattle.sacn_framing.specs.PacketReading.{reading_packet}
 use Rattle.sacn_framing.specs.declared.packet.Packet.TheVariants.{DataPacket, PagePacket, SyncPacket}
 use Rattle.sacn_sources.specs.Rows.{Row, Packet, rows_kept, take_row}
 use Rattle.sacn_sources.specs.Packets.{packet_of}
-use Rattle.sacn_sources.specs.PlainRule.{Sources, unexpired, source_row, shown_by}
+use Rattle.sacn_sources.specs.PlainRule.{Sources, unexpired}
 use Rattle.sacn_sources.specs.Calls as one
 use Rattle.sacn_sources.specs.PlainRule as plain
 use Rattle.sacn_node.specs.Setup.{Port, universes}

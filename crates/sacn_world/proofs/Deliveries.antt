@@ -11,7 +11,7 @@ use Rattle.sacn_universe.specs.Universe.{Rising}
 use Rattle.sacn_world.specs.declared.limits.TheConstants.{TOO_FAR_BEHIND}
 use Rattle.sacn_world.specs.declared.fault.WorldFault.TheVariants.{TooFarBehind, OldLife}
 use Rattle.sacn_world.specs.Streams.{Sent, is_of, is_on, stream_of, life_at, place_of}
-use Rattle.sacn_world.specs.Holdings.{Hold, Delivery, Sorted, is_renewed, newest, noted, refusal}
+use Rattle.sacn_world.specs.Holdings.{Hold, Delivery, RisingByCid, is_renewed, newest, noted, refusal}
 use Rattle.sacn_world.specs.Nodes.{Holding, Node, unexpired_all, change, node_after, node_at, seen_core}
 use Rattle.sacn_world.specs.Worlds.{WorldOk, World, IsNumbered}
 use Rattle.sacn_world.specs.Arrivals.{refused_for, replied, moved}
@@ -102,14 +102,14 @@ universes_changed u f (g ∷ gs) =
       | false ↦ ap (λ us. g.universe ∷ us) (universes_changed u f gs)
     ]
 
-sorted_kept : (t : ℕ) (gs : List Holding) → AllByRecursion (λ (g : Holding). Sorted g.held) gs → AllByRecursion (λ (g : Holding). Sorted g.held) (unexpired_all t gs)
+sorted_kept : (t : ℕ) (gs : List Holding) → AllByRecursion (λ (g : Holding). RisingByCid g.held) gs → AllByRecursion (λ (g : Holding). RisingByCid g.held) (unexpired_all t gs)
 sorted_kept t [] all = tt
 sorted_kept t (g ∷ gs) all = (sorted_filter (is_renewed t) g.held all.0, sorted_kept t gs all.1)
 
-sorted_changed : (u : ℕ) (f : List Hold → List Hold) → ((hs : List Hold) → Sorted hs → Sorted (f hs)) → (gs : List Holding) → AllByRecursion (λ (g : Holding). Sorted g.held) gs → AllByRecursion (λ (g : Holding). Sorted g.held) (change u f gs)
+sorted_changed : (u : ℕ) (f : List Hold → List Hold) → ((hs : List Hold) → RisingByCid hs → RisingByCid (f hs)) → (gs : List Holding) → AllByRecursion (λ (g : Holding). RisingByCid g.held) gs → AllByRecursion (λ (g : Holding). RisingByCid g.held) (change u f gs)
 sorted_changed u f step [] all = tt
 sorted_changed u f step (g ∷ gs) all =
-    elim (g.universe == u) as (λ b. AllByRecursion (λ (x : Holding). Sorted x.held) (if b then record { universe = g.universe; held = f g.held } ∷ gs else g ∷ change u f gs)) [
+    elim (g.universe == u) as (λ b. AllByRecursion (λ (x : Holding). RisingByCid x.held) (if b then record { universe = g.universe; held = f g.held } ∷ gs else g ∷ change u f gs)) [
       | true ↦ (step g.held all.0, all.1)
       | false ↦ (all.0, sorted_changed u f step gs all.1)
     ]
@@ -127,14 +127,14 @@ again sent w core ms n e fit ports ds =
       delivered = sym ds i;
     }
 
-again_ok : (sent : List Sent) (w : Watch) (core : Core) (ms : List Mark) (n : Node) → core ≡ seen_core sent n → Fits ms n.holdings → n.ports ≡ w.node.ports → n.delivered ≡ map delivery_of ms → AllByRecursion (MarkOk sent) ms → Rising (map (λ (g : Holding). g.universe) n.holdings) → AllByRecursion (λ (g : Holding). Sorted g.held) n.holdings → WatchOk sent (record { node = record { ports = w.node.ports; core = core }; marks = ms })
+again_ok : (sent : List Sent) (w : Watch) (core : Core) (ms : List Mark) (n : Node) → core ≡ seen_core sent n → Fits ms n.holdings → n.ports ≡ w.node.ports → n.delivered ≡ map delivery_of ms → AllByRecursion (MarkOk sent) ms → Rising (map (λ (g : Holding). g.universe) n.holdings) → AllByRecursion (λ (g : Holding). RisingByCid g.held) n.holdings → WatchOk sent (record { node = record { ports = w.node.ports; core = core }; marks = ms })
 again_ok sent w core ms n e fit ports ds marks rise sorted =
     let is = again sent w core ms n e fit ports ds in
     record {
       core = e ∙ ap (seen_core sent) (sym is);
       marks = marks;
       rise = subst (λ (x : Node). Rising (map (λ (g : Holding). g.universe) x.holdings)) (sym is) rise;
-      sorted = subst (λ (x : Node). AllByRecursion (λ (g : Holding). Sorted g.held) x.holdings) (sym is) sorted;
+      sorted = subst (λ (x : Node). AllByRecursion (λ (g : Holding). RisingByCid g.held) x.holdings) (sym is) sorted;
     }
 
 pub record Moved (sent : List Sent) (w v : Watch) (n : Node) : Type 0 where

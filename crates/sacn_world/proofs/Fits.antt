@@ -13,7 +13,7 @@ use Rattle.sacn_node.specs.declared.taken.NodeTaken.TheVariants.{FromTable}
 use Rattle.sacn_node.specs.Cores.{Table}
 use Rattle.sacn_universe.specs.Universe.{Rising}
 use Rattle.sacn_world.specs.Streams.{Sent}
-use Rattle.sacn_world.specs.Holdings.{Hold, Sorted, is_renewed, put, answer, holding_after, delivered}
+use Rattle.sacn_world.specs.Holdings.{Hold, RisingByCid, is_renewed, put, answer, holding_after, delivered}
 use Rattle.sacn_world.specs.Nodes.{Holding, unexpired_all, holding_of, reply_on, change, seen_table}
 use Rattle.sacn_world.specs.Watches.{Mark, is_mark_of, mark_of, moves, first_mark, remarked, marked, held_place, hold_from, holding_from}
 use Rattle.sacn_world.proofs.All.{all_weaker, all_filter}
@@ -119,7 +119,7 @@ later_fit d ms n (h ∷ hs) es more fit = (
   later_fit d ms n hs es more.1 fit.1,
 )
 
-put_all : (d : Mark) (ms : List Mark) (n : Hold) (hs : List Hold) → n.source ≡ d.source → Fit (marked true d ms) d.universe n → Sorted hs → AllByRecursion (Fit ms d.universe) hs → AllByRecursion (Fit (marked true d ms) d.universe) (put n hs)
+put_all : (d : Mark) (ms : List Mark) (n : Hold) (hs : List Hold) → n.source ≡ d.source → Fit (marked true d ms) d.universe n → RisingByCid hs → AllByRecursion (Fit ms d.universe) hs → AllByRecursion (Fit (marked true d ms) d.universe) (put n hs)
 put_all d ms n [] es own so fit = (own, tt)
 put_all d ms n (h ∷ hs) es own so fit =
     elim (order n.source h.source) as (λ o. order n.source h.source ≡ o → AllByRecursion (Fit (marked true d ms) d.universe) (by_order o (n ∷ h ∷ hs) (n ∷ hs) (h ∷ put n hs))) [
@@ -132,7 +132,7 @@ put_all d ms n (h ∷ hs) es own so fit =
           (other_source d ms h ne fit.0, put_all d ms n hs es own so.1 fit.1)
     ] refl
 
-put_fits : (d : Mark) (ms : List Mark) (n : Hold) (hs : List Hold) → n.source ≡ d.source → n.place ≡ d.held → Sorted hs → AllByRecursion (Fit ms d.universe) hs → AllByRecursion (Fit (marked true d ms) d.universe) (put n hs)
+put_fits : (d : Mark) (ms : List Mark) (n : Hold) (hs : List Hold) → n.source ≡ d.source → n.place ≡ d.held → RisingByCid hs → AllByRecursion (Fit ms d.universe) hs → AllByRecursion (Fit (marked true d ms) d.universe) (put n hs)
 put_fits d ms n hs es ep so fit =
     let own : Fit (marked true d ms) d.universe n = ap (λ (z : List ℕ). noted_place z d.universe (marked true d ms)) es ∙ place_of_own true d ms ∙ sym ep in
     put_all d ms n hs es own so fit
@@ -144,7 +144,7 @@ unmoved_all : (d : Mark) (ms : List Mark) (gs : List Holding) → Fits ms gs →
 unmoved_all d ms [] fit = tt
 unmoved_all d ms (g ∷ gs) fit = (unmoved d ms g.universe g.held fit.0, unmoved_all d ms gs fit.1)
 
-after_fits : (a : Taken) (d : Mark) (ms : List Mark) (n : Hold) (hs : List Hold) → n.source ≡ d.source → n.place ≡ d.held → Sorted hs → AllByRecursion (Fit ms d.universe) hs → AllByRecursion (Fit (marked (moves (FromTable a)) d ms) d.universe) (holding_after a n hs)
+after_fits : (a : Taken) (d : Mark) (ms : List Mark) (n : Hold) (hs : List Hold) → n.source ≡ d.source → n.place ≡ d.held → RisingByCid hs → AllByRecursion (Fit ms d.universe) hs → AllByRecursion (Fit (marked (moves (FromTable a)) d ms) d.universe) (holding_after a n hs)
 after_fits Held d ms n hs es ep so fit = put_fits d ms n hs es ep so fit
 after_fits EndedNow d ms n hs es ep so fit = put_fits d ms n hs es ep so fit
 after_fits Observed d ms n hs es ep so fit = unmoved d ms d.universe hs fit
@@ -152,7 +152,7 @@ after_fits OutOfSequence d ms n hs es ep so fit = unmoved d ms d.universe hs fit
 after_fits SourcesExceeded d ms n hs es ep so fit = unmoved d ms d.universe hs fit
 after_fits UnknownIgnored d ms n hs es ep so fit = unmoved d ms d.universe hs fit
 
-pub fits_change : (st : List Sent) (t : ℕ) (d : Mark) (ms : List Mark) (gs : List Holding) → Rising (map (λ (g : Holding). g.universe) gs) → AllByRecursion (λ (g : Holding). Sorted g.held) gs → Fits ms gs → Fits (marked (moves (reply_on st d.source d.held (holding_of d.universe gs))) d ms) (change d.universe (delivered st d.source d.held t) gs)
+pub fits_change : (st : List Sent) (t : ℕ) (d : Mark) (ms : List Mark) (gs : List Holding) → Rising (map (λ (g : Holding). g.universe) gs) → AllByRecursion (λ (g : Holding). RisingByCid g.held) gs → Fits ms gs → Fits (marked (moves (reply_on st d.source d.held (holding_of d.universe gs))) d ms) (change d.universe (delivered st d.source d.held t) gs)
 fits_change st t d ms [] rise sorted fit = tt
 fits_change st t d ms (g ∷ gs) rise sorted fit =
     elim (g.universe == d.universe) as (λ b. (g.universe == d.universe) ≡ b → Fits (marked (moves (reply_on st d.source d.held (cond b (Some g) (holding_of d.universe gs)))) d ms) (if b then record { universe = g.universe; held = delivered st d.source d.held t g.held } ∷ gs else g ∷ change d.universe (delivered st d.source d.held t) gs)) [

@@ -46,7 +46,7 @@ module _ (sent : List Sent) (x : Sent) where
   seen_kept u h lt =
       λ i. record {
         source = h.source;
-        number = number_kept h.source u h.place lt i;
+        sequence_number = number_kept h.source u h.place lt i;
         shown = shown_by (is_live (at_kept h.source u h.place lt i)) (priority (at_kept h.source u h.place lt i)) (levels (at_kept h.source u h.place lt i));
         moment = h.moment;
       }

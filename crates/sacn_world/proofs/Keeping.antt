@@ -21,7 +21,7 @@ use Rattle.sacn_node.specs.Setup.{Port, universes}
 use Rattle.sacn_universe.specs.Universe.{Rising}
 use Rattle.sacn_node.specs.Laws.{HasTheUniversesOfItsRanges}
 use Rattle.sacn_node.specs.Cores as numbers
-use Rattle.sacn_world.specs.Holdings.{Sorted}
+use Rattle.sacn_world.specs.Holdings.{RisingByCid}
 use Rattle.sacn_world.specs.Nodes.{Holding, nothing_held, seen_table}
 use Rattle.sacn_root.specs.declared.fault.PacketFault.{PacketFault}
 use Rattle.sacn_world.specs.declared.answer.Answer.{Answer}
@@ -58,7 +58,7 @@ new_universes : (us : List ℕ) → map (λ (g : Holding). g.universe) (map noth
 new_universes [] = refl
 new_universes (u ∷ us) = λ i. u ∷ new_universes us i
 
-new_sorted : (us : List ℕ) → AllByRecursion (λ (g : Holding). Sorted g.held) (map nothing_held us)
+new_sorted : (us : List ℕ) → AllByRecursion (λ (g : Holding). RisingByCid g.held) (map nothing_held us)
 new_sorted [] = tt
 new_sorted (u ∷ us) = (tt, new_sorted us)
 
@@ -79,7 +79,7 @@ new_moved sent y ports rise =
         core = new_seen sent ports ∙ ap (seen_core sent) (sym e);
         marks = tt;
         rise = subst (λ (n : Node). Rising (map (λ (g : Holding). g.universe) n.holdings)) (sym e) (subst Rising (sym (new_universes (universes ports))) rise);
-        sorted = subst (λ (n : Node). AllByRecursion (λ (g : Holding). Sorted g.held) n.holdings) (sym e) (new_sorted (universes ports));
+        sorted = subst (λ (n : Node). AllByRecursion (λ (g : Holding). RisingByCid g.held) n.holdings) (sym e) (new_sorted (universes ports));
       };
     }
 

@@ -12,7 +12,8 @@ use Rattle.sacn_console.specs.declared.line.Line.{Line}
 use Rattle.sacn_console.specs.Lines as line
 use Rattle.sacn_console.specs.Core as console
 use Rattle.sacn_world.specs.Streams.{Sent, nothing, at, is_of, is_live, priority, levels, stream_of, place_of, rank, number_at}
-use Rattle.sacn_world.specs.Seen.{kind_by, packet_at}
+use Rattle.sacn_world.specs.Seen.{packet_at}
+use Rattle.sacn_world.specs.Streams.{kind_by}
 use Rattle.sacn_world.specs.declared.console.Console.{Console}
 use Rattle.sacn_world.specs.Worlds.{sent_by, is_of_life, LineOk}
 use Rattle.sacn_world.proofs.Lists.{found}
@@ -125,7 +126,7 @@ module _ (sent : List Sent) (c : Console) (m : ℕ) (d : Data) (sender : c.core.
       let number : d.number ≡ number_at st q = number_is ∙ sym (number_next c.show.cid d.universe sent x is_own) in
       λ i. record {
         source = cid_is i;
-        number = number i;
+        sequence_number = number i;
         kind = (kind_is ∙ ap (λ (y : Sent). kind_by (is_live y)) (sym here)) i;
         priority = ap priority (sym here) i;
         levels = ap levels (sym here) i;

@@ -16,7 +16,7 @@ use Rattle.sacn_world.specs.declared.fault.WorldFault.TheVariants.{TooFarBehind,
 use Rattle.sacn_world.specs.declared.limits.TheConstants.{TOO_FAR_BEHIND}
 use Rattle.sacn_world.specs.Streams.{Sent, stream_of, life_at}
 use Rattle.sacn_universe.specs.Universe.{Rising}
-use Rattle.sacn_world.specs.Holdings.{Hold, Delivery, Sorted}
+use Rattle.sacn_world.specs.Holdings.{Hold, Delivery, RisingByCid}
 use Rattle.sacn_world.specs.Nodes.{Holding, Node, seen_core}
 
 abbrev pub is_mark_of : List ℕ → ℕ → Mark → Bool
@@ -111,7 +111,7 @@ pub record WatchOk (sent : List Sent) (w : Watch) : Type 0 where
   pub core : w.node.core ≡ seen_core sent (node_by_places w)
   pub marks : AllByRecursion (MarkOk sent) w.marks
   pub rise : Rising (map (λ g. g.universe) (node_by_places w).holdings)
-  pub sorted : AllByRecursion (λ g. Sorted g.held) (node_by_places w).holdings
+  pub sorted : AllByRecursion (λ g. RisingByCid g.held) (node_by_places w).holdings
 
 -- the place noted of a source that the core holds
 abbrev pub place_noted : ℕ → List ℕ → Watch → Option ℕ
