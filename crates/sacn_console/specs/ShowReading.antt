@@ -18,7 +18,7 @@ use Rattle.sacn_files.specs.Keys.{has_known_keys, has_keys, rows_are_known, rows
 use Rattle.sacn_files.specs.Values.{rows_at, has_rows, number_in, number_at, array_values, array_at, members_or_none, value_or}
 use Rattle.sacn_files.specs.Rows.{each}
 use Rattle.sacn_files.specs.Lines.{before}
-use Rattle.sacn_files.specs.Numbered.{has_repeat, in_order}
+use Rattle.sacn_files.specs.Numbers.{has_repeat, in_order}
 use Rattle.sacn_files.specs.Document.{version_in}
 use Rattle.sacn_files.specs.declared.limits.TheConstants.{DEFAULT_UDP_PORT, MIN_UDP_PORT, MAX_UDP_PORT}
 use Rattle.sacn_files.specs.declared.faults.FileFault.{FileFault}

@@ -74,9 +74,9 @@ pub fn ports_of(core: &NodeCore) -> ArrayVec<PortShown, MAX_PORTS>
     ensures rising { IsStrictlyIncreasing (port_numbers core.now.ports) }
 {
     let mut ports = ArrayVec::new();
-    for number in core.port_numbers() {
+    for port in core.port_numbers() {
         ports.push(PortShown {
-            number: *number,
+            port: *port,
             last: None,
         });
     }

@@ -14,7 +14,7 @@ use Rattle.sacn_files.specs.declared.limits.TheConstants.{DEFAULT_UDP_PORT, MIN_
 use Rattle.sacn_files.specs.Values.{number_in, number_at, value_or, array_at, members_or_none}
 use Rattle.sacn_files.specs.Rows.{each}
 use Rattle.sacn_files.specs.Lines.{before}
-use Rattle.sacn_files.specs.Numbered.{has_repeat, in_order}
+use Rattle.sacn_files.specs.Numbers.{has_repeat, in_order}
 use Rattle.sacn_files.proofs.AscentLemmas.{or_parts, in_order_rises, in_order_keeps}
 use Rattle.sacn_node.specs.declared.limits.TheConstants.{MAX_PORTS, MAX_UNIVERSES, MAX_RANGES, MIN_PORT, MAX_PORT}
 use Rattle.sacn_node.specs.declared.setup.SlotRange.{SlotRange}

@@ -13,7 +13,7 @@ use Rattle.sacn_files.specs.Keys.{has_known_keys, rows_are_known, rows_have_keys
 use Rattle.sacn_files.specs.Values.{rows_at, has_rows, number_in, number_at, array_at, value_or}
 use Rattle.sacn_files.specs.Rows.{each}
 use Rattle.sacn_files.specs.Lines.{before}
-use Rattle.sacn_files.specs.Numbered.{has_repeat, in_order}
+use Rattle.sacn_files.specs.Numbers.{has_repeat, in_order}
 use Rattle.sacn_node.specs.declared.limits.TheConstants.{MAX_PORTS, MAX_UNIVERSES, MAX_RANGES, MIN_PORT, MAX_PORT, NEWEST_SETUP}
 use Rattle.sacn_node.specs.declared.setup.SlotRange.{SlotRange}
 use Rattle.sacn_node.specs.declared.setup.fault.SetupFault.{SetupFault}

@@ -7,7 +7,7 @@ use Rattle.sacn_framing.specs.PacketReading.{reading_packet}
 use Rattle.sacn_discovery.specs.Pages.{page_of_list}
 use Rattle.sacn_sources.specs.Packets.{packet_of}
 use Rattle.sacn_console.specs.declared.command.Command.{Command}
-use Rattle.sacn_console.specs.declared.line.Line.{Line}
+use Rattle.sacn_console.specs.declared.line.UniverseLine.{UniverseLine}
 use Rattle.sacn_console.specs.declared.sender.Sender.{Sender}
 use Rattle.sacn_console.specs.Shows.{ShowContent}
 use Rattle.sacn_console.specs.Due.{life_of}
@@ -208,8 +208,8 @@ abbrev pub is_of_life : List ℕ → ℕ → ℕ → Sent → Bool
 is_of_life s u life x = is_of s u x && (x.life == life)
 
 -- a universe's next number: the first of this life, and how many packets of this life were sent there
-abbrev pub LineOk : List Sent → Console → Line → Type 0
-LineOk sent c l = l.number ≡ (c.first + count_by (is_of_life c.show.cid l.universe c.life) sent) % 256
+abbrev pub LineOk : List Sent → Console → UniverseLine → Type 0
+LineOk sent c l = l.sequence_number ≡ (c.first + count_by (is_of_life c.show.cid l.universe c.life) sent) % 256
 
 -- a console's life is the latest of its streams, and its numbers are those of its places
 pub record ConsoleOk (sent : List Sent) (c : Console) : Type 0 where

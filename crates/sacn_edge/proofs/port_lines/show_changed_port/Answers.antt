@@ -10,6 +10,6 @@ returns-clause-ok g c =
     let s = c.args.shown.now in
     let current = c.requires.current (sym c.concern.ensures ∙ c.if-concern.false) in (
       c.requires.works,
-      subst (Adds (g.O.Out.Tells c.args.out.now) (g.O.Out.Tells c.args.out.now)) (sym (current_text n.core.moment s (node_frame s.number n) current)) (Adds-nil (g.O.Out.Tells c.args.out.now)),
-      one_stays s (node_frame s.number n) current,
+      subst (Adds (g.O.Out.Tells c.args.out.now) (g.O.Out.Tells c.args.out.now)) (sym (current_text n.core.moment s (node_frame s.port n) current)) (Adds-nil (g.O.Out.Tells c.args.out.now)),
+      one_stays s (node_frame s.port n) current,
     )
