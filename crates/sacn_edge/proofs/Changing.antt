@@ -12,7 +12,7 @@ use Rattle.sacn_node.proofs.Changed.{slots_are_kept, frames_are_kept, neither}
 use Rattle.sacn_edge.specs.declared.changes.Changes.{Changes}
 use Rattle.sacn_edge.specs.declared.port_lines.PortShown.{PortShown}
 use Rattle.sacn_edge.specs.PortLines.{later, port_after, AreCurrent}
-use Rattle.sacn_edge.specs.Changing.{changes_universe, concerns, Grows, IsTold, IsCurrentBut, AreCurrentBut}
+use Rattle.sacn_edge.specs.PortChanges.{changes_universe, concerns, Grows, IsTold, IsCurrentBut, AreCurrentBut}
 use Rattle.sacn_edge.proofs.Settled.{none_lost}
 
 -- ---- one call

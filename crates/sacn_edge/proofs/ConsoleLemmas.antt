@@ -13,8 +13,8 @@ use Rattle.sacn_console.specs.Lights.{Lights, frame, frame_now, lights_at}
 use Rattle.sacn_console.specs.Lines.{Page, Datagram, Packet, Paged}
 use Rattle.sacn_console.specs.Core.{Core, due, due_by, line_found, page_due, packet_of, packet_with, size, text, at, after_poll}
 use Rattle.sacn_edge.specs.declared.report.ConsoleReport.{ConsoleReport}
-use Rattle.sacn_edge.specs.Told.{Extends}
-use Rattle.sacn_edge.specs.Heard.{Transcript, Hands}
+use Rattle.sacn_edge.specs.Additions.{Extends}
+use Rattle.sacn_edge.specs.Hearings.{Transcript, Hands}
 use Rattle.sacn_edge.specs.ConsoleSends.{Script, Reader, Handed, come, commanded, refusals, lines_at, ordered, reader_after, core_after, octets_of, sent_at, handed_of, datagrams, console_sends, refused_by, sends_report, counted_send}
 
 universe_long : (level : ℕ → ℕ) (patch : Patched) (u : ℕ) → length (universe_frame level patch u) ≡ 512

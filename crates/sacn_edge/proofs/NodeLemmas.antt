@@ -8,8 +8,8 @@ use Rattle.std.proofs.lemmas.List.Sums.{sum_by-cons}
 use Rattle.sacn_node.specs.Setup.{port_numbers}
 use Rattle.sacn_node.specs.Cores.{Node, node_frame}
 use Rattle.sacn_edge.specs.declared.port_lines.PortShown.{PortShown}
-use Rattle.sacn_edge.specs.Told.{Adds, Extends}
-use Rattle.sacn_edge.specs.Heard.{Heard, Transcript, Hears}
+use Rattle.sacn_edge.specs.Additions.{Adds, Extends}
+use Rattle.sacn_edge.specs.Hearings.{Heard, Transcript, Hears}
 use Rattle.sacn_edge.specs.NodeText.{Turn, FrameLine, line_text, is_shown, last_frame, with_frame, with_ports, lines_after, node_after, text_of}
 use Rattle.sacn_edge.specs.NodeRun.{Turned, StopsIn, readings, hearings}
 use Rattle.sacn_edge.specs.PortLines.{frame_text, later, unshown, port_text, port_after, ports_text, FailsAmong}

@@ -6,7 +6,7 @@ use Rattle.sacn_node.specs.Calls.{Call, Frame, step, after_calls, moment_in_use}
 use Rattle.sacn_node.specs.PlainRule.{plain_rule}
 use Rattle.sacn_node.specs.Laws.{AnswersByThePlainRule, KeepsItsPorts, UsesTheGreatestMoment}
 use Rattle.sacn_edge.specs.NodeText.{Turn, FrameLine, call_at, node_after, with_frame, with_ports, line_text, lines_after, text_of}
-use Rattle.sacn_edge.specs.Told.{Adds}
+use Rattle.sacn_edge.specs.Additions.{Adds}
 use Rattle.sacn_edge.specs.PlainText.{asked, calls_of, frame_told, plain_ports, plain_lines, LinesAreByThePlainRule, StopsByThePlainRule, TextIsByThePlainRule}
 use Rattle.sacn_edge.proofs.Settled.{turn_settled}
 

@@ -3,7 +3,7 @@ use Rattle.std.proofs.Common.{subst, if◌then◌else◌, ◌≡◌, ℕ, zero, 
 use Rattle.std.specs.Cmp.Lexicographic.{bytes_decides}
 use Rattle.std.proofs.lemmas.List.{take_more, drop_more, length-take, length-map, get_or_at}
 use Rattle.sacn_edge.specs.declared.port_lines.PortShown.{PortShown}
-use Rattle.sacn_edge.specs.Told.{Adds}
+use Rattle.sacn_edge.specs.Additions.{Adds}
 use Rattle.sacn_edge.specs.NodeText.{same, is_shown, line_text}
 use Rattle.sacn_edge.specs.PortLines.{frame_text, later, AreCurrent, with_last, port_text, port_after, ports_text}
 use Rattle.sacn_node.specs.Setup.{Port}

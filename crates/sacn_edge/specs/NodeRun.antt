@@ -2,8 +2,8 @@
 use Rattle.std.specs.Prelude.{◌≡◌, ℕ, ◌<◌, List, [], ◌∷◌, ◌++◌, length, take, count_by, Option}
 use Rattle.sacn_node.specs.Cores.{Node}
 use Rattle.sacn_edge.specs.declared.report.NodeReport.{NodeReport}
-use Rattle.sacn_edge.specs.Told.{Adds, Extends}
-use Rattle.sacn_edge.specs.Heard.{Heard, Transcript, Hears, is_datagram, is_failure}
+use Rattle.sacn_edge.specs.Additions.{Adds, Extends}
+use Rattle.sacn_edge.specs.Hearings.{Heard, Transcript, Hears, is_datagram, is_failure}
 use Rattle.sacn_edge.specs.NodeText.{Turn, FrameLine, line_text, lines_after, text_of}
 
 -- the readings and what was heard, in the order of the turns

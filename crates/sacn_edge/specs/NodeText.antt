@@ -7,7 +7,7 @@ use Rattle.hex.specs.Hex.{encode_lower}
 use Rattle.sacn_node.specs.Setup.{port_numbers}
 use Rattle.sacn_node.specs.Cores.{Node, node_frame}
 use Rattle.sacn_node.specs.Calls.{Call, Take, Tick, step}
-use Rattle.sacn_edge.specs.Heard.{Heard, Silence, Octets, Fault}
+use Rattle.sacn_edge.specs.Hearings.{Heard, Silence, Octets, Fault}
 
 -- a turn: what the clock read, and what the receive brought
 pub record Turn : Type 0 where

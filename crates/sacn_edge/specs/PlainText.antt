@@ -4,7 +4,7 @@ use Rattle.std.specs.Prelude.{◌≡◌, ℕ, ◌<◌, List, [], ◌∷◌, ◌+
 use Rattle.sacn_node.specs.Setup.{Port, port_numbers}
 use Rattle.sacn_node.specs.Calls.{Call, Frame, Answer, Replied, Lost, Shown, after_calls, moment_in_use}
 use Rattle.sacn_node.specs.PlainRule.{plain_rule}
-use Rattle.sacn_edge.specs.Told.{Adds}
+use Rattle.sacn_edge.specs.Additions.{Adds}
 use Rattle.sacn_edge.specs.NodeText.{Turn, FrameLine, call_at, with_frame, line_text, lines_after, text_of, node_text}
 use Rattle.sacn_edge.specs.NodeRun.{StopsIn}
 

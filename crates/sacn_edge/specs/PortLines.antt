@@ -2,7 +2,7 @@
 use Rattle.std.specs.Prelude.{◌≡◌, ℕ, ◌<◌, List, [], ◌∷◌, ◌++◌, length, take, Option, None, Some, ⊤, if◌then◌else◌}
 use Rattle.sacn_node.specs.Cores.{Node, node_frame}
 use Rattle.sacn_edge.specs.declared.port_lines.PortShown.{PortShown}
-use Rattle.sacn_edge.specs.Told.{Adds}
+use Rattle.sacn_edge.specs.Additions.{Adds}
 use Rattle.sacn_edge.specs.NodeText.{line_text, is_shown}
 
 -- the text that a frame of a port asks for: its line, or nothing

@@ -1,10 +1,10 @@
 //! The lines of a turn.
 ghost use Rattle.std.specs.Prelude.{◌≡◌, false, true, OnOk, OnErr, map, Some};
 ghost use Rattle.sacn_node.specs.Cores.{core_at};
-ghost use Rattle.sacn_edge.specs.Told.{Adds, AddsPart};
+ghost use Rattle.sacn_edge.specs.Additions.{Adds, AddsPart};
 ghost use Rattle.sacn_edge.specs.NodeText.{is_shown};
 ghost use Rattle.sacn_edge.specs.PortLines.{frame_text, with_last, port_text, port_after, ports_text, AreCurrent, FailsAmong};
-ghost use Rattle.sacn_edge.specs.Changing.{IsCurrentBut, AreCurrentBut};
+ghost use Rattle.sacn_edge.specs.PortChanges.{IsCurrentBut, AreCurrentBut};
 
 use crate::changes::Changes;
 use crate::line::line_of;

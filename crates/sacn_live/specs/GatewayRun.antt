@@ -1,7 +1,7 @@
 -- What a run of a gateway hears, and where it ends. Lists of turns, hearings and lines have the latest first.
 use Rattle.std.specs.Prelude.{◌≡◌, ℕ, ◌<◌, ◌≤◌, ⊤, Bool, true, List, [], ◌∷◌, ◌++◌, length, take}
 use Rattle.sacn_node.specs.Cores.{Node}
-use Rattle.sacn_edge.specs.Told.{Adds}
+use Rattle.sacn_edge.specs.Additions.{Adds}
 use Rattle.sacn_edge.specs.NodeText.{FrameLine, line_text, text_of}
 use Rattle.sacn_live.specs.Hearings.{Hearing, in_order, is_datagram}
 use Rattle.sacn_live.specs.GatewayText.{gateway_lines}

@@ -3,7 +3,7 @@
 use Rattle.std.specs.Prelude.{◌≡◌, ℕ, ◌<◌, List, [], ◌∷◌, ◌++◌, length, take}
 use Rattle.sacn_node.specs.Setup.{Port, port_numbers}
 use Rattle.sacn_node.specs.Calls.{Call, after_calls}
-use Rattle.sacn_edge.specs.Told.{Adds}
+use Rattle.sacn_edge.specs.Additions.{Adds}
 use Rattle.sacn_edge.specs.NodeText.{Turn, FrameLine, call_at, line_text, text_of}
 use Rattle.sacn_edge.specs.PlainText.{asked, plain_ports}
 use Rattle.sacn_live.specs.Hearings.{Hearing, turns_of, emptied_after}

@@ -11,7 +11,7 @@ use Rattle.sacn_node.specs.declared.setup.SlotRange.{SlotRange}
 use Rattle.sacn_node.specs.Setup.{Port, Setup, IsSetup, with_universe, universes_after, universes_from, universes}
 use Rattle.sacn_node.specs.Ports.{port_of}
 use Rattle.sacn_node.specs.Cores.{new_core}
-use Rattle.sacn_node.specs.Seen.{ArePorts, AreTables, seen, new_one}
+use Rattle.sacn_node.specs.Storage.{ArePorts, AreTables, seen, new_one}
 use Rattle.sacn_node.specs.declared.tables.OneUniverse.{OneUniverse}
 use Rattle.sacn_node.specs.declared.limits.TheConstants.{MAX_UNIVERSES}
 

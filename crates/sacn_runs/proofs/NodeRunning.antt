@@ -12,7 +12,7 @@ use Rattle.sacn_edge.specs.NodeText.{Turn, FrameLine, node_after, lines_after, t
 use Rattle.sacn_world.specs.declared.answer.Answer.{Answer}
 use Rattle.sacn_world.specs.Nodes.{Node, seen_core}
 use Rattle.sacn_world.specs.Worlds.{World, step, left_by, new_console, new_world, Apart, WorldOk}
-use Rattle.sacn_world.specs.Running.{Ran, ran}
+use Rattle.sacn_world.specs.Runs.{Ran, ran}
 use Rattle.sacn_world.specs.Laws.{reached}
 use Rattle.sacn_world.proofs.Keeping.{new_seen}
 use Rattle.sacn_world.proofs.Origin.{Origin, step_kept, reached_origin}

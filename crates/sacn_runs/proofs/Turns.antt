@@ -6,7 +6,7 @@ use Rattle.sacn_node.specs.Setup.{Port, port_numbers}
 use Rattle.sacn_node.specs.Cores.{Core, Node, core_at, node_frame}
 use Rattle.sacn_node.specs.Readings.{Reading, after_reading}
 use Rattle.sacn_node.specs.Calls.{core_step, step}
-use Rattle.sacn_edge.specs.Heard.{Heard, Silence, Octets, Fault}
+use Rattle.sacn_edge.specs.Hearings.{Heard, Silence, Octets, Fault}
 use Rattle.sacn_edge.specs.NodeText.{Turn, FrameLine, call_at, node_after, with_frame, with_ports, lines_after}
 use Rattle.sacn_edge.proofs.Settled.{turn_settled}
 use Rattle.sacn_runs.specs.NodeVisits.{Visit, Came, Asked, packet_read, packet_heard, turn_visits, loop_visits}

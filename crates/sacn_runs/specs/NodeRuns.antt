@@ -11,7 +11,7 @@ use Rattle.sacn_world.specs.declared.answer.Answer.TheVariants.{Ordered, Sent, I
 use Rattle.sacn_world.specs.Streams as stream
 use Rattle.sacn_world.specs.Nodes.{Node, node_of, seen_core}
 use Rattle.sacn_world.specs.Worlds.{World, new_console, Apart}
-use Rattle.sacn_world.specs.Running.{Ran, ran}
+use Rattle.sacn_world.specs.Runs.{Ran, ran}
 use Rattle.sacn_world.specs.Laws.{reached}
 use Rattle.sacn_runs.specs.NodeVisits.{visits, loop_visits}
 

@@ -11,11 +11,11 @@ use Rattle.sacn_universe.specs.Universe.{Rising}
 use Rattle.sacn_world.specs.declared.limits.TheConstants.{TOO_FAR_BEHIND}
 use Rattle.sacn_world.specs.declared.fault.WorldFault.TheVariants.{TooFarBehind, OldLife}
 use Rattle.sacn_world.specs.Streams.{Sent, is_of, is_on, stream_of, life_at, place_of}
-use Rattle.sacn_world.specs.Holdings.{Hold, Delivery, RisingByCid, is_renewed, newest, noted, refusal}
+use Rattle.sacn_world.specs.Holdings.{Hold, Delivery, RisingByCid, is_renewed, newest, add_delivery, refusal}
 use Rattle.sacn_world.specs.Nodes.{Holding, Node, unexpired_all, change, node_after, node_at, seen_core}
 use Rattle.sacn_world.specs.Worlds.{WorldOk, World, IsNumbered}
 use Rattle.sacn_world.specs.Arrivals.{refused_for, replied, moved}
-use Rattle.sacn_world.specs.Watches.{Mark, Watch, is_mark_of, mark_of, moves, remarked, marked, mark_refusal, holding_from, delivery_of, by_places, node_by_places, taken_by, with_core, MarkOk, WatchOk}
+use Rattle.sacn_world.specs.Watches.{Mark, Watch, is_mark_of, mark_of, moves, mark_after, marked, mark_refusal, holding_from, delivery_of, by_places, node_by_places, taken_by, with_core, MarkOk, WatchOk}
 use Rattle.sacn_world.specs.Wire.{stream_in, came_by, refusal_in}
 use Rattle.sacn_world.proofs.Sources.{same_source, same-itself}
 use Rattle.sacn_world.proofs.Lists.{found}
@@ -36,10 +36,10 @@ newest_is s u (m ∷ ms) =
       | false ↦ newest_is s u ms
     ]
 
-noted_is : (b : Bool) (d : Mark) (ms : List Mark) → map delivery_of (marked b d ms) ≡ noted (delivery_of d) (map delivery_of ms)
+noted_is : (b : Bool) (d : Mark) (ms : List Mark) → map delivery_of (marked b d ms) ≡ add_delivery (delivery_of d) (map delivery_of ms)
 noted_is b d [] = refl
 noted_is b d (m ∷ ms) =
-    elim (is_mark_of d.source d.universe m) as (λ t. map delivery_of (if t then remarked b d m ∷ ms else m ∷ marked b d ms) ≡ (if t then record { source = m.source; universe = m.universe; place = max d.newest m.newest } ∷ map delivery_of ms else delivery_of m ∷ noted (delivery_of d) (map delivery_of ms))) [
+    elim (is_mark_of d.source d.universe m) as (λ t. map delivery_of (if t then mark_after b d m ∷ ms else m ∷ marked b d ms) ≡ (if t then record { source = m.source; universe = m.universe; place = max d.newest m.newest } ∷ map delivery_of ms else delivery_of m ∷ add_delivery (delivery_of d) (map delivery_of ms))) [
       | true ↦ refl
       | false ↦ ap (λ (xs : List Delivery). delivery_of m ∷ xs) (noted_is b d ms)
     ]
@@ -53,7 +53,7 @@ max_down a b e = elim (cases_lt a b) [
   | inr ge ↦ absurd (let t = le-leb b a ge in cc)
 ]
 
-remarked_ok : (sent : List Sent) (b : Bool) (d m : Mark) → MarkOk sent d → MarkOk sent m → is_mark_of d.source d.universe m ≡ true → MarkOk sent (remarked b d m)
+remarked_ok : (sent : List Sent) (b : Bool) (d m : Mark) → MarkOk sent d → MarkOk sent m → is_mark_of d.source d.universe m ≡ true → MarkOk sent (mark_after b d m)
 remarked_ok sent b d m dok mok e =
     let es : d.source ≡ m.source = same_source _ _ (and_parts _ _ e).0 in
     let eu : d.universe ≡ m.universe = sym (eqb-true _ _ (and_parts _ _ e).1) in
@@ -67,7 +67,7 @@ remarked_ok sent b d m dok mok e =
 marked_ok : (sent : List Sent) (b : Bool) (d : Mark) (ms : List Mark) → MarkOk sent d → AllByRecursion (MarkOk sent) ms → AllByRecursion (MarkOk sent) (marked b d ms)
 marked_ok sent b d [] dok all = (dok, tt)
 marked_ok sent b d (m ∷ ms) dok all =
-    elim (is_mark_of d.source d.universe m) as (λ t. is_mark_of d.source d.universe m ≡ t → AllByRecursion (MarkOk sent) (if t then remarked b d m ∷ ms else m ∷ marked b d ms)) [
+    elim (is_mark_of d.source d.universe m) as (λ t. is_mark_of d.source d.universe m ≡ t → AllByRecursion (MarkOk sent) (if t then mark_after b d m ∷ ms else m ∷ marked b d ms)) [
       | true ↦ λ e. (remarked_ok sent b d m dok all.0 e, all.1)
       | false ↦ λ e. (all.0, marked_ok sent b d ms dok all.1)
     ] refl
@@ -190,7 +190,7 @@ module _ (w : World) (ok : WorldOk w) (k i m : ℕ) (y : Watch) (x : Sent) (ther
   unfolding by_places
   ports_same = refl
 
-  noted_now : (d : Mark) (ms : List Mark) (b : Bool) → marked b d y.marks ≡ ms → noted (delivery_of d) n.delivered ≡ map delivery_of ms
+  noted_now : (d : Mark) (ms : List Mark) (b : Bool) → marked b d y.marks ≡ ms → add_delivery (delivery_of d) n.delivered ≡ map delivery_of ms
   unfolding by_places
   noted_now d ms b e = sym (noted_is b d y.marks) ∙ ap (map delivery_of) e
 

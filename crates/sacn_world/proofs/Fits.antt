@@ -15,7 +15,7 @@ use Rattle.sacn_universe.specs.Universe.{Rising}
 use Rattle.sacn_world.specs.Streams.{Sent}
 use Rattle.sacn_world.specs.Holdings.{Hold, RisingByCid, is_renewed, put, answer, holding_after, delivered}
 use Rattle.sacn_world.specs.Nodes.{Holding, unexpired_all, holding_of, reply_on, change, seen_table}
-use Rattle.sacn_world.specs.Watches.{Mark, is_mark_of, mark_of, moves, first_mark, remarked, marked, held_place, hold_from, holding_from}
+use Rattle.sacn_world.specs.Watches.{Mark, is_mark_of, mark_of, moves, first_mark, mark_after, marked, held_place, hold_from, holding_from}
 use Rattle.sacn_world.proofs.All.{all_weaker, all_filter}
 use Rattle.sacn_world.proofs.Sources.{same_source, same-itself}
 use Rattle.sacn_world.proofs.Maps.{order_turned, order_through}
@@ -29,12 +29,12 @@ noted_place s u ms = held_place (mark_of s u ms)
 place_of_other : (b : Bool) (d : Mark) (s : List ℕ) (u : ℕ) (ms : List Mark) → is_mark_of s u d ≡ false → noted_place s u (marked b d ms) ≡ noted_place s u ms
 place_of_other b d s u [] no' = ap (λ t. held_place (cond t (Some (first_mark b d)) None)) no'
 place_of_other b d s u (m ∷ ms) no' =
-    elim (is_mark_of d.source d.universe m) as (λ t. is_mark_of d.source d.universe m ≡ t → noted_place s u (if t then remarked b d m ∷ ms else m ∷ marked b d ms) ≡ noted_place s u (m ∷ ms)) [
+    elim (is_mark_of d.source d.universe m) as (λ t. is_mark_of d.source d.universe m ≡ t → noted_place s u (if t then mark_after b d m ∷ ms else m ∷ marked b d ms) ≡ noted_place s u (m ∷ ms)) [
       | true ↦ λ e.
           let es : d.source ≡ m.source = same_source _ _ (and_parts _ _ e).0 in
           let eu : m.universe ≡ d.universe = eqb-true _ _ (and_parts _ _ e).1 in
           let mine : is_mark_of s u m ≡ false = ap (λ (z : List ℕ). same s z && (m.universe == u)) (sym es) ∙ ap (λ v. same s d.source && (v == u)) eu ∙ no' in
-          ap (λ t. held_place (cond t (Some (remarked b d m)) (mark_of s u ms))) mine ∙ sym (ap (λ t. held_place (cond t (Some m) (mark_of s u ms))) mine)
+          ap (λ t. held_place (cond t (Some (mark_after b d m)) (mark_of s u ms))) mine ∙ sym (ap (λ t. held_place (cond t (Some m) (mark_of s u ms))) mine)
       | false ↦ λ e. elim (is_mark_of s u m) as (λ t. held_place (cond t (Some m) (mark_of s u (marked b d ms))) ≡ held_place (cond t (Some m) (mark_of s u ms))) [
         | true ↦ refl
         | false ↦ place_of_other b d s u ms no'
@@ -44,8 +44,8 @@ place_of_other b d s u (m ∷ ms) no' =
 place_of_own : (b : Bool) (d : Mark) (ms : List Mark) → noted_place d.source d.universe (marked b d ms) ≡ (if b then d.held else noted_place d.source d.universe ms)
 place_of_own b d [] = ap (λ t. held_place (cond t (Some (first_mark b d)) None)) (and_from _ _ (same-itself d.source) (eq-eqb d.universe d.universe refl))
 place_of_own b d (m ∷ ms) =
-    elim (is_mark_of d.source d.universe m) as (λ t. is_mark_of d.source d.universe m ≡ t → noted_place d.source d.universe (if t then remarked b d m ∷ ms else m ∷ marked b d ms) ≡ (if b then d.held else held_place (cond t (Some m) (mark_of d.source d.universe ms)))) [
-      | true ↦ λ e. ap (λ t. held_place (cond t (Some (remarked b d m)) (mark_of d.source d.universe ms))) e
+    elim (is_mark_of d.source d.universe m) as (λ t. is_mark_of d.source d.universe m ≡ t → noted_place d.source d.universe (if t then mark_after b d m ∷ ms else m ∷ marked b d ms) ≡ (if b then d.held else held_place (cond t (Some m) (mark_of d.source d.universe ms)))) [
+      | true ↦ λ e. ap (λ t. held_place (cond t (Some (mark_after b d m)) (mark_of d.source d.universe ms))) e
       | false ↦ λ e. ap (λ t. held_place (cond t (Some m) (mark_of d.source d.universe (marked b d ms)))) e ∙ place_of_own b d ms
     ] refl
 
@@ -77,7 +77,7 @@ pub fits_itself : (ms : List Mark) (gs : List Table) → Fits ms (map (holding_f
 fits_itself ms [] = tt
 fits_itself ms (g ∷ gs) = (rows_fit ms g.universe g.rows, fits_itself ms gs)
 
-holds_back : (sent : List Sent) (ms : List Mark) (u : ℕ) (hs : List Hold) → AllByRecursion (Fit ms u) hs → map (hold_from ms u) (map (Rattle.sacn_world.specs.Seen.seen u sent) hs) ≡ hs
+holds_back : (sent : List Sent) (ms : List Mark) (u : ℕ) (hs : List Hold) → AllByRecursion (Fit ms u) hs → map (hold_from ms u) (map (Rattle.sacn_world.specs.RowsOfPlaces.seen u sent) hs) ≡ hs
 holds_back sent ms u [] fit = refl
 holds_back sent ms u (h ∷ hs) fit = λ i. record { source = h.source; place = fit.0 i; moment = h.moment } ∷ holds_back sent ms u hs fit.1 i
 

@@ -37,7 +37,7 @@ use Rattle.sacn_world.specs.Worlds.{World, Outcome, Step, with_console, with_nod
 use Rattle.sacn_world.specs.Arrivals.{refused_for, replied, moved, arrival}
 use Rattle.sacn_world.specs.Watches.{Watch, holding_from, node_by_places, by_places, with_core as with_node_core, taken_by, new_watch, WatchOk}
 use Rattle.sacn_world.specs.Wire.{SentDatagram, seen_sent, stream_in, came_by, came_of, refusal_in, refusal_by}
-use Rattle.sacn_world.specs.Kept.{seen_world, Kept, IsAccepted}
+use Rattle.sacn_world.specs.Invariants.{seen_world, Kept, IsAccepted}
 use Rattle.sacn_world.proofs.All.{all_get, all_set}
 use Rattle.sacn_world.proofs.NodeSteps.{slots_seen}
 use Rattle.sacn_world.proofs.Runs.{step_ok}

@@ -25,7 +25,7 @@ use Rattle.sacn_world.specs.Streams.{Sent, stream_of, place_of}
 use Rattle.sacn_world.specs.Holdings.{Hold, is_renewed, unexpired, hold_of, put, answer, holding_after, delivered}
 use Rattle.sacn_world.specs.Nodes.{Holding, Node, node_of, unexpired_all, holding_of, reply_on, change, node_reply, node_after, node_at}
 use Rattle.sacn_world.specs.Worlds.{World, Outcome, Step, with_node, order_step, poll_by, poll_step, restart_console, come, arrive, deliver_step, look_step, heard, noise_step, restart_node, step, left_by, after, place_on, hold_in, held_at, place_at}
-use Rattle.sacn_world.specs.Lasting.{LastsThrough, Lasts, HoldsFrom, TakesItsPlace, MovesForward, NoHeldPacketGivesWay}
+use Rattle.sacn_world.specs.Entries.{LastsThrough, Lasts, HoldsFrom, TakesItsPlace, MovesForward, NoHeldPacketGivesWay}
 use Rattle.sacn_world.proofs.Forward.{never_back, later_than_held}
 use Rattle.sacn_world.proofs.Maps.{hold_of-put}
 use Rattle.sacn_world.proofs.Runs.{mapped}

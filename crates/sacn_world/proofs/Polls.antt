@@ -12,7 +12,7 @@ use Rattle.sacn_console.specs.declared.line.UniverseLine.{UniverseLine}
 use Rattle.sacn_console.specs.Lines as line
 use Rattle.sacn_console.specs.Core as console
 use Rattle.sacn_world.specs.Streams.{Sent, nothing, at, is_of, is_live, priority, levels, stream_of, place_of, rank, number_at}
-use Rattle.sacn_world.specs.Seen.{packet_at}
+use Rattle.sacn_world.specs.RowsOfPlaces.{packet_at}
 use Rattle.sacn_world.specs.Streams.{kind_by}
 use Rattle.sacn_world.specs.declared.console.Console.{Console}
 use Rattle.sacn_world.specs.Worlds.{sent_by, is_of_life, LineOk}

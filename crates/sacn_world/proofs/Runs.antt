@@ -20,7 +20,7 @@ use Rattle.sacn_schedule.specs.declared.event.Event.TheVariants.{Order, Poll, De
 use Rattle.sacn_world.specs.declared.fault.WorldFault.{WorldFault}
 use Rattle.sacn_world.specs.Streams.{Sent, is_of, is_on, stream_of, place_of, is_live, priority, levels, Ordered}
 use Rattle.sacn_world.specs.Holdings.{newest, refusal}
-use Rattle.sacn_world.specs.Seen.{packet_at}
+use Rattle.sacn_world.specs.RowsOfPlaces.{packet_at}
 use Rattle.sacn_world.specs.Streams.{kind_by}
 use Rattle.sacn_world.specs.Nodes.{Holding, Node, node_of, nothing_held, node_at, HoldOk}
 use Rattle.sacn_world.specs.declared.console.Console.{Console}

@@ -6,7 +6,7 @@ use Rattle.sacn_world.proofs.Lists.{row_of_seen, put_seen}
 use Rattle.std.specs.Prelude.{option_map, nat_lt}
 use Rattle.sacn_world.specs.Streams.{priority, levels, Sent, at, number_at, is_live, priority, levels, stream_of, follows, late}
 use Rattle.sacn_world.specs.Holdings.{Hold, hold_of, answer_unknown, answer_known, answer_by, answer, holding_after}
-use Rattle.sacn_world.specs.Seen.{shown_by, packet_at, seen, rows_of}
+use Rattle.sacn_world.specs.RowsOfPlaces.{shown_by, packet_at, seen, rows_of}
 use Rattle.sacn_world.specs.Streams.{kind_by}
 use Rattle.sacn_sources.specs.Rows.{row_of, put_row, take_known, take_by, taken, rows_after}
 use Rattle.sacn_sources.specs.declared.taken.Taken.{Taken}

@@ -75,10 +75,10 @@ newest s u [] = None
 newest s u (d ∷ ds) = if same s d.source && (d.universe == u) then Some d.place else newest s u ds
 
 -- a delivery more: of each stream the greatest place stands, once
-abbrev pub noted : Delivery → List Delivery → List Delivery
-noted d [] = d ∷ []
-noted d (e ∷ es) =
-    if same d.source e.source && (e.universe == d.universe) then record { source = e.source; universe = e.universe; place = max d.place e.place } ∷ es else e ∷ noted d es
+abbrev pub add_delivery : Delivery → List Delivery → List Delivery
+add_delivery d [] = d ∷ []
+add_delivery d (e ∷ es) =
+    if same d.source e.source && (e.universe == d.universe) then record { source = e.source; universe = e.universe; place = max d.place e.place } ∷ es else e ∷ add_delivery d es
 
 -- where n is the newest place delivered: q is of an earlier life, or of the same life and too many places before it
 abbrev pub is_old_life : List Sent → ℕ → ℕ → Bool

@@ -14,10 +14,10 @@ use Rattle.sacn_schedule.specs.declared.event.Event.TheVariants.{Deliver}
 use Rattle.sacn_world.specs.declared.answer.Answer.TheVariants as answered
 use Rattle.sacn_world.specs.Streams.{Sent, place_of}
 use Rattle.sacn_world.specs.Holdings.{Hold, hold_of, answer, delivered}
-use Rattle.sacn_world.specs.Seen.{seen, rows_of}
+use Rattle.sacn_world.specs.RowsOfPlaces.{seen, rows_of}
 use Rattle.sacn_world.specs.Nodes.{Holding, Node, holding_of, slots, node_slots, seen_core}
 use Rattle.sacn_world.specs.Worlds.{World, Outcome, step, after, new_console, new_world, Apart}
-use Rattle.sacn_world.specs.Running.{Ran, ran}
+use Rattle.sacn_world.specs.Runs.{Ran, ran}
 use Rattle.sacn_world.specs.Counts.{count_step, count_run, no_count, Shows}
 use Rattle.sacn_world.specs.Members.{HeldOn, SameShown}
 

@@ -34,8 +34,8 @@ moves Sync = false
 moves (Refused fault) = false
 
 -- a mark after the delivery that d is of, where b says whether the node holds it
-abbrev pub remarked : Bool → Mark → Mark → Mark
-remarked b d m = record {
+abbrev pub mark_after : Bool → Mark → Mark → Mark
+mark_after b d m = record {
   source = m.source;
   universe = m.universe;
   newest = max d.newest m.newest;
@@ -49,7 +49,7 @@ first_mark b d = record { source = d.source; universe = d.universe; newest = d.n
 
 abbrev pub marked : Bool → Mark → List Mark → List Mark
 marked b d [] = first_mark b d ∷ []
-marked b d (m ∷ ms) = if is_mark_of d.source d.universe m then remarked b d m ∷ ms else m ∷ marked b d ms
+marked b d (m ∷ ms) = if is_mark_of d.source d.universe m then mark_after b d m ∷ ms else m ∷ marked b d ms
 
 -- why a packet of this life and place may not come, where the mark is that of its stream
 abbrev pub mark_refusal : ℕ → ℕ → Option Mark → Option WorldFault

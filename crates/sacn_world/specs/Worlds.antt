@@ -29,7 +29,7 @@ use Rattle.sacn_world.specs.Streams.{Sent, at, life_at, is_of, stream_of, place_
 use Rattle.sacn_world.specs.Holdings.{Hold, hold_of, newest, refusal}
 use Rattle.std.specs.Option.{option_map}
 use Rattle.sacn_sources.specs.Rows.{Row}
-use Rattle.sacn_world.specs.Seen.{packet_at, seen}
+use Rattle.sacn_world.specs.RowsOfPlaces.{packet_at, seen}
 use Rattle.sacn_world.specs.Nodes.{Holding, Node, node_of, node_reply, node_after, node_at, frame_of, holding_of, HoldOk}
 
 pub record World : Type 0 where

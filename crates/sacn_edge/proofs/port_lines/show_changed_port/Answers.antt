@@ -1,6 +1,6 @@
 use Rattle.std.proofs.Common.{sym, ◌∙◌, subst}
 use Rattle.sacn_node.specs.Cores.{node_frame}
-use Rattle.sacn_edge.specs.Told.{Adds}
+use Rattle.sacn_edge.specs.Additions.{Adds}
 use Rattle.sacn_edge.proofs.PortLineLemmas.{Adds-nil, current_text, one_stays}
 use Rattle.sacn_edge.proofs.port_lines.show_changed_port.Goals as goal
 
