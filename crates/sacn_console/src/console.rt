@@ -9,7 +9,7 @@ mod giving;
 
 use crate::command::{Command, ConsoleFault};
 use crate::limits::{CONSOLE_UNIVERSES, MAX_DATAGRAM, TERMINATIONS};
-use crate::line::{Begun, UniverseLine, State, can_end, can_start};
+use crate::line::{Begun, State, UniverseLine, can_end, can_start};
 use crate::lines::{first_lines, place_of};
 use crate::sender::Sender;
 use crate::show::{Show, ShowFault};
@@ -214,11 +214,13 @@ impl ConsoleCore {
     {
         match self.place_of(universe) {
             None => Err(ConsoleFault::NoUniverse),
-            Some(place) => {
-                self.can_end(place)?;
-                self.set_state(place, State::Ending(TERMINATIONS));
-                Ok(())
-            }
+            Some(place) => match self.can_end(place) {
+                Err(fault) => Err(fault),
+                Ok(()) => {
+                    self.set_state(place, State::Ending(TERMINATIONS));
+                    Ok(())
+                }
+            },
         }
     }
 
@@ -228,11 +230,13 @@ impl ConsoleCore {
     {
         match self.place_of(universe) {
             None => Err(ConsoleFault::NoUniverse),
-            Some(place) => {
-                self.can_start(place)?;
-                self.set_state(place, State::Running(None));
-                Ok(())
-            }
+            Some(place) => match self.can_start(place) {
+                Err(fault) => Err(fault),
+                Ok(()) => {
+                    self.set_state(place, State::Running(None));
+                    Ok(())
+                }
+            },
         }
     }
 

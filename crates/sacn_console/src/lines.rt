@@ -10,7 +10,7 @@ ghost use Rattle.sacn_console.specs.Runs.{line_by};
 ghost use Rattle.sacn_console.specs.declared.line.UniverseLine.{UniverseLine as KeptLine};
 
 use crate::limits::CONSOLE_UNIVERSES;
-use crate::line::{UniverseLine, Look, State};
+use crate::line::{Look, State, UniverseLine};
 use crate::waking::Wakes;
 use arrayvec::ArrayVec;
 use sacn_cues::PlayerAt;
