@@ -10,7 +10,7 @@ ghost use Rattle.sacn_border.specs.declared.status.TheConstants.{WRONG_HANDLE};
 
 use crate::held::Held;
 use crate::status::{DONE, RANGE, WRONG_HANDLE};
-use sacn_console::{UniverseLine, State};
+use sacn_console::{State, UniverseLine};
 
 /// A universe of a console, in numbers. `sacn.h` says what each field means.
 #[repr(C)]

@@ -1,5 +1,5 @@
 //! The state of a desk, in a line.
-use sacn_console::{ConsoleCore, UniverseLine, State};
+use sacn_console::{ConsoleCore, State, UniverseLine};
 use sacn_edge::ConsoleReport;
 use std::io::{self, Write};
 

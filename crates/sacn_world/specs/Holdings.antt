@@ -4,7 +4,8 @@ use Rattle.std.specs.List.{AllByRecursion}
 use Rattle.std.specs.declared.cmp.Ordering.TheVariants.{Less}
 use Rattle.sacn_sources.specs.Order.{order, same, by_order}
 use Rattle.sacn_sources.specs.declared.limits.TheConstants.{MAX_SOURCES, NETWORK_DATA_LOSS}
-use Rattle.sacn_sources.specs.Rows.{Taken, take_unknown, take_known, renews}
+use Rattle.sacn_sources.specs.Rows.{take_unknown, take_known, renews}
+use Rattle.sacn_sources.specs.declared.taken.Taken.{Taken}
 use Rattle.sacn_world.specs.declared.limits.TheConstants.{TOO_FAR_BEHIND}
 use Rattle.sacn_world.specs.declared.fault.WorldFault.{WorldFault}
 use Rattle.sacn_world.specs.declared.fault.WorldFault.TheVariants.{TooFarBehind, OldLife}

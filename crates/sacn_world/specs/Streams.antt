@@ -4,7 +4,8 @@ use Rattle.sacn_framing.specs.declared.packet.Packet.{Packet}
 use Rattle.sacn_framing.specs.declared.packet.Packet.TheVariants.{DataPacket, PagePacket, SyncPacket}
 use Rattle.sacn_sequence.specs.Sequence.{is_late}
 use Rattle.sacn_sources.specs.Order.{same}
-use Rattle.sacn_sources.specs.Rows.{Kind, Live, Termination}
+use Rattle.sacn_sources.specs.declared.kind.Kind.{Kind}
+use Rattle.sacn_sources.specs.declared.kind.Kind.TheVariants.{Live, Termination}
 
 -- a datagram that a console sent: who sent it, in which life, that life's first number, and what it says
 pub record Sent : Type 0 where

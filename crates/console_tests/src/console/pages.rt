@@ -122,9 +122,13 @@ fn lists_all(alloc: Global, core: &mut ConsoleCore) -> bool {
 
 /// Whether the console of a show of so many universes, which is read, lists 1024.
 fn is_read(alloc: Global, count: u16) -> Result<bool, ShowFault> {
-    let text = many(alloc, count)?;
-    let mut core = core(alloc, text.as_str(), 7)?;
-    Ok(lists_all(alloc, &mut core))
+    match many(alloc, count) {
+        Ok(text) => match core(alloc, text.as_str(), 7) {
+            Ok(mut core) => Ok(lists_all(alloc, &mut core)),
+            Err(fault) => Err(fault),
+        },
+        Err(_) => Err(ShowFault::OutOfMemory),
+    }
 }
 
 #[test]

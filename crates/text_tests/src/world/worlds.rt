@@ -169,9 +169,10 @@ fn polls(world: &mut World, count: u64) -> bool {
 
 /// What the node answers to a datagram at 0, or the fault.
 fn take(world: &mut World, datagram: usize) -> Result<NodeTaken, WorldFault> {
-    match world.step(&Event::Deliver(datagram, 0, 0))? {
-        Answer::Taken(reply) => Ok(reply),
-        _ => Err(WorldFault::OutOfMemory),
+    match world.step(&Event::Deliver(datagram, 0, 0)) {
+        Ok(Answer::Taken(reply)) => Ok(reply),
+        Ok(_) => Err(WorldFault::OutOfMemory),
+        Err(fault) => Err(fault),
     }
 }
 
