@@ -2,7 +2,7 @@
 use sacn_files::document::{read_table, version_in};
 use sacn_files::faults::FileFault;
 use sacn_files::lines::{Line, said_lines};
-use sacn_files::numbered::{has_repeat, in_order};
+use sacn_files::numbers::{has_repeat, in_order};
 use sacn_files::rows::{Numbers, read_rows};
 use sacn_files::values::{array_values, number_in, value_at};
 use sacn_files::words::{byte_in, index_in, number_in as decimal_in, short_in, words};

@@ -28,7 +28,7 @@ source_number now (Err fault) k = 0
 
 -- what C is told of a source that is held
 abbrev pub source_told : Row → SourceFields
-source_told r = record { moment = r.moment; number = r.number; ended = bit_of (is_none r.shown); priority = priority_shown r.shown; unused = replicate 5 0 }
+source_told r = record { moment = r.moment; number = r.sequence_number; ended = bit_of (is_none r.shown); priority = priority_shown r.shown; unused = replicate 5 0 }
 
 -- the levels that a source shows, and none where it has ended
 abbrev pub levels_told : Option Shown → List ℕ

@@ -4,7 +4,7 @@ use Rattle.sacn_console.specs.FaultNumbers.{console_fault_number}
 use Rattle.sacn_console.specs.declared.command.ConsoleFault.{ConsoleFault}
 use Rattle.sacn_console.specs.declared.command.Command.{Command}
 use Rattle.sacn_console.specs.declared.command.Command.TheVariants.{Go, GoTo, SetLevel, Master, EndUniverse, StartUniverse}
-use Rattle.sacn_console.specs.declared.line.Line.{Line}
+use Rattle.sacn_console.specs.declared.line.UniverseLine.{UniverseLine}
 use Rattle.sacn_console.specs.declared.line.State.{State}
 use Rattle.sacn_console.specs.declared.line.State.TheVariants.{Running, Ending, Stopped}
 use Rattle.sacn_console.specs.Core.{size}
@@ -37,5 +37,5 @@ latest_told None = 2 ^ 64 - 1
 latest_told (Some moment) = moment
 
 -- what C is told of a universe
-abbrev pub line_told : Line → LineFields
-line_told l = record { latest = latest_told l.last; universe = l.universe; state = state_number l.state; number = l.number; unused = replicate 4 0 }
+abbrev pub line_told : UniverseLine → LineFields
+line_told l = record { latest = latest_told l.last; universe = l.universe; state = state_number l.state; number = l.sequence_number; unused = replicate 4 0 }

@@ -10,7 +10,7 @@ ghost use Rattle.sacn_border.specs.declared.status.TheConstants.{WRONG_HANDLE};
 
 use crate::held::Held;
 use crate::status::{DONE, RANGE, WRONG_HANDLE};
-use sacn_console::{Line, State};
+use sacn_console::{State, UniverseLine};
 
 /// A universe of a console, in numbers. `sacn.h` says what each field means.
 #[repr(C)]
@@ -52,14 +52,14 @@ fn state_number(state: &State) -> u8
     }
 }
 
-fn line_told(line: &Line) -> LineFields
+fn line_told(line: &UniverseLine) -> LineFields
     ensures { result ≡ line_told line.now }
 {
     LineFields {
         latest: line.last.unwrap_or(u64::MAX),
         universe: line.universe,
         state: state_number(&line.state),
-        number: line.number,
+        number: line.sequence_number,
         unused: [0; 4],
     }
 }

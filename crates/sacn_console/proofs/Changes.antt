@@ -10,7 +10,7 @@ use Rattle.sacn_cues.specs.Playing.{Played, moved, refusal}
 use Rattle.sacn_cues.specs.Playing as play
 use Rattle.sacn_cues.specs.declared.fault.PlayFault.{PlayFault}
 use Rattle.sacn_universe.specs.Universe.{IsUniverse}
-use Rattle.sacn_console.specs.Lights.{Lights, frame, player_command, console_fault, play_answer, told}
+use Rattle.sacn_console.specs.Lights.{Lights, frame, player_command, console_fault, play_answer, console_answer}
 use Rattle.sacn_console.specs.declared.limits.TheConstants.{TERMINATIONS}
 use Rattle.sacn_console.proofs.Frames.{settled}
 use Rattle.sacn_console.specs.Lines.{Page, Packet, Paged, Gave, Accepted, line_in, is_stopped, line_sent, line_after}
@@ -18,14 +18,14 @@ use Rattle.sacn_universe.specs.Universe.{Rising}
 use Rattle.sacn_console.specs.Core.{Core, CoreOk, taken, answer, is_of, end_answer, start_answer, universes_of, packet_with, packet_of, packet_at, packet_text, line_at, no_line, standing, after, over, size}
 use Rattle.sacn_console.specs.declared.line.Begun.{Begun}
 use Rattle.sacn_console.specs.declared.sender.Sender.{Sender}
-use Rattle.sacn_console.specs.declared.line.Line.{Line}
+use Rattle.sacn_console.specs.declared.line.UniverseLine.{UniverseLine}
 use Rattle.sacn_console.specs.declared.line.State.{State}
 use Rattle.sacn_console.specs.declared.line.State.TheVariants.{Running, Ending}
 use Rattle.sacn_console.specs.declared.command.ConsoleFault.TheVariants as fault
 use Rattle.sacn_console.specs.declared.command.Command.TheVariants.{Go, GoTo, SetLevel, Master, EndUniverse, StartUniverse}
 use Rattle.sacn_console.specs.declared.command.Command.{Command}
 
-abbrev pub changed : ℕ → (Line → Line) → Line → Line
+abbrev pub changed : ℕ → (UniverseLine → UniverseLine) → UniverseLine → UniverseLine
 changed u g l = if l.universe == u then g l else l
 
 neqb : (a b : ℕ) → a < b → (b == a) ≡ false
@@ -34,11 +34,11 @@ neqb a b lt = grind arith
 eqb_self : (a : ℕ) → (a == a) ≡ true
 eqb_self a = grind arith
 
-pub none_changed : (u : ℕ) (g : Line → Line) (xs : List Line) → AllByRecursion (λ y. u < y) (universes_of xs) → map (changed u g) xs ≡ xs
+pub none_changed : (u : ℕ) (g : UniverseLine → UniverseLine) (xs : List UniverseLine) → AllByRecursion (λ y. u < y) (universes_of xs) → map (changed u g) xs ≡ xs
 none_changed u g [] below = refl
 none_changed u g (x ∷ xs) below = rw (neqb u x.universe below.0, none_changed u g xs below.1) refl
 
-pub below_all : (x : ℕ) (xs : List Line) (i : ℕ) (d : Line) → AllByRecursion (λ y. x < y) (universes_of xs) → i < length xs → x < (get_or xs i d).universe
+pub below_all : (x : ℕ) (xs : List UniverseLine) (i : ℕ) (d : UniverseLine) → AllByRecursion (λ y. x < y) (universes_of xs) → i < length xs → x < (get_or xs i d).universe
 below_all x [] i d below lt = absurd (omega arith)
 below_all x (y ∷ ys) zero d below lt = below.0
 below_all x (y ∷ ys) (suc i) d below lt = below_all x ys i d below.1 (omega arith)
@@ -46,7 +46,7 @@ below_all x (y ∷ ys) (suc i) d below lt = below_all x ys i d below.1 (omega ar
 neqb_above : (a b : ℕ) → a < b → (a == b) ≡ false
 neqb_above a b lt = grind arith
 
-pub one_changed : (g : Line → Line) (xs : List Line) (i : ℕ) (d : Line) → Rising (universes_of xs) → i < length xs → slice_set xs i (g (get_or xs i d)) ≡ map (changed (get_or xs i d).universe g) xs
+pub one_changed : (g : UniverseLine → UniverseLine) (xs : List UniverseLine) (i : ℕ) (d : UniverseLine) → Rising (universes_of xs) → i < length xs → slice_set xs i (g (get_or xs i d)) ≡ map (changed (get_or xs i d).universe g) xs
 one_changed g [] i d rising lt = absurd (omega arith)
 one_changed g (x ∷ xs) zero d rising lt = rw (eqb_self x.universe, none_changed x.universe g xs rising.0) refl
 one_changed g (x ∷ xs) (suc i) d rising lt =
@@ -68,7 +68,7 @@ ascending [] rising = λ k lt. absurd (omega (arith, lt))
 ascending (x ∷ xs) rising = ascends_with x xs (ascending xs rising.1) rising.0
 
 -- the lines after a packet of the line at place i
-pub packet_given : (c : Core) (i : ℕ) (x : Line) (f : List ℕ) → Rising (universes_of c.lines) → i < length c.lines → x ≡ slice_index_or c.lines i x → f ≡ frame c.lights x.universe c.moment →
+pub packet_given : (c : Core) (i : ℕ) (x : UniverseLine) (f : List ℕ) → Rising (universes_of c.lines) → i < length c.lines → x ≡ slice_index_or c.lines i x → f ≡ frame c.lights x.universe c.moment →
     slice_set c.lines i (line_sent c.moment f x) ≡ map (line_after (Gave c.moment (Packet (packet_of c.sender c.lights c.moment x)))) c.lines
 unfolding line_after packet_with
 packet_given c i x f rising lt is e =
@@ -76,7 +76,7 @@ packet_given c i x f rising lt is e =
     rw (← e) (rw (← is) at b)
 
 -- ---- what a packet leaves as it was
-kept_above : (u : ℕ) (xs : List Line) → AllByRecursion (λ y. u < y) (universes_of xs) → AllByRecursion (λ y. u < y) (map (λ l. l.universe) (filter (λ l. not (is_stopped l.state)) xs))
+kept_above : (u : ℕ) (xs : List UniverseLine) → AllByRecursion (λ y. u < y) (universes_of xs) → AllByRecursion (λ y. u < y) (map (λ l. l.universe) (filter (λ l. not (is_stopped l.state)) xs))
 kept_above u [] below = tt
 kept_above u (x ∷ xs) below =
     elim (is_stopped x.state) as (λ b. AllByRecursion (λ y. u < y) (map (λ l. l.universe) (cond (not b) (x ∷ filter (λ l. not (is_stopped l.state)) xs) (filter (λ l. not (is_stopped l.state)) xs)))) [
@@ -84,7 +84,7 @@ kept_above u (x ∷ xs) below =
       | false ↦ (below.0, kept_above u xs below.1)
     ]
 
-pub standing_rises : (xs : List Line) → Rising (universes_of xs) → Rising (standing xs)
+pub standing_rises : (xs : List UniverseLine) → Rising (universes_of xs) → Rising (standing xs)
 unfolding standing
 standing_rises [] rising = tt
 standing_rises (x ∷ xs) rising =
@@ -93,7 +93,7 @@ standing_rises (x ∷ xs) rising =
       | false ↦ (kept_above x.universe xs rising.0, standing_rises xs rising.1)
     ]
 
-same_lines : (t : ℕ) (p : Page) (xs : List Line) → map (line_after (Gave t (Paged p))) xs ≡ xs
+same_lines : (t : ℕ) (p : Page) (xs : List UniverseLine) → map (line_after (Gave t (Paged p))) xs ≡ xs
 unfolding line_after
 same_lines t p [] = refl
 same_lines t p (x ∷ xs) = rw (same_lines t p xs) refl
@@ -106,10 +106,10 @@ first_later t b e =
 
 -- ---- the core after a datagram, where v is what c is seen to be
 
-rebuilt : (c : Core) (lines : List Line) (cycle : Option Begun) (listed : List ℕ) → c.lines ≡ lines → c.cycle ≡ cycle → c.listed ≡ listed → c ≡ record c { lines = lines; cycle = cycle; listed = listed }
+rebuilt : (c : Core) (lines : List UniverseLine) (cycle : Option Begun) (listed : List ℕ) → c.lines ≡ lines → c.cycle ≡ cycle → c.listed ≡ listed → c ≡ record c { lines = lines; cycle = cycle; listed = listed }
 rebuilt c lines cycle listed a b d = rw (← a, ← b, ← d) refl
 
-pub core_given : (v c : Core) (i : ℕ) (x y : Line) (f : List ℕ) → v ≡ c → CoreOk v → i < length c.lines → x ≡ slice_index_or v.lines i x → f ≡ frame v.lights x.universe v.moment → y ≡ line_sent v.moment f x →
+pub core_given : (v c : Core) (i : ℕ) (x y : UniverseLine) (f : List ℕ) → v ≡ c → CoreOk v → i < length c.lines → x ≡ slice_index_or v.lines i x → f ≡ frame v.lights x.universe v.moment → y ≡ line_sent v.moment f x →
     record v { lines = slice_set v.lines i y } ≡ after (Gave c.moment (Packet (packet_at c i))) c
 unfolding after
 core_given v c i x y f e ok lt is fe ye =
@@ -117,15 +117,15 @@ core_given v c i x y f e ok lt is fe ye =
     let here : x ≡ line_at v i = get_or_read v.lines i x lt2 is no_line in
     let g = packet_given v i x f ok.rising lt2 is fe in
     let g2 : slice_set v.lines i y ≡ map (line_after (Gave v.moment (Packet (packet_at v i)))) v.lines = rw (ye, ← here) g in
-    rw (← e) (ap (λ (ls : List Line). record v { lines = ls }) g2)
+    rw (← e) (ap (λ (ls : List UniverseLine). record v { lines = ls }) g2)
 
-pub core_first : (v c : Core) (ls : List Line) (listed : List ℕ) → v ≡ c → listed ≡ standing ls → ls ≡ v.lines → record v { cycle = Some (record { moment = v.moment; next = 1 }); listed = listed } ≡ after (Gave c.moment (Paged (record { list = standing c.lines; page = 0 }))) c
+pub core_first : (v c : Core) (ls : List UniverseLine) (listed : List ℕ) → v ≡ c → listed ≡ standing ls → ls ≡ v.lines → record v { cycle = Some (record { moment = v.moment; next = 1 }); listed = listed } ≡ after (Gave c.moment (Paged (record { list = standing c.lines; page = 0 }))) c
 unfolding after
 core_first v c ls listed e is le =
     let is2 : listed ≡ standing v.lines = is ∙ ap standing le in
     rw (← e, is2, same_lines v.moment (record { list = standing v.lines; page = 0 }) v.lines) refl
 
-pub ok_first : (v : Core) (ls : List Line) (listed : List ℕ) → CoreOk v → listed ≡ standing ls → ls ≡ v.lines → CoreOk (record v { cycle = Some (record { moment = v.moment; next = 1 }); listed = listed })
+pub ok_first : (v : Core) (ls : List UniverseLine) (listed : List ℕ) → CoreOk v → listed ≡ standing ls → ls ≡ v.lines → CoreOk (record v { cycle = Some (record { moment = v.moment; next = 1 }); listed = listed })
 ok_first v ls listed ok is le = record {
   rising = ok.rising;
   universes = ok.universes;
@@ -147,14 +147,14 @@ core_next v c b e ok is =
 
 -- ---- what each core keeps
 
-sent_universe : (t : ℕ) (f : List ℕ) (x : Line) → (line_sent t f x).universe ≡ x.universe
+sent_universe : (t : ℕ) (f : List ℕ) (x : UniverseLine) → (line_sent t f x).universe ≡ x.universe
 unfolding line_sent
 sent_universe t f x = refl
 
-pub ok_given : (v : Core) (i : ℕ) (x y : Line) (t : ℕ) (f : List ℕ) → CoreOk v → x ≡ slice_index_or v.lines i x → y ≡ line_sent t f x → CoreOk (record v { lines = slice_set v.lines i y })
+pub ok_given : (v : Core) (i : ℕ) (x y : UniverseLine) (t : ℕ) (f : List ℕ) → CoreOk v → x ≡ slice_index_or v.lines i x → y ≡ line_sent t f x → CoreOk (record v { lines = slice_set v.lines i y })
 ok_given v i x y t f ok is ye =
-    let u : y.universe ≡ (get_or v.lines i x).universe = ap (λ (l : Line). l.universe) ye ∙ sent_universe t f x ∙ ap (λ (l : Line). l.universe) is in
-    let same : universes_of (slice_set v.lines i y) ≡ universes_of v.lines = map-set_same (λ (l : Line). l.universe) v.lines i y x u in
+    let u : y.universe ≡ (get_or v.lines i x).universe = ap (λ (l : UniverseLine). l.universe) ye ∙ sent_universe t f x ∙ ap (λ (l : UniverseLine). l.universe) is in
+    let same : universes_of (slice_set v.lines i y) ≡ universes_of v.lines = map-set_same (λ (l : UniverseLine). l.universe) v.lines i y x u in
     record {
       rising = rw same ok.rising;
       universes = rw same ok.universes;
@@ -165,12 +165,12 @@ ok_given v i x y t f ok is ye =
       later = ok.later;
     }
 
-universe_in : (xs : List Line) (i : ℕ) (d : Line) → AllByRecursion IsUniverse (universes_of xs) → i < length xs → (1 ≤ (get_or xs i d).universe) × ((get_or xs i d).universe ≤ 63999)
+universe_in : (xs : List UniverseLine) (i : ℕ) (d : UniverseLine) → AllByRecursion IsUniverse (universes_of xs) → i < length xs → (1 ≤ (get_or xs i d).universe) × ((get_or xs i d).universe ≤ 63999)
 universe_in [] i d all lt = absurd (omega arith)
 universe_in (x ∷ xs) zero d all lt = all.0
 universe_in (x ∷ xs) (suc i) d all lt = universe_in xs i d all.1 (omega arith)
 
-pub universe_ok : (v c : Core) (i : ℕ) (x : Line) → v ≡ c → CoreOk v → i < length c.lines → x ≡ slice_index_or v.lines i x → (1 ≤ x.universe) × (x.universe ≤ 63999)
+pub universe_ok : (v c : Core) (i : ℕ) (x : UniverseLine) → v ≡ c → CoreOk v → i < length c.lines → x ≡ slice_index_or v.lines i x → (1 ≤ x.universe) × (x.universe ≤ 63999)
 universe_ok v c i x e ok lt is =
     let lt2 : i < length v.lines = rw e lt in
     rw is (universe_in v.lines i x ok.universes lt2)
@@ -179,11 +179,11 @@ pub frame_len : (p : Lights) (u t : ℕ) → length (frame p u t) ≡ 512
 unfolding frame frame_now universe_frame
 frame_len p u t = rw length-map refl
 
-pub packet_len : (sender : Sender) (p : Lights) (t : ℕ) (l : Line) → size (Packet (packet_of sender p t l)) ≡ 638
+pub packet_len : (sender : Sender) (p : Lights) (t : ℕ) (l : UniverseLine) → size (Packet (packet_of sender p t l)) ≡ 638
 unfolding packet_with
 packet_len sender p t l = ap (λ (n : ℕ). 126 + n) (frame_len p l.universe t)
 
-pub packet_over : (v c : Core) (i : ℕ) (x : Line) (f out new : List ℕ) → v ≡ c → i < length c.lines → x ≡ slice_index_or v.lines i x → f ≡ frame v.lights x.universe v.moment → new ≡ packet_text (packet_with v.sender x f) ++ drop 638 out → new ≡ over c.sender (Some (Packet (packet_at c i))) out
+pub packet_over : (v c : Core) (i : ℕ) (x : UniverseLine) (f out new : List ℕ) → v ≡ c → i < length c.lines → x ≡ slice_index_or v.lines i x → f ≡ frame v.lights x.universe v.moment → new ≡ packet_text (packet_with v.sender x f) ++ drop 638 out → new ≡ over c.sender (Some (Packet (packet_at c i))) out
 packet_over v c i x f out new e lt is fe ne =
     let lt2 : i < length v.lines = rw e lt in
     let here : x ≡ line_at v i = get_or_read v.lines i x lt2 is no_line in
@@ -193,7 +193,7 @@ packet_over v c i x f out new e lt is fe ne =
 
 -- ---- commands
 
-kept_line : (t : ℕ) (k : Command) (o : play.Command) (l : Line) → player_command k ≡ Some o → line_after (Accepted t k) l ≡ l
+kept_line : (t : ℕ) (k : Command) (o : play.Command) (l : UniverseLine) → player_command k ≡ Some o → line_after (Accepted t k) l ≡ l
 unfolding line_after
 kept_line t Go o l e = refl
 kept_line t (GoTo n) o l e = refl
@@ -202,7 +202,7 @@ kept_line t (Master m) o l e = refl
 kept_line t (EndUniverse u) o l e = absurd (cc)
 kept_line t (StartUniverse u) o l e = absurd (cc)
 
-kept_lines : (t : ℕ) (k : Command) (o : play.Command) (xs : List Line) → player_command k ≡ Some o → map (line_after (Accepted t k)) xs ≡ xs
+kept_lines : (t : ℕ) (k : Command) (o : play.Command) (xs : List UniverseLine) → player_command k ≡ Some o → map (line_after (Accepted t k)) xs ≡ xs
 kept_lines t k o [] e = refl
 kept_lines t k o (x ∷ xs) e = rw (kept_line t k o x e, kept_lines t k o xs e) refl
 
@@ -234,7 +234,7 @@ light_refused v c k o f p e ok ke re pe =
 -- a call of the player, whatever it answers
 pub light_told : (v c : Core) (k : Command) (o : play.Command) (r : Result (Unit {0}) PlayFault) (p : Played) → v ≡ c → CoreOk v → player_command k ≡ Some o → p ≡ play.after v.moment o v.lights.player →
     OnOk r (refusal v.lights.player.cues v.lights.player.current o ≡ None) → IfErr r (λ f. refusal v.lights.player.cues v.lights.player.current o ≡ Some f) → OnErr r (p ≡ moved v.moment v.lights.player) →
-    (told r ≡ answer k c) × (with_player v p ≡ taken k (answer k c) c)
+    (console_answer r ≡ answer k c) × (with_player v p ≡ taken k (answer k c) c)
 light_told v c k o (Ok x) p e ok ke pe accepted refused unchanged = light_accepted v c k o p e ke accepted pe
 light_told v c k o (Err f) p e ok ke pe accepted refused unchanged = light_refused v c k o f p e ok ke refused unchanged
 
@@ -269,12 +269,12 @@ ok_moved v now m p ok pe me = record {
 }
 
 -- the frame of the line at place i, as the program reads it
-pub frame_read : (v c : Core) (i : ℕ) (x : Line) (f : List ℕ) → v ≡ c → i < length c.lines → x ≡ slice_index_or v.lines i x → f ≡ frame c.lights (line_at c i).universe c.moment → f ≡ frame v.lights x.universe v.moment
+pub frame_read : (v c : Core) (i : ℕ) (x : UniverseLine) (f : List ℕ) → v ≡ c → i < length c.lines → x ≡ slice_index_or v.lines i x → f ≡ frame c.lights (line_at c i).universe c.moment → f ≡ frame v.lights x.universe v.moment
 frame_read v c i x f e lt is fe =
     let lt2 : i < length v.lines = rw e lt in
     let here : x ≡ line_at v i = get_or_read v.lines i x lt2 is no_line in
     let fe2 : f ≡ frame v.lights (line_at v i).universe v.moment = rw e fe in
-    fe2 ∙ ap (λ (l : Line). frame v.lights l.universe v.moment) (sym here)
+    fe2 ∙ ap (λ (l : UniverseLine). frame v.lights l.universe v.moment) (sym here)
 
 pub ended_at : (c : Core) (u i : ℕ) → Rising (universes_of c.lines) → i < length c.lines → (line_at c i).universe ≡ u →
     record c { lines = slice_set c.lines i (line_in (Ending TERMINATIONS) (line_at c i)) } ≡ after (Accepted c.moment (EndUniverse u)) c
@@ -282,7 +282,7 @@ unfolding after line_after
 ended_at c u i rising lt is =
     let g = one_changed (line_in (Ending TERMINATIONS)) c.lines i no_line rising lt in
     let g2 : slice_set c.lines i (line_in (Ending TERMINATIONS) (line_at c i)) ≡ map (changed u (line_in (Ending TERMINATIONS))) c.lines = g ∙ ap (λ (w : ℕ). map (changed w (line_in (Ending TERMINATIONS))) c.lines) is in
-    ap (λ (ls : List Line). record c { lines = ls }) g2
+    ap (λ (ls : List UniverseLine). record c { lines = ls }) g2
 
 pub started_at : (c : Core) (u i : ℕ) → Rising (universes_of c.lines) → i < length c.lines → (line_at c i).universe ≡ u →
     record c { lines = slice_set c.lines i (line_in (Running None) (line_at c i)) } ≡ after (Accepted c.moment (StartUniverse u)) c
@@ -290,13 +290,13 @@ unfolding after line_after
 started_at c u i rising lt is =
     let g = one_changed (line_in (Running None)) c.lines i no_line rising lt in
     let g2 : slice_set c.lines i (line_in (Running None) (line_at c i)) ≡ map (changed u (line_in (Running None))) c.lines = g ∙ ap (λ (w : ℕ). map (changed w (line_in (Running None))) c.lines) is in
-    ap (λ (ls : List Line). record c { lines = ls }) g2
+    ap (λ (ls : List UniverseLine). record c { lines = ls }) g2
 
 -- a line that keeps its universe
-pub ok_kept : (v : Core) (i : ℕ) (x : Line) (s : State) → CoreOk v → x ≡ slice_index_or v.lines i x → CoreOk (record v { lines = slice_set v.lines i (line_in s x) })
+pub ok_kept : (v : Core) (i : ℕ) (x : UniverseLine) (s : State) → CoreOk v → x ≡ slice_index_or v.lines i x → CoreOk (record v { lines = slice_set v.lines i (line_in s x) })
 ok_kept v i x s ok is =
-    let u : x.universe ≡ (get_or v.lines i x).universe = ap (λ (l : Line). l.universe) is in
-    let same : universes_of (slice_set v.lines i (line_in s x)) ≡ universes_of v.lines = map-set_same (λ (l : Line). l.universe) v.lines i (line_in s x) x u in
+    let u : x.universe ≡ (get_or v.lines i x).universe = ap (λ (l : UniverseLine). l.universe) is in
+    let same : universes_of (slice_set v.lines i (line_in s x)) ≡ universes_of v.lines = map-set_same (λ (l : UniverseLine). l.universe) v.lines i (line_in s x) x u in
     record {
       rising = rw same ok.rising;
       universes = rw same ok.universes;
@@ -307,12 +307,12 @@ ok_kept v i x s ok is =
       later = ok.later;
     }
 
-pub state_set : (v c : Core) (i : ℕ) (x : Line) (s : State) → v ≡ c → i < length c.lines → x ≡ slice_index_or v.lines i x →
+pub state_set : (v c : Core) (i : ℕ) (x : UniverseLine) (s : State) → v ≡ c → i < length c.lines → x ≡ slice_index_or v.lines i x →
     record v { lines = slice_set v.lines i (line_in s x) } ≡ record c { lines = slice_set c.lines i (line_in s (line_at c i)) }
 state_set v c i x s e lt is =
     let lt2 : i < length v.lines = rw e lt in
     let here : x ≡ line_at v i = get_or_read v.lines i x lt2 is no_line in
-    rw (← e) (ap (λ (l : Line). record v { lines = slice_set v.lines i (line_in s l) }) here)
+    rw (← e) (ap (λ (l : UniverseLine). record v { lines = slice_set v.lines i (line_in s l) }) here)
 
 pub unknown_answer : (c : Core) (u : ℕ) → find (is_of u) c.lines ≡ None → (answer (EndUniverse u) c ≡ Err fault.NoUniverse) × (answer (StartUniverse u) c ≡ Err fault.NoUniverse)
 unfolding answer

@@ -7,7 +7,7 @@ use Rattle.sacn_console.specs.Lights.{Lights, frame}
 use Rattle.sacn_discovery.specs.Pages.{page_count}
 use Rattle.sacn_console.specs.Wakes.{last_moment}
 use Rattle.sacn_console.specs.declared.limits.TheConstants.{DISCOVERY_INTERVAL}
-use Rattle.sacn_console.specs.declared.line.Line.{Line}
+use Rattle.sacn_console.specs.declared.line.UniverseLine.{UniverseLine}
 use Rattle.sacn_console.specs.declared.line.Begun.{Begun}
 
 counted : (n : ℕ) → 0 < n → 0 < (n + 511) / 512
@@ -21,8 +21,8 @@ page_counted zero = counted 1 (omega arith)
 page_counted (suc n) = rw (not_zero (suc n) (omega arith)) (counted (suc n) (omega arith))
 
 -- where the program finds a due line: p is what the lights of v are at its moment, f the frame that it made
-pub place_found : (v c : Core) (p : Lights) (ls : List Line) (f : List ℕ) (r : Option ℕ) → v ≡ c → p ≡ v.lights → ls ≡ v.lines →
-    MatchOption r (find (line_due p v.moment) ls ≡ None) (λ i. (i < length ls) × ((d : Line) → (find (line_due p v.moment) ls ≡ Some (slice_index_or ls i d)) × (f ≡ frame p (slice_index_or ls i d).universe v.moment))) →
+pub place_found : (v c : Core) (p : Lights) (ls : List UniverseLine) (f : List ℕ) (r : Option ℕ) → v ≡ c → p ≡ v.lights → ls ≡ v.lines →
+    MatchOption r (find (line_due p v.moment) ls ≡ None) (λ i. (i < length ls) × ((d : UniverseLine) → (find (line_due p v.moment) ls ≡ Some (slice_index_or ls i d)) × (f ≡ frame p (slice_index_or ls i d).universe v.moment))) →
     MatchOption r (line_found c ≡ None) (λ i. (i < length c.lines) × (line_found c ≡ Some (line_at c i)) × (f ≡ frame c.lights (line_at c i).universe c.moment))
 unfolding line_found
 place_found v c p ls f None e pe le h = rw (← e, ← le, ← pe) h
@@ -81,8 +81,8 @@ page_more v c b len count e is le ce done lt =
     let f : count ≡ page_count (length c.listed) = rw (← e, ← le) ce in
     page_again c b is (rw f at done) (rw e at lt)
 
-pub universe_found : (v c : Core) (ls : List Line) (u : ℕ) (r : Option ℕ) → v ≡ c → ls ≡ v.lines →
-    MatchOption r (find (is_of u) ls ≡ None) (λ i. (i < length ls) × ((d : Line) → (find (is_of u) ls ≡ Some (slice_index_or ls i d)) × ((slice_index_or ls i d).universe ≡ u))) →
+pub universe_found : (v c : Core) (ls : List UniverseLine) (u : ℕ) (r : Option ℕ) → v ≡ c → ls ≡ v.lines →
+    MatchOption r (find (is_of u) ls ≡ None) (λ i. (i < length ls) × ((d : UniverseLine) → (find (is_of u) ls ≡ Some (slice_index_or ls i d)) × ((slice_index_or ls i d).universe ≡ u))) →
     MatchOption r (find (is_of u) c.lines ≡ None) (λ i. (i < length c.lines) × (find (is_of u) c.lines ≡ Some (line_at c i)) × ((line_at c i).universe ≡ u))
 universe_found v c ls u None e le h = rw (← e, ← le) h
 universe_found v c ls u (Some i) e le h = rw (← e, ← le) (h.0, (h.1 no_line).0, (h.1 no_line).1)

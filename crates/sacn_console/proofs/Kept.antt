@@ -9,17 +9,17 @@ use Rattle.sacn_cues.specs.History as history
 use Rattle.sacn_cues.specs.History.{History, StepsFollowTheCalls, ReadingsShowTheLevels}
 use Rattle.sacn_console.specs.declared.limits.TheConstants.{MIN_GAP, TERMINATIONS, DISCOVERY_INTERVAL}
 use Rattle.sacn_discovery.specs.Pages.{page_count}
-use Rattle.sacn_console.specs.Lights.{Lights, lights_at, frame, frame_now, ordered, player_command}
+use Rattle.sacn_console.specs.Lights.{Lights, lights_at, frame, frame_now, lights_by_command, player_command}
 use Rattle.sacn_console.proofs.Frames.{later, twice, after_moved}
 use Rattle.sacn_console.proofs.Plain.{same_number, some_same, option_paged}
-use Rattle.sacn_console.specs.Lines.{Page, Datagram, Packet, Paged, Deed, Accepted, Gave, same, passed, line_due, asks, state_sent, line_sent, line_after, is_ending, is_stopped}
+use Rattle.sacn_console.specs.Lines.{Page, Datagram, Packet, Paged, Deed, Accepted, Gave, same, has_passed, line_due, asks, state_sent, line_sent, line_after, is_ending, is_stopped}
 use Rattle.sacn_console.specs.Core.{Core, standing, page_due, is_of, page_by, packet_with, line_found, due, due_by, after, answer, at, given, after_poll, after_command, taken, end_answer, start_answer, for_line, answer_of as kept_answer, universe_answer as kept_universe_answer}
 use Rattle.sacn_console.specs.Due.{Life, Sent, packets, is_ended, packets_since, Mode, terminations, mode_by, mode, follow_new, latest, player_calls, with_player, level_by, frame_by, universe_due, is_stop, is_end, number_by, packet_by, standing_by, list_by, cycle_by, due_with, due_by_list, answer_by_list, end_in, start_in, if_there, or_else, unless, answer_of, universe_answer}
 use Rattle.sacn_console.specs.Runs.{state_by, line_by, lights_by, core_by, Call, Order, Poll, answers, with_order, with_datagram, answers_by_list, StepsAreTheList}
 use Rattle.sacn_console.specs.declared.command.Command.{Command}
 use Rattle.sacn_console.specs.declared.command.Command.TheVariants.{Go, GoTo, SetLevel, Master, EndUniverse, StartUniverse}
 use Rattle.sacn_console.specs.declared.command.ConsoleFault.{ConsoleFault}
-use Rattle.sacn_console.specs.declared.line.Line.{Line}
+use Rattle.sacn_console.specs.declared.line.UniverseLine.{UniverseLine}
 use Rattle.sacn_console.specs.declared.line.Begun.{Begun}
 use Rattle.sacn_console.specs.declared.line.State.{State}
 use Rattle.sacn_console.specs.declared.line.State.TheVariants.{Running, Ending, Stopped}
@@ -40,7 +40,7 @@ module _ (reads : ReadingsShowTheLevels) (follows : StepsFollowTheCalls) where
   line_due_same : (life : Life) (t : ℕ) (ds : List Deed) (u : ℕ) → line_due (lights_by life t ds) t (line_by life.first ds u) ≡ universe_due life t ds u
   unfolding line_due universe_due mode
   line_due_same life t ds u =
-      ap (λ (f : List ℕ). passed MIN_GAP t (latest (packets u ds)) && asks t (latest (packets u ds)) f (state_by (is_ended u ds) (packets_since u ds))) (frame_same life t ds u)
+      ap (λ (f : List ℕ). has_passed MIN_GAP t (latest (packets u ds)) && asks t (latest (packets u ds)) f (state_by (is_ended u ds) (packets_since u ds))) (frame_same life t ds u)
       ∙ state_due_same (frame_by life u t ds) t (latest (packets u ds)) (is_ended u ds) (packets_since u ds)
 
   found_same : (life : Life) (t : ℕ) (ds : List Deed) (us : List ℕ) →
@@ -133,7 +133,7 @@ module _ (reads : ReadingsShowTheLevels) (follows : StepsFollowTheCalls) where
   number_step first n = omega arith
 
   sent_step : (first t : ℕ) (d : Data) (ds : List Deed) (u : ℕ) → d.terminated ≡ is_ending (state_by (is_ended u ds) (packets_since u ds)) →
-      line_sent t d.slots (line_by first ds u) ≡ record { universe = u; state = state_by (is_ended u ds) (record { moment = t; data_sent = d } ∷ packets_since u ds); number = (first + suc (length (packets u ds))) % 256; last = Some t }
+      line_sent t d.slots (line_by first ds u) ≡ record { universe = u; state = state_by (is_ended u ds) (record { moment = t; data_sent = d } ∷ packets_since u ds); sequence_number = (first + suc (length (packets u ds))) % 256; last = Some t }
   unfolding line_sent
   sent_step first t d ds u h = rw (state_step t d (is_ended u ds) (packets_since u ds) h, number_step first (length (packets u ds))) refl
 
@@ -141,7 +141,7 @@ module _ (reads : ReadingsShowTheLevels) (follows : StepsFollowTheCalls) where
       (if b then line_sent t d.slots (line_by first ds u) else line_by first ds u) ≡ record {
         universe = u;
         state = state_by (is_ended u ds) (if b then record { moment = t; data_sent = d } ∷ packets_since u ds else packets_since u ds);
-        number = (first + length (if b then record { moment = t; data_sent = d } ∷ packets u ds else packets u ds)) % 256;
+        sequence_number = (first + length (if b then record { moment = t; data_sent = d } ∷ packets u ds else packets u ds)) % 256;
         last = latest (if b then record { moment = t; data_sent = d } ∷ packets u ds else packets u ds);
       }
   packet_step first t d ds u true h = sent_step first t d ds u (h refl)
@@ -165,10 +165,10 @@ module _ (reads : ReadingsShowTheLevels) (follows : StepsFollowTheCalls) where
   line_accepted first t (SetLevel c n) ds u = refl
   line_accepted first t (Master m) ds u = refl
   line_accepted first t (EndUniverse v) ds u =
-      elim (u == v) as (λ b. (if b then record { universe = u; state = Ending TERMINATIONS; number = number_by first u ds; last = latest (packets u ds) } else line_by first ds u) ≡ record { universe = u; state = state_by (or_else (if b then Some true else None) (is_ended u ds)) (unless (if b then Some true else None) (packets_since u ds)); number = number_by first u ds; last = latest (packets u ds) })
+      elim (u == v) as (λ b. (if b then record { universe = u; state = Ending TERMINATIONS; sequence_number = number_by first u ds; last = latest (packets u ds) } else line_by first ds u) ≡ record { universe = u; state = state_by (or_else (if b then Some true else None) (is_ended u ds)) (unless (if b then Some true else None) (packets_since u ds)); sequence_number = number_by first u ds; last = latest (packets u ds) })
       [ true ↦ refl | false ↦ refl ]
   line_accepted first t (StartUniverse v) ds u =
-      elim (u == v) as (λ b. (if b then record { universe = u; state = Running None; number = number_by first u ds; last = latest (packets u ds) } else line_by first ds u) ≡ record { universe = u; state = state_by (or_else (if b then Some false else None) (is_ended u ds)) (unless (if b then Some false else None) (packets_since u ds)); number = number_by first u ds; last = latest (packets u ds) })
+      elim (u == v) as (λ b. (if b then record { universe = u; state = Running None; sequence_number = number_by first u ds; last = latest (packets u ds) } else line_by first ds u) ≡ record { universe = u; state = state_by (or_else (if b then Some false else None) (is_ended u ds)) (unless (if b then Some false else None) (packets_since u ds)); sequence_number = number_by first u ds; last = latest (packets u ds) })
       [ true ↦ refl | false ↦ refl ]
 
   lines_gave : (life : Life) (t : ℕ) (g : Datagram) (ds : List Deed) (us : List ℕ) → IsProper life ds g → map (line_after (Gave t g)) (map (line_by life.first ds) us) ≡ map (line_by life.first (Gave t g ∷ ds)) us
@@ -186,11 +186,11 @@ module _ (reads : ReadingsShowTheLevels) (follows : StepsFollowTheCalls) where
   listed_gave life t p ds true h = h refl
   listed_gave life t p ds false h = refl
 
-  lights_ordered : (life : Life) (t : ℕ) (calls : History) (o : Option play.Command) → ordered t o (lights_at t (record { patch = life.patch; player = history.player_after life.cues calls })) ≡ lights_at t (record { patch = life.patch; player = history.player_after life.cues (with_player t o calls) })
+  lights_ordered : (life : Life) (t : ℕ) (calls : History) (o : Option play.Command) → lights_by_command t o (lights_at t (record { patch = life.patch; player = history.player_after life.cues calls })) ≡ lights_at t (record { patch = life.patch; player = history.player_after life.cues (with_player t o calls) })
   lights_ordered life t calls None = refl
   lights_ordered life t calls (Some k) = ap (λ (p : Played). let l : Lights = record { patch = life.patch; player = p } in l) (after_moved t k (history.player_after life.cues calls))
 
-  lights_accepted : (life : Life) (t : ℕ) (k : Command) (ds : List Deed) → ordered t (player_command k) (lights_by life t ds) ≡ lights_by life t (Accepted t k ∷ ds)
+  lights_accepted : (life : Life) (t : ℕ) (k : Command) (ds : List Deed) → lights_by_command t (player_command k) (lights_by life t ds) ≡ lights_by life t (Accepted t k ∷ ds)
   unfolding lights_by
   lights_accepted life t k ds = lights_ordered life t (player_calls ds) (player_command k)
 
@@ -293,7 +293,7 @@ module _ (reads : ReadingsShowTheLevels) (follows : StepsFollowTheCalls) where
 
   -- ---- commands
 
-  answer_cases : (f : State → Result (Unit {0}) ConsoleFault) (g : Mode → Result (Unit {0}) ConsoleFault) (first : ℕ) (ds : List Deed) (u x : ℕ) (b : Bool) (o : Option Line) (v : Option ℕ) →
+  answer_cases : (f : State → Result (Unit {0}) ConsoleFault) (g : Mode → Result (Unit {0}) ConsoleFault) (first : ℕ) (ds : List Deed) (u x : ℕ) (b : Bool) (o : Option UniverseLine) (v : Option ℕ) →
       (b ≡ true → f (state_by (is_ended x ds) (packets_since x ds)) ≡ g (mode_by (is_ended u ds) (terminations (packets_since u ds)))) →
       for_line f o ≡ if_there v (g (mode_by (is_ended u ds) (terminations (packets_since u ds)))) →
       for_line f (if b then Some (line_by first ds x) else o) ≡ if_there (if b then Some x else v) (g (mode_by (is_ended u ds) (terminations (packets_since u ds))))

@@ -13,7 +13,7 @@ use Rattle.sacn_console.specs.Lights.{Lights}
 use Rattle.sacn_console.specs.Lines.{Page, Datagram, Paged, line_due, is_stopped}
 use Rattle.sacn_console.specs.Core.{Core, IsLawful, at, due, due_by, line_found, page_by, page_due, standing, packet_with, packet_of, universes_of}
 use Rattle.sacn_console.specs.declared.sender.Sender.{Sender}
-use Rattle.sacn_console.specs.declared.line.Line.{Line}
+use Rattle.sacn_console.specs.declared.line.UniverseLine.{UniverseLine}
 use Rattle.sacn_console.specs.declared.line.Begun.{Begun}
 use Rattle.sacn_console.proofs.Changes.{frame_len}
 use Rattle.sacn_console.proofs.Dues.{page_counted}
@@ -21,15 +21,15 @@ use Rattle.sacn_console.specs.declared.limits.TheConstants.{DISCOVERY_INTERVAL}
 
 -- ---- packets
 
-line_in : (ls : List Line) (test : Line → Bool) (l : Line) → AllByRecursion IsUniverse (universes_of ls) → find test ls ≡ Some l → IsUniverse l.universe
+line_in : (ls : List UniverseLine) (test : UniverseLine → Bool) (l : UniverseLine) → AllByRecursion IsUniverse (universes_of ls) → find test ls ≡ Some l → IsUniverse l.universe
 line_in [] test l all e = absurd (cc)
 line_in (x ∷ ls) test l all e =
     elim (test x) as (λ b. cond b (Some x) (find test ls) ≡ Some l → IsUniverse l.universe) [
-      | true ↦ λ f. subst (λ (y : Line). IsUniverse y.universe) (same_Some x l f) all.0
+      | true ↦ λ f. subst (λ (y : UniverseLine). IsUniverse y.universe) (same_Some x l f) all.0
       | false ↦ λ f. line_in ls test l all.1 f
     ] e
 
-lawful_packet : (sender : Sender) (p : Lights) (t : ℕ) (l : Line) → length sender.cid ≡ 16 → length sender.name ≡ 64 → sender.priority ≤ 200 → IsUniverse l.universe → IsData (packet_of sender p t l)
+lawful_packet : (sender : Sender) (p : Lights) (t : ℕ) (l : UniverseLine) → length sender.cid ≡ 16 → length sender.name ≡ 64 → sender.priority ≤ 200 → IsUniverse l.universe → IsData (packet_of sender p t l)
 unfolding packet_with
 lawful_packet sender p t l cid name priority u = record {
   cid = cid;
@@ -45,11 +45,11 @@ small_all : (us : List ℕ) → AllByRecursion IsUniverse us → AllByRecursion 
 small_all [] all = tt
 small_all (u ∷ us) all = (let h = all.0.1 in omega (arith, h), small_all us all.1)
 
-standing_of : (ls : List Line) → AllByRecursion IsUniverse (universes_of ls) → AllByRecursion IsUniverse (standing ls)
+standing_of : (ls : List UniverseLine) → AllByRecursion IsUniverse (universes_of ls) → AllByRecursion IsUniverse (standing ls)
 unfolding standing
 standing_of [] all = tt
 standing_of (l ∷ ls) all =
-    elim (not (is_stopped l.state)) as (λ b. AllByRecursion IsUniverse (map (λ (x : Line). x.universe) (cond b (l ∷ filter (λ x. not (is_stopped x.state)) ls) (filter (λ x. not (is_stopped x.state)) ls)))) [
+    elim (not (is_stopped l.state)) as (λ b. AllByRecursion IsUniverse (map (λ (x : UniverseLine). x.universe) (cond b (l ∷ filter (λ x. not (is_stopped x.state)) ls) (filter (λ x. not (is_stopped x.state)) ls)))) [
       | true ↦ (all.0, standing_of ls all.1)
       | false ↦ standing_of ls all.1
     ]

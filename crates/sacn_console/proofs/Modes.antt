@@ -1,7 +1,7 @@
 -- What a line keeps of a mode, and when it is due.
 use Rattle.std.proofs.Common.{◌≡◌, ℕ, ◌-◌, ◌≤◌, Bool, true, false, not, ◌&&◌, ◌||◌, cond, nat_lt, nat_le, List, [], ◌∷◌, Option, Some, None, suc, zero, refl, arith}
 use Rattle.sacn_console.specs.declared.limits.TheConstants.{MIN_GAP, KEEP_ALIVE, REPEATS, TERMINATIONS}
-use Rattle.sacn_console.specs.Lines.{same, passed, asks, is_ending, is_stopped}
+use Rattle.sacn_console.specs.Lines.{same, has_passed, asks, is_ending, is_stopped}
 use Rattle.sacn_console.specs.Core.{end_answer, start_answer}
 use Rattle.sacn_console.specs.Due.{Sent, Ends, Stops, terminations, mode_by, follow_new, due_in, is_stop, is_end, end_in, start_in}
 use Rattle.sacn_console.specs.Runs.{state_by}
@@ -38,7 +38,7 @@ start_answered false (a ∷ ss) = refl
 later_too : (a b x : ℕ) → a ≤ b → nat_le b x ≡ true → nat_le a x ≡ true
 later_too a b x le h = grind arith
 
-passed_both : (t : ℕ) (last : Option ℕ) → passed 900 t last ≡ true → passed 25 t last ≡ true
+passed_both : (t : ℕ) (last : Option ℕ) → has_passed 900 t last ≡ true → has_passed 25 t last ≡ true
 passed_both t None h = refl
 passed_both t (Some m) h = later_too 25 900 (t - m) (omega arith) h
 
@@ -77,10 +77,10 @@ owed_same (suc zero) = refl
 owed_same (suc (suc zero)) = refl
 owed_same (suc (suc (suc n))) = grind arith
 
-pub state_due_same : (f : List ℕ) (t : ℕ) (last : Option ℕ) (e : Bool) (ss : List Sent) → (passed MIN_GAP t last && asks t last f (state_by e ss)) ≡ due_in (mode_by e (terminations ss)) t last f ss
+pub state_due_same : (f : List ℕ) (t : ℕ) (last : Option ℕ) (e : Bool) (ss : List Sent) → (has_passed MIN_GAP t last && asks t last f (state_by e ss)) ≡ due_in (mode_by e (terminations ss)) t last f ss
 state_due_same f t last true ss =
-    elim (nat_lt (terminations ss) TERMINATIONS) as (λ b. (passed MIN_GAP t last && asks t last f (cond b (Ending (TERMINATIONS - terminations ss)) Stopped)) ≡ due_in (cond b Ends Stops) t last f ss) [ true ↦ always_asked (passed MIN_GAP t last) | false ↦ never_asked (passed MIN_GAP t last) ]
-state_due_same f t last false [] = first_too (passed MIN_GAP t last) (passed KEEP_ALIVE t last) (passed_both t last)
+    elim (nat_lt (terminations ss) TERMINATIONS) as (λ b. (has_passed MIN_GAP t last && asks t last f (cond b (Ending (TERMINATIONS - terminations ss)) Stopped)) ≡ due_in (cond b Ends Stops) t last f ss) [ true ↦ always_asked (has_passed MIN_GAP t last) | false ↦ never_asked (has_passed MIN_GAP t last) ]
+state_due_same f t last false [] = first_too (has_passed MIN_GAP t last) (has_passed KEEP_ALIVE t last) (passed_both t last)
 state_due_same f t last false (a ∷ ss) =
     rw (owed_same (follow_new (a ∷ ss)))
-    (either (passed MIN_GAP t last) (passed KEEP_ALIVE t last) (nat_lt (follow_new (a ∷ ss)) REPEATS) (not (same a.data_sent.slots f)) (passed_both t last))
+    (either (has_passed MIN_GAP t last) (has_passed KEEP_ALIVE t last) (nat_lt (follow_new (a ∷ ss)) REPEATS) (not (same a.data_sent.slots f)) (passed_both t last))

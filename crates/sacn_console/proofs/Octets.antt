@@ -6,7 +6,7 @@ use Rattle.sacn_framing.specs.PacketText.{data_text}
 use Rattle.sacn_console.specs.Core.{packet_text, packet_with}
 use Rattle.sacn_console.specs.Lines.{is_ending}
 use Rattle.sacn_console.specs.declared.sender.Sender.{Sender}
-use Rattle.sacn_console.specs.declared.line.Line.{Line}
+use Rattle.sacn_console.specs.declared.line.UniverseLine.{UniverseLine}
 
 none_left : (xs : List ℕ) (n : ℕ) → length xs ≤ n → drop n xs ≡ []
 none_left [] zero le = refl
@@ -19,12 +19,12 @@ joined a p t old rest n e f le =
     let g : p ≡ t = f ∙ (rw (none_left old n le) (append-nil t)) in
     ap (λ (xs : List ℕ). xs ++ rest) (e ∙ g)
 
-abbrev pub said : Sender → Line → List ℕ → Bool → Data
+abbrev pub said : Sender → UniverseLine → List ℕ → Bool → Data
 said sender l slots ending = record {
   cid = sender.cid;
   name = sender.name;
   priority = sender.priority;
-  number = l.number;
+  number = l.sequence_number;
   preview = false;
   terminated = ending;
   universe = l.universe;
@@ -32,7 +32,7 @@ said sender l slots ending = record {
   slots = slots;
 }
 
-pub filled_packet : (sender : Sender) (l : Line) (slots : List ℕ) (ending : Bool) (rest a p old : List ℕ) (n : ℕ) → ending ≡ is_ending l.state → a ≡ p → p ≡ data_text (said sender l slots ending) nothing ++ drop n old → length old ≤ n → a ++ rest ≡ packet_text (packet_with sender l slots) ++ rest
+pub filled_packet : (sender : Sender) (l : UniverseLine) (slots : List ℕ) (ending : Bool) (rest a p old : List ℕ) (n : ℕ) → ending ≡ is_ending l.state → a ≡ p → p ≡ data_text (said sender l slots ending) nothing ++ drop n old → length old ≤ n → a ++ rest ≡ packet_text (packet_with sender l slots) ++ rest
 unfolding packet_text packet_with
 filled_packet sender l slots ending rest a p old n b e f le =
     joined a p (data_text (said sender l slots (is_ending l.state)) nothing) old rest n e (rw b at f) le

@@ -12,7 +12,7 @@ use Rattle.sacn_cues.specs.Playing.{Played, new_player}
 use Rattle.sacn_console.specs.declared.sender.Sender.{Sender}
 use Rattle.sacn_console.specs.Due.{life_of}
 use Rattle.sacn_console.specs.Runs.{line_by, lights_by, core_by}
-use Rattle.sacn_console.specs.declared.line.Line.{Line}
+use Rattle.sacn_console.specs.declared.line.UniverseLine.{UniverseLine}
 use Rattle.sacn_console.specs.declared.line.Begun.{Begun}
 use Rattle.sacn_console.specs.declared.line.State.TheVariants.{Running}
 
@@ -34,15 +34,15 @@ whole : (first : ℕ) → first < 256 → first ≡ (first + 0) % 256
 whole first lt = omega arith
 
 -- the line of a universe as a life begins
-pub first_line : (first u : ℕ) → first < 256 → record { universe = u; state = Running None; number = first; last = None } ≡ line_by first [] u
-first_line first u lt = ap (λ (n : ℕ). record { universe = u; state = Running None; number = n; last = None }) (whole first lt)
+pub first_line : (first u : ℕ) → first < 256 → record { universe = u; state = Running None; sequence_number = first; last = None } ≡ line_by first [] u
+first_line first u lt = ap (λ (n : ℕ). record { universe = u; state = Running None; sequence_number = n; last = None }) (whole first lt)
 
-pub more_lines : (first : ℕ) (told more : List Line) (us : List ℕ) (i u : ℕ) → first < 256 → i < length us → u ≡ get_or us i u → told ++ map (line_by first []) (drop i us) ≡ map (line_by first []) us →
-    more ≡ told ++ record { universe = u; state = Running None; number = first; last = None } ∷ [] → more ++ map (line_by first []) (drop (i + 1) us) ≡ map (line_by first []) us
+pub more_lines : (first : ℕ) (told more : List UniverseLine) (us : List ℕ) (i u : ℕ) → first < 256 → i < length us → u ≡ get_or us i u → told ++ map (line_by first []) (drop i us) ≡ map (line_by first []) us →
+    more ≡ told ++ record { universe = u; state = Running None; sequence_number = first; last = None } ∷ [] → more ++ map (line_by first []) (drop (i + 1) us) ≡ map (line_by first []) us
 more_lines first told more us i u small lt is all e =
-    more_told (line_by first []) told more us i u lt all (e ∙ ap (λ (l : Line). told ++ l ∷ []) (first_line first u small ∙ ap (line_by first []) is))
+    more_told (line_by first []) told more us i u lt all (e ∙ ap (λ (l : UniverseLine). told ++ l ∷ []) (first_line first u small ∙ ap (line_by first []) is))
 
-pub lines_told : (first : ℕ) (told : List Line) (us : List ℕ) (i : ℕ) → length us ≤ i → told ++ map (line_by first []) (drop i us) ≡ map (line_by first []) us → told ≡ map (line_by first []) us
+pub lines_told : (first : ℕ) (told : List UniverseLine) (us : List ℕ) (i : ℕ) → length us ≤ i → told ++ map (line_by first []) (drop i us) ≡ map (line_by first []) us → told ≡ map (line_by first []) us
 lines_told first told us i le all = all_told (line_by first []) told us i le all
 
 pub more_wakes : (told more : List ℕ) (us : List ℕ) (i : ℕ) → i < length us → told ++ map awake (drop i us) ≡ map awake us → more ≡ told ++ 0 ∷ [] → more ++ map awake (drop (i + 1) us) ≡ map awake us
@@ -78,7 +78,7 @@ pub rises : (xs : List ℕ) → AllPairs (λ x y. x < y) xs → Rising xs
 rises [] h = tt
 rises (x ∷ xs) h = (below_all x xs (λ j lt. h 0 (suc j) 0 (omega arith) (omega (arith, lt))), rises xs (λ i j d lt within. h (suc i) (suc j) d (omega (arith, lt)) (omega (arith, within))))
 
-pub begun_sound : (s : ShowContent) (first : ℕ) (sender : Sender) (lines : List Line) (wakes : Waking) (listed : List ℕ) (patch : Patched) (player : Played) → ShowOk s → sender ≡ (life_of s first).sender →
+pub begun_sound : (s : ShowContent) (first : ℕ) (sender : Sender) (lines : List UniverseLine) (wakes : Waking) (listed : List ℕ) (patch : Patched) (player : Played) → ShowOk s → sender ≡ (life_of s first).sender →
     lines ≡ map (line_by first []) s.universes → wakes ≡ record { each = map awake s.universes; least = 0; from = 0 } → listed ≡ [] → player ≡ new_player s.cues →
     Sound wakes (record { sender = sender; lines = lines; cycle = None; listed = listed; lights = record { patch = patch; player = player }; moment = 0 })
 begun_sound s first sender lines wakes listed patch player ok se le we ne pe = record {
@@ -101,7 +101,7 @@ begun_sound s first sender lines wakes listed patch player ok se le we ne pe = r
   });
 }
 
-pub begun_core : (s : ShowContent) (first : ℕ) (sender : Sender) (lines : List Line) (listed : List ℕ) (patch : Patched) (player : Played) → sender ≡ (life_of s first).sender →
+pub begun_core : (s : ShowContent) (first : ℕ) (sender : Sender) (lines : List UniverseLine) (listed : List ℕ) (patch : Patched) (player : Played) → sender ≡ (life_of s first).sender →
     lines ≡ map (line_by first []) s.universes → listed ≡ [] → patch ≡ s.patch → player ≡ new_player s.cues →
     record { sender = sender; lines = lines; cycle = None; listed = listed; lights = record { patch = patch; player = player }; moment = 0 } ≡ core_by (life_of s first) 0 []
 unfolding core_by lights_by

@@ -11,7 +11,7 @@ use Rattle.toml.specs.Data.{Data, string, integer, float, boolean, datetime, arr
 use Rattle.sacn_universe.specs.declared.limits.TheConstants.{MAX_UNIVERSE}
 use Rattle.sacn_files.specs.Values.{number_in}
 use Rattle.sacn_files.specs.Rows.{each}
-use Rattle.sacn_files.specs.Numbered.{has_repeat, in_order}
+use Rattle.sacn_files.specs.Numbers.{has_repeat, in_order}
 use Rattle.sacn_files.proofs.AscentLemmas.{in_order_rises, in_order_keeps}
 use Rattle.sacn_console.specs.declared.limits.TheConstants.{CONSOLE_UNIVERSES, MAX_DESTINATIONS}
 use Rattle.sacn_files.specs.declared.limits.TheConstants.{MIN_UDP_PORT, MAX_UDP_PORT}

@@ -8,7 +8,7 @@ use Rattle.sacn_console.specs.Lines.{Page, Paged, same, line_due}
 use Rattle.std.specs.Option.{option_map}
 use Rattle.sacn_console.specs.Core.{Core, at, line_found, page_due, due, due_by, no_line}
 use Rattle.sacn_console.specs.Wakes.{IsLeast, Waking, WakesOk, last_moment}
-use Rattle.sacn_console.specs.declared.line.Line.{Line}
+use Rattle.sacn_console.specs.declared.line.UniverseLine.{UniverseLine}
 use Rattle.sacn_console.proofs.Wakes.{is_le, is_above, ahead, both_ways}
 use Rattle.sacn_console.proofs.WakeLists.{line_later, find_nothing}
 
@@ -28,7 +28,7 @@ here_at (x ∷ xs) (suc i) d = here_at xs i d
 -- the line that is found at t, by the lights before the clock moved
 found_at : (v : Core) (t : ℕ) → line_found (at t v) ≡ find (line_due v.lights (max v.moment t)) v.lines
 unfolding line_found
-found_at v t = ap (λ (f : Line → Bool). find f v.lines) (λ i l. line_later v.lights t (max v.moment t) l (omega arith) i)
+found_at v t = ap (λ (f : UniverseLine → Bool). find f v.lines) (λ i l. line_later v.lights t (max v.moment t) l (omega arith) i)
 
 greater : (m t : ℕ) → m < t → max m t ≡ t
 greater m t lt = omega (arith, lt)
@@ -44,7 +44,7 @@ quiet_until_by v w first t ok none below before false is =
     (ok.woken j d within).0 t (omega (arith, later)) (omega (arith, before, below j (omega (arith, within, ok.counted))))))
 
 -- before the first of its wakes no line of the core is due
-pub quiet_until : (v c : Core) (p : Lights) (ls : List Line) (w : Waking) (first t : ℕ) → v ≡ c → p ≡ v.lights → ls ≡ v.lines → WakesOk w p v.moment ls → find (line_due p v.moment) ls ≡ None → IsLeast w.each first → t < first → line_found (at t c) ≡ None
+pub quiet_until : (v c : Core) (p : Lights) (ls : List UniverseLine) (w : Waking) (first t : ℕ) → v ≡ c → p ≡ v.lights → ls ≡ v.lines → WakesOk w p v.moment ls → find (line_due p v.moment) ls ≡ None → IsLeast w.each first → t < first → line_found (at t c) ≡ None
 quiet_until v c p ls w first t e pe le ok none below before =
     rw (← e) (found_at v t ∙ quiet_until_by v w first t (rw (pe, le) at ok) (rw (pe, le) at none) below before (nat_le t v.moment) refl)
 
@@ -61,7 +61,7 @@ lies_later : (t last w : ℕ) → min (t + 1) last ≤ w → w < last → t < w
 lies_later t last w le lt = omega (arith, le, lt)
 
 -- at the first of its wakes a line of the core is due, while no fade runs
-pub due_then : (v c : Core) (p : Lights) (ls : List Line) (w : Waking) (first : ℕ) → v ≡ c → p ≡ v.lights → ls ≡ v.lines → WakesOk w p v.moment ls → IsLeast w.each (min (v.moment + 1) last_moment) → is_still c.lights.player ≡ true → first < last_moment →
+pub due_then : (v c : Core) (p : Lights) (ls : List UniverseLine) (w : Waking) (first : ℕ) → v ≡ c → p ≡ v.lights → ls ≡ v.lines → WakesOk w p v.moment ls → IsLeast w.each (min (v.moment + 1) last_moment) → is_still c.lights.player ≡ true → first < last_moment →
     (i : ℕ) × (i < length w.each) × (slice_index_or w.each i 0 ≡ first) → is_some (line_found (at first c)) ≡ true
 due_then v c p ls w first e pe le ok ahead still lt (i, within, is) =
     let k : i < length v.lines = omega (arith, within, ok.counted, ap length le) in
@@ -74,7 +74,7 @@ due_then v c p ls w first e pe le ok ahead still lt (i, within, is) =
     rw (← e) (ap is_some (found_at v first) ∙ rw (greater v.moment first later) (find_some (line_due v.lights first) v.lines i no_line k due_there))
 
 -- a line is due now
-pub due_now : (v c : Core) (p : Lights) (ls : List Line) (x : Line) → v ≡ c → p ≡ v.lights → ls ≡ v.lines → find (line_due p v.moment) ls ≡ Some x → is_some (line_found (at 0 c)) ≡ true
+pub due_now : (v c : Core) (p : Lights) (ls : List UniverseLine) (x : UniverseLine) → v ≡ c → p ≡ v.lights → ls ≡ v.lines → find (line_due p v.moment) ls ≡ Some x → is_some (line_found (at 0 c)) ≡ true
 due_now v c p ls x e pe le some = rw (← e) (ap is_some (found_at v 0) ∙ rw (smaller v.moment 0 (omega arith)) (ap is_some (rw (pe, le) at some)))
 
 -- ---- datagrams
@@ -87,11 +87,11 @@ some_paged : (o : Option Page) → is_some o ≡ true → is_some (option_map Pa
 some_paged None e = absurd (cc)
 some_paged (Some p) e = refl
 
-line_or_page : (c : Core) (o : Option Line) → is_some o ≡ true → is_some (due_by c o) ≡ true
+line_or_page : (c : Core) (o : Option UniverseLine) → is_some o ≡ true → is_some (due_by c o) ≡ true
 line_or_page c None e = absurd (cc)
 line_or_page c (Some l) e = refl
 
-page_or_line : (c : Core) (o : Option Line) → is_some (page_due c) ≡ true → is_some (due_by c o) ≡ true
+page_or_line : (c : Core) (o : Option UniverseLine) → is_some (page_due c) ≡ true → is_some (due_by c o) ≡ true
 page_or_line c None e = some_paged (page_due c) e
 page_or_line c (Some l) e = refl
 

@@ -9,7 +9,7 @@ use Rattle.sacn_framing.specs.PacketText.{data_text, page_text, unused}
 use Rattle.sacn_discovery.specs.Pages.{page_count, page_of_list, numbers_on}
 use Rattle.sacn_cues.specs.Playing.{refusal}
 use Rattle.sacn_cues.specs.Playing as play
-use Rattle.sacn_console.specs.Lights.{Lights, frame, lights_at, player_command, ordered, play_answer}
+use Rattle.sacn_console.specs.Lights.{Lights, frame, lights_at, player_command, lights_by_command, play_answer}
 use Rattle.sacn_universe.specs.Universe.{IsUniverse, IsPriority, Rising}
 use Rattle.sacn_console.specs.declared.limits.TheConstants.{CONSOLE_UNIVERSES, DISCOVERY_INTERVAL}
 use Rattle.sacn_console.specs.Lines.{Page, Datagram, Packet, Paged, Deed, Accepted, Gave, line_due, line_after, is_ending, is_stopped}
@@ -18,7 +18,7 @@ use Rattle.sacn_console.specs.declared.command.Command.{Command}
 use Rattle.sacn_console.specs.declared.command.Command.TheVariants.{EndUniverse, StartUniverse}
 use Rattle.sacn_console.specs.declared.command.ConsoleFault.{ConsoleFault}
 use Rattle.sacn_console.specs.declared.command.ConsoleFault.TheVariants as fault
-use Rattle.sacn_console.specs.declared.line.Line.{Line}
+use Rattle.sacn_console.specs.declared.line.UniverseLine.{UniverseLine}
 use Rattle.sacn_console.specs.declared.line.Begun.{Begun}
 use Rattle.sacn_console.specs.declared.line.State.{State}
 use Rattle.sacn_console.specs.declared.line.State.TheVariants.{Running, Ending, Stopped}
@@ -26,7 +26,7 @@ use Rattle.sacn_console.specs.declared.line.State.TheVariants.{Running, Ending, 
 -- what is asked of the earlier commands and datagrams of this life
 pub record Core : Type 0 where
   pub sender : Sender
-  pub lines : List Line
+  pub lines : List UniverseLine
   pub cycle : Option Begun
   pub listed : List ℕ
   pub lights : Lights
@@ -53,7 +53,7 @@ over sender (Some d) out = text sender d ++ drop (size d) out
 
 -- ---- what is due
 
-unfoldable pub standing : List Line → List ℕ
+unfoldable pub standing : List UniverseLine → List ℕ
 standing lines = map (λ l. l.universe) (filter (λ l. not (is_stopped l.state)) lines)
 
 -- the next page at t of a cycle that began, or the first of a new one; `all` is what a new one lists
@@ -66,12 +66,12 @@ page_by t all listed (Some b) =
 unfoldable pub page_due : Core → Option Page
 page_due c = page_by c.moment (standing c.lines) c.listed c.cycle
 
-unfoldable pub packet_with : Sender → Line → List ℕ → Data
+unfoldable pub packet_with : Sender → UniverseLine → List ℕ → Data
 packet_with sender l slots = record {
   cid = sender.cid;
   name = sender.name;
   priority = sender.priority;
-  number = l.number;
+  number = l.sequence_number;
   preview = false;
   terminated = is_ending l.state;
   universe = l.universe;
@@ -79,23 +79,23 @@ packet_with sender l slots = record {
   slots = slots;
 }
 
-abbrev pub packet_of : Sender → Lights → ℕ → Line → Data
+abbrev pub packet_of : Sender → Lights → ℕ → UniverseLine → Data
 packet_of sender p t l = packet_with sender l (frame p l.universe t)
 
-abbrev pub no_line : Line
-no_line = record { universe = 0; state = Stopped; number = 0; last = None }
+abbrev pub no_line : UniverseLine
+no_line = record { universe = 0; state = Stopped; sequence_number = 0; last = None }
 
-abbrev pub line_at : Core → ℕ → Line
+abbrev pub line_at : Core → ℕ → UniverseLine
 line_at c i = slice_index_or c.lines i no_line
 
 -- the packet of the line at place i
 abbrev pub packet_at : Core → ℕ → Data
 packet_at c i = packet_of c.sender c.lights c.moment (line_at c i)
 
-unfoldable pub line_found : Core → Option Line
+unfoldable pub line_found : Core → Option UniverseLine
 line_found c = find (line_due c.lights c.moment) c.lines
 
-abbrev pub due_by : Core → Option Line → Option Datagram
+abbrev pub due_by : Core → Option UniverseLine → Option Datagram
 due_by c (Some l) = Some (Packet (packet_of c.sender c.lights c.moment l))
 due_by c None = option_map Paged (page_due c)
 
@@ -111,7 +111,7 @@ IsLawful sender (Paged p) = IsPage (page_of_list p.list p.page sender.cid sender
 -- ---- what a deed makes of the core
 
 abbrev pub lights_with : Deed → Lights → Lights
-lights_with (Accepted t k) p = ordered t (player_command k) p
+lights_with (Accepted t k) p = lights_by_command t (player_command k) p
 lights_with (Gave t d) p = p
 
 abbrev pub paged : ℕ → Page → Option Begun → Option Begun
@@ -159,11 +159,11 @@ start_answer (Running r) = Err fault.Running
 start_answer (Ending n) = Err fault.Ending
 start_answer Stopped = Ok tt
 
-abbrev pub for_line : (State → Result (Unit {0}) ConsoleFault) → Option Line → Result (Unit {0}) ConsoleFault
+abbrev pub for_line : (State → Result (Unit {0}) ConsoleFault) → Option UniverseLine → Result (Unit {0}) ConsoleFault
 for_line f None = Err fault.NoUniverse
 for_line f (Some l) = f l.state
 
-abbrev pub is_of : ℕ → Line → Bool
+abbrev pub is_of : ℕ → UniverseLine → Bool
 is_of u l = l.universe == u
 
 -- the answer to a command
@@ -188,7 +188,7 @@ after_command now k c = taken k (answer k (at now c)) (at now c)
 
 -- ---- what holds of each core
 
-abbrev pub universes_of : List Line → List ℕ
+abbrev pub universes_of : List UniverseLine → List ℕ
 universes_of lines = map (λ l. l.universe) lines
 
 pub record CoreOk (c : Core) : Type 0 where

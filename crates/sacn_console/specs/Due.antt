@@ -12,7 +12,7 @@ use Rattle.sacn_console.specs.Lights.{player_command, play_answer}
 use Rattle.sacn_console.specs.Shows.{ShowContent}
 use Rattle.sacn_console.specs.declared.limits.TheConstants.{MIN_GAP, KEEP_ALIVE, REPEATS, TERMINATIONS}
 use Rattle.sacn_framing.specs.Naming.{padded}
-use Rattle.sacn_console.specs.Lines.{Datagram, Packet, Paged, Deed, Accepted, Gave, same, passed}
+use Rattle.sacn_console.specs.Lines.{Datagram, Packet, Paged, Deed, Accepted, Gave, same, has_passed}
 use Rattle.sacn_console.specs.Core.{page_by}
 use Rattle.sacn_console.specs.declared.sender.Sender.{Sender}
 use Rattle.sacn_console.specs.declared.line.Begun.{Begun}
@@ -54,7 +54,7 @@ packets u (Gave t (Packet d) ∷ ds) = on_universe u t d (packets u ds)
 packets u (Gave t (Paged p) ∷ ds) = packets u ds
 packets u (Accepted t k ∷ ds) = packets u ds
 
--- an accepted order on a universe: true to end it, false to start it
+-- an accepted command on a universe: true to end it, false to start it
 abbrev pub order_in : ℕ → Command → Option Bool
 order_in u (EndUniverse v) = if u == v then Some true else None
 order_in u (StartUniverse v) = if u == v then Some false else None
@@ -64,7 +64,7 @@ abbrev pub or_else : Option Bool → Bool → Bool
 or_else None b = b
 or_else (Some x) b = x
 
--- the latest accepted order on the universe ends it
+-- the latest accepted command on the universe ends it
 abbrev pub is_ended : ℕ → List Deed → Bool
 is_ended u [] = false
 is_ended u (Accepted t k ∷ ds) = or_else (order_in u k) (is_ended u ds)
@@ -74,7 +74,7 @@ abbrev pub unless : Option Bool → List Sent → List Sent
 unless None xs = xs
 unless (Some b) xs = []
 
--- the packets sent on the universe since the latest accepted order on it
+-- the packets sent on the universe since the latest accepted command on it
 abbrev pub packets_since : ℕ → List Deed → List Sent
 packets_since u [] = []
 packets_since u (Gave t (Packet d) ∷ ds) = on_universe u t d (packets_since u ds)
@@ -114,8 +114,8 @@ latest [] = None
 latest (a ∷ ss) = Some a.moment
 
 abbrev pub due_in : Mode → ℕ → Option ℕ → List ℕ → List Sent → Bool
-due_in Runs t last f ss = (passed MIN_GAP t last && (would_be_new f ss || nat_lt (follow_new ss) REPEATS)) || passed KEEP_ALIVE t last
-due_in Ends t last f ss = passed MIN_GAP t last
+due_in Runs t last f ss = (has_passed MIN_GAP t last && (would_be_new f ss || nat_lt (follow_new ss) REPEATS)) || has_passed KEEP_ALIVE t last
+due_in Ends t last f ss = has_passed MIN_GAP t last
 due_in Stops t last f ss = false
 
 abbrev pub with_player : ℕ → Option play.Command → History → History

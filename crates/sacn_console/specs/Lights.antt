@@ -35,9 +35,9 @@ player_command (Master m) = Some (play.Master m)
 player_command (EndUniverse u) = None
 player_command (StartUniverse u) = None
 
-abbrev pub ordered : ℕ → Option play.Command → Lights → Lights
-ordered t None l = l
-ordered t (Some k) l = record { patch = l.patch; player = after t k l.player }
+abbrev pub lights_by_command : ℕ → Option play.Command → Lights → Lights
+lights_by_command t None l = l
+lights_by_command t (Some k) l = record { patch = l.patch; player = after t k l.player }
 
 abbrev pub console_fault : PlayFault → ConsoleFault
 console_fault played.NoCue = fault.NoCue
@@ -48,6 +48,6 @@ play_answer None = Ok tt
 play_answer (Some f) = Err (console_fault f)
 
 -- the player's answer, as the console's
-abbrev pub told : Result (Unit {0}) PlayFault → Result (Unit {0}) ConsoleFault
-told (Ok x) = Ok x
-told (Err f) = Err (console_fault f)
+abbrev pub console_answer : Result (Unit {0}) PlayFault → Result (Unit {0}) ConsoleFault
+console_answer (Ok x) = Ok x
+console_answer (Err f) = Err (console_fault f)

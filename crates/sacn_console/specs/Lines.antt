@@ -8,7 +8,7 @@ use Rattle.sacn_console.specs.declared.limits.TheConstants.{MIN_GAP, KEEP_ALIVE,
 use Rattle.sacn_console.specs.declared.command.Command.{Command}
 use Rattle.sacn_console.specs.declared.command.Command.TheVariants.{EndUniverse, StartUniverse}
 use Rattle.sacn_console.specs.declared.line.Run.{Run}
-use Rattle.sacn_console.specs.declared.line.Line.{Line}
+use Rattle.sacn_console.specs.declared.line.UniverseLine.{UniverseLine}
 use Rattle.sacn_console.specs.declared.line.State.{State}
 use Rattle.sacn_console.specs.declared.line.State.TheVariants.{Running, Ending, Stopped}
 
@@ -29,21 +29,21 @@ pub data Deed : Type 0 where
 unfoldable pub same : List ℕ → List ℕ → Bool
 same a b = pointwise nat_eq a b
 
--- at t, so many milliseconds passed since the latest packet, or there was none
-abbrev pub passed : ℕ → ℕ → Option ℕ → Bool
-passed wait t None = true
-passed wait t (Some m) = nat_le wait (t - m)
+-- at t, so many milliseconds have passed since the latest packet, or there was none
+abbrev pub has_passed : ℕ → ℕ → Option ℕ → Bool
+has_passed wait t None = true
+has_passed wait t (Some m) = nat_le wait (t - m)
 
 -- where the least gap has passed, whether a state asks for a packet at t, of these slots
 abbrev pub asks : ℕ → Option ℕ → List ℕ → State → Bool
 asks t last f (Running None) = true
-asks t last f (Running (Some r)) = nat_lt 0 r.owed || (passed KEEP_ALIVE t last || not (same r.frame f))
+asks t last f (Running (Some r)) = nat_lt 0 r.owed || (has_passed KEEP_ALIVE t last || not (same r.frame f))
 asks t last f (Ending n) = true
 asks t last f Stopped = false
 
 -- the universe is due at t
-unfoldable pub line_due : Lights → ℕ → Line → Bool
-line_due p t l = passed MIN_GAP t l.last && asks t l.last (frame p l.universe t) l.state
+unfoldable pub line_due : Lights → ℕ → UniverseLine → Bool
+line_due p t l = has_passed MIN_GAP t l.last && asks t l.last (frame p l.universe t) l.state
 
 abbrev pub fresh_run : List ℕ → Run
 fresh_run f = record { frame = f; owed = REPEATS }
@@ -56,19 +56,19 @@ state_sent f (Running (Some r)) =
 state_sent f (Ending n) = if nat_lt n 2 then Stopped else Ending (n - 1)
 state_sent f Stopped = Stopped
 
-unfoldable pub line_sent : ℕ → List ℕ → Line → Line
-line_sent t f l = record { universe = l.universe; state = state_sent f l.state; number = (l.number + 1) % 256; last = Some t }
+unfoldable pub line_sent : ℕ → List ℕ → UniverseLine → UniverseLine
+line_sent t f l = record { universe = l.universe; state = state_sent f l.state; sequence_number = (l.sequence_number + 1) % 256; last = Some t }
 
-abbrev pub line_in : State → Line → Line
-line_in s l = record { universe = l.universe; state = s; number = l.number; last = l.last }
+abbrev pub line_in : State → UniverseLine → UniverseLine
+line_in s l = record { universe = l.universe; state = s; sequence_number = l.sequence_number; last = l.last }
 
-abbrev pub line_told : Command → Line → Line
+abbrev pub line_told : Command → UniverseLine → UniverseLine
 line_told (EndUniverse u) l = if l.universe == u then line_in (Ending TERMINATIONS) l else l
 line_told (StartUniverse u) l = if l.universe == u then line_in (Running None) l else l
 line_told _ l = l
 
 -- a universe after a deed
-unfoldable pub line_after : Deed → Line → Line
+unfoldable pub line_after : Deed → UniverseLine → UniverseLine
 line_after (Accepted t k) l = line_told k l
 line_after (Gave t (Packet d)) l = if l.universe == d.universe then line_sent t d.slots l else l
 line_after (Gave t (Paged p)) l = l

@@ -8,7 +8,7 @@ use Rattle.sacn_console.specs.Due.{Life, Sent, packets, is_ended, packets_since,
 use Rattle.sacn_console.specs.declared.command.Command.{Command}
 use Rattle.sacn_console.specs.declared.command.ConsoleFault.{ConsoleFault}
 use Rattle.sacn_console.specs.Core.{Core, after_poll, after_command, due, answer, at}
-use Rattle.sacn_console.specs.declared.line.Line.{Line}
+use Rattle.sacn_console.specs.declared.line.UniverseLine.{UniverseLine}
 use Rattle.sacn_console.specs.declared.line.State.{State}
 use Rattle.sacn_console.specs.declared.line.State.TheVariants.{Running, Ending, Stopped}
 
@@ -19,11 +19,11 @@ state_by true ss = if nat_lt (terminations ss) TERMINATIONS then Ending (TERMINA
 state_by false [] = Running None
 state_by false (a ∷ ss) = Running (Some (record { frame = a.data_sent.slots; owed = REPEATS - follow_new (a ∷ ss) }))
 
-abbrev pub line_by : ℕ → List Deed → ℕ → Line
+abbrev pub line_by : ℕ → List Deed → ℕ → UniverseLine
 line_by first ds u = record {
   universe = u;
   state = state_by (is_ended u ds) (packets_since u ds);
-  number = number_by first u ds;
+  sequence_number = number_by first u ds;
   last = latest (packets u ds);
 }
 

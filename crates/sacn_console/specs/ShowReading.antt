@@ -13,11 +13,12 @@ use Rattle.sacn_cues.specs.Adding.{refusal_at, kept_of}
 use Rattle.sacn_cues.specs.Cues.{Cues, KeptCue}
 use Rattle.sacn_cues.specs.declared.cue.Cue.{Cue as CueValue}
 use Rattle.sacn_cues.specs.declared.fault.CueFault.{CueFault}
+use Rattle.sacn_universe.specs.Results.{◌>>=◌}
 use Rattle.sacn_files.specs.Keys.{has_known_keys, has_keys, rows_are_known, rows_have_keys}
 use Rattle.sacn_files.specs.Values.{rows_at, has_rows, number_in, number_at, array_values, array_at, members_or_none, value_or}
 use Rattle.sacn_files.specs.Rows.{each}
 use Rattle.sacn_files.specs.Lines.{before}
-use Rattle.sacn_files.specs.Numbered.{has_repeat, in_order}
+use Rattle.sacn_files.specs.Numbers.{has_repeat, in_order}
 use Rattle.sacn_files.specs.Document.{version_in}
 use Rattle.sacn_files.specs.declared.limits.TheConstants.{DEFAULT_UDP_PORT, MIN_UDP_PORT, MAX_UDP_PORT}
 use Rattle.sacn_files.specs.declared.faults.FileFault.{FileFault}
@@ -27,12 +28,6 @@ use Rattle.sacn_console.specs.declared.limits.TheConstants.{CONSOLE_UNIVERSES, M
 use Rattle.sacn_console.specs.declared.show.fault.ShowFault.{ShowFault}
 use Rattle.sacn_console.specs.declared.show.fault.ShowFault.TheVariants.{OutOfMemory, Toml, MissingKey, UnknownKey, KeyValue, Version, Cue, Patch}
 use Rattle.sacn_console.specs.declared.show.patches.PatchRow.{PatchRow}
-
--- one reading after another: what the last gives, or the first fault
-infixl 10 ◌>>=◌
-abbrev pub ◌>>=◌ : {A B : Type 0} → Result A ShowFault → (A → Result B ShowFault) → Result B ShowFault
-(Ok x) >>= next = next x
-(Err fault) >>= next = Err fault
 
 -- a value that has to be there, of its kind and in its range
 abbrev pub required : {X : Type 0} → Option X → Result X ShowFault

@@ -8,7 +8,7 @@ use Rattle.sacn_console.specs.declared.line.Look.{Look}
 use Rattle.sacn_console.specs.declared.line.Look.TheVariants.{Due, Asleep}
 use Rattle.sacn_console.specs.Lines.{line_due}
 use Rattle.sacn_console.specs.Core.{Core, CoreOk}
-use Rattle.sacn_console.specs.declared.line.Line.{Line}
+use Rattle.sacn_console.specs.declared.line.UniverseLine.{UniverseLine}
 use Rattle.sacn_console.specs.declared.line.State.{State}
 use Rattle.sacn_console.specs.declared.line.State.TheVariants.{Running, Ending, Stopped}
 
@@ -26,22 +26,22 @@ abbrev pub FrameStays : Lights → ℕ → Type 0
 FrameStays p u = (s : ℕ) → frame p u s ≡ frame_now p u
 
 -- from t on, and before its wake, the line isn't due
-abbrev pub IsAsleep : Lights → ℕ → ℕ → Line → Type 0
+abbrev pub IsAsleep : Lights → ℕ → ℕ → UniverseLine → Type 0
 IsAsleep p t wake l = (s : ℕ) → t ≤ s → s < wake → line_due p s l ≡ false
 
 -- while no fade runs, it is due at a wake that lies ahead
-abbrev pub IsTimely : Lights → ℕ → ℕ → Line → Type 0
+abbrev pub IsTimely : Lights → ℕ → ℕ → UniverseLine → Type 0
 IsTimely p t wake l = is_still p.player ≡ true → t < wake → wake < last_moment → line_due p wake l ≡ true
 
-abbrev pub IsWake : Lights → ℕ → ℕ → Line → Type 0
+abbrev pub IsWake : Lights → ℕ → ℕ → UniverseLine → Type 0
 IsWake p t wake l = IsAsleep p t wake l × IsTimely p t wake l
 
 -- the line isn't due at t, and its wake lies ahead
-abbrev pub IsQuiet : Lights → ℕ → ℕ → Line → Type 0
+abbrev pub IsQuiet : Lights → ℕ → ℕ → UniverseLine → Type 0
 IsQuiet p t wake l = (line_due p t l ≡ false) × (min (t + 1) last_moment ≤ wake)
 
 -- what a look at a line finds at t: it is due, with this frame, or it is asleep until its wake
-abbrev pub Finds : Lights → ℕ → Line → List ℕ → Look → Type 0
+abbrev pub Finds : Lights → ℕ → UniverseLine → List ℕ → Look → Type 0
 Finds p t l slots Due = (line_due p t l ≡ true) × (slots ≡ frame p l.universe t)
 Finds p t l slots (Asleep wake) = IsQuiet p t wake l × IsWake p t wake l
 
@@ -67,12 +67,12 @@ abbrev pub IsLeast : List ℕ → ℕ → Type 0
 IsLeast each least = (i : ℕ) → i < length each → least ≤ slice_index_or each i 0
 
 -- the lines before this place are quiet
-abbrev pub QuietBefore : List ℕ → Lights → ℕ → List Line → ℕ → Type 0
-QuietBefore each p t lines from = (i : ℕ) (d : Line) → i < from → i < length lines → IsQuiet p t (slice_index_or each i 0) (slice_index_or lines i d)
+abbrev pub QuietBefore : List ℕ → Lights → ℕ → List UniverseLine → ℕ → Type 0
+QuietBefore each p t lines from = (i : ℕ) (d : UniverseLine) → i < from → i < length lines → IsQuiet p t (slice_index_or each i 0) (slice_index_or lines i d)
 
-pub record WakesOk (w : Waking) (p : Lights) (t : ℕ) (lines : List Line) : Type 0 where
+pub record WakesOk (w : Waking) (p : Lights) (t : ℕ) (lines : List UniverseLine) : Type 0 where
   pub counted : length w.each ≡ length lines
-  pub woken : (i : ℕ) (d : Line) → i < length lines → IsWake p t (slice_index_or w.each i 0) (slice_index_or lines i d)
+  pub woken : (i : ℕ) (d : UniverseLine) → i < length lines → IsWake p t (slice_index_or w.each i 0) (slice_index_or lines i d)
   pub quiet : QuietBefore w.each p t lines w.from
 
 pub record Sound (w : Waking) (c : Core) : Type 0 where

@@ -3,7 +3,7 @@ ghost use Rattle.std.specs.Prelude.{◌≡◌};
 
 use thiserror::Error;
 
-/// An order to a console (profile).
+/// A command to a console (profile).
 #[derive(Clone, Copy, Debug, PartialEq, Eq)]
 pub enum Command {
     /// Goes to the next cue.
@@ -20,7 +20,7 @@ pub enum Command {
     StartUniverse(u16),
 }
 
-/// Why an order was refused. Only the console's clock has then moved.
+/// Why a command was refused. Only the console's clock has then moved.
 ///
 /// Each fault has a number of its own, which `number` gives.
 #[derive(Clone, Copy, Debug, PartialEq, Eq, Error)]

@@ -3,13 +3,13 @@ ghost use Rattle.std.specs.Prelude.{◌≡◌, ◌<◌, ◌≤◌, length, ◌++
 ghost use Rattle.std.specs.Prelude.{◌^◌};
 ghost use Rattle.std.specs.List.{AllByRecursion};
 ghost use Rattle.sacn_cues.specs.Playing as play;
-ghost use Rattle.sacn_console.specs.Lights.{told};
+ghost use Rattle.sacn_console.specs.Lights.{console_answer};
 
 mod giving;
 
 use crate::command::{Command, ConsoleFault};
 use crate::limits::{CONSOLE_UNIVERSES, MAX_DATAGRAM, TERMINATIONS};
-use crate::line::{Begun, Line, State, can_end, can_start};
+use crate::line::{Begun, State, UniverseLine, can_end, can_start};
 use crate::lines::{first_lines, place_of};
 use crate::sender::Sender;
 use crate::show::{Show, ShowFault};
@@ -27,7 +27,7 @@ use std::marker::Model;
 #[derive(Drop)]
 pub struct ConsoleCore {
     sender: Sender,
-    lines: Vec<Line>,
+    lines: Vec<UniverseLine>,
     wakes: Wakes,
     cycle: Option<Begun>,
     listed: ArrayVec<u16, CONSOLE_UNIVERSES>,
@@ -64,7 +64,7 @@ impl ConsoleCore {
     ghost use Rattle.sacn_universe.specs.Universe.{Rising};
     ghost use Rattle.sacn_console.specs.Core.{Core, universes_of, taken, is_of, end_answer, start_answer, line_found, line_at, packet_at, page_due, standing, due, IsLawful, at, after, after_poll, after_command, given, answer, over, size, text};
     ghost use Rattle.sacn_console.specs.Lines.{line_in, Datagram, Packet, Paged, Gave, Accepted, Page};
-    ghost use Rattle.sacn_console.specs.declared.line.Line.{Line as KeptLine};
+    ghost use Rattle.sacn_console.specs.declared.line.UniverseLine.{UniverseLine as KeptLine};
     ghost use Rattle.sacn_console.specs.declared.show.fault.ShowFault.TheVariants.{OutOfMemory};
 
     /// A console as its life begins: nothing was sent, every universe runs, and the first packet on
@@ -153,7 +153,7 @@ impl ConsoleCore {
 
     /// What is kept of each universe, in ascending order of number: its state, the number of its next packet, and the moment of
     /// its latest one.
-    pub fn lines(&self) -> &[Line]
+    pub fn lines(&self) -> &[UniverseLine]
         ensures lines { result.now ≡ self.now.lines }
         ensures ascending { Rising (universes_of self.now.lines) }
     {
@@ -180,7 +180,7 @@ impl ConsoleCore {
         ensures core { self.new ≡ taken Command.Go (answer Command.Go self.old) self.old }
     {
         self.wakes.clear();
-        told(self.player.go(self.moment))
+        console_answer(self.player.go(self.moment))
     }
 
     fn go_to(&mut self, number: u16) -> Result<(), ConsoleFault>
@@ -188,7 +188,7 @@ impl ConsoleCore {
         ensures core { self.new ≡ taken (Command.GoTo number) (answer (Command.GoTo number) self.old) self.old }
     {
         self.wakes.clear();
-        told(self.player.go_to(self.moment, number))
+        console_answer(self.player.go_to(self.moment, number))
     }
 
     fn set_level(&mut self, channel: u16, level: u16) -> Result<(), ConsoleFault>
@@ -196,7 +196,7 @@ impl ConsoleCore {
         ensures core { self.new ≡ taken (Command.SetLevel channel level) (answer (Command.SetLevel channel level) self.old) self.old }
     {
         self.wakes.clear();
-        told(self.player.set(self.moment, channel, level))
+        console_answer(self.player.set(self.moment, channel, level))
     }
 
     fn set_master(&mut self, master: u16) -> Result<(), ConsoleFault>
@@ -276,10 +276,7 @@ impl ConsoleCore {
 fn new_player(alloc: Global, show: &Show) -> Result<Player, CueFault>
     ensures { IfOk result (λ player. player ≡ play.new_player show.now.cues) }
 {
-    match show.cues.try_copy() {
-        Ok(cues) => Player::new(alloc, cues),
-        Err(fault) => Err(fault),
-    }
+    Player::new(alloc, show.cues.try_copy()?)
 }
 
 // What the types of a sender and of numbers say. This costs nothing.
@@ -293,8 +290,8 @@ fn tell_ranges(sender: &Sender, listed: &[u16])
 }
 
 // The player's answer, as the console's.
-fn told(answer: Result<(), PlayFault>) -> Result<(), ConsoleFault>
-    ensures { result ≡ told answer }
+fn console_answer(answer: Result<(), PlayFault>) -> Result<(), ConsoleFault>
+    ensures { result ≡ console_answer answer }
 {
     match answer {
         Ok(()) => Ok(()),

@@ -15,7 +15,7 @@ mod waking;
 pub use command::{Command, ConsoleFault};
 pub use console::ConsoleCore;
 pub use limits::CONSOLE_UNIVERSES;
-pub use line::{Begun, Line, Look, Run, State};
+pub use line::{Begun, Look, Run, State, UniverseLine};
 pub use sacn_files::faults::TextFault;
 pub use script::{command_of, read_script};
 pub use sender::Sender;

@@ -3,7 +3,7 @@ ghost use Rattle.std.specs.Prelude.{◌≡◌, true, false};
 ghost use Rattle.sacn_cues.specs.Playing.{StaysAsItIs};
 ghost use Rattle.sacn_cues.specs.Playing as play;
 ghost use Rattle.sacn_console.specs.Lights.{frame_now};
-ghost use Rattle.sacn_console.specs.Lines.{same, passed, asks, is_stopped, is_ending, state_sent, line_sent};
+ghost use Rattle.sacn_console.specs.Lines.{same, has_passed, asks, is_stopped, is_ending, state_sent, line_sent};
 ghost use Rattle.sacn_console.specs.Wakes.{Finds, FrameStays, when_passed, wake_sent};
 ghost use Rattle.sacn_console.specs.Core.{end_answer, start_answer};
 ghost use Rattle.sacn_console.specs.declared.limits.TheConstants as limits;
@@ -30,12 +30,12 @@ pub enum State {
     Stopped,
 }
 
-/// One universe: its state, the number of its next packet, and the moment of its latest one.
+/// One universe: its state, the sequence number of its next packet, and the moment of its latest one.
 #[derive(Clone, Copy)]
-pub struct Line {
+pub struct UniverseLine {
     pub universe: u16,
     pub state: State,
-    pub number: u8,
+    pub sequence_number: u8,
     pub last: Option<u64>,
 }
 
@@ -53,8 +53,8 @@ pub struct Begun {
     pub next: usize,
 }
 
-fn passed(wait: u64, moment: u64, last: Option<u64>) -> bool
-    ensures { result ≡ passed wait moment last }
+fn has_passed(wait: u64, moment: u64, last: Option<u64>) -> bool
+    ensures { result ≡ has_passed wait moment last }
 {
     match last {
         None => true,
@@ -105,7 +105,7 @@ fn asks(state: &State, moment: u64, last: Option<u64>, slots: &[u8; SLOTS]) -> b
             if run.owed > 0 {
                 return true;
             }
-            if passed(KEEP_ALIVE, moment, last) {
+            if has_passed(KEEP_ALIVE, moment, last) {
                 return true;
             }
             !same(&run.frame, slots)
@@ -115,7 +115,7 @@ fn asks(state: &State, moment: u64, last: Option<u64>, slots: &[u8; SLOTS]) -> b
     }
 }
 
-impl Line {
+impl UniverseLine {
     /// Looks whether this universe is due at the player's moment. Its frame is made only where the
     /// timers don't decide. Where none of its own channels fades it sleeps until its next keep-alive
     /// packet, whatever fades elsewhere.
@@ -135,7 +135,7 @@ impl Line {
         if self.is_stopped() {
             return Look::Asleep(u64::MAX);
         }
-        if !passed(MIN_GAP, moment, self.last) {
+        if !has_passed(MIN_GAP, moment, self.last) {
             return self.look_early(patch, player, is_still, moment, slots);
         }
         fill(patch, player, self.universe, slots);
@@ -164,7 +164,7 @@ impl Line {
         requires clock { player.now.player.now.moment ≡ moment }
         requires tells { is_still ≡ play.is_still player.now.player.now }
         requires still { is_still ≡ true → StaysAsItIs player.now.player.now }
-        requires early { passed limits.MIN_GAP moment self.now.last ≡ false }
+        requires early { has_passed limits.MIN_GAP moment self.now.last ≡ false }
         requires goes { is_stopped self.now.state ≡ false }
         ensures { Finds (record { patch = patch.now; player = player.now.player.now }) moment self.now slots.new result }
     {
@@ -217,11 +217,11 @@ impl Line {
 
     /// Its packet with these slots was sent.
     #[tactic(auto, unfolding(crate::specs::Lines::line_sent))]
-    pub(crate) fn sent(&mut self, moment: u64, slots: &[u8; SLOTS])
+    pub(crate) fn note_packet(&mut self, moment: u64, slots: &[u8; SLOTS])
         ensures { self.new ≡ line_sent moment slots.now self.old }
     {
         note_sent(&mut self.state, slots);
-        self.number = self.number.wrapping_add(1);
+        self.sequence_number = self.sequence_number.wrapping_add(1);
         self.last = Some(moment);
     }
 }
@@ -232,7 +232,7 @@ fn note_sent(state: &mut State, slots: &[u8; SLOTS])
     ensures { state.new ≡ state_sent slots.now state.old }
 {
     match state {
-        State::Running(None) => *state = fresh(slots),
+        State::Running(None) => *state = first_run(slots),
         State::Running(Some(run)) => note_run(run, slots),
         State::Ending(left) => {
             if *left < 2 {
@@ -257,7 +257,7 @@ fn note_run(run: &mut Run, slots: &[u8; SLOTS])
     }
 }
 
-fn fresh(slots: &[u8; SLOTS]) -> State
+fn first_run(slots: &[u8; SLOTS]) -> State
     ensures { result ≡ State.Running (Some (record { frame = slots.now; owed = REPEATS })) }
 {
     let frame = *slots;

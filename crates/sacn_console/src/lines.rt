@@ -7,10 +7,10 @@ ghost use Rattle.sacn_console.specs.Lines.{line_due};
 ghost use Rattle.sacn_console.specs.Core.{standing, is_of};
 ghost use Rattle.sacn_console.specs.Wakes.{WakesOk, IsLeast, last_moment, QuietBefore};
 ghost use Rattle.sacn_console.specs.Runs.{line_by};
-ghost use Rattle.sacn_console.specs.declared.line.Line.{Line as KeptLine};
+ghost use Rattle.sacn_console.specs.declared.line.UniverseLine.{UniverseLine as KeptLine};
 
 use crate::limits::CONSOLE_UNIVERSES;
-use crate::line::{Line, Look, State};
+use crate::line::{Look, State, UniverseLine};
 use crate::waking::Wakes;
 use arrayvec::ArrayVec;
 use sacn_cues::PlayerAt;
@@ -21,7 +21,7 @@ use std::alloc::{AllocError, Global};
 /// Where the first due universe stands; its frame is then in `slots`. A universe is looked at only
 /// from its wake on, and one that isn't due gets a new wake.
 pub(crate) fn first_due(
-    lines: &[Line],
+    lines: &[UniverseLine],
     wakes: &mut Wakes,
     patch: &FlatPatch,
     player: &PlayerAt<'_>,
@@ -55,7 +55,7 @@ pub(crate) fn first_due(
 }
 
 /// Where a universe stands.
-pub(crate) fn place_of(lines: &[Line], universe: u16) -> Option<usize>
+pub(crate) fn place_of(lines: &[UniverseLine], universe: u16) -> Option<usize>
     ensures { MatchOption result (find (is_of universe) lines.now ≡ None) (λ i. (i < length lines.now) × ((d : KeptLine) → (find (is_of universe) lines.now ≡ Some (slice_index_or lines.now i d)) × ((slice_index_or lines.now i d).universe ≡ universe))) }
 {
     for place in 0..lines.len() {
@@ -69,7 +69,7 @@ pub(crate) fn place_of(lines: &[Line], universe: u16) -> Option<usize>
 
 #[tactic(auto, using(crate::proofs::Searches::standing_past, crate::proofs::Searches::standing_more, crate::proofs::Searches::standing_all))]
 /// Notes the universes that are not stopped.
-pub(crate) fn list_standing(lines: &[Line], listed: &mut ArrayVec<u16, CONSOLE_UNIVERSES>)
+pub(crate) fn list_standing(lines: &[UniverseLine], listed: &mut ArrayVec<u16, CONSOLE_UNIVERSES>)
     requires { length lines.now ≤ CONSOLE_UNIVERSES }
     ensures { listed.new.items ≡ standing lines.now }
 {
@@ -88,16 +88,16 @@ pub(crate) fn first_lines(
     alloc: Global,
     universes: &[u16],
     first: u8,
-) -> Result<Vec<Line>, AllocError>
+) -> Result<Vec<UniverseLine>, AllocError>
     ensures { IfOk result (λ v. v.items ≡ map (line_by first []) universes.now) }
 {
     let mut lines = Vec::new(alloc);
     for place in 0..universes.len() {
         let universe = universes[place];
-        lines.push(Line {
+        lines.push(UniverseLine {
             universe,
             state: State::Running(None),
-            number: first,
+            sequence_number: first,
             last: None,
         })?;
     }

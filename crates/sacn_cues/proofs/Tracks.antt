@@ -25,9 +25,9 @@ abbrev Above : ℕ → List (ℕ × KeptCue) → Type 0
 Above k [] = ⊤
 Above k (e ∷ es) = (k < e.0) × Above k es
 
-abbrev Rising : List (ℕ × KeptCue) → Type 0
-Rising [] = ⊤
-Rising (e ∷ es) = Above e.0 es × Rising es
+abbrev RisingByNumber : List (ℕ × KeptCue) → Type 0
+RisingByNumber [] = ⊤
+RisingByNumber (e ∷ es) = Above e.0 es × RisingByNumber es
 
 first : (a b : Bool) → T (a && b) → T a
 first true b p = tt
@@ -47,7 +47,7 @@ above : (k : ℕ) (es : List (ℕ × KeptCue)) → T (below_all nat_cmp k es) �
 above k [] told = tt
 above k (e ∷ es) told = (is_less k e.0 (subst T (less_is k e.0) (first _ _ told)), above k es (second _ _ told))
 
-rising : (es : List (ℕ × KeptCue)) → T (is_sorted nat_cmp es) → Rising es
+rising : (es : List (ℕ × KeptCue)) → T (is_sorted nat_cmp es) → RisingByNumber es
 rising [] told = tt
 rising (e ∷ es) told = (above e.0 es (first _ _ told), rising es (second _ _ told))
 
@@ -88,7 +88,7 @@ here_eq number k is = grind (arith, nat_tests)
 apart_eq : (number k : ℕ) → ¬ (k ≡ number) → eq_by_cmp nat_cmp number k ≡ false
 apart_eq number k apart = grind (arith, nat_tests)
 
-track_found : (number : ℕ) (targets : Targets) (es : List (ℕ × KeptCue)) → Rising es → track_at number (tracks_from targets es) ≡ option_map (track_to number es targets) (find nat_cmp number es)
+track_found : (number : ℕ) (targets : Targets) (es : List (ℕ × KeptCue)) → RisingByNumber es → track_at number (tracks_from targets es) ≡ option_map (track_to number es targets) (find nat_cmp number es)
 track_found number targets [] order = refl
 track_found number targets (e ∷ es) order =
     let more : Targets = aimed e.1.levels targets in

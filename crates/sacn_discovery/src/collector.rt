@@ -30,7 +30,7 @@ impl Model for Collector {
 
     ghost coded = { state_code };
 
-    ghost use Rattle.sacn_discovery.specs.Stored.{sources_of, AreStored};
+    ghost use Rattle.sacn_discovery.specs.Storage.{sources_of, AreStored};
 
     ghost view = { λ c. record { sources = sources_of c.sources.entries; moment = c.moment } };
 

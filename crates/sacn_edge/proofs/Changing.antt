@@ -12,7 +12,7 @@ use Rattle.sacn_node.proofs.Changed.{slots_are_kept, frames_are_kept, neither}
 use Rattle.sacn_edge.specs.declared.changes.Changes.{Changes}
 use Rattle.sacn_edge.specs.declared.port_lines.PortShown.{PortShown}
 use Rattle.sacn_edge.specs.PortLines.{later, port_after, AreCurrent}
-use Rattle.sacn_edge.specs.Changing.{changes_universe, concerns, Grows, IsTold, IsCurrentBut, AreCurrentBut}
+use Rattle.sacn_edge.specs.PortChanges.{changes_universe, concerns, Grows, IsTold, IsCurrentBut, AreCurrentBut}
 use Rattle.sacn_edge.proofs.Settled.{none_lost}
 
 -- ---- one call
@@ -62,13 +62,13 @@ none_before us vs (Some p) before none = ranges p.ranges none
 module _ (c d : Changes) (n m : Node) (ports : m.ports ≡ n.ports) (grows : Grows c d) (told : IsTold d n.core m.core) where
   one_current : (s : PortShown) → IsCurrentBut c n s → IsCurrentBut d m s
   one_current s was quiet =
-      let parts = neither d.all (node_shows s.number d.universes.items m) quiet in
-      let shows : node_shows s.number d.universes.items n ≡ false = ap (λ ps. shows_on d.universes.items (port_of s.number ps)) (sym ports) ∙ parts.1 in
+      let parts = neither d.all (node_shows s.port d.universes.items m) quiet in
+      let shows : node_shows s.port d.universes.items n ≡ false = ap (λ ps. shows_on d.universes.items (port_of s.port ps)) (sym ports) ∙ parts.1 in
       let noted : (u : ℕ) → list_any (λ v. v == u) d.universes.items ≡ false → changes_universe d u ≡ false = λ u none. either d.all (list_any (λ v. v == u) d.universes.items) parts.0 none in
       let before : (u : ℕ) → list_any (λ v. v == u) d.universes.items ≡ false → list_any (λ v. v == u) c.universes.items ≡ false = λ u none. (neither c.all (list_any (λ v. v == u) c.universes.items) (grows.universes u (noted u none))).1 in
-      let same : node_frame s.number m ≡ node_frame s.number n = frames_are_kept s.number d.universes.items n m ports (λ u none. told u (noted u none)) shows in
+      let same : node_frame s.port m ≡ node_frame s.port n = frames_are_kept s.port d.universes.items n m ports (λ u none. told u (noted u none)) shows in
       ap (later s.last) same
-      ∙ was (either c.all (node_shows s.number c.universes.items n) (grows.all parts.0) (none_before c.universes.items d.universes.items (port_of s.number n.ports) before shows))
+      ∙ was (either c.all (node_shows s.port c.universes.items n) (grows.all parts.0) (none_before c.universes.items d.universes.items (port_of s.port n.ports) before shows))
 
   pub still_but : (ss : List PortShown) → AreCurrentBut c n ss → AreCurrentBut d m ss
   still_but [] all = tt
@@ -77,7 +77,7 @@ module _ (c d : Changes) (n m : Node) (ports : m.ports ≡ n.ports) (grows : Gro
 -- where anything may have changed, nothing is said
 pub all_but : (c : Changes) (n : Node) (ss : List PortShown) → c.all ≡ true → AreCurrentBut c n ss
 all_but c n [] all = tt
-all_but c n (s ∷ ss) all = ((λ quiet. both_ways c.all all (neither c.all (node_shows s.number c.universes.items n) quiet).0), all_but c n ss all)
+all_but c n (s ∷ ss) all = ((λ quiet. both_ways c.all all (neither c.all (node_shows s.port c.universes.items n) quiet).0), all_but c n ss all)
 
 -- where nothing has changed, each port has its frame
 shows_none : (o : Option Port) → shows_on [] o ≡ false
@@ -91,7 +91,7 @@ shows_none (Some p) = ranges p.ranges
 pub none_but : (c : Changes) (n : Node) (ss : List PortShown) → c.all ≡ false → c.universes.items ≡ [] → AreCurrentBut c n ss → AreCurrent n ss
 none_but c n [] none empty all = tt
 none_but c n (s ∷ ss) none empty all =
-    let quiet : concerns c n s.number ≡ false = either c.all (node_shows s.number c.universes.items n) none (ap (λ us. node_shows s.number us n) empty ∙ shows_none (port_of s.number n.ports)) in
+    let quiet : concerns c n s.port ≡ false = either c.all (node_shows s.port c.universes.items n) none (ap (λ us. node_shows s.port us n) empty ∙ shows_none (port_of s.port n.ports)) in
     (all.0 quiet, none_but c n ss none empty all.1)
 
 -- a port whose line was written has its frame
@@ -101,7 +101,7 @@ again last (Some f) = refl
 
 written_but : (c : Changes) (n : Node) (ss : List PortShown) → AreCurrentBut c n (map (port_after n) ss)
 written_but c n [] = tt
-written_but c n (s ∷ ss) = ((λ quiet. again s.last (node_frame s.number n)), written_but c n ss)
+written_but c n (s ∷ ss) = ((λ quiet. again s.last (node_frame s.port n)), written_but c n ss)
 
 pub current_but : (c : Changes) (n m : Node) (ss ts : List PortShown) → m ≡ n → ts ≡ map (port_after n) ss → AreCurrentBut c m ts
 current_but c n m ss ts same shown = subst (λ (m : Node). AreCurrentBut c m ts) (sym same) (subst (AreCurrentBut c n) (sym shown) (written_but c n ss))

@@ -8,13 +8,13 @@ use Rattle.std.proofs.lemmas.List.FromFn.{length-range_with_len}
 use Rattle.sacn_patch.specs.Patch.{Patched, slot_level, universe_frame}
 use Rattle.std.specs.FinMap.{get}
 use Rattle.sacn_cues.specs.Playing.{level_mastered}
-use Rattle.sacn_console.specs.declared.line.Line.{Line}
+use Rattle.sacn_console.specs.declared.line.UniverseLine.{UniverseLine}
 use Rattle.sacn_console.specs.Lights.{Lights, frame, frame_now, lights_at}
 use Rattle.sacn_console.specs.Lines.{Page, Datagram, Packet, Paged}
 use Rattle.sacn_console.specs.Core.{Core, due, due_by, line_found, page_due, packet_of, packet_with, size, text, at, after_poll}
 use Rattle.sacn_edge.specs.declared.report.ConsoleReport.{ConsoleReport}
-use Rattle.sacn_edge.specs.Told.{Extends}
-use Rattle.sacn_edge.specs.Heard.{Transcript, Hands}
+use Rattle.sacn_edge.specs.Additions.{Extends}
+use Rattle.sacn_edge.specs.Hearings.{Transcript, Hands}
 use Rattle.sacn_edge.specs.ConsoleSends.{Script, Reader, Handed, come, commanded, refusals, lines_at, ordered, reader_after, core_after, octets_of, sent_at, handed_of, datagrams, console_sends, refused_by, sends_report, counted_send}
 
 universe_long : (level : ℕ → ℕ) (patch : Patched) (u : ℕ) → length (universe_frame level patch u) ≡ 512
@@ -25,7 +25,7 @@ frame_long : (l : Lights) (u t : ℕ) → length (frame l u t) ≡ 512
 unfolding frame frame_now
 frame_long l u t = universe_long (level_mastered (lights_at t l).player) l.patch u
 
-packet_size : (c : Core) (l : Line) → size (Packet (packet_of c.sender c.lights c.moment l)) ≡ 638
+packet_size : (c : Core) (l : UniverseLine) → size (Packet (packet_of c.sender c.lights c.moment l)) ≡ 638
 unfolding packet_with
 packet_size c l = ap (λ n. 126 + n) (frame_long c.lights l.universe c.moment)
 

@@ -3,7 +3,7 @@ use Rattle.std.proofs.Common.{◌≡◌, ℕ, suc, ◌+◌, min, Bool, true, fal
 use Rattle.std.specs.Prelude.{if◌then◌else◌, IfSome}
 use Rattle.std.proofs.lemmas.List.{take_min, length-take}
 use Rattle.std.proofs.Math.Seq.{take-append_seam}
-use Rattle.sacn_edge.specs.Heard.{Heard, Transcript, Hands}
+use Rattle.sacn_edge.specs.Hearings.{Heard, Transcript, Hands}
 use Rattle.sacn_edge.specs.MemoryItems.{answered_from, fails_at}
 
 answered_from-last : (failing : Option ℕ) (n : ℕ) (vs : List (Vec ℕ Global)) (v : Vec ℕ Global)

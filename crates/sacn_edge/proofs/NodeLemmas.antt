@@ -8,9 +8,9 @@ use Rattle.std.proofs.lemmas.List.Sums.{sum_by-cons}
 use Rattle.sacn_node.specs.Setup.{port_numbers}
 use Rattle.sacn_node.specs.Cores.{Node, node_frame}
 use Rattle.sacn_edge.specs.declared.port_lines.PortShown.{PortShown}
-use Rattle.sacn_edge.specs.Told.{Adds, Extends}
-use Rattle.sacn_edge.specs.Heard.{Heard, Transcript, Hears}
-use Rattle.sacn_edge.specs.NodeText.{Turn, Line, line_text, is_shown, last_frame, with_frame, with_ports, lines_after, node_after, text_of}
+use Rattle.sacn_edge.specs.Additions.{Adds, Extends}
+use Rattle.sacn_edge.specs.Hearings.{Heard, Transcript, Hears}
+use Rattle.sacn_edge.specs.NodeText.{Turn, FrameLine, line_text, is_shown, last_frame, with_frame, with_ports, lines_after, node_after, text_of}
 use Rattle.sacn_edge.specs.NodeRun.{Turned, StopsIn, readings, hearings}
 use Rattle.sacn_edge.specs.PortLines.{frame_text, later, unshown, port_text, port_after, ports_text, FailsAmong}
 use Rattle.sacn_edge.proofs.ToldLemmas.{Adds-append}
@@ -27,7 +27,7 @@ Distinct [] = ⊤
 Distinct (p ∷ ps) = Differs p ps × Distinct ps
 
 abbrev pub numbers : List PortShown → List ℕ
-numbers ss = map (λ s. s.number) ss
+numbers ss = map (λ s. s.port) ss
 
 above_differs : (p : ℕ) (ps : List ℕ) → ((k : ℕ) → k < length ps → p < slice_index ps k) → Differs p ps
 above_differs p [] above = tt
@@ -55,9 +55,9 @@ rising_distinct (p ∷ ps) rise =
 
 -- ---- what is kept of each port is the frame of its latest line
 
-abbrev pub Remembers : List Line → List PortShown → Type 0
+abbrev pub Remembers : List FrameLine → List PortShown → Type 0
 Remembers ls [] = ⊤
-Remembers ls (s ∷ ss) = (last_frame s.number ls ≡ s.last) × Remembers ls ss
+Remembers ls (s ∷ ss) = (last_frame s.port ls ≡ s.last) × Remembers ls ss
 
 pub numbers_unshown : (ps : List ℕ) → numbers (map unshown ps) ≡ ps
 numbers_unshown [] = refl
@@ -68,7 +68,7 @@ nothing_shown [] = tt
 nothing_shown (p ∷ ps) = (refl, nothing_shown ps)
 
 -- another port's latest line stays
-other_frame : (p q m : ℕ) (f : Option (List ℕ)) (ls : List Line) → p ≢ q → last_frame q (with_frame p m f ls) ≡ last_frame q ls
+other_frame : (p q m : ℕ) (f : Option (List ℕ)) (ls : List FrameLine) → p ≢ q → last_frame q (with_frame p m f ls) ≡ last_frame q ls
 other_frame p q m None ls differs = refl
 other_frame p q m (Some f) ls differs =
     elim (is_shown (last_frame p ls) f) as (λ b. last_frame q (cond b ls (record { port = p; moment = m; frame = f } ∷ ls)) ≡ last_frame q ls) [
@@ -76,67 +76,67 @@ other_frame p q m (Some f) ls differs =
       | false ↦ ap (λ b. cond b (Some f) (last_frame q ls)) (ne_eqb p q differs)
     ]
 
-other_frames : (n : Node) (q : ℕ) (ps : List ℕ) (ls : List Line) → Differs q ps → last_frame q (with_ports n ps ls) ≡ last_frame q ls
+other_frames : (n : Node) (q : ℕ) (ps : List ℕ) (ls : List FrameLine) → Differs q ps → last_frame q (with_ports n ps ls) ≡ last_frame q ls
 other_frames n q [] ls differs = refl
 other_frames n q (p ∷ ps) ls differs =
     other_frames n q ps (with_frame p n.core.moment (node_frame p n) ls) differs.1
     ∙ other_frame p q n.core.moment (node_frame p n) ls (λ same. differs.0 (sym same))
 
 -- a port's own latest line is of its frame
-own_frame : (m : ℕ) (s : PortShown) (f : Option (List ℕ)) (ls : List Line) → last_frame s.number ls ≡ s.last → last_frame s.number (with_frame s.number m f ls) ≡ later s.last f
+own_frame : (m : ℕ) (s : PortShown) (f : Option (List ℕ)) (ls : List FrameLine) → last_frame s.port ls ≡ s.last → last_frame s.port (with_frame s.port m f ls) ≡ later s.last f
 own_frame m s None ls is = is
 own_frame m s (Some f) ls is =
-    elim (is_shown (last_frame s.number ls) f) as (λ b. is_shown (last_frame s.number ls) f ≡ b → last_frame s.number (cond b ls (record { port = s.number; moment = m; frame = f } ∷ ls)) ≡ Some f) [
-      | true ↦ λ shown. shown_last (last_frame s.number ls) f shown
-      | false ↦ λ shown. ap (λ b. cond b (Some f) (last_frame s.number ls)) (eq-eqb s.number s.number refl)
+    elim (is_shown (last_frame s.port ls) f) as (λ b. is_shown (last_frame s.port ls) f ≡ b → last_frame s.port (cond b ls (record { port = s.port; moment = m; frame = f } ∷ ls)) ≡ Some f) [
+      | true ↦ λ shown. shown_last (last_frame s.port ls) f shown
+      | false ↦ λ shown. ap (λ b. cond b (Some f) (last_frame s.port ls)) (eq-eqb s.port s.port refl)
     ] refl
 
 -- its line adds the text that it asks for
-own_text : (m : ℕ) (s : PortShown) (f : Option (List ℕ)) (ls : List Line) → last_frame s.number ls ≡ s.last → text_of (with_frame s.number m f ls) ≡ text_of ls ++ frame_text m s f
+own_text : (m : ℕ) (s : PortShown) (f : Option (List ℕ)) (ls : List FrameLine) → last_frame s.port ls ≡ s.last → text_of (with_frame s.port m f ls) ≡ text_of ls ++ frame_text m s f
 own_text m s None ls is = sym (append_nil (text_of ls))
 own_text m s (Some f) ls is =
-    ap (λ last. text_of (cond (is_shown last f) ls (record { port = s.number; moment = m; frame = f } ∷ ls))) is
-    ∙ (elim (is_shown s.last f) as (λ b. text_of (cond b ls (record { port = s.number; moment = m; frame = f } ∷ ls)) ≡ text_of ls ++ cond b [] (line_text (record { port = s.number; moment = m; frame = f }))) [
+    ap (λ last. text_of (cond (is_shown last f) ls (record { port = s.port; moment = m; frame = f } ∷ ls))) is
+    ∙ (elim (is_shown s.last f) as (λ b. text_of (cond b ls (record { port = s.port; moment = m; frame = f } ∷ ls)) ≡ text_of ls ++ cond b [] (line_text (record { port = s.port; moment = m; frame = f }))) [
       | true ↦ sym (append_nil (text_of ls))
       | false ↦ refl
     ])
 
-others_remember : (p m : ℕ) (f : Option (List ℕ)) (ls : List Line) (ss : List PortShown) → Differs p (numbers ss) → Remembers ls ss → Remembers (with_frame p m f ls) ss
+others_remember : (p m : ℕ) (f : Option (List ℕ)) (ls : List FrameLine) (ss : List PortShown) → Differs p (numbers ss) → Remembers ls ss → Remembers (with_frame p m f ls) ss
 others_remember p m f ls [] differs all = tt
 others_remember p m f ls (s ∷ ss) differs all =
-    (other_frame p s.number m f ls differs.0 ∙ all.0, others_remember p m f ls ss differs.1 all.1)
+    (other_frame p s.port m f ls differs.0 ∙ all.0, others_remember p m f ls ss differs.1 all.1)
 
 pub numbers_after : (n : Node) (ss : List PortShown) → numbers (map (port_after n) ss) ≡ numbers ss
 numbers_after n [] = refl
-numbers_after n (s ∷ ss) = ap (λ l. s.number ∷ l) (numbers_after n ss)
+numbers_after n (s ∷ ss) = ap (λ l. s.port ∷ l) (numbers_after n ss)
 
 -- the lines of a turn add the texts of its ports, and are remembered
-pub turn_text : (n : Node) (ss : List PortShown) (ls : List Line) → Distinct (numbers ss) → Remembers ls ss → text_of (with_ports n (numbers ss) ls) ≡ text_of ls ++ ports_text n ss
+pub turn_text : (n : Node) (ss : List PortShown) (ls : List FrameLine) → Distinct (numbers ss) → Remembers ls ss → text_of (with_ports n (numbers ss) ls) ≡ text_of ls ++ ports_text n ss
 turn_text n [] ls distinct all = sym (append_nil (text_of ls))
 turn_text n (s ∷ ss) ls distinct all =
-    turn_text n ss (with_frame s.number n.core.moment (node_frame s.number n) ls) distinct.1 (others_remember s.number n.core.moment (node_frame s.number n) ls ss distinct.0 all.1)
-    ∙ ap (λ t. t ++ ports_text n ss) (own_text n.core.moment s (node_frame s.number n) ls all.0)
+    turn_text n ss (with_frame s.port n.core.moment (node_frame s.port n) ls) distinct.1 (others_remember s.port n.core.moment (node_frame s.port n) ls ss distinct.0 all.1)
+    ∙ ap (λ t. t ++ ports_text n ss) (own_text n.core.moment s (node_frame s.port n) ls all.0)
     ∙ append_assoc (text_of ls) (port_text n s) (ports_text n ss)
 
-pub turn_remembered : (n : Node) (ss : List PortShown) (ls : List Line) → Distinct (numbers ss) → Remembers ls ss → Remembers (with_ports n (numbers ss) ls) (map (port_after n) ss)
+pub turn_remembered : (n : Node) (ss : List PortShown) (ls : List FrameLine) → Distinct (numbers ss) → Remembers ls ss → Remembers (with_ports n (numbers ss) ls) (map (port_after n) ss)
 turn_remembered n [] ls distinct all = tt
 turn_remembered n (s ∷ ss) ls distinct all =
-    let next = with_frame s.number n.core.moment (node_frame s.number n) ls in (
-      other_frames n s.number (numbers ss) next distinct.0 ∙ own_frame n.core.moment s (node_frame s.number n) ls all.0,
-      turn_remembered n ss next distinct.1 (others_remember s.number n.core.moment (node_frame s.number n) ls ss distinct.0 all.1),
+    let next = with_frame s.port n.core.moment (node_frame s.port n) ls in (
+      other_frames n s.port (numbers ss) next distinct.0 ∙ own_frame n.core.moment s (node_frame s.port n) ls all.0,
+      turn_remembered n ss next distinct.1 (others_remember s.port n.core.moment (node_frame s.port n) ls ss distinct.0 all.1),
     )
 
 -- ---- a line that was not written whole
 
-one_more : (p m : ℕ) (f : Option (List ℕ)) (ls : List Line) → (more : List Line) × (with_frame p m f ls ≡ more ++ ls)
+one_more : (p m : ℕ) (f : Option (List ℕ)) (ls : List FrameLine) → (more : List FrameLine) × (with_frame p m f ls ≡ more ++ ls)
 one_more p m None ls = ([], refl)
 one_more p m (Some f) ls =
-    elim (is_shown (last_frame p ls) f) as (λ b. (more : List Line) × (cond b ls (record { port = p; moment = m; frame = f } ∷ ls) ≡ more ++ ls)) [
+    elim (is_shown (last_frame p ls) f) as (λ b. (more : List FrameLine) × (cond b ls (record { port = p; moment = m; frame = f } ∷ ls) ≡ more ++ ls)) [
       | true ↦ ([], refl)
       | false ↦ (record { port = p; moment = m; frame = f } ∷ [], refl)
     ]
 
-some_more : (n : Node) (ps : List ℕ) (ls : List Line) → (more : List Line) × (with_ports n ps ls ≡ more ++ ls)
+some_more : (n : Node) (ps : List ℕ) (ls : List FrameLine) → (more : List FrameLine) × (with_ports n ps ls ≡ more ++ ls)
 some_more n [] ls = ([], refl)
 some_more n (p ∷ ps) ls =
     let one = one_more p n.core.moment (node_frame p n) ls in
@@ -144,46 +144,46 @@ some_more n (p ∷ ps) ls =
     (rest.0 ++ one.0, rest.1 ∙ ap (λ l. rest.0 ++ l) one.1 ∙ sym (append_assoc rest.0 one.0 ls))
 
 -- a text that isn't empty is that of a line
-asked_line : (m : ℕ) (s : PortShown) (f : Option (List ℕ)) (ls : List Line) (k : ℕ) → last_frame s.number ls ≡ s.last → k < length (frame_text m s f)
-    → (l : Line) × (with_frame s.number m f ls ≡ l ∷ ls) × (frame_text m s f ≡ line_text l)
+asked_line : (m : ℕ) (s : PortShown) (f : Option (List ℕ)) (ls : List FrameLine) (k : ℕ) → last_frame s.port ls ≡ s.last → k < length (frame_text m s f)
+    → (l : FrameLine) × (with_frame s.port m f ls ≡ l ∷ ls) × (frame_text m s f ≡ line_text l)
 asked_line m s None ls k is short = absurd (omega (arith, short))
 asked_line m s (Some f) ls k is short =
-    let l : Line = record { port = s.number; moment = m; frame = f } in
-    elim (is_shown s.last f) as (λ b. is_shown s.last f ≡ b → k < length (cond b [] (line_text l)) → (l : Line) × (with_frame s.number m (Some f) ls ≡ l ∷ ls) × (cond b [] (line_text record { port = s.number; moment = m; frame = f }) ≡ line_text l)) [
+    let l : FrameLine = record { port = s.port; moment = m; frame = f } in
+    elim (is_shown s.last f) as (λ b. is_shown s.last f ≡ b → k < length (cond b [] (line_text l)) → (l : FrameLine) × (with_frame s.port m (Some f) ls ≡ l ∷ ls) × (cond b [] (line_text record { port = s.port; moment = m; frame = f }) ≡ line_text l)) [
       | true ↦ λ shown none. absurd (omega (arith, none))
       | false ↦ λ shown some. (l, ap (λ last. cond (is_shown last f) ls (l ∷ ls)) is ∙ ap (λ b. cond b ls (l ∷ ls)) shown, refl)
     ] refl short
 
-with_ports-append : (n : Node) (ps qs : List ℕ) (ls : List Line) → with_ports n (ps ++ qs) ls ≡ with_ports n qs (with_ports n ps ls)
+with_ports-append : (n : Node) (ps qs : List ℕ) (ls : List FrameLine) → with_ports n (ps ++ qs) ls ≡ with_ports n qs (with_ports n ps ls)
 with_ports-append n [] qs ls = refl
 with_ports-append n (p ∷ ps) qs ls = with_ports-append n ps qs (with_frame p n.core.moment (node_frame p n) ls)
 
 numbers-append : (ss ts : List PortShown) → numbers (ss ++ ts) ≡ numbers ss ++ numbers ts
 numbers-append [] ts = refl
-numbers-append (s ∷ ss) ts = ap (λ l. s.number ∷ l) (numbers-append ss ts)
+numbers-append (s ∷ ss) ts = ap (λ l. s.port ∷ l) (numbers-append ss ts)
 
-front_distinct : (ss : List PortShown) (s : PortShown) (ts : List PortShown) → Distinct (numbers (ss ++ s ∷ ts)) → Distinct (numbers ss) × Differs s.number (numbers ss)
+front_distinct : (ss : List PortShown) (s : PortShown) (ts : List PortShown) → Distinct (numbers (ss ++ s ∷ ts)) → Distinct (numbers ss) × Differs s.port (numbers ss)
 front_distinct [] s ts distinct = (tt, tt)
 front_distinct (q ∷ ss) s ts distinct =
     let rest = front_distinct ss s ts distinct.1 in
-    let parts = front_differs q.number ss s ts distinct.0 in
+    let parts = front_differs q.port ss s ts distinct.0 in
     ((parts.0, rest.0), (λ same. parts.1 (sym same), rest.1))
   where
-    front_differs : (p : ℕ) (ss : List PortShown) (s : PortShown) (ts : List PortShown) → Differs p (numbers (ss ++ s ∷ ts)) → Differs p (numbers ss) × (p ≢ s.number)
+    front_differs : (p : ℕ) (ss : List PortShown) (s : PortShown) (ts : List PortShown) → Differs p (numbers (ss ++ s ∷ ts)) → Differs p (numbers ss) × (p ≢ s.port)
     front_differs p [] s ts differs = (tt, differs.0)
     front_differs p (q ∷ ss) s ts differs =
         let rest = front_differs p ss s ts differs.1 in
         ((differs.0, rest.0), rest.1)
 
-front_remembered : (ls : List Line) (ss : List PortShown) (s : PortShown) (ts : List PortShown) → Remembers ls (ss ++ s ∷ ts) → Remembers ls ss × (last_frame s.number ls ≡ s.last)
+front_remembered : (ls : List FrameLine) (ss : List PortShown) (s : PortShown) (ts : List PortShown) → Remembers ls (ss ++ s ∷ ts) → Remembers ls ss × (last_frame s.port ls ≡ s.last)
 front_remembered ls [] s ts all = (tt, all.0)
 front_remembered ls (q ∷ ss) s ts all =
     let rest = front_remembered ls ss s ts all.1 in
     ((all.0, rest.0), rest.1)
 
 -- where a port's text was cut in a turn, the line that it asked for was
-pub stops : (n : Node) (ss : List PortShown) (ls : List Line) (a b c : List ℕ → Type 0) → Distinct (numbers ss) → Remembers ls ss → Adds a b (text_of ls) → FailsAmong n ss b c
-    → (unwritten : List Line) × (l : Line) × (written : List Line) × (k : ℕ)
+pub stops : (n : Node) (ss : List PortShown) (ls : List FrameLine) (a b c : List ℕ → Type 0) → Distinct (numbers ss) → Remembers ls ss → Adds a b (text_of ls) → FailsAmong n ss b c
+    → (unwritten : List FrameLine) × (l : FrameLine) × (written : List FrameLine) × (k : ℕ)
     × (with_ports n (numbers ss) ls ≡ unwritten ++ l ∷ (written ++ ls))
     × (k < length (line_text l))
     × Adds a c (text_of (written ++ ls) ++ take k (line_text l))
@@ -197,8 +197,8 @@ stops n ss ls a b c distinct all sofar fails =
     let kept = front_remembered ls done s rest (subst (Remembers ls) parted all) in
     let before = with_ports n (numbers done) ls in
     let more = some_more n (numbers done) ls in
-    let asked = asked_line n.core.moment s (node_frame s.number n) before k (other_frames n s.number (numbers done) ls front.1 ∙ kept.1) fails.5 in
-    let after = some_more n (numbers rest) (with_frame s.number n.core.moment (node_frame s.number n) before) in
+    let asked = asked_line n.core.moment s (node_frame s.port n) before k (other_frames n s.port (numbers done) ls front.1 ∙ kept.1) fails.5 in
+    let after = some_more n (numbers rest) (with_frame s.port n.core.moment (node_frame s.port n) before) in
     let l = asked.0 in
     let text : text_of (more.0 ++ ls) ≡ text_of ls ++ ports_text n done = ap text_of (sym more.1) ∙ turn_text n done ls front.0 kept.0 in (
       after.0,
@@ -207,7 +207,7 @@ stops n ss ls a b c distinct all sofar fails =
       k,
       ap (λ l. with_ports n (numbers l) ls) parted
           ∙ ap (λ ps. with_ports n ps ls) (numbers-append done (s ∷ rest))
-          ∙ with_ports-append n (numbers done) (s.number ∷ numbers rest) ls
+          ∙ with_ports-append n (numbers done) (s.port ∷ numbers rest) ls
           ∙ after.1
           ∙ ap (λ x. after.0 ++ x) (asked.1 ∙ ap (λ x. l ∷ x) more.1),
       subst (λ (t : List ℕ). k < length t) asked.2 fails.5,

@@ -5,8 +5,8 @@ use Rattle.sacn_node.specs.Cores.{Node, Core, core_at, node_frame}
 use Rattle.sacn_node.specs.Calls.{Call, Frame, step, after_calls, moment_in_use}
 use Rattle.sacn_node.specs.PlainRule.{plain_rule}
 use Rattle.sacn_node.specs.Laws.{AnswersByThePlainRule, KeepsItsPorts, UsesTheGreatestMoment}
-use Rattle.sacn_edge.specs.NodeText.{Turn, Line, call_at, node_after, with_frame, with_ports, line_text, lines_after, text_of}
-use Rattle.sacn_edge.specs.Told.{Adds}
+use Rattle.sacn_edge.specs.NodeText.{Turn, FrameLine, call_at, node_after, with_frame, with_ports, line_text, lines_after, text_of}
+use Rattle.sacn_edge.specs.Additions.{Adds}
 use Rattle.sacn_edge.specs.PlainText.{asked, calls_of, frame_told, plain_ports, plain_lines, LinesAreByThePlainRule, StopsByThePlainRule, TextIsByThePlainRule}
 use Rattle.sacn_edge.proofs.Settled.{turn_settled}
 
@@ -25,15 +25,15 @@ after_turns ports ps before (t ∷ ts) =
     asked_stays ports t.now ps (call_at t.now t.heard ∷ calls_of ps before ts) (step (call_at t.now t.heard) n) (turn_settled t.now t.heard n.core) (ap (step (call_at t.now t.heard)) (after_turns ports ps before ts))
 
 -- of all lines, one after the earlier ones was not written whole
-abbrev StopsAmong : (List ℕ → Type 0) → (List ℕ → Type 0) → List Line → List Line → Type 0
+abbrev StopsAmong : (List ℕ → Type 0) → (List ℕ → Type 0) → List FrameLine → List FrameLine → Type 0
 StopsAmong old new all earlier =
-    (unwritten : List Line) × (l : Line) × (written : List Line) × (k : ℕ)
+    (unwritten : List FrameLine) × (l : FrameLine) × (written : List FrameLine) × (k : ℕ)
     × (all ≡ unwritten ++ l ∷ (written ++ earlier))
     × (k < length (line_text l))
     × Adds old new (text_of (written ++ earlier) ++ take k (line_text l))
 
 module _ (answers : AnswersByThePlainRule) (keeps : KeepsItsPorts) (greatest : UsesTheGreatestMoment) where
-  pub ports_same : (ports : List Port) (now : ℕ) (ps : List ℕ) (earlier : List Call) (n : Node) (ls : List Line) → core_at now n.core ≡ n.core → after_calls ports earlier ≡ n → plain_ports ports now ps earlier ls ≡ with_ports n ps ls
+  pub ports_same : (ports : List Port) (now : ℕ) (ps : List ℕ) (earlier : List Call) (n : Node) (ls : List FrameLine) → core_at now n.core ≡ n.core → after_calls ports earlier ≡ n → plain_ports ports now ps earlier ls ≡ with_ports n ps ls
   ports_same ports now [] earlier n ls settled is = refl
   ports_same ports now (p ∷ ps) earlier n ls settled is =
       let stays : after_calls ports (Frame now p ∷ earlier) ≡ n = ap (step (Frame now p)) is ∙ frame_stays now p n settled in
@@ -58,7 +58,7 @@ module _ (answers : AnswersByThePlainRule) (keeps : KeepsItsPorts) (greatest : U
 
   pub stops_same : StopsByThePlainRule
   stops_same ports before t ts old new stops =
-      let earlier : List Line = lines_after (after_calls ports before) ts in
-      let P : List Line → Type 0 = λ all. StopsAmong (λ xs. xs ≡ old) (λ ys. ys ≡ new) all earlier in
-      let Q : List Line → Type 0 = λ ls. StopsAmong (λ xs. xs ≡ old) (λ ys. ys ≡ new) (plain_lines ports before (t ∷ ts)) ls in
+      let earlier : List FrameLine = lines_after (after_calls ports before) ts in
+      let P : List FrameLine → Type 0 = λ all. StopsAmong (λ xs. xs ≡ old) (λ ys. ys ≡ new) all earlier in
+      let Q : List FrameLine → Type 0 = λ ls. StopsAmong (λ xs. xs ≡ old) (λ ys. ys ≡ new) (plain_lines ports before (t ∷ ts)) ls in
       subst Q (lines_same ports before ts) (subst P (lines_same ports before (t ∷ ts)) stops)

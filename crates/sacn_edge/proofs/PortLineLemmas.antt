@@ -3,7 +3,7 @@ use Rattle.std.proofs.Common.{subst, if◌then◌else◌, ◌≡◌, ℕ, zero, 
 use Rattle.std.specs.Cmp.Lexicographic.{bytes_decides}
 use Rattle.std.proofs.lemmas.List.{take_more, drop_more, length-take, length-map, get_or_at}
 use Rattle.sacn_edge.specs.declared.port_lines.PortShown.{PortShown}
-use Rattle.sacn_edge.specs.Told.{Adds}
+use Rattle.sacn_edge.specs.Additions.{Adds}
 use Rattle.sacn_edge.specs.NodeText.{same, is_shown, line_text}
 use Rattle.sacn_edge.specs.PortLines.{frame_text, later, AreCurrent, with_last, port_text, port_after, ports_text}
 use Rattle.sacn_node.specs.Setup.{Port}
@@ -30,7 +30,7 @@ pub text_shown : (moment : ℕ) (s : PortShown) (frame : List ℕ) → is_shown 
 text_shown moment s frame is = rw is refl
 
 pub stays_shown : (s : PortShown) (frame : List ℕ) → is_shown s.last frame ≡ true → s ≡ with_last s (Some frame)
-stays_shown s frame is = ap (λ last. let t : PortShown = record { number = s.number; last = last } in t) (shown_last s.last frame is)
+stays_shown s frame is = ap (λ last. let t : PortShown = record { port = s.port; last = last } in t) (shown_last s.last frame is)
 
 pub ports_text-append : (n : Node) (ss ts : List PortShown) → ports_text n (ss ++ ts) ≡ ports_text n ss ++ ports_text n ts
 ports_text-append n [] ts = refl
@@ -44,7 +44,7 @@ ports_text-more n ss i d lt =
     ∙ ap (λ x. ports_text n (take i ss) ++ x) (append_nil (port_text n (get_or ss i d)))
 
 abbrev pub no_port : PortShown
-no_port = record { number = 0; last = None }
+no_port = record { port = 0; last = None }
 
 -- the ports up to one, that one, and the rest
 pub split_at : {X : Type 0} (xs : List X) (i : ℕ) (d : X) → i < length xs → xs ≡ take i xs ++ get_or xs i d ∷ drop (i + 1) xs
@@ -68,19 +68,19 @@ shows_itself f = (bytes_decides f f).1 refl
 
 pub current_text : (m : ℕ) (s : PortShown) (f : Option (List ℕ)) → later s.last f ≡ s.last → frame_text m s f ≡ []
 current_text m s None is = refl
-current_text m s (Some f) is = ap (λ last. if is_shown last f then [] else line_text (record { port = s.number; moment = m; frame = f })) (sym is) ∙ ap (λ b. if b then [] else line_text (record { port = s.number; moment = m; frame = f })) (shows_itself f)
+current_text m s (Some f) is = ap (λ last. if is_shown last f then [] else line_text (record { port = s.port; moment = m; frame = f })) (sym is) ∙ ap (λ b. if b then [] else line_text (record { port = s.port; moment = m; frame = f })) (shows_itself f)
 
 -- they ask for nothing, and stay
 pub current_texts : (n : Node) (ss : List PortShown) → AreCurrent n ss → ports_text n ss ≡ []
 current_texts n [] all = refl
-current_texts n (s ∷ ss) all = ap (λ t. t ++ ports_text n ss) (current_text n.core.moment s (node_frame s.number n) all.0) ∙ current_texts n ss all.1
+current_texts n (s ∷ ss) all = ap (λ t. t ++ ports_text n ss) (current_text n.core.moment s (node_frame s.port n) all.0) ∙ current_texts n ss all.1
 
 pub one_stays : (s : PortShown) (f : Option (List ℕ)) → later s.last f ≡ s.last → s ≡ with_last s f
-one_stays s f is = ap (λ last. let t : PortShown = record { number = s.number; last = last } in t) (sym is)
+one_stays s f is = ap (λ last. let t : PortShown = record { port = s.port; last = last } in t) (sym is)
 
 pub current_stay : (n : Node) (ss : List PortShown) → AreCurrent n ss → ss ≡ map (port_after n) ss
 current_stay n [] all = refl
-current_stay n (s ∷ ss) all = λ i. (let t : PortShown = record { number = s.number; last = sym all.0 i } in t) ∷ current_stay n ss all.1 i
+current_stay n (s ∷ ss) all = λ i. (let t : PortShown = record { port = s.port; last = sym all.0 i } in t) ∷ current_stay n ss all.1 i
 
 later_twice : (last f : Option (List ℕ)) → later (later last f) f ≡ later last f
 later_twice last None = refl
@@ -89,13 +89,13 @@ later_twice last (Some f) = refl
 -- after a turn they are
 pub turn_current : (n : Node) (ss : List PortShown) → AreCurrent n (map (port_after n) ss)
 turn_current n [] = tt
-turn_current n (s ∷ ss) = (later_twice s.last (node_frame s.number n), turn_current n ss)
+turn_current n (s ∷ ss) = (later_twice s.last (node_frame s.port n), turn_current n ss)
 
 -- and where ports and tables stay, they remain so
 pub still_current : (n m : Node) (ss : List PortShown) → m.ports ≡ n.ports → m.core.tables ≡ n.core.tables → AreCurrent n ss → AreCurrent m ss
 still_current n m [] ports tables all = tt
 still_current n m (s ∷ ss) ports tables all =
-    let frame : List Port → List Table → Option (List ℕ) = λ ps gs. frame_on (λ u. slots_on (table_of u gs)) (port_of s.number ps) in (
+    let frame : List Port → List Table → Option (List ℕ) = λ ps gs. frame_on (λ u. slots_on (table_of u gs)) (port_of s.port ps) in (
       ap (λ ps. later s.last (frame ps m.core.tables)) ports ∙ ap (λ gs. later s.last (frame n.ports gs)) tables ∙ all.0,
       still_current n m ss ports tables all.1,
     )

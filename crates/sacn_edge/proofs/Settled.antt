@@ -15,7 +15,7 @@ use Rattle.sacn_node.specs.declared.taken.NodeTaken.TheVariants.{FromTable, Othe
 use Rattle.sacn_node.specs.Cores.{Table, Core, Node, rows_lost_all, core_lost, rows_kept_all, change_rows, core_at, table_of, core_reply_on}
 use Rattle.sacn_node.specs.Readings.{Reading, after_reading, reply_to}
 use Rattle.sacn_node.specs.Calls.{core_step, step, Take, Tick}
-use Rattle.sacn_edge.specs.Heard.{Heard, Silence, Octets, Fault}
+use Rattle.sacn_edge.specs.Hearings.{Heard, Silence, Octets, Fault}
 use Rattle.sacn_edge.specs.NodeText.{call_at}
 
 abbrev Renewed : ℕ → List Row → Type 0

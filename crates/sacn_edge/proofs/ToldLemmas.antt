@@ -2,7 +2,7 @@
 use Rattle.std.proofs.Common.{◌≡◌, ◌≢◌, ℕ, ◌+◌, ◌≤◌, ◌==◌, false, List, [], ◌∷◌, ◌++◌, ◌∙◌, ap, append_assoc, take, drop, zero, suc, arith, zero-add, suc-add}
 use Rattle.std.proofs.lemmas.List.{take-take}
 use Rattle.std.proofs.lemmas.Bool.Decides.{nat_tests}
-use Rattle.sacn_edge.specs.Told.{Adds}
+use Rattle.sacn_edge.specs.Additions.{Adds}
 
 -- what two calls add, one after the other
 pub Adds-append : {a b c : List ℕ → Type 0} (xs ys : List ℕ) → Adds a b xs → Adds b c ys → Adds a c (xs ++ ys)

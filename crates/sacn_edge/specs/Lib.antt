@@ -1,9 +1,9 @@
-pub mod Told
+pub mod Additions
 pub mod Writers
-pub mod Heard
+pub mod Hearings
 pub mod NodeText
 pub mod PortLines
-pub mod Changing
+pub mod PortChanges
 pub mod NodeRun
 pub mod ConsoleSends
 pub mod MemoryItems

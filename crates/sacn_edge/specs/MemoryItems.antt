@@ -1,7 +1,7 @@
 -- What a link and a clock over memory bring.
 use Rattle.std.specs.Prelude.{◌==◌, ◌-◌, ℕ, zero, suc, ◌+◌, Bool, not, false, List, [], ◌∷◌, ◌++◌, take, slice_get, slice_index, length, min, Option, None, Some, Vec}
 use Rattle.std.specs.declared.alloc.Global.{Global}
-use Rattle.sacn_edge.specs.Heard.{Heard, Silence, Octets, Fault}
+use Rattle.sacn_edge.specs.Hearings.{Heard, Silence, Octets, Fault}
 use Rattle.sacn_edge.specs.declared.memory.Incoming.{Incoming}
 use Rattle.sacn_edge.specs.declared.memory.Incoming.TheVariants.{Nothing, Datagram, Failed}
 

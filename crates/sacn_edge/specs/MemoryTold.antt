@@ -1,6 +1,6 @@
 -- What a link and a clock over memory tell.
 use Rattle.std.specs.Prelude.{◌==◌, ◌||◌, ℕ, List, Option, None, Some, if◌then◌else◌}
-use Rattle.sacn_edge.specs.Heard.{Transcript}
+use Rattle.sacn_edge.specs.Hearings.{Transcript}
 use Rattle.sacn_edge.specs.MemoryItems.{first_heard, answered_from, first_readings}
 use Rattle.sacn_edge.specs.declared.memory.Incoming.{Incoming}
 use Rattle.sacn_edge.specs.declared.memory.MemoryLink.{MemoryLink}

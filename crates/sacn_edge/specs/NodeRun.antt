@@ -2,9 +2,9 @@
 use Rattle.std.specs.Prelude.{◌≡◌, ℕ, ◌<◌, List, [], ◌∷◌, ◌++◌, length, take, count_by, Option}
 use Rattle.sacn_node.specs.Cores.{Node}
 use Rattle.sacn_edge.specs.declared.report.NodeReport.{NodeReport}
-use Rattle.sacn_edge.specs.Told.{Adds, Extends}
-use Rattle.sacn_edge.specs.Heard.{Heard, Transcript, Hears, is_datagram, is_failure}
-use Rattle.sacn_edge.specs.NodeText.{Turn, Line, line_text, lines_after, text_of}
+use Rattle.sacn_edge.specs.Additions.{Adds, Extends}
+use Rattle.sacn_edge.specs.Hearings.{Heard, Transcript, Hears, is_datagram, is_failure}
+use Rattle.sacn_edge.specs.NodeText.{Turn, FrameLine, line_text, lines_after, text_of}
 
 -- the readings and what was heard, in the order of the turns
 abbrev pub readings : List Turn → List ℕ
@@ -30,7 +30,7 @@ report_of ts = record {
 -- a line of the turn t was not written whole: what is written has each line before it, and a proper part of it
 abbrev pub StopsIn : Node → Turn → List Turn → (List ℕ → Type 0) → (List ℕ → Type 0) → Type 0
 StopsIn first t ts old new =
-    (unwritten : List Line) × (l : Line) × (written : List Line) × (k : ℕ)
+    (unwritten : List FrameLine) × (l : FrameLine) × (written : List FrameLine) × (k : ℕ)
     × (lines_after first (t ∷ ts) ≡ unwritten ++ l ∷ (written ++ lines_after first ts))
     × (k < length (line_text l))
     × Adds old new (text_of (written ++ lines_after first ts) ++ take k (line_text l))

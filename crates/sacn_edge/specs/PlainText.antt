@@ -4,8 +4,8 @@ use Rattle.std.specs.Prelude.{◌≡◌, ℕ, ◌<◌, List, [], ◌∷◌, ◌+
 use Rattle.sacn_node.specs.Setup.{Port, port_numbers}
 use Rattle.sacn_node.specs.Calls.{Call, Frame, Answer, Replied, Lost, Shown, after_calls, moment_in_use}
 use Rattle.sacn_node.specs.PlainRule.{plain_rule}
-use Rattle.sacn_edge.specs.Told.{Adds}
-use Rattle.sacn_edge.specs.NodeText.{Turn, Line, call_at, with_frame, line_text, lines_after, text_of, node_text}
+use Rattle.sacn_edge.specs.Additions.{Adds}
+use Rattle.sacn_edge.specs.NodeText.{Turn, FrameLine, call_at, with_frame, line_text, lines_after, text_of, node_text}
 use Rattle.sacn_edge.specs.NodeRun.{StopsIn}
 
 -- the calls, with those that ask for the frames of some ports
@@ -24,14 +24,14 @@ frame_told (Lost count) = None
 frame_told (Shown frame) = frame
 
 -- the lines with those of some ports, whose frames the plain rule answers after some calls
-abbrev pub plain_ports : List Port → ℕ → List ℕ → List Call → List Line → List Line
+abbrev pub plain_ports : List Port → ℕ → List ℕ → List Call → List FrameLine → List FrameLine
 plain_ports ports now [] earlier ls = ls
 plain_ports ports now (p ∷ ps) earlier ls =
     plain_ports ports now ps (Frame now p ∷ earlier)
     (with_frame p (moment_in_use (Frame now p ∷ earlier)) (frame_told (plain_rule ports (Frame now p) earlier)) ls)
 
 -- the lines of some turns, after the calls made before
-abbrev pub plain_lines : List Port → List Call → List Turn → List Line
+abbrev pub plain_lines : List Port → List Call → List Turn → List FrameLine
 plain_lines ports before [] = []
 plain_lines ports before (t ∷ ts) =
     plain_ports ports t.now (port_numbers ports) (call_at t.now t.heard ∷ calls_of (port_numbers ports) before ts) (plain_lines ports before ts)
@@ -47,7 +47,7 @@ LinesAreByThePlainRule = (ports : List Port) (before : List Call) (ts : List Tur
 -- a line of the plain rule for the turn t was not written whole: what is written has each line before it, and a proper part of it
 abbrev pub PlainlyStopsIn : List Port → List Call → Turn → List Turn → (List ℕ → Type 0) → (List ℕ → Type 0) → Type 0
 PlainlyStopsIn ports before t ts old new =
-    (unwritten : List Line) × (l : Line) × (written : List Line) × (k : ℕ)
+    (unwritten : List FrameLine) × (l : FrameLine) × (written : List FrameLine) × (k : ℕ)
     × (plain_lines ports before (t ∷ ts) ≡ unwritten ++ l ∷ (written ++ plain_lines ports before ts))
     × (k < length (line_text l))
     × Adds old new (text_of (written ++ plain_lines ports before ts) ++ take k (line_text l))

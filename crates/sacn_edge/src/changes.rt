@@ -4,7 +4,7 @@ ghost use Rattle.std.specs.List.{list_any};
 ghost use Rattle.sacn_framing.specs.PacketReading.{reading_packet};
 ghost use Rattle.sacn_node.specs.Readings.{reply_to};
 ghost use Rattle.sacn_node.specs.Calls.{step, Take, Tick};
-ghost use Rattle.sacn_edge.specs.Changing.{changes_universe, concerns, Grows, IsTold};
+ghost use Rattle.sacn_edge.specs.PortChanges.{changes_universe, concerns, Grows, IsTold};
 
 use arrayvec::ArrayVec;
 use sacn_node::{MAX_UNIVERSES, NodeCore, NodeTaken};

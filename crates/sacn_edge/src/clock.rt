@@ -1,6 +1,6 @@
 //! Where moments come from.
 ghost use Rattle.std.specs.Prelude.{List, ℕ, [], ◌∷◌, None, Option};
-ghost use Rattle.sacn_edge.specs.Told.{Extends};
+ghost use Rattle.sacn_edge.specs.Additions.{Extends};
 
 /// A clock that reads milliseconds. It may go back.
 pub trait Clock {

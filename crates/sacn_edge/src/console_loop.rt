@@ -1,8 +1,8 @@
 //! The console's loop.
 ghost use Rattle.std.specs.Prelude.{◌≡◌, ◌≤◌, ◌<◌, ◌+◌, ◌-◌, ◌^◌, ◌∷◌, [], List, ℕ, Bool, length, take, is_some, if◌then◌else◌};
 ghost use Rattle.sacn_console.specs.Core.{at, due, after_poll};
-ghost use Rattle.sacn_edge.specs.Told.{Extends};
-ghost use Rattle.sacn_edge.specs.Heard.{Hands};
+ghost use Rattle.sacn_edge.specs.Additions.{Extends};
+ghost use Rattle.sacn_edge.specs.Hearings.{Hands};
 ghost use Rattle.sacn_edge.specs.ConsoleSends.{come, commanded, refusals, sent_at, handed_of, Handed, datagrams, console_sends, core_after, refused_by, in_order, sends_report, counted_send};
 
 use crate::clock::Clock;

@@ -1,7 +1,7 @@
 //! The line of a port's frame.
 ghost use Rattle.std.specs.Prelude.{◌≡◌, ◌+◌, ◌++◌, ◌≤◌, length};
 ghost use Rattle.hex.specs.Hex.{encode_lower};
-ghost use Rattle.sacn_edge.specs.NodeText.{Line, line_text};
+ghost use Rattle.sacn_edge.specs.NodeText.{FrameLine, line_text};
 
 use arrayvec::ArrayVec;
 use itoa::Buffer;

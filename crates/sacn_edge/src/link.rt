@@ -1,6 +1,6 @@
 //! Where datagrams come from and go to.
 ghost use Rattle.std.specs.Prelude.{◌≡◌, List, [], ◌∷◌, None, Option};
-ghost use Rattle.sacn_edge.specs.Heard.{Transcript, heard_of, FitsBuffer, Hears, Hands};
+ghost use Rattle.sacn_edge.specs.Hearings.{Transcript, heard_of, FitsBuffer, Hears, Hands};
 
 /// The octets of the buffer of a receive: a longer datagram is cut.
 pub const BUFFER_OCTETS: usize = 2048;

@@ -2,7 +2,7 @@
 ghost use Rattle.std.specs.Prelude.{◌≡◌, Some, [], map, IfSome};
 ghost use Rattle.std.specs.Option.{option_copied};
 ghost use Rattle.sacn_edge.specs.MemoryItems.{heard_in, fails_at, reading_at};
-ghost use Rattle.sacn_edge.specs.Heard.{heard_of, FitsBuffer};
+ghost use Rattle.sacn_edge.specs.Hearings.{heard_of, FitsBuffer};
 
 use crate::clock::Clock;
 use crate::link::{BUFFER_OCTETS, Link, Received};

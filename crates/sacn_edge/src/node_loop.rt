@@ -3,12 +3,12 @@ ghost use Rattle.std.specs.Prelude.{◌≡◌, ◌≤◌, ◌<◌, ◌+◌, ◌-
 ghost use Rattle.std.specs.List.Sorted.{IsStrictlyIncreasing};
 ghost use Rattle.sacn_node.specs.Setup.{port_numbers};
 ghost use Rattle.sacn_node.specs.Calls.{step};
-ghost use Rattle.sacn_edge.specs.Told.{Adds, Extends};
-ghost use Rattle.sacn_edge.specs.Heard.{Hears, heard_of, is_datagram, is_failure};
+ghost use Rattle.sacn_edge.specs.Additions.{Adds, Extends};
+ghost use Rattle.sacn_edge.specs.Hearings.{Hears, heard_of, is_datagram, is_failure};
 ghost use Rattle.sacn_edge.specs.NodeText.{Turn, call_at, node_after, node_text};
 ghost use Rattle.sacn_edge.specs.NodeRun.{Turned, report_of, StopsIn};
 ghost use Rattle.sacn_edge.specs.PortLines.{unshown};
-ghost use Rattle.sacn_edge.specs.Changing.{Grows, IsTold};
+ghost use Rattle.sacn_edge.specs.PortChanges.{Grows, IsTold};
 
 use crate::changes::Changes;
 use crate::clock::Clock;
@@ -74,9 +74,9 @@ pub fn ports_of(core: &NodeCore) -> ArrayVec<PortShown, MAX_PORTS>
     ensures rising { IsStrictlyIncreasing (port_numbers core.now.ports) }
 {
     let mut ports = ArrayVec::new();
-    for number in core.port_numbers() {
+    for port in core.port_numbers() {
         ports.push(PortShown {
-            number: *number,
+            port: *port,
             last: None,
         });
     }

@@ -1,6 +1,6 @@
 //! A sink of octets.
 ghost use Rattle.std.specs.Prelude.{◌≡◌, ◌<◌, ◌≤◌, ◌==◌, ℕ, List, length, take, Bool, false};
-ghost use Rattle.sacn_edge.specs.Told.{Adds};
+ghost use Rattle.sacn_edge.specs.Additions.{Adds};
 
 /// A sink of octets that takes some from the front of what it is handed, or fails for good.
 pub trait Out {

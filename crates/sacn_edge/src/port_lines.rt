@@ -1,10 +1,10 @@
 //! The lines of a turn.
 ghost use Rattle.std.specs.Prelude.{◌≡◌, false, true, OnOk, OnErr, map, Some};
 ghost use Rattle.sacn_node.specs.Cores.{core_at};
-ghost use Rattle.sacn_edge.specs.Told.{Adds, AddsPart};
+ghost use Rattle.sacn_edge.specs.Additions.{Adds, AddsPart};
 ghost use Rattle.sacn_edge.specs.NodeText.{is_shown};
 ghost use Rattle.sacn_edge.specs.PortLines.{frame_text, with_last, port_text, port_after, ports_text, AreCurrent, FailsAmong};
-ghost use Rattle.sacn_edge.specs.Changing.{IsCurrentBut, AreCurrentBut};
+ghost use Rattle.sacn_edge.specs.PortChanges.{IsCurrentBut, AreCurrentBut};
 
 use crate::changes::Changes;
 use crate::line::line_of;
@@ -17,7 +17,7 @@ use sacn_universe::FRAME_OCTETS;
 #[derive(Clone, Copy, Default)]
 pub struct PortShown {
     /// The port's number.
-    pub number: u8,
+    pub port: u8,
     /// The frame of its latest line; None where none was written.
     pub last: Option<[u8; FRAME_OCTETS]>,
 }
@@ -47,7 +47,7 @@ fn show_frame<O: Out>(
     if is_shown(&shown.last, frame) {
         return Ok(());
     }
-    let line = line_of(shown.number, moment, frame);
+    let line = line_of(shown.port, moment, frame);
     write_text(out, line.as_slice())?;
     shown.last = Some(*frame);
     Ok(())
@@ -67,7 +67,7 @@ fn show_port<O: Out>(
     ensures err { OnErr result ((O.failed out.new ≡ true) × AddsPart (O.Tells out.old) (O.Tells out.new) (port_text core.old shown.old)) }
 {
     let mut frame = [0; FRAME_OCTETS];
-    match core.frame(now, shown.number, &mut frame) {
+    match core.frame(now, shown.port, &mut frame) {
         Ok(()) => show_frame(out, shown, core.moment(), &frame),
         Err(NoPort) => Ok(()),
     }
@@ -113,7 +113,7 @@ fn show_changed_port<O: Out>(
     ensures ok { OnOk result ((O.failed out.new ≡ false) × Adds (O.Tells out.old) (O.Tells out.new) (port_text core.old shown.old) × (shown.new ≡ port_after core.old shown.old)) }
     ensures err { OnErr result ((O.failed out.new ≡ true) × AddsPart (O.Tells out.old) (O.Tells out.new) (port_text core.old shown.old)) }
 {
-    if changes.concern(core, shown.number) {
+    if changes.concern(core, shown.port) {
         return show_port(out, core, now, shown);
     }
     Ok(())

@@ -1,6 +1,6 @@
 //! Text written to a sink.
 ghost use Rattle.std.specs.Prelude.{◌≡◌, ◌<◌, ℕ, length, take, true, false, OnOk, OnErr};
-ghost use Rattle.sacn_edge.specs.Told.{Adds};
+ghost use Rattle.sacn_edge.specs.Additions.{Adds};
 
 use crate::out::Out;
 use thiserror::Error;

@@ -121,7 +121,7 @@ pub fn frame_line(
     shown: &PortShown,
     cause: &Cause<'_>,
 ) -> Result<(), AllocError> {
-    let port = shown.number;
+    let port = shown.port;
     match form {
         Form::Text => {
             words::begin(text, now)?;

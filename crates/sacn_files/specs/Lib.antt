@@ -3,6 +3,6 @@ pub mod Document
 pub mod Keys
 pub mod Values
 pub mod Rows
-pub mod Numbered
+pub mod Numbers
 pub mod Words
 pub mod Lines

@@ -1,10 +1,10 @@
 //! Laws of the lists that files have.
 ghost use Rattle.std.specs.Prelude.{◌≡◌, false, map, IsPermutation};
 ghost use Rattle.std.specs.List.Sorted.{IsNonDecreasingBy, IsStrictlyIncreasing};
-ghost use Rattle.sacn_files.specs.Numbered.{in_order, has_repeat};
+ghost use Rattle.sacn_files.specs.Numbers.{in_order, has_repeat};
 ghost use Rattle.sacn_files.specs.declared.limits.TheConstants.{DEFAULT_UDP_PORT, MIN_UDP_PORT, MAX_UDP_PORT};
 
-use crate::numbered::Numbered;
+use crate::numbers::Numbered;
 
 /// Putting items in order keeps them all, and their numbers don't fall; they rise where none stands
 /// twice.

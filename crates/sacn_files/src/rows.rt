@@ -34,13 +34,9 @@ pub fn read_rows<R: ReadRow>(
 {
     let mut found = Vec::new(alloc);
     for row in rows {
-        match reader.read(alloc, row) {
-            Ok(Some(item)) => match found.push(item) {
-                Ok(()) => {}
-                Err(_) => return Err(AllocError),
-            },
-            Ok(None) => return Ok(None),
-            Err(error) => return Err(error),
+        match reader.read(alloc, row)? {
+            Some(item) => found.push(item)?,
+            None => return Ok(None),
         }
     }
     Ok(Some(found))

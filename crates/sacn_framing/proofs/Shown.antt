@@ -3,7 +3,7 @@ use Rattle.std.proofs.Common.{◌≡◌, ℕ, ◌+◌, ◌-◌, ◌≤◌, ◌%�
 use Rattle.std.proofs.lemmas.Bool.{leb-true, eqb-true}
 use Rattle.std.proofs.lemmas.List.{length-take, length-drop}
 use Rattle.sacn_root.specs.declared.fault.PacketFault.{PacketFault}
-use Rattle.sacn_root.specs.Check.{◌>>=◌}
+use Rattle.sacn_universe.specs.Results.{◌>>=◌}
 use Rattle.sacn_root.specs.Octets.{number16_at, length_of}
 use Rattle.sacn_root.specs.RootText.{Root, ReadsRoot}
 use Rattle.sacn_root.specs.RootReading.{root_checks, root_at}

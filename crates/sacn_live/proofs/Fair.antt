@@ -4,7 +4,7 @@ use Rattle.std.specs.List.{list_any}
 use Rattle.std.specs.Option.{option_map}
 use Rattle.std.proofs.lemmas.List.Sums.{sum_by-append}
 use Rattle.sacn_framing.specs.Data.{Data}
-use Rattle.sacn_console.specs.declared.line.Line.{Line}
+use Rattle.sacn_console.specs.declared.line.UniverseLine.{UniverseLine}
 use Rattle.sacn_console.specs.Lights.{Lights, lights_at}
 use Rattle.sacn_console.specs.Lines.{Page, Datagram, Packet, Paged, Gave, line_due, line_after, line_sent}
 use Rattle.sacn_console.specs.Core.{Core, at, due, due_by, given, after, line_found, page_due, packet_of, packet_with}
@@ -54,30 +54,30 @@ or_true true = refl
 or_true false = refl
 
 -- a list that begins with x, of which the rest is found due or not
-module _ (u : ℕ) (p : Line → Bool) (x : Line) (xs : List Line) where
-  found_first : (l : Line) (b : Bool) → (l.universe == u) ≡ true → cond b (Some x) (find p xs) ≡ Some l → (find p xs ≡ Some l → list_any (λ (y : Line). (y.universe == u) && p y) xs ≡ true)
-      → (((x.universe == u) && b) || list_any (λ (y : Line). (y.universe == u) && p y) xs) ≡ true
+module _ (u : ℕ) (p : UniverseLine → Bool) (x : UniverseLine) (xs : List UniverseLine) where
+  found_first : (l : UniverseLine) (b : Bool) → (l.universe == u) ≡ true → cond b (Some x) (find p xs) ≡ Some l → (find p xs ≡ Some l → list_any (λ (y : UniverseLine). (y.universe == u) && p y) xs ≡ true)
+      → (((x.universe == u) && b) || list_any (λ (y : UniverseLine). (y.universe == u) && p y) xs) ≡ true
   found_first l true is same more =
-      let yes : (x.universe == u) ≡ true = ap (λ (y : Line). y.universe == u) (some_is x l same) ∙ is in
-      ap (λ b. (b && true) || list_any (λ (y : Line). (y.universe == u) && p y) xs) yes
+      let yes : (x.universe == u) ≡ true = ap (λ (y : UniverseLine). y.universe == u) (some_is x l same) ∙ is in
+      ap (λ b. (b && true) || list_any (λ (y : UniverseLine). (y.universe == u) && p y) xs) yes
   found_first l false is found more = ap (λ b. ((x.universe == u) && false) || b) (more found) ∙ or_true ((x.universe == u) && false)
 
-  none_first : (b : Bool) → cond b (Some x) (find p xs) ≡ None → (find p xs ≡ None → list_any (λ (y : Line). (y.universe == u) && p y) xs ≡ false)
-      → (((x.universe == u) && b) || list_any (λ (y : Line). (y.universe == u) && p y) xs) ≡ false
+  none_first : (b : Bool) → cond b (Some x) (find p xs) ≡ None → (find p xs ≡ None → list_any (λ (y : UniverseLine). (y.universe == u) && p y) xs ≡ false)
+      → (((x.universe == u) && b) || list_any (λ (y : UniverseLine). (y.universe == u) && p y) xs) ≡ false
   none_first true some more = absurd (cc)
-  none_first false none more = ap (λ b. b || list_any (λ (y : Line). (y.universe == u) && p y) xs) (and_false (x.universe == u)) ∙ more none
+  none_first false none more = ap (λ b. b || list_any (λ (y : UniverseLine). (y.universe == u) && p y) xs) (and_false (x.universe == u)) ∙ more none
 
-found_any : (u : ℕ) (p : Line → Bool) (l : Line) (xs : List Line) → (l.universe == u) ≡ true → find p xs ≡ Some l → list_any (λ (x : Line). (x.universe == u) && p x) xs ≡ true
+found_any : (u : ℕ) (p : UniverseLine → Bool) (l : UniverseLine) (xs : List UniverseLine) → (l.universe == u) ≡ true → find p xs ≡ Some l → list_any (λ (x : UniverseLine). (x.universe == u) && p x) xs ≡ true
 found_any u p l [] is e = absurd (cc)
 found_any u p l (x ∷ xs) is e = found_first u p x xs l (p x) is e (found_any u p l xs is)
 
-none_any : (u : ℕ) (p : Line → Bool) (xs : List Line) → find p xs ≡ None → list_any (λ (x : Line). (x.universe == u) && p x) xs ≡ false
+none_any : (u : ℕ) (p : UniverseLine → Bool) (xs : List UniverseLine) → find p xs ≡ None → list_any (λ (x : UniverseLine). (x.universe == u) && p x) xs ≡ false
 none_any u p [] e = refl
 none_any u p (x ∷ xs) e = none_first u p x xs (p x) e (none_any u p xs)
 
 -- ---- one line
 
-abbrev due_on : ℕ → Lights → ℕ → Line → Bool
+abbrev due_on : ℕ → Lights → ℕ → UniverseLine → Bool
 due_on u p m l = (l.universe == u) && line_due p m l
 
 not_passed : (m : ℕ) → nat_le 25 (m - m) ≡ false
@@ -87,11 +87,11 @@ pub equal : (a b : ℕ) → (a == b) ≡ true → a ≡ b
 equal a b e = grind arith
 
 -- after its packet a line isn't due at that moment
-pub sent_rests : (p : Lights) (m : ℕ) (f : List ℕ) (l : Line) → line_due p m (line_sent m f l) ≡ false
+pub sent_rests : (p : Lights) (m : ℕ) (f : List ℕ) (l : UniverseLine) → line_due p m (line_sent m f l) ≡ false
 unfolding line_due line_sent
 sent_rests p m f l = rw (not_passed m) refl
 
-module _ (u m : ℕ) (p : Lights) (d : Data) (l : Line) where
+module _ (u m : ℕ) (p : Lights) (d : Data) (l : UniverseLine) where
   -- after a packet on its universe
   rests : d.universe ≡ u → due_on u p m (line_after (Gave m (Packet d)) l) ≡ false
   unfolding line_after
@@ -121,11 +121,11 @@ paged u c (Some q) =
     zero-add (one_if (has_due u (given (Some (Paged q)) c)))
     ∙ ap one_if (any_map (due_on u c.lights c.moment) (line_after (Gave c.moment (Paged q))) c.lines (λ l. refl))
 
-sent_universe : (c : Core) (l : Line) → (packet_of c.sender c.lights c.moment l).universe ≡ l.universe
+sent_universe : (c : Core) (l : UniverseLine) → (packet_of c.sender c.lights c.moment l).universe ≡ l.universe
 unfolding packet_with
 sent_universe c l = refl
 
-packed : (u : ℕ) (c : Core) (l : Line) → line_found c ≡ Some l → packets_on u (listed (due_by c (Some l))) + one_if (has_due u (given (due_by c (Some l)) c)) ≡ one_if (has_due u c)
+packed : (u : ℕ) (c : Core) (l : UniverseLine) → line_found c ≡ Some l → packets_on u (listed (due_by c (Some l))) + one_if (has_due u (given (due_by c (Some l)) c)) ≡ one_if (has_due u c)
 unfolding line_found after
 packed u c l found = by_universe (d.universe == u) refl
   where
@@ -151,7 +151,7 @@ pub one_poll : (u : ℕ) (c : Core) → packets_on u (listed (due c)) + one_if (
 unfolding due
 one_poll u c = by_line (line_found c) refl
   where
-    by_line : (o : Option Line) → line_found c ≡ o → packets_on u (listed (due_by c o)) + one_if (has_due u (given (due_by c o) c)) ≡ one_if (has_due u c)
+    by_line : (o : Option UniverseLine) → line_found c ≡ o → packets_on u (listed (due_by c o)) + one_if (has_due u (given (due_by c o) c)) ≡ one_if (has_due u c)
     by_line None e = paged u c (page_due c)
     by_line (Some l) e = packed u c l e
 
@@ -160,7 +160,7 @@ pub quiet : (u : ℕ) (c : Core) → due c ≡ None → has_due u c ≡ false
 unfolding due line_found
 quiet u c none = by_line (line_found c) refl none
   where
-    by_line : (o : Option Line) → line_found c ≡ o → due_by c o ≡ None → has_due u c ≡ false
+    by_line : (o : Option UniverseLine) → line_found c ≡ o → due_by c o ≡ None → has_due u c ≡ false
     by_line None e none = none_any u (line_due c.lights c.moment) c.lines e
     by_line (Some l) e none = absurd (cc)
 

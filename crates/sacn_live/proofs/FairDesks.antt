@@ -5,7 +5,7 @@ use Rattle.std.proofs.lemmas.List.{length-map}
 use Rattle.sacn_discovery.specs.Pages.{page_count}
 use Rattle.sacn_console.specs.declared.command.Command.{Command}
 use Rattle.sacn_console.specs.declared.command.ConsoleFault.{ConsoleFault}
-use Rattle.sacn_console.specs.declared.line.Line.{Line}
+use Rattle.sacn_console.specs.declared.line.UniverseLine.{UniverseLine}
 use Rattle.sacn_console.specs.declared.line.Begun.{Begun}
 use Rattle.sacn_console.specs.Shows.{ShowContent}
 use Rattle.sacn_console.specs.Due.{life_of}
@@ -72,7 +72,7 @@ module _ (n : ℕ) where
         listed_next (p.page == 0) p.list c.listed (page_lists c.moment (standing c.lines) c.listed c.cycle p (most (length (standing c.lines)) (length c.lines) n (few_standing c.lines) few.0) few.1 e) few.1,
       )
 
-      by_line : (o : Option Line) → IsOf (given (due_by c o) c)
+      by_line : (o : Option UniverseLine) → IsOf (given (due_by c o) c)
       by_line None = by_page (page_due c) refl
       by_line (Some l) = (lines_few (due_by c (Some l)), few.1)
 

@@ -4,7 +4,7 @@ use Rattle.std.specs.Option.{option_map}
 use Rattle.std.proofs.lemmas.List.{length-map}
 use Rattle.sacn_discovery.specs.Pages.{page_count}
 use Rattle.sacn_framing.specs.Data.{Data}
-use Rattle.sacn_console.specs.declared.line.Line.{Line}
+use Rattle.sacn_console.specs.declared.line.UniverseLine.{UniverseLine}
 use Rattle.sacn_console.specs.declared.line.Begun.{Begun}
 use Rattle.sacn_console.specs.Lights.{Lights}
 use Rattle.sacn_console.specs.Lines.{Page, Datagram, Packet, Paged, Gave, line_due, line_after, line_sent, is_stopped}
@@ -16,7 +16,7 @@ use Rattle.sacn_live.proofs.Fair.{one_if, at_given, equal, some_is, sent_rests}
 
 -- ---- lines
 
-due_lines : Lights → ℕ → List Line → ℕ
+due_lines : Lights → ℕ → List UniverseLine → ℕ
 due_lines p m [] = 0
 due_lines p m (x ∷ xs) = one_if (line_due p m x) + due_lines p m xs
 
@@ -24,16 +24,16 @@ one_small : (b : Bool) → one_if b ≤ 1
 one_small true = omega arith
 one_small false = omega arith
 
-few_lines : (p : Lights) (m : ℕ) (xs : List Line) → due_lines p m xs ≤ length xs
+few_lines : (p : Lights) (m : ℕ) (xs : List UniverseLine) → due_lines p m xs ≤ length xs
 unfolding due_lines
 few_lines p m [] = omega arith
 few_lines p m (x ∷ xs) = omega (arith, one_small (line_due p m x), few_lines p m xs)
 
 module _ (p : Lights) (m : ℕ) (d : Data) where
-  abbrev sent : Line → Line
+  abbrev sent : UniverseLine → UniverseLine
   sent x = line_after (Gave m (Packet d)) x
 
-  no_more : (x : Line) → one_if (line_due p m (sent x)) ≤ one_if (line_due p m x)
+  no_more : (x : UniverseLine) → one_if (line_due p m (sent x)) ≤ one_if (line_due p m x)
   unfolding line_after
   no_more x = by_line (x.universe == d.universe)
     where
@@ -41,16 +41,16 @@ module _ (p : Lights) (m : ℕ) (d : Data) where
       by_line true = omega (arith, ap one_if (sent_rests p m d.slots x))
       by_line false = omega arith
 
-  rests_now : (x : Line) → (x.universe == d.universe) ≡ true → one_if (line_due p m (sent x)) ≡ 0
+  rests_now : (x : UniverseLine) → (x.universe == d.universe) ≡ true → one_if (line_due p m (sent x)) ≡ 0
   unfolding line_after
   rests_now x is = ap (λ b. one_if (line_due p m (if b then line_sent m d.slots x else x))) is ∙ ap one_if (sent_rests p m d.slots x)
 
-  none_more : (xs : List Line) → due_lines p m (map sent xs) ≤ due_lines p m xs
+  none_more : (xs : List UniverseLine) → due_lines p m (map sent xs) ≤ due_lines p m xs
   unfolding due_lines
   none_more [] = omega arith
   none_more (x ∷ xs) = omega (arith, no_more x, none_more xs)
 
-  one_less : (l : Line) (xs : List Line) → (l.universe == d.universe) ≡ true → find (line_due p m) xs ≡ Some l → suc (due_lines p m (map sent xs)) ≤ due_lines p m xs
+  one_less : (l : UniverseLine) (xs : List UniverseLine) → (l.universe == d.universe) ≡ true → find (line_due p m) xs ≡ Some l → suc (due_lines p m (map sent xs)) ≤ due_lines p m xs
   unfolding due_lines
   one_less l [] is found = absurd (cc)
   one_less l (x ∷ xs) is found = by_first (line_due p m x) refl found (one_less l xs is)
@@ -58,7 +58,7 @@ module _ (p : Lights) (m : ℕ) (d : Data) where
       by_first : (b : Bool) → line_due p m x ≡ b → cond b (Some x) (find (line_due p m) xs) ≡ Some l → (find (line_due p m) xs ≡ Some l → suc (due_lines p m (map sent xs)) ≤ due_lines p m xs)
           → suc (one_if (line_due p m (sent x)) + due_lines p m (map sent xs)) ≤ one_if (line_due p m x) + due_lines p m xs
       by_first true e same more =
-          let on : (x.universe == d.universe) ≡ true = ap (λ (y : Line). y.universe == d.universe) (some_is x l same) ∙ is in
+          let on : (x.universe == d.universe) ≡ true = ap (λ (y : UniverseLine). y.universe == d.universe) (some_is x l same) ∙ is in
           omega (arith, rests_now x on, ap one_if e, none_more xs)
       by_first false e found more = omega (arith, no_more x, ap one_if e, more found)
 
@@ -70,12 +70,12 @@ more_pages zero (suc b) le = page_counted (suc b)
 more_pages (suc a) zero le = absurd (omega (arith, le))
 more_pages (suc a) (suc b) le = grind (arith, le)
 
-pub few_standing : (xs : List Line) → length (standing xs) ≤ length xs
+pub few_standing : (xs : List UniverseLine) → length (standing xs) ≤ length xs
 unfolding standing
 few_standing [] = omega arith
 few_standing (x ∷ xs) = by_state (not (is_stopped x.state)) (few_standing xs)
   where
-    by_state : (b : Bool) → length (standing xs) ≤ length xs → length (map (λ (l : Line). l.universe) (cond b (x ∷ filter (λ (l : Line). not (is_stopped l.state)) xs) (filter (λ (l : Line). not (is_stopped l.state)) xs))) ≤ suc (length xs)
+    by_state : (b : Bool) → length (standing xs) ≤ length xs → length (map (λ (l : UniverseLine). l.universe) (cond b (x ∷ filter (λ (l : UniverseLine). not (is_stopped l.state)) xs) (filter (λ (l : UniverseLine). not (is_stopped l.state)) xs))) ≤ suc (length xs)
     by_state true le = omega (arith, le)
     by_state false le = omega (arith, le)
 
@@ -115,7 +115,7 @@ first_leaves k m all le =
 abbrev left : ℕ → Core → ℕ
 left k c = due_lines c.lights c.moment c.lines + pages_left k c.moment c.listed c.cycle
 
-same_lines : (p : Lights) (m : ℕ) (q : Page) (xs : List Line) → due_lines p m (map (line_after (Gave m (Paged q))) xs) ≡ due_lines p m xs
+same_lines : (p : Lights) (m : ℕ) (q : Page) (xs : List UniverseLine) → due_lines p m (map (line_after (Gave m (Paged q))) xs) ≡ due_lines p m xs
 unfolding due_lines line_after
 same_lines p m q [] = refl
 same_lines p m q (x ∷ xs) = ap (λ n. one_if (line_due p m x) + n) (same_lines p m q xs)
@@ -184,7 +184,7 @@ poll_leaves k c d le is = by_line (line_found c) refl is
       page_leaves k c.moment (standing c.lines) c.listed (most (page_count (length (standing c.lines))) (page_count (length c.lines)) k (more_pages (length (standing c.lines)) (length c.lines) (few_standing c.lines)) le) c.cycle q e,
     )
 
-    by_line : (o : Option Line) → line_found c ≡ o → due_by c o ≡ Some d → suc (left k (given (due_by c o) c)) ≤ left k c
+    by_line : (o : Option UniverseLine) → line_found c ≡ o → due_by c o ≡ Some d → suc (left k (given (due_by c o) c)) ≤ left k c
     by_line None e some = by_page (page_due c) refl some
     by_line (Some l) e some = omega (
       arith,

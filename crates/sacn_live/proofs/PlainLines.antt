@@ -4,8 +4,8 @@ use Rattle.sacn_node.specs.Setup.{Port, port_numbers}
 use Rattle.sacn_node.specs.Cores.{Node, core_at}
 use Rattle.sacn_node.specs.Calls.{Call, step, after_calls}
 use Rattle.sacn_node.specs.Laws.{AnswersByThePlainRule, KeepsItsPorts, UsesTheGreatestMoment}
-use Rattle.sacn_edge.specs.Told.{Adds}
-use Rattle.sacn_edge.specs.NodeText.{Turn, Line, call_at, node_after, with_ports, line_text, text_of}
+use Rattle.sacn_edge.specs.Additions.{Adds}
+use Rattle.sacn_edge.specs.NodeText.{Turn, FrameLine, call_at, node_after, with_ports, line_text, text_of}
 use Rattle.sacn_edge.proofs.Settled.{turn_settled}
 use Rattle.sacn_edge.proofs.PlainTexts.{asked_stays, ports_same}
 use Rattle.sacn_live.specs.Hearings.{Hearing, turns_of, heard_of, emptied_after}
@@ -47,9 +47,9 @@ module _ (ports : List Port) (senders : List (List ℕ)) (before : List Call) wh
       ∙ sym (node_same hs turns)
 
 -- of all lines, one after the earlier ones was not written whole
-abbrev StopsAmong : (List ℕ → Type 0) → (List ℕ → Type 0) → List Line → List Line → Type 0
+abbrev StopsAmong : (List ℕ → Type 0) → (List ℕ → Type 0) → List FrameLine → List FrameLine → Type 0
 StopsAmong old new all earlier =
-    (unwritten : List Line) × (l : Line) × (written : List Line) × (k : ℕ)
+    (unwritten : List FrameLine) × (l : FrameLine) × (written : List FrameLine) × (k : ℕ)
     × (all ≡ unwritten ++ l ∷ (written ++ earlier))
     × (k < length (line_text l))
     × Adds old new (text_of (written ++ earlier) ++ take k (line_text l))
@@ -74,7 +74,7 @@ module _ (answers : AnswersByThePlainRule) (keeps : KeepsItsPorts) (greatest : U
 
   pub stops_same : GatewayStopsByThePlainRule
   stops_same ports senders before hs turns old new whole stops =
-      let earlier : List Line = gateway_lines (after_calls ports before) senders turns in
-      let P : List Line → Type 0 = λ all. StopsAmong (λ xs. xs ≡ old) (λ ys. ys ≡ new) all earlier in
-      let Q : List Line → Type 0 = λ ls. StopsAmong (λ xs. xs ≡ old) (λ ys. ys ≡ new) (plain_lines ports senders before (hs ∷ turns)) ls in
+      let earlier : List FrameLine = gateway_lines (after_calls ports before) senders turns in
+      let P : List FrameLine → Type 0 = λ all. StopsAmong (λ xs. xs ≡ old) (λ ys. ys ≡ new) all earlier in
+      let Q : List FrameLine → Type 0 = λ ls. StopsAmong (λ xs. xs ≡ old) (λ ys. ys ≡ new) (plain_lines ports senders before (hs ∷ turns)) ls in
       subst Q (lines_same ports senders before turns whole.1) (subst P (lines_same ports senders before (hs ∷ turns) whole) stops)

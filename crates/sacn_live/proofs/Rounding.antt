@@ -6,7 +6,7 @@ use Rattle.sacn_console.specs.declared.command.Command.{Command}
 use Rattle.sacn_console.specs.Lines.{Datagram}
 use Rattle.sacn_console.specs.Core.{Core, at, after_poll, given as given_by, due}
 use Rattle.sacn_edge.specs.declared.report.ConsoleReport.{ConsoleReport}
-use Rattle.sacn_edge.specs.Told.{Extends}
+use Rattle.sacn_edge.specs.Additions.{Extends}
 use Rattle.sacn_edge.specs.ConsoleSends.{Handed, datagrams, sent_at, handed_of, counted_send, sends_report}
 use Rattle.sacn_edge.proofs.NodeLemmas.{Extends-append}
 use Rattle.sacn_edge.proofs.ConsoleLemmas.{datagrams_more, counted_more}

@@ -3,7 +3,7 @@ use Rattle.std.proofs.Common.{◌≡◌, ℕ, List, [], ◌∷◌, ◌++◌, len
 use Rattle.sacn_node.specs.Setup.{port_numbers}
 use Rattle.sacn_node.specs.Cores.{Node}
 use Rattle.sacn_edge.specs.declared.port_lines.PortShown.{PortShown}
-use Rattle.sacn_edge.specs.Told.{Adds, Extends}
+use Rattle.sacn_edge.specs.Additions.{Adds, Extends}
 use Rattle.sacn_edge.specs.NodeText.{with_ports, node_after, text_of}
 use Rattle.sacn_edge.specs.PortLines.{port_after, ports_text, FailsAmong}
 use Rattle.sacn_edge.proofs.ToldLemmas.{Adds-append}

@@ -1,8 +1,8 @@
 -- What a run of a gateway hears, and where it ends. Lists of turns, hearings and lines have the latest first.
 use Rattle.std.specs.Prelude.{◌≡◌, ℕ, ◌<◌, ◌≤◌, ⊤, Bool, true, List, [], ◌∷◌, ◌++◌, length, take}
 use Rattle.sacn_node.specs.Cores.{Node}
-use Rattle.sacn_edge.specs.Told.{Adds}
-use Rattle.sacn_edge.specs.NodeText.{Line, line_text, text_of}
+use Rattle.sacn_edge.specs.Additions.{Adds}
+use Rattle.sacn_edge.specs.NodeText.{FrameLine, line_text, text_of}
 use Rattle.sacn_live.specs.Hearings.{Hearing, in_order, is_datagram}
 use Rattle.sacn_live.specs.GatewayText.{gateway_lines}
 use Rattle.sacn_live.specs.declared.limits.TheConstants.{MAX_BURST}
@@ -42,7 +42,7 @@ IsRun turns until (hs ∷ earlier) =
 -- a line of the turn hs was not written whole: what is written has each line before it, and a proper part of it
 abbrev pub StopsIn : Node → List (List ℕ) → List Hearing → List (List Hearing) → (List ℕ → Type 0) → (List ℕ → Type 0) → Type 0
 StopsIn first senders hs turns old new =
-    (unwritten : List Line) × (l : Line) × (written : List Line) × (k : ℕ)
+    (unwritten : List FrameLine) × (l : FrameLine) × (written : List FrameLine) × (k : ℕ)
     × (gateway_lines first senders (hs ∷ turns) ≡ unwritten ++ l ∷ (written ++ gateway_lines first senders turns))
     × (k < length (line_text l))
     × Adds old new (text_of (written ++ gateway_lines first senders turns) ++ take k (line_text l))

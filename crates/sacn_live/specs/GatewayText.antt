@@ -2,7 +2,7 @@
 use Rattle.std.specs.Prelude.{ℕ, List, [], ◌∷◌}
 use Rattle.sacn_node.specs.Setup.{port_numbers}
 use Rattle.sacn_node.specs.Cores.{Node}
-use Rattle.sacn_edge.specs.NodeText.{Line, node_after, with_ports, text_of}
+use Rattle.sacn_edge.specs.NodeText.{FrameLine, node_after, with_ports, text_of}
 use Rattle.sacn_live.specs.Hearings.{Hearing, turns_of, emptied_after}
 
 -- a node, and the latest reading at which nothing was waiting for it
@@ -23,7 +23,7 @@ gateway_after first senders [] = record { node = first; emptied = 0 }
 gateway_after first senders (hs ∷ turns) = gate_after senders hs (gateway_after first senders turns)
 
 -- the lines: once what a turn heard is with the node, for each port in ascending number whose frame isn't that of its latest line
-abbrev pub gateway_lines : Node → List (List ℕ) → List (List Hearing) → List Line
+abbrev pub gateway_lines : Node → List (List ℕ) → List (List Hearing) → List FrameLine
 gateway_lines first senders [] = []
 gateway_lines first senders (hs ∷ turns) =
     with_ports (gateway_after first senders (hs ∷ turns)).node (port_numbers first.ports) (gateway_lines first senders turns)

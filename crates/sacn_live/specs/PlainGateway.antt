@@ -3,8 +3,8 @@
 use Rattle.std.specs.Prelude.{◌≡◌, ℕ, ◌<◌, List, [], ◌∷◌, ◌++◌, length, take}
 use Rattle.sacn_node.specs.Setup.{Port, port_numbers}
 use Rattle.sacn_node.specs.Calls.{Call, after_calls}
-use Rattle.sacn_edge.specs.Told.{Adds}
-use Rattle.sacn_edge.specs.NodeText.{Turn, Line, call_at, line_text, text_of}
+use Rattle.sacn_edge.specs.Additions.{Adds}
+use Rattle.sacn_edge.specs.NodeText.{Turn, FrameLine, call_at, line_text, text_of}
 use Rattle.sacn_edge.specs.PlainText.{asked, plain_ports}
 use Rattle.sacn_live.specs.Hearings.{Hearing, turns_of, emptied_after}
 use Rattle.sacn_live.specs.GatewayText.{gateway_lines, gateway_text}
@@ -27,7 +27,7 @@ calls_of ports senders before (hs ∷ turns) =
     asked (latest_reading hs) (port_numbers ports) (with_calls (turns_of senders (emptied_at turns) hs) (calls_of ports senders before turns))
 
 -- the lines of some turns, after the calls made before
-abbrev pub plain_lines : List Port → List (List ℕ) → List Call → List (List Hearing) → List Line
+abbrev pub plain_lines : List Port → List (List ℕ) → List Call → List (List Hearing) → List FrameLine
 plain_lines ports senders before [] = []
 plain_lines ports senders before (hs ∷ turns) =
     plain_ports ports (latest_reading hs) (port_numbers ports)
@@ -49,7 +49,7 @@ GatewayTextIsByThePlainRule =
 -- a line of the plain rule for the turn hs was not written whole: what is written has each line before it, and a proper part of it
 abbrev pub PlainlyStopsIn : List Port → List (List ℕ) → List Call → List Hearing → List (List Hearing) → (List ℕ → Type 0) → (List ℕ → Type 0) → Type 0
 PlainlyStopsIn ports senders before hs turns old new =
-    (unwritten : List Line) × (l : Line) × (written : List Line) × (k : ℕ)
+    (unwritten : List FrameLine) × (l : FrameLine) × (written : List FrameLine) × (k : ℕ)
     × (plain_lines ports senders before (hs ∷ turns) ≡ unwritten ++ l ∷ (written ++ plain_lines ports senders before turns))
     × (k < length (line_text l))
     × Adds old new (text_of (written ++ plain_lines ports senders before turns) ++ take k (line_text l))

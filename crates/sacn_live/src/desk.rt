@@ -2,8 +2,8 @@
 ghost use Rattle.std.specs.Prelude.{◌≡◌, ◌≤◌, ◌<◌, ◌+◌, ◌-◌, ◌^◌, ◌++◌, ◌∷◌, [], List, ℕ, Bool, length, None, is_ok, if◌then◌else◌};
 ghost use Rattle.sacn_console.specs.Core.{due, at, answer, after_command};
 ghost use Rattle.sacn_console.specs.declared.command.Command.{Command as Order};
-ghost use Rattle.sacn_edge.specs.Told.{Extends};
-ghost use Rattle.sacn_edge.specs.Heard.{Hands};
+ghost use Rattle.sacn_edge.specs.Additions.{Extends};
+ghost use Rattle.sacn_edge.specs.Hearings.{Hands};
 ghost use Rattle.sacn_edge.specs.ConsoleSends.{Handed, datagrams, sends_report};
 ghost use Rattle.sacn_live.specs.declared.limits.TheConstants.{IDLE_WAIT, MAX_POLLS, MAX_ROUNDS, MAX_ORDERS};
 ghost use Rattle.sacn_live.specs.DeskSends.{Round, Answered, ordered, polled, sends, given, asked_last, refusals, desk_after, desk_sends, desk_refusals, talk, readings, AreQuiet};

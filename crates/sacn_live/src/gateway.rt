@@ -1,9 +1,9 @@
 //! The gateway's loop.
 ghost use Rattle.std.specs.Prelude.{◌≡◌, ℕ, ◌≤◌, ◌<◌, ◌+◌, ◌∷◌, [], List, length, false, true, OnOk, OnErr};
 ghost use Rattle.sacn_node.specs.Cores.{core_at, core_lost};
-ghost use Rattle.sacn_edge.specs.Told.{Adds, Extends};
+ghost use Rattle.sacn_edge.specs.Additions.{Adds, Extends};
 ghost use Rattle.sacn_edge.specs.NodeText.{node_after};
-ghost use Rattle.sacn_edge.specs.Changing.{Grows, IsTold};
+ghost use Rattle.sacn_edge.specs.PortChanges.{Grows, IsTold};
 ghost use Rattle.sacn_live.specs.Hearings.{Hearing, turns_of, emptied_after, in_order};
 ghost use Rattle.sacn_live.specs.GatewayText.{gateway_after, gateway_text};
 ghost use Rattle.sacn_live.specs.declared.limits.TheConstants.{LONGEST_WAIT};

@@ -2,9 +2,9 @@
 ghost use Rattle.std.specs.Prelude.{◌≡◌, ◌≤◌, ◌||◌, not, [], ◌∷◌, map, is_some};
 ghost use Rattle.std.specs.List.{list_any};
 ghost use Rattle.sacn_node.specs.Calls.{step};
-ghost use Rattle.sacn_edge.specs.Told.{Extends};
+ghost use Rattle.sacn_edge.specs.Additions.{Extends};
 ghost use Rattle.sacn_edge.specs.NodeText.{call_at, same};
-ghost use Rattle.sacn_edge.specs.Changing.{Grows, IsTold};
+ghost use Rattle.sacn_edge.specs.PortChanges.{Grows, IsTold};
 ghost use Rattle.sacn_live.specs.Hearings.{hearing_in, From, came_of, is_admitted, is_late, is_datagram, heard_of, emptied_with};
 
 use crate::limits::LATE_AFTER;

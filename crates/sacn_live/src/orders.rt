@@ -1,6 +1,6 @@
 //! Where a desk's orders come from.
 ghost use Rattle.std.specs.Prelude.{◌≡◌, List, [], ◌∷◌, None, Option};
-ghost use Rattle.sacn_edge.specs.Told.{Extends};
+ghost use Rattle.sacn_edge.specs.Additions.{Extends};
 ghost use Rattle.sacn_live.specs.DeskSends.{Talk, Asked, Answered};
 
 use sacn_console::{Command, ConsoleCore, ConsoleFault};

@@ -1,6 +1,6 @@
 //! Where a gateway's datagrams come from.
 ghost use Rattle.std.specs.Prelude.{◌≡◌, List, [], ◌∷◌, None, Option};
-ghost use Rattle.sacn_edge.specs.Told.{Extends};
+ghost use Rattle.sacn_edge.specs.Additions.{Extends};
 ghost use Rattle.sacn_live.specs.Hearings.{Hearing, hearing_of, FitsBuffer};
 
 use sacn_edge::BUFFER_OCTETS;

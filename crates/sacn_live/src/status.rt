@@ -1,10 +1,10 @@
 //! The state of a desk, in a line.
-use sacn_console::{ConsoleCore, Line, State};
+use sacn_console::{ConsoleCore, State, UniverseLine};
 use sacn_edge::ConsoleReport;
 use std::io::{self, Write};
 
 /// Whether all universes have stopped.
-pub(crate) fn have_stopped(lines: &[Line]) -> bool {
+pub(crate) fn have_stopped(lines: &[UniverseLine]) -> bool {
     lines
         .iter()
         .all(|line| matches!(line.state, State::Stopped))

@@ -67,7 +67,7 @@ impl<'a> Widget<'a> {
     /// earlier. A device that fails is closed and opened again, at most once a second; each other fault of it is said on this output.
     pub fn show<E: Write>(&mut self, now: u64, ports: &[PortShown], err: &mut E) {
         let port = self.port;
-        let Some(shown) = ports.iter().find(|shown| shown.number == port) else {
+        let Some(shown) = ports.iter().find(|shown| shown.port == port) else {
             return;
         };
         let Some(frame) = shown.last else {

@@ -1,22 +1,22 @@
 -- The steps of a node, over every history, beside the plain rule: on each universe they are the steps of one table, on the
 -- calls that reach it.
 use Rattle.std.proofs.Common.{◌≡◌, ℕ, ◌<◌, ◌==◌, max, Bool, true, false, cond, ◌||◌, List, [], ◌∷◌, map, Option, Some, None, Ok, Err, refl, sym, ap, subst, ◌∙◌, arith, eqb-true}
-use Rattle.std.specs.List.{list_any}
+use Rattle.std.specs.List.{list_any, AllByRecursion}
 use Rattle.std.proofs.lemmas.Bool.Decides.{nat_tests}
 use Rattle.sacn_framing.specs.PacketReading.{reading_packet}
 use Rattle.sacn_framing.specs.declared.packet.Packet.TheVariants.{DataPacket, PagePacket, SyncPacket}
 use Rattle.sacn_sources.specs.Rows.{Row, Packet, rows_kept, take_row}
 use Rattle.sacn_sources.specs.Packets.{packet_of}
-use Rattle.sacn_sources.specs.PlainRule.{Sources, unexpired, source_row, shown_by}
+use Rattle.sacn_sources.specs.PlainRule.{Sources, unexpired}
 use Rattle.sacn_sources.specs.Calls as one
 use Rattle.sacn_sources.specs.PlainRule as plain
 use Rattle.sacn_node.specs.Setup.{Port, universes}
-use Rattle.sacn_node.specs.Seen.{Above, Rise}
+use Rattle.sacn_universe.specs.Universe.{Rising}
 use Rattle.sacn_node.specs.Cores.{Table, Core, new_table, rows_kept_all, table_of, change_rows, core_at}
 use Rattle.sacn_node.specs.Readings.{Reading, after_reading}
 use Rattle.sacn_node.specs.Calls.{Call, Take, Tick, Frame, moment_of, core_step, after_calls, moment_in_use}
 use Rattle.sacn_node.specs.PlainRule.{packet_on, brought, change, held_after}
-use Rattle.sacn_node.proofs.Prepared.{universes_rise, rise_tail}
+use Rattle.sacn_node.proofs.Prepared.{universes_rise}
 
 -- ---- the calls on the table of one universe
 
@@ -120,31 +120,27 @@ module _ (t v : ℕ) (x : Packet) (earlier : List Call) where
   not_above : (u : ℕ) → v < u → (v == u) ≡ false
   not_above u lt = grind (arith, nat_tests)
 
-  others : (us : List ℕ) → Above v us → map (table_by t none earlier) us ≡ map (table_by t for_v earlier) us
+  others : (us : List ℕ) → AllByRecursion (λ u. v < u) us → map (table_by t none earlier) us ≡ map (table_by t for_v earlier) us
   others [] above = refl
   others (u ∷ us) above =
-      ap (λ gs. table_by t none earlier u ∷ gs) (others us (weaker us above.0 above.1))
+      ap (λ gs. table_by t none earlier u ∷ gs) (others us above.1)
       ∙ ap (λ b. by_test u b ∷ map (table_by t for_v earlier) us) (sym (not_above u above.0))
-    where
-      weaker : (us : List ℕ) {u : ℕ} → v < u → Above u us → Above v us
-      weaker [] lt above = tt
-      weaker (w ∷ ws) lt above = (omega (arith, above.0), above.1)
 
-  pub taken_step : (us : List ℕ) → Rise us → change_rows v (take_row x t) (map (table_by t none earlier) us) ≡ map (table_by t for_v earlier) us
+  pub taken_step : (us : List ℕ) → Rising us → change_rows v (take_row x t) (map (table_by t none earlier) us) ≡ map (table_by t for_v earlier) us
   taken_step [] rise = refl
   taken_step (u ∷ us) rise =
       let rest = map (table_by t none earlier) us in
       elim (u == v) as (λ b. (u == v) ≡ b → changed u rest b ≡ by_test u (v == u) ∷ map (table_by t for_v earlier) us) [
         | true ↦ λ is.
-            ap (λ gs. by_test u true ∷ gs) (others us (subst (λ k. Above k us) (eqb-true u v is) rise))
+            ap (λ gs. by_test u true ∷ gs) (others us (subst (λ k. AllByRecursion (λ w. k < w) us) (eqb-true u v is) rise.0))
             ∙ ap (λ b. by_test u b ∷ map (table_by t for_v earlier) us) (sym (turned v u ∙ is))
         | false ↦ λ is.
-            ap (λ gs. by_test u false ∷ gs) (taken_step us (rise_tail u us rise))
+            ap (λ gs. by_test u false ∷ gs) (taken_step us rise.1)
             ∙ ap (λ b. by_test u b ∷ map (table_by t for_v earlier) us) (sym (turned v u ∙ is))
       ] refl
 
 -- what a reading makes of the tables
-module _ (now t : ℕ) (earlier : List Call) (us : List ℕ) (rise : Rise us) where
+module _ (now t : ℕ) (earlier : List Call) (us : List ℕ) (rise : Rising us) where
   abbrev before : Core → Type 0
   before n = (max n.moment now ≡ t) × (n.tables ≡ map (table_on earlier) us)
 

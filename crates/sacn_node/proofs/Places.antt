@@ -10,7 +10,7 @@ use Rattle.std.proofs.lemmas.List.{length-map, get_or-map}
 use Rattle.sacn_sources.specs.Rows.{Row, Packet, take_row}
 use Rattle.sacn_node.specs.declared.tables.OneUniverse.{OneUniverse}
 use Rattle.sacn_node.specs.Cores.{Table, Core, table_of, change_rows, with_taken, core_at, core_after}
-use Rattle.sacn_node.specs.Seen.{seen}
+use Rattle.sacn_node.specs.Storage.{seen}
 use Rattle.sacn_node.proofs.Expired.{kept_in}
 
 other : (a b : ℕ) → a < b → (a == b) ≡ false

@@ -5,12 +5,13 @@ use Rattle.std.proofs.lemmas.Bool.Decides.{nat_tests}
 use Rattle.std.proofs.lemmas.List.{length-map, get_or-map}
 use Rattle.std.proofs.lemmas.Option.{same_Some}
 use Rattle.std.proofs.lemmas.List.Elements.{All-tail}
-use Rattle.sacn_files.specs.Numbered.{placed}
+use Rattle.sacn_universe.specs.Universe.{Rising}
+use Rattle.sacn_files.specs.Numbers.{placed}
 use Rattle.sacn_node.specs.declared.setup.SlotRange.{SlotRange}
 use Rattle.sacn_node.specs.Setup.{Port, Setup, IsSetup, with_universe, universes_after, universes_from, universes}
 use Rattle.sacn_node.specs.Ports.{port_of}
 use Rattle.sacn_node.specs.Cores.{new_core}
-use Rattle.sacn_node.specs.Seen.{Above, Rise, ArePorts, AreTables, seen, new_one}
+use Rattle.sacn_node.specs.Storage.{ArePorts, AreTables, seen, new_one}
 use Rattle.sacn_node.specs.declared.tables.OneUniverse.{OneUniverse}
 use Rattle.sacn_node.specs.declared.limits.TheConstants.{MAX_UNIVERSES}
 
@@ -41,55 +42,54 @@ or_parts : (a b : Bool) → (a || b) ≡ false → (a ≡ false) × (b ≡ false
 or_parts false b h = (refl, h)
 or_parts true b h = let bad : ⊥ = cc in absurd bad
 
-above_put : (lo u : ℕ) (us : List ℕ) → lo < u → list_any (λ v. v == u) us ≡ false → Above lo us → Above lo (put_id u us)
-above_put lo u [] lt new above = (lt, tt)
-above_put lo u (v ∷ vs) lt new above =
-    let parts = or_parts (v == u) (list_any (λ w. w == u) vs) new in
-    subst (Above lo) (sym (put_before u v vs)) (elim (nat_lt u v) as (λ b. nat_lt u v ≡ b → Above lo (put_by u v vs b)) [
-      | true ↦ λ is. (lt, (less_is u v is, above.1))
-      | false ↦ λ is. (above.0, above_put v u vs (more_is u v is parts.0) parts.1 above.1)
-    ] refl)
+above_put : (lo u : ℕ) (us : List ℕ) → lo < u → AllByRecursion (λ v. lo < v) us → AllByRecursion (λ v. lo < v) (put_id u us)
+above_put lo u [] lt above = (lt, tt)
+above_put lo u (v ∷ vs) lt above =
+    subst (AllByRecursion (λ w. lo < w)) (sym (put_before u v vs)) (elim (nat_lt u v) as (λ b. AllByRecursion (λ w. lo < w) (put_by u v vs b)) [
+      | true ↦ (lt, above)
+      | false ↦ (above.0, above_put lo u vs lt above.1)
+    ])
 
-rise_put : (u : ℕ) (us : List ℕ) → list_any (λ v. v == u) us ≡ false → Rise us → Rise (put_id u us)
-rise_put u [] new rise = tt
+above_less : (u v : ℕ) (ws : List ℕ) → u < v → AllByRecursion (λ w. v < w) ws → AllByRecursion (λ w. u < w) ws
+above_less u v [] lt above = tt
+above_less u v (w ∷ ws) lt above = (omega (arith, lt, above.0), above_less u v ws lt above.1)
+
+rise_put : (u : ℕ) (us : List ℕ) → list_any (λ v. v == u) us ≡ false → Rising us → Rising (put_id u us)
+rise_put u [] new rise = (tt, tt)
 rise_put u (v ∷ vs) new rise =
     let parts = or_parts (v == u) (list_any (λ w. w == u) vs) new in
-    subst Rise (sym (put_before u v vs)) (elim (nat_lt u v) as (λ b. nat_lt u v ≡ b → Rise (put_by u v vs b)) [
-      | true ↦ λ is. (less_is u v is, rise)
-      | false ↦ λ is. above_put v u vs (more_is u v is parts.0) parts.1 rise
+    subst Rising (sym (put_before u v vs)) (elim (nat_lt u v) as (λ b. nat_lt u v ≡ b → Rising (put_by u v vs b)) [
+      | true ↦ λ is. ((less_is u v is, above_less u v vs (less_is u v is) rise.0), rise)
+      | false ↦ λ is. (above_put v u vs (more_is u v is parts.0) rise.0, rise_put u vs parts.1 rise.1)
     ] refl)
 
-rise_with : (us : List ℕ) (r : SlotRange) → Rise us → Rise (with_universe us r)
-rise_with us r rise = elim (list_any (λ u. u == r.universe) us) as (λ b. list_any (λ u. u == r.universe) us ≡ b → Rise (cond b us (put_id r.universe us))) [
+rise_with : (us : List ℕ) (r : SlotRange) → Rising us → Rising (with_universe us r)
+rise_with us r rise = elim (list_any (λ u. u == r.universe) us) as (λ b. list_any (λ u. u == r.universe) us ≡ b → Rising (cond b us (put_id r.universe us))) [
   | true ↦ λ is. rise
   | false ↦ λ is. rise_put r.universe us is rise
 ] refl
 
-rise_after : (us : List ℕ) (rs : List SlotRange) → Rise us → Rise (universes_after us rs)
+rise_after : (us : List ℕ) (rs : List SlotRange) → Rising us → Rising (universes_after us rs)
 rise_after us [] rise = rise
 rise_after us (r ∷ rs) rise = rise_after (with_universe us r) rs (rise_with us r rise)
 
-rise_from : (us : List ℕ) (ps : List Port) → Rise us → Rise (universes_from us ps)
+rise_from : (us : List ℕ) (ps : List Port) → Rising us → Rising (universes_from us ps)
 rise_from us [] rise = rise
 rise_from us (p ∷ ps) rise = rise_from (universes_after us p.ranges) ps (rise_after us p.ranges rise)
 
-pub universes_rise : (ps : List Port) → Rise (universes ps)
+pub universes_rise : (ps : List Port) → Rising (universes ps)
 universes_rise ps = rise_from [] ps tt
 
-above_at : (u : ℕ) (vs : List ℕ) → Above u vs → (j d : ℕ) → j < length vs → u < get_or vs j d
+above_at : (u : ℕ) (vs : List ℕ) → AllByRecursion (λ v. u < v) vs → (j d : ℕ) → j < length vs → u < get_or vs j d
 above_at u [] above j d lt = absurd (omega arith)
 above_at u (v ∷ vs) above zero d lt = above.0
-above_at u (v ∷ vs) above (suc j) d lt = let v_below = above_at v vs above.1 j d (omega arith) in omega (arith, above.0, v_below)
+above_at u (v ∷ vs) above (suc j) d lt = above_at u vs above.1 j d (omega arith)
 
-pub rise_tail : (u : ℕ) (vs : List ℕ) → Above u vs → Rise vs
-rise_tail u [] above = tt
-rise_tail u (v ∷ vs) above = above.1
-
-pub pairs_rise : (us : List ℕ) → Rise us → (i j d : ℕ) → i < j → j < length us → get_or us i d < get_or us j d
+pub pairs_rise : (us : List ℕ) → Rising us → (i j d : ℕ) → i < j → j < length us → get_or us i d < get_or us j d
 pairs_rise [] rise i j d lt within = absurd (omega arith)
 pairs_rise (u ∷ us) rise i zero d lt within = absurd (omega arith)
-pairs_rise (u ∷ us) rise zero (suc j) d lt within = above_at u us rise j d (omega arith)
-pairs_rise (u ∷ us) rise (suc i) (suc j) d lt within = pairs_rise us (rise_tail u us rise) i j d (omega arith) (omega arith)
+pairs_rise (u ∷ us) rise zero (suc j) d lt within = above_at u us rise.0 j d (omega arith)
+pairs_rise (u ∷ us) rise (suc i) (suc j) d lt within = pairs_rise us rise.1 i j d (omega arith) (omega arith)
 
 -- ---- the tables of a new node
 
@@ -97,7 +97,7 @@ moments_new : (us : List ℕ) → AllByRecursion (λ (o : OneUniverse). o.table.
 moments_new [] = tt
 moments_new (u ∷ us) = (omega arith, moments_new us)
 
-pub tables_new : (us : List ℕ) → Rise us → length us ≤ MAX_UNIVERSES → AreTables 0 0 (map new_one us)
+pub tables_new : (us : List ℕ) → Rising us → length us ≤ MAX_UNIVERSES → AreTables 0 0 (map new_one us)
 tables_new us rise few = record {
   rising = λ i j d lt within.
       let in_us : j < length us = omega (arith, length-map us new_one) in

@@ -14,14 +14,15 @@ use Rattle.sacn_files.specs.declared.limits.TheConstants.{DEFAULT_UDP_PORT, MIN_
 use Rattle.sacn_files.specs.Values.{number_in, number_at, value_or, array_at, members_or_none}
 use Rattle.sacn_files.specs.Rows.{each}
 use Rattle.sacn_files.specs.Lines.{before}
-use Rattle.sacn_files.specs.Numbered.{has_repeat, in_order}
+use Rattle.sacn_files.specs.Numbers.{has_repeat, in_order}
 use Rattle.sacn_files.proofs.AscentLemmas.{or_parts, in_order_rises, in_order_keeps}
 use Rattle.sacn_node.specs.declared.limits.TheConstants.{MAX_PORTS, MAX_UNIVERSES, MAX_RANGES, MIN_PORT, MAX_PORT}
 use Rattle.sacn_node.specs.declared.setup.SlotRange.{SlotRange}
 use Rattle.sacn_node.specs.declared.setup.fault.SetupFault.{SetupFault}
 use Rattle.sacn_node.specs.declared.setup.fault.SetupFault.TheVariants.{Limit, RangeEnd, Overlap}
 use Rattle.sacn_node.specs.Setup.{Port, port_numbers, universes, passes_end, has_overlap, IsRange, IsPort, Fits, IsSetup}
-use Rattle.sacn_node.specs.SetupReading.{universe_at, slot_at, range_in, whole, ranges_in, ranges_of, port_in, ports_in, udp_port_of, order_fault, required, ◌>>=◌}
+use Rattle.sacn_node.specs.SetupReading.{universe_at, slot_at, range_in, whole, ranges_in, ranges_of, port_in, ports_in, udp_port_of, order_fault, required}
+use Rattle.sacn_universe.specs.Results.{◌>>=◌}
 
 -- chains of readings
 some_is : {X : Type 0} (x y : X) → Some x ≡ Some y → x ≡ y

@@ -7,7 +7,7 @@ use Rattle.sacn_sources.specs.Wakes.{oldest_by, oldest_of}
 use Rattle.sacn_sources.proofs.Wakes.{none_while, some_then, kept_while, kept_young}
 use Rattle.sacn_node.specs.declared.tables.OneUniverse.{OneUniverse}
 use Rattle.sacn_node.specs.Cores.{Table, rows_lost_all, rows_kept_all}
-use Rattle.sacn_node.specs.Seen.{seen}
+use Rattle.sacn_node.specs.Storage.{seen}
 use Rattle.sacn_node.specs.Wakes.{oldest_in}
 
 pub oldest_seen : (os : List OneUniverse) → oldest_by (λ (o : OneUniverse). oldest_of o.table.table.rows) os ≡ oldest_in (map seen os)

@@ -5,7 +5,7 @@ use Rattle.std.specs.Option.{option_map}
 use Rattle.std.specs.FinMap.{get}
 use Rattle.sacn_sources.specs.Laws.{row_with}
 use Rattle.sacn_node.specs.Setup.{Port, universes}
-use Rattle.sacn_node.specs.Seen.{Rise}
+use Rattle.sacn_universe.specs.Universe.{Rising}
 use Rattle.sacn_node.specs.Cores.{core_row}
 use Rattle.sacn_node.specs.Calls.{Call, answer_to, after_calls, moment_in_use, IsGreatestMoment}
 use Rattle.sacn_node.specs.PlainRule.{has_universe, holding, plain_rule}
@@ -28,4 +28,4 @@ UsesTheGreatestMoment = (ports : List Port) (calls : List Call) → ((after_call
 
 -- the universes are those that some range of a port names, each once, and they rise
 abbrev pub HasTheUniversesOfItsRanges : Type 0
-HasTheUniversesOfItsRanges = (ports : List Port) → Rise (universes ports) × ((u : ℕ) → has_universe ports u ≡ list_any (λ p. list_any (λ r. r.universe == u) p.ranges) ports)
+HasTheUniversesOfItsRanges = (ports : List Port) → Rising (universes ports) × ((u : ℕ) → has_universe ports u ≡ list_any (λ p. list_any (λ r. r.universe == u) p.ranges) ports)

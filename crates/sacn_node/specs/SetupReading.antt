@@ -5,6 +5,7 @@ use Rattle.std.specs.List.{list_any}
 use Rattle.toml.specs.Data.{Data, Members, get_member}
 use Rattle.sacn_universe.specs.declared.limits.TheConstants.{MIN_UNIVERSE, MAX_UNIVERSE}
 use Rattle.sacn_universe.specs.declared.limits.TheConstants.{SLOTS}
+use Rattle.sacn_universe.specs.Results.{◌>>=◌}
 use Rattle.sacn_files.specs.declared.limits.TheConstants.{DEFAULT_UDP_PORT, MIN_UDP_PORT, MAX_UDP_PORT}
 use Rattle.sacn_files.specs.declared.faults.FileFault.{FileFault}
 use Rattle.sacn_files.specs.Document.{version_in}
@@ -12,19 +13,13 @@ use Rattle.sacn_files.specs.Keys.{has_known_keys, rows_are_known, rows_have_keys
 use Rattle.sacn_files.specs.Values.{rows_at, has_rows, number_in, number_at, array_at, value_or}
 use Rattle.sacn_files.specs.Rows.{each}
 use Rattle.sacn_files.specs.Lines.{before}
-use Rattle.sacn_files.specs.Numbered.{has_repeat, in_order}
+use Rattle.sacn_files.specs.Numbers.{has_repeat, in_order}
 use Rattle.sacn_node.specs.declared.limits.TheConstants.{MAX_PORTS, MAX_UNIVERSES, MAX_RANGES, MIN_PORT, MAX_PORT, NEWEST_SETUP}
 use Rattle.sacn_node.specs.declared.setup.SlotRange.{SlotRange}
 use Rattle.sacn_node.specs.declared.setup.fault.SetupFault.{SetupFault}
 use Rattle.sacn_node.specs.declared.setup.fault.SetupFault.TheVariants.{OutOfMemory, Toml, MissingKey, UnknownKey, KeyValue, PortTaken, Limit, RangeEnd, Overlap}
 use Rattle.sacn_node.specs.Setup.{Port, Setup, port_numbers, universes, passes_end, has_overlap}
 use Rattle.sacn_node.specs.SetupFaults.{setup_fault_of}
-
--- one reading after another: what the last gives, or the first fault
-infixl 10 ◌>>=◌
-abbrev pub ◌>>=◌ : {A B : Type 0} → Result A SetupFault → (A → Result B SetupFault) → Result B SetupFault
-(Ok x) >>= next = next x
-(Err fault) >>= next = Err fault
 
 -- a value that has to be there, of its kind and in its range
 abbrev pub required : {X : Type 0} → Option X → Result X SetupFault

@@ -34,7 +34,7 @@ impl Model for NodeCore {
     ghost use Rattle.std.specs.Prelude.{◌≡◌};
     ghost use Rattle.sacn_node.specs.Setup.{port_numbers};
     ghost use Rattle.sacn_node.specs.Cores.{Node};
-    ghost use Rattle.sacn_node.specs.Seen.{ArePorts};
+    ghost use Rattle.sacn_node.specs.Storage.{ArePorts};
 
     ghost Value = { Node };
 

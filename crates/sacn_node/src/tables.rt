@@ -3,8 +3,9 @@ ghost use Rattle.std.specs.Prelude.{◌≡◌, ◌+◌, ◌<◌, ◌≤◌, ◌^
 ghost use Rattle.sacn_sources.specs.Packets.{packet_of};
 ghost use Rattle.sacn_universe.specs.declared.limits.TheConstants.{SLOTS};
 ghost use Rattle.sacn_sources.specs.Rows.{slots_of};
+ghost use Rattle.sacn_universe.specs.Universe.{Rising};
 ghost use Rattle.sacn_node.specs.declared.limits.TheConstants.{MAX_UNIVERSES};
-ghost use Rattle.sacn_node.specs.Seen.{one_expired, lost_in, new_one, Rise};
+ghost use Rattle.sacn_node.specs.Storage.{one_expired, lost_in, new_one};
 ghost use Rattle.sacn_sources.specs.Wakes.{oldest_by, oldest_of};
 
 use crate::limits::MAX_UNIVERSES;
@@ -33,7 +34,7 @@ pub(crate) struct Tables {
 
 impl Model for Tables {
     ghost use Rattle.sacn_node.specs.Cores.{Core, core_code};
-    ghost use Rattle.sacn_node.specs.Seen.{core_of, AreTables};
+    ghost use Rattle.sacn_node.specs.Storage.{core_of, AreTables};
 
     ghost Value = { Core };
 
@@ -51,7 +52,7 @@ impl Tables {
 
     /// An empty table for each of these universes.
     pub(crate) fn new(alloc: Global, universes: &[u16]) -> Result<Self, TableFault>
-        requires rising { Rise universes.now }
+        requires rising { Rising universes.now }
         requires few { length universes.now ≤ MAX_UNIVERSES }
         ensures { IfOk result (λ n. n ≡ new_core universes.now) }
     {

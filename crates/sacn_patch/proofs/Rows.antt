@@ -13,7 +13,7 @@ use Rattle.std.proofs.lemmas.Bool.Decides.{nat_tests}
 use Rattle.std.proofs.lemmas.Cmp.{ranked}
 use Rattle.sacn_patch.specs.declared.part.Part.{Part}
 use Rattle.sacn_patch.specs.Patch.{Place, place_cmp, universe_frame}
-use Rattle.sacn_patch.specs.Flat.{Row, Sorted, AllBelow, AllFrom, is_within}
+use Rattle.sacn_patch.specs.Flat.{Row, IsRowOfTree, AllBelow, AllFrom, is_within}
 use Rattle.sacn_patch.proofs.Fills.{written, of_universe, frame_written}
 
 -- ---- order
@@ -39,7 +39,7 @@ ascends (x ∷ es) sorted zero (suc j) d e le lt = head_lowest x.0 es sorted.0 j
 ascends (x ∷ es) sorted (suc i) zero d e le lt = absurd (omega arith)
 ascends (x ∷ es) sorted (suc i) (suc j) d e le lt = ascends es sorted.1 i j d e (omega (arith, le)) (omega (arith, lt))
 
-keys_sorted : (row : Row) → Sorted row → IsStrictlySortedBy place_cmp (keys_of row)
+keys_sorted : (row : Row) → IsRowOfTree row → IsStrictlySortedBy place_cmp (keys_of row)
 keys_sorted row (m, is, ordered) = rw (sym is) ordered
 
 lower_still : (a b u : ℕ) → a ≤ b → b < u → a < u
@@ -49,11 +49,11 @@ higher_still : (a b u : ℕ) → a ≤ b → u ≤ a → u ≤ b
 higher_still a b u le high = omega (arith, le, high)
 
 -- what a look in the middle of the row tells
-pub below_more : (universe middle : ℕ) (row : Row) (e : Place × Part) → Sorted row → middle < length row → (get_or row middle e).0.0 < universe → AllBelow universe row (middle + 1)
+pub below_more : (universe middle : ℕ) (row : Row) (e : Place × Part) → IsRowOfTree row → middle < length row → (get_or row middle e).0.0 < universe → AllBelow universe row (middle + 1)
 below_more universe middle row e sorted lt low = λ i d within _. lower_still (get_or row i d).0.0 (get_or row middle e).0.0 universe (ascends row (keys_sorted row sorted) i middle d e (omega (arith, within)) lt) low
 
 -- and what it tells where the universe there is not lower
-pub from_more : (universe middle : ℕ) (row : Row) (e : Place × Part) → Sorted row → universe ≤ (get_or row middle e).0.0 → AllFrom universe row middle
+pub from_more : (universe middle : ℕ) (row : Row) (e : Place × Part) → IsRowOfTree row → universe ≤ (get_or row middle e).0.0 → AllFrom universe row middle
 from_more universe middle row e sorted high = λ i d within lt. higher_still (get_or row middle e).0.0 (get_or row i d).0.0 universe (ascends row (keys_sorted row sorted) middle i e d within lt) high
 
 -- ---- slots of the universe
@@ -100,7 +100,7 @@ above_by u zero (e ∷ es) d sorted lt high = skipped u e es (outside u e.0 (hig
 above_by u (suc place) (e ∷ es) d sorted lt high = above_by u place es d sorted.1 (omega (arith, lt)) high
 
 -- from an entry of a higher universe on, none is of this one
-pub none_above : (u place : ℕ) (row : Row) (d : Place × Part) → Sorted row → place < length row → u < (get_or row place d).0.0 → of_universe u (drop place row) ≡ []
+pub none_above : (u place : ℕ) (row : Row) (d : Place × Part) → IsRowOfTree row → place < length row → u < (get_or row place d).0.0 → of_universe u (drop place row) ≡ []
 none_above u place row d sorted lt high = above_by u place row d (keys_sorted row sorted) lt high
 
 pub step_skipped : (u place : ℕ) (row : Row) (d : Place × Part) → place < length row → is_within u (get_or row place d).0 ≡ false → of_universe u (drop (place + 1) row) ≡ of_universe u (drop place row)
@@ -119,6 +119,6 @@ pub none_after : (u place : ℕ) (row : Row) → length row ≤ place → of_uni
 none_after u place row le = ap (of_universe u) (none_left row place le)
 
 -- what is left is nothing: the frame is written
-pub row_written : (level : ℕ → ℕ) (u : ℕ) (row left : Row) (slots : List ℕ) → Sorted row → written level left slots ≡ written level (of_universe u row) (replicate 512 0) → left ≡ [] → slots ≡ universe_frame level (from_entries row) u
+pub row_written : (level : ℕ → ℕ) (u : ℕ) (row left : Row) (slots : List ℕ) → IsRowOfTree row → written level left slots ≡ written level (of_universe u row) (replicate 512 0) → left ≡ [] → slots ≡ universe_frame level (from_entries row) u
 row_written level u row left slots (m, is, ordered) told none =
     (rw none at told) ∙ rw (sym is) (frame_written level m u ordered)

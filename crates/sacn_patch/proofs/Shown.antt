@@ -9,7 +9,7 @@ use Rattle.std.specs.Map.{lookup}
 use Rattle.std.proofs.lemmas.Map.Entries.{lookup-filter-keys}
 use Rattle.sacn_patch.specs.declared.part.Part.{Part}
 use Rattle.sacn_patch.specs.Patch.{Place, Patched, place_cmp, EachShown}
-use Rattle.sacn_patch.specs.Flat.{Row, Sorted, AllBelow, is_within}
+use Rattle.sacn_patch.specs.Flat.{Row, IsRowOfTree, AllBelow, is_within}
 use Rattle.sacn_patch.proofs.Maps.{place_total, place_exact, view_get}
 use Rattle.sacn_patch.proofs.Fills.{Parts, of_universe, in_range}
 use Rattle.sacn_patch.proofs.Rows.{skip_below, step_skipped, step_taken}
@@ -36,7 +36,7 @@ slot_at : (P : ℕ → Type 0) (m : BTreeMap Place Part) (universe slot i : ℕ)
 slot_at P m universe slot i part is lt each e = shown_at P m universe i part lt each (rw is at e)
 
 -- what holds of the universe's part of the row holds of what its slots show
-pub each_shown : (P : ℕ → Type 0) (row : Row) (v : Patched) (universe : ℕ) → Sorted row → from_entries row ≡ v → EachOf P (of_universe universe row) → EachShown v universe P
+pub each_shown : (P : ℕ → Type 0) (row : Row) (v : Patched) (universe : ℕ) → IsRowOfTree row → from_entries row ≡ v → EachOf P (of_universe universe row) → EachShown v universe P
 each_shown P row v universe (m, is, ordered) same each =
     λ slot part least most e.
     slot_at P m universe slot (slot - 1) part (omega (arith, least)) (omega (arith, least, most)) (rw (sym is) at each) (rw (← same, ← is) at e)

@@ -11,8 +11,8 @@ abbrev pub Row : Type 0
 Row = List (Place × Part)
 
 -- the entries of an ordered tree
-abbrev pub Sorted : Row → Type 0
-Sorted row = (m : BTreeMap Place Part) × (m.entries ≡ row) × tree.IsOrdered place_cmp m
+abbrev pub IsRowOfTree : Row → Type 0
+IsRowOfTree row = (m : BTreeMap Place Part) × (m.entries ≡ row) × tree.IsOrdered place_cmp m
 
 -- the universes before a place are lower
 abbrev pub AllBelow : ℕ → Row → ℕ → Type 0

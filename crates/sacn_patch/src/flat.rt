@@ -1,7 +1,7 @@
 //! A patch in one row.
 ghost use Rattle.std.specs.Prelude.{◌≡◌, ◌<◌, ◌≤◌, ◌&&◌, nat_le, ℕ, length, slice_index_or, map, get_or, true, IfOk};
 ghost use Rattle.sacn_universe.specs.declared.limits.TheConstants.{SLOTS};
-ghost use Rattle.sacn_patch.specs.Flat.{Row, Sorted, AllBelow, AllFrom, IsStart, AreStarts, is_within, mark_of};
+ghost use Rattle.sacn_patch.specs.Flat.{Row, IsRowOfTree, AllBelow, AllFrom, IsStart, AreStarts, is_within, mark_of};
 
 use crate::level::{LevelOf, RestOf};
 use crate::part::{Part, byte_of, octet_place};
@@ -34,7 +34,7 @@ pub struct FlatPatch {
 impl Model for FlatPatch {
     ghost use Rattle.sacn_patch.specs.Patch.{Patched, patch_code};
     ghost use Rattle.std.specs.Prelude.{◌≡◌, map};
-    ghost use Rattle.sacn_patch.specs.Flat.{Sorted, AreStarts, mark_of};
+    ghost use Rattle.sacn_patch.specs.Flat.{IsRowOfTree, AreStarts, mark_of};
 
     ghost Value = { Patched };
 
@@ -44,7 +44,7 @@ impl Model for FlatPatch {
 
     ghost view = { λ p. from_entries p.row.items };
 
-    ghost invariant = { λ p. Sorted p.row.items × (p.marks.items ≡ map mark_of p.row.items) × AreStarts p.row.items p.starts.items };
+    ghost invariant = { λ p. IsRowOfTree p.row.items × (p.marks.items ≡ map mark_of p.row.items) × AreStarts p.row.items p.starts.items };
 }
 
 impl FlatPatch {
@@ -54,7 +54,7 @@ impl FlatPatch {
 
     /// A patch of these entries.
     pub(crate) fn of(alloc: Global, row: Vec<((u16, u16), Part)>) -> Result<Self, AllocError>
-        requires { Sorted row.items }
+        requires { IsRowOfTree row.items }
         ensures { IfOk result (λ flat. flat ≡ from_entries row.items) }
     {
         let marks = marks_of(alloc, &row)?;
@@ -165,7 +165,7 @@ fn marks_of(alloc: Global, row: &[((u16, u16), Part)]) -> Result<Vec<Mark>, Allo
 
 // Where each universe begins in the row, up to the one after the greatest.
 fn starts_of(alloc: Global, row: &[((u16, u16), Part)]) -> Result<Vec<usize>, AllocError>
-    requires { Sorted row.now }
+    requires { IsRowOfTree row.now }
     ensures { IfOk result (λ v. AreStarts row.now v.items) }
 {
     let mut starts = Vec::new(alloc);
@@ -185,7 +185,7 @@ fn universes_before(row: &[((u16, u16), Part)]) -> u32 {
 
 // Where a universe begins in the row.
 fn start_in(starts: &[usize], row: &[((u16, u16), Part)], universe: u32) -> usize
-    requires sorted { Sorted row.now }
+    requires sorted { IsRowOfTree row.now }
     requires starts { AreStarts row.now starts.now }
     ensures { IsStart universe row.now result }
 {
@@ -198,7 +198,7 @@ fn start_in(starts: &[usize], row: &[((u16, u16), Part)], universe: u32) -> usiz
 
 // Where a universe begins in the row, by a search.
 fn start_of(row: &[((u16, u16), Part)], universe: u32) -> usize
-    requires { Sorted row.now }
+    requires { IsRowOfTree row.now }
     ensures below { AllBelow universe row.now result }
     ensures from { AllFrom universe row.now result }
     ensures bound { result ≤ length row.now }

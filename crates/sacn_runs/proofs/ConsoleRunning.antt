@@ -12,7 +12,7 @@ use Rattle.sacn_edge.specs.SendsByList.{run_calls}
 use Rattle.sacn_world.specs.declared.console.Console.{Console}
 use Rattle.sacn_world.specs.Streams.{Sent}
 use Rattle.sacn_world.specs.Worlds.{World, step, left_by, with_core, WorldOk}
-use Rattle.sacn_world.specs.Running.{Ran, ran}
+use Rattle.sacn_world.specs.Runs.{Ran, ran}
 use Rattle.sacn_world.specs.Laws.{reached}
 use Rattle.sacn_world.proofs.Reaching.{reached_ok, first_of_run}
 use Rattle.sacn_world.proofs.Runs.{step_ok}

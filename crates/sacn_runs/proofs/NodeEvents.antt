@@ -15,7 +15,7 @@ use Rattle.sacn_node.specs.Ports.{port_of, frame_on}
 use Rattle.sacn_node.specs.Readings.{Reading, after_reading}
 use Rattle.sacn_schedule.specs.declared.event.Event.{Event}
 use Rattle.sacn_schedule.specs.declared.event.Event.TheVariants as event
-use Rattle.sacn_edge.specs.NodeText.{Line, with_frame}
+use Rattle.sacn_edge.specs.NodeText.{FrameLine, with_frame}
 use Rattle.sacn_world.specs.declared.answer.Answer.{Answer}
 use Rattle.sacn_world.specs.declared.answer.Answer.TheVariants as answered
 use Rattle.sacn_world.specs.declared.fault.WorldFault.{WorldFault}
@@ -46,7 +46,7 @@ abbrev pub Sees : World → ℕ → Core → Type 0
 Sees w i c = (n : Node) → slice_get w.nodes i ≡ Some n → seen_core w.sent n ≡ c
 
 -- the event left this world, moment and lines, as these visits make them of a core and its lines
-pub record Made (v : World) (i : ℕ) (ports : List Port) (s : Showing) (vs : List Visit) (t : ℕ) (ls : List Line) : Type 0 where
+pub record Made (v : World) (i : ℕ) (ports : List Port) (s : Showing) (vs : List Visit) (t : ℕ) (ls : List FrameLine) : Type 0 where
   pub sees : Sees v i (show_all ports vs s).core
   pub lines : ls ≡ (show_all ports vs s).lines
   pub moment : t ≡ (show_all ports vs s).core.moment
@@ -151,7 +151,7 @@ module _ (w : World) (ok : WorldOk w) (i : ℕ) (ports : List Port) (own : (n : 
 
   -- ---- any event
 
-  abbrev same_as : Outcome → Event → List Line → Type 0
+  abbrev same_as : Outcome → Event → List FrameLine → Type 0
   same_as o e ls = Made o.world i ports s (visits_by w.sent i e) (moment_with i e s.core.moment) ls
 
   elsewhere : (v : World) → Sees v i s.core → Made v i ports s [] s.core.moment s.lines

@@ -8,11 +8,11 @@ use Rattle.sacn_node.specs.Cores.{Core}
 use Rattle.sacn_node.specs.Cores as numbers
 use Rattle.sacn_schedule.specs.Cids.{Desk}
 use Rattle.sacn_schedule.specs.declared.event.Event.{Event}
-use Rattle.sacn_edge.specs.NodeText.{Turn, Line, node_after, lines_after, text_of}
+use Rattle.sacn_edge.specs.NodeText.{Turn, FrameLine, node_after, lines_after, text_of}
 use Rattle.sacn_world.specs.declared.answer.Answer.{Answer}
 use Rattle.sacn_world.specs.Nodes.{Node, seen_core}
 use Rattle.sacn_world.specs.Worlds.{World, step, left_by, new_console, new_world, Apart, WorldOk}
-use Rattle.sacn_world.specs.Running.{Ran, ran}
+use Rattle.sacn_world.specs.Runs.{Ran, ran}
 use Rattle.sacn_world.specs.Laws.{reached}
 use Rattle.sacn_world.proofs.Keeping.{new_seen}
 use Rattle.sacn_world.proofs.Origin.{Origin, step_kept, reached_origin}

@@ -5,12 +5,12 @@ use Rattle.sacn_framing.specs.declared.packet.Packet.TheVariants.{DataPacket, Pa
 use Rattle.sacn_node.specs.Setup.{Port, universes}
 use Rattle.sacn_node.specs.Cores.{Core, Node, new_core, core_at, node_frame}
 use Rattle.sacn_node.specs.Readings.{Reading, after_reading}
-use Rattle.sacn_edge.specs.NodeText.{Line, with_frame}
+use Rattle.sacn_edge.specs.NodeText.{FrameLine, with_frame}
 use Rattle.sacn_runs.specs.NodeVisits.{Visit, Came, Asked, Began}
 
 pub record Showing : Type 0 where
   pub core : Core
-  pub lines : List Line
+  pub lines : List FrameLine
 
 abbrev pub node_with : List Port → Core → Node
 node_with ports c = record { ports = ports; core = c }
@@ -19,7 +19,7 @@ abbrev pub came : ℕ → Option Packet → Core → Core
 came m (Some p) c = after_reading (Ok p) m c
 came m None c = core_at m c
 
-abbrev pub asked : List Port → ℕ → Core → List Line → Showing
+abbrev pub asked : List Port → ℕ → Core → List FrameLine → Showing
 asked ports port c ls = record { core = c; lines = with_frame port c.moment (node_frame port (node_with ports c)) ls }
 
 abbrev pub shown_by : List Port → Visit → Showing → Showing

@@ -6,8 +6,8 @@ use Rattle.sacn_node.specs.Setup.{Port, port_numbers}
 use Rattle.sacn_node.specs.Cores.{Core, Node, core_at, node_frame}
 use Rattle.sacn_node.specs.Readings.{Reading, after_reading}
 use Rattle.sacn_node.specs.Calls.{core_step, step}
-use Rattle.sacn_edge.specs.Heard.{Heard, Silence, Octets, Fault}
-use Rattle.sacn_edge.specs.NodeText.{Turn, Line, call_at, node_after, with_frame, with_ports, lines_after}
+use Rattle.sacn_edge.specs.Hearings.{Heard, Silence, Octets, Fault}
+use Rattle.sacn_edge.specs.NodeText.{Turn, FrameLine, call_at, node_after, with_frame, with_ports, lines_after}
 use Rattle.sacn_edge.proofs.Settled.{turn_settled}
 use Rattle.sacn_runs.specs.NodeVisits.{Visit, Came, Asked, packet_read, packet_heard, turn_visits, loop_visits}
 use Rattle.sacn_runs.proofs.Shown.{Showing, node_with, came, asked, shown_by, show_all, show_all-append}
@@ -22,13 +22,13 @@ heard_so now (Octets octets) c = read_so now (reading_packet octets) c
 heard_so now Fault c = refl
 
 -- asking for frames leaves a core as it is, where all that is lost is dropped
-asked_so : (ports : List Port) (now : ℕ) (numbers : List ℕ) (c : Core) (ls : List Line) → core_at now c ≡ c → show_all ports (map (λ number. Asked now number) numbers) (record { core = c; lines = ls }) ≡ record { core = c; lines = with_ports (node_with ports c) numbers ls }
+asked_so : (ports : List Port) (now : ℕ) (numbers : List ℕ) (c : Core) (ls : List FrameLine) → core_at now c ≡ c → show_all ports (map (λ number. Asked now number) numbers) (record { core = c; lines = ls }) ≡ record { core = c; lines = with_ports (node_with ports c) numbers ls }
 asked_so ports now [] c ls settled = refl
 asked_so ports now (p ∷ ps) c ls settled =
     ap (λ (d : Core). show_all ports (map (λ number. Asked now number) ps) (asked ports p d ls)) settled
     ∙ asked_so ports now ps c (with_frame p c.moment (node_frame p (node_with ports c)) ls) settled
 
-turn_so : (ports : List Port) (numbers : List ℕ) (t : Turn) (c : Core) (ls : List Line) → let d = core_step (call_at t.now t.heard) c in show_all ports (turn_visits numbers t) (record { core = c; lines = ls }) ≡ record { core = d; lines = with_ports (node_with ports d) numbers ls }
+turn_so : (ports : List Port) (numbers : List ℕ) (t : Turn) (c : Core) (ls : List FrameLine) → let d = core_step (call_at t.now t.heard) c in show_all ports (turn_visits numbers t) (record { core = c; lines = ls }) ≡ record { core = d; lines = with_ports (node_with ports d) numbers ls }
 turn_so ports numbers t c ls =
     ap (λ (d : Core). show_all ports (map (λ number. Asked t.now number) numbers) (record { core = d; lines = ls })) (heard_so t.now t.heard c)
     ∙ asked_so ports t.now numbers (core_step (call_at t.now t.heard) c) ls (turn_settled t.now t.heard c)

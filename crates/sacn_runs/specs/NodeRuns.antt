@@ -5,13 +5,13 @@ use Rattle.sacn_node.specs.Cores as core
 use Rattle.sacn_schedule.specs.Cids.{Desk}
 use Rattle.sacn_schedule.specs.declared.event.Event.{Event}
 use Rattle.sacn_schedule.specs.declared.event.Event.TheVariants.{Order, Poll, Deliver, Look, RestartConsole, RestartNode, Noise}
-use Rattle.sacn_edge.specs.NodeText.{Turn, Line, with_frame, node_after, lines_after, text_of, node_text}
+use Rattle.sacn_edge.specs.NodeText.{Turn, FrameLine, with_frame, node_after, lines_after, text_of, node_text}
 use Rattle.sacn_world.specs.declared.answer.Answer.{Answer}
 use Rattle.sacn_world.specs.declared.answer.Answer.TheVariants.{Ordered, Sent, Idle, Taken, Shown, NoSuchPort, Restarted}
 use Rattle.sacn_world.specs.Streams as stream
 use Rattle.sacn_world.specs.Nodes.{Node, node_of, seen_core}
 use Rattle.sacn_world.specs.Worlds.{World, new_console, Apart}
-use Rattle.sacn_world.specs.Running.{Ran, ran}
+use Rattle.sacn_world.specs.Runs.{Ran, ran}
 use Rattle.sacn_world.specs.Laws.{reached}
 use Rattle.sacn_runs.specs.NodeVisits.{visits, loop_visits}
 
@@ -37,7 +37,7 @@ frame_told (Taken t) = None
 frame_told Restarted = None
 
 -- the lines, with one more for a look at node i at its moment t whose frame isn't that of the port's latest line
-abbrev pub line_with : ℕ → ℕ → Event → Answer → List Line → List Line
+abbrev pub line_with : ℕ → ℕ → Event → Answer → List FrameLine → List FrameLine
 line_with i t (Order j m k) a ls = ls
 line_with i t (Poll j m) a ls = ls
 line_with i t (Deliver k j m) a ls = ls
@@ -47,7 +47,7 @@ line_with i t (RestartNode j) a ls = ls
 line_with i t (Noise j m octets) a ls = ls
 
 -- the lines of node i over events and their answers, from these lines on, the latest first; t is the node's moment at first
-abbrev pub lines_shown : ℕ → ℕ → List Event → List Answer → List Line → List Line
+abbrev pub lines_shown : ℕ → ℕ → List Event → List Answer → List FrameLine → List FrameLine
 lines_shown i t [] answers ls = ls
 lines_shown i t (e ∷ es) [] ls = ls
 lines_shown i t (e ∷ es) (a ∷ answers) ls = lines_shown i (moment_with i e t) es answers (line_with i (moment_with i e t) e a ls)

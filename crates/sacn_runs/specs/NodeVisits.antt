@@ -6,7 +6,7 @@ use Rattle.sacn_framing.specs.PacketReading.{reading_packet}
 use Rattle.sacn_node.specs.Readings.{Reading}
 use Rattle.sacn_schedule.specs.declared.event.Event.{Event}
 use Rattle.sacn_schedule.specs.declared.event.Event.TheVariants.{Order, Poll, Deliver, Look, RestartConsole, RestartNode, Noise}
-use Rattle.sacn_edge.specs.Heard.{Heard, Silence, Octets, Fault}
+use Rattle.sacn_edge.specs.Hearings.{Heard, Silence, Octets, Fault}
 use Rattle.sacn_edge.specs.NodeText.{Turn}
 use Rattle.sacn_world.specs.Streams.{Sent}
 use Rattle.sacn_world.specs.Worlds.{World, step, left_by}

@@ -4,6 +4,7 @@ use Rattle.std.specs.declared.alloc.Global.{Global}
 use Rattle.std.specs.Str.{bytes_eq}
 use Rattle.hex.specs.Hex.{decode_of}
 use Rattle.hex.specs.declared.error.FromHexError.{FromHexError}
+use Rattle.sacn_universe.specs.Results.{◌>>=◌}
 use Rattle.sacn_files.specs.Words.{number_in}
 use Rattle.sacn_files.specs.Lines.{Said, entries_in}
 use Rattle.sacn_files.specs.declared.faults.TextFault.{TextFault}
@@ -19,12 +20,6 @@ wide = 18446744073709551615
 
 abbrev pub narrow : ℕ
 narrow = 255
-
--- one reading after another: what the last gives, or the first fault
-infixl 10 ◌>>=◌
-abbrev pub ◌>>=◌ : {A B : Type 0} → Result A TextFault → (A → Result B TextFault) → Result B TextFault
-(Ok x) >>= next = next x
-(Err fault) >>= next = Err fault
 
 -- the number of a word, at most the limit
 unfoldable pub number_of : ℕ → ℕ → List ℕ → Result ℕ TextFault

@@ -3,6 +3,7 @@ use Rattle.std.specs.Prelude.{◌&&◌, ◌+◌, ℕ, Bool, not, List, [], ◌�
 use Rattle.std.specs.declared.alloc.Global.{Global}
 use Rattle.std.specs.List.{list_all}
 use Rattle.toml.specs.Data.{Data, Members, get_member, as_table}
+use Rattle.sacn_universe.specs.Results.{◌>>=◌}
 use Rattle.sacn_files.specs.declared.faults.FileFault.{FileFault}
 use Rattle.sacn_files.specs.Document.{version_in}
 use Rattle.sacn_files.specs.Keys.{has_known_keys, rows_are_known, rows_have_keys}
@@ -98,12 +99,6 @@ setup_at i d = with_node i (node_in d)
 abbrev pub each_from : {X : Type 0} → (ℕ → Data → Result X WorldTextFault) → ℕ → List Data → Result (List X) WorldTextFault
 each_from read i [] = Ok []
 each_from read i (d ∷ ds) = before (read i d) (each_from read (i + 1) ds)
-
--- one reading after another: what the last gives, or the first fault
-infixl 10 ◌>>=◌
-abbrev pub ◌>>=◌ : {X Y : Type 0} → Result X WorldTextFault → (X → Result Y WorldTextFault) → Result Y WorldTextFault
-(Ok x) >>= next = next x
-(Err fault) >>= next = Err fault
 
 -- the last phase: the consoles, then the nodes, then two consoles of one CID
 abbrev pub last_phase : List Data → List Data → Result WorldContent WorldTextFault

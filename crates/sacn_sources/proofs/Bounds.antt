@@ -11,9 +11,9 @@ use Rattle.std.proofs.lemmas.List.Elements.{All-cons}
 use Rattle.sacn_sequence.specs.Sequence.{is_late}
 use Rattle.sacn_sources.specs.Order.{order}
 use Rattle.sacn_sources.specs.declared.limits.TheConstants.{MAX_SOURCES}
-use Rattle.sacn_sources.specs.Rows.{Row, Packet, Kind, Termination, Preview, Live, Other, Held, OutOfSequence, SourcesExceeded}
+use Rattle.sacn_sources.specs.Rows.{Row, Packet, Kind, Termination, Preview, Live, Other, take_unknown, take_known}
 use Rattle.sacn_sources.specs.Calls.{Call, Take, Expire, Merge, moment_of, after_calls, moment_in_use, IsGreatestMoment}
-use Rattle.sacn_sources.specs.PlainRule.{Entry, Sources, is_unexpired, unexpired, live, Outcome, unknown_row, known_row, row_for, change, held_after}
+use Rattle.sacn_sources.specs.PlainRule.{Entry, Sources, is_unexpired, unexpired, live, held_by, row_for, change, held_after}
 use Rattle.sacn_sources.specs.Laws.{UsesTheGreatestMoment, RowsRise}
 use Rattle.sacn_sources.proofs.Mirrors.{Mirrors, pair, same_length, first, second, lt_less, entries-unexpired}
 use Rattle.sacn_sources.proofs.Sweeps.{length_left}
@@ -84,42 +84,32 @@ module _ (held : Sources) (cid : List ℕ) (e : Entry) where
   as_many old there = len-insert Rattle.sacn_sources.proofs.Places.order_total held cid e ∙ ap (λ o. counted (is_some o)) there
 
 module _ (t : ℕ) (x : Packet) (held : Sources) (few : len held ≤ MAX_SOURCES) where
-  abbrev admitted : Outcome
-  admitted = record { answer = Held; held = insert held x.source (live x t) }
-
-  abbrev exceeded : Outcome
-  exceeded = record { answer = SourcesExceeded; held = held }
-
-  abbrev late : Outcome
-  late = record { answer = OutOfSequence; held = held }
-
   has_room : (n : ℕ) → nat_lt n MAX_SOURCES ≡ true → n < MAX_SOURCES
   has_room n is = grind (arith, nat_tests)
 
-  few_unknown : (kind : Kind) → len (unknown_row t x held kind).held ≤ MAX_SOURCES
-  few_unknown Live = elim (nat_lt (len held) MAX_SOURCES) as (λ b. nat_lt (len held) MAX_SOURCES ≡ b → len (cond b admitted exceeded).held ≤ MAX_SOURCES) [
-    | true ↦ λ is. omega (arith, has_room (len held) is, one_more held x.source (live x t))
-    | false ↦ λ is. few
-  ] refl
-  few_unknown Termination = few
-  few_unknown Preview = few
-  few_unknown Other = few
+  few_unknown : (kind : Kind) (room : Bool) → nat_lt (len held) MAX_SOURCES ≡ room → len (held_by (take_unknown kind room) t x None held) ≤ MAX_SOURCES
+  few_unknown Live true is = omega (arith, has_room (len held) is, one_more held x.source (live x t))
+  few_unknown Live false is = few
+  few_unknown Termination room is = few
+  few_unknown Preview room is = few
+  few_unknown Other room is = few
 
   as_few : (e old : Entry) → get held x.source ≡ Some old → len (insert held x.source e) ≤ MAX_SOURCES
   as_few e old there = omega (arith, as_many held x.source e old there)
 
-  few_known : (old : Entry) (kind : Kind) → get held x.source ≡ Some old → len (known_row t x held old kind).held ≤ MAX_SOURCES
-  few_known old Termination there = as_few _ old there
-  few_known old Preview there = as_few _ old there
-  few_known old Live there = as_few _ old there
-  few_known old Other there = as_few _ old there
+  few_known : (old : Entry) (kind : Kind) (late : Bool) → get held x.source ≡ Some old → len (held_by (take_known kind late) t x (Some old) held) ≤ MAX_SOURCES
+  few_known old Termination true there = few
+  few_known old Preview true there = few
+  few_known old Live true there = few
+  few_known old Other true there = few
+  few_known old Termination false there = as_few _ old there
+  few_known old Preview false there = as_few _ old there
+  few_known old Live false there = as_few _ old there
+  few_known old Other false there = as_few _ old there
 
   few_for : (o : Option Entry) → get held x.source ≡ o → len (row_for t x held o).held ≤ MAX_SOURCES
-  few_for None is = few_unknown x.kind
-  few_for (Some old) is = elim (is_late old.number x.number) as (λ b. len (cond b late (known_row t x held old x.kind)).held ≤ MAX_SOURCES) [
-    | true ↦ few
-    | false ↦ few_known old x.kind is
-  ]
+  few_for None is = few_unknown x.kind (nat_lt (len held) MAX_SOURCES) refl
+  few_for (Some old) is = few_known old x.kind (is_late old.sequence_number x.sequence_number) is
 
 few_unexpired : (t : ℕ) (held : Sources) → len held ≤ MAX_SOURCES → len (unexpired t held) ≤ MAX_SOURCES
 few_unexpired t held few = omega (arith, len-entries (unexpired t held), ap length (entries-unexpired t held), length_left (λ (e : List ℕ × Entry). is_unexpired t e.1) (entries held), len-entries held)

@@ -30,7 +30,7 @@ same_row : (fr fr2 : Frames) (e : Entry) → get fr2 e.key ≡ get fr e.key → 
 same_row fr fr2 e same =
     let of : Option (List ℕ) → Row = λ stored. record {
       source = e.cid;
-      number = e.number;
+      sequence_number = e.sequence_number;
       shown = option_map (λ priority. record { priority = priority; levels = unwrap_or stored [] }) e.priority;
       moment = e.moment;
     } in
@@ -162,9 +162,9 @@ module _ (es : List Entry) (fr : Frames) (stored : AreStored es fr) (rows : List
         pub levels_stored : AreStored (set es at e) written
         levels_stored = set_stored es fr stored written at e (in_entries is_at.within) cids keys others (subst (λ k. IsSome (get written k)) (sym same_key) (subst IsSome (sym updates.changed) refl)) (count-set fr.slots old.key levels (has_levels is_at.within)) refl
 
-        pub levels_set : (priority : ℕ) → e.priority ≡ Some priority → rows_in written (set es at e) ≡ set rows at (record { source = cid; number = e.number; shown = Some (record { priority = priority; levels = levels }); moment = e.moment })
+        pub levels_set : (priority : ℕ) → e.priority ≡ Some priority → rows_in written (set es at e) ≡ set rows at (record { source = cid; sequence_number = e.sequence_number; shown = Some (record { priority = priority; levels = levels }); moment = e.moment })
         levels_set priority live =
-            let shows : row_in written e ≡ record { source = cid; number = e.number; shown = Some (record { priority = priority; levels = levels }); moment = e.moment } = rw (live, same_key, updates.changed, same_cid, cid_there) refl in
+            let shows : row_in written e ≡ record { source = cid; sequence_number = e.sequence_number; shown = Some (record { priority = priority; levels = levels }); moment = e.moment } = rw (live, same_key, updates.changed, same_cid, cid_there) refl in
             rows_set es fr stored written at e (in_entries is_at.within) cids keys others ∙ ap (λ rs. set rs at (row_in written e)) view_is ∙ ap (set rows at) shows
 
 pub within_entries : (es : List Entry) (fr : Frames) (rows : List Row) → rows_in fr es ≡ rows → (at : ℕ) → at < length rows → at < length es

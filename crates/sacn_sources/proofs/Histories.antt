@@ -2,75 +2,31 @@
 use Rattle.std.proofs.Common.{◌≡◌, ℕ, ◌+◌, ◌-◌, ◌^◌, min, max, nat_lt, Bool, true, false, cond, ◌||◌, List, [], ◌∷◌, length, Option, Some, None, refl, sym, ap, subst, ◌∙◌, arith}
 use Rattle.std.specs.Option.{option_map}
 use Rattle.std.specs.FinMap.{FinMap, get, len, empty, entries, len-entries, len-empty}
-use Rattle.sacn_sequence.specs.Sequence.{is_late}
 use Rattle.sacn_slots.specs.Merge.{merge}
 use Rattle.sacn_sources.specs.Order.{order}
 use Rattle.sacn_sources.specs.declared.limits.TheConstants.{MAX_SOURCES}
-use Rattle.sacn_sources.specs.Rows.{Row, Packet, Kind, Termination, Preview, Live, Other, Taken, Held, Observed, EndedNow, OutOfSequence, SourcesExceeded, UnknownIgnored, rows_kept, row_of, take_unknown, take_known, take_by, taken, observed, rows_after, take_row, layers}
+use Rattle.sacn_sources.specs.Rows.{Row, Packet, Taken, Held, Observed, EndedNow, OutOfSequence, SourcesExceeded, UnknownIgnored, rows_kept, row_of, take_by, taken, observed, rows_after, take_row, layers}
 use Rattle.sacn_sources.specs.Kept.{Kept, due_at, loses_live}
 use Rattle.sacn_sources.specs.Calls.{Call, Take, Expire, Merge, Took, Expired, Slots, moment_of, step, answer_to, after_calls, moment_in_use}
-use Rattle.sacn_sources.specs.PlainRule.{Entry, Sources, unexpired, live, ended, renumbered, Outcome, unknown_row, known_row, row_for, source_row, change, held_after, answer_at, plain_rule, expires_live, renews_source, is_news, is_due, renewal_count}
+use Rattle.sacn_sources.specs.PlainRule.{Entry, Sources, unexpired, live, ended, renumbered, held_by, answer_for, source_row, change, held_after, answer_at, plain_rule, expires_live, renews_source, is_news, is_due, renewal_count}
 use Rattle.sacn_sources.specs.Laws.{row_with, AnswersByThePlainRule, HoldsByThePlainRule, CountsRenewals}
 use Rattle.sacn_sources.proofs.Mirrors.{Mirrors, row_found, put_mirrors, kept_mirrors, same_length, same_shown, same_losses}
 
 -- ---- a packet
 
-late_known : (kind : Kind) → take_known kind true ≡ OutOfSequence
-late_known Termination = refl
-late_known Preview = refl
-late_known Live = refl
-late_known Other = refl
-
 module _ (t : ℕ) (x : Packet) (rs : List Row) (held : Sources) (mirrors : Mirrors rs held) where
-  abbrev exceeded : Outcome
-  exceeded = record { answer = SourcesExceeded; held = held }
+  packet_answer : (o : Option Entry) → take_by x (nat_lt (len held) MAX_SOURCES) (option_map (row_with x.source) o) ≡ answer_for x held o
+  packet_answer None = refl
+  packet_answer (Some e) = refl
 
-  abbrev admitted : Outcome
-  admitted = record { answer = Held; held = Rattle.std.specs.FinMap.insert held x.source (live x t) }
-
-  abbrev late : Outcome
-  late = record { answer = OutOfSequence; held = held }
-
-  unknown_answer : (kind : Kind) → take_unknown kind (nat_lt (len held) MAX_SOURCES) ≡ (unknown_row t x held kind).answer
-  unknown_answer Live = elim (nat_lt (len held) MAX_SOURCES) as (λ b. take_unknown Live b ≡ (cond b admitted exceeded).answer) [ true ↦ refl | false ↦ refl ]
-  unknown_answer Termination = refl
-  unknown_answer Preview = refl
-  unknown_answer Other = refl
-
-  unknown_rows : (kind : Kind) → Mirrors (rows_after (unknown_row t x held kind).answer x t rs) (unknown_row t x held kind).held
-  unknown_rows Live = elim (nat_lt (len held) MAX_SOURCES) as (λ b. Mirrors (rows_after (cond b admitted exceeded).answer x t rs) (cond b admitted exceeded).held) [ true ↦ put_mirrors rs held mirrors x.source (live x t) | false ↦ mirrors ]
-  unknown_rows Termination = mirrors
-  unknown_rows Preview = mirrors
-  unknown_rows Other = mirrors
-
-  known_answer : (e : Entry) (kind : Kind) → take_known kind false ≡ (known_row t x held e kind).answer
-  known_answer e Termination = refl
-  known_answer e Preview = refl
-  known_answer e Live = refl
-  known_answer e Other = refl
-
-  observed_row : (e : Entry) → row_of x.source rs ≡ Some (row_with x.source e) → Mirrors (observed x (row_of x.source rs) rs) (Rattle.std.specs.FinMap.insert held x.source (renumbered x e))
-  observed_row e there = subst (λ o. Mirrors (observed x o rs) (Rattle.std.specs.FinMap.insert held x.source (renumbered x e))) (sym there) (put_mirrors rs held mirrors x.source (renumbered x e))
-
-  known_rows : (e : Entry) (kind : Kind) → row_of x.source rs ≡ Some (row_with x.source e) → Mirrors (rows_after (known_row t x held e kind).answer x t rs) (known_row t x held e kind).held
-  known_rows e Termination there = put_mirrors rs held mirrors x.source (ended x t)
-  known_rows e Preview there = observed_row e there
-  known_rows e Live there = put_mirrors rs held mirrors x.source (live x t)
-  known_rows e Other there = observed_row e there
-
-  packet_answer : (o : Option Entry) → take_by x (nat_lt (len held) MAX_SOURCES) (option_map (row_with x.source) o) ≡ (row_for t x held o).answer
-  packet_answer None = unknown_answer x.kind
-  packet_answer (Some e) = elim (is_late e.number x.number) as (λ b. take_known x.kind b ≡ (cond b late (known_row t x held e x.kind)).answer) [
-    | true ↦ late_known x.kind
-    | false ↦ known_answer e x.kind
-  ]
-
-  packet_rows : (o : Option Entry) → row_of x.source rs ≡ option_map (row_with x.source) o → Mirrors (rows_after (row_for t x held o).answer x t rs) (row_for t x held o).held
-  packet_rows None there = unknown_rows x.kind
-  packet_rows (Some e) there = elim (is_late e.number x.number) as (λ b. Mirrors (rows_after (cond b late (known_row t x held e x.kind)).answer x t rs) (cond b late (known_row t x held e x.kind)).held) [
-    | true ↦ mirrors
-    | false ↦ known_rows e x.kind there
-  ]
+  packet_rows : (a : Taken) (o : Option Entry) → row_of x.source rs ≡ option_map (row_with x.source) o → Mirrors (rows_after a x t rs) (held_by a t x o held)
+  packet_rows Held o there = put_mirrors rs held mirrors x.source (live x t)
+  packet_rows EndedNow o there = put_mirrors rs held mirrors x.source (ended x t)
+  packet_rows Observed None there = subst (λ r. Mirrors (observed x r rs) held) (sym there) mirrors
+  packet_rows Observed (Some e) there = subst (λ r. Mirrors (observed x r rs) (Rattle.std.specs.FinMap.insert held x.source (renumbered x e))) (sym there) (put_mirrors rs held mirrors x.source (renumbered x e))
+  packet_rows OutOfSequence o there = mirrors
+  packet_rows SourcesExceeded o there = mirrors
+  packet_rows UnknownIgnored o there = mirrors
 
   pub same_answer : taken x rs ≡ (source_row t x held).answer
   same_answer =
@@ -79,7 +35,7 @@ module _ (t : ℕ) (x : Packet) (rs : List Row) (held : Sources) (mirrors : Mirr
       ∙ packet_answer (get held x.source)
 
   pub same_rows : Mirrors (take_row x t rs) (source_row t x held).held
-  same_rows = subst (λ a. Mirrors (rows_after a x t rs) (source_row t x held).held) (sym same_answer) (packet_rows (get held x.source) (row_found rs held mirrors x.source))
+  same_rows = subst (λ a. Mirrors (rows_after a x t rs) (source_row t x held).held) (sym same_answer) (packet_rows (answer_for x held (get held x.source)) (get held x.source) (row_found rs held mirrors x.source))
 
 -- ---- a call
 

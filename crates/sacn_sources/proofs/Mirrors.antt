@@ -16,7 +16,7 @@ use Rattle.sacn_sources.specs.Laws.{row_with, ExpiresAlone}
 use Rattle.sacn_sources.proofs.Places.{order_total, same_source}
 
 abbrev pub entry_of : Row → Entry
-entry_of r = record { number = r.number; shown = r.shown; moment = r.moment }
+entry_of r = record { sequence_number = r.sequence_number; shown = r.shown; moment = r.moment }
 
 abbrev pub pair : Row → List ℕ × Entry
 pair r = (r.source, entry_of r)

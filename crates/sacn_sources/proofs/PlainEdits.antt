@@ -9,13 +9,13 @@ use Rattle.sacn_sources.specs.Order.{order}
 use Rattle.sacn_sources.specs.declared.plain.entries.PlainEntry.{PlainEntry}
 use Rattle.sacn_sources.specs.declared.limits.TheConstants.{MAX_SOURCES}
 use Rattle.sacn_sources.specs.Rows.{Row, put_row}
-use Rattle.sacn_sources.specs.PlainStored.{plain_row, plain_rows, Ascend, AreOrdered}
+use Rattle.sacn_sources.specs.PlainStored.{plain_row, plain_rows, PrecedesByCid, AreOrdered}
 use Rattle.sacn_sources.specs.Places.{IsAt, IsGap}
 use Rattle.sacn_sources.proofs.Lists.{map_set, map_insert, map_remove, pairs_set, pairs_insert}
 use Rattle.sacn_sources.proofs.Places.{put_gap, flipped, order_total, same_source}
 
 abbrev pub blank : PlainEntry
-blank = record { cid = []; number = 0; priority = None; levels = []; moment = 0 }
+blank = record { cid = []; sequence_number = 0; priority = None; levels = []; moment = 0 }
 
 pub length_plain : (es : List PlainEntry) (rows : List Row) → plain_rows es ≡ rows → length es ≡ length rows
 length_plain es rows view_is = omega (arith, ap length view_is, length-map es plain_row)
@@ -33,7 +33,7 @@ module _ (es : List PlainEntry) (ordered : AreOrdered es) where
 
     pub set_ordered : AreOrdered (set es at e)
     set_ordered = record {
-      rising = pairs_set Ascend es at e ordered.rising within
+      rising = pairs_set PrecedesByCid es at e ordered.rising within
           (λ d a p. subst (λ c. order a.cid c ≡ Less) (sym (cid d)) p)
           (λ d b p. subst (λ c. order c b.cid ≡ Less) (sym (cid d)) p);
       within = omega (arith, ordered.within, length-set es at e);
@@ -51,7 +51,7 @@ module _ (es : List PlainEntry) (ordered : AreOrdered es) where
 
     pub put_ordered : length es < MAX_SOURCES → AreOrdered (insert es at e)
     put_ordered few = record {
-      rising = pairs_insert Ascend es at e ordered.rising in_es
+      rising = pairs_insert PrecedesByCid es at e ordered.rising in_es
           (λ k d lt. flipped e.cid (get_or es k d).cid Greater (ap (order e.cid) (sym (cid_at k d (omega (arith, in_es)))) ∙ gap.before k (plain_row d) lt))
           (λ k d le lt. ap (order e.cid) (sym (cid_at k d lt)) ∙ gap.after k (plain_row d) le (omega (arith, length-map es plain_row)));
       within = omega (arith, few, length-insert es at e in_es);
@@ -63,7 +63,7 @@ module _ (es : List PlainEntry) (ordered : AreOrdered es) where
 
     pub removed_ordered : AreOrdered (remove es at)
     removed_ordered = record {
-      rising = all_pairs_remove Ascend es at within ordered.rising;
+      rising = all_pairs_remove PrecedesByCid es at within ordered.rising;
       within = omega (arith, ordered.within, length-remove es at within);
     }
 

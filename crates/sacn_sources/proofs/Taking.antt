@@ -10,7 +10,7 @@ use Rattle.sacn_sources.specs.Places.{IsAt, IsGap}
 use Rattle.sacn_sources.proofs.Places.{row_at, row_absent, put_at}
 
 abbrev pub blank : Row
-blank = record { source = []; number = 0; shown = None; moment = 0 }
+blank = record { source = []; sequence_number = 0; shown = None; moment = 0 }
 
 late_known : (kind : Kind) → take_known kind true ≡ OutOfSequence
 late_known Live = refl
@@ -36,22 +36,22 @@ module _ (x : Packet) (rs : List Row) (at : ℕ) (is_at : IsAt rs x.source at) w
   abbrev there : Row
   there = get_or rs at blank
 
-  by_number : taken x rs ≡ take_known x.kind (is_late there.number x.number)
+  by_number : taken x rs ≡ take_known x.kind (is_late there.sequence_number x.sequence_number)
   by_number = ap (take_by x (nat_lt (length rs) MAX_SOURCES)) (row_at x.source rs at blank is_at)
 
-  pub taken_late : false ≡ not (is_late there.number x.number) → taken x rs ≡ OutOfSequence
+  pub taken_late : false ≡ not (is_late there.sequence_number x.sequence_number) → taken x rs ≡ OutOfSequence
   taken_late said = by_number ∙ ap (take_known x.kind) (late_from _ said) ∙ late_known x.kind
 
-  pub taken_in_time : (kind : Kind) → true ≡ not (is_late there.number x.number) → kind ≡ x.kind → taken x rs ≡ take_known kind false
+  pub taken_in_time : (kind : Kind) → true ≡ not (is_late there.sequence_number x.sequence_number) → kind ≡ x.kind → taken x rs ≡ take_known kind false
   taken_in_time kind said is = by_number ∙ ap (take_known x.kind) (in_time_from _ said) ∙ ap (λ k. take_known k false) (sym is)
 
-  pub row_late : (t : ℕ) → false ≡ not (is_late there.number x.number) → take_row x t rs ≡ rs
+  pub row_late : (t : ℕ) → false ≡ not (is_late there.sequence_number x.sequence_number) → take_row x t rs ≡ rs
   row_late t said = ap (λ a. rows_after a x t rs) (taken_late said)
 
-  pub row_shown : (t : ℕ) → true ≡ not (is_late there.number x.number) → Live ≡ x.kind → take_row x t rs ≡ set rs at (row_live x t)
+  pub row_shown : (t : ℕ) → true ≡ not (is_late there.sequence_number x.sequence_number) → Live ≡ x.kind → take_row x t rs ≡ set rs at (row_live x t)
   row_shown t said is = ap (λ a. rows_after a x t rs) (taken_in_time Live said is) ∙ put_at (row_live x t) rs at is_at
 
-  pub row_dark : (t : ℕ) → true ≡ not (is_late there.number x.number) → Termination ≡ x.kind → take_row x t rs ≡ set rs at (row_ended x t)
+  pub row_dark : (t : ℕ) → true ≡ not (is_late there.sequence_number x.sequence_number) → Termination ≡ x.kind → take_row x t rs ≡ set rs at (row_ended x t)
   row_dark t said is = ap (λ a. rows_after a x t rs) (taken_in_time Termination said is) ∙ put_at (row_ended x t) rs at is_at
 
   pub row_seen : (t : ℕ) → taken x rs ≡ Observed → take_row x t rs ≡ set rs at (row_observed x there)

@@ -7,7 +7,7 @@ use Rattle.sacn_sources.specs.declared.held.HeldView.TheInside.{Inside}
 use Rattle.sacn_sources.specs.Rows.{Row}
 
 abbrev pub held_row : Inside → Row
-held_row view = record { source = view.cid; number = view.number; shown = option_map shown_of view.shown; moment = view.moment }
+held_row view = record { source = view.cid; sequence_number = view.sequence_number; shown = option_map shown_of view.shown; moment = view.moment }
 
 -- the priority that is shown, 0 where the source has ended
 abbrev pub priority_shown : Option Shown → ℕ

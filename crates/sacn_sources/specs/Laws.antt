@@ -10,7 +10,7 @@ use Rattle.sacn_sources.specs.Calls.{Call, answer_to, after_calls, moment_in_use
 use Rattle.sacn_sources.specs.PlainRule.{Entry, Sources, unexpired, unless_expired, held_after, plain_rule, renewal_count}
 
 abbrev pub row_with : List ℕ → Entry → Row
-row_with cid e = record { source = cid; number = e.number; shown = e.shown; moment = e.moment }
+row_with cid e = record { source = cid; sequence_number = e.sequence_number; shown = e.shown; moment = e.moment }
 
 -- each answer is that of the plain rule
 abbrev pub AnswersByThePlainRule : Type 0

@@ -9,4 +9,4 @@ kind_of d = if d.terminated then Termination else (if d.preview then Preview els
 
 -- the universe is not looked at: a table takes what it is handed
 abbrev pub packet_of : Data → Packet
-packet_of d = record { source = d.cid; number = d.number; kind = kind_of d; priority = d.priority; levels = d.slots }
+packet_of d = record { source = d.cid; sequence_number = d.number; kind = kind_of d; priority = d.priority; levels = d.slots }

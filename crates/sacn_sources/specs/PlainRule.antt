@@ -7,11 +7,11 @@ use Rattle.sacn_sequence.specs.Sequence.{is_late}
 use Rattle.sacn_slots.specs.Merge.{Shown, merge}
 use Rattle.sacn_sources.specs.Order.{order}
 use Rattle.sacn_sources.specs.declared.limits.TheConstants.{MAX_SOURCES, NETWORK_DATA_LOSS}
-use Rattle.sacn_sources.specs.Rows.{Packet, Kind, Termination, Preview, Live, Other, Taken, Held, Observed, EndedNow, OutOfSequence, SourcesExceeded, UnknownIgnored, renews}
+use Rattle.sacn_sources.specs.Rows.{Packet, Taken, Held, Observed, EndedNow, OutOfSequence, SourcesExceeded, UnknownIgnored, take_unknown, take_known, renews}
 use Rattle.sacn_sources.specs.Calls.{Call, Take, Expire, Merge, Answer, Took, Expired, Slots, moment_in_use}
 
 pub record Entry : Type 0 where
-  pub number : ℕ
+  pub sequence_number : ℕ
   pub shown : Option Shown
   pub moment : ℕ
 
@@ -31,43 +31,39 @@ abbrev pub unless_expired : ℕ → Option Entry → Option Entry
 unless_expired t None = None
 unless_expired t (Some e) = if is_unexpired t e then Some e else None
 
--- ---- the rows of the source table at t, over the sources that are not expired (profile; out of sequence: E1.31, 6.7.2)
+-- ---- the rows of the source table at t, over the sources that are not expired: the answer is that of the table of answers,
+-- and what it makes of the source is said here
 
 pub record Outcome : Type 0 where
   pub answer : Taken
   pub held : Sources
 
 abbrev pub live : Packet → ℕ → Entry
-live x t = record { number = x.number; shown = Some (record { priority = x.priority; levels = x.levels }); moment = t }
+live x t = record { sequence_number = x.sequence_number; shown = Some (record { priority = x.priority; levels = x.levels }); moment = t }
 
 abbrev pub ended : Packet → ℕ → Entry
-ended x t = record { number = x.number; shown = None; moment = t }
+ended x t = record { sequence_number = x.sequence_number; shown = None; moment = t }
 
 -- the number alone
 abbrev pub renumbered : Packet → Entry → Entry
-renumbered x e = record { number = x.number; shown = e.shown; moment = e.moment }
+renumbered x e = record { sequence_number = x.sequence_number; shown = e.shown; moment = e.moment }
 
-abbrev pub unknown_row : ℕ → Packet → Sources → Kind → Outcome
-unknown_row t x held Live =
-    if nat_lt (len held) MAX_SOURCES
-    then record { answer = Held; held = insert held x.source (live x t) }
-    else record { answer = SourcesExceeded; held = held }
-unknown_row t x held Termination = record { answer = UnknownIgnored; held = held }
-unknown_row t x held Preview = record { answer = UnknownIgnored; held = held }
-unknown_row t x held Other = record { answer = UnknownIgnored; held = held }
+-- what is held after this answer, where o is what is held of the source
+abbrev pub held_by : Taken → ℕ → Packet → Option Entry → Sources → Sources
+held_by Held t x o held = insert held x.source (live x t)
+held_by EndedNow t x o held = insert held x.source (ended x t)
+held_by Observed t x None held = held
+held_by Observed t x (Some e) held = insert held x.source (renumbered x e)
+held_by OutOfSequence t x o held = held
+held_by SourcesExceeded t x o held = held
+held_by UnknownIgnored t x o held = held
 
-abbrev pub known_row : ℕ → Packet → Sources → Entry → Kind → Outcome
-known_row t x held e Termination = record { answer = EndedNow; held = insert held x.source (ended x t) }
-known_row t x held e Preview = record { answer = Observed; held = insert held x.source (renumbered x e) }
-known_row t x held e Other = record { answer = Observed; held = insert held x.source (renumbered x e) }
-known_row t x held e Live = record { answer = Held; held = insert held x.source (live x t) }
+abbrev pub answer_for : Packet → Sources → Option Entry → Taken
+answer_for x held None = take_unknown x.kind (nat_lt (len held) MAX_SOURCES)
+answer_for x held (Some e) = take_known x.kind (is_late e.sequence_number x.sequence_number)
 
 abbrev pub row_for : ℕ → Packet → Sources → Option Entry → Outcome
-row_for t x held None = unknown_row t x held x.kind
-row_for t x held (Some e) =
-    if is_late e.number x.number
-    then record { answer = OutOfSequence; held = held }
-    else known_row t x held e x.kind
+row_for t x held o = record { answer = answer_for x held o; held = held_by (answer_for x held o) t x o held }
 
 abbrev pub source_row : ℕ → Packet → Sources → Outcome
 source_row t x held = row_for t x held (get held x.source)

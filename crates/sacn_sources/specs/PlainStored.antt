@@ -8,15 +8,15 @@ use Rattle.sacn_sources.specs.declared.plain.entries.PlainEntry.{PlainEntry}
 use Rattle.sacn_sources.specs.declared.limits.TheConstants.{MAX_SOURCES}
 
 abbrev pub plain_row : PlainEntry → Row
-plain_row e = record { source = e.cid; number = e.number; shown = option_map (λ priority. record { priority = priority; levels = e.levels }) e.priority; moment = e.moment }
+plain_row e = record { source = e.cid; sequence_number = e.sequence_number; shown = option_map (λ priority. record { priority = priority; levels = e.levels }) e.priority; moment = e.moment }
 
 abbrev pub plain_rows : List PlainEntry → List Row
 plain_rows es = map plain_row es
 
--- the CIDs strictly rise
-abbrev pub Ascend : PlainEntry → PlainEntry → Type 0
-Ascend a b = order a.cid b.cid ≡ Less
+-- of two entries the earlier has the smaller CID
+abbrev pub PrecedesByCid : PlainEntry → PlainEntry → Type 0
+PrecedesByCid a b = order a.cid b.cid ≡ Less
 
 pub record AreOrdered (es : List PlainEntry) : Type 0 where
-  pub rising : AllPairs Ascend es
+  pub rising : AllPairs PrecedesByCid es
   pub within : length es ≤ MAX_SOURCES

@@ -14,7 +14,7 @@ pub use Rattle.sacn_sources.specs.declared.taken.Taken.TheVariants.{Held, Observ
 -- a source: the number of its latest accepted packet, what it shows (nothing once it has ended), and when it was renewed
 pub record Row : Type 0 where
   pub source : List ℕ
-  pub number : ℕ
+  pub sequence_number : ℕ
   pub shown : Option Shown
   pub moment : ℕ
 
@@ -26,7 +26,7 @@ pub record Table : Type 0 where
 -- the fields of a data packet that a table reads
 pub record Packet : Type 0 where
   pub source : List ℕ
-  pub number : ℕ
+  pub sequence_number : ℕ
   pub kind : Kind
   pub priority : ℕ
   pub levels : List ℕ
@@ -67,7 +67,7 @@ take_known Live false = Held
 
 abbrev pub take_by : Packet → Bool → Option Row → Taken
 take_by x room None = take_unknown x.kind room
-take_by x room (Some r) = take_known x.kind (is_late r.number x.number)
+take_by x room (Some r) = take_known x.kind (is_late r.sequence_number x.sequence_number)
 
 abbrev pub taken : Packet → List Row → Taken
 taken x rs = take_by x (nat_lt (length rs) MAX_SOURCES) (row_of x.source rs)
@@ -84,14 +84,14 @@ renews UnknownIgnored = false
 -- ---- and the rows after it
 
 abbrev pub row_live : Packet → ℕ → Row
-row_live x t = record { source = x.source; number = x.number; shown = Some (record { priority = x.priority; levels = x.levels }); moment = t }
+row_live x t = record { source = x.source; sequence_number = x.sequence_number; shown = Some (record { priority = x.priority; levels = x.levels }); moment = t }
 
 abbrev pub row_ended : Packet → ℕ → Row
-row_ended x t = record { source = x.source; number = x.number; shown = None; moment = t }
+row_ended x t = record { source = x.source; sequence_number = x.sequence_number; shown = None; moment = t }
 
 -- a preview changes a row's number alone
 abbrev pub row_observed : Packet → Row → Row
-row_observed x r = record { source = r.source; number = x.number; shown = r.shown; moment = r.moment }
+row_observed x r = record { source = r.source; sequence_number = x.sequence_number; shown = r.shown; moment = r.moment }
 
 abbrev pub observed : Packet → Option Row → List Row → List Row
 observed x None rs = rs
@@ -135,7 +135,7 @@ abbrev pub shown_code : Coded Shown
 shown_code = code_by (ℕ × List ℕ) (coded× coded_ℕ (coded_list coded_ℕ)) (λ s. (s.priority, s.levels)) (λ p. record { priority = p.0; levels = p.1 }) (λ _. refl)
 
 abbrev pub row_code : Coded Row
-row_code = code_by (List ℕ × (ℕ × (Option Shown × ℕ))) (coded× (coded_list coded_ℕ) (coded× coded_ℕ (coded× (coded_option shown_code) coded_ℕ))) (λ r. (r.source, (r.number, (r.shown, r.moment)))) (λ p. record { source = p.0; number = p.1.0; shown = p.1.1.0; moment = p.1.1.1 }) (λ _. refl)
+row_code = code_by (List ℕ × (ℕ × (Option Shown × ℕ))) (coded× (coded_list coded_ℕ) (coded× coded_ℕ (coded× (coded_option shown_code) coded_ℕ))) (λ r. (r.source, (r.sequence_number, (r.shown, r.moment)))) (λ p. record { source = p.0; sequence_number = p.1.0; shown = p.1.1.0; moment = p.1.1.1 }) (λ _. refl)
 
 abbrev pub table_code : Coded Table
 table_code = code_by (List Row × ℕ) (coded× (coded_list row_code) coded_ℕ) (λ t. (t.rows, t.moment)) (λ p. record { rows = p.0; moment = p.1 }) (λ _. refl)

@@ -15,7 +15,7 @@ Frames = Slab (List ℕ)
 abbrev pub row_in : Frames → Entry → Row
 row_in frames e = record {
   source = e.cid;
-  number = e.number;
+  sequence_number = e.sequence_number;
   shown = option_map (λ priority. record { priority = priority; levels = unwrap_or (get frames e.key) [] }) e.priority;
   moment = e.moment;
 }

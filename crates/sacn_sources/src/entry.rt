@@ -12,7 +12,7 @@ use arrayvec::ArrayVec;
 #[derive(Clone, Copy, Default)]
 pub(crate) struct Entry {
     pub(crate) cid: [u8; 16],
-    pub(crate) number: u8,
+    pub(crate) sequence_number: u8,
     /// The priority of the levels, or none where the source has ended.
     pub(crate) priority: Option<u8>,
     pub(crate) moment: u64,
@@ -59,27 +59,27 @@ pub(crate) fn entry_at(entries: &ArrayVec<Entry, MAX_SOURCES>, at: usize) -> &En
 }
 
 /// Writes the number of the entry at this place, and nothing else.
-pub(crate) fn renumber(entries: &mut ArrayVec<Entry, MAX_SOURCES>, at: usize, number: u8)
+pub(crate) fn renumber(entries: &mut ArrayVec<Entry, MAX_SOURCES>, at: usize, sequence_number: u8)
     requires { at < array_vec_len entries.old }
-    ensures { (d : Stored) → entries.new.items ≡ slice_set entries.old.items at (record (slice_index_or entries.old.items at d) { number = number }) }
+    ensures { (d : Stored) → entries.new.items ≡ slice_set entries.old.items at (record (slice_index_or entries.old.items at d) { sequence_number = sequence_number }) }
 {
-    entries[at].number = number;
+    entries[at].sequence_number = sequence_number;
 }
 
 /// Writes all of the entry at this place but its CID and key. Answers its key.
 pub(crate) fn renew(
     entries: &mut ArrayVec<Entry, MAX_SOURCES>,
     at: usize,
-    number: u8,
+    sequence_number: u8,
     priority: Option<u8>,
     moment: u64,
 ) -> usize
     requires { at < array_vec_len entries.old }
     ensures key { (d : Stored) → result ≡ (slice_index_or entries.old.items at d).key }
-    ensures entries { (d : Stored) → entries.new.items ≡ slice_set entries.old.items at (record (slice_index_or entries.old.items at d) { number = number; priority = priority; moment = moment }) }
+    ensures entries { (d : Stored) → entries.new.items ≡ slice_set entries.old.items at (record (slice_index_or entries.old.items at d) { sequence_number = sequence_number; priority = priority; moment = moment }) }
 {
     let entry = &mut entries[at];
-    entry.number = number;
+    entry.sequence_number = sequence_number;
     entry.priority = priority;
     entry.moment = moment;
     entry.key

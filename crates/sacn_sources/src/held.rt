@@ -11,7 +11,7 @@ use std::marker::Model;
 #[derive(Clone, Drop)]
 pub struct HeldView<'a> {
     pub(crate) cid: [u8; 16],
-    pub(crate) number: u8,
+    pub(crate) sequence_number: u8,
     pub(crate) shown: Option<Layer<'a>>,
     pub(crate) moment: u64,
 }
@@ -30,9 +30,9 @@ impl<'a> Model for HeldView<'a> {
 impl<'a> HeldView<'a> {
     /// The sequence number of the latest packet that was accepted from the source (Held, Observed or EndedNow).
     pub fn number(&self) -> u8
-        ensures { result ≡ self.now.number }
+        ensures { result ≡ self.now.sequence_number }
     {
-        self.number
+        self.sequence_number
     }
 
     /// Whether the source has ended its stream, and shows nothing.

@@ -160,7 +160,7 @@ impl Store {
         };
         Some(HeldView {
             cid: entry.cid,
-            number: entry.number,
+            sequence_number: entry.sequence_number,
             shown,
             moment: entry.moment,
         })
@@ -300,10 +300,10 @@ impl Store {
     // Whether the packet is in sequence after the latest accepted one of the source at this place.
     fn in_sequence_at(&self, at: usize, packet: &DataView<'_>) -> bool
         requires { at < length self.now.rows }
-        ensures { (d : Row) → result ≡ not (is_late (slice_index_or self.now.rows at d).number packet.now.number) }
+        ensures { (d : Row) → result ≡ not (is_late (slice_index_or self.now.rows at d).sequence_number packet.now.number) }
     {
         let entry = entry_at(&self.entries, at);
-        in_sequence(entry.number, packet.number())
+        in_sequence(entry.sequence_number, packet.number())
     }
 
     // A source that keeps what it shows.
@@ -311,8 +311,8 @@ impl Store {
         requires { IsAt self.old.rows packet.now.cid at }
         ensures { (d : Row) → self.new ≡ record self.old { rows = slice_set self.old.rows at (row_observed (packet_of packet.now) (slice_index_or self.old.rows at d)) } }
     {
-        let number = packet.number();
-        renumber(&mut self.entries, at, number);
+        let sequence_number = packet.number();
+        renumber(&mut self.entries, at, sequence_number);
     }
 
     // A source that has ended. It keeps its key, and shows no levels.
@@ -320,8 +320,8 @@ impl Store {
         requires { IsAt self.old.rows packet.now.cid at }
         ensures { self.new ≡ record self.old { rows = slice_set self.old.rows at (row_ended (packet_of packet.now) self.old.moment) } }
     {
-        let number = packet.number();
-        renew(&mut self.entries, at, number, None, self.moment);
+        let sequence_number = packet.number();
+        renew(&mut self.entries, at, sequence_number, None, self.moment);
     }
 
     // A source that shows new levels, in the place of the old ones.
@@ -329,9 +329,15 @@ impl Store {
         requires { IsAt self.old.rows packet.now.cid at }
         ensures { self.new ≡ record self.old { rows = slice_set self.old.rows at (row_live (packet_of packet.now) self.old.moment) } }
     {
-        let number = packet.number();
+        let sequence_number = packet.number();
         let priority = packet.priority();
-        let key = renew(&mut self.entries, at, number, Some(priority), self.moment);
+        let key = renew(
+            &mut self.entries,
+            at,
+            sequence_number,
+            Some(priority),
+            self.moment,
+        );
         overwrite(&mut self.frames[key], packet.slots());
     }
 
@@ -346,7 +352,7 @@ impl Store {
             at,
             Entry {
                 cid: packet.cid(),
-                number: packet.number(),
+                sequence_number: packet.number(),
                 priority: Some(packet.priority()),
                 moment: self.moment,
                 key,

@@ -1,7 +1,7 @@
 -- What a writer has, from what a sink over it tells.
 use Rattle.std.proofs.Common.{◌≡◌, ◌++◌, ◌∙◌, ap, sym, refl, Bool, true, false, ℕ, List, [], take, Option, Some, None, Result, Ok, Err, IsSome, OnOk, IfErr, inl, inr}
 use Rattle.std.specs.Io.KnownBytes.{Appends}
-use Rattle.sacn_edge.specs.Told.{Adds}
+use Rattle.sacn_edge.specs.Additions.{Adds}
 use Rattle.sacn_text.specs.Decoding as decoding
 use Rattle.sacn_text.specs.Decoding.{Decoded}
 use Rattle.sacn_text.specs.Simulating as simulating

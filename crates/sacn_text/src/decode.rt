@@ -5,7 +5,7 @@ ghost use Rattle.std.specs.Option.{option_map};
 ghost use Rattle.sacn_framing.specs.PacketReading.{reading_packet};
 ghost use Rattle.sacn_discovery.specs.Known.{nothing_known};
 ghost use Rattle.sacn_framing.specs.declared.packet.Packet.TheVariants.{PagePacket};
-ghost use Rattle.sacn_edge.specs.Told.{Adds};
+ghost use Rattle.sacn_edge.specs.Additions.{Adds};
 ghost use Rattle.sacn_text.specs.Decoding.{block, state_after, decoded, octets_of, Stops};
 
 use crate::block::{data_block, page_block};

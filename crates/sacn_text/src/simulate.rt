@@ -1,6 +1,6 @@
 //! A world, run by a schedule.
 ghost use Rattle.std.specs.Prelude.{◌≡◌, false, None, IfOk, IfErr, OnOk, List, [], ℕ};
-ghost use Rattle.sacn_edge.specs.Told.{Adds};
+ghost use Rattle.sacn_edge.specs.Additions.{Adds};
 ghost use Rattle.sacn_text.specs.Simulating.{line_of, shown_line, simulated, begun, Breaks, Ends, Stops};
 
 use crate::fault::SimFault;

@@ -1,1 +1,2 @@
 pub mod Universe
+pub mod Results

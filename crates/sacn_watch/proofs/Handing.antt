@@ -1,6 +1,6 @@
 -- One receive after another, and one turn after another, of a watch.
 use Rattle.std.proofs.Common.{◌≡◌, ℕ, ◌-◌, ◌^◌, Bool, true, false, List, [], ◌∷◌, ◌++◌, length, Option, None, Some, inr, refl, sym, ap, subst, ◌∙◌, arith, append_assoc}
-use Rattle.sacn_edge.specs.Told.{Extends}
+use Rattle.sacn_edge.specs.Additions.{Extends}
 use Rattle.sacn_edge.proofs.NodeLemmas.{Extends-append}
 use Rattle.sacn_live.specs.Hearings.{Hearing, in_order}
 use Rattle.sacn_monitor.specs.Histories.{Call, Tick}

@@ -1,7 +1,7 @@
 //! Watches of each kind.
 
 ghost use Rattle.std.specs.Prelude.{List, OnOk};
-ghost use Rattle.sacn_edge.specs.Told.{Extends};
+ghost use Rattle.sacn_edge.specs.Additions.{Extends};
 ghost use Rattle.sacn_watch.specs.Watches.{Receive, heard_by, IsWatch};
 
 use crate::fault::WatchFault;

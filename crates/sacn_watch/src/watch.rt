@@ -1,7 +1,7 @@
 //! The loop of a watch.
 
 ghost use Rattle.std.specs.Prelude.{◌≡◌, ◌∷◌, ◌++◌, [], List, IfOk, OnOk, ⊤};
-ghost use Rattle.sacn_edge.specs.Told.{Extends};
+ghost use Rattle.sacn_edge.specs.Additions.{Extends};
 ghost use Rattle.sacn_live.specs.GatewayRun.{IsWhole};
 ghost use Rattle.sacn_live.specs.Hearings.{in_order, is_datagram};
 ghost use Rattle.sacn_monitor.specs.Histories.{Call, Take, Tick};

@@ -17,9 +17,9 @@ use Rattle.sacn_world.specs.Streams.{Sent, life_at, stream_of, place_of}
 use Rattle.sacn_world.specs.Holdings.{newest, is_old_life, is_too_far_behind, refusal_at, refusal}
 use Rattle.sacn_world.specs.Nodes.{Node}
 use Rattle.sacn_schedule.specs.Cids.{Desk}
-use Rattle.sacn_world.specs.Kept.{IsAccepted}
+use Rattle.sacn_world.specs.Invariants.{IsAccepted}
 use Rattle.sacn_world.specs.Worlds.{World, Step, order_step, poll_step, restart_console, come, arrive, deliver_step, look_step, heard, noise_step, restart_node, step, left_by, after, new_world}
-use Rattle.sacn_world.specs.Running.{Ran, answered_first, first_then, ran}
+use Rattle.sacn_world.specs.Runs.{Ran, answered_first, first_then, ran}
 use Rattle.sacn_world.specs.Laws.{reached}
 use Rattle.sacn_world.specs.Newest.{greatest, delivered_in}
 use Rattle.sacn_world.specs.Admissible.{MayCome, MayBeDelivered, IsAdmissible, AreAdmissible}

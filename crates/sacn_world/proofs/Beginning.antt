@@ -11,7 +11,7 @@ use Rattle.sacn_schedule.proofs.OwnCids.{or_parts, differ}
 use Rattle.sacn_world.specs.Worlds.{new_console, new_world, Apart, WorldOk}
 use Rattle.sacn_world.specs.Watches.{Watch, new_watch, node_by_places, WatchOk}
 use Rattle.sacn_world.specs.Wire.{SentDatagram}
-use Rattle.sacn_world.specs.Kept.{seen_world, Kept}
+use Rattle.sacn_world.specs.Invariants.{seen_world, Kept}
 use Rattle.sacn_world.proofs.Runs.{start_ok, mapped}
 use Rattle.sacn_world.proofs.Keeping.{new_moved}
 

@@ -6,7 +6,7 @@ use Rattle.std.proofs.lemmas.Bool.{cases_Bool, and_from, eqb-true, eq-eqb, ne_eq
 use Rattle.sacn_framing.specs.Data.{Data}
 use Rattle.sacn_sources.specs.Order.{same}
 use Rattle.sacn_console.specs.Shows.{ShowContent}
-use Rattle.sacn_console.specs.declared.line.Line.{Line}
+use Rattle.sacn_console.specs.declared.line.UniverseLine.{UniverseLine}
 use Rattle.sacn_console.specs.declared.line.State.TheVariants.{Running, Ending}
 use Rattle.sacn_console.specs.declared.limits.TheConstants.{TERMINATIONS}
 use Rattle.sacn_console.specs.declared.command.Command.{Command}
@@ -25,10 +25,10 @@ use Rattle.sacn_world.proofs.Polls.{count_filter}
 
 -- ---- orders
 
-abbrev Alike : Line → Line → Type 0
-Alike a b = (a.number ≡ b.number) × (a.universe ≡ b.universe)
+abbrev Alike : UniverseLine → UniverseLine → Type 0
+Alike a b = (a.sequence_number ≡ b.sequence_number) × (a.universe ≡ b.universe)
 
-told_alike : (k : Command) (l : Line) → Alike (line.line_told k l) l
+told_alike : (k : Command) (l : UniverseLine) → Alike (line.line_told k l) l
 told_alike Go l = (refl, refl)
 told_alike (GoTo n) l = (refl, refl)
 told_alike (SetLevel c n) l = (refl, refl)
@@ -38,7 +38,7 @@ told_alike (EndUniverse u) l =
 told_alike (StartUniverse u) l =
     elim (l.universe == u) as (λ b. Alike (if b then line.line_in (Running None) l else l) l) [ true ↦ (refl, refl) | false ↦ (refl, refl) ]
 
-line_told_ok : (sent : List Sent) (c : Console) (t : ℕ) (k : Command) (l : Line) → LineOk sent c l → LineOk sent c (line.line_after (line.Accepted t k) l)
+line_told_ok : (sent : List Sent) (c : Console) (t : ℕ) (k : Command) (l : UniverseLine) → LineOk sent c l → LineOk sent c (line.line_after (line.Accepted t k) l)
 unfolding line.line_after
 line_told_ok sent c t k l ok =
     let a = told_alike k l in
@@ -75,7 +75,7 @@ count_push p (y ∷ ys) x b e =
     omega (arith, a, f, r)
 
 -- a datagram of another source, or a page, counts nowhere
-stays_ok : (sent : List Sent) (x : Sent) (c : Console) (l : Line) → is_of_life c.show.cid l.universe c.life x ≡ false → LineOk sent c l → LineOk (sent ++ x ∷ []) c l
+stays_ok : (sent : List Sent) (x : Sent) (c : Console) (l : UniverseLine) → is_of_life c.show.cid l.universe c.life x ≡ false → LineOk sent c l → LineOk (sent ++ x ∷ []) c l
 stays_ok sent x c l apart ok =
     ok ∙ ap (λ n. (c.first + n) % 256) (omega (arith, count_push (is_of_life c.show.cid l.universe c.life) sent x false apart))
 
@@ -104,7 +104,7 @@ module _ (sent : List Sent) (c : Console) (d : Data) (t : ℕ) where
   abbrev own : Sent
   own = sent_by c (line.Packet d)
 
-  sent_line : (l : Line) → LineOk sent c l → LineOk (sent ++ own ∷ []) c (line.line_after (line.Gave t (line.Packet d)) l)
+  sent_line : (l : UniverseLine) → LineOk sent c l → LineOk (sent ++ own ∷ []) c (line.line_after (line.Gave t (line.Packet d)) l)
   unfolding line.line_after line.line_sent
   sent_line l ok =
       elim (l.universe == d.universe) as (λ b. (l.universe == d.universe) ≡ b → LineOk (sent ++ own ∷ []) c (if b then line.line_sent t d.slots l else l)) [
@@ -118,11 +118,11 @@ module _ (sent : List Sent) (c : Console) (d : Data) (t : ℕ) where
             stays_ok sent own c l (not_of _ _ (never_on _ _ no)) ok
       ] refl
 
-paged_line : (sent : List Sent) (c : Console) (p : line.Page) (t : ℕ) (l : Line) → LineOk sent c l → LineOk (sent ++ sent_by c (line.Paged p) ∷ []) c (line.line_after (line.Gave t (line.Paged p)) l)
+paged_line : (sent : List Sent) (c : Console) (p : line.Page) (t : ℕ) (l : UniverseLine) → LineOk sent c l → LineOk (sent ++ sent_by c (line.Paged p) ∷ []) c (line.line_after (line.Gave t (line.Paged p)) l)
 unfolding line.line_after
 paged_line sent c p t l ok = stays_ok sent (sent_by c (line.Paged p)) c l (not_of _ _ (never_on _ _ refl)) ok
 
-gave_line : (sent : List Sent) (c : Console) (d : line.Datagram) (t : ℕ) (l : Line) → LineOk sent c l → LineOk (sent ++ sent_by c d ∷ []) c (line.line_after (line.Gave t d) l)
+gave_line : (sent : List Sent) (c : Console) (d : line.Datagram) (t : ℕ) (l : UniverseLine) → LineOk sent c l → LineOk (sent ++ sent_by c d ∷ []) c (line.line_after (line.Gave t d) l)
 gave_line sent c (line.Packet d) t l ok = sent_line sent c d t l ok
 gave_line sent c (line.Paged p) t l ok = paged_line sent c p t l ok
 

@@ -7,7 +7,7 @@ use Rattle.std.proofs.lemmas.Option.{same_Some, slice_get-map, none-some as none
 use Rattle.sacn_world.proofs.All.{all_get}
 use Rattle.sacn_world.proofs.Sources.{same_source, same-itself}
 use Rattle.sacn_world.proofs.Lists.{found, find-map}
-use Rattle.sacn_world.specs.Holdings.{Sorted}
+use Rattle.sacn_world.specs.Holdings.{RisingByCid}
 use Rattle.sacn_world.proofs.Changes.{on, find_kept, find_change, find_change_other, set_same, set_other, set_there}
 use Rattle.sacn_world.proofs.Maps.{sorted_put, sorted_filter, hold_of-filter}
 use Rattle.sacn_world.proofs.Forward.{other_kept}
@@ -44,7 +44,7 @@ use Rattle.sacn_schedule.specs.declared.event.Event.TheVariants.{Order, Poll, De
 -- ---- a count at one node
 
 pub record Counted (st : List Sent) (s : List ℕ) (last : Option ℕ) (c : ℕ) (hs : List Hold) : Type 0 where
-  pub sorted : Sorted hs
+  pub sorted : RisingByCid hs
   pub count : CountOk st s last c hs
 
 counted_kept : (st : List Sent) (s : List ℕ) (last : Option ℕ) (c t : ℕ) (hs : List Hold) → Counted st s last c hs → Counted st s last c (unexpired t hs)
@@ -53,7 +53,7 @@ counted_kept st s last c t hs k = record {
   count = count_kept st s last c hs (unexpired t hs) (λ h e. hold_of-filter (is_renewed t) s hs h k.sorted e) k.count;
 }
 
-pub sorted_after : (a : Taken) (n : Hold) (hs : List Hold) → Sorted hs → Sorted (holding_after a n hs)
+pub sorted_after : (a : Taken) (n : Hold) (hs : List Hold) → RisingByCid hs → RisingByCid (holding_after a n hs)
 sorted_after Held n hs so = sorted_put n hs so
 sorted_after EndedNow n hs so = sorted_put n hs so
 sorted_after Observed n hs so = so

@@ -7,15 +7,15 @@ use Rattle.sacn_framing.specs.declared.packet.Packet.{Packet}
 use Rattle.sacn_framing.specs.declared.packet.Packet.TheVariants.{DataPacket, PagePacket, SyncPacket}
 use Rattle.sacn_node.specs.Cores.{Core, core_at}
 use Rattle.sacn_node.specs.Readings.{reply_to, after_reading}
-use Rattle.sacn_node.specs.Seen.{Rise}
+use Rattle.sacn_universe.specs.Universe.{Rising}
 use Rattle.sacn_world.specs.declared.limits.TheConstants.{TOO_FAR_BEHIND}
 use Rattle.sacn_world.specs.declared.fault.WorldFault.TheVariants.{TooFarBehind, OldLife}
 use Rattle.sacn_world.specs.Streams.{Sent, is_of, is_on, stream_of, life_at, place_of}
-use Rattle.sacn_world.specs.Holdings.{Hold, Delivery, Sorted, is_renewed, newest, noted, refusal}
+use Rattle.sacn_world.specs.Holdings.{Hold, Delivery, RisingByCid, is_renewed, newest, add_delivery, refusal}
 use Rattle.sacn_world.specs.Nodes.{Holding, Node, unexpired_all, change, node_after, node_at, seen_core}
 use Rattle.sacn_world.specs.Worlds.{WorldOk, World, IsNumbered}
 use Rattle.sacn_world.specs.Arrivals.{refused_for, replied, moved}
-use Rattle.sacn_world.specs.Watches.{Mark, Watch, is_mark_of, mark_of, moves, remarked, marked, mark_refusal, holding_from, delivery_of, by_places, node_by_places, taken_by, with_core, MarkOk, WatchOk}
+use Rattle.sacn_world.specs.Watches.{Mark, Watch, is_mark_of, mark_of, moves, mark_after, marked, mark_refusal, holding_from, delivery_of, by_places, node_by_places, taken_by, with_core, MarkOk, WatchOk}
 use Rattle.sacn_world.specs.Wire.{stream_in, came_by, refusal_in}
 use Rattle.sacn_world.proofs.Sources.{same_source, same-itself}
 use Rattle.sacn_world.proofs.Lists.{found}
@@ -36,10 +36,10 @@ newest_is s u (m ∷ ms) =
       | false ↦ newest_is s u ms
     ]
 
-noted_is : (b : Bool) (d : Mark) (ms : List Mark) → map delivery_of (marked b d ms) ≡ noted (delivery_of d) (map delivery_of ms)
+noted_is : (b : Bool) (d : Mark) (ms : List Mark) → map delivery_of (marked b d ms) ≡ add_delivery (delivery_of d) (map delivery_of ms)
 noted_is b d [] = refl
 noted_is b d (m ∷ ms) =
-    elim (is_mark_of d.source d.universe m) as (λ t. map delivery_of (if t then remarked b d m ∷ ms else m ∷ marked b d ms) ≡ (if t then record { source = m.source; universe = m.universe; place = max d.newest m.newest } ∷ map delivery_of ms else delivery_of m ∷ noted (delivery_of d) (map delivery_of ms))) [
+    elim (is_mark_of d.source d.universe m) as (λ t. map delivery_of (if t then mark_after b d m ∷ ms else m ∷ marked b d ms) ≡ (if t then record { source = m.source; universe = m.universe; place = max d.newest m.newest } ∷ map delivery_of ms else delivery_of m ∷ add_delivery (delivery_of d) (map delivery_of ms))) [
       | true ↦ refl
       | false ↦ ap (λ (xs : List Delivery). delivery_of m ∷ xs) (noted_is b d ms)
     ]
@@ -53,7 +53,7 @@ max_down a b e = elim (cases_lt a b) [
   | inr ge ↦ absurd (let t = le-leb b a ge in cc)
 ]
 
-remarked_ok : (sent : List Sent) (b : Bool) (d m : Mark) → MarkOk sent d → MarkOk sent m → is_mark_of d.source d.universe m ≡ true → MarkOk sent (remarked b d m)
+remarked_ok : (sent : List Sent) (b : Bool) (d m : Mark) → MarkOk sent d → MarkOk sent m → is_mark_of d.source d.universe m ≡ true → MarkOk sent (mark_after b d m)
 remarked_ok sent b d m dok mok e =
     let es : d.source ≡ m.source = same_source _ _ (and_parts _ _ e).0 in
     let eu : d.universe ≡ m.universe = sym (eqb-true _ _ (and_parts _ _ e).1) in
@@ -67,7 +67,7 @@ remarked_ok sent b d m dok mok e =
 marked_ok : (sent : List Sent) (b : Bool) (d : Mark) (ms : List Mark) → MarkOk sent d → AllByRecursion (MarkOk sent) ms → AllByRecursion (MarkOk sent) (marked b d ms)
 marked_ok sent b d [] dok all = (dok, tt)
 marked_ok sent b d (m ∷ ms) dok all =
-    elim (is_mark_of d.source d.universe m) as (λ t. is_mark_of d.source d.universe m ≡ t → AllByRecursion (MarkOk sent) (if t then remarked b d m ∷ ms else m ∷ marked b d ms)) [
+    elim (is_mark_of d.source d.universe m) as (λ t. is_mark_of d.source d.universe m ≡ t → AllByRecursion (MarkOk sent) (if t then mark_after b d m ∷ ms else m ∷ marked b d ms)) [
       | true ↦ λ e. (remarked_ok sent b d m dok all.0 e, all.1)
       | false ↦ λ e. (all.0, marked_ok sent b d ms dok all.1)
     ] refl
@@ -102,14 +102,14 @@ universes_changed u f (g ∷ gs) =
       | false ↦ ap (λ us. g.universe ∷ us) (universes_changed u f gs)
     ]
 
-sorted_kept : (t : ℕ) (gs : List Holding) → AllByRecursion (λ (g : Holding). Sorted g.held) gs → AllByRecursion (λ (g : Holding). Sorted g.held) (unexpired_all t gs)
+sorted_kept : (t : ℕ) (gs : List Holding) → AllByRecursion (λ (g : Holding). RisingByCid g.held) gs → AllByRecursion (λ (g : Holding). RisingByCid g.held) (unexpired_all t gs)
 sorted_kept t [] all = tt
 sorted_kept t (g ∷ gs) all = (sorted_filter (is_renewed t) g.held all.0, sorted_kept t gs all.1)
 
-sorted_changed : (u : ℕ) (f : List Hold → List Hold) → ((hs : List Hold) → Sorted hs → Sorted (f hs)) → (gs : List Holding) → AllByRecursion (λ (g : Holding). Sorted g.held) gs → AllByRecursion (λ (g : Holding). Sorted g.held) (change u f gs)
+sorted_changed : (u : ℕ) (f : List Hold → List Hold) → ((hs : List Hold) → RisingByCid hs → RisingByCid (f hs)) → (gs : List Holding) → AllByRecursion (λ (g : Holding). RisingByCid g.held) gs → AllByRecursion (λ (g : Holding). RisingByCid g.held) (change u f gs)
 sorted_changed u f step [] all = tt
 sorted_changed u f step (g ∷ gs) all =
-    elim (g.universe == u) as (λ b. AllByRecursion (λ (x : Holding). Sorted x.held) (if b then record { universe = g.universe; held = f g.held } ∷ gs else g ∷ change u f gs)) [
+    elim (g.universe == u) as (λ b. AllByRecursion (λ (x : Holding). RisingByCid x.held) (if b then record { universe = g.universe; held = f g.held } ∷ gs else g ∷ change u f gs)) [
       | true ↦ (step g.held all.0, all.1)
       | false ↦ (all.0, sorted_changed u f step gs all.1)
     ]
@@ -127,14 +127,14 @@ again sent w core ms n e fit ports ds =
       delivered = sym ds i;
     }
 
-again_ok : (sent : List Sent) (w : Watch) (core : Core) (ms : List Mark) (n : Node) → core ≡ seen_core sent n → Fits ms n.holdings → n.ports ≡ w.node.ports → n.delivered ≡ map delivery_of ms → AllByRecursion (MarkOk sent) ms → Rise (map (λ (g : Holding). g.universe) n.holdings) → AllByRecursion (λ (g : Holding). Sorted g.held) n.holdings → WatchOk sent (record { node = record { ports = w.node.ports; core = core }; marks = ms })
+again_ok : (sent : List Sent) (w : Watch) (core : Core) (ms : List Mark) (n : Node) → core ≡ seen_core sent n → Fits ms n.holdings → n.ports ≡ w.node.ports → n.delivered ≡ map delivery_of ms → AllByRecursion (MarkOk sent) ms → Rising (map (λ (g : Holding). g.universe) n.holdings) → AllByRecursion (λ (g : Holding). RisingByCid g.held) n.holdings → WatchOk sent (record { node = record { ports = w.node.ports; core = core }; marks = ms })
 again_ok sent w core ms n e fit ports ds marks rise sorted =
     let is = again sent w core ms n e fit ports ds in
     record {
       core = e ∙ ap (seen_core sent) (sym is);
       marks = marks;
-      rise = subst (λ (x : Node). Rise (map (λ (g : Holding). g.universe) x.holdings)) (sym is) rise;
-      sorted = subst (λ (x : Node). AllByRecursion (λ (g : Holding). Sorted g.held) x.holdings) (sym is) sorted;
+      rise = subst (λ (x : Node). Rising (map (λ (g : Holding). g.universe) x.holdings)) (sym is) rise;
+      sorted = subst (λ (x : Node). AllByRecursion (λ (g : Holding). RisingByCid g.held) x.holdings) (sym is) sorted;
     }
 
 pub record Moved (sent : List Sent) (w v : Watch) (n : Node) : Type 0 where
@@ -154,7 +154,7 @@ at_moved sent m w ok =
     let fit = fits_kept w.marks (max n.moment m) n.holdings (fits_now w) in
     record {
       places = again sent w (core_at m w.node.core) w.marks (node_at m n) e fit refl refl;
-      ok = again_ok sent w (core_at m w.node.core) w.marks (node_at m n) e fit refl refl ok.marks (subst Rise (sym (universes_kept (max n.moment m) n.holdings)) ok.rise) (sorted_kept (max n.moment m) n.holdings ok.sorted);
+      ok = again_ok sent w (core_at m w.node.core) w.marks (node_at m n) e fit refl refl ok.marks (subst Rising (sym (universes_kept (max n.moment m) n.holdings)) ok.rise) (sorted_kept (max n.moment m) n.holdings ok.sorted);
     }
 
 -- ---- a datagram comes
@@ -190,7 +190,7 @@ module _ (w : World) (ok : WorldOk w) (k i m : ℕ) (y : Watch) (x : Sent) (ther
   unfolding by_places
   ports_same = refl
 
-  noted_now : (d : Mark) (ms : List Mark) (b : Bool) → marked b d y.marks ≡ ms → noted (delivery_of d) n.delivered ≡ map delivery_of ms
+  noted_now : (d : Mark) (ms : List Mark) (b : Bool) → marked b d y.marks ≡ ms → add_delivery (delivery_of d) n.delivered ≡ map delivery_of ms
   unfolding by_places
   noted_now d ms b e = sym (noted_is b d y.marks) ∙ ap (map delivery_of) e
 
@@ -205,7 +205,7 @@ module _ (w : World) (ok : WorldOk w) (k i m : ℕ) (y : Watch) (x : Sent) (ther
       let after = node_after w.sent s u q m n in
       let ms = marked (moves (reply_to (Ok (DataPacket d)) m y.node.core)) mark y.marks in
       let kept = fits_kept y.marks t n.holdings (fits_now y) in
-      let rise = subst Rise (sym (universes_kept t n.holdings)) yok.rise in
+      let rise = subst Rising (sym (universes_kept t n.holdings)) yok.rise in
       let sorted = sorted_kept t n.holdings yok.sorted in
       let fit0 = fits_change (stream_of s u w.sent) t mark y.marks (unexpired_all t n.holdings) rise sorted kept in
       let fit : Fits ms after.holdings = subst (λ r. Fits (marked (moves r) mark y.marks) after.holdings) (sym (reply_is (DataPacket d) ep may)) fit0 in
@@ -213,7 +213,7 @@ module _ (w : World) (ok : WorldOk w) (k i m : ℕ) (y : Watch) (x : Sent) (ther
       let e : core ≡ seen_core w.sent after = core_is (DataPacket d) ep may in
       record {
         places = again w.sent y core ms after e fit ports_same ds;
-        ok = again_ok w.sent y core ms after e fit ports_same ds (marked_ok w.sent (moves (reply_to (Ok (DataPacket d)) m y.node.core)) mark y.marks (life_is u (own_stream (DataPacket d) u ep (eq-eqb u u refl))) yok.marks) (subst Rise (sym (universes_changed u _ (unexpired_all t n.holdings))) rise) (sorted_changed u _ (λ hs so. sorted_after _ _ hs so) (unexpired_all t n.holdings) sorted);
+        ok = again_ok w.sent y core ms after e fit ports_same ds (marked_ok w.sent (moves (reply_to (Ok (DataPacket d)) m y.node.core)) mark y.marks (life_is u (own_stream (DataPacket d) u ep (eq-eqb u u refl))) yok.marks) (subst Rising (sym (universes_changed u _ (unexpired_all t n.holdings))) rise) (sorted_changed u _ (λ hs so. sorted_after _ _ hs so) (unexpired_all t n.holdings) sorted);
       }
   taken_moved (PagePacket p) ep may = at_moved w.sent m y yok
   taken_moved SyncPacket ep may = at_moved w.sent m y yok

@@ -10,7 +10,7 @@ use Rattle.sacn_world.specs.declared.console.Console.{Console}
 use Rattle.sacn_world.specs.Streams.{is_of, place_of}
 use Rattle.sacn_world.specs.Watches.{Watch}
 use Rattle.sacn_world.specs.Wire.{SentDatagram, InStream, seen_sent, stream_in, is_in, is_filed, place_in, AreFiled}
-use Rattle.sacn_world.specs.Kept.{Kept}
+use Rattle.sacn_world.specs.Invariants.{Kept}
 use Rattle.sacn_world.proofs.Sources.{same_source}
 use Rattle.sacn_world.proofs.Ran.{take_more}
 use Rattle.sacn_world.proofs.Consoles.{count_push}

@@ -1,6 +1,6 @@
 -- The places that are noted as held are those of the node's rows.
 use Rattle.std.proofs.Common.{◌≡◌, ℕ, ◌≤◌, Bool, true, false, cond, List, [], ◌∷◌, map, Some, None, refl, sym, ap, subst, ◌∙◌, inl, inr, arith}
-use Rattle.std.specs.Prelude.{◌==◌, ◌&&◌, if◌then◌else◌}
+use Rattle.std.specs.Prelude.{◌<◌, ◌==◌, ◌&&◌, if◌then◌else◌}
 use Rattle.std.specs.List.{AllByRecursion}
 use Rattle.std.specs.Ordering.{is_eq}
 use Rattle.std.specs.declared.cmp.Ordering.TheVariants.{Less, Equal, Greater}
@@ -11,11 +11,11 @@ use Rattle.sacn_sources.specs.declared.taken.Taken.{Taken}
 use Rattle.sacn_sources.specs.declared.taken.Taken.TheVariants.{Held, Observed, EndedNow, OutOfSequence, SourcesExceeded, UnknownIgnored}
 use Rattle.sacn_node.specs.declared.taken.NodeTaken.TheVariants.{FromTable}
 use Rattle.sacn_node.specs.Cores.{Table}
-use Rattle.sacn_node.specs.Seen.{Rise, Above}
+use Rattle.sacn_universe.specs.Universe.{Rising}
 use Rattle.sacn_world.specs.Streams.{Sent}
-use Rattle.sacn_world.specs.Holdings.{Hold, Sorted, is_renewed, put, answer, holding_after, delivered}
+use Rattle.sacn_world.specs.Holdings.{Hold, RisingByCid, is_renewed, put, answer, holding_after, delivered}
 use Rattle.sacn_world.specs.Nodes.{Holding, unexpired_all, holding_of, reply_on, change, seen_table}
-use Rattle.sacn_world.specs.Watches.{Mark, is_mark_of, mark_of, moves, first_mark, remarked, marked, held_place, hold_from, holding_from}
+use Rattle.sacn_world.specs.Watches.{Mark, is_mark_of, mark_of, moves, first_mark, mark_after, marked, held_place, hold_from, holding_from}
 use Rattle.sacn_world.proofs.All.{all_weaker, all_filter}
 use Rattle.sacn_world.proofs.Sources.{same_source, same-itself}
 use Rattle.sacn_world.proofs.Maps.{order_turned, order_through}
@@ -29,12 +29,12 @@ noted_place s u ms = held_place (mark_of s u ms)
 place_of_other : (b : Bool) (d : Mark) (s : List ℕ) (u : ℕ) (ms : List Mark) → is_mark_of s u d ≡ false → noted_place s u (marked b d ms) ≡ noted_place s u ms
 place_of_other b d s u [] no' = ap (λ t. held_place (cond t (Some (first_mark b d)) None)) no'
 place_of_other b d s u (m ∷ ms) no' =
-    elim (is_mark_of d.source d.universe m) as (λ t. is_mark_of d.source d.universe m ≡ t → noted_place s u (if t then remarked b d m ∷ ms else m ∷ marked b d ms) ≡ noted_place s u (m ∷ ms)) [
+    elim (is_mark_of d.source d.universe m) as (λ t. is_mark_of d.source d.universe m ≡ t → noted_place s u (if t then mark_after b d m ∷ ms else m ∷ marked b d ms) ≡ noted_place s u (m ∷ ms)) [
       | true ↦ λ e.
           let es : d.source ≡ m.source = same_source _ _ (and_parts _ _ e).0 in
           let eu : m.universe ≡ d.universe = eqb-true _ _ (and_parts _ _ e).1 in
           let mine : is_mark_of s u m ≡ false = ap (λ (z : List ℕ). same s z && (m.universe == u)) (sym es) ∙ ap (λ v. same s d.source && (v == u)) eu ∙ no' in
-          ap (λ t. held_place (cond t (Some (remarked b d m)) (mark_of s u ms))) mine ∙ sym (ap (λ t. held_place (cond t (Some m) (mark_of s u ms))) mine)
+          ap (λ t. held_place (cond t (Some (mark_after b d m)) (mark_of s u ms))) mine ∙ sym (ap (λ t. held_place (cond t (Some m) (mark_of s u ms))) mine)
       | false ↦ λ e. elim (is_mark_of s u m) as (λ t. held_place (cond t (Some m) (mark_of s u (marked b d ms))) ≡ held_place (cond t (Some m) (mark_of s u ms))) [
         | true ↦ refl
         | false ↦ place_of_other b d s u ms no'
@@ -44,8 +44,8 @@ place_of_other b d s u (m ∷ ms) no' =
 place_of_own : (b : Bool) (d : Mark) (ms : List Mark) → noted_place d.source d.universe (marked b d ms) ≡ (if b then d.held else noted_place d.source d.universe ms)
 place_of_own b d [] = ap (λ t. held_place (cond t (Some (first_mark b d)) None)) (and_from _ _ (same-itself d.source) (eq-eqb d.universe d.universe refl))
 place_of_own b d (m ∷ ms) =
-    elim (is_mark_of d.source d.universe m) as (λ t. is_mark_of d.source d.universe m ≡ t → noted_place d.source d.universe (if t then remarked b d m ∷ ms else m ∷ marked b d ms) ≡ (if b then d.held else held_place (cond t (Some m) (mark_of d.source d.universe ms)))) [
-      | true ↦ λ e. ap (λ t. held_place (cond t (Some (remarked b d m)) (mark_of d.source d.universe ms))) e
+    elim (is_mark_of d.source d.universe m) as (λ t. is_mark_of d.source d.universe m ≡ t → noted_place d.source d.universe (if t then mark_after b d m ∷ ms else m ∷ marked b d ms) ≡ (if b then d.held else held_place (cond t (Some m) (mark_of d.source d.universe ms)))) [
+      | true ↦ λ e. ap (λ t. held_place (cond t (Some (mark_after b d m)) (mark_of d.source d.universe ms))) e
       | false ↦ λ e. ap (λ t. held_place (cond t (Some m) (mark_of d.source d.universe (marked b d ms)))) e ∙ place_of_own b d ms
     ] refl
 
@@ -77,7 +77,7 @@ pub fits_itself : (ms : List Mark) (gs : List Table) → Fits ms (map (holding_f
 fits_itself ms [] = tt
 fits_itself ms (g ∷ gs) = (rows_fit ms g.universe g.rows, fits_itself ms gs)
 
-holds_back : (sent : List Sent) (ms : List Mark) (u : ℕ) (hs : List Hold) → AllByRecursion (Fit ms u) hs → map (hold_from ms u) (map (Rattle.sacn_world.specs.Seen.seen u sent) hs) ≡ hs
+holds_back : (sent : List Sent) (ms : List Mark) (u : ℕ) (hs : List Hold) → AllByRecursion (Fit ms u) hs → map (hold_from ms u) (map (Rattle.sacn_world.specs.RowsOfPlaces.seen u sent) hs) ≡ hs
 holds_back sent ms u [] fit = refl
 holds_back sent ms u (h ∷ hs) fit = λ i. record { source = h.source; place = fit.0 i; moment = h.moment } ∷ holds_back sent ms u hs fit.1 i
 
@@ -98,11 +98,11 @@ other_universe b d ms u hs ne fit =
     let no' : (d.universe == u) ≡ false = ne_eqb _ _ (λ e. ne (sym e)) in
     place_of_other b d h.source u ms (elim (same h.source d.source) as (λ t. (t && (d.universe == u)) ≡ false) [ true ↦ no' | false ↦ refl ]) ∙ f) hs fit
 
-above_all : (b : Bool) (d : Mark) (ms : List Mark) (v : ℕ) (gs : List Holding) → Above v (map (λ (g : Holding). g.universe) gs) → d.universe ≤ v → Fits ms gs → Fits (marked b d ms) gs
+above_all : (b : Bool) (d : Mark) (ms : List Mark) (v : ℕ) (gs : List Holding) → AllByRecursion (λ u. v < u) (map (λ (g : Holding). g.universe) gs) → d.universe ≤ v → Fits ms gs → Fits (marked b d ms) gs
 above_all b d ms v [] above le fit = tt
 above_all b d ms v (g ∷ gs) above le fit = (
   other_universe b d ms g.universe g.held (λ e. absurd (let l = above.0 in omega (arith, e, l, le))) fit.0,
-  above_all b d ms g.universe gs above.1 (let l = above.0 in omega (arith, l, le)) fit.1,
+  above_all b d ms v gs above.1 le fit.1,
 )
 
 other_source : (d : Mark) (ms : List Mark) (h : Hold) → same h.source d.source ≡ false → Fit ms d.universe h → Fit (marked true d ms) d.universe h
@@ -119,7 +119,7 @@ later_fit d ms n (h ∷ hs) es more fit = (
   later_fit d ms n hs es more.1 fit.1,
 )
 
-put_all : (d : Mark) (ms : List Mark) (n : Hold) (hs : List Hold) → n.source ≡ d.source → Fit (marked true d ms) d.universe n → Sorted hs → AllByRecursion (Fit ms d.universe) hs → AllByRecursion (Fit (marked true d ms) d.universe) (put n hs)
+put_all : (d : Mark) (ms : List Mark) (n : Hold) (hs : List Hold) → n.source ≡ d.source → Fit (marked true d ms) d.universe n → RisingByCid hs → AllByRecursion (Fit ms d.universe) hs → AllByRecursion (Fit (marked true d ms) d.universe) (put n hs)
 put_all d ms n [] es own so fit = (own, tt)
 put_all d ms n (h ∷ hs) es own so fit =
     elim (order n.source h.source) as (λ o. order n.source h.source ≡ o → AllByRecursion (Fit (marked true d ms) d.universe) (by_order o (n ∷ h ∷ hs) (n ∷ hs) (h ∷ put n hs))) [
@@ -132,7 +132,7 @@ put_all d ms n (h ∷ hs) es own so fit =
           (other_source d ms h ne fit.0, put_all d ms n hs es own so.1 fit.1)
     ] refl
 
-put_fits : (d : Mark) (ms : List Mark) (n : Hold) (hs : List Hold) → n.source ≡ d.source → n.place ≡ d.held → Sorted hs → AllByRecursion (Fit ms d.universe) hs → AllByRecursion (Fit (marked true d ms) d.universe) (put n hs)
+put_fits : (d : Mark) (ms : List Mark) (n : Hold) (hs : List Hold) → n.source ≡ d.source → n.place ≡ d.held → RisingByCid hs → AllByRecursion (Fit ms d.universe) hs → AllByRecursion (Fit (marked true d ms) d.universe) (put n hs)
 put_fits d ms n hs es ep so fit =
     let own : Fit (marked true d ms) d.universe n = ap (λ (z : List ℕ). noted_place z d.universe (marked true d ms)) es ∙ place_of_own true d ms ∙ sym ep in
     put_all d ms n hs es own so fit
@@ -144,7 +144,7 @@ unmoved_all : (d : Mark) (ms : List Mark) (gs : List Holding) → Fits ms gs →
 unmoved_all d ms [] fit = tt
 unmoved_all d ms (g ∷ gs) fit = (unmoved d ms g.universe g.held fit.0, unmoved_all d ms gs fit.1)
 
-after_fits : (a : Taken) (d : Mark) (ms : List Mark) (n : Hold) (hs : List Hold) → n.source ≡ d.source → n.place ≡ d.held → Sorted hs → AllByRecursion (Fit ms d.universe) hs → AllByRecursion (Fit (marked (moves (FromTable a)) d ms) d.universe) (holding_after a n hs)
+after_fits : (a : Taken) (d : Mark) (ms : List Mark) (n : Hold) (hs : List Hold) → n.source ≡ d.source → n.place ≡ d.held → RisingByCid hs → AllByRecursion (Fit ms d.universe) hs → AllByRecursion (Fit (marked (moves (FromTable a)) d ms) d.universe) (holding_after a n hs)
 after_fits Held d ms n hs es ep so fit = put_fits d ms n hs es ep so fit
 after_fits EndedNow d ms n hs es ep so fit = put_fits d ms n hs es ep so fit
 after_fits Observed d ms n hs es ep so fit = unmoved d ms d.universe hs fit
@@ -152,11 +152,7 @@ after_fits OutOfSequence d ms n hs es ep so fit = unmoved d ms d.universe hs fit
 after_fits SourcesExceeded d ms n hs es ep so fit = unmoved d ms d.universe hs fit
 after_fits UnknownIgnored d ms n hs es ep so fit = unmoved d ms d.universe hs fit
 
-risen : (u : ℕ) (us : List ℕ) → Above u us → Rise us
-risen u [] above = tt
-risen u (v ∷ vs) above = above.1
-
-pub fits_change : (st : List Sent) (t : ℕ) (d : Mark) (ms : List Mark) (gs : List Holding) → Rise (map (λ (g : Holding). g.universe) gs) → AllByRecursion (λ (g : Holding). Sorted g.held) gs → Fits ms gs → Fits (marked (moves (reply_on st d.source d.held (holding_of d.universe gs))) d ms) (change d.universe (delivered st d.source d.held t) gs)
+pub fits_change : (st : List Sent) (t : ℕ) (d : Mark) (ms : List Mark) (gs : List Holding) → Rising (map (λ (g : Holding). g.universe) gs) → AllByRecursion (λ (g : Holding). RisingByCid g.held) gs → Fits ms gs → Fits (marked (moves (reply_on st d.source d.held (holding_of d.universe gs))) d ms) (change d.universe (delivered st d.source d.held t) gs)
 fits_change st t d ms [] rise sorted fit = tt
 fits_change st t d ms (g ∷ gs) rise sorted fit =
     elim (g.universe == d.universe) as (λ b. (g.universe == d.universe) ≡ b → Fits (marked (moves (reply_on st d.source d.held (cond b (Some g) (holding_of d.universe gs)))) d ms) (if b then record { universe = g.universe; held = delivered st d.source d.held t g.held } ∷ gs else g ∷ change d.universe (delivered st d.source d.held t) gs)) [
@@ -166,10 +162,10 @@ fits_change st t d ms (g ∷ gs) rise sorted fit =
           let here : AllByRecursion (Fit ms d.universe) g.held = subst (λ v. AllByRecursion (Fit ms v) g.held) eu fit.0 in
           let f = after_fits a d ms (record { source = d.source; place = d.held; moment = t }) g.held refl refl sorted.0 here in (
             subst (λ v. AllByRecursion (Fit (marked (moves (FromTable a)) d ms) v) (delivered st d.source d.held t g.held)) (sym eu) f,
-            above_all (moves (FromTable a)) d ms g.universe gs rise (omega (arith, eu)) fit.1,
+            above_all (moves (FromTable a)) d ms g.universe gs rise.0 (omega (arith, eu)) fit.1,
           )
       | false ↦ λ e. (
         other_universe _ d ms g.universe g.held (λ eu. absurd (let x = eq-eqb g.universe d.universe eu in cc)) fit.0,
-        fits_change st t d ms gs (risen g.universe (map (λ (x : Holding). x.universe) gs) rise) sorted.1 fit.1,
+        fits_change st t d ms gs rise.1 sorted.1 fit.1,
       )
     ] refl

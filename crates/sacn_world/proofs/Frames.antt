@@ -20,7 +20,7 @@ use Rattle.sacn_world.specs.Nodes.{Holding, Node, node_at, holding_of, unexpired
 use Rattle.sacn_world.specs.Members.{IsShown}
 use Rattle.sacn_schedule.specs.Cids.{Desk}
 use Rattle.sacn_world.specs.Worlds.{World, Step, step, after, look_step, shown, new_console, new_world, Apart, NodeOk, WorldOk}
-use Rattle.sacn_world.specs.Running.{Ran, ran}
+use Rattle.sacn_world.specs.Runs.{Ran, ran}
 use Rattle.sacn_world.specs.Laws.{reached}
 use Rattle.sacn_world.specs.Origins.{IsMergeOfHeld, held_in, held_after_expiry, slot_by, IsMergedFrame, Looked}
 use Rattle.sacn_world.specs.Looks.{LookOf, FramesAreMergesOfWhatWasSent, sent_at, held_at_look, AgreeOn, EqualHoldingsGiveEqualSlots}

@@ -7,7 +7,7 @@ use Rattle.std.proofs.lemmas.List.Elements.{filter-append}
 use Rattle.sacn_world.proofs.NodeSteps.{newest_within}
 use Rattle.sacn_world.specs.Streams.{is_live, priority, levels, Sent, nothing, at, life_at, rank, number_at, is_of, priority, levels, stream_of}
 use Rattle.sacn_world.specs.Holdings.{Hold, Delivery}
-use Rattle.sacn_world.specs.Seen.{shown_by, seen, rows_of}
+use Rattle.sacn_world.specs.RowsOfPlaces.{shown_by, seen, rows_of}
 use Rattle.sacn_world.specs.Nodes.{Holding, Node, seen_table, seen_core, HoldOk}
 use Rattle.sacn_world.specs.Worlds.{NodeOk}
 
@@ -46,7 +46,7 @@ module _ (sent : List Sent) (x : Sent) where
   seen_kept u h lt =
       λ i. record {
         source = h.source;
-        number = number_kept h.source u h.place lt i;
+        sequence_number = number_kept h.source u h.place lt i;
         shown = shown_by (is_live (at_kept h.source u h.place lt i)) (priority (at_kept h.source u h.place lt i)) (levels (at_kept h.source u h.place lt i));
         moment = h.moment;
       }

@@ -9,10 +9,10 @@ use Rattle.sacn_schedule.specs.declared.event.Event.TheVariants.{Deliver}
 use Rattle.sacn_world.specs.Streams.{place_of}
 use Rattle.sacn_schedule.specs.Cids.{Desk}
 use Rattle.sacn_world.specs.Worlds.{World, step, left_by, after, new_console, new_world, Apart}
-use Rattle.sacn_world.specs.Running.{Ran, ran}
+use Rattle.sacn_world.specs.Runs.{Ran, ran}
 use Rattle.sacn_world.specs.Counts.{Count, count_step, count_run, no_count}
 use Rattle.sacn_world.specs.Laws.{reached}
-use Rattle.sacn_world.specs.Lasting.{HoldsFrom, TakesItsPlace}
+use Rattle.sacn_world.specs.Entries.{HoldsFrom, TakesItsPlace}
 use Rattle.sacn_world.specs.RunLaws.{HoldsLive}
 use Rattle.sacn_world.specs.Headline.{NoneGivesWayToAnEarlierOne, ALaterOneTakesOver, TheTwentyFirstInARowIsHeld, Headline}
 use Rattle.sacn_world.proofs.Reaching.{each_answered, joined, held_at_twenty_one}

@@ -18,10 +18,10 @@ use Rattle.std.specs.declared.alloc.Global.{Global}
 use Rattle.sacn_node.specs.declared.taken.NodeTaken.{NodeTaken}
 use Rattle.sacn_node.specs.declared.taken.NodeTaken.TheVariants.{Refused}
 use Rattle.sacn_node.specs.Setup.{Port, universes}
-use Rattle.sacn_node.specs.Seen.{Rise}
+use Rattle.sacn_universe.specs.Universe.{Rising}
 use Rattle.sacn_node.specs.Laws.{HasTheUniversesOfItsRanges}
 use Rattle.sacn_node.specs.Cores as numbers
-use Rattle.sacn_world.specs.Holdings.{Sorted}
+use Rattle.sacn_world.specs.Holdings.{RisingByCid}
 use Rattle.sacn_world.specs.Nodes.{Holding, nothing_held, seen_table}
 use Rattle.sacn_root.specs.declared.fault.PacketFault.{PacketFault}
 use Rattle.sacn_world.specs.declared.answer.Answer.{Answer}
@@ -37,7 +37,7 @@ use Rattle.sacn_world.specs.Worlds.{World, Outcome, Step, with_console, with_nod
 use Rattle.sacn_world.specs.Arrivals.{refused_for, replied, moved, arrival}
 use Rattle.sacn_world.specs.Watches.{Watch, holding_from, node_by_places, by_places, with_core as with_node_core, taken_by, new_watch, WatchOk}
 use Rattle.sacn_world.specs.Wire.{SentDatagram, seen_sent, stream_in, came_by, came_of, refusal_in, refusal_by}
-use Rattle.sacn_world.specs.Kept.{seen_world, Kept, IsAccepted}
+use Rattle.sacn_world.specs.Invariants.{seen_world, Kept, IsAccepted}
 use Rattle.sacn_world.proofs.All.{all_get, all_set}
 use Rattle.sacn_world.proofs.NodeSteps.{slots_seen}
 use Rattle.sacn_world.proofs.Runs.{step_ok}
@@ -58,7 +58,7 @@ new_universes : (us : List ℕ) → map (λ (g : Holding). g.universe) (map noth
 new_universes [] = refl
 new_universes (u ∷ us) = λ i. u ∷ new_universes us i
 
-new_sorted : (us : List ℕ) → AllByRecursion (λ (g : Holding). Sorted g.held) (map nothing_held us)
+new_sorted : (us : List ℕ) → AllByRecursion (λ (g : Holding). RisingByCid g.held) (map nothing_held us)
 new_sorted [] = tt
 new_sorted (u ∷ us) = (tt, new_sorted us)
 
@@ -70,7 +70,7 @@ pub new_seen : (sent : List Sent) (ports : List Port) → (new_watch ports).node
 unfolding seen_core
 new_seen sent ports = λ i. record { moment = 0; tables = new_tables sent (universes ports) i }
 
-pub new_moved : (sent : List Sent) (y : Watch) (ports : List Port) → Rise (universes ports) → Moved sent y (new_watch ports) (node_of ports)
+pub new_moved : (sent : List Sent) (y : Watch) (ports : List Port) → Rising (universes ports) → Moved sent y (new_watch ports) (node_of ports)
 new_moved sent y ports rise =
     let e = new_places ports in
     record {
@@ -78,8 +78,8 @@ new_moved sent y ports rise =
       ok = record {
         core = new_seen sent ports ∙ ap (seen_core sent) (sym e);
         marks = tt;
-        rise = subst (λ (n : Node). Rise (map (λ (g : Holding). g.universe) n.holdings)) (sym e) (subst Rise (sym (new_universes (universes ports))) rise);
-        sorted = subst (λ (n : Node). AllByRecursion (λ (g : Holding). Sorted g.held) n.holdings) (sym e) (new_sorted (universes ports));
+        rise = subst (λ (n : Node). Rising (map (λ (g : Holding). g.universe) n.holdings)) (sym e) (subst Rising (sym (new_universes (universes ports))) rise);
+        sorted = subst (λ (n : Node). AllByRecursion (λ (g : Holding). RisingByCid g.held) n.holdings) (sym e) (new_sorted (universes ports));
       };
     }
 

@@ -1,5 +1,5 @@
 -- No held packet gives way: what each event leaves of a place that a node holds.
-use Rattle.std.proofs.Common.{◌≡◌, ℕ, ◌≤◌, max, Bool, true, false, cond, List, [], ◌∷◌, Option, Some, None, Ok, Err, refl, sym, ap, subst, ◌∙◌, inl, inr, ◌⊎◌, arith, slice_get}
+use Rattle.std.proofs.Common.{◌≡◌, ℕ, ◌≤◌, max, Bool, true, false, cond, List, [], ◌∷◌, Option, Some, None, Ok, Err, refl, sym, ap, subst, ◌∙◌, inl, inr, arith, slice_get}
 use Rattle.std.specs.Prelude.{option_map, filter, find, ◌==◌, if◌then◌else◌}
 use Rattle.std.proofs.lemmas.Bool.{eq-eqb, cases_eq}
 use Rattle.std.proofs.lemmas.Option.{same_Some, none-some as none_some}
@@ -14,7 +14,7 @@ use Rattle.sacn_node.specs.declared.taken.NodeTaken.{NodeTaken}
 use Rattle.sacn_node.specs.declared.taken.NodeTaken.TheVariants.{FromTable}
 use Rattle.sacn_sources.specs.Order.{same}
 use Rattle.sacn_sources.specs.declared.taken.Taken.{Taken}
-use Rattle.sacn_sources.specs.declared.taken.Taken.TheVariants.{Held, EndedNow}
+use Rattle.sacn_sources.specs.Rows.{renews}
 use Rattle.sacn_world.specs.declared.answer.Answer.{Answer}
 use Rattle.sacn_world.specs.declared.answer.Answer.TheVariants as answered
 use Rattle.sacn_world.specs.declared.console.Console.{Console}
@@ -22,10 +22,10 @@ use Rattle.sacn_schedule.specs.declared.event.Event.{Event}
 use Rattle.sacn_schedule.specs.declared.event.Event.TheVariants.{Order, Poll, Deliver, Look, RestartConsole, RestartNode, Noise}
 use Rattle.sacn_world.specs.declared.fault.WorldFault.{WorldFault}
 use Rattle.sacn_world.specs.Streams.{Sent, stream_of, place_of}
-use Rattle.sacn_world.specs.Holdings.{Hold, is_renewed, unexpired, hold_of, answer, holding_after, delivered}
+use Rattle.sacn_world.specs.Holdings.{Hold, is_renewed, unexpired, hold_of, put, answer, holding_after, delivered}
 use Rattle.sacn_world.specs.Nodes.{Holding, Node, node_of, unexpired_all, holding_of, reply_on, change, node_reply, node_after, node_at}
 use Rattle.sacn_world.specs.Worlds.{World, Outcome, Step, with_node, order_step, poll_by, poll_step, restart_console, come, arrive, deliver_step, look_step, heard, noise_step, restart_node, step, left_by, after, place_on, hold_in, held_at, place_at}
-use Rattle.sacn_world.specs.Lasting.{LastsThrough, Lasts, HoldsFrom, TakesItsPlace, MovesForward, NoHeldPacketGivesWay}
+use Rattle.sacn_world.specs.Entries.{LastsThrough, Lasts, HoldsFrom, TakesItsPlace, MovesForward, NoHeldPacketGivesWay}
 use Rattle.sacn_world.proofs.Forward.{never_back, later_than_held}
 use Rattle.sacn_world.proofs.Maps.{hold_of-put}
 use Rattle.sacn_world.proofs.Runs.{mapped}
@@ -195,10 +195,10 @@ places_stay w es i s u p is lasts =
     let b = held_onward w es i s u a.0 a.1 lasts in
     record { place = b.hold.place; held = ap (option_map (λ (h : Hold). h.place)) b.held; no_earlier = omega (arith, a.2, b.no_earlier) }
 
--- ---- a delivery that is answered Held or EndedNow
+-- ---- a delivery that renews its source
 
 abbrev Takes : NodeTaken → Type 0
-Takes a = (a ≡ FromTable Held) ⊎ (a ≡ FromTable EndedNow)
+Takes a = (taken : Taken) × (a ≡ FromTable taken) × (renews taken ≡ true)
 
 taken_of : (a b : NodeTaken) → answered.Taken a ≡ answered.Taken b → a ≡ b
 taken_of a b e = cc
@@ -206,16 +206,13 @@ taken_of a b e = cc
 from_table : (a b : Taken) → FromTable a ≡ FromTable b → a ≡ b
 from_table a b e = cc
 
-put_by : (a : Taken) (n : Hold) (hs : List Hold) → (a ≡ Held) ⊎ (a ≡ EndedNow) → hold_of n.source (holding_after a n hs) ≡ Some n
-put_by a n hs (inl e) = ap (λ z. hold_of n.source (holding_after z n hs)) e ∙ hold_of-put n hs
-put_by a n hs (inr e) = ap (λ z. hold_of n.source (holding_after z n hs)) e ∙ hold_of-put n hs
+put_by : (a : Taken) (n : Hold) (hs : List Hold) → renews a ≡ true → hold_of n.source (holding_after a n hs) ≡ Some n
+put_by a n hs e = ap (λ b. hold_of n.source (cond b (put n hs) hs)) e ∙ hold_of-put n hs
 
 -- the reply of a node that has the universe
-reply_taken : (st : List Sent) (s : List ℕ) (q : ℕ) (o : Option Holding) → Takes (reply_on st s q o) → (g : Holding) × (o ≡ Some g) × ((answer st s q g.held ≡ Held) ⊎ (answer st s q g.held ≡ EndedNow))
-reply_taken st s q None (inl e) = absurd (cc)
-reply_taken st s q None (inr e) = absurd (cc)
-reply_taken st s q (Some g) (inl e) = (g, refl, inl (from_table _ _ e))
-reply_taken st s q (Some g) (inr e) = (g, refl, inr (from_table _ _ e))
+reply_taken : (st : List Sent) (s : List ℕ) (q : ℕ) (o : Option Holding) → Takes (reply_on st s q o) → (g : Holding) × (o ≡ Some g) × (renews (answer st s q g.held) ≡ true)
+reply_taken st s q None takes = absurd (let e = takes.1 in cc)
+reply_taken st s q (Some g) takes = (g, refl, ap renews (from_table _ _ takes.1) ∙ takes.2)
 
 moved_node : (w : World) (i m : ℕ) (n : Node) (s : List ℕ) (u q : ℕ) → slice_get w.nodes i ≡ Some n → Takes (node_reply w.sent s u q m n) → MovesForward w (with_node w i (node_after w.sent s u q m n)) i m s u q
 moved_node w i m n s u q en takes =
@@ -240,7 +237,7 @@ come_moves w i m n s u q (Some f) o en e takes = absurd (cc)
 come_moves w i m n s u q None o en e takes =
     let answers : answered.Taken (node_reply w.sent s u q m n) ≡ o.answer = ap (answer_in w) e in
     let world : with_node w i (node_after w.sent s u q m n) ≡ o.world = ap (left_by w) e in
-    subst (λ z. MovesForward w z i m s u q) world (moved_node w i m n s u q en (elim takes [ inl h ↦ inl (taken_of _ _ (answers ∙ h)) | inr h ↦ inr (taken_of _ _ (answers ∙ h)) ]))
+    subst (λ z. MovesForward w z i m s u q) world (moved_node w i m n s u q en (takes.0, taken_of _ _ (answers ∙ takes.1), takes.2))
   where
     answer_in : World → Step → Answer
     answer_in w (Ok o) = o.answer

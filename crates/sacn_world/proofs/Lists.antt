@@ -6,7 +6,7 @@ use Rattle.std.proofs.lemmas.Bool.{cases_Bool}
 use Rattle.std.specs.declared.cmp.Ordering.TheVariants.{Less, Equal, Greater}
 use Rattle.sacn_world.specs.Streams.{Sent}
 use Rattle.sacn_world.specs.Holdings.{Hold, is_renewed, unexpired, hold_of, put}
-use Rattle.sacn_world.specs.Seen.{seen, rows_of}
+use Rattle.sacn_world.specs.RowsOfPlaces.{seen, rows_of}
 use Rattle.sacn_sources.specs.Order.{order, same, by_order}
 use Rattle.sacn_sources.specs.Rows.{rows_kept, row_of, put_row}
 

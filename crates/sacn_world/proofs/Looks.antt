@@ -24,7 +24,7 @@ use Rattle.sacn_schedule.specs.declared.event.Event.TheVariants.{Order, Poll, De
 use Rattle.sacn_world.specs.declared.fault.WorldFault.{WorldFault}
 use Rattle.sacn_world.specs.Streams.{Sent, nothing, at, stream_of, is_live, priority, levels}
 use Rattle.sacn_world.specs.Holdings.{Hold}
-use Rattle.sacn_world.specs.Seen.{shown_by}
+use Rattle.sacn_world.specs.RowsOfPlaces.{shown_by}
 use Rattle.sacn_world.specs.Nodes.{Holding, Node, shown_of, slots, HoldOk}
 use Rattle.sacn_world.specs.declared.console.Console.{Console}
 use Rattle.sacn_world.specs.Worlds.{World, sent_by, poll_by, poll_step, order_step, restart_console, come, arrive, deliver_step, look_step, heard, noise_step, restart_node, step, left_by, after, new_console, new_world, Apart, WorldOk, NodeOk}

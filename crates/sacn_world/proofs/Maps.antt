@@ -9,7 +9,7 @@ use Rattle.std.specs.declared.cmp.Ordering.TheVariants.{Less, Equal, Greater}
 use Rattle.sacn_world.proofs.Sources.{same_source, same-itself, order-itself}
 use Rattle.sacn_world.proofs.Lists.{found}
 use Rattle.sacn_world.proofs.All.{all_weaker, all_filter}
-use Rattle.sacn_world.specs.Holdings.{Sorted, Hold, hold_of, put}
+use Rattle.sacn_world.specs.Holdings.{RisingByCid, Hold, hold_of, put}
 use Rattle.sacn_sources.specs.Order.{order, same, by_order}
 
 pub order_turned : (a b : List ℕ) → order a b ≡ ordering_reverse (order b a)
@@ -29,10 +29,10 @@ all_put P n (h ∷ hs) p all =
       | Greater ↦ (all.0, all_put P n hs p all.1)
     ]
 
-pub sorted_put : (n : Hold) (hs : List Hold) → Sorted hs → Sorted (put n hs)
+pub sorted_put : (n : Hold) (hs : List Hold) → RisingByCid hs → RisingByCid (put n hs)
 sorted_put n [] so = (tt, tt)
 sorted_put n (h ∷ hs) so =
-    elim (order n.source h.source) as (λ o. order n.source h.source ≡ o → Sorted (by_order o (n ∷ h ∷ hs) (n ∷ hs) (h ∷ put n hs))) [
+    elim (order n.source h.source) as (λ o. order n.source h.source ≡ o → RisingByCid (by_order o (n ∷ h ∷ hs) (n ∷ hs) (h ∷ put n hs))) [
       | Less ↦ λ e. ((e, all_weaker _ _ (λ k lt. order_through n.source h.source k.source e lt) hs so.0), so)
       | Equal ↦ λ e.
           let is : n.source ≡ h.source = same_source _ _ (ap is_eq e) in
@@ -42,11 +42,11 @@ sorted_put n (h ∷ hs) so =
           (all_put (λ (k : Hold). order h.source k.source ≡ Less) n hs back so.0, sorted_put n hs so.1)
     ] refl
 
-sorted_cond : (b : Bool) (h : Hold) (hs : List Hold) → AllByRecursion (λ (k : Hold). order h.source k.source ≡ Less) hs → Sorted hs → Sorted (cond b (h ∷ hs) hs)
+sorted_cond : (b : Bool) (h : Hold) (hs : List Hold) → AllByRecursion (λ (k : Hold). order h.source k.source ≡ Less) hs → RisingByCid hs → RisingByCid (cond b (h ∷ hs) hs)
 sorted_cond true h hs all so = (all, so)
 sorted_cond false h hs all so = so
 
-pub sorted_filter : (p : Hold → Bool) (hs : List Hold) → Sorted hs → Sorted (filter p hs)
+pub sorted_filter : (p : Hold → Bool) (hs : List Hold) → RisingByCid hs → RisingByCid (filter p hs)
 sorted_filter p [] so = tt
 sorted_filter p (h ∷ hs) so = sorted_cond (p h) h (filter p hs) (all_filter _ p hs so.0) (sorted_filter p hs so.1)
 
@@ -76,7 +76,7 @@ false_not_true true e f = cc
 false_not_true false e f = cc
 
 -- what is found after expiry was found before it
-pub hold_of-filter : (p : Hold → Bool) (s : List ℕ) (hs : List Hold) (h : Hold) → Sorted hs → hold_of s (filter p hs) ≡ Some h → hold_of s hs ≡ Some h
+pub hold_of-filter : (p : Hold → Bool) (s : List ℕ) (hs : List Hold) (h : Hold) → RisingByCid hs → hold_of s (filter p hs) ≡ Some h → hold_of s hs ≡ Some h
 hold_of-filter p s [] h so e = e
 hold_of-filter p s (x ∷ xs) h so e =
     elim (p x) as (λ b. hold_of s (cond b (x ∷ filter p xs) (filter p xs)) ≡ Some h → hold_of s (x ∷ xs) ≡ Some h) [

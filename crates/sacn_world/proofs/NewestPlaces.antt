@@ -16,7 +16,7 @@ use Rattle.sacn_schedule.specs.declared.event.Event.{Event}
 use Rattle.sacn_schedule.specs.declared.event.Event.TheVariants.{Order, Poll, Deliver, Look, RestartConsole, RestartNode, Noise}
 use Rattle.sacn_world.specs.declared.fault.WorldFault.{WorldFault}
 use Rattle.sacn_world.specs.Streams.{Sent}
-use Rattle.sacn_world.specs.Holdings.{Delivery, newest, noted}
+use Rattle.sacn_world.specs.Holdings.{Delivery, newest, add_delivery}
 use Rattle.sacn_world.specs.Nodes.{Node, node_of, node_after, node_at}
 use Rattle.sacn_world.specs.Worlds.{World, with_node, order_step, poll_by, poll_step, restart_console, come, arrive, deliver_step, look_step, heard, noise_step, restart_node, step, left_by, after, new_world}
 use Rattle.sacn_world.specs.Newest.{greater, greatest, with_place, with_packet, with_delivery, delivered_by, delivered_in, NewestIsTheGreatestDelivered}
@@ -27,18 +27,18 @@ use Rattle.sacn_world.proofs.Changes.{set_same, set_other}
 
 -- ---- one more delivery
 
-noted_own : (s : List ℕ) (u q : ℕ) (ds : List Delivery) → (same s s && (u == u)) ≡ true → newest s u (noted (record { source = s; universe = u; place = q }) ds) ≡ greater q (newest s u ds)
+noted_own : (s : List ℕ) (u q : ℕ) (ds : List Delivery) → (same s s && (u == u)) ≡ true → newest s u (add_delivery (record { source = s; universe = u; place = q }) ds) ≡ greater q (newest s u ds)
 noted_own s u q [] me = ap (λ b. if b then Some q else None) me
 noted_own s u q (d ∷ ds) me =
-    elim (same s d.source && (d.universe == u)) as (λ b. (same s d.source && (d.universe == u)) ≡ b → newest s u (if b then record { source = d.source; universe = d.universe; place = max q d.place } ∷ ds else d ∷ noted (record { source = s; universe = u; place = q }) ds) ≡ greater q (if b then Some d.place else newest s u ds)) [
+    elim (same s d.source && (d.universe == u)) as (λ b. (same s d.source && (d.universe == u)) ≡ b → newest s u (if b then record { source = d.source; universe = d.universe; place = max q d.place } ∷ ds else d ∷ add_delivery (record { source = s; universe = u; place = q }) ds) ≡ greater q (if b then Some d.place else newest s u ds)) [
       | true ↦ λ e. ap (λ b. if b then Some (max q d.place) else newest s u ds) e
-      | false ↦ λ e. ap (λ b. if b then Some d.place else newest s u (noted (record { source = s; universe = u; place = q }) ds)) e ∙ noted_own s u q ds me
+      | false ↦ λ e. ap (λ b. if b then Some d.place else newest s u (add_delivery (record { source = s; universe = u; place = q }) ds)) e ∙ noted_own s u q ds me
     ] refl
 
-noted_other : (s : List ℕ) (u : ℕ) (d : Delivery) (ds : List Delivery) → (same s d.source && (d.universe == u)) ≡ false → newest s u (noted d ds) ≡ newest s u ds
+noted_other : (s : List ℕ) (u : ℕ) (d : Delivery) (ds : List Delivery) → (same s d.source && (d.universe == u)) ≡ false → newest s u (add_delivery d ds) ≡ newest s u ds
 noted_other s u d [] ne = ap (λ b. if b then Some d.place else None) ne
 noted_other s u d (x ∷ xs) ne =
-    elim (same d.source x.source && (x.universe == d.universe)) as (λ b. (same d.source x.source && (x.universe == d.universe)) ≡ b → newest s u (if b then record { source = x.source; universe = x.universe; place = max d.place x.place } ∷ xs else x ∷ noted d xs) ≡ newest s u (x ∷ xs)) [
+    elim (same d.source x.source && (x.universe == d.universe)) as (λ b. (same d.source x.source && (x.universe == d.universe)) ≡ b → newest s u (if b then record { source = x.source; universe = x.universe; place = max d.place x.place } ∷ xs else x ∷ add_delivery d xs) ≡ newest s u (x ∷ xs)) [
       | true ↦ λ e.
           let parts = and_parts _ _ e in
           let ds' = same_source d.source x.source parts.0 in
@@ -75,7 +75,7 @@ module _ (w : World) (i : ℕ) (s : List ℕ) (u : ℕ) (ps : List ℕ) (k : New
             let sr = same_source s r parts.0 in
             let vu = eqb-true v u parts.1 in
             let me : (same s s && (u == u)) ≡ true = (λ j. same s (sr j) && (sym vu j == u)) ∙ t in
-            put_node (node_after w.sent r v q m n) (q ∷ ps) ((λ j. newest s u (noted (record { source = sym sr j; universe = vu j; place = q }) n.delivered)) ∙ noted_own s u q n.delivered me ∙ ap (greater q) (k n e))
+            put_node (node_after w.sent r v q m n) (q ∷ ps) ((λ j. newest s u (add_delivery (record { source = sym sr j; universe = vu j; place = q }) n.delivered)) ∙ noted_own s u q n.delivered me ∙ ap (greater q) (k n e))
         | false ↦ λ t. put_node (node_after w.sent r v q m n) ps (noted_other s u (record { source = r; universe = v; place = q }) n.delivered t ∙ k n e)
       ] refl
 

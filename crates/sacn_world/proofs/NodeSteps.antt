@@ -13,8 +13,8 @@ use Rattle.std.specs.declared.cmp.Ordering.TheVariants.{Less, Equal, Greater}
 use Rattle.sacn_world.proofs.Lists.{found, find-map, kept_seen}
 use Rattle.sacn_world.proofs.Steps.{taken_seen, rows_seen, held_live, ended_not, never_observed}
 use Rattle.sacn_world.specs.Streams.{Sent, number_at, stream_of, follows, Ordered, late}
-use Rattle.sacn_world.specs.Holdings.{Hold, is_renewed, hold_of, put, answer, holding_after, delivered, Delivery, newest, noted, refusal_at, refusal}
-use Rattle.sacn_world.specs.Seen.{packet_at, rows_of}
+use Rattle.sacn_world.specs.Holdings.{Hold, is_renewed, hold_of, put, answer, holding_after, delivered, Delivery, newest, add_delivery, refusal_at, refusal}
+use Rattle.sacn_world.specs.RowsOfPlaces.{packet_at, rows_of}
 use Rattle.sacn_world.specs.Nodes.{Holding, Node, unexpired_all, reply_on, change, node_reply, node_after, node_at, shown_of, slots_on, node_slots, seen_table, seen_core, HoldOk}
 use Rattle.sacn_sources.specs.Order.{order, same, by_order}
 use Rattle.sacn_sources.specs.Rows.{Row, taken, rows_after, take_row, layers}
@@ -85,42 +85,42 @@ rule_from u sent s q ds hs ord within there may all h is =
 
 -- ---- the invariant after a delivery
 
-newest_noted : (s : List ℕ) (u : ℕ) (d : Delivery) (ds : List Delivery) (n : ℕ) → newest s u ds ≡ Some n → (m : ℕ) × (newest s u (noted d ds) ≡ Some m) × (n ≤ m)
+newest_noted : (s : List ℕ) (u : ℕ) (d : Delivery) (ds : List Delivery) (n : ℕ) → newest s u ds ≡ Some n → (m : ℕ) × (newest s u (add_delivery d ds) ≡ Some m) × (n ≤ m)
 newest_noted s u d [] n e = absurd (cc)
 newest_noted s u d (x ∷ xs) n e =
-    elim (same d.source x.source && (x.universe == d.universe)) as (λ b. (m : ℕ) × (newest s u (if b then record { source = x.source; universe = x.universe; place = max d.place x.place } ∷ xs else x ∷ noted d xs) ≡ Some m) × (n ≤ m)) [
+    elim (same d.source x.source && (x.universe == d.universe)) as (λ b. (m : ℕ) × (newest s u (if b then record { source = x.source; universe = x.universe; place = max d.place x.place } ∷ xs else x ∷ add_delivery d xs) ≡ Some m) × (n ≤ m)) [
       | true ↦ elim (same s x.source && (x.universe == u)) as (λ b. (if b then Some x.place else newest s u xs) ≡ Some n → (m : ℕ) × ((if b then Some (max d.place x.place) else newest s u xs) ≡ Some m) × (n ≤ m)) [
         | true ↦ λ f. (max d.place x.place, refl, let g = same_Some x.place n f in omega (arith, g))
         | false ↦ λ f. (n, f, omega arith)
       ] e
-      | false ↦ elim (same s x.source && (x.universe == u)) as (λ b. (if b then Some x.place else newest s u xs) ≡ Some n → (m : ℕ) × ((if b then Some x.place else newest s u (noted d xs)) ≡ Some m) × (n ≤ m)) [
+      | false ↦ elim (same s x.source && (x.universe == u)) as (λ b. (if b then Some x.place else newest s u xs) ≡ Some n → (m : ℕ) × ((if b then Some x.place else newest s u (add_delivery d xs)) ≡ Some m) × (n ≤ m)) [
         | true ↦ λ f. (n, f, omega arith)
         | false ↦ λ f. newest_noted s u d xs n f
       ] e
     ]
 
-pub hold_more : (u : ℕ) (d : Delivery) (ds : List Delivery) (h : Hold) → HoldOk u ds h → HoldOk u (noted d ds) h
+pub hold_more : (u : ℕ) (d : Delivery) (ds : List Delivery) (h : Hold) → HoldOk u ds h → HoldOk u (add_delivery d ds) h
 hold_more u d ds h ok =
     let m = newest_noted h.source u d ds ok.last ok.is_last in
     record { last = m.0; is_last = m.1; below = omega (arith, m.2, ok.below) }
 
-newest_new : (s : List ℕ) (u q : ℕ) (ds : List Delivery) → (m : ℕ) × (newest s u (noted (record { source = s; universe = u; place = q }) ds) ≡ Some m) × (q ≤ m)
+newest_new : (s : List ℕ) (u q : ℕ) (ds : List Delivery) → (m : ℕ) × (newest s u (add_delivery (record { source = s; universe = u; place = q }) ds) ≡ Some m) × (q ≤ m)
 newest_new s u q [] =
     let both : (same s s && (u == u)) ≡ true = and_from _ _ (same-itself s) (eq-eqb u u refl) in
     (q, ap (λ b. if b then Some q else None) both, omega arith)
 newest_new s u q (x ∷ xs) =
-    elim (same s x.source && (x.universe == u)) as (λ b. (same s x.source && (x.universe == u)) ≡ b → (m : ℕ) × (newest s u (if b then record { source = x.source; universe = x.universe; place = max q x.place } ∷ xs else x ∷ noted (record { source = s; universe = u; place = q }) xs) ≡ Some m) × (q ≤ m)) [
+    elim (same s x.source && (x.universe == u)) as (λ b. (same s x.source && (x.universe == u)) ≡ b → (m : ℕ) × (newest s u (if b then record { source = x.source; universe = x.universe; place = max q x.place } ∷ xs else x ∷ add_delivery (record { source = s; universe = u; place = q }) xs) ≡ Some m) × (q ≤ m)) [
       | true ↦ λ e. (max q x.place, ap (λ b. if b then Some (max q x.place) else newest s u xs) e, omega arith)
-      | false ↦ λ e. let r = newest_new s u q xs in (r.0, ap (λ b. if b then Some x.place else newest s u (noted (record { source = s; universe = u; place = q }) xs)) e ∙ r.1, r.2)
+      | false ↦ λ e. let r = newest_new s u q xs in (r.0, ap (λ b. if b then Some x.place else newest s u (add_delivery (record { source = s; universe = u; place = q }) xs)) e ∙ r.1, r.2)
     ] refl
 
-pub hold_new : (s : List ℕ) (u q t : ℕ) (ds : List Delivery) → HoldOk u (noted (record { source = s; universe = u; place = q }) ds) (record { source = s; place = q; moment = t })
+pub hold_new : (s : List ℕ) (u q t : ℕ) (ds : List Delivery) → HoldOk u (add_delivery (record { source = s; universe = u; place = q }) ds) (record { source = s; place = q; moment = t })
 hold_new s u q t ds = let m = newest_new s u q ds in record { last = m.0; is_last = m.1; below = m.2 }
 
-pub all_noted : (sent : List Sent) (d : Delivery) (ds : List Delivery) → d.place < length (stream_of d.source d.universe sent) → AllByRecursion (λ (y : Delivery). y.place < length (stream_of y.source y.universe sent)) ds → AllByRecursion (λ (y : Delivery). y.place < length (stream_of y.source y.universe sent)) (noted d ds)
+pub all_noted : (sent : List Sent) (d : Delivery) (ds : List Delivery) → d.place < length (stream_of d.source d.universe sent) → AllByRecursion (λ (y : Delivery). y.place < length (stream_of y.source y.universe sent)) ds → AllByRecursion (λ (y : Delivery). y.place < length (stream_of y.source y.universe sent)) (add_delivery d ds)
 all_noted sent d [] h all = (h, tt)
 all_noted sent d (x ∷ xs) h all =
-    elim (same d.source x.source && (x.universe == d.universe)) as (λ b. (same d.source x.source && (x.universe == d.universe)) ≡ b → AllByRecursion (λ (y : Delivery). y.place < length (stream_of y.source y.universe sent)) (if b then record { source = x.source; universe = x.universe; place = max d.place x.place } ∷ xs else x ∷ noted d xs)) [
+    elim (same d.source x.source && (x.universe == d.universe)) as (λ b. (same d.source x.source && (x.universe == d.universe)) ≡ b → AllByRecursion (λ (y : Delivery). y.place < length (stream_of y.source y.universe sent)) (if b then record { source = x.source; universe = x.universe; place = max d.place x.place } ∷ xs else x ∷ add_delivery d xs)) [
       | true ↦ λ e.
           let parts = and_parts _ _ e in
           let h' : d.place < length (stream_of x.source x.universe sent) = subst (λ v. d.place < length (stream_of x.source v sent)) (sym (eqb-true _ _ parts.1)) (subst (λ z. d.place < length (stream_of z d.universe sent)) (same_source d.source x.source parts.0) h) in
@@ -159,7 +159,7 @@ pub all_kept : (P : ℕ → Hold → Type 0) (t : ℕ) (gs : List Holding) → A
 all_kept P t [] all = tt
 all_kept P t (g ∷ gs) all = (all_filter (P g.universe) (is_renewed t) g.held all.0, all_kept P t gs all.1)
 
-pub all_more : (d : Delivery) (ds : List Delivery) (gs : List Holding) → AllByRecursion (λ g. AllByRecursion (HoldOk g.universe ds) g.held) gs → AllByRecursion (λ g. AllByRecursion (HoldOk g.universe (noted d ds)) g.held) gs
+pub all_more : (d : Delivery) (ds : List Delivery) (gs : List Holding) → AllByRecursion (λ g. AllByRecursion (HoldOk g.universe ds) g.held) gs → AllByRecursion (λ g. AllByRecursion (HoldOk g.universe (add_delivery d ds)) g.held) gs
 all_more d ds [] all = tt
 all_more d ds (g ∷ gs) all = (all_weaker _ _ (λ h ok. hold_more g.universe d ds h ok) g.held all.0, all_more d ds gs all.1)
 
@@ -205,11 +205,11 @@ module _ (sent : List Sent) (s : List ℕ) (u q m : ℕ) (n : Node) (ord : Order
       let e = ap (change_rows u r) (kept_all_seen sent (max n.moment m) n.holdings) ∙ change_seen sent u f r now (each now now_below) in
       λ i. record { moment = max n.moment m; tables = e i }
 
-  pub below_after : AllByRecursion (λ g. AllByRecursion (HoldOk g.universe (noted (record { source = s; universe = u; place = q }) n.delivered)) g.held) (change u (delivered (stream_of s u sent) s q (max n.moment m)) (unexpired_all (max n.moment m) n.holdings))
+  pub below_after : AllByRecursion (λ g. AllByRecursion (HoldOk g.universe (add_delivery (record { source = s; universe = u; place = q }) n.delivered)) g.held) (change u (delivered (stream_of s u sent) s q (max n.moment m)) (unexpired_all (max n.moment m) n.holdings))
   unfolding now
   below_after =
       let d : Delivery = record { source = s; universe = u; place = q } in
-      all_change (λ v. HoldOk v (noted d n.delivered)) u _ now (λ hs all. all_after (HoldOk u (noted d n.delivered)) (answer (stream_of s u sent) s q hs) (record { source = s; place = q; moment = max n.moment m }) hs (hold_new s u q (max n.moment m) n.delivered) all) (all_more d n.delivered now now_below)
+      all_change (λ v. HoldOk v (add_delivery d n.delivered)) u _ now (λ hs all. all_after (HoldOk u (add_delivery d n.delivered)) (answer (stream_of s u sent) s q hs) (record { source = s; place = q; moment = max n.moment m }) hs (hold_new s u q (max n.moment m) n.delivered) all) (all_more d n.delivered now now_below)
 
 -- ---- expiry and what is shown
 

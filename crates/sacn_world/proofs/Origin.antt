@@ -20,7 +20,7 @@ use Rattle.sacn_schedule.specs.declared.event.Event.TheVariants.{Order, Poll, De
 use Rattle.sacn_world.specs.declared.fault.WorldFault.{WorldFault}
 use Rattle.sacn_world.specs.Streams.{Sent, nothing, at, is_on, is_of, stream_of, place_of, is_live, priority, levels, live_in}
 use Rattle.sacn_world.specs.Holdings.{Hold}
-use Rattle.sacn_world.specs.Seen.{shown_by}
+use Rattle.sacn_world.specs.RowsOfPlaces.{shown_by}
 use Rattle.sacn_world.specs.Nodes.{Holding, Node, node_of, holding_of, shown_of, HoldOk}
 use Rattle.sacn_schedule.specs.Cids.{Desk}
 use Rattle.sacn_world.specs.Worlds.{World, with_console, with_node, sent_by, with_sent, polled, order_step, poll_by, poll_step, restart_console, come, arrive, deliver_step, look_step, heard, noise_step, restart_node, step, left_by, after, new_console, new_world, NodeOk, WorldOk}

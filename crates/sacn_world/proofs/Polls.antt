@@ -8,11 +8,12 @@ use Rattle.std.proofs.lemmas.List.{take_at, get_or_push}
 use Rattle.sacn_framing.specs.Data.{Data}
 use Rattle.sacn_sources.specs.Packets.{packet_of, kind_of}
 use Rattle.sacn_sources.specs.declared.kind.Kind.TheVariants.{Live, Termination, Preview, Other}
-use Rattle.sacn_console.specs.declared.line.Line.{Line}
+use Rattle.sacn_console.specs.declared.line.UniverseLine.{UniverseLine}
 use Rattle.sacn_console.specs.Lines as line
 use Rattle.sacn_console.specs.Core as console
 use Rattle.sacn_world.specs.Streams.{Sent, nothing, at, is_of, is_live, priority, levels, stream_of, place_of, rank, number_at}
-use Rattle.sacn_world.specs.Seen.{kind_by, packet_at}
+use Rattle.sacn_world.specs.RowsOfPlaces.{packet_at}
+use Rattle.sacn_world.specs.Streams.{kind_by}
 use Rattle.sacn_world.specs.declared.console.Console.{Console}
 use Rattle.sacn_world.specs.Worlds.{sent_by, is_of_life, LineOk}
 use Rattle.sacn_world.proofs.Lists.{found}
@@ -72,17 +73,17 @@ no_packet : (o : Option line.Page) (d : Data) → option_map line.Paged o ≡ So
 no_packet None d e = cc
 no_packet (Some p) d e = cc
 
-pub due_line : (c : console.Core) (d : Data) → console.due c ≡ Some (line.Packet d) → (l : Line) × (find (line.line_due c.lights c.moment) c.lines ≡ Some l) × (console.packet_of c.sender c.lights c.moment l ≡ d)
+pub due_line : (c : console.Core) (d : Data) → console.due c ≡ Some (line.Packet d) → (l : UniverseLine) × (find (line.line_due c.lights c.moment) c.lines ≡ Some l) × (console.packet_of c.sender c.lights c.moment l ≡ d)
 unfolding console.due console.line_found
 due_line c d e =
-    elim (find (line.line_due c.lights c.moment) c.lines) as (λ o. console.due_by c o ≡ Some (line.Packet d) → (l : Line) × (o ≡ Some l) × (console.packet_of c.sender c.lights c.moment l ≡ d)) [
+    elim (find (line.line_due c.lights c.moment) c.lines) as (λ o. console.due_by c o ≡ Some (line.Packet d) → (l : UniverseLine) × (o ≡ Some l) × (console.packet_of c.sender c.lights c.moment l ≡ d)) [
       | Some l ↦ λ f. (l, refl, packet_inside _ _ (same_Some _ _ f))
       | None ↦ λ f. absurd (no_packet (console.page_due c) d f)
     ] e
 
 -- each number is one of the octet numbers of a packet of the life, and each line's number is that of its next place
 module _ (sent : List Sent) (c : Console) (m : ℕ) (d : Data) (sender : c.core.sender.cid ≡ c.show.cid) (lines : AllByRecursion (LineOk sent c) c.core.lines) (is_due : console.due (console.at m c.core) ≡ Some (line.Packet d)) where
-  due : (l : Line) × (find (line.line_due (console.at m c.core).lights (console.at m c.core).moment) c.core.lines ≡ Some l) × (console.packet_of c.core.sender (console.at m c.core).lights (console.at m c.core).moment l ≡ d)
+  due : (l : UniverseLine) × (find (line.line_due (console.at m c.core).lights (console.at m c.core).moment) c.core.lines ≡ Some l) × (console.packet_of c.core.sender (console.at m c.core).lights (console.at m c.core).moment l ≡ d)
   due = due_line (console.at m c.core) d is_due
 
   abbrev x : Sent
@@ -125,7 +126,7 @@ module _ (sent : List Sent) (c : Console) (m : ℕ) (d : Data) (sender : c.core.
       let number : d.number ≡ number_at st q = number_is ∙ sym (number_next c.show.cid d.universe sent x is_own) in
       λ i. record {
         source = cid_is i;
-        number = number i;
+        sequence_number = number i;
         kind = (kind_is ∙ ap (λ (y : Sent). kind_by (is_live y)) (sym here)) i;
         priority = ap priority (sym here) i;
         levels = ap levels (sym here) i;

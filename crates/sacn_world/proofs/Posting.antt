@@ -24,8 +24,8 @@ use Rattle.sacn_schedule.specs.declared.event.Event.TheVariants.{Poll}
 use Rattle.sacn_world.specs.Streams.{Sent, is_of, is_on, place_of, stream_of}
 use Rattle.sacn_world.specs.Worlds.{World, with_console, with_core, said_by, sent_by, poll_by, poll_step, step, NodeOk}
 use Rattle.sacn_world.specs.Watches.{Watch, Mark, node_by_places, by_places, delivery_of, MarkOk, WatchOk}
-use Rattle.sacn_world.specs.Wire.{SentDatagram, said, seen_sent, stream_in, DatagramOk, is_in, is_filed, stream_next, posted}
-use Rattle.sacn_world.specs.Kept.{seen_world, Kept, IsAccepted}
+use Rattle.sacn_world.specs.Wire.{SentDatagram, said, seen_sent, stream_in, DatagramOk, is_in, is_filed, stream_next, sent_datagram}
+use Rattle.sacn_world.specs.Invariants.{seen_world, Kept, IsAccepted}
 use Rattle.sacn_world.proofs.Growth.{node_kept, at_kept}
 use Rattle.sacn_world.proofs.Sending.{count_here, place_stays, next_place}
 use Rattle.sacn_world.proofs.Runs.{pushed_cases, mapped}
@@ -182,7 +182,7 @@ due_fits sender o len e lawful =
     omega (arith, f, d.2)
 
 -- what was due is sent
-pub posted_done : WrittenIsRead → WrittenPageIsRead → (cs : List Console) (fs : List SentDatagram) (ws : List Watch) → Kept cs fs ws → (v : World) → seen_world cs fs ws ≡ v → (i m : ℕ) (c : Console) → slice_get cs i ≡ Some c → (len : ℕ) (out old : List ℕ) (core : console.Core) (z : Console) (octets : Vec ℕ Global) (f : SentDatagram) → option_map console.size (console.due (console.at m c.core)) ≡ Some len → out ≡ console.over c.core.sender (console.due (console.at m c.core)) old → ((d : line.Datagram) → console.due (console.at m c.core) ≡ Some d → console.IsLawful c.core.sender d) → length out ≡ 1144 → length old ≡ 1144 → core ≡ console.after_poll m c.core → octets.items ≡ take len out → slice_get (slice_set cs i (with_core c core)) i ≡ Some z → f ≡ posted z fs octets → Done v (Poll i m) (answered.Sent (length fs)) (slice_set cs i (with_core c core)) (fs ++ f ∷ []) ws
+pub posted_done : WrittenIsRead → WrittenPageIsRead → (cs : List Console) (fs : List SentDatagram) (ws : List Watch) → Kept cs fs ws → (v : World) → seen_world cs fs ws ≡ v → (i m : ℕ) (c : Console) → slice_get cs i ≡ Some c → (len : ℕ) (out old : List ℕ) (core : console.Core) (z : Console) (octets : Vec ℕ Global) (f : SentDatagram) → option_map console.size (console.due (console.at m c.core)) ≡ Some len → out ≡ console.over c.core.sender (console.due (console.at m c.core)) old → ((d : line.Datagram) → console.due (console.at m c.core) ≡ Some d → console.IsLawful c.core.sender d) → length out ≡ 1144 → length old ≡ 1144 → core ≡ console.after_poll m c.core → octets.items ≡ take len out → slice_get (slice_set cs i (with_core c core)) i ≡ Some z → f ≡ sent_datagram z fs octets → Done v (Poll i m) (answered.Sent (length fs)) (slice_set cs i (with_core c core)) (fs ++ f ∷ []) ws
 posted_done data' page' cs fs ws keeps v is i m c ec len out old core z octets f el eo lawful lo ll ek eoct ez ef =
     let o = console.due (console.at m c.core) in
     let d = mapped console.size o len el in
@@ -190,6 +190,6 @@ posted_done data' page' cs fs ws keeps v is i m c ec len out old core z octets f
     let read : reading_packet octets.items ≡ Ok (said_by c.core.sender d.0) =
     ap reading_packet (eoct ∙ ap (λ n. take n out) (sym d.2)) ∙ poll_read data' page' c.core.sender d.0 out old (lawful d.0 d.1) lo ll eout in
     let same' : with_core c core ≡ z = set_same cs i (with_core c core) z ez in
-    let fc : f ≡ posted c fs octets = ef ∙ ap (λ (y : Console). posted y fs octets) (sym same') in
+    let fc : f ≡ sent_datagram c fs octets = ef ∙ ap (λ (y : Console). sent_datagram y fs octets) (sym same') in
     subst (λ (g : SentDatagram). Done v (Poll i m) (answered.Sent (length fs)) (slice_set cs i (with_core c core)) (fs ++ g ∷ []) ws) (sym fc)
-    (sent_done cs fs ws keeps v is i m c ec d.0 d.1 core ek (posted c fs octets) refl refl refl read refl)
+    (sent_done cs fs ws keeps v is i m c ec d.0 d.1 core ek (sent_datagram c fs octets) refl refl refl read refl)

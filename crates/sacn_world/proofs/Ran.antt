@@ -6,8 +6,8 @@ use Rattle.sacn_schedule.specs.declared.event.Event.{Event}
 use Rattle.sacn_world.specs.declared.fault.WorldFault.{WorldFault}
 use Rattle.sacn_world.specs.declared.fault.WorldFault.TheVariants.{OutOfMemory}
 use Rattle.sacn_world.specs.Worlds.{World, Step, step, takes_memory, after, left_by}
-use Rattle.sacn_world.specs.Kept.{IsAccepted, SteppedBy}
-use Rattle.sacn_world.specs.Running.{Ran, answered_first, first_then, ran, Stopped}
+use Rattle.sacn_world.specs.Invariants.{IsAccepted, SteppedBy}
+use Rattle.sacn_world.specs.Runs.{Ran, answered_first, first_then, ran, Stopped}
 
 pub take_more : {X : Type 0} (xs : List X) (i : ℕ) (x : X) → slice_get xs i ≡ Some x → take (i + 1) xs ≡ take i xs ++ x ∷ []
 take_more [] i x e = absurd (cc)

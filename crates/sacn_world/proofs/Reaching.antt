@@ -10,11 +10,11 @@ use Rattle.sacn_schedule.specs.declared.event.Event.TheVariants.{Deliver}
 use Rattle.sacn_world.specs.declared.fault.WorldFault.{WorldFault}
 use Rattle.sacn_world.specs.Streams.{Sent, at, stream_of, place_of, is_live, priority, levels, priority_in, levels_in}
 use Rattle.sacn_world.specs.Holdings.{Hold}
-use Rattle.sacn_world.specs.Seen.{shown_by, seen}
+use Rattle.sacn_world.specs.RowsOfPlaces.{shown_by, seen}
 use Rattle.sacn_world.specs.Nodes.{Node}
 use Rattle.sacn_schedule.specs.Cids.{Desk, HaveOwnCids}
 use Rattle.sacn_world.specs.Worlds.{World, Outcome, Step, step, left_by, after, come, arrive, deliver_step, new_console, new_world, Apart, place_on, hold_in, held_at}
-use Rattle.sacn_world.specs.Running.{Ran, answered_first, first_then, ran}
+use Rattle.sacn_world.specs.Runs.{Ran, answered_first, first_then, ran}
 use Rattle.sacn_world.specs.Counts.{Count, count_run, no_count, Shows}
 use Rattle.sacn_sources.specs.Order.{same}
 use Rattle.sacn_world.specs.Laws.{reached}

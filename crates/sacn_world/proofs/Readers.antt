@@ -13,12 +13,12 @@ use Rattle.sacn_schedule.specs.declared.event.Event.{Event}
 use Rattle.sacn_world.specs.declared.fault.WorldFault.{WorldFault}
 use Rattle.sacn_world.specs.Streams.{Sent}
 use Rattle.sacn_world.specs.Holdings.{Hold, hold_of}
-use Rattle.sacn_world.specs.Seen.{seen}
+use Rattle.sacn_world.specs.RowsOfPlaces.{seen}
 use Rattle.sacn_world.specs.Nodes.{Holding, Node, holding_of, seen_core, seen_table}
 use Rattle.sacn_world.specs.Worlds.{World, Step, place_on, hold_in, held_at, place_at, row_at, takes_memory}
 use Rattle.sacn_world.specs.Watches.{Mark, Watch, mark_of, held_place, hold_from, holding_from, by_places, node_by_places, place_noted, WatchOk}
 use Rattle.sacn_world.specs.Wire.{SentDatagram, seen_sent}
-use Rattle.sacn_world.specs.Kept.{seen_world, Kept, Stepped, SteppedWithRoom, SteppedBy}
+use Rattle.sacn_world.specs.Invariants.{seen_world, Kept, Stepped, SteppedWithRoom, SteppedBy}
 use Rattle.sacn_world.proofs.All.{all_get}
 use Rattle.sacn_world.proofs.Sources.{same_source}
 use Rattle.sacn_world.proofs.Lists.{find-map, row_of_seen}

@@ -20,7 +20,8 @@ use Rattle.sacn_schedule.specs.declared.event.Event.TheVariants.{Order, Poll, De
 use Rattle.sacn_world.specs.declared.fault.WorldFault.{WorldFault}
 use Rattle.sacn_world.specs.Streams.{Sent, is_of, is_on, stream_of, place_of, is_live, priority, levels, Ordered}
 use Rattle.sacn_world.specs.Holdings.{newest, refusal}
-use Rattle.sacn_world.specs.Seen.{kind_by, packet_at}
+use Rattle.sacn_world.specs.RowsOfPlaces.{packet_at}
+use Rattle.sacn_world.specs.Streams.{kind_by}
 use Rattle.sacn_world.specs.Nodes.{Holding, Node, node_of, nothing_held, node_at, HoldOk}
 use Rattle.sacn_world.specs.declared.console.Console.{Console}
 use Rattle.sacn_world.specs.Worlds.{World, with_console, with_node, order_step, sent_by, with_sent, polled, poll_by, poll_step, restart_console, come, arrive, deliver_step, look_step, heard, noise_step, restart_node, step, left_by, after, new_console, new_world, Apart, NodeOk, ConsoleOk, IsNumbered, Numbered, WorldOk}
@@ -85,7 +86,7 @@ number_stays sent y k x e d ed is =
     let a = at_kept sent y s u q there in
     let n = number_kept sent y s u q there in
     is
-    ∙ (λ i. record { source = s; number = sym n i; kind = kind_by (is_live (sym a i)); priority = priority (sym a i); levels = levels (sym a i) })
+    ∙ (λ i. record { source = s; sequence_number = sym n i; kind = kind_by (is_live (sym a i)); priority = priority (sym a i); levels = levels (sym a i) })
     ∙ ap (packet_at s (stream_of s u (sent ++ y ∷ []))) (sym (place_stays s u sent y k x e))
 
 stays_numbered : (sent : List Sent) (y : Sent) (k : ℕ) (x : Sent) → slice_get sent k ≡ Some x → (p : Packet) → x.packet ≡ p → IsNumbered sent k x.source p → IsNumbered (sent ++ y ∷ []) k x.source p

@@ -6,32 +6,23 @@ use Rattle.sacn_world.proofs.Lists.{row_of_seen, put_seen}
 use Rattle.std.specs.Prelude.{option_map, nat_lt}
 use Rattle.sacn_world.specs.Streams.{priority, levels, Sent, at, number_at, is_live, priority, levels, stream_of, follows, late}
 use Rattle.sacn_world.specs.Holdings.{Hold, hold_of, answer_unknown, answer_known, answer_by, answer, holding_after}
-use Rattle.sacn_world.specs.Seen.{shown_by, kind_by, packet_at, seen, rows_of}
-use Rattle.sacn_sources.specs.Rows.{row_of, put_row, take_unknown, take_known, take_by, taken, rows_after}
+use Rattle.sacn_world.specs.RowsOfPlaces.{shown_by, packet_at, seen, rows_of}
+use Rattle.sacn_world.specs.Streams.{kind_by}
+use Rattle.sacn_sources.specs.Rows.{row_of, put_row, take_known, take_by, taken, rows_after}
 use Rattle.sacn_sources.specs.declared.taken.Taken.{Taken}
 use Rattle.sacn_sources.specs.declared.taken.Taken.TheVariants.{UnknownIgnored, Held, EndedNow, Observed, OutOfSequence, SourcesExceeded}
 
-unknown_same : (live room : Bool) → take_unknown (kind_by live) room ≡ answer_unknown live room
-unknown_same true true = refl
-unknown_same true false = refl
-unknown_same false true = refl
-unknown_same false false = refl
-
 known_same : (live late follows : Bool) → not late ≡ follows → take_known (kind_by live) late ≡ answer_known live follows
-known_same true true true e = cc
-known_same true true false e = refl
-known_same true false true e = refl
-known_same true false false e = cc
-known_same false true true e = cc
-known_same false true false e = refl
-known_same false false true e = refl
-known_same false false false e = cc
+known_same live true true e = cc
+known_same live true false e = refl
+known_same live false true e = refl
+known_same live false false e = cc
 
 module _ (u : ℕ) (sent : List Sent) where
   -- by cases on what is held of the source
   by_seen : (s : List ℕ) (q : ℕ) (room : Bool) (o : Option Hold) → ((h : Hold) → o ≡ Some h → not (late (number_at (stream_of h.source u sent) h.place) (number_at (stream_of s u sent) q)) ≡ follows (stream_of s u sent) h.place q) → take_by (packet_at s (stream_of s u sent) q) room (option_map (seen u sent) o) ≡ answer_by (stream_of s u sent) q room o
   unfolding late
-  by_seen s q room None rule = unknown_same _ room
+  by_seen s q room None rule = refl
   by_seen s q room (Some h) rule = known_same _ _ _ (rule h refl)
 
   pub taken_seen : (s : List ℕ) (q : ℕ) (hs : List Hold) → ((h : Hold) → hold_of s hs ≡ Some h → not (late (number_at (stream_of h.source u sent) h.place) (number_at (stream_of s u sent) q)) ≡ follows (stream_of s u sent) h.place q) → taken (packet_at s (stream_of s u sent) q) (rows_of u sent hs) ≡ answer (stream_of s u sent) s q hs
@@ -44,11 +35,11 @@ module _ (u : ℕ) (sent : List Sent) where
   pub rows_seen : (a : Taken) (s : List ℕ) (q t : ℕ) (hs : List Hold) → (a ≡ Held → (is_live (at (stream_of s u sent) q)) ≡ true) → (a ≡ EndedNow → (is_live (at (stream_of s u sent) q)) ≡ false) → (a ≡ Observed → ⊥) → rows_after a (packet_at s (stream_of s u sent) q) t (rows_of u sent hs) ≡ rows_of u sent (holding_after a (record { source = s; place = q; moment = t }) hs)
   rows_seen Held s q t hs is_it ended other =
       let x = at (stream_of s u sent) q in
-      ap (λ b. put_row (record { source = s; number = number_at (stream_of s u sent) q; shown = shown_by b (priority x) (levels x); moment = t }) (rows_of u sent hs)) (sym (is_it refl))
+      ap (λ b. put_row (record { source = s; sequence_number = number_at (stream_of s u sent) q; shown = shown_by b (priority x) (levels x); moment = t }) (rows_of u sent hs)) (sym (is_it refl))
       ∙ put_seen u sent (record { source = s; place = q; moment = t }) hs
   rows_seen EndedNow s q t hs live ended other =
       let x = at (stream_of s u sent) q in
-      ap (λ b. put_row (record { source = s; number = number_at (stream_of s u sent) q; shown = shown_by b (priority x) (levels x); moment = t }) (rows_of u sent hs)) (sym (ended refl))
+      ap (λ b. put_row (record { source = s; sequence_number = number_at (stream_of s u sent) q; shown = shown_by b (priority x) (levels x); moment = t }) (rows_of u sent hs)) (sym (ended refl))
       ∙ put_seen u sent (record { source = s; place = q; moment = t }) hs
   rows_seen Observed s q t hs live ended other = absurd (other refl)
   rows_seen OutOfSequence s q t hs live ended other = refl

@@ -12,11 +12,11 @@ use Rattle.sacn_world.specs.Nodes.{Node, Holding, holding_of}
 use Rattle.sacn_world.specs.Members.{SameShown}
 use Rattle.sacn_schedule.specs.Cids.{Desk}
 use Rattle.sacn_world.specs.Worlds.{World, new_console, new_world, Apart, place_at}
-use Rattle.sacn_world.specs.Running.{Ran, ran}
+use Rattle.sacn_world.specs.Runs.{Ran, ran}
 use Rattle.sacn_world.specs.Counts.{count_run, no_count}
 use Rattle.sacn_world.specs.Laws.{reached}
 use Rattle.sacn_world.specs.Origins.{IsMergedFrame, Looked}
-use Rattle.sacn_world.specs.Lasting.{Lasts, HoldsFrom, TakesItsPlace, MovesForward}
+use Rattle.sacn_world.specs.Entries.{Lasts, HoldsFrom, TakesItsPlace, MovesForward}
 use Rattle.sacn_world.specs.Looks.{LookOf, sent_at, held_at_look, AgreeOn}
 use Rattle.sacn_world.specs.RunLaws.{HoldsLive}
 use Rattle.sacn_world.specs.Admissible.{AreAdmissible}

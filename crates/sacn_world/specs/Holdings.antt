@@ -1,15 +1,15 @@
 -- What a node holds on one universe, by places.
-use Rattle.std.specs.Prelude.{◌≡◌, ⊤, ℕ, ◌+◌, ◌-◌, Bool, true, false, ◌&&◌, ◌==◌, nat_lt, nat_le, max, if◌then◌else◌, List, [], ◌∷◌, length, filter, find, Option, Some, None}
+use Rattle.std.specs.Prelude.{◌≡◌, ⊤, ℕ, ◌+◌, ◌-◌, Bool, not, ◌&&◌, ◌==◌, nat_lt, nat_le, max, if◌then◌else◌, List, [], ◌∷◌, length, filter, find, Option, Some, None}
 use Rattle.std.specs.List.{AllByRecursion}
 use Rattle.std.specs.declared.cmp.Ordering.TheVariants.{Less}
 use Rattle.sacn_sources.specs.Order.{order, same, by_order}
 use Rattle.sacn_sources.specs.declared.limits.TheConstants.{MAX_SOURCES, NETWORK_DATA_LOSS}
+use Rattle.sacn_sources.specs.Rows.{take_unknown, take_known, renews}
 use Rattle.sacn_sources.specs.declared.taken.Taken.{Taken}
-use Rattle.sacn_sources.specs.declared.taken.Taken.TheVariants.{Held, Observed, EndedNow, OutOfSequence, SourcesExceeded, UnknownIgnored}
 use Rattle.sacn_world.specs.declared.limits.TheConstants.{TOO_FAR_BEHIND}
 use Rattle.sacn_world.specs.declared.fault.WorldFault.{WorldFault}
 use Rattle.sacn_world.specs.declared.fault.WorldFault.TheVariants.{TooFarBehind, OldLife}
-use Rattle.sacn_world.specs.Streams.{Sent, at, is_live, life_at, follows}
+use Rattle.sacn_world.specs.Streams.{Sent, at, is_live, kind_by, life_at, follows}
 
 -- an entry of a holding, a finite map from sources: the source's place that is held, and when it was renewed
 pub record Hold : Type 0 where
@@ -34,22 +34,18 @@ abbrev pub put : Hold → List Hold → List Hold
 put n [] = n ∷ []
 put n (h ∷ hs) = by_order (order n.source h.source) (n ∷ h ∷ hs) (n ∷ hs) (h ∷ put n hs)
 
--- sources strictly ascend
-abbrev pub Sorted : List Hold → Type 0
-Sorted [] = ⊤
-Sorted (h ∷ hs) = AllByRecursion (λ k. order h.source k.source ≡ Less) hs × Sorted hs
+-- the CIDs of the sources strictly rise
+abbrev pub RisingByCid : List Hold → Type 0
+RisingByCid [] = ⊤
+RisingByCid (h ∷ hs) = AllByRecursion (λ k. order h.source k.source ≡ Less) hs × RisingByCid hs
 
--- ---- delivery: the answer to a packet of a source that is not held, and of one that is
+-- ---- delivery: the answer, by the table of answers, to a packet of a source that is not held, and of one that is
 
 abbrev pub answer_unknown : Bool → Bool → Taken
-answer_unknown true true = Held
-answer_unknown true false = SourcesExceeded
-answer_unknown false room = UnknownIgnored
+answer_unknown live room = take_unknown (kind_by live) room
 
 abbrev pub answer_known : Bool → Bool → Taken
-answer_known live false = OutOfSequence
-answer_known true true = Held
-answer_known false true = EndedNow
+answer_known live later = take_known (kind_by live) (not later)
 
 abbrev pub answer_by : List Sent → ℕ → Bool → Option Hold → Taken
 answer_by st q room None = answer_unknown (is_live (at st q)) room
@@ -61,12 +57,7 @@ answer st s q hs = answer_by st q (nat_lt (length hs) MAX_SOURCES) (hold_of s hs
 
 -- what is held after that answer
 abbrev pub holding_after : Taken → Hold → List Hold → List Hold
-holding_after Held n hs = put n hs
-holding_after EndedNow n hs = put n hs
-holding_after Observed n hs = hs
-holding_after OutOfSequence n hs = hs
-holding_after SourcesExceeded n hs = hs
-holding_after UnknownIgnored n hs = hs
+holding_after a n hs = if renews a then put n hs else hs
 
 abbrev pub delivered : List Sent → List ℕ → ℕ → ℕ → List Hold → List Hold
 delivered st s q t hs = holding_after (answer st s q hs) (record { source = s; place = q; moment = t }) hs
@@ -85,10 +76,10 @@ newest s u [] = None
 newest s u (d ∷ ds) = if same s d.source && (d.universe == u) then Some d.place else newest s u ds
 
 -- a delivery more: of each stream the greatest place stands, once
-abbrev pub noted : Delivery → List Delivery → List Delivery
-noted d [] = d ∷ []
-noted d (e ∷ es) =
-    if same d.source e.source && (e.universe == d.universe) then record { source = e.source; universe = e.universe; place = max d.place e.place } ∷ es else e ∷ noted d es
+abbrev pub add_delivery : Delivery → List Delivery → List Delivery
+add_delivery d [] = d ∷ []
+add_delivery d (e ∷ es) =
+    if same d.source e.source && (e.universe == d.universe) then record { source = e.source; universe = e.universe; place = max d.place e.place } ∷ es else e ∷ add_delivery d es
 
 -- where n is the newest place delivered: q is of an earlier life, or of the same life and too many places before it
 abbrev pub is_old_life : List Sent → ℕ → ℕ → Bool

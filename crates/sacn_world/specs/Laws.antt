@@ -1,10 +1,9 @@
 -- What is so in every world that can be come to, whatever was sent, lost, repeated, delayed and restarted.
-use Rattle.std.specs.Prelude.{◌≡◌, ◌⊎◌, ℕ, ◌+◌, ◌-◌, ◌<◌, ◌≤◌, List, map, find, slice_get, Some, Ok}
+use Rattle.std.specs.Prelude.{◌≡◌, ℕ, ◌+◌, ◌-◌, ◌<◌, ◌≤◌, true, List, map, find, slice_get, Some, Ok}
 use Rattle.std.specs.Option.{option_map}
 use Rattle.sacn_framing.specs.Data.{Data}
 use Rattle.sacn_framing.specs.declared.packet.Packet.TheVariants.{DataPacket}
-use Rattle.sacn_sources.specs.Rows.{row_of}
-use Rattle.sacn_sources.specs.declared.taken.Taken.TheVariants.{Held, EndedNow}
+use Rattle.sacn_sources.specs.Rows.{row_of, renews}
 use Rattle.sacn_console.specs.Shows.{ShowContent}
 use Rattle.sacn_node.specs.declared.setup.SlotRange.{SlotRange}
 use Rattle.sacn_node.specs.Setup.{Port}
@@ -15,10 +14,10 @@ use Rattle.sacn_schedule.specs.declared.event.Event.TheVariants.{Deliver}
 use Rattle.sacn_world.specs.declared.answer.Answer.TheVariants as answered
 use Rattle.sacn_world.specs.Streams.{Sent, place_of}
 use Rattle.sacn_world.specs.Holdings.{Hold, hold_of, answer, delivered}
-use Rattle.sacn_world.specs.Seen.{seen, rows_of}
+use Rattle.sacn_world.specs.RowsOfPlaces.{seen, rows_of}
 use Rattle.sacn_world.specs.Nodes.{Holding, Node, holding_of, slots, node_slots, seen_core}
 use Rattle.sacn_world.specs.Worlds.{World, Outcome, step, after, new_console, new_world, Apart}
-use Rattle.sacn_world.specs.Running.{Ran, ran}
+use Rattle.sacn_world.specs.Runs.{Ran, ran}
 use Rattle.sacn_world.specs.Counts.{count_step, count_run, no_count, Shows}
 use Rattle.sacn_world.specs.Members.{HeldOn, SameShown}
 
@@ -35,10 +34,10 @@ NumbersAnswerAsPlacesDo =
     slice_get w.nodes i ≡ Some n → slice_get w.sent k ≡ Some x → step w (Deliver k i m) ≡ Ok o → slice_get o.world.nodes i ≡ Some l →
     (o.answer ≡ answered.Taken (reply_to (Ok x.packet) m (seen_core w.sent n))) × (seen_core o.world.sent l ≡ after_reading (Ok x.packet) m (seen_core w.sent n))
 
--- A packet that is answered Held or EndedNow has a later place than the entry that its source has after expiry
+-- A packet that renews its source (it is answered Held or EndedNow) has a later place than the entry that its source has after expiry
 abbrev pub HeldPlacesAreLater : Type 0
 HeldPlacesAreLater =
-    (st : List Sent) (s : List ℕ) (q : ℕ) (hs : List Hold) (h : Hold) → hold_of s hs ≡ Some h → (answer st s q hs ≡ Held) ⊎ (answer st s q hs ≡ EndedNow) → h.place < q
+    (st : List Sent) (s : List ℕ) (q : ℕ) (hs : List Hold) (h : Hold) → hold_of s hs ≡ Some h → renews (answer st s q hs) ≡ true → h.place < q
 
 -- No delivery drops an entry that has not expired, or gives its place up for an earlier one
 abbrev pub PlacesNeverGoBack : Type 0

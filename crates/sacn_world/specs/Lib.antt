@@ -1,7 +1,7 @@
 pub mod FaultNumbers
 pub mod Streams
 pub mod Holdings
-pub mod Seen
+pub mod RowsOfPlaces
 pub mod Nodes
 pub mod Worlds
 pub mod CatchUp
@@ -11,11 +11,11 @@ pub mod Arrivals
 pub mod Laws
 pub mod Watches
 pub mod Wire
-pub mod Kept
-pub mod Running
+pub mod Invariants
+pub mod Runs
 pub mod RunLaws
 pub mod Origins
-pub mod Lasting
+pub mod Entries
 pub mod Newest
 pub mod Looks
 pub mod Headline

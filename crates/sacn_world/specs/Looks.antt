@@ -12,7 +12,7 @@ use Rattle.sacn_world.specs.Nodes.{Node}
 use Rattle.sacn_world.specs.Members.{SameShown}
 use Rattle.sacn_schedule.specs.Cids.{Desk}
 use Rattle.sacn_world.specs.Worlds.{new_console, new_world, Apart}
-use Rattle.sacn_world.specs.Running.{Ran, ran}
+use Rattle.sacn_world.specs.Runs.{Ran, ran}
 use Rattle.sacn_world.specs.Laws.{reached, ShowTheSame}
 use Rattle.sacn_world.specs.Origins.{held_after_expiry, IsHeldLayer, IsMergedFrame, Looked}
 

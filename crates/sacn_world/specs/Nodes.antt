@@ -8,8 +8,8 @@ use Rattle.sacn_node.specs.Setup.{Port, universes}
 use Rattle.sacn_node.specs.Ports.{port_of, frame_on}
 use Rattle.sacn_node.specs.Cores.{Table, Core}
 use Rattle.sacn_world.specs.Streams.{Sent, at, stream_of, is_live, priority, levels}
-use Rattle.sacn_world.specs.Holdings.{Hold, Delivery, unexpired, answer, delivered, noted, newest}
-use Rattle.sacn_world.specs.Seen.{rows_of, shown_by}
+use Rattle.sacn_world.specs.Holdings.{Hold, Delivery, unexpired, answer, delivered, add_delivery, newest}
+use Rattle.sacn_world.specs.RowsOfPlaces.{rows_of, shown_by}
 
 -- the holding of one universe
 pub record Holding : Type 0 where
@@ -60,7 +60,7 @@ node_after sent s u q m n =
       ports = n.ports;
       moment = max n.moment m;
       holdings = change u (delivered (stream_of s u sent) s q (max n.moment m)) (unexpired_all (max n.moment m) n.holdings);
-      delivered = noted (record { source = s; universe = u; place = q }) n.delivered;
+      delivered = add_delivery (record { source = s; universe = u; place = q }) n.delivered;
     }
 
 -- expiry alone

@@ -11,7 +11,7 @@ use Rattle.sacn_world.specs.Streams.{Sent, place_of}
 use Rattle.sacn_world.specs.Nodes.{Node, Holding, holding_of}
 use Rattle.sacn_schedule.specs.Cids.{Desk, HaveOwnCids}
 use Rattle.sacn_world.specs.Worlds.{World, Outcome, step, after, new_console, Apart, WorldOk, place_at, row_at}
-use Rattle.sacn_world.specs.Running.{Ran, ran}
+use Rattle.sacn_world.specs.Runs.{Ran, ran}
 use Rattle.sacn_world.specs.Counts.{count_step, count_run, no_count}
 use Rattle.sacn_world.specs.Laws.{reached}
 

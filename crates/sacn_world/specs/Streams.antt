@@ -1,9 +1,11 @@
 -- What consoles sent, as an unbounded history, and where a packet stands in it. (E1.31: one sequence per source and universe.)
-use Rattle.std.specs.Prelude.{◌≡◌, ℕ, ◌+◌, ◌-◌, ◌%◌, ◌≤◌, ◌<◌, Bool, false, not, ◌&&◌, ◌==◌, nat_lt, nat_le, if◌then◌else◌, List, [], length, get_or, take, filter, count_by}
+use Rattle.std.specs.Prelude.{◌≡◌, ℕ, ◌+◌, ◌-◌, ◌%◌, ◌≤◌, ◌<◌, Bool, true, false, not, ◌&&◌, ◌==◌, nat_lt, nat_le, if◌then◌else◌, List, [], length, get_or, take, filter, count_by}
 use Rattle.sacn_framing.specs.declared.packet.Packet.{Packet}
 use Rattle.sacn_framing.specs.declared.packet.Packet.TheVariants.{DataPacket, PagePacket, SyncPacket}
 use Rattle.sacn_sequence.specs.Sequence.{is_late}
 use Rattle.sacn_sources.specs.Order.{same}
+use Rattle.sacn_sources.specs.declared.kind.Kind.{Kind}
+use Rattle.sacn_sources.specs.declared.kind.Kind.TheVariants.{Live, Termination}
 
 -- a datagram that a console sent: who sent it, in which life, that life's first number, and what it says
 pub record Sent : Type 0 where
@@ -40,6 +42,11 @@ abbrev pub levels_in : Packet → List ℕ
 levels_in (DataPacket d) = d.slots
 levels_in (PagePacket p) = []
 levels_in SyncPacket = []
+
+-- its kind, by whether it is live
+abbrev pub kind_by : Bool → Kind
+kind_by true = Live
+kind_by false = Termination
 
 unfoldable pub is_live : Sent → Bool
 is_live x = live_in x.packet

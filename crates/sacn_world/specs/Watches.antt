@@ -15,8 +15,8 @@ use Rattle.sacn_world.specs.declared.fault.WorldFault.{WorldFault}
 use Rattle.sacn_world.specs.declared.fault.WorldFault.TheVariants.{TooFarBehind, OldLife}
 use Rattle.sacn_world.specs.declared.limits.TheConstants.{TOO_FAR_BEHIND}
 use Rattle.sacn_world.specs.Streams.{Sent, stream_of, life_at}
-use Rattle.sacn_node.specs.Seen.{Rise}
-use Rattle.sacn_world.specs.Holdings.{Hold, Delivery, Sorted}
+use Rattle.sacn_universe.specs.Universe.{Rising}
+use Rattle.sacn_world.specs.Holdings.{Hold, Delivery, RisingByCid}
 use Rattle.sacn_world.specs.Nodes.{Holding, Node, seen_core}
 
 abbrev pub is_mark_of : List ℕ → ℕ → Mark → Bool
@@ -34,8 +34,8 @@ moves Sync = false
 moves (Refused fault) = false
 
 -- a mark after the delivery that d is of, where b says whether the node holds it
-abbrev pub remarked : Bool → Mark → Mark → Mark
-remarked b d m = record {
+abbrev pub mark_after : Bool → Mark → Mark → Mark
+mark_after b d m = record {
   source = m.source;
   universe = m.universe;
   newest = max d.newest m.newest;
@@ -49,7 +49,7 @@ first_mark b d = record { source = d.source; universe = d.universe; newest = d.n
 
 abbrev pub marked : Bool → Mark → List Mark → List Mark
 marked b d [] = first_mark b d ∷ []
-marked b d (m ∷ ms) = if is_mark_of d.source d.universe m then remarked b d m ∷ ms else m ∷ marked b d ms
+marked b d (m ∷ ms) = if is_mark_of d.source d.universe m then mark_after b d m ∷ ms else m ∷ marked b d ms
 
 -- why a packet of this life and place may not come, where the mark is that of its stream
 abbrev pub mark_refusal : ℕ → ℕ → Option Mark → Option WorldFault
@@ -110,8 +110,8 @@ node_by_places w = by_places w.marks w.node
 pub record WatchOk (sent : List Sent) (w : Watch) : Type 0 where
   pub core : w.node.core ≡ seen_core sent (node_by_places w)
   pub marks : AllByRecursion (MarkOk sent) w.marks
-  pub rise : Rise (map (λ g. g.universe) (node_by_places w).holdings)
-  pub sorted : AllByRecursion (λ g. Sorted g.held) (node_by_places w).holdings
+  pub rise : Rising (map (λ g. g.universe) (node_by_places w).holdings)
+  pub sorted : AllByRecursion (λ g. RisingByCid g.held) (node_by_places w).holdings
 
 -- the place noted of a source that the core holds
 abbrev pub place_noted : ℕ → List ℕ → Watch → Option ℕ

@@ -70,8 +70,8 @@ stream_next fs s (PagePacket p) = None
 stream_next fs s SyncPacket = None
 
 -- octets of a console as a datagram that is sent next
-abbrev pub posted : Console → List SentDatagram → Vec ℕ Global → SentDatagram
-posted c fs octets = record {
+abbrev pub sent_datagram : Console → List SentDatagram → Vec ℕ Global → SentDatagram
+sent_datagram c fs octets = record {
   source = c.show.cid;
   life = c.life;
   first = c.first;

@@ -7,7 +7,7 @@ use Rattle.sacn_framing.specs.PacketReading.{reading_packet}
 use Rattle.sacn_discovery.specs.Pages.{page_of_list}
 use Rattle.sacn_sources.specs.Packets.{packet_of}
 use Rattle.sacn_console.specs.declared.command.Command.{Command}
-use Rattle.sacn_console.specs.declared.line.Line.{Line}
+use Rattle.sacn_console.specs.declared.line.UniverseLine.{UniverseLine}
 use Rattle.sacn_console.specs.declared.sender.Sender.{Sender}
 use Rattle.sacn_console.specs.Shows.{ShowContent}
 use Rattle.sacn_console.specs.Due.{life_of}
@@ -29,7 +29,7 @@ use Rattle.sacn_world.specs.Streams.{Sent, at, life_at, is_of, stream_of, place_
 use Rattle.sacn_world.specs.Holdings.{Hold, hold_of, newest, refusal}
 use Rattle.std.specs.Option.{option_map}
 use Rattle.sacn_sources.specs.Rows.{Row}
-use Rattle.sacn_world.specs.Seen.{packet_at, seen}
+use Rattle.sacn_world.specs.RowsOfPlaces.{packet_at, seen}
 use Rattle.sacn_world.specs.Nodes.{Holding, Node, node_of, node_reply, node_after, node_at, frame_of, holding_of, HoldOk}
 
 pub record World : Type 0 where
@@ -208,8 +208,8 @@ abbrev pub is_of_life : List ℕ → ℕ → ℕ → Sent → Bool
 is_of_life s u life x = is_of s u x && (x.life == life)
 
 -- a universe's next number: the first of this life, and how many packets of this life were sent there
-abbrev pub LineOk : List Sent → Console → Line → Type 0
-LineOk sent c l = l.number ≡ (c.first + count_by (is_of_life c.show.cid l.universe c.life) sent) % 256
+abbrev pub LineOk : List Sent → Console → UniverseLine → Type 0
+LineOk sent c l = l.sequence_number ≡ (c.first + count_by (is_of_life c.show.cid l.universe c.life) sent) % 256
 
 -- a console's life is the latest of its streams, and its numbers are those of its places
 pub record ConsoleOk (sent : List Sent) (c : Console) : Type 0 where

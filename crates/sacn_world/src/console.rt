@@ -1,7 +1,7 @@
 //! A console of a world.
 
 ghost use Rattle.std.specs.Prelude.{◌≡◌, ◌+◌, OnOk, OnErr, IfOk};
-ghost use Rattle.sacn_world.specs.Wire.{AreFiled, posted};
+ghost use Rattle.sacn_world.specs.Wire.{AreFiled, sent_datagram};
 ghost use Rattle.sacn_world.specs.Worlds.{begun};
 
 use crate::datagram::{SentDatagram, stream_next};
@@ -51,9 +51,9 @@ impl Console {
     }
 
     /// These octets as a datagram of this console, which is sent next.
-    pub(crate) fn posted(&self, sent: &[SentDatagram], octets: Vec<u8>) -> SentDatagram
+    pub(crate) fn sent_datagram(&self, sent: &[SentDatagram], octets: Vec<u8>) -> SentDatagram
         requires filed { AreFiled sent.now }
-        ensures { result ≡ posted self.now sent.now octets }
+        ensures { result ≡ sent_datagram self.now sent.now octets }
     {
         let source = self.show.cid();
         let stream = stream_next(sent, &source, octets.as_slice());

@@ -30,7 +30,7 @@ pub struct SentDatagram {
 
 impl SentDatagram {
     /// What a node notes of it.
-    pub(crate) fn came(&self) -> Option<Mark>
+    pub(crate) fn mark(&self) -> Option<Mark>
         ensures { result ≡ came_of self.now }
     {
         match self.stream {

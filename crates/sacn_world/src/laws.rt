@@ -6,7 +6,7 @@
 ghost use Rattle.sacn_world.specs.Laws.{NumbersAnswerAsPlacesDo, HeldPlacesAreLater, PlacesNeverGoBack, RowsAreOfPlaces, TwentyOneInARowAreShown, SamePlacesGiveTheSameSlots, SamePlacesGiveTheSameLevels, RunsLeaveTheWorldAfter};
 ghost use Rattle.sacn_world.specs.RunLaws.{OwnCidsKeepConsolesApart, ReachedWorldsKeepTheirInvariant, RunsAnswerStepByStep, ListsOfEventsJoin, TwentyOneInARowAreHeld};
 ghost use Rattle.sacn_world.specs.Origins.{HeldPlacesWereSent, NodesKeepTheirPorts};
-ghost use Rattle.sacn_world.specs.Lasting.{NoHeldPacketGivesWay};
+ghost use Rattle.sacn_world.specs.Entries.{NoHeldPacketGivesWay};
 ghost use Rattle.sacn_world.specs.Newest.{NewestIsTheGreatestDelivered};
 ghost use Rattle.sacn_world.specs.Looks.{FramesAreMergesOfWhatWasSent, EqualHoldingsGiveEqualSlots};
 ghost use Rattle.sacn_world.specs.Headline.{Headline};

@@ -3,7 +3,7 @@
 ghost use Rattle.std.specs.Prelude.{◌≡◌, ◌<◌, true, ◌∷◌, [], find, length, vec_len, vec_capacity};
 ghost use Rattle.std.specs.Option.{option_map};
 ghost use Rattle.sacn_sources.specs.Order.{same};
-ghost use Rattle.sacn_world.specs.Watches.{is_mark_of, mark_of, first_mark, marked, remarked, moves};
+ghost use Rattle.sacn_world.specs.Watches.{is_mark_of, mark_of, first_mark, marked, mark_after, moves};
 
 use sacn_node::NodeTaken;
 
@@ -51,8 +51,8 @@ impl Mark {
     }
 
     /// After the delivery that `came` is of.
-    fn remarked(&self, moves: bool, came: &Mark) -> Mark
-        ensures { result ≡ remarked moves came.now self.now }
+    fn mark_after(&self, moves: bool, came: &Mark) -> Mark
+        ensures { result ≡ mark_after moves came.now self.now }
     {
         let life = if self.newest <= came.newest {
             came.life
@@ -99,7 +99,7 @@ pub(crate) fn note(marks: &mut Vec<Mark>, moves: bool, came: &Mark)
     for place in 0..marks.len() {
         let mark = marks[place];
         if mark.is_of(&came.source, came.universe) {
-            marks[place] = mark.remarked(moves, came);
+            marks[place] = mark.mark_after(moves, came);
             return;
         }
     }

@@ -1,10 +1,10 @@
 //! The world.
 
 ghost use Rattle.std.specs.Prelude.{◌≡◌, ◌≤◌, [], take, vec_capacity, Some, OnOk, IfOk, IfErr, map, true, false, ◌⊎◌};
-ghost use Rattle.sacn_world.specs.Kept.{Stepped, SteppedWithRoom, SteppedBy};
+ghost use Rattle.sacn_world.specs.Invariants.{Stepped, SteppedWithRoom, SteppedBy};
 ghost use Rattle.sacn_world.specs.Watches.{new_watch};
 ghost use Rattle.sacn_world.specs.declared.fault.NewFault.TheVariants.{SameCid, OutOfMemory};
-ghost use Rattle.sacn_world.specs.Running.{ran, Stopped};
+ghost use Rattle.sacn_world.specs.Runs.{ran, Stopped};
 ghost use Rattle.sacn_schedule.specs.Cids.{has_same_cid};
 ghost use Rattle.sacn_world.specs.Worlds.{step, new_world, new_console, Apart, shown, place_at, row_at};
 
@@ -39,7 +39,7 @@ impl Model for World {
     ghost use Rattle.sacn_cues.specs.Cues.{cues_code};
     ghost use Rattle.sacn_cues.specs.Playing.{played_code};
     ghost use Rattle.sacn_world.specs.Worlds.{World as Places};
-    ghost use Rattle.sacn_world.specs.Kept.{seen_world, Kept};
+    ghost use Rattle.sacn_world.specs.Invariants.{seen_world, Kept};
 
     ghost Value = { Places };
 
@@ -175,7 +175,7 @@ impl World {
         };
         let octets = in_own_length(self.alloc, room, &out, len);
         let number = self.sent.len();
-        let datagram = self.consoles[console].posted(self.sent.as_slice(), octets);
+        let datagram = self.consoles[console].sent_datagram(self.sent.as_slice(), octets);
         self.sent.push_reserved(datagram);
         Ok(Answer::Sent(number))
     }
@@ -220,7 +220,7 @@ impl World {
         if let Some(fault) = sent.refusal(&self.nodes[node]) {
             return Err(fault);
         }
-        let Ok(reply) = self.nodes[node].take(now, sent.octets.as_slice(), sent.came()) else {
+        let Ok(reply) = self.nodes[node].take(now, sent.octets.as_slice(), sent.mark()) else {
             return Err(WorldFault::OutOfMemory);
         };
         Ok(Answer::Taken(reply))

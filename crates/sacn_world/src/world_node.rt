@@ -73,7 +73,7 @@ impl WorldNode {
     {
         match mark_of(&self.marks, source, universe) {
             None => None,
-            Some(mark) => behind(&mark, life, place),
+            Some(mark) => mark_refusal(&mark, life, place),
         }
     }
 
@@ -131,13 +131,13 @@ impl WorldNode {
         ensures { result ≡ place_noted universe cid.now self.now }
     {
         match self.held(universe, cid) {
-            Some(_) => Some(self.noted(universe, cid)),
+            Some(_) => Some(self.place_noted(universe, cid)),
             None => None,
         }
     }
 
     /// The place that is noted as held.
-    fn noted(&self, universe: u16, cid: &[u8; 16]) -> usize
+    fn place_noted(&self, universe: u16, cid: &[u8; 16]) -> usize
         ensures { result ≡ held_place (mark_of cid.now universe self.now.marks) }
     {
         match mark_of(&self.marks, cid, universe) {
@@ -148,7 +148,7 @@ impl WorldNode {
 }
 
 /// Why a packet of this life and place may not come after the newest one.
-fn behind(newest: &Mark, life: u64, place: usize) -> Option<WorldFault>
+fn mark_refusal(newest: &Mark, life: u64, place: usize) -> Option<WorldFault>
     ensures { result ≡ mark_refusal life place (Some newest.now) }
 {
     if life == newest.life

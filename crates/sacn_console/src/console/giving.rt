@@ -4,7 +4,7 @@ ghost use Rattle.sacn_console.specs.Core.{packet_text, packet_with};
 
 use super::ConsoleCore;
 use crate::limits::{DISCOVERY_INTERVAL, MAX_DATAGRAM};
-use crate::line::{Begun, Line};
+use crate::line::{Begun, UniverseLine};
 use crate::lines::{first_due, list_standing};
 use crate::sender::Sender;
 use sacn_cues::Player;
@@ -135,7 +135,7 @@ impl ConsoleCore {
         let moment = self.moment;
         let line = &mut self.lines[place];
         let len = write_packet(&self.sender, line, slots, out);
-        line.sent(moment, slots);
+        line.note_packet(moment, slots);
         let wake = line.wake_sent(self.player.is_still());
         self.wakes.put(place, wake);
         self.wakes.pass(place);
@@ -223,7 +223,7 @@ fn prepare(player: &mut Player, is_still: bool)
 
 fn write_packet(
     sender: &Sender,
-    line: &Line,
+    line: &UniverseLine,
     slots: &[u8; SLOTS],
     out: &mut [u8; MAX_DATAGRAM],
 ) -> usize
@@ -239,7 +239,7 @@ fn write_packet(
         cid,
         name,
         priority: sender.priority,
-        number: line.number,
+        number: line.sequence_number,
         preview: false,
         terminated: line.is_ending(),
         universe: line.universe,

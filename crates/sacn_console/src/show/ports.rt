@@ -32,7 +32,7 @@ impl Model for Destinations {
     ghost invariant = { λ d. length d.ports.items ≤ MAX_DESTINATIONS };
 }
 
-fn kept(ports: Vec<u16>) -> Destinations
+fn destinations_of(ports: Vec<u16>) -> Destinations
     requires { length ports.items ≤ MAX_DESTINATIONS }
     ensures { result ≡ ports.items }
 {
@@ -50,7 +50,7 @@ fn send_to_in(alloc: Global, values: &[Value]) -> Result<Destinations, ShowFault
         high: MAX_UDP_PORT,
     };
     let ports = rows_in(alloc, &range, values)?;
-    Ok(kept(ports))
+    Ok(destinations_of(ports))
 }
 
 fn one_port(alloc: Global) -> Result<Destinations, AllocError>
@@ -58,7 +58,7 @@ fn one_port(alloc: Global) -> Result<Destinations, AllocError>
 {
     let mut ports = Vec::new(alloc);
     ports.push(DEFAULT_UDP_PORT)?;
-    Ok(kept(ports))
+    Ok(destinations_of(ports))
 }
 
 /// The ports of a table, in the file's order.

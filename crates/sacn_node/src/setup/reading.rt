@@ -16,7 +16,7 @@ use sacn_files::keys::{
     has_known_keys, inner_rows_are_known, inner_rows_have_keys, rows_are_known, rows_have_keys,
 };
 use sacn_files::limits::{DEFAULT_UDP_PORT, MAX_UDP_PORT, MIN_UDP_PORT};
-use sacn_files::numbered::{has_repeat, in_order};
+use sacn_files::numbers::{has_repeat, in_order};
 use sacn_files::values::{has_rows, rows_at, short_in, value_at};
 use std::alloc::Global;
 use toml::{Table, Value};

@@ -22,7 +22,7 @@ use std::marker::Model;
 #[derive(Drop)]
 pub(crate) struct PlainEntry {
     pub(crate) cid: [u8; 16],
-    pub(crate) number: u8,
+    pub(crate) sequence_number: u8,
     /// The priority of the levels, or none where the source has ended.
     pub(crate) priority: Option<u8>,
     pub(crate) levels: Levels,
@@ -33,7 +33,7 @@ impl Default for PlainEntry {
     fn default() -> Self {
         PlainEntry {
             cid: [0; 16],
-            number: 0,
+            sequence_number: 0,
             priority: None,
             levels: Levels::of(&[]),
             moment: 0,
@@ -158,7 +158,7 @@ impl Entries {
         };
         Some(HeldView {
             cid: entry.cid,
-            number: entry.number,
+            sequence_number: entry.sequence_number,
             shown,
             moment: entry.moment,
         })
@@ -269,10 +269,10 @@ impl Entries {
     // Whether the packet is in sequence after the latest accepted one of the source at this place.
     fn in_sequence_at(&self, at: usize, packet: &DataView<'_>) -> bool
         requires { at < length self.now.rows }
-        ensures { (d : Row) → result ≡ not (is_late (slice_index_or self.now.rows at d).number packet.now.number) }
+        ensures { (d : Row) → result ≡ not (is_late (slice_index_or self.now.rows at d).sequence_number packet.now.number) }
     {
         let entry = plain_entry_at(&self.items, at);
-        in_sequence(entry.number, packet.number())
+        in_sequence(entry.sequence_number, packet.number())
     }
 
     // A source that keeps what it shows.
@@ -280,8 +280,8 @@ impl Entries {
         requires { IsAt self.old.rows packet.now.cid at }
         ensures { (d : Row) → self.new ≡ record self.old { rows = slice_set self.old.rows at (row_observed (packet_of packet.now) (slice_index_or self.old.rows at d)) } }
     {
-        let number = packet.number();
-        plain_renumber(&mut self.items, at, number);
+        let sequence_number = packet.number();
+        plain_renumber(&mut self.items, at, sequence_number);
     }
 
     // A source that has ended.
@@ -291,7 +291,7 @@ impl Entries {
     {
         let entry = PlainEntry {
             cid: packet.cid(),
-            number: packet.number(),
+            sequence_number: packet.number(),
             priority: None,
             levels: Levels::of(&[]),
             moment: self.moment,
@@ -325,7 +325,7 @@ fn live_entry(packet: &DataView<'_>, moment: u64) -> PlainEntry
 {
     PlainEntry {
         cid: packet.cid(),
-        number: packet.number(),
+        sequence_number: packet.number(),
         priority: Some(packet.priority()),
         levels: Levels::of(packet.slots()),
         moment,
@@ -341,11 +341,11 @@ fn plain_entry_at(entries: &ArrayVec<PlainEntry, MAX_SOURCES>, at: usize) -> &Pl
 }
 
 // Writes the number of the entry at this place, and nothing else.
-fn plain_renumber(entries: &mut ArrayVec<PlainEntry, MAX_SOURCES>, at: usize, number: u8)
+fn plain_renumber(entries: &mut ArrayVec<PlainEntry, MAX_SOURCES>, at: usize, sequence_number: u8)
     requires { at < array_vec_len entries.old }
-    ensures { (d : Stored) → entries.new.items ≡ slice_set entries.old.items at (record (slice_index_or entries.old.items at d) { number = number }) }
+    ensures { (d : Stored) → entries.new.items ≡ slice_set entries.old.items at (record (slice_index_or entries.old.items at d) { sequence_number = sequence_number }) }
 {
-    entries[at].number = number;
+    entries[at].sequence_number = sequence_number;
 }
 
 // Writes the entry at this place.

@@ -1,12 +1,12 @@
 use Rattle.std.proofs.Common.{arith, None}
-use Rattle.sacn_console.specs.declared.line.Line.{Line}
+use Rattle.sacn_console.specs.declared.line.UniverseLine.{UniverseLine}
 use Rattle.sacn_console.specs.declared.line.State.TheVariants.{Running}
 use Rattle.sacn_console.proofs.WakeLists.{quiet_more, wakes_from, wakes_looked, quiet_looked, first_found, none_found, all_ahead, wakes_as, ahead_as}
 use Rattle.sacn_console.proofs.WakeCores.{here_at}
 use Rattle.sacn_console.proofs.lines.first_due.Goals as goal
 
-abbrev blank : Line
-blank = record { universe = 0; state = Running None; number = 0; last = None }
+abbrev blank : UniverseLine
+blank = record { universe = 0; state = Running None; sequence_number = 0; last = None }
 
 pub loop-place-init : goal.loop-place-init
 loop-place-init c = (c.requires.wakes, rw c.from-place.ensures c.requires.wakes.quiet)

@@ -1,6 +1,6 @@
 use Rattle.std.proofs.Common.{◌≡◌, ◌≤◌, ◌+◌, ℕ, List, length, drop}
-use Rattle.sacn_edge.specs.Told.{Extends}
-use Rattle.sacn_edge.specs.Heard.{Hands}
+use Rattle.sacn_edge.specs.Additions.{Extends}
+use Rattle.sacn_edge.specs.Hearings.{Hands}
 use Rattle.sacn_edge.specs.ConsoleSends.{Handed, datagrams, console_sends, core_after, reader_after, refused_by, in_order, sends_report}
 use Rattle.sacn_edge.proofs.console_loop.run_console.Given as goal
 

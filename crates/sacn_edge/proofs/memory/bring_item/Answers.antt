@@ -1,5 +1,5 @@
 use Rattle.std.proofs.Common.{rules, ap, ◌∙◌}
-use Rattle.sacn_edge.specs.Heard.{Octets}
+use Rattle.sacn_edge.specs.Hearings.{Octets}
 use Rattle.sacn_edge.proofs.MemoryLemmas.{brought}
 use Rattle.sacn_edge.proofs.memory.bring_item.Goals as goal
 

@@ -5,10 +5,10 @@ use Rattle.sacn_node.specs.Setup.{port_numbers}
 use Rattle.sacn_node.specs.Cores.{Node, core_at}
 use Rattle.sacn_node.specs.Calls.{step}
 use Rattle.sacn_edge.specs.declared.report.NodeReport.{NodeReport}
-use Rattle.sacn_edge.specs.Heard.{heard_of, is_datagram, is_failure}
+use Rattle.sacn_edge.specs.Hearings.{heard_of, is_datagram, is_failure}
 use Rattle.sacn_edge.specs.NodeText.{Turn, call_at, node_after, lines_after}
 use Rattle.sacn_edge.specs.PortLines.{port_after}
-use Rattle.sacn_edge.specs.Changing.{AreCurrentBut}
+use Rattle.sacn_edge.specs.PortChanges.{AreCurrentBut}
 use Rattle.sacn_edge.proofs.Changing.{all_but, still_but, current_but}
 use Rattle.sacn_edge.proofs.PortLineLemmas.{Adds-nil}
 use Rattle.sacn_edge.proofs.Settled.{turn_settled}

@@ -1,9 +1,9 @@
 use Rattle.std.proofs.Common.{◌≡◌, ◌≤◌, ◌+◌, List, length, false}
 use Rattle.sacn_node.specs.Setup.{port_numbers}
-use Rattle.sacn_edge.specs.Told.{Adds}
+use Rattle.sacn_edge.specs.Additions.{Adds}
 use Rattle.sacn_edge.specs.NodeText.{Turn, node_after, node_text, lines_after}
 use Rattle.sacn_edge.specs.NodeRun.{Turned, report_of}
-use Rattle.sacn_edge.specs.Changing.{AreCurrentBut}
+use Rattle.sacn_edge.specs.PortChanges.{AreCurrentBut}
 use Rattle.sacn_edge.proofs.NodeLemmas.{Distinct, numbers, Remembers}
 use Rattle.sacn_edge.proofs.node_loop.run_node.Given as goal
 

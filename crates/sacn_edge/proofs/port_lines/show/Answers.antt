@@ -2,7 +2,7 @@ use Rattle.std.proofs.Common.{◌≡◌, ℕ, ◌+◌, ◌<◌, List, length, ta
 use Rattle.std.proofs.lemmas.List.{get_or_default}
 use Rattle.std.proofs.lemmas.Result.{err_from_is_err_and}
 use Rattle.std.proofs.lemmas.List.Edits.{map_over_more}
-use Rattle.sacn_edge.specs.Told.{Adds}
+use Rattle.sacn_edge.specs.Additions.{Adds}
 use Rattle.sacn_edge.specs.PortLines.{port_text, port_after, ports_text}
 use Rattle.sacn_edge.proofs.ToldLemmas.{Adds-append}
 use Rattle.sacn_edge.proofs.PortLineLemmas.{Adds-nil, current_texts, current_stay, no_port, next_read, split_at, ports_text-more}

@@ -1,5 +1,5 @@
 use Rattle.std.proofs.Common.{sym, ◌∙◌, subst}
-use Rattle.sacn_edge.specs.Told.{Adds}
+use Rattle.sacn_edge.specs.Additions.{Adds}
 use Rattle.sacn_edge.proofs.PortLineLemmas.{Adds-nil, text_shown, stays_shown}
 use Rattle.sacn_edge.proofs.port_lines.show_frame.Goals as goal
 

@@ -1,7 +1,7 @@
 use Rattle.std.proofs.Common.{◌≡◌, ℕ, List, [], ◌++◌, refl, sym, subst, ◌∙◌, ap}
 use Rattle.std.proofs.lemmas.Option.{same_Some}
 use Rattle.sacn_node.specs.Cores.{Node, core_at}
-use Rattle.sacn_edge.specs.Heard.{Silence}
+use Rattle.sacn_edge.specs.Hearings.{Silence}
 use Rattle.sacn_edge.specs.PortLines.{ports_text}
 use Rattle.sacn_edge.proofs.Settled.{turn_settled}
 use Rattle.sacn_explain.proofs.stage.line_of.Goals as goal

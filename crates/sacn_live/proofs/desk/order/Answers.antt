@@ -1,6 +1,6 @@
 use Rattle.std.proofs.Common.{rules, arith, ◌≡◌, ◌∷◌, [], List, length, ◌+◌, refl, sym, ap, subst, ◌∙◌, Some, is_ok, if◌then◌else◌}
 use Rattle.sacn_console.specs.Core.{Core, at, answer, after_command}
-use Rattle.sacn_edge.specs.Told.{Extends}
+use Rattle.sacn_edge.specs.Additions.{Extends}
 use Rattle.sacn_edge.proofs.NodeLemmas.{Extends-append}
 use Rattle.sacn_live.specs.DeskSends.{Talk, Asked, Answered, ordered, given, asked_last, refusals}
 use Rattle.sacn_live.proofs.Turning.{Extends-none}

@@ -1,6 +1,6 @@
 use Rattle.std.proofs.Common.{◌≡◌, ◌≤◌, List, length}
 use Rattle.sacn_console.specs.declared.command.Command.{Command as Order}
-use Rattle.sacn_edge.specs.Told.{Extends}
+use Rattle.sacn_edge.specs.Additions.{Extends}
 use Rattle.sacn_live.specs.DeskSends.{ordered, given, refusals}
 use Rattle.sacn_live.proofs.desk.order.Given as goal
 

@@ -1,6 +1,6 @@
 use Rattle.std.proofs.Common.{rules, arith, ◌≡◌, ◌∷◌, ◌++◌, [], ◌+◌, refl, sym, ap, subst, ◌∙◌}
 use Rattle.sacn_edge.specs.declared.report.ConsoleReport.{ConsoleReport}
-use Rattle.sacn_edge.specs.Told.{Extends}
+use Rattle.sacn_edge.specs.Additions.{Extends}
 use Rattle.sacn_edge.specs.ConsoleSends.{sends_report}
 use Rattle.sacn_edge.proofs.NodeLemmas.{Extends-append}
 use Rattle.sacn_edge.proofs.ConsoleLemmas.{Hands-append, Hands-nil, Extends-nil}

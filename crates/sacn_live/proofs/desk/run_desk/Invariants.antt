@@ -1,6 +1,6 @@
 use Rattle.std.proofs.Common.{◌≡◌, ◌≤◌, ◌+◌, ◌*◌, List, length}
-use Rattle.sacn_edge.specs.Told.{Extends}
-use Rattle.sacn_edge.specs.Heard.{Hands}
+use Rattle.sacn_edge.specs.Additions.{Extends}
+use Rattle.sacn_edge.specs.Hearings.{Hands}
 use Rattle.sacn_edge.specs.ConsoleSends.{Handed, datagrams, sends_report}
 use Rattle.sacn_live.specs.DeskSends.{Round, desk_after, desk_sends, desk_refusals, talk, readings, AreQuiet}
 use Rattle.sacn_live.proofs.desk.run_desk.Given as goal

@@ -1,5 +1,5 @@
 use Rattle.std.proofs.Common.{◌≡◌, ◌≤◌, ◌+◌, ◌++◌, ℕ}
-use Rattle.sacn_edge.specs.Heard.{Hands}
+use Rattle.sacn_edge.specs.Hearings.{Hands}
 use Rattle.sacn_edge.specs.ConsoleSends.{Handed, datagrams, sends_report}
 use Rattle.sacn_live.specs.DeskSends.{polled, sends}
 use Rattle.sacn_live.proofs.desk.send_due.Given as goal

@@ -1,8 +1,8 @@
 use Rattle.std.proofs.Common.{◌≡◌, List, length}
 use Rattle.sacn_node.specs.Cores.{core_at}
-use Rattle.sacn_edge.specs.Told.{Extends}
+use Rattle.sacn_edge.specs.Additions.{Extends}
 use Rattle.sacn_edge.specs.NodeText.{node_after}
-use Rattle.sacn_edge.specs.Changing.{Grows, IsTold}
+use Rattle.sacn_edge.specs.PortChanges.{Grows, IsTold}
 use Rattle.sacn_live.specs.Hearings.{Hearing, turns_of, emptied_after, in_order}
 use Rattle.sacn_live.specs.GatewayRun.{latest_reading, ends_with_datagram}
 use Rattle.sacn_live.proofs.gateway.drain.Given as goal

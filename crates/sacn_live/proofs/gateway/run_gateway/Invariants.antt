@@ -1,7 +1,7 @@
 use Rattle.std.proofs.Common.{◌≡◌, List, length, false}
 use Rattle.sacn_node.specs.Setup.{port_numbers}
-use Rattle.sacn_edge.specs.Told.{Adds, Extends}
-use Rattle.sacn_edge.specs.Changing.{AreCurrentBut}
+use Rattle.sacn_edge.specs.Additions.{Adds, Extends}
+use Rattle.sacn_edge.specs.PortChanges.{AreCurrentBut}
 use Rattle.sacn_edge.proofs.NodeLemmas.{Distinct, numbers, Remembers}
 use Rattle.sacn_live.specs.Hearings.{Hearing}
 use Rattle.sacn_live.specs.GatewayText.{gateway_after, gateway_text, gateway_lines}

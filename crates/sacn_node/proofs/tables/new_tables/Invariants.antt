@@ -1,5 +1,5 @@
 use Rattle.std.proofs.Common.{◌≡◌, ◌++◌, map, drop}
-use Rattle.sacn_node.specs.Seen.{new_one}
+use Rattle.sacn_node.specs.Storage.{new_one}
 use Rattle.sacn_node.proofs.tables.new_tables.Given as goal
 
 abbrev pub invariant-loop-universe : goal.invariant-loop-universe

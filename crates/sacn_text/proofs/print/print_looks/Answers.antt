@@ -1,5 +1,5 @@
 use Rattle.std.proofs.Common.{◌∙◌, ap}
-use Rattle.sacn_edge.specs.Told.{Adds}
+use Rattle.sacn_edge.specs.Additions.{Adds}
 use Rattle.sacn_text.specs.declared.marked_writer.MarkedWriter.{MarkedWriter}
 use Rattle.sacn_text.proofs.Prints.{Told, has, simulates, simulated_all}
 use Rattle.sacn_text.proofs.print.print_looks.Goals as goal

@@ -1,5 +1,5 @@
 use Rattle.std.proofs.Common.{List, ℕ}
-use Rattle.sacn_edge.specs.Told.{Adds}
+use Rattle.sacn_edge.specs.Additions.{Adds}
 use Rattle.sacn_text.proofs.Simulates.{stops_at, never_twins}
 use Rattle.sacn_text.proofs.simulate.sim_text.Goals as goal
 

@@ -1,7 +1,7 @@
 use Rattle.std.proofs.Common.{◌≡◌, ◌<◌, ◌+◌, ◌++◌, ◌∙◌, sym, ap, subst, List, ℕ, length, get_or, take, arith}
 use Rattle.sacn_schedule.specs.declared.event.Event.{Event}
 use Rattle.sacn_world.specs.Worlds.{step}
-use Rattle.sacn_edge.specs.Told.{Adds}
+use Rattle.sacn_edge.specs.Additions.{Adds}
 use Rattle.sacn_edge.proofs.ToldLemmas.{Adds-append}
 use Rattle.sacn_text.specs.Simulating.{simulated, line_of}
 use Rattle.sacn_text.proofs.Simulates.{told_part, written_part, event_more}

@@ -1,5 +1,5 @@
 use Rattle.std.proofs.Common.{◌≡◌, false, drop, List, ℕ}
-use Rattle.sacn_edge.specs.Told.{Adds}
+use Rattle.sacn_edge.specs.Additions.{Adds}
 use Rattle.sacn_text.specs.Simulating.{simulated, then_line}
 use Rattle.sacn_text.proofs.simulate.simulate.Given as goal
 

@@ -13,9 +13,9 @@ write_packet-len-requires-clause-most c = (universe_ok _ _ c.args.place _ c.self
 
 pub invariant_of-self : goal.invariant_of-self
 invariant_of-self c = record {
-  core = ok_given _ c.args.place _ _ _ _ c.self.invariant.core c.index_mut-line.ensures.value c.sent.ensures;
+  core = ok_given _ c.args.place _ _ _ _ c.self.invariant.core c.index_mut-line.ensures.value c.note_packet.ensures;
   wakes_ok = rw (c.pass.ensures, c.put.ensures, c.wake_sent-wake.ensures) (wakes_sent _ _ _ _ c.args.place _ _ _ c.self.invariant.wakes_ok (place_in _ _ c.args.place c.self.view_is c.requires.there)
-      (sent_wakes _ _ _ _ _ _ c.sent.ensures (frame_read _ _ c.args.place _ _ c.self.view_is c.requires.there c.index_mut-line.ensures.value c.requires.frame) c.self.invariant.core.clock c.is_still.ensures.still c.is_still.ensures.stays));
+      (sent_wakes _ _ _ _ _ _ c.note_packet.ensures (frame_read _ _ c.args.place _ _ c.self.view_is c.requires.there c.index_mut-line.ensures.value c.requires.frame) c.self.invariant.core.clock c.is_still.ensures.still c.is_still.ensures.stays));
 }
 
 pub returns-clause-answer : goal.returns-clause-answer
@@ -27,4 +27,4 @@ returns-clause-octets c =
 
 pub returns-clause-core : goal.returns-clause-core
 returns-clause-core c =
-    core_given _ _ c.args.place _ _ _ c.self.view_is c.self.invariant.core c.requires.there c.index_mut-line.ensures.value (frame_read _ _ c.args.place _ _ c.self.view_is c.requires.there c.index_mut-line.ensures.value c.requires.frame) c.sent.ensures
+    core_given _ _ c.args.place _ _ _ c.self.view_is c.self.invariant.core c.requires.there c.index_mut-line.ensures.value (frame_read _ _ c.args.place _ _ c.self.view_is c.requires.there c.index_mut-line.ensures.value c.requires.frame) c.note_packet.ensures

@@ -12,7 +12,7 @@ invariant_of-self c = record {
 }
 
 pub returns-clause-answer : goal.returns-clause-answer
-returns-clause-answer c = c.told.ensures ∙ (light_told _ _ (Go) (play.Go) _ _ c.self.view_is c.self.invariant.core refl c.go.ensures.player c.go.ensures.accepted c.go.ensures.refused c.go.ensures.unchanged).0
+returns-clause-answer c = c.console_answer.ensures ∙ (light_told _ _ (Go) (play.Go) _ _ c.self.view_is c.self.invariant.core refl c.go.ensures.player c.go.ensures.accepted c.go.ensures.refused c.go.ensures.unchanged).0
 
 pub returns-clause-core : goal.returns-clause-core
 returns-clause-core c = (light_told _ _ (Go) (play.Go) _ _ c.self.view_is c.self.invariant.core refl c.go.ensures.player c.go.ensures.accepted c.go.ensures.refused c.go.ensures.unchanged).1

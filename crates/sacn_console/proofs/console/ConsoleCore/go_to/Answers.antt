@@ -12,7 +12,7 @@ invariant_of-self c = record {
 }
 
 pub returns-clause-answer : goal.returns-clause-answer
-returns-clause-answer c = c.told.ensures ∙ (light_told _ _ (GoTo c.args.number) (play.GoTo c.args.number) _ _ c.self.view_is c.self.invariant.core refl c.go_to.ensures.player c.go_to.ensures.accepted c.go_to.ensures.refused c.go_to.ensures.unchanged).0
+returns-clause-answer c = c.console_answer.ensures ∙ (light_told _ _ (GoTo c.args.number) (play.GoTo c.args.number) _ _ c.self.view_is c.self.invariant.core refl c.go_to.ensures.player c.go_to.ensures.accepted c.go_to.ensures.refused c.go_to.ensures.unchanged).0
 
 pub returns-clause-core : goal.returns-clause-core
 returns-clause-core c = (light_told _ _ (GoTo c.args.number) (play.GoTo c.args.number) _ _ c.self.view_is c.self.invariant.core refl c.go_to.ensures.player c.go_to.ensures.accepted c.go_to.ensures.refused c.go_to.ensures.unchanged).1

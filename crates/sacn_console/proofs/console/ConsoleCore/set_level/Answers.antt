@@ -12,7 +12,7 @@ invariant_of-self c = record {
 }
 
 pub returns-clause-answer : goal.returns-clause-answer
-returns-clause-answer c = c.told.ensures ∙ (light_told _ _ (SetLevel c.args.channel c.args.level) (play.Set c.args.channel c.args.level) _ _ c.self.view_is c.self.invariant.core refl c.set.ensures.player c.set.ensures.accepted c.set.ensures.refused c.set.ensures.unchanged).0
+returns-clause-answer c = c.console_answer.ensures ∙ (light_told _ _ (SetLevel c.args.channel c.args.level) (play.Set c.args.channel c.args.level) _ _ c.self.view_is c.self.invariant.core refl c.set.ensures.player c.set.ensures.accepted c.set.ensures.refused c.set.ensures.unchanged).0
 
 pub returns-clause-core : goal.returns-clause-core
 returns-clause-core c = (light_told _ _ (SetLevel c.args.channel c.args.level) (play.Set c.args.channel c.args.level) _ _ c.self.view_is c.self.invariant.core refl c.set.ensures.player c.set.ensures.accepted c.set.ensures.refused c.set.ensures.unchanged).1

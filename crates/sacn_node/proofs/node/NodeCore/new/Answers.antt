@@ -1,8 +1,8 @@
 use Rattle.std.proofs.Common.{sym, subst, ◌∙◌, ap}
 use Rattle.sacn_node.specs.Setup.{universes}
-use Rattle.sacn_node.specs.Seen.{Rise}
+use Rattle.sacn_universe.specs.Universe.{Rising}
 use Rattle.sacn_node.proofs.Prepared.{universes_rise}
 use Rattle.sacn_node.proofs.node.NodeCore.new.Goals as goal
 
 pub new-requires-clause-rising : goal.new-requires-clause-rising
-new-requires-clause-rising c = subst Rise (sym (c.as_slice.ensures.value ∙ c.in-Ok.ensures ∙ ap universes c.ports-ports.ensures.ports)) (universes_rise c.args.setup.now.ports)
+new-requires-clause-rising c = subst Rising (sym (c.as_slice.ensures.value ∙ c.in-Ok.ensures ∙ ap universes c.ports-ports.ensures.ports)) (universes_rise c.args.setup.now.ports)

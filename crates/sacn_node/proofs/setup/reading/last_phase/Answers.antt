@@ -1,5 +1,5 @@
 use Rattle.std.proofs.Common.{◌≡◌, ◌≤◌, ◌∙◌, ap, sym, false, length, rules}
-use Rattle.sacn_files.specs.Numbered.{has_repeat}
+use Rattle.sacn_files.specs.Numbers.{has_repeat}
 use Rattle.sacn_node.specs.declared.limits.TheConstants.{MAX_PORTS}
 use Rattle.sacn_node.specs.Setup.{port_numbers}
 use Rattle.sacn_node.proofs.SetupLemmas.{sorted_rise, sorted_few, sorted_ports}

@@ -3,7 +3,7 @@ use Rattle.std.proofs.lemmas.List.{length-map}
 use Rattle.sacn_sources.specs.Rows.{rows_kept, row_of}
 use Rattle.sacn_sources.specs.Kept.{new_kept}
 use Rattle.sacn_node.specs.Cores.{Table, Core, row_on}
-use Rattle.sacn_node.specs.Seen.{seen}
+use Rattle.sacn_node.specs.Storage.{seen}
 use Rattle.sacn_node.proofs.Expired.{seen_there}
 use Rattle.sacn_node.proofs.Places.{table_at, table_absent}
 use Rattle.sacn_node.proofs.tables.Tables.held.Goals as goal

@@ -1,6 +1,6 @@
 use Rattle.std.proofs.Common.{ap, sym, subst, ◌∙◌}
 use Rattle.sacn_node.specs.Cores.{Core}
-use Rattle.sacn_node.specs.Seen.{AreTables, core_of}
+use Rattle.sacn_node.specs.Storage.{AreTables, core_of}
 use Rattle.sacn_node.proofs.Prepared.{tables_new, seen_new}
 use Rattle.sacn_node.proofs.tables.Tables.new.Goals as goal
 

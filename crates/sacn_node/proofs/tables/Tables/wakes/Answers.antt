@@ -2,7 +2,7 @@ use Rattle.std.proofs.Common.{◌≡◌, ◌<◌, ◌≤◌, ◌^◌, ℕ, IfSom
 use Rattle.sacn_sources.specs.Wakes.{oldest_by, oldest_of}
 use Rattle.sacn_node.specs.declared.tables.OneUniverse.{OneUniverse}
 use Rattle.sacn_node.specs.Cores.{Core, core_lost}
-use Rattle.sacn_node.specs.Seen.{seen}
+use Rattle.sacn_node.specs.Storage.{seen}
 use Rattle.sacn_node.proofs.Wakes.{oldest_seen, wakes_never, wakes_asleep, wakes_awake}
 use Rattle.sacn_node.proofs.tables.Tables.wakes.Goals as goal
 

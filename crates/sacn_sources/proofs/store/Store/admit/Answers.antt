@@ -37,8 +37,8 @@ returns c =
     let slab = c.insert_reserved-key.ensures in
     let p = packet_of c.args.packet.now in
     let gap = subst (λ s. IsGap (rows_in fr es) s c.args.at) (sym c.cid.ensures) (subst (λ rs. IsGap rs c.args.packet.now.cid c.args.at) (sym view_is) c.requires.gap) in
-    let row_with : List ℕ → ℕ → ℕ → List ℕ → Row = λ s n q xs. record { source = s; number = n; shown = Some (record { priority = q; levels = xs }); moment = c.self.inside.moment } in
-    let same : row_with c.cid.result c.number.result c.priority.result c.of.result ≡ row_with p.source p.number p.priority p.levels =
+    let row_with : List ℕ → ℕ → ℕ → List ℕ → Row = λ s n q xs. record { source = s; sequence_number = n; shown = Some (record { priority = q; levels = xs }); moment = c.self.inside.moment } in
+    let same : row_with c.cid.result c.number.result c.priority.result c.of.result ≡ row_with p.source p.sequence_number p.priority p.levels =
     rw (c.cid.ensures, c.number.ensures, c.priority.ensures.priority, c.of.ensures, c.slots.ensures.slots) refl in
     with_rows _ (rows_in fr es) c.self.inside.moment (λ t. put_row (row_live p t.moment) t.rows) c.args.self.now c.self.view_is
     (ap (rows_in c.insert_reserved-key.new.self) c.insert.ensures.items

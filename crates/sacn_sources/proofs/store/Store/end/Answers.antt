@@ -32,5 +32,5 @@ returns c =
     let p = packet_of c.args.packet.now in
     with_rows _ (rows_in fr es) c.self.inside.moment (λ t. set t.rows c.args.at (row_ended p t.moment)) c.args.self.now c.self.view_is
     (ap (rows_in fr) (c.renew.ensures.entries blank) ∙ entry_set es fr c.self.invariant (rows_in fr es) refl c.args.at old read c.args.packet.now.cid is_at _ refl refl
-    ∙ ap (λ s. set (rows_in fr es) c.args.at (record { source = s; number = c.number-number.result; shown = None; moment = c.self.inside.moment })) (cid_there es fr c.self.invariant (rows_in fr es) refl c.args.at old read c.args.packet.now.cid is_at)
-    ∙ ap (λ n. set (rows_in fr es) c.args.at (record { source = c.args.packet.now.cid; number = n; shown = None; moment = c.self.inside.moment })) c.number-number.ensures)
+    ∙ ap (λ s. set (rows_in fr es) c.args.at (record { source = s; sequence_number = c.number-sequence_number.result; shown = None; moment = c.self.inside.moment })) (cid_there es fr c.self.invariant (rows_in fr es) refl c.args.at old read c.args.packet.now.cid is_at)
+    ∙ ap (λ n. set (rows_in fr es) c.args.at (record { source = c.args.packet.now.cid; sequence_number = n; shown = None; moment = c.self.inside.moment })) c.number-sequence_number.ensures)

@@ -32,7 +32,7 @@ returns c =
     let view_is = ap (λ (t : Table). t.rows) c.self.view_is in
     let is_at = c.in-Ok.ensures.found in
     let e = c.entry_at-entry.result.now in
-    let of : Option Shown → Option Row = λ shown. Some (record { source = e.cid; number = e.number; shown = shown; moment = e.moment }) in
+    let of : Option Shown → Option Row = λ shown. Some (record { source = e.cid; sequence_number = e.sequence_number; shown = shown; moment = e.moment }) in
     let there = row_at c.args.cid.now rows c.in-Ok.at (row_in fr e) is_at ∙ ap (λ r. Some r) (row_there es fr c.self.invariant rows view_is c.in-Ok.at e c.entry_at-entry.ensures (row_in fr e) is_at.within) in
     ap of (elim c.match-entry.branch [
       | in-Some w ↦ ap (option_map shown_of) w.shown-is ∙ sym (shows_live fr e w.in-Some.priority w.index.result.now w.in-Some.is w.index.ensures)

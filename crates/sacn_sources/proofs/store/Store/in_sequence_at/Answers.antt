@@ -14,5 +14,5 @@ returns c d =
     let rows = c.args.self.now.rows in
     let view_is = ap (λ (t : Table). t.rows) c.self.view_is in
     c.in_sequence.ensures.value
-    ∙ ap (λ n. not (is_late c.entry_at-entry.result.now.number n)) c.number.ensures
-    ∙ sym (ap (λ (r : Row). not (is_late r.number c.args.packet.now.number)) (row_there es fr c.self.invariant rows view_is c.args.at c.entry_at-entry.result.now c.entry_at-entry.ensures d c.requires))
+    ∙ ap (λ n. not (is_late c.entry_at-entry.result.now.sequence_number n)) c.number.ensures
+    ∙ sym (ap (λ (r : Row). not (is_late r.sequence_number c.args.packet.now.number)) (row_there es fr c.self.invariant rows view_is c.args.at c.entry_at-entry.result.now c.entry_at-entry.ensures d c.requires))

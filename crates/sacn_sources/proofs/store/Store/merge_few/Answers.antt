@@ -12,7 +12,7 @@ use Rattle.sacn_sources.proofs.store.Store.merge_few.Goals as goal
 use Rattle.sacn_sources.proofs.store.Store.merge_few.Goals.{in-Some, in_default}
 
 abbrev blank : Entry
-blank = record { cid = []; number = 0; priority = None; moment = 0; key = 0 }
+blank = record { cid = []; sequence_number = 0; priority = None; moment = 0; key = 0 }
 
 pub loop-entry-preserved : goal.loop-entry-preserved
 loop-entry-preserved c =

@@ -32,5 +32,5 @@ returns c d =
     let p = packet_of c.args.packet.now in
     with_rows _ (rows_in fr es) c.self.inside.moment (λ t. set t.rows c.args.at (row_observed p (get_or t.rows c.args.at d))) c.args.self.now c.self.view_is
     (ap (rows_in fr) (c.renumber.ensures blank) ∙ entry_set es fr c.self.invariant (rows_in fr es) refl c.args.at old read c.args.packet.now.cid is_at _ refl refl
-    ∙ ap (λ (n : _). set (rows_in fr es) c.args.at (row_observed (record p { number = n }) (Rattle.sacn_sources.specs.Stored.row_in fr old))) c.number-number.ensures
+    ∙ ap (λ (n : _). set (rows_in fr es) c.args.at (row_observed (record p { sequence_number = n }) (Rattle.sacn_sources.specs.Stored.row_in fr old))) c.number-sequence_number.ensures
     ∙ ap (λ r. set (rows_in fr es) c.args.at (row_observed p r)) (sym (row_there es fr c.self.invariant (rows_in fr es) refl c.args.at old read d is_at.within)))

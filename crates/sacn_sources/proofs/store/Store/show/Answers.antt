@@ -42,12 +42,12 @@ returns c =
     let read = read_at es fr rows view_is c.args.at c.requires.within blank in
     let p = packet_of c.args.packet.now in
     let before = rows_in fr es in
-    let renewed : Entry = record old { number = c.number-number.result; priority = Some c.priority-priority.result; moment = c.self.inside.moment } in
-    let row_with : ℕ → ℕ → List ℕ → Row = λ n q xs. record { source = c.args.packet.now.cid; number = n; shown = Some (record { priority = q; levels = xs }); moment = c.self.inside.moment } in
+    let renewed : Entry = record old { sequence_number = c.number-sequence_number.result; priority = Some c.priority-priority.result; moment = c.self.inside.moment } in
+    let row_with : ℕ → ℕ → List ℕ → Row = λ n q xs. record { source = c.args.packet.now.cid; sequence_number = n; shown = Some (record { priority = q; levels = xs }); moment = c.self.inside.moment } in
     with_rows _ before c.self.inside.moment (λ t. set t.rows c.args.at (row_live p t.moment)) c.args.self.now c.self.view_is
     (ap (rows_in (with_value fr c.renew-key.result c.overwrite.new.levels)) (c.renew-key.ensures.entries blank)
     ∙ ap (λ k. rows_in (with_value fr k c.overwrite.new.levels) (set es c.args.at renewed)) (c.renew-key.ensures.key blank)
     ∙ levels_set es fr c.self.invariant before refl c.args.at old read c.args.packet.now.cid is_at _ refl refl c.overwrite.new.levels c.priority-priority.result refl
-    ∙ ap (λ n. set before c.args.at (row_with n c.priority-priority.result c.overwrite.new.levels)) c.number-number.ensures
+    ∙ ap (λ n. set before c.args.at (row_with n c.priority-priority.result c.overwrite.new.levels)) c.number-sequence_number.ensures
     ∙ ap (λ q. set before c.args.at (row_with c.args.packet.now.number q c.overwrite.new.levels)) c.priority-priority.ensures.priority
     ∙ ap (λ xs. set before c.args.at (row_with c.args.packet.now.number c.args.packet.now.priority xs)) (c.overwrite.ensures ∙ c.slots.ensures.slots))

@@ -7,7 +7,7 @@ use Rattle.sacn_sources.proofs.Sweeps.{swept, swept_none_yet, sweep_drops, sweep
 use Rattle.sacn_sources.proofs.store.Store.sweep.Goals as goal
 
 abbrev blank : Row
-blank = record { source = []; number = 0; shown = None; moment = 0 }
+blank = record { source = []; sequence_number = 0; shown = None; moment = 0 }
 
 pub loop-at-init : goal.loop-at-init
 loop-at-init c =

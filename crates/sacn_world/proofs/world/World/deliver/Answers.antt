@@ -4,7 +4,7 @@ use Rattle.sacn_framing.specs.PacketReading.{reading_packet}
 use Rattle.sacn_world.specs.declared.datagram.SentDatagram.{SentDatagram}
 use Rattle.sacn_world.specs.Watches.{Watch, taken_by}
 use Rattle.sacn_world.specs.Wire.{came_of, refusal_by}
-use Rattle.sacn_world.specs.Kept.{seen_world}
+use Rattle.sacn_world.specs.Invariants.{seen_world}
 use Rattle.sacn_world.proofs.Keeping.{no_node_deliver, no_datagram, deliver_refused, deliver_is, deliver_done, put_back, there_is}
 use Rattle.sacn_world.proofs.world.World.deliver.Goals as goal
 
@@ -52,7 +52,7 @@ invariant_of-self-2 c =
     let ex = slice_get_read s.nodes.items s.nodes.len c.args.node x (search rules) (omega arith) c.index_mut.ensures.value in
     let is : y ≡ x = same_Some y x (sym ey ∙ ex) in
     let may : refusal_by f x.marks ≡ None = subst (λ (w : Watch). refusal_by f w.marks ≡ None) is (sym c.refusal.ensures ∙ c.in_default.is) in
-    let ez = c.in-Ok.ensures.taken ∙ ap (λ o. taken_by (reading_packet c.as_slice.result.now) c.args.now o x) c.came.ensures ∙ ap (λ os. taken_by (reading_packet os) c.args.now (came_of f) x) c.as_slice.ensures.value in
+    let ez = c.in-Ok.ensures.taken ∙ ap (λ o. taken_by (reading_packet c.as_slice.result.now) c.args.now o x) c.mark.ensures ∙ ap (λ os. taken_by (reading_packet os) c.args.now (came_of f) x) c.as_slice.ensures.value in
     let er = c.in-Ok.ensures.reply ∙ ap (λ os. Rattle.sacn_node.specs.Readings.reply_to (reading_packet os) c.args.now x.node.core) c.as_slice.ensures.value in
     (deliver_done s.consoles.items s.sent.items s.nodes.items c.self.invariant c.args.self.now c.self.view_is c.args.datagram c.args.node c.args.now x f ex ef may c.take.new.self ez c.in-Ok.reply er).kept
 
@@ -67,6 +67,6 @@ returns c =
     let ex = slice_get_read s.nodes.items s.nodes.len c.args.node x (search rules) (omega arith) c.index_mut.ensures.value in
     let is : y ≡ x = same_Some y x (sym ey ∙ ex) in
     let may : refusal_by f x.marks ≡ None = subst (λ (w : Watch). refusal_by f w.marks ≡ None) is (sym c.refusal.ensures ∙ c.in_default.is) in
-    let ez = c.in-Ok.ensures.taken ∙ ap (λ o. taken_by (reading_packet c.as_slice.result.now) c.args.now o x) c.came.ensures ∙ ap (λ os. taken_by (reading_packet os) c.args.now (came_of f) x) c.as_slice.ensures.value in
+    let ez = c.in-Ok.ensures.taken ∙ ap (λ o. taken_by (reading_packet c.as_slice.result.now) c.args.now o x) c.mark.ensures ∙ ap (λ os. taken_by (reading_packet os) c.args.now (came_of f) x) c.as_slice.ensures.value in
     let er = c.in-Ok.ensures.reply ∙ ap (λ os. Rattle.sacn_node.specs.Readings.reply_to (reading_packet os) c.args.now x.node.core) c.as_slice.ensures.value in
     (deliver_done s.consoles.items s.sent.items s.nodes.items c.self.invariant c.args.self.now c.self.view_is c.args.datagram c.args.node c.args.now x f ex ef may c.take.new.self ez c.in-Ok.reply er).step

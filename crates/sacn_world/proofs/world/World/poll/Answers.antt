@@ -2,7 +2,7 @@ use Rattle.std.proofs.Common.{rules, refl, sym, ap, subst, ◌∙◌, ◌++◌, 
 use Rattle.std.proofs.lemmas.Option.{slice_get_read}
 use Rattle.sacn_world.specs.declared.console.Console.{Console}
 use Rattle.sacn_world.specs.declared.datagram.SentDatagram.{SentDatagram}
-use Rattle.sacn_world.specs.Kept.{seen_world}
+use Rattle.sacn_world.specs.Invariants.{seen_world}
 use Rattle.sacn_world.specs.Wire.{AreFiled}
 use Rattle.sacn_world.proofs.Keeping.{no_console_poll, there_is}
 use Rattle.sacn_world.proofs.Filing.{are_filed}
@@ -55,8 +55,8 @@ invariant_of-self-2 c =
     let ey = slice_get_read s.consoles.items s.consoles.len c.args.console y (search rules) (omega arith) c.index_mut.ensures.value in
     let z : Console = c.index.result.now in
     let ez = slice_get_read _ s.consoles.len c.args.console z (search rules) (omega arith) c.index.ensures in
-    let f : SentDatagram = c.posted-datagram.result in
-    let ef = c.posted-datagram.ensures ∙ ap (λ fs. Rattle.sacn_world.specs.Wire.posted z fs c.in_own_length-octets.result) (c.as_slice.ensures.value ∙ c.in-Ok-reserve.ensures.items) in
+    let f : SentDatagram = c.sent_datagram-datagram.result in
+    let ef = c.sent_datagram-datagram.ensures ∙ ap (λ fs. Rattle.sacn_world.specs.Wire.sent_datagram z fs c.in_own_length-octets.result) (c.as_slice.ensures.value ∙ c.in-Ok-reserve.ensures.items) in
     let d = posted_done c.written_is_read.ensures c.written_page_is_read.ensures s.consoles.items s.sent.items s.nodes.items c.self.invariant c.args.self.now c.self.view_is c.args.console c.args.now y ey c.in-Some.len c.poll.new.out _ c.poll.new.self z c.in_own_length-octets.result f (sym c.in-Some.ensures.answer) c.in-Some.ensures.octets c.in-Some.ensures.lawful (omega arith) refl c.in-Some.ensures.core c.in_own_length-octets.ensures ez ef in
     (done_as d (sym (c.push_reserved.ensures.items ∙ ap (λ fs. fs ++ f ∷ []) c.in-Ok-reserve.ensures.items)) refl).kept
 
@@ -67,12 +67,12 @@ returns c =
     let ey = slice_get_read s.consoles.items s.consoles.len c.args.console y (search rules) (omega arith) c.index_mut.ensures.value in
     let z : Console = c.index.result.now in
     let ez = slice_get_read _ s.consoles.len c.args.console z (search rules) (omega arith) c.index.ensures in
-    let f : SentDatagram = c.posted-datagram.result in
-    let ef = c.posted-datagram.ensures ∙ ap (λ fs. Rattle.sacn_world.specs.Wire.posted z fs c.in_own_length-octets.result) (c.as_slice.ensures.value ∙ c.in-Ok-reserve.ensures.items) in
+    let f : SentDatagram = c.sent_datagram-datagram.result in
+    let ef = c.sent_datagram-datagram.ensures ∙ ap (λ fs. Rattle.sacn_world.specs.Wire.sent_datagram z fs c.in_own_length-octets.result) (c.as_slice.ensures.value ∙ c.in-Ok-reserve.ensures.items) in
     let d = posted_done c.written_is_read.ensures c.written_page_is_read.ensures s.consoles.items s.sent.items s.nodes.items c.self.invariant c.args.self.now c.self.view_is c.args.console c.args.now y ey c.in-Some.len c.poll.new.out _ c.poll.new.self z c.in_own_length-octets.result f (sym c.in-Some.ensures.answer) c.in-Some.ensures.octets c.in-Some.ensures.lawful (omega arith) refl c.in-Some.ensures.core c.in_own_length-octets.ensures ez ef in
     (done_as d (sym (c.push_reserved.ensures.items ∙ ap (λ fs. fs ++ f ∷ []) c.in-Ok-reserve.ensures.items)) (omega (arith, c.len-number.ensures, c.in-Ok-reserve.ensures.len))).step
 
-pub posted-datagram-requires : goal.posted-datagram-requires
-posted-datagram-requires c =
+pub sent_datagram-datagram-requires : goal.sent_datagram-datagram-requires
+sent_datagram-datagram-requires c =
     let s = c.self.inside in
     record { filed = subst AreFiled (sym (c.as_slice.ensures.value ∙ c.in-Ok-reserve.ensures.items)) (are_filed s.consoles.items s.sent.items s.nodes.items c.self.invariant) }

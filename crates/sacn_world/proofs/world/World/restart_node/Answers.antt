@@ -1,7 +1,7 @@
 use Rattle.std.proofs.Common.{rules, refl, ap, ◌∙◌, arith, inl, inr}
 use Rattle.std.proofs.lemmas.Option.{slice_get_read}
 use Rattle.sacn_world.specs.Watches.{Watch}
-use Rattle.sacn_world.specs.Kept.{seen_world}
+use Rattle.sacn_world.specs.Invariants.{seen_world}
 use Rattle.sacn_world.proofs.Keeping.{no_node_restart, restart_node_done, restart_node_is, put_back}
 use Rattle.sacn_world.proofs.world.World.restart_node.Goals as goal
 

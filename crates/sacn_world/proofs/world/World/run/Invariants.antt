@@ -1,5 +1,5 @@
 use Rattle.std.proofs.Common.{◌≡◌, ◌≤◌, Some, take, length, vec_len, vec_capacity}
-use Rattle.sacn_world.specs.Running.{ran}
+use Rattle.sacn_world.specs.Runs.{ran}
 use Rattle.sacn_world.proofs.world.World.run.Given as goal
 
 -- the events so far have these answers; there is room for the others

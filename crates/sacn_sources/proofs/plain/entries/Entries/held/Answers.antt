@@ -23,7 +23,7 @@ returns c =
     let view_is = ap (λ (t : Table). t.rows) c.self.view_is in
     let is_at = c.in-Ok.ensures.found in
     let e = c.plain_entry_at-entry.result.now in
-    let of : Option Shown → Option Row = λ shown. Some (record { source = e.cid; number = e.number; shown = shown; moment = e.moment }) in
+    let of : Option Shown → Option Row = λ shown. Some (record { source = e.cid; sequence_number = e.sequence_number; shown = shown; moment = e.moment }) in
     let there = row_at c.args.cid.now rows c.in-Ok.at (plain_row e) is_at ∙ ap (λ r. Some r) (plain_there es rows view_is c.in-Ok.at is_at.within e c.plain_entry_at-entry.ensures (plain_row e)) in
     ap of (elim c.match-entry.branch [
       | in-Some w ↦ ap (option_map shown_of) w.shown-is ∙ sym (plain_live e w.in-Some.priority w.in-Some.is)

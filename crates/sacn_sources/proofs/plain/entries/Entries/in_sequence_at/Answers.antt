@@ -13,5 +13,5 @@ returns c d =
     let rows = c.args.self.now.rows in
     let view_is = ap (λ (t : Table). t.rows) c.self.view_is in
     c.in_sequence.ensures.value
-    ∙ ap (λ n. not (is_late c.plain_entry_at-entry.result.now.number n)) c.number.ensures
-    ∙ sym (ap (λ (r : Row). not (is_late r.number c.args.packet.now.number)) (plain_there es rows view_is c.args.at c.requires c.plain_entry_at-entry.result.now c.plain_entry_at-entry.ensures d))
+    ∙ ap (λ n. not (is_late c.plain_entry_at-entry.result.now.sequence_number n)) c.number.ensures
+    ∙ sym (ap (λ (r : Row). not (is_late r.sequence_number c.args.packet.now.number)) (plain_there es rows view_is c.args.at c.requires c.plain_entry_at-entry.result.now c.plain_entry_at-entry.ensures d))

@@ -29,5 +29,5 @@ returns c d =
     let p = packet_of c.args.packet.now in
     with_rows _ (plain_rows es) c.self.inside.moment (λ t. set t.rows c.args.at (row_observed p (get_or t.rows c.args.at d))) c.args.self.now c.self.view_is
     (ap plain_rows (c.plain_renumber.ensures blank) ∙ plain_set es c.self.invariant c.args.at _ within (λ e. ap (λ (e : PlainEntry). e.cid) (get_or_default es c.args.at blank e within))
-    ∙ ap (λ n. set (plain_rows es) c.args.at (row_observed (record p { number = n }) (plain_row old))) c.number-number.ensures
+    ∙ ap (λ n. set (plain_rows es) c.args.at (row_observed (record p { sequence_number = n }) (plain_row old))) c.number-sequence_number.ensures
     ∙ ap (λ r. set (plain_rows es) c.args.at (row_observed p r)) (sym (plain_there es rows view_is c.args.at c.requires.within old (λ e. get_or_default es c.args.at blank e within) d) ∙ ap (λ rs. get_or rs c.args.at d) (sym view_is)))

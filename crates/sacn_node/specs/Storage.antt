@@ -1,5 +1,5 @@
 -- How a node stores its ports and its tables.
-use Rattle.std.specs.Prelude.{⊤, ℕ, ◌-◌, ◌<◌, ◌≤◌, max, List, [], ◌∷◌, length, map, All, AllPairs}
+use Rattle.std.specs.Prelude.{ℕ, ◌-◌, ◌<◌, ◌≤◌, max, List, length, map, All, AllPairs}
 use Rattle.std.specs.List.{sum_by, AllByRecursion}
 use Rattle.std.specs.List.Sorted.{IsStrictlyIncreasing}
 use Rattle.sacn_sources.specs.Rows.{rows_lost}
@@ -42,12 +42,3 @@ pub record ArePorts (ps : List Port) : Type 0 where
   pub rising : IsStrictlyIncreasing (port_numbers ps)
   pub few : length ps ≤ MAX_PORTS
   pub shown : All (λ p. All IsShown p.ranges) ps
-
--- numbers that strictly rise: all of them are above u, and each is above the one before it
-abbrev pub Above : ℕ → List ℕ → Type 0
-Above u [] = ⊤
-Above u (v ∷ vs) = (u < v) × Above v vs
-
-abbrev pub Rise : List ℕ → Type 0
-Rise [] = ⊤
-Rise (v ∷ vs) = Above v vs

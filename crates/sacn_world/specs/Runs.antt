@@ -5,7 +5,7 @@ use Rattle.sacn_schedule.specs.declared.event.Event.{Event}
 use Rattle.sacn_world.specs.declared.fault.RunFault.{RunFault}
 use Rattle.sacn_world.specs.declared.fault.WorldFault.TheVariants.{OutOfMemory}
 use Rattle.sacn_world.specs.Worlds.{World, Step, step, takes_memory}
-use Rattle.sacn_world.specs.Kept.{IsAccepted}
+use Rattle.sacn_world.specs.Invariants.{IsAccepted}
 
 pub record Ran : Type 0 where
   pub answers : List Answer

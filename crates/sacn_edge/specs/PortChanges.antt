@@ -26,7 +26,7 @@ IsTold c old new = (u : ℕ) → changes_universe c u ≡ false → core_slots n
 
 -- a port's latest line has its frame, unless that may have changed
 abbrev pub IsCurrentBut : Changes → Node → PortShown → Type 0
-IsCurrentBut c n s = concerns c n s.number ≡ false → later s.last (node_frame s.number n) ≡ s.last
+IsCurrentBut c n s = concerns c n s.port ≡ false → later s.last (node_frame s.port n) ≡ s.last
 
 abbrev pub AreCurrentBut : Changes → Node → List PortShown → Type 0
 AreCurrentBut c n [] = ⊤

@@ -1,8 +1,9 @@
 -- What an event leaves of a place that a node holds, and how long an entry lasts.
-use Rattle.std.specs.Prelude.{◌≡◌, ◌≢◌, ⊤, ◌⊎◌, ℕ, ◌<◌, ◌≤◌, max, true, ◌==◌, if◌then◌else◌, List, [], ◌∷◌, slice_get, Some, Ok}
+use Rattle.std.specs.Prelude.{◌≡◌, ◌≢◌, ⊤, ℕ, ◌<◌, ◌≤◌, max, true, ◌==◌, if◌then◌else◌, List, [], ◌∷◌, slice_get, Some, Ok}
 use Rattle.sacn_framing.specs.Data.{Data}
 use Rattle.sacn_framing.specs.declared.packet.Packet.TheVariants.{DataPacket}
-use Rattle.sacn_sources.specs.declared.taken.Taken.TheVariants.{Held, EndedNow}
+use Rattle.sacn_sources.specs.Rows.{renews}
+use Rattle.sacn_sources.specs.declared.taken.Taken.{Taken as TableTaken}
 use Rattle.sacn_node.specs.declared.taken.NodeTaken.TheVariants.{FromTable}
 use Rattle.sacn_world.specs.declared.answer.Answer.{Answer}
 use Rattle.sacn_world.specs.declared.answer.Answer.TheVariants.{Taken}
@@ -42,7 +43,7 @@ pub record HoldsFrom (w : World) (i : ℕ) (s : List ℕ) (u p : ℕ) : Type 0 w
 
 -- the answer says that the packet is now what the node holds
 abbrev pub TakesItsPlace : Answer → Type 0
-TakesItsPlace a = (a ≡ Taken (FromTable Held)) ⊎ (a ≡ Taken (FromTable EndedNow))
+TakesItsPlace a = (taken : TableTaken) × (a ≡ Taken (FromTable taken)) × (renews taken ≡ true)
 
 -- the place of datagram k is held after a delivery, and is later than what the node held until then and had not lost
 pub record MovesForward (w v : World) (i m : ℕ) (s : List ℕ) (u q : ℕ) : Type 0 where
