@@ -1,7 +1,6 @@
 //! Gateways and desks that run a rig.
 use crate::ending::{DEVICE_FAILED, Ending, REFUSED};
 use crate::files::text_of_file;
-use crate::live_words::{DeskAsked, GatewayAsked};
 use crate::network::tell;
 use sacn_console::{Command, ConsoleCore, Show, TextFault, read_script, read_show};
 use sacn_edge::{ConsoleReport, Link, WriterOut};
@@ -12,6 +11,7 @@ use sacn_live::{
     Watch, Widget, guard_standard_descriptors, run_desk, run_gateway,
 };
 use sacn_node::{NodeCore, NodeSetup, read_node};
+use sacn_words::{DeskAsked, GatewayAsked};
 use std::alloc::Global;
 use std::io::{ErrorKind, Write};
 use std::net::{Ipv4Addr, Net, SocketAddrV4};

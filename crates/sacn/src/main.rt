@@ -2,12 +2,10 @@
 #![tactic(auto)]
 
 mod check;
-mod command;
 mod ending;
 mod explain;
 mod files;
 mod live;
-mod live_words;
 mod manual;
 mod network;
 mod page;

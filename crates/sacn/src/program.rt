@@ -1,11 +1,11 @@
 //! The program, over any words, input and outputs.
-use crate::command::{Asked, parse};
 use crate::ending::{DONE, Ending, ended, explained};
 use crate::files::{octets_of_files, text_of_file};
 use crate::{check, explain, live, manual, network, watch};
 use sacn_text::{
     MAX_FILE_OCTETS, Printed, octets_of_digits, print_looks, print_packets, read_limited,
 };
+use sacn_words::{Asked, parse};
 use std::alloc::Global;
 use std::env::Env;
 use std::io::{Read, Write};

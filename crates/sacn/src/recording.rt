@@ -1,11 +1,12 @@
 //! A recording that browsers see.
 use crate::ending::{Ending, REFUSED};
-use crate::explain::{ExplainAsked, ROOM, said_of_capture, unread};
+use crate::explain::{ROOM, said_of_capture, unread};
 use crate::live::{clock_of, said_of_socket};
 use crate::page::say_page;
 use sacn_live::{SACN_PORT, guard_standard_descriptors};
 use sacn_page::{Pages, Quiet, Recording, SeekFault, Tape};
 use sacn_watch::{Listener, WatchFault, run_watch};
+use sacn_words::ExplainAsked;
 use std::alloc::Global;
 use std::fs::{self, OpenFile};
 use std::io::{self, BufReader, ErrorKind, Seek, SeekFrom, Write};

@@ -1,88 +1,19 @@
 //! A network watched.
-use crate::command::{Asked, subcommand};
 use crate::ending::Ending;
-use crate::explain::{port_in, universes_in};
 use crate::live::{clock_of, said_of_socket, say_hearing};
-use crate::live_words::{flag, host, seconds, seconds_in, word, words};
-use crate::page::{page_in, serve};
-use clap::{ArgMatches, Command, Error};
+use crate::page::serve;
 use sacn_explain::{Form, Options};
 use sacn_files::words::short_in;
-use sacn_live::{SACN_PORT, UdpReceiver, guard_standard_descriptors, output_is_terminal};
+use sacn_live::{UdpReceiver, guard_standard_descriptors, output_is_terminal};
 use sacn_watch::{Listener, Size, WatchFault, watch_lines, watch_terminal};
-use std::alloc::Global;
+use sacn_words::WatchAsked;
 use std::env::{self, Env};
 use std::io::Write;
-use std::net::{Ipv4Addr, Net, SocketAddrV4};
+use std::net::{Net, SocketAddrV4};
 use std::rt::Clock;
-
-const ABOUT: &str =
-    "Hears a network until it is stopped, and tells each thing that happens, then tables; in a terminal it shows a screen";
 
 /// The most columns and rows that a terminal is taken to have.
 const MAX_EXTENT: u16 = 1000;
-
-/// What a watch is asked.
-#[derive(Drop)]
-pub struct WatchAsked {
-    listen: Ipv4Addr,
-    port: u16,
-    universes: Vec<u16>,
-    seconds: Option<u64>,
-    form: Form,
-    is_plain: bool,
-    /// Where a page is served in place of what is printed.
-    page: Option<SocketAddrV4>,
-}
-
-pub fn command<'a>(alloc: Global) -> Result<Command<'a>, Error> {
-    let universe = "A universe that is told, and the first one shown; else all";
-    let plain = "Prints lines in a terminal too";
-    let page =
-        "Serves a page for browsers there, of this machine where only a port is named, and prints nothing";
-    let args = vec![in alloc;
-        word(
-            alloc,
-            "listen",
-            "ADDRESS",
-            "The address that it hears at; else all"
-        ),
-        word(
-            alloc,
-            "port",
-            "P",
-            "The UDP port that it hears at; else 5568"
-        ),
-        words(alloc, "universe", "U", universe),
-        seconds(alloc),
-        flag(alloc, "json", "Prints an object of JSON on each line"),
-        flag(alloc, "plain", plain),
-        word(alloc, "page", "[ADDRESS:]PORT", page),
-    ]?;
-    subcommand(alloc, "watch", ABOUT, args)
-}
-
-/// What the words of `watch` ask for.
-pub fn asked<'a>(alloc: Global, matches: &ArgMatches<'a>) -> Result<Asked<'a>, Error> {
-    let listen = host(alloc, matches, "listen", Ipv4Addr::UNSPECIFIED)?;
-    let seconds = seconds_in(alloc, matches)?;
-    let port = port_in(alloc, matches)?;
-    let page = page_in(alloc, matches)?;
-    let universes = universes_in(alloc, matches)?;
-    Ok(Asked::Watch(WatchAsked {
-        listen,
-        port: port.unwrap_or(SACN_PORT),
-        universes,
-        seconds,
-        form: if matches.get_flag("json") {
-            Form::Json
-        } else {
-            Form::Text
-        },
-        is_plain: matches.get_flag("plain"),
-        page,
-    }))
-}
 
 /// Watches a network.
 pub fn watch<R: AllocGlobal + Env + Net + Clock, O: Write, E: Write>(

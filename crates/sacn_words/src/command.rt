@@ -1,7 +1,7 @@
 //! The command line.
 use crate::check::{self, CheckAsked};
 use crate::explain::{self, ExplainAsked};
-use crate::live_words::{self, DeskAsked, GatewayAsked};
+use crate::live::{self, DeskAsked, GatewayAsked};
 use crate::manual;
 use crate::watch::{self, WatchAsked};
 use clap::error::ErrorKind;
@@ -192,9 +192,9 @@ fn command<'a>(alloc: Global) -> Result<Command<'a>, Error> {
     let command = with(command, sim(alloc));
     let command = with(command, console(alloc));
     let command = with(command, node(alloc));
-    let command = with(command, live_words::gateway(alloc));
-    let command = with(command, live_words::desk(alloc));
-    let command = with(command, live_words::groups(alloc));
+    let command = with(command, live::gateway(alloc));
+    let command = with(command, live::desk(alloc));
+    let command = with(command, live::groups(alloc));
     let command = with(command, explain::command(alloc));
     let command = with(command, watch::command(alloc));
     let command = with(command, check::command(alloc));
@@ -329,9 +329,9 @@ fn asked_of<'a>(alloc: Global, matches: &ArgMatches<'a>) -> Result<Asked<'a>, Er
         Some(("sim", sim)) => Ok(sim_asked(sim)),
         Some(("console", console)) => console_asked(alloc, console),
         Some(("node", node)) => node_asked(alloc, node),
-        Some(("gateway", gateway)) => live_words::gateway_asked(alloc, gateway),
-        Some(("desk", desk)) => live_words::desk_asked(alloc, desk),
-        Some(("groups", groups)) => Ok(live_words::groups_asked(groups)),
+        Some(("gateway", gateway)) => live::gateway_asked(alloc, gateway),
+        Some(("desk", desk)) => live::desk_asked(alloc, desk),
+        Some(("groups", groups)) => Ok(live::groups_asked(groups)),
         Some(("explain", words)) => explain::asked(alloc, words),
         Some(("watch", words)) => watch::asked(alloc, words),
         Some(("check", words)) => check::asked(alloc, words),
