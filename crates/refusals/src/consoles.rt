@@ -1,5 +1,6 @@
 //! Shows, scripts and the console core.
 use crate::Outcome;
+use fixtures::packets::CID;
 use sacn_console::limits::MAX_DATAGRAM;
 use sacn_console::{Command, ConsoleCore, Show, ShowFault, TextFault, read_script, read_show};
 use std::alloc::Global;
@@ -35,8 +36,6 @@ const SCRIPT: &str = "0 go
 10 set 1 65535
 20 end 1
 ";
-
-const CID: [u8; 16] = [0, 1, 2, 3, 4, 5, 6, 7, 8, 9, 10, 11, 12, 13, 14, 15];
 
 /// Whether the show is that of the text, its universes in ascending number.
 fn is_read(show: &Show) -> bool {

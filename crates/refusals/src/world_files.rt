@@ -1,5 +1,6 @@
 //! World files and schedules.
 use crate::Outcome;
+use fixtures::packets::CID;
 use sacn_console::{Command, Show};
 use sacn_node::NodeSetup;
 use sacn_schedule::{Event, TextFault, WorldTextFault, read_schedule, read_world};
@@ -34,8 +35,6 @@ noise 0 5 aB01
 noise 0 5 -
 look 0 1 0
 ";
-
-const CID: [u8; 16] = [0, 1, 2, 3, 4, 5, 6, 7, 8, 9, 10, 11, 12, 13, 14, 15];
 
 fn is_desk(desk: &(Show, u8)) -> bool {
     let show = &desk.0;

@@ -1,13 +1,12 @@
 //! Worlds, and runs of events.
 use crate::Outcome;
+use fixtures::packets::CID;
 use sacn_node::NodeTaken;
 use sacn_schedule::examples::{SCHEDULE, WORLD};
 use sacn_schedule::{Event, read_schedule, read_world};
 use sacn_sources::Taken;
 use sacn_world::{Answer, RunFault, World, WorldFault};
 use std::alloc::Global;
-
-const CID: [u8; 16] = [0, 1, 2, 3, 4, 5, 6, 7, 8, 9, 10, 11, 12, 13, 14, 15];
 
 /// A packet of each of two lives comes to the node, which starts anew between them.
 const LIVES: &str = "poll 0 0

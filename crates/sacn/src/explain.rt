@@ -106,10 +106,8 @@ fn tell_reader<I: BufRead + Drop, O: Write>(
         universes: asked.universes.as_slice(),
         form: asked.form,
     };
-    match explain(alloc, reader, &options, setup, out) {
-        Ok(_) => Ok(()),
-        Err(fault) => Err(fault),
-    }
+    explain(alloc, reader, &options, setup, out)?;
+    Ok(())
 }
 
 // The port that is asked for, that of the setup, or that of streaming ACN.

@@ -140,20 +140,20 @@ impl<R: BufRead + Drop> Replay<R> {
         self.shown = now;
         match pending.sender {
             Some(sender) => self.board.take(now, sender, self.octets.as_slice()),
-            None => match self.board.tick(now) {
-                Ok(_) => Ok(()),
-                Err(fault) => Err(fault),
-            },
+            None => self.tick(now),
         }
     }
 
     // Moves the clock to a moment before the next frame.
     fn rest(&mut self, moment: u64) -> Result<(), AllocError> {
         self.shown = moment;
-        match self.board.tick(moment) {
-            Ok(_) => Ok(()),
-            Err(fault) => Err(fault),
-        }
+        self.tick(moment)
+    }
+
+    // Tells the board the time; what that lost, it knows.
+    fn tick(&mut self, now: u64) -> Result<(), AllocError> {
+        self.board.tick(now)?;
+        Ok(())
     }
 }
 
