@@ -153,7 +153,8 @@ enum sacn_packet_kind {
 struct sacn_packet {
     /* enum sacn_packet_kind */
     uint8_t kind;
-    /* Of data: 0 to 200 (6.2.3), the sequence number (6.2.5), the two options of 6.2.6 as 0 or 1, and the start code (7.7). */
+    /* Of data: 0 to 200 (6.2.3), the sequence number (6.2.5), the two options of 6.2.6 as 0 or 1 (a writer takes any other number for 1), and the
+       start code (7.7). */
     uint8_t priority;
     uint8_t number;
     uint8_t preview;
@@ -283,7 +284,12 @@ struct sacn_sources {
     void *behind;
 };
 
-/* Makes an empty table, with the room for all its sources. It must be empty. Status: 1 where there is no memory. */
+/* Why no table is made. */
+enum sacn_sources_fault {
+    SACN_SOURCES_OUT_OF_MEMORY = 1
+};
+
+/* Makes an empty table, with the room for all its sources. It must be empty. Status: SACN_SOURCES_OUT_OF_MEMORY. */
 int sacn_sources_new(struct sacn_sources *sources);
 
 /* Gives back all memory of a table, which is then empty. Status: SACN_NULL where it is already. */
@@ -385,6 +391,7 @@ enum sacn_universe_state {
 struct sacn_universe {
     /* The moment of its latest packet since the console was made, UINT64_MAX where there was none. */
     uint64_t latest;
+    /* 1 to 63999 (6.2.7). */
     uint16_t universe;
     /* enum sacn_universe_state */
     uint8_t state;
@@ -480,8 +487,9 @@ struct sacn_stream {
     uint64_t greatest_gap;
     /* The packets of the last whole second. */
     uint64_t last_second;
+    /* 1 to 63999 (6.2.7). */
     uint16_t universe;
-    /* The sender of the latest packet that was taken. */
+    /* The UDP port and the IPv4 address from which the latest packet came that was taken; its priority, 0 to 200, and its sequence number. */
     uint16_t port;
     uint8_t address[4];
     uint8_t priority;
@@ -491,7 +499,9 @@ struct sacn_stream {
     /* Always 0. */
     uint8_t unused;
     uint8_t unused_too[4];
+    /* The source's component identifier (5.6). */
     uint8_t cid[16];
+    /* Its name in the latest packet that was taken (6.2.2): what stands before the first NUL, and NUL to the end. */
     uint8_t name[64];
 };
 

@@ -103,6 +103,17 @@ TOML
 setup() { printf 'version = 1\nudp_port = %s\n[[port]]\nnumber = 1\nuniverse = 1\n' "$1"; }
 lit='^1 [0-9]+ 00ff00'
 
+# Waits until a UDP port of this machine is bound, at most five seconds.
+bound() {
+  local port tries
+  port=$(printf ':%04X ' "$1")
+  [ -r /proc/net/udp ] || { sleep 1; return; }
+  for ((tries = 0; tries < 50; tries++)); do
+    if grep -q "$port" /proc/net/udp; then return; fi
+    sleep 0.1
+  done
+}
+
 # hears NAME PORT COMMAND..: the command shows what a desk sends, which then ends its universe: lit, and dark
 hears() {
   local name=$1 port=$2
@@ -110,7 +121,7 @@ hears() {
   show "$port" >"$room/show$port.toml"
   "$@" >"$room/heard" 2>"$room/said" &
   running=($!)
-  sleep 1
+  bound "$port"
   printf 'go\n' | { cat; sleep 1; } | timeout 10 "$sacn" desk "$room/show$port.toml" >/dev/null 2>&1
   wait "${running[0]}"
   running=()

@@ -5,6 +5,7 @@ use Rattle.std.specs.Prelude.{◌==◌, IfOk}
 use Rattle.sacn_framing.specs.Data.{Data}
 use Rattle.sacn_framing.specs.declared.packet.Packet.{Packet}
 use Rattle.sacn_framing.specs.declared.packet.Packet.TheVariants.{DataPacket, PagePacket, SyncPacket}
+use Rattle.sacn_discovery.specs.Pages.{page_of_list}
 use Rattle.sacn_console.specs.Lines.{Datagram}
 use Rattle.sacn_console.specs.Lines as line
 use Rattle.sacn_console.specs.Core.{size}
@@ -26,7 +27,7 @@ data_back f d = rw (bit_back d.preview, bit_back d.terminated) refl
 
 pub asked_again : (read : Result Packet PacketFault) (before after : PacketFields) → after ≡ fields_after before read → IfOk read (λ p. AskFor p after)
 asked_again (Ok (DataPacket d)) before after fields = ap (λ (f : PacketFields). written f d.slots) fields ∙ data_back before d
-asked_again (Ok (PagePacket p)) before after fields = tt
+asked_again (Ok (PagePacket p)) before after fields = λ list is. ap (λ (f : PacketFields). page_of_list list f.page f.cid f.name) fields ∙ is
 asked_again (Ok SyncPacket) before after fields = tt
 asked_again (Err fault) before after fields = tt
 

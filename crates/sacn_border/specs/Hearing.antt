@@ -25,6 +25,13 @@ noted_status Sync = DONE
 noted_status Untracked = DONE
 noted_status (Heard place news) = DONE
 
+abbrev pub noted_number : Noted → ℕ
+noted_number (Refused fault) = 0
+noted_number Page = 1
+noted_number Sync = 2
+noted_number Untracked = 3
+noted_number (Heard place news) = 4
+
 abbrev pub event_number : Event → ℕ
 event_number GoesOn = 1
 event_number Appeared = 2

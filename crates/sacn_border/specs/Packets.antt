@@ -9,6 +9,7 @@ use Rattle.sacn_framing.specs.Data.{Data, frame_of}
 use Rattle.sacn_framing.specs.Page.{Page}
 use Rattle.sacn_framing.specs.declared.packet.Packet.{Packet}
 use Rattle.sacn_framing.specs.declared.packet.Packet.TheVariants.{DataPacket, PagePacket, SyncPacket}
+use Rattle.sacn_discovery.specs.Pages.{page_of_list}
 use Rattle.sacn_monitor.specs.Accounts.{fitted}
 use Rattle.sacn_border.specs.declared.status.TheConstants.{DONE}
 use Rattle.sacn_border.specs.declared.packets.PacketFields.{PacketFields}
@@ -102,10 +103,10 @@ written f slots = record {
   slots = slots;
 }
 
--- with its slots the fields ask for that very data packet
+-- with its slots the fields ask for that very data packet, and with a list of which it is a page for that very page
 abbrev pub AskFor : Packet → PacketFields → Type 0
 AskFor (DataPacket d) f = written f d.slots ≡ d
-AskFor (PagePacket p) f = ⊤
+AskFor (PagePacket p) f = (list : List ℕ) → page_of_list list p.page p.cid p.name ≡ p → page_of_list list f.page f.cid f.name ≡ p
 AskFor SyncPacket f = ⊤
 
 -- the fault of the first field that is out of range

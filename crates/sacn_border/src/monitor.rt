@@ -9,7 +9,7 @@ ghost use Rattle.sacn_border.specs.Numbers.{found_status, found_or};
 ghost use Rattle.sacn_border.specs.declared.status.TheConstants.{DONE, OUT_OF_MEMORY, WRONG_HANDLE};
 
 use crate::held::Held;
-use crate::news::{NewsFields, StreamFields, news_told, noted_status, stream_told};
+use crate::news::{NewsFields, StreamFields, stream_told, tell};
 use crate::status::{DONE, OUT_OF_MEMORY, RANGE, WRONG_HANDLE};
 use sacn_monitor::{Monitor, Sender};
 use std::alloc::Global;
@@ -37,11 +37,7 @@ pub fn take(held: &mut Held, now: u64, sender: Sender, octets: &[u8], news: &mut
     ensures held { held.new ≡ of_monitor held.old (λ b. Held.Monitor (after_take now sender octets.now b)) held.old }
 {
     match held {
-        Held::Monitor(monitor) => {
-            let noted = monitor.take(now, sender, octets);
-            *news = news_told(noted);
-            noted_status(&noted)
-        }
+        Held::Monitor(monitor) => tell(&monitor.take(now, sender, octets), news),
         _ => WRONG_HANDLE,
     }
 }

@@ -1,6 +1,6 @@
 //! What C is told of a datagram that a monitor hears, and of a source on a universe.
 ghost use Rattle.std.specs.Prelude.{◌≡◌};
-ghost use Rattle.sacn_border.specs.Hearing.{news_told, nothing_told, heard_told, noted_status, state_number, event_number, stream_told};
+ghost use Rattle.sacn_border.specs.Hearing.{news_told, nothing_told, heard_told, noted_number, noted_status, state_number, event_number, stream_told};
 
 use crate::status::DONE;
 use sacn_monitor::{Event, News, Noted, State, Stream};
@@ -47,8 +47,21 @@ pub struct StreamFields {
     pub name: [u8; 64],
 }
 
-/// The status of a datagram: the fault of one that is no packet.
-pub(crate) fn noted_status(noted: &Noted) -> u32
+/// Tells C of a datagram. The status is the fault of one that is no packet.
+pub(crate) fn tell(noted: &Noted, fields: &mut NewsFields) -> u32
+    ensures status { result ≡ noted_status noted.now }
+    ensures news { fields.new ≡ news_told noted.now }
+{
+    // (first, and by reference: so what is heard is taken over without a table of jumps or a copy)
+    if let Noted::Heard(place, news) = noted {
+        put_heard(*place, news, fields);
+        return DONE;
+    }
+    *fields = nothing_told(noted_number(noted));
+    noted_status(noted)
+}
+
+fn noted_status(noted: &Noted) -> u32
     ensures { result ≡ noted_status noted.now }
 {
     match noted {
@@ -57,16 +70,15 @@ pub(crate) fn noted_status(noted: &Noted) -> u32
     }
 }
 
-/// What C is told of a datagram.
-pub(crate) fn news_told(noted: Noted) -> NewsFields
-    ensures { result ≡ news_told noted }
+fn noted_number(noted: &Noted) -> u8
+    ensures { result ≡ noted_number noted.now }
 {
     match noted {
-        Noted::Refused(_) => nothing_told(0),
-        Noted::Page => nothing_told(1),
-        Noted::Sync => nothing_told(2),
-        Noted::Untracked => nothing_told(3),
-        Noted::Heard(place, news) => heard_told(place, news),
+        Noted::Refused(_) => 0,
+        Noted::Page => 1,
+        Noted::Sync => 2,
+        Noted::Untracked => 3,
+        Noted::Heard(_, _) => 4,
     }
 }
 
@@ -86,14 +98,10 @@ fn nothing_told(noted: u8) -> NewsFields
     }
 }
 
-fn heard_told(place: usize, news: News) -> NewsFields
-    ensures { result ≡ heard_told place news }
+fn put_heard(place: usize, news: &News, fields: &mut NewsFields)
+    ensures { fields.new ≡ heard_told place news.now }
 {
-    let (priority_from, priority_to) = match news.priority {
-        Some(change) => (change.from, change.to),
-        None => (0, 0),
-    };
-    NewsFields {
+    *fields = NewsFields {
         place,
         noted: 4,
         event: event_number(news.event),
@@ -101,8 +109,13 @@ fn heard_told(place: usize, news: News) -> NewsFields
         began_anew: u8::from(news.began_anew),
         renamed: u8::from(news.renamed),
         moved: u8::from(news.moved),
-        priority_from,
-        priority_to,
+        priority_from: 0,
+        priority_to: 0,
+    };
+    // (written over, and not chosen: a change is rare, and a branch that is foreseen costs less than two choices)
+    if let Some(change) = &news.priority {
+        fields.priority_from = change.from;
+        fields.priority_to = change.to;
     }
 }
 
