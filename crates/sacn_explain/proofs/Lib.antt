@@ -4,3 +4,5 @@ pub mod Counts
 pub mod Known
 pub mod Amounts
 pub mod Contested
+mod Padding
+mod Letters

@@ -7,3 +7,6 @@ pub mod Story
 pub mod Amounts
 pub mod Staging
 pub mod Contested
+pub mod Spelled
+pub mod Members
+pub mod Sentences

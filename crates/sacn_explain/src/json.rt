@@ -1,5 +1,8 @@
 //! Members of JSON objects.
 
+ghost use Rattle.std.specs.Prelude.{◌≡◌, ◌++◌, OnOk, string_bytes};
+ghost use Rattle.sacn_explain.specs.Members.{object_front, number_member, word_member, stream_members, source_members, sender_members};
+
 use crate::spelling::{push_address, push_cid, push_name};
 use sacn_framing::up_to_nul;
 use sacn_monitor::{Sender, Stream};
@@ -7,33 +10,56 @@ use std::alloc::AllocError;
 use std::fmt::Write;
 
 /// The front of an event's object: the moment and the event's key.
-pub fn begin(text: &mut String, moment: u64, event: &str) -> Result<(), AllocError> {
+#[tactic(auto, unfolding(crate::specs::Members::object_front))]
+pub fn begin(text: &mut String, moment: u64, event: &str) -> Result<(), AllocError>
+    ensures { OnOk result (string_bytes text.new ≡ string_bytes text.old ++ object_front moment event.now) }
+{
     write!(text, "{{\"ms\":{moment},\"event\":\"{event}\"")
 }
 
 /// A member that is a number.
-pub fn push_number(text: &mut String, key: &str, number: u64) -> Result<(), AllocError> {
+#[tactic(auto, unfolding(crate::specs::Members::number_member))]
+pub fn push_number(text: &mut String, key: &str, number: u64) -> Result<(), AllocError>
+    ensures { OnOk result (string_bytes text.new ≡ string_bytes text.old ++ number_member key.now number) }
+{
     write!(text, ",\"{key}\":{number}")
 }
 
 /// A member that is a word.
-pub fn push_word(text: &mut String, key: &str, word: &str) -> Result<(), AllocError> {
+#[tactic(auto, unfolding(crate::specs::Members::word_member))]
+pub fn push_word(text: &mut String, key: &str, word: &str) -> Result<(), AllocError>
+    ensures { OnOk result (string_bytes text.new ≡ string_bytes text.old ++ word_member key.now word.now) }
+{
     write!(text, ",\"{key}\":\"{word}\"")
 }
 
 /// A stream: its universe, CID and name.
-pub fn push_stream(text: &mut String, stream: &Stream) -> Result<(), AllocError> {
+#[tactic(auto, unfolding(crate::specs::Members::stream_members))]
+pub fn push_stream(text: &mut String, stream: &Stream) -> Result<(), AllocError>
+    ensures { OnOk result (string_bytes text.new ≡ string_bytes text.old ++ stream_members stream.now) }
+{
     push_number(text, "universe", u64::from(stream.universe))?;
+    push_source(text, &stream.cid, up_to_nul(&stream.account.name))
+}
+
+/// A source: its CID and name.
+#[tactic(auto, unfolding(crate::specs::Members::source_members))]
+pub fn push_source(text: &mut String, cid: &[u8; 16], name: &[u8]) -> Result<(), AllocError>
+    ensures { OnOk result (string_bytes text.new ≡ string_bytes text.old ++ source_members cid.now name.now) }
+{
     text.push_str(",\"cid\":\"")?;
-    push_cid(text, &stream.cid)?;
+    push_cid(text, cid)?;
     text.push_str("\",\"name\":")?;
-    push_name(text, up_to_nul(&stream.account.name))
+    push_name(text, name)
 }
 
 /// A sender: its address and port.
-pub fn push_sender(text: &mut String, sender: &Sender) -> Result<(), AllocError> {
+#[tactic(auto, unfolding(crate::specs::Members::sender_members))]
+pub fn push_sender(text: &mut String, sender: &Sender) -> Result<(), AllocError>
+    ensures { OnOk result (string_bytes text.new ≡ string_bytes text.old ++ sender_members sender.now) }
+{
     text.push_str(",\"address\":\"")?;
     push_address(text, &sender.address)?;
-    text.push('"')?;
+    text.push_str("\"")?;
     push_number(text, "port", u64::from(sender.port))
 }

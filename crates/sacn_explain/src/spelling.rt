@@ -1,17 +1,26 @@
 //! How names, CIDs and moments are spelled.
 
+ghost use Rattle.std.specs.Prelude.{◌≡◌, ◌++◌, OnOk, string_bytes, chars};
+ghost use Rattle.std.specs.List.{flat_map};
+ghost use Rattle.sacn_explain.specs.Spelled.{octet_text, octets_text, address_text, sender_text, moment_text, escape_text, letter_text, letters_of, name_text};
+
 use sacn_monitor::Sender;
 use std::alloc::AllocError;
 use std::fmt::Write;
 use std::str;
 
 /// Two digits of an octet.
-fn push_octet(text: &mut String, octet: u8) -> Result<(), AllocError> {
+#[tactic(auto, unfolding(crate::specs::Spelled::octet_text), using(crate::proofs::Padding::zeros_is))]
+fn push_octet(text: &mut String, octet: u8) -> Result<(), AllocError>
+    ensures { OnOk result (string_bytes text.new ≡ string_bytes text.old ++ octet_text octet) }
+{
     write!(text, "{octet:02x}")
 }
 
 /// A CID's 32 digits (E1.31, 5.6).
-pub fn push_cid(text: &mut String, cid: &[u8; 16]) -> Result<(), AllocError> {
+pub fn push_cid(text: &mut String, cid: &[u8; 16]) -> Result<(), AllocError>
+    ensures { OnOk result (string_bytes text.new ≡ string_bytes text.old ++ octets_text cid.now) }
+{
     for octet in cid {
         push_octet(text, *octet)?;
     }
@@ -19,50 +28,76 @@ pub fn push_cid(text: &mut String, cid: &[u8; 16]) -> Result<(), AllocError> {
 }
 
 /// An address, a colon and a port.
-pub fn push_sender(text: &mut String, sender: &Sender) -> Result<(), AllocError> {
+#[tactic(auto, unfolding(crate::specs::Spelled::sender_text))]
+pub fn push_sender(text: &mut String, sender: &Sender) -> Result<(), AllocError>
+    ensures { OnOk result (string_bytes text.new ≡ string_bytes text.old ++ sender_text sender.now) }
+{
     push_address(text, &sender.address)?;
     let port = sender.port;
     write!(text, ":{port}")
 }
 
 /// An IPv4 address.
-pub fn push_address(text: &mut String, address: &[u8; 4]) -> Result<(), AllocError> {
+#[tactic(auto, unfolding(crate::specs::Spelled::address_text))]
+pub fn push_address(text: &mut String, address: &[u8; 4]) -> Result<(), AllocError>
+    ensures { OnOk result (string_bytes text.new ≡ string_bytes text.old ++ address_text address.now) }
+{
     let [a, b, c, d] = *address;
     write!(text, "{a}.{b}.{c}.{d}")
 }
 
 /// A moment in seconds, with three places behind the point, right-aligned in ten places.
-pub fn push_moment(text: &mut String, moment: u64) -> Result<(), AllocError> {
+#[tactic(auto, unfolding(crate::specs::Spelled::moment_text), using(crate::proofs::Padding::right_is, crate::proofs::Padding::zeros_is))]
+pub fn push_moment(text: &mut String, moment: u64) -> Result<(), AllocError>
+    ensures { OnOk result (string_bytes text.new ≡ string_bytes text.old ++ moment_text moment) }
+{
     let seconds = moment / 1000;
     let rest = moment % 1000;
     write!(text, "{seconds:>6}.{rest:03}")
 }
 
 /// A name between quotes, as JSON writes a string. One that isn't UTF-8 has its octets as characters below 256.
-pub fn push_name(text: &mut String, name: &[u8]) -> Result<(), AllocError> {
-    text.push('"')?;
-    match str::from_utf8(name) {
-        Ok(letters) => push_letters(text, letters)?,
-        Err(_) => push_octets(text, name)?,
-    }
-    text.push('"')
+#[tactic(auto, unfolding(crate::specs::Spelled::name_text))]
+pub fn push_name(text: &mut String, name: &[u8]) -> Result<(), AllocError>
+    ensures { OnOk result (string_bytes text.new ≡ string_bytes text.old ++ name_text name.now) }
+{
+    text.push_str("\"")?;
+    push_name_letters(text, name)?;
+    text.push_str("\"")
 }
 
-fn push_letters(text: &mut String, letters: &str) -> Result<(), AllocError> {
+#[tactic(auto, using(crate::proofs::Letters::of_text, crate::proofs::Letters::of_octets))]
+fn push_name_letters(text: &mut String, name: &[u8]) -> Result<(), AllocError>
+    ensures { OnOk result (string_bytes text.new ≡ string_bytes text.old ++ flat_map letter_text (letters_of name.now)) }
+{
+    match str::from_utf8(name) {
+        Ok(letters) => push_letters(text, letters),
+        Err(_) => push_octets(text, name),
+    }
+}
+
+fn push_letters(text: &mut String, letters: &str) -> Result<(), AllocError>
+    ensures { OnOk result (string_bytes text.new ≡ string_bytes text.old ++ flat_map letter_text (chars letters.now)) }
+{
     for letter in letters.chars() {
         push_letter(text, letter)?;
     }
     Ok(())
 }
 
-fn push_octets(text: &mut String, octets: &[u8]) -> Result<(), AllocError> {
+fn push_octets(text: &mut String, octets: &[u8]) -> Result<(), AllocError>
+    ensures { OnOk result (string_bytes text.new ≡ string_bytes text.old ++ flat_map letter_text octets.now) }
+{
     for octet in octets {
         push_letter(text, char::from(*octet))?;
     }
     Ok(())
 }
 
-fn push_letter(text: &mut String, letter: char) -> Result<(), AllocError> {
+#[tactic(auto, unfolding(crate::specs::Spelled::letter_text))]
+fn push_letter(text: &mut String, letter: char) -> Result<(), AllocError>
+    ensures { OnOk result (string_bytes text.new ≡ string_bytes text.old ++ letter_text letter) }
+{
     match letter {
         '"' => text.push_str("\\\""),
         '\\' => text.push_str("\\\\"),
@@ -71,7 +106,10 @@ fn push_letter(text: &mut String, letter: char) -> Result<(), AllocError> {
     }
 }
 
-fn push_escape(text: &mut String, letter: char) -> Result<(), AllocError> {
+#[tactic(auto, unfolding(crate::specs::Spelled::escape_text), using(crate::proofs::Padding::zeros_is))]
+fn push_escape(text: &mut String, letter: char) -> Result<(), AllocError>
+    ensures { OnOk result (string_bytes text.new ≡ string_bytes text.old ++ escape_text letter) }
+{
     let code = letter as u32;
     write!(text, "\\u{code:04x}")
 }

@@ -1,5 +1,8 @@
 //! Things that happen, in words for people.
 
+ghost use Rattle.std.specs.Prelude.{◌≡◌, ◌++◌, OnOk, string_bytes};
+ghost use Rattle.sacn_explain.specs.Sentences.{line_front, source_text, universe_text, stream_front, presence_words, event_words, loss_words, priority_words, skipped_words};
+
 use crate::spelling::{push_cid, push_moment, push_name, push_sender};
 use sacn_framing::up_to_nul;
 use sacn_monitor::{Change, Event, News, Sender, Stream};
@@ -8,24 +11,47 @@ use std::alloc::AllocError;
 use std::fmt::Write;
 
 /// The front of a line: the moment.
-pub fn begin(text: &mut String, moment: u64) -> Result<(), AllocError> {
+#[tactic(auto, unfolding(crate::specs::Sentences::line_front))]
+pub fn begin(text: &mut String, moment: u64) -> Result<(), AllocError>
+    ensures { OnOk result (string_bytes text.new ≡ string_bytes text.old ++ line_front moment) }
+{
     push_moment(text, moment)?;
     text.push_str(" s  ")
 }
 
 /// The front of a stream's line: the moment, the universe and the source.
-pub fn begin_stream(text: &mut String, moment: u64, stream: &Stream) -> Result<(), AllocError> {
+#[tactic(auto, unfolding(crate::specs::Sentences::stream_front))]
+pub fn begin_stream(text: &mut String, moment: u64, stream: &Stream) -> Result<(), AllocError>
+    ensures { OnOk result (string_bytes text.new ≡ string_bytes text.old ++ stream_front moment stream.now) }
+{
     begin(text, moment)?;
-    let universe = stream.universe;
-    write!(text, "universe {universe:>5}  ")?;
-    push_cid(text, &stream.cid)?;
-    text.push(' ')?;
-    push_name(text, up_to_nul(&stream.account.name))?;
+    push_universe(text, stream.universe)?;
+    push_source(text, &stream.cid, up_to_nul(&stream.account.name))?;
     text.push_str("  ")
 }
 
+/// A universe's number, right-aligned in five places.
+#[tactic(auto, unfolding(crate::specs::Sentences::universe_text), using(crate::proofs::Padding::right_is))]
+pub fn push_universe(text: &mut String, universe: u16) -> Result<(), AllocError>
+    ensures { OnOk result (string_bytes text.new ≡ string_bytes text.old ++ universe_text universe) }
+{
+    write!(text, "universe {universe:>5}  ")
+}
+
+/// A source: its CID and name.
+#[tactic(auto, unfolding(crate::specs::Sentences::source_text))]
+pub fn push_source(text: &mut String, cid: &[u8; 16], name: &[u8]) -> Result<(), AllocError>
+    ensures { OnOk result (string_bytes text.new ≡ string_bytes text.old ++ source_text cid.now name.now) }
+{
+    push_cid(text, cid)?;
+    text.push_str(" ")?;
+    push_name(text, name)
+}
+
 /// What an event says; nothing where the source goes on.
-pub fn push_event(text: &mut String, event: Event, stream: &Stream) -> Result<(), AllocError> {
+pub fn push_event(text: &mut String, event: Event, stream: &Stream) -> Result<(), AllocError>
+    ensures { OnOk result (string_bytes text.new ≡ string_bytes text.old ++ event_words event stream.now) }
+{
     match event {
         Event::GoesOn => Ok(()),
         Event::Appeared => push_presence(text, "appears", stream),
@@ -36,7 +62,10 @@ pub fn push_event(text: &mut String, event: Event, stream: &Stream) -> Result<()
     }
 }
 
-fn push_presence(text: &mut String, word: &str, stream: &Stream) -> Result<(), AllocError> {
+#[tactic(auto, unfolding(crate::specs::Sentences::presence_words))]
+fn push_presence(text: &mut String, word: &str, stream: &Stream) -> Result<(), AllocError>
+    ensures { OnOk result (string_bytes text.new ≡ string_bytes text.old ++ presence_words word.now stream.now) }
+{
     text.push_str(word)?;
     text.push_str(" at ")?;
     push_sender(text, &stream.account.sender)?;
@@ -45,20 +74,29 @@ fn push_presence(text: &mut String, word: &str, stream: &Stream) -> Result<(), A
 }
 
 /// The first moment of silence.
-pub fn push_loss(text: &mut String, stream: &Stream) -> Result<(), AllocError> {
+#[tactic(auto, unfolding(crate::specs::Sentences::loss_words), using(crate::proofs::Padding::zeros_is))]
+pub fn push_loss(text: &mut String, stream: &Stream) -> Result<(), AllocError>
+    ensures { OnOk result (string_bytes text.new ≡ string_bytes text.old ++ loss_words stream.now) }
+{
     let latest = stream.account.latest;
     let seconds = latest / 1000;
     let rest = latest % 1000;
     write!(text, "is lost: silent since {seconds}.{rest:03} s")
 }
 
-pub fn push_priority(text: &mut String, change: Change) -> Result<(), AllocError> {
+#[tactic(auto, unfolding(crate::specs::Sentences::priority_words))]
+pub fn push_priority(text: &mut String, change: Change) -> Result<(), AllocError>
+    ensures { OnOk result (string_bytes text.new ≡ string_bytes text.old ++ priority_words change) }
+{
     let from = change.from;
     let to = change.to;
     write!(text, "priority {to}, before {from}")
 }
 
-pub fn push_skipped(text: &mut String, news: &News) -> Result<(), AllocError> {
+#[tactic(auto, unfolding(crate::specs::Sentences::skipped_words))]
+pub fn push_skipped(text: &mut String, news: &News) -> Result<(), AllocError>
+    ensures { OnOk result (string_bytes text.new ≡ string_bytes text.old ++ skipped_words news.now.skipped) }
+{
     match news.skipped {
         1 => text.push_str("skipped 1 number"),
         skipped => write!(text, "skipped {skipped} numbers"),

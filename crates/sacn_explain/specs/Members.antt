@@ -1,0 +1,33 @@
+-- The members of an object of JSON that tells something.
+use Rattle.std.specs.Prelude.{ℕ, ◌==◌, List, ◌++◌, codes, decimal}
+use Rattle.std.specs.List.{before_first}
+use Rattle.sacn_monitor.specs.declared.account.Sender.{Sender}
+use Rattle.sacn_monitor.specs.declared.stream.Stream.{Stream}
+use Rattle.sacn_explain.specs.Spelled.{octets_text, address_text, name_text}
+
+-- the front of an event's object: the moment and the event's key
+unfoldable pub object_front : ℕ → List ℕ → List ℕ
+object_front moment event = codes "{\"ms\":" ++ (decimal moment ++ (codes ",\"event\":\"" ++ (event ++ codes "\"")))
+
+-- a member that is a number, and one that is a word
+unfoldable pub number_member : List ℕ → ℕ → List ℕ
+number_member key number = codes ",\"" ++ (key ++ (codes "\":" ++ decimal number))
+
+unfoldable pub word_member : List ℕ → List ℕ → List ℕ
+word_member key word = codes ",\"" ++ (key ++ (codes "\":\"" ++ (word ++ codes "\"")))
+
+-- a source: its CID and its name
+unfoldable pub source_members : List ℕ → List ℕ → List ℕ
+source_members cid name = codes ",\"cid\":\"" ++ (octets_text cid ++ (codes "\",\"name\":" ++ name_text name))
+
+-- a source's name (E1.31, 6.2.2): what stands before the first NUL
+abbrev pub name_of : Stream → List ℕ
+name_of s = before_first (λ octet. octet == 0) s.account.name
+
+-- a source on a universe
+unfoldable pub stream_members : Stream → List ℕ
+stream_members s = number_member (codes "universe") s.universe ++ source_members s.cid (name_of s)
+
+-- where it sends from
+unfoldable pub sender_members : Sender → List ℕ
+sender_members s = codes ",\"address\":\"" ++ (address_text s.address ++ (codes "\"" ++ number_member (codes "port") s.port))
