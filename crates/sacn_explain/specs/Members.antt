@@ -28,6 +28,13 @@ name_of s = before_first (λ octet. octet == 0) s.account.name
 unfoldable pub stream_members : Stream → List ℕ
 stream_members s = number_member (codes "universe") s.universe ++ source_members s.cid (name_of s)
 
+unfoldable pub quoted_address : List ℕ → List ℕ
+quoted_address address = codes "\"" ++ (address_text address ++ codes "\"")
+
+-- a member's key, before its value
+unfoldable pub key_text : List ℕ → List ℕ
+key_text key = codes ",\"" ++ (key ++ codes "\":")
+
 -- where it sends from
 unfoldable pub sender_members : Sender → List ℕ
-sender_members s = codes ",\"address\":\"" ++ (address_text s.address ++ (codes "\"" ++ number_member (codes "port") s.port))
+sender_members s = key_text (codes "address") ++ (quoted_address s.address ++ number_member (codes "port") s.port)

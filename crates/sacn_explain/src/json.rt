@@ -1,7 +1,7 @@
 //! Members of JSON objects.
 
 ghost use Rattle.std.specs.Prelude.{◌≡◌, ◌++◌, OnOk, string_bytes};
-ghost use Rattle.sacn_explain.specs.Members.{object_front, number_member, word_member, stream_members, source_members, sender_members};
+ghost use Rattle.sacn_explain.specs.Members.{object_front, number_member, word_member, stream_members, source_members, quoted_address, key_text, sender_members};
 
 use crate::spelling::{push_address, push_cid, push_name};
 use sacn_framing::up_to_nul;
@@ -58,8 +58,23 @@ pub fn push_source(text: &mut String, cid: &[u8; 16], name: &[u8]) -> Result<(),
 pub fn push_sender(text: &mut String, sender: &Sender) -> Result<(), AllocError>
     ensures { OnOk result (string_bytes text.new ≡ string_bytes text.old ++ sender_members sender.now) }
 {
-    text.push_str(",\"address\":\"")?;
-    push_address(text, &sender.address)?;
-    text.push_str("\"")?;
+    push_key(text, "address")?;
+    push_quoted_address(text, &sender.address)?;
     push_number(text, "port", u64::from(sender.port))
+}
+
+#[tactic(auto, unfolding(crate::specs::Members::quoted_address))]
+fn push_quoted_address(text: &mut String, address: &[u8; 4]) -> Result<(), AllocError>
+    ensures { OnOk result (string_bytes text.new ≡ string_bytes text.old ++ quoted_address address.now) }
+{
+    text.push_str("\"")?;
+    push_address(text, address)?;
+    text.push_str("\"")
+}
+
+#[tactic(auto, unfolding(crate::specs::Members::key_text))]
+fn push_key(text: &mut String, key: &str) -> Result<(), AllocError>
+    ensures { OnOk result (string_bytes text.new ≡ string_bytes text.old ++ key_text key.now) }
+{
+    write!(text, ",\"{key}\":")
 }
