@@ -23,7 +23,7 @@ cat >"$room/bin/rt" <<'KIT'
 #!/usr/bin/env bash
 name=$(basename "$PWD")
 case $1 in
-  version) echo "${KIT_SAYS-$(cat "$KIT_FILE")}" ;;
+  version) echo "${KIT_SAYS-$(tail -n 1 "$KIT_FILE")}" ;;
   lib | run)
     echo "$name" >>"$KIT_LOG"
     sleep "${KIT_SLEEPS:-0}"
@@ -66,8 +66,11 @@ no_kit() {
 }
 if PATH=/usr/bin:/bin command -v rt >/dev/null; then echo "skipped launcher: no kit: a kit is in /usr/bin"; else check "no kit is named, with where it looked" no_kit; fi
 
-another_kit() { KIT_SAYS="rattle-kit-99" launch prove; refused "wants $(cat "$KIT_FILE")" && says "it is rattle-kit-99"; }
+another_kit() { KIT_SAYS="rattle-kit-99" launch prove; refused "wants $(head -n 1 "$KIT_FILE"), or $(tail -n 1 "$KIT_FILE")" && says "it is rattle-kit-99"; }
 check "another kit than the tree's is named, with where it stands" another_kit
+
+each_kit() { local kit; while read -r kit; do anew; KIT_SAYS=$kit launch prove && KIT_SAYS=rattle-kit-99 launch --version && prints "kit $kit" || return 1; done <"$KIT_FILE"; }
+check "each kit of the tree's proves it, and the version tells which did" each_kit
 
 runs_unproved() { anew; launch; [ "$status" = 3 ] && prints "tried" && says "isn't proved on this machine yet: ./sacn prove" && says "refused TooShort" && ! says "run=ended"; }
 check "what lights no stage runs unproved at once, and says so" runs_unproved

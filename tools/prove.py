@@ -3,7 +3,7 @@
 
 usage: prove.py PROGRAM SUM [--cpu NAME]
 
-SUM stands for all that the program is made from; it is written beside the program, with the processor that it is built for.
+SUM stands for all that the program is made from; it is written beside the program, with the processor that it is built for and the kit that proved it.
 
 Each crate is proved in a room of its own, a folder with the crate and what is built of the crates below it, so that no check
 waits for another that it has nothing to do with. What a crate's check keeps goes back into the crate's out/, also where the
@@ -234,9 +234,10 @@ def main(program, tree, *words):
         if is_built(program, tree):
             return
     began = time.monotonic()
+    kit = subprocess.run(["rt", "version"], stdout=subprocess.PIPE, encoding="utf-8", check=False).stdout.strip()
     prove(libraries(), program, cpu)
     with open(stamp_of(program), "w", encoding="utf-8") as stamp:
-        stamp.write(f"{tree}\n{cpu or DEFAULT_CPU}\n")
+        stamp.write(f"{tree}\n{cpu or DEFAULT_CPU}\n{kit}\n")
     say(f"proved and built in {int(time.monotonic() - began)} s")
 
 
