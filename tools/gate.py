@@ -1,7 +1,7 @@
 #!/usr/bin/env python3
 """The kit's gate, `rt ci`, with its must-fail edits tried several to a check.
 
-usage: gate.py [--anew] [NAME..]      as `rt ci`, at the top of the repository: the gate, or some crates and those below them
+usage: gate.py [--anew] [NAME..]      as `rt ci`, at the top of the repository: the gate, or (kit 13f) some crates and those below them
        gate.py edits [--anew] NAME..  as `rt must-fail`: the edits of these crates alone, begun with what `rt check` kept
 
 The kit tries each edit by a check of its own, which reads all libraries below each time: with some 650 edits that was more than half of
@@ -9,9 +9,13 @@ the gate. Here all edits of a crate that change the body of one function each ar
 must refuse every one of those functions for a goal of its own: a function that is refused only since it calls another that is, doesn't
 count. So it is told more than by the kit's way, by which an edit falls with whatever function falls. Edits of constants are applied
 together too, and each must fall by the clause of a law that states its constant. Any other edit of a source file is tried by itself, on that
-file's module. What isn't refused so is tried by the kit's own way. All else is the kit's: every proof from nothing or kept of an earlier run on
-this machine of the same files, each edit's text, what is printed, and the last line.
+file's module. What isn't refused so is tried by the kit's own way. All else is the kit's: every proof from nothing (or, by a kit that keeps
+them, kept of an earlier run on this machine of the same files), each edit's text, what is printed, and the last line.
+
+There are two ways in, by what the kit has: kit 13f makes a folder of what its own check proved, over copies of which edits are tried, and takes names
+and --anew; kit 13b has one function that tries a crate's edits, and proves all anew.
 """
+import contextlib
 import difflib
 import hashlib
 import importlib.machinery
@@ -212,16 +216,15 @@ def words_of(fell):
 class Crate:
     """The edits of a crate, under way: those that were refused, by file, and the folder of what their checks proved."""
 
-    def __init__(self, rt, crate, files, flags, seed):
-        self.rt, self.crate, self.flags, self.seed = rt, crate, flags, seed
+    def __init__(self, rt, crate, files, flags, folder):
+        self.rt, self.crate, self.flags, self.folder = rt, crate, flags, folder
         self.texts, self.told, self.why = Texts(crate.folder), {}, ""
         self.edits = [self.texts.edit(it) for it in files if not rt.read_edit(it, crate.folder)[1]]
 
     def only(self, texts, paths):
         """What falls of some modules and functions, and what they reach, with these texts, and what the check said."""
-        with tempfile.TemporaryDirectory(prefix=f"rt-edits-{os.getpid()}-") as room:
-            self.rt.linked(self.seed, f"{room}/kept")
-            said = self.rt.checked(self.crate, texts, [*self.flags, *(word for it in paths for word in ("--only", it))], f"{room}/kept")
+        with self.folder() as kept:
+            said = self.rt.checked(self.crate, texts, [*self.flags, *(word for it in paths for word in ("--only", it))], kept)
         return fallen(self.rt, self.crate, texts, self.texts.homes, said), said.stdout
 
     def check(self, edits):
@@ -249,7 +252,7 @@ class Crate:
         return None
 
     def tell(self, edit, why):
-        self.told[edit.file] = self.rt.REFUSED, f"must-fail {self.crate.name}/{os.path.basename(edit.file)}: refused, as it must be: {why}"
+        self.told[edit.file] = getattr(self.rt, "REFUSED", True), f"must-fail {self.crate.name}/{os.path.basename(edit.file)}: refused, as it must be: {why}"
 
     def note(self, edits, found):
         """Notes the edits that are refused, and says whether there was one."""
@@ -282,8 +285,22 @@ class Crate:
             edits = [it for it in edits if it.file not in self.told]
 
 
+    def every(self, files):
+        """Tries all edits, and says which files are left for the kit's own way."""
+        self.together([it for it in self.edits if it.targets and not it.clause])
+        self.together([it for it in self.edits if it.clause])
+        for edit in self.edits:
+            if edit.file not in self.told:
+                self.by_module(edit)
+        rest = [it for it in files if it not in self.told]
+        if rest:
+            names = " ".join(os.path.basename(it) for it in rest)
+            print(f"rt: {self.crate.name}: {len(files) - len(rest)} of {len(files)} edits refused together; one by one: {names}{self.why}", flush=True)
+        return rest
+
+
 class Together:
-    """The kit's way with edits, but that those of a crate are first tried together, over what the kit's check of the crate as it stands proved."""
+    """The way of kit 13f with edits, but that those of a crate are first tried together, over what the kit's check of the crate as it stands proved."""
 
     def __init__(self, rt):
         self.rt, self.edits, self.told = rt, {}, {}
@@ -318,16 +335,41 @@ class Together:
         return kept and self.told.get(edit) or self.kits["must_fail"](crate, edit, flags, kept)
 
     def try_all(self, crate, files, flags, seed):
-        tried = Crate(self.rt, crate, files, flags, seed)
-        tried.together([it for it in tried.edits if it.targets and not it.clause])
-        tried.together([it for it in tried.edits if it.clause])
-        for edit in tried.edits:
-            if edit.file not in tried.told:
-                tried.by_module(edit)
+        @contextlib.contextmanager
+        def copied():
+            with tempfile.TemporaryDirectory(prefix=f"rt-edits-{os.getpid()}-") as room:
+                self.rt.linked(seed, f"{room}/kept")
+                yield f"{room}/kept"
+
+        tried = Crate(self.rt, crate, files, flags, copied)
+        tried.every(files)
         self.told.update(tried.told)
-        rest = [os.path.basename(it) for it in files if it not in tried.told]
-        if rest:
-            print(f"rt: {crate.name}: {len(files) - len(rest)} of {len(files)} edits refused together; one by one: {' '.join(rest)}{tried.why}", flush=True)
+
+
+class TogetherAtOnce:
+    """The same over kit 13b, whose one function tries all edits of a crate in turn, over a folder that fills as they go."""
+
+    def __init__(self, rt):
+        self.rt, self.kits = rt, rt.must_fail_all
+        rt.must_fail_all = self.must_fail_all
+
+    def must_fail_all(self, crate, files, flags):
+        """As the kit's: for each edit whether it is refused, and what to say."""
+        try:
+            return self.try_all(crate, files, flags)
+        except Exception as error:  # (whatever it is: the gate goes on)
+            print(f"rt: {crate.name}: its edits can't be tried together: {error!r}", flush=True)
+            return self.kits(crate, files, flags)
+
+    def try_all(self, crate, files, flags):
+        rt = self.rt
+        with tempfile.TemporaryDirectory(prefix="rt-edits-") as kept:
+            tried = Crate(rt, crate, files, flags, lambda: contextlib.nullcontext(kept))
+            rest = tried.every(files)
+            alone = {it: rt.must_fail(crate, it, flags, kept) for it in rest}
+            if any(not it[0] for it in alone.values()) or rest and rt.checked(crate, {}, flags, kept).returncode:
+                alone = {it: rt.must_fail(crate, it, flags) for it in rest}
+        return [tried.told.get(it) or alone[it] for it in files]
 
 
 class Spent:
@@ -379,17 +421,24 @@ def gate():
     if not found:
         sys.exit("gate: the kit's command rt isn't on the PATH")
     rt = load(os.path.realpath(found))
-    Together(rt)
+    if hasattr(rt, "seeded"):
+        Together(rt)
+    else:
+        TogetherAtOnce(rt)
     Spent(rt)
     return rt
 
 
 def main(words):
     rt = gate()
-    names = words[1:]
-    if words[:1] == ["edits"]:
-        return rt.where_disk_lasts(rt.edits_alone, names)
-    return rt.where_disk_lasts(rt.ci, "--anew" in words, [it for it in words if it != "--anew"])
+    call, given = (rt.edits_alone, [words[1:]]) if words[:1] == ["edits"] else (rt.ci, ["--anew" in words, [it for it in words if it != "--anew"]])
+    if hasattr(rt, "where_disk_lasts"):
+        return rt.where_disk_lasts(call, *given)
+    if call == rt.ci:
+        if given[1]:
+            sys.exit("gate: this kit proves all crates or none: only `edits` takes names")
+        return rt.ci()
+    return rt.edits_alone([it for it in words[1:] if it != "--anew"])
 
 
 if __name__ == "__main__":
