@@ -440,6 +440,12 @@ enum sacn_event {
     SACN_EVENT_REPEATED = 6
 };
 
+/* Where a datagram came from: an IPv4 address, its most significant octet first, and a UDP port in the byte order of the machine. */
+struct sacn_sender {
+    uint8_t address[4];
+    uint16_t port;
+};
+
 /* What a datagram tells that is new. All but `noted` is 0 where it is not SACN_NOTED_HEARD. */
 struct sacn_news {
     /* The place of the pair: 0 for the first one that appeared. */
@@ -516,9 +522,8 @@ int sacn_monitor_new(struct sacn_monitor *monitor);
 /* Gives back all memory of a monitor, which is then empty. Status: SACN_NULL where it is already. */
 int sacn_monitor_free(struct sacn_monitor *monitor);
 
-/* Takes a datagram that came from an IPv4 address and UDP port, whatever its octets are. Status: enum sacn_packet_fault, and `news` is written
-   then too. */
-int sacn_monitor_take(struct sacn_monitor *monitor, uint64_t now, const uint8_t address[4], uint16_t port, const uint8_t *octets, size_t count,
+/* Takes a datagram that came from a sender, whatever its octets are. Status: enum sacn_packet_fault, and `news` is written then too. */
+int sacn_monitor_take(struct sacn_monitor *monitor, uint64_t now, const struct sacn_sender *sender, const uint8_t *octets, size_t count,
                       struct sacn_news *news);
 
 /* Moves the clock, and tells the place of a source that is lost by then, where that wasn't told since its latest packet. Call it until there is

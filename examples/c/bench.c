@@ -19,7 +19,7 @@ static struct sacn_node node;
 static struct sacn_sources sources;
 static struct sacn_console console;
 static struct sacn_monitor monitor;
-static const uint8_t address[4] = {10, 0, 0, 1};
+static const struct sacn_sender sender = {{10, 0, 0, 1}, SACN_UDP_PORT};
 static struct sacn_news news;
 static uint8_t wire[256][4][SACN_DATA_OCTETS], frame[SACN_FRAME_OCTETS], out[SACN_MAX_DATAGRAM], taken;
 static struct sacn_packet packet;
@@ -37,7 +37,7 @@ static void take(unsigned i) { sacn_sources_take(&sources, 0, wire[i / 4 % 256][
 static void merge(unsigned i) { take(i), sacn_sources_merged(&sources, 0, frame + 1); }
 static void take_and_frame(unsigned i) { sacn_node_take(&node, 0, wire[i % 256][0], SACN_DATA_OCTETS, &taken), sacn_node_frame(&node, 0, 1, frame); }
 static void tick(unsigned i) { sacn_node_tick(&node, i & 1, &length); }
-static void hear(unsigned i) { sacn_monitor_take(&monitor, 0, address, SACN_UDP_PORT, wire[i / 4 % 256][i % 4], SACN_DATA_OCTETS, &news); }
+static void hear(unsigned i) { sacn_monitor_take(&monitor, 0, &sender, wire[i / 4 % 256][i % 4], SACN_DATA_OCTETS, &news); }
 static void poll(unsigned i) { sacn_console_poll(&console, 1 + (i & 1), out, &length); }
 
 static void time_of(const char *what, void (*call)(unsigned), unsigned calls) {

@@ -333,7 +333,7 @@ static void console(void) {
 static void monitor(void) {
     struct sacn_monitor monitor = {0}, empty = {0};
     struct sacn_collector collector = {0};
-    const uint8_t address[4] = {10, 0, 0, 1};
+    const struct sacn_sender first = {{10, 0, 0, 1}, 5568}, sender = {{10, 0, 0, 1}, 6000};
     uint8_t out[SACN_DATA_OCTETS], priority = 77;
     struct sacn_news news;
     struct sacn_stream stream;
@@ -342,17 +342,17 @@ static void monitor(void) {
     CHECK(sacn_monitor_new(&monitor) == SACN_DONE && sacn_monitor_new(&monitor) == SACN_NOT_EMPTY && sacn_monitor_new(NULL) == SACN_NULL);
     CHECK(sacn_monitor_count(&monitor, &count) == SACN_DONE && count == 0 && sacn_monitor_account(&monitor, 0, &stream) == SACN_RANGE);
     CHECK(sacn_monitor_wakes(&monitor, &wakes) == SACN_DONE && wakes == UINT64_MAX);
-    CHECK(sacn_monitor_take(&monitor, 1000, address, 5568, out, packet_of(1, 200, 0, out), &news) == SACN_DONE);
+    CHECK(sacn_monitor_take(&monitor, 1000, &first, out, packet_of(1, 200, 0, out), &news) == SACN_DONE);
     CHECK(news.noted == SACN_NOTED_HEARD && news.event == SACN_EVENT_APPEARED && news.place == 0 && !news.skipped && !news.moved);
     /* (two numbers are missing, and it comes from another port) */
-    CHECK(sacn_monitor_take(&monitor, 1040, address, 6000, out, packet_of(4, 200, 0, out), &news) == SACN_DONE);
+    CHECK(sacn_monitor_take(&monitor, 1040, &sender, out, packet_of(4, 200, 0, out), &news) == SACN_DONE);
     CHECK(news.event == SACN_EVENT_GOES_ON && news.skipped == 2 && news.moved == 1 && !news.renamed && !news.began_anew && !news.priority_to);
-    CHECK(sacn_monitor_take(&monitor, 1050, address, 6000, out, packet_of(4, 200, 0, out), &news) == SACN_DONE && news.event == SACN_EVENT_REPEATED);
-    CHECK(sacn_monitor_take(&monitor, 1050, address, 6000, NULL, 0, &news) == SACN_PACKET_TOO_SHORT && news.noted == SACN_NOTED_REFUSED && !news.event);
+    CHECK(sacn_monitor_take(&monitor, 1050, &sender, out, packet_of(4, 200, 0, out), &news) == SACN_DONE && news.event == SACN_EVENT_REPEATED);
+    CHECK(sacn_monitor_take(&monitor, 1050, &sender, NULL, 0, &news) == SACN_PACKET_TOO_SHORT && news.noted == SACN_NOTED_REFUSED && !news.event);
     CHECK(sacn_monitor_count(&monitor, &count) == SACN_DONE && count == 1);
     CHECK(sacn_monitor_account(&monitor, 0, &stream) == SACN_DONE && stream.universe == 7 && stream.first == 1000 && stream.latest == 1040);
     CHECK(stream.live == 2 && stream.skipped == 2 && stream.repeats == 1 && stream.late == 0 && stream.greatest_gap == 40 && stream.number == 4);
-    CHECK(stream.priority == 100 && stream.port == 6000 && !memcmp(stream.address, address, 4) && stream.cid[0] == 'c' && !memcmp(stream.name, "Desk", 5));
+    CHECK(stream.priority == 100 && stream.port == 6000 && !memcmp(stream.address, sender.address, 4) && stream.cid[0] == 'c' && !memcmp(stream.name, "Desk", 5));
     CHECK(stream.state == SACN_SENDING && sacn_monitor_account(&monitor, 1, &stream) == SACN_RANGE);
     CHECK(sacn_monitor_rivals(&monitor, 7, &count, &priority) == SACN_DONE && count == 1 && priority == 100);
     CHECK(sacn_monitor_rivals(&monitor, 8, &count, &priority) == SACN_DONE && count == 0 && priority == 0);
@@ -360,7 +360,7 @@ static void monitor(void) {
     CHECK(sacn_monitor_tick(&monitor, 3539, &place) == SACN_RANGE && place == 77);
     CHECK(sacn_monitor_tick(&monitor, 3540, &place) == SACN_DONE && place == 0 && sacn_monitor_tick(&monitor, 3540, &place) == SACN_RANGE);
     CHECK(sacn_monitor_account(&monitor, 0, &stream) == SACN_DONE && stream.state == SACN_LOST);
-    CHECK(sacn_monitor_take(&monitor, 3600, address, 6000, out, packet_of(5, 0, 1, out), &news) == SACN_DONE && news.event == SACN_EVENT_ENDED);
+    CHECK(sacn_monitor_take(&monitor, 3600, &sender, out, packet_of(5, 0, 1, out), &news) == SACN_DONE && news.event == SACN_EVENT_ENDED);
     CHECK(sacn_monitor_account(&monitor, 0, &stream) == SACN_DONE && stream.state == SACN_ENDED && stream.terminations == 1);
     /* (on another universe: a preview, another start code, another priority, another name, numbers that begin anew, all in the fifth second) */
     for (int i = 0; i < 5; i++) {
@@ -371,16 +371,16 @@ static void monitor(void) {
         packet.priority = i >= 2 ? 120 : 100;
         packet.name[0] = i >= 3 ? 'T' : 'D';
         CHECK(sacn_write_data(&packet, NULL, 0, out, &count) == SACN_DONE && count == 126);
-        CHECK(sacn_monitor_take(&monitor, 5000 + 100 * (uint64_t)i, address, 6000, out, count, &news) == SACN_DONE && news.place == 1);
+        CHECK(sacn_monitor_take(&monitor, 5000 + 100 * (uint64_t)i, &sender, out, count, &news) == SACN_DONE && news.place == 1);
         CHECK(news.priority_from == (i == 2 ? 100 : 0) && news.priority_to == (i == 2 ? 120 : 0));
         CHECK(news.renamed == (i == 3) && news.began_anew == (i == 4));
     }
     CHECK(sacn_monitor_tick(&monitor, 6000, &place) == SACN_RANGE);
     CHECK(sacn_monitor_account(&monitor, 1, &stream) == SACN_DONE && stream.universe == 9 && stream.last_second == 5);
     CHECK(stream.previews == 1 && stream.others == 1 && stream.live == 3 && stream.priority == 120 && stream.number == 100 && !stream.unused);
-    CHECK(sacn_monitor_take(&empty, 0, address, 0, out, 1, &news) == SACN_NULL && sacn_monitor_take(&monitor, 0, NULL, 0, out, 1, &news) == SACN_NULL);
-    CHECK(sacn_monitor_take(&monitor, 0, address, 0, NULL, 1, &news) == SACN_NULL && sacn_monitor_take(&monitor, 0, address, 0, out, 1, NULL) == SACN_NULL);
-    CHECK(sacn_monitor_take(&monitor, 0, address, 0, out, SIZE_MAX, &news) == SACN_LENGTH);
+    CHECK(sacn_monitor_take(&empty, 0, &sender, out, 1, &news) == SACN_NULL && sacn_monitor_take(&monitor, 0, NULL, out, 1, &news) == SACN_NULL);
+    CHECK(sacn_monitor_take(&monitor, 0, &sender, NULL, 1, &news) == SACN_NULL && sacn_monitor_take(&monitor, 0, &sender, out, 1, NULL) == SACN_NULL);
+    CHECK(sacn_monitor_take(&monitor, 0, &sender, out, SIZE_MAX, &news) == SACN_LENGTH);
     CHECK(sacn_monitor_tick(&empty, 0, &place) == SACN_NULL && sacn_monitor_tick(&monitor, 0, NULL) == SACN_NULL);
     CHECK(sacn_monitor_wakes(&empty, &wakes) == SACN_NULL && sacn_monitor_wakes(&monitor, NULL) == SACN_NULL);
     CHECK(sacn_monitor_count(&empty, &count) == SACN_NULL && sacn_monitor_count(&monitor, NULL) == SACN_NULL);
@@ -392,7 +392,7 @@ static void monitor(void) {
     CHECK(sacn_collector_take(&collector, 0, out, 1) == SACN_WRONG_HANDLE && sacn_collector_tick(&collector, 0, &count) == SACN_WRONG_HANDLE);
     CHECK(sacn_collector_free(&collector) == SACN_DONE && sacn_collector_new(&collector) == SACN_DONE);
     monitor.behind = collector.behind;
-    CHECK(sacn_monitor_take(&monitor, 0, address, 0, out, 1, &news) == SACN_WRONG_HANDLE && sacn_monitor_tick(&monitor, 0, &place) == SACN_WRONG_HANDLE);
+    CHECK(sacn_monitor_take(&monitor, 0, &sender, out, 1, &news) == SACN_WRONG_HANDLE && sacn_monitor_tick(&monitor, 0, &place) == SACN_WRONG_HANDLE);
     CHECK(sacn_monitor_wakes(&monitor, &wakes) == SACN_WRONG_HANDLE && sacn_monitor_count(&monitor, &count) == SACN_WRONG_HANDLE);
     CHECK(sacn_monitor_account(&monitor, 0, &stream) == SACN_WRONG_HANDLE && sacn_monitor_rivals(&monitor, 7, &count, &priority) == SACN_WRONG_HANDLE);
     CHECK(sacn_monitor_free(&monitor) == SACN_DONE && sacn_monitor_free(&monitor) == SACN_NULL && sacn_monitor_free(NULL) == SACN_NULL);

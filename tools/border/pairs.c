@@ -18,7 +18,7 @@ uint64_t sacn_bare_hears(void **, const uint8_t *, size_t, uint32_t);
 
 static const char setup[] = "version = 1\n[[port]]\nnumber = 1\nuniverse = 7\n";
 static const char show[] = "version = 2\ncid = \"00010203-0405-0607-0809-0a0b0c0d0e0f\"\nname = \"Desk\"\nuniverses = [7]\n";
-static const uint8_t address[4] = {10, 0, 0, 1};
+static const struct sacn_sender sender = {{10, 0, 0, 1}, SACN_UDP_PORT};
 static struct sacn_node node;
 static struct sacn_sources sources;
 static struct sacn_console console;
@@ -90,7 +90,7 @@ static uint64_t hears(void) {
     uint64_t sum = 0;
     for (uint32_t i = 0; i < CALLS; i++) {
         struct sacn_news news;
-        sacn_monitor_take(&monitor, 0, address, SACN_UDP_PORT, wire[i / 4 % 256][i % 4], SACN_DATA_OCTETS, &news);
+        sacn_monitor_take(&monitor, 0, &sender, wire[i / 4 % 256][i % 4], SACN_DATA_OCTETS, &news);
         sum += news.noted == SACN_NOTED_HEARD;
     }
     return sum;

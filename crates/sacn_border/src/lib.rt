@@ -19,7 +19,7 @@ pub mod state;
 mod status;
 
 pub use held::Held;
-pub use news::{NewsFields, StreamFields};
+pub use news::{NewsFields, SenderFields, StreamFields};
 pub use packets::PacketFields;
 pub use sources::SourceFields;
 pub use state::LineFields;

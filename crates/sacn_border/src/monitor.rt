@@ -3,15 +3,15 @@ ghost use Rattle.std.specs.Prelude.{◌≡◌, max, length, slice_get, IfOk, IfE
 ghost use Rattle.std.specs.Option.{option_map};
 ghost use Rattle.sacn_monitor.specs.Books.{new_book, noted, after_take, after_tick, next_loss, silent_place};
 ghost use Rattle.sacn_monitor.specs.Rivals.{rivals, top_priority};
-ghost use Rattle.sacn_border.specs.Hearing.{news_told, noted_status, stream_told};
+ghost use Rattle.sacn_border.specs.Hearing.{sender_of, news_told, noted_status, stream_told};
 ghost use Rattle.sacn_border.specs.Kinds.{of_monitor};
 ghost use Rattle.sacn_border.specs.Numbers.{found_status, found_or};
 ghost use Rattle.sacn_border.specs.declared.status.TheConstants.{DONE, OUT_OF_MEMORY, WRONG_HANDLE};
 
 use crate::held::Held;
-use crate::news::{NewsFields, StreamFields, stream_told, tell};
+use crate::news::{NewsFields, SenderFields, StreamFields, sender_of, stream_told, tell};
 use crate::status::{DONE, OUT_OF_MEMORY, RANGE, WRONG_HANDLE};
-use sacn_monitor::{Monitor, Sender};
+use sacn_monitor::Monitor;
 use std::alloc::Global;
 
 /// A monitor that has heard nothing, as `Monitor::new`.
@@ -31,13 +31,19 @@ pub fn new(alloc: Global) -> Result<Box<Held>, u32>
 }
 
 /// Takes a datagram of a sender, as `Monitor::take`. The status is the fault of one that is no packet.
-pub fn take(held: &mut Held, now: u64, sender: Sender, octets: &[u8], news: &mut NewsFields) -> u32
-    ensures status { result ≡ of_monitor WRONG_HANDLE (λ b. noted_status (noted now sender octets.now b)) held.old }
-    ensures news { news.new ≡ of_monitor news.old (λ b. news_told (noted now sender octets.now b)) held.old }
-    ensures held { held.new ≡ of_monitor held.old (λ b. Held.Monitor (after_take now sender octets.now b)) held.old }
+pub fn take(
+    held: &mut Held,
+    now: u64,
+    sender: &SenderFields,
+    octets: &[u8],
+    news: &mut NewsFields,
+) -> u32
+    ensures status { result ≡ of_monitor WRONG_HANDLE (λ b. noted_status (noted now (sender_of sender.now) octets.now b)) held.old }
+    ensures news { news.new ≡ of_monitor news.old (λ b. news_told (noted now (sender_of sender.now) octets.now b)) held.old }
+    ensures held { held.new ≡ of_monitor held.old (λ b. Held.Monitor (after_take now (sender_of sender.now) octets.now b)) held.old }
 {
     match held {
-        Held::Monitor(monitor) => tell(&monitor.take(now, sender, octets), news),
+        Held::Monitor(monitor) => tell(&monitor.take(now, sender_of(sender), octets), news),
         _ => WRONG_HANDLE,
     }
 }

@@ -1,9 +1,17 @@
 //! What C is told of a datagram that a monitor hears, and of a source on a universe.
 ghost use Rattle.std.specs.Prelude.{◌≡◌};
-ghost use Rattle.sacn_border.specs.Hearing.{news_told, nothing_told, heard_told, noted_number, noted_status, state_number, event_number, stream_told};
+ghost use Rattle.sacn_border.specs.Hearing.{sender_of, news_told, nothing_told, heard_told, noted_number, noted_status, state_number, event_number, stream_told};
 
 use crate::status::DONE;
-use sacn_monitor::{Event, News, Noted, State, Stream};
+use sacn_monitor::{Event, News, Noted, Sender, State, Stream};
+
+/// Where a datagram came from. `sacn.h` says what each field means.
+#[repr(C)]
+#[derive(Clone, Copy)]
+pub struct SenderFields {
+    pub address: [u8; 4],
+    pub port: u16,
+}
 
 /// What a monitor tells of a datagram. `sacn.h` says what each field means.
 #[repr(C)]
@@ -45,6 +53,15 @@ pub struct StreamFields {
     pub unused_too: [u8; 4],
     pub cid: [u8; 16],
     pub name: [u8; 64],
+}
+
+/// The sender that C names.
+pub(crate) fn sender_of(fields: &SenderFields) -> Sender
+    ensures { result ≡ sender_of fields.now }
+{
+    let address = fields.address;
+    let port = fields.port;
+    Sender { address, port }
 }
 
 /// Tells C of a datagram. The status is the fault of one that is no packet.

@@ -35,7 +35,7 @@ uint32_t sacn_proved_console_wakes(void **handle, uint64_t *moment);
 uint32_t sacn_proved_console_universe(void **handle, size_t place, struct sacn_universe *universe);
 uint32_t sacn_proved_console_cue(void **handle, uint16_t *number);
 uint32_t sacn_proved_monitor_new(void **handle);
-uint32_t sacn_proved_monitor_take(void **handle, uint64_t now, const uint8_t *address, uint16_t port, const uint8_t *octets, size_t count,
+uint32_t sacn_proved_monitor_take(void **handle, uint64_t now, const struct sacn_sender *sender, const uint8_t *octets, size_t count,
                                   struct sacn_news *news);
 uint32_t sacn_proved_monitor_tick(void **handle, uint64_t now, size_t *place);
 uint32_t sacn_proved_monitor_wakes(void **handle, uint64_t *moment);
@@ -268,11 +268,11 @@ int sacn_monitor_free(struct sacn_monitor *monitor) {
     return SACN_DONE;
 }
 
-int sacn_monitor_take(struct sacn_monitor *monitor, uint64_t now, const uint8_t address[4], uint16_t port, const uint8_t *octets, size_t count,
+int sacn_monitor_take(struct sacn_monitor *monitor, uint64_t now, const struct sacn_sender *sender, const uint8_t *octets, size_t count,
                       struct sacn_news *news) {
-    if (!monitor || !monitor->behind || !address || !is_slice(&octets, count) || !news) return SACN_NULL;
+    if (!monitor || !monitor->behind || !sender || !is_slice(&octets, count) || !news) return SACN_NULL;
     if (is_long(count)) return SACN_LENGTH;
-    return (int)sacn_proved_monitor_take(&monitor->behind, now, address, port, octets, count, news);
+    return (int)sacn_proved_monitor_take(&monitor->behind, now, sender, octets, count, news);
 }
 
 int sacn_monitor_tick(struct sacn_monitor *monitor, uint64_t now, size_t *place) {

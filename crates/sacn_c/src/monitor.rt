@@ -3,14 +3,13 @@ ghost use Rattle.std.specs.Prelude.{◌≡◌, max, length, slice_get, is_some, 
 ghost use Rattle.std.specs.Option.{option_map};
 ghost use Rattle.sacn_monitor.specs.Books.{new_book, noted, after_take, after_tick, next_loss, silent_place};
 ghost use Rattle.sacn_monitor.specs.Rivals.{rivals, top_priority};
-ghost use Rattle.sacn_border.specs.Hearing.{news_told, noted_status, stream_told};
+ghost use Rattle.sacn_border.specs.Hearing.{sender_of, news_told, noted_status, stream_told};
 ghost use Rattle.sacn_border.specs.Kinds.{of_monitor};
 ghost use Rattle.sacn_border.specs.Numbers.{found_status, found_or};
 ghost use Rattle.sacn_border.specs.declared.status.TheConstants.{DONE, OUT_OF_MEMORY, WRONG_HANDLE};
 
 use crate::handle::{Handle, take_out};
-use sacn_border::{DONE, Held, NewsFields, StreamFields, monitor};
-use sacn_monitor::Sender;
+use sacn_border::{DONE, Held, NewsFields, SenderFields, StreamFields, monitor};
 use std::alloc::Global;
 
 /// A monitor that has heard nothing, as `Monitor::new`.
@@ -35,18 +34,15 @@ pub extern "C" fn sacn_proved_monitor_take(
     alloc: Global,
     handle: &mut Handle,
     now: u64,
-    address: &[u8; 4],
-    port: u16,
+    sender: &SenderFields,
     octets: &[u8],
     news: &mut NewsFields,
 ) -> u32
     requires { is_some handle.old.value ≡ true }
-    ensures status { IfSome handle.old.value (λ held. result ≡ of_monitor WRONG_HANDLE (λ b. noted_status (noted now (record { address = address.now; port = port }) octets.now b)) held) }
-    ensures news { IfSome handle.old.value (λ held. news.new ≡ of_monitor news.old (λ b. news_told (noted now (record { address = address.now; port = port }) octets.now b)) held) }
-    ensures after { handle.new.value ≡ option_map (λ held. of_monitor held (λ b. Held.Monitor (after_take now (record { address = address.now; port = port }) octets.now b)) held) handle.old.value }
+    ensures status { IfSome handle.old.value (λ held. result ≡ of_monitor WRONG_HANDLE (λ b. noted_status (noted now (sender_of sender.now) octets.now b)) held) }
+    ensures news { IfSome handle.old.value (λ held. news.new ≡ of_monitor news.old (λ b. news_told (noted now (sender_of sender.now) octets.now b)) held) }
+    ensures after { handle.new.value ≡ option_map (λ held. of_monitor held (λ b. Held.Monitor (after_take now (sender_of sender.now) octets.now b)) held) handle.old.value }
 {
-    let address = *address;
-    let sender = Sender { address, port };
     let mut held = take_out(alloc, handle);
     let status = monitor::take(held.as_mut(), now, sender, octets, news);
     *handle = Handle::of(held);
