@@ -1,7 +1,7 @@
 //! Why a table could not be made.
 ghost use Rattle.std.specs.Prelude.{◌≡◌};
 
-use std::alloc::AllocError;
+use std::alloc::{AllocError, AllocFailed};
 use thiserror::Error;
 
 /// Why a table could not be made. A table that was made has no faults: it takes no further memory.
@@ -25,6 +25,12 @@ impl TableFault {
 
 impl From<AllocError> for TableFault {
     fn from(_refused: AllocError) -> TableFault {
+        TableFault::OutOfMemory
+    }
+}
+
+impl<T: Drop> From<AllocFailed<T>> for TableFault {
+    fn from(_refused: AllocFailed<T>) -> TableFault {
         TableFault::OutOfMemory
     }
 }
