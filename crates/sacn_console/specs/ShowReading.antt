@@ -8,11 +8,13 @@ use Rattle.sacn_framing.specs.Naming.{is_nameable}
 use Rattle.sacn_universe.specs.declared.limits.TheConstants.{MAX_PRIORITY}
 use Rattle.sacn_patch.specs.Patch.{Patched, with_slot, refusal}
 use Rattle.sacn_patch.specs.declared.fault.PatchFault.{PatchFault}
+use Rattle.sacn_patch.specs.declared.fault.PatchFault.TheVariants as patch
 use Rattle.sacn_universe.specs.declared.limits.TheConstants.{MAX_UNIVERSE}
 use Rattle.sacn_cues.specs.Adding.{refusal_at, kept_of}
 use Rattle.sacn_cues.specs.Cues.{Cues, KeptCue}
 use Rattle.sacn_cues.specs.declared.cue.Cue.{Cue as CueValue}
 use Rattle.sacn_cues.specs.declared.fault.CueFault.{CueFault}
+use Rattle.sacn_cues.specs.declared.fault.CueFault.TheVariants as cue
 use Rattle.sacn_universe.specs.Results.{◌>>=◌}
 use Rattle.sacn_files.specs.Keys.{has_known_keys, has_keys, rows_are_known, rows_have_keys}
 use Rattle.sacn_files.specs.Values.{rows_at, has_rows, number_in, number_at, array_values, array_at, members_or_none, value_or}
@@ -213,6 +215,21 @@ show_fault_of file.MissingKey = MissingKey
 show_fault_of file.UnknownKey = UnknownKey
 show_fault_of file.KeyValue = KeyValue
 show_fault_of file.Version = Version
+
+-- a list's fault, as the show's
+abbrev pub show_fault_of_cue : CueFault → ShowFault
+show_fault_of_cue cue.OutOfMemory = OutOfMemory
+show_fault_of_cue cue.NumberTaken = Cue
+show_fault_of_cue cue.ChannelRange = Cue
+show_fault_of_cue cue.FadeRange = Cue
+show_fault_of_cue cue.Full = Cue
+
+-- a patch's fault, as the show's
+abbrev pub show_fault_of_patch : PatchFault → ShowFault
+show_fault_of_patch patch.OutOfMemory = OutOfMemory
+show_fault_of_patch patch.ChannelRange = Patch
+show_fault_of_patch patch.SlotRange = Patch
+show_fault_of_patch patch.SlotTaken = Patch
 
 -- the phases after the version
 abbrev pub after_version : Result ℕ FileFault → Members → Result ShowContent ShowFault

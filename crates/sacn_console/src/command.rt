@@ -1,6 +1,7 @@
 //! What a console can be told, and how it refuses.
 ghost use Rattle.std.specs.Prelude.{◌≡◌};
 
+use sacn_cues::PlayFault;
 use thiserror::Error;
 
 /// A command to a console (profile).
@@ -53,5 +54,19 @@ impl ConsoleFault {
         ensures { result ≡ console_fault_number self }
     {
         self as u8
+    }
+}
+
+impl From<PlayFault> for ConsoleFault {
+    ghost use Rattle.std.specs.Prelude.{◌≡◌};
+    ghost use Rattle.sacn_console.specs.Lights.{console_fault};
+
+    ghost from_gives = { λ fault console. console ≡ console_fault fault };
+
+    fn from(fault: PlayFault) -> ConsoleFault {
+        match fault {
+            PlayFault::NoCue => ConsoleFault::NoCue,
+            PlayFault::ChannelRange => ConsoleFault::ChannelRange,
+        }
     }
 }

@@ -1,5 +1,5 @@
 //! The core of a console.
-ghost use Rattle.std.specs.Prelude.{◌≡◌, ◌<◌, ◌≤◌, length, ◌++◌, drop, IfOk};
+ghost use Rattle.std.specs.Prelude.{◌≡◌, ◌<◌, ◌≤◌, length, ◌++◌, drop, IfOk, IfErr};
 ghost use Rattle.std.specs.Prelude.{◌^◌};
 ghost use Rattle.std.specs.List.{AllByRecursion};
 ghost use Rattle.sacn_cues.specs.Playing as play;
@@ -53,7 +53,7 @@ impl Model for ConsoleCore {
 }
 
 impl ConsoleCore {
-    ghost use Rattle.std.specs.Prelude.{IfErr, [], find, slice_set, Some, None, slice_index_or, MatchOption, List, ℕ, is_ok, is_some, true, ◌<◌, ◌+◌, min};
+    ghost use Rattle.std.specs.Prelude.{[], find, slice_set, Some, None, slice_index_or, MatchOption, List, ℕ, is_ok, is_some, true, ◌<◌, ◌+◌, min};
     ghost use Rattle.sacn_cues.specs.Playing.{is_still};
     ghost use Rattle.sacn_console.specs.Wakes.{last_moment};
     ghost use Rattle.std.specs.Option.{option_map};
@@ -75,18 +75,10 @@ impl ConsoleCore {
         ensures made { IfOk result (λ core. core ≡ core_by (life_of show.now first) 0 []) }
         ensures refused { IfErr result (λ fault. fault ≡ OutOfMemory) }
     {
-        let Ok(lines) = first_lines(alloc, show.universes.as_slice(), first) else {
-            return Err(ShowFault::OutOfMemory);
-        };
-        let Ok(wakes) = Wakes::new(alloc, show.universes.as_slice()) else {
-            return Err(ShowFault::OutOfMemory);
-        };
-        let Ok(patch) = show.patch.flat(alloc) else {
-            return Err(ShowFault::OutOfMemory);
-        };
-        let Ok(player) = new_player(alloc, show) else {
-            return Err(ShowFault::OutOfMemory);
-        };
+        let lines = first_lines(alloc, show.universes.as_slice(), first)?;
+        let wakes = Wakes::new(alloc, show.universes.as_slice())?;
+        let patch = show.patch.flat(alloc)?;
+        let player = new_player(alloc, show)?;
         Ok(ConsoleCore {
             sender: show.sender,
             lines,
@@ -212,32 +204,20 @@ impl ConsoleCore {
         ensures answer { result ≡ answer (Command.EndUniverse universe) self.old }
         ensures core { self.new ≡ taken (Command.EndUniverse universe) (answer (Command.EndUniverse universe) self.old) self.old }
     {
-        match self.place_of(universe) {
-            None => Err(ConsoleFault::NoUniverse),
-            Some(place) => match self.can_end(place) {
-                Err(fault) => Err(fault),
-                Ok(()) => {
-                    self.set_state(place, State::Ending(TERMINATIONS));
-                    Ok(())
-                }
-            },
-        }
+        let place = self.place_of(universe).ok_or(ConsoleFault::NoUniverse)?;
+        self.can_end(place)?;
+        self.set_state(place, State::Ending(TERMINATIONS));
+        Ok(())
     }
 
     fn start(&mut self, universe: u16) -> Result<(), ConsoleFault>
         ensures answer { result ≡ answer (Command.StartUniverse universe) self.old }
         ensures core { self.new ≡ taken (Command.StartUniverse universe) (answer (Command.StartUniverse universe) self.old) self.old }
     {
-        match self.place_of(universe) {
-            None => Err(ConsoleFault::NoUniverse),
-            Some(place) => match self.can_start(place) {
-                Err(fault) => Err(fault),
-                Ok(()) => {
-                    self.set_state(place, State::Running(None));
-                    Ok(())
-                }
-            },
-        }
+        let place = self.place_of(universe).ok_or(ConsoleFault::NoUniverse)?;
+        self.can_start(place)?;
+        self.set_state(place, State::Running(None));
+        Ok(())
     }
 
     fn place_of(&self, universe: u16) -> Option<usize>
@@ -272,9 +252,10 @@ impl ConsoleCore {
     }
 }
 
-// A player of a copy of the show's cues.
+// A player of a copy of the show's cues. The only fault is `OutOfMemory`.
 fn new_player(alloc: Global, show: &Show) -> Result<Player, CueFault>
-    ensures { IfOk result (λ player. player ≡ play.new_player show.now.cues) }
+    ensures made { IfOk result (λ player. player ≡ play.new_player show.now.cues) }
+    ensures refused { IfErr result (λ fault. fault ≡ CueFault.OutOfMemory) }
 {
     Player::new(alloc, show.cues.try_copy()?)
 }
@@ -293,11 +274,7 @@ fn tell_ranges(sender: &Sender, listed: &[u16])
 fn console_answer(answer: Result<(), PlayFault>) -> Result<(), ConsoleFault>
     ensures { result ≡ console_answer answer }
 {
-    match answer {
-        Ok(()) => Ok(()),
-        Err(PlayFault::NoCue) => Err(ConsoleFault::NoCue),
-        Err(PlayFault::ChannelRange) => Err(ConsoleFault::ChannelRange),
-    }
+    Ok(answer?)
 }
 
 fn move_player(player: &mut Player, now: u64)

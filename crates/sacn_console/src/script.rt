@@ -122,15 +122,10 @@ fn order_in(line: usize, words: &[&str]) -> Result<(u64, Command), TextFault>
 pub fn read_script(alloc: Global, text: &str) -> Result<Vec<(u64, Command)>, TextFault>
     ensures { Orders result (script_in text.now) }
 {
-    let Ok(lines) = said_lines(alloc, text) else {
-        return Err(TextFault::OutOfMemory);
-    };
+    let lines = said_lines(alloc, text)?;
     let mut orders = Vec::new(alloc);
     for line in lines.as_slice() {
-        let order = order_in(line.number, line.words.as_slice())?;
-        if orders.push(order).is_err() {
-            return Err(TextFault::OutOfMemory);
-        }
+        orders.push(order_in(line.number, line.words.as_slice())?)?;
     }
     Ok(orders)
 }

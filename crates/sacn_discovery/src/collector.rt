@@ -60,9 +60,7 @@ impl Collector {
         ensures err { OnErr result (self.new ≡ after_expire now self.old) }
     {
         self.expire(now);
-        let Ok(numbers) = numbers_of(self.alloc, page) else {
-            return Err(DiscoveryFault::OutOfMemory);
-        };
+        let numbers = numbers_of(self.alloc, page)?;
         self.keep(page, numbers)
     }
 
@@ -75,10 +73,7 @@ impl Collector {
         ensures state { self.new ≡ after_expire now self.old }
     {
         self.expire(now);
-        match self.list_at(cid) {
-            Ok(list) => Ok(list),
-            Err(_) => Err(DiscoveryFault::OutOfMemory),
-        }
+        Ok(self.list_at(cid)?)
     }
 
     /// Moves the clock, forgets the sources whose latest page is too old, and answers how many those were.
@@ -153,13 +148,9 @@ impl Collector {
         ensures ok { OnOk result (self.new ≡ with_source cid (with_page self.old.moment page last numbers.items (map.get self.old.sources cid)) self.old) }
         ensures err { OnErr result (self.new ≡ self.old) }
     {
-        let Ok(heard) = SourcePages::begin(self.alloc, self.moment, page, last, numbers) else {
-            return Err(DiscoveryFault::OutOfMemory);
-        };
-        match self.sources.insert(cid, heard) {
-            Ok(_) => Ok(()),
-            Err(_) => Err(DiscoveryFault::OutOfMemory),
-        }
+        let heard = SourcePages::begin(self.alloc, self.moment, page, last, numbers)?;
+        let _ = self.sources.insert(cid, heard)?;
+        Ok(())
     }
 
     // Whether the source has pages of this last page number.

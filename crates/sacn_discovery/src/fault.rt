@@ -1,6 +1,7 @@
 //! Why a page isn't kept.
 ghost use Rattle.std.specs.Prelude.{◌≡◌};
 
+use std::alloc::{AllocError, AllocFailed};
 use thiserror::Error;
 
 /// Why a collector refuses a call.
@@ -19,5 +20,17 @@ impl DiscoveryFault {
         ensures { result ≡ discovery_fault_number self }
     {
         self as u8
+    }
+}
+
+impl From<AllocError> for DiscoveryFault {
+    fn from(_refused: AllocError) -> DiscoveryFault {
+        DiscoveryFault::OutOfMemory
+    }
+}
+
+impl<T: Drop> From<AllocFailed<T>> for DiscoveryFault {
+    fn from(_refused: AllocFailed<T>) -> DiscoveryFault {
+        DiscoveryFault::OutOfMemory
     }
 }

@@ -31,14 +31,9 @@ pub fn read_table(alloc: Global, text: &str) -> Result<Table, FileFault>
 pub fn version_in(version: Option<&Value>, newest: u8) -> Result<u8, FileFault>
     ensures { result ≡ version_in newest (option_map (λ v. view v.now) version.entry) }
 {
-    let Some(version) = version else {
-        return Err(FileFault::MissingKey);
-    };
+    let version = version.ok_or(FileFault::MissingKey)?;
     match version {
-        Value::Integer(_) => match byte_in(version, 1, newest) {
-            Some(number) => Ok(number),
-            None => Err(FileFault::Version),
-        },
+        Value::Integer(_) => byte_in(version, 1, newest).ok_or(FileFault::Version),
         _ => Err(FileFault::KeyValue),
     }
 }

@@ -1,6 +1,8 @@
 //! Why files and texts are refused.
 ghost use Rattle.std.specs.Prelude.{◌≡◌};
+ghost use Rattle.sacn_files.specs.declared.faults.TextFault.TheVariants.{OutOfMemory};
 
+use std::alloc::{AllocError, AllocFailed};
 use thiserror::Error;
 
 /// Why a file is refused, of the causes that every kind of file has (profile).
@@ -73,5 +75,21 @@ impl TextFault {
             TextFault::Number(_) => 4,
             TextFault::Hex(_) => 5,
         }
+    }
+}
+
+impl From<AllocError> for TextFault {
+    ghost from_gives = { λ _ fault. fault ≡ OutOfMemory };
+
+    fn from(_refused: AllocError) -> TextFault {
+        TextFault::OutOfMemory
+    }
+}
+
+impl<T: Drop> From<AllocFailed<T>> for TextFault {
+    ghost from_gives = { λ _ fault. fault ≡ OutOfMemory };
+
+    fn from(_refused: AllocFailed<T>) -> TextFault {
+        TextFault::OutOfMemory
     }
 }

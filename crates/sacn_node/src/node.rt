@@ -55,9 +55,7 @@ impl NodeCore {
         ensures { IfOk result (λ n. n ≡ new_node setup.now.ports) }
     {
         let ports = setup.ports();
-        let Ok(universes) = universes_of(alloc, ports) else {
-            return Err(TableFault::OutOfMemory);
-        };
+        let universes = universes_of(alloc, ports)?;
         Ok(NodeCore {
             numbers: copy_numbers(ports),
             ports: copy_ports(alloc, ports)?,
@@ -147,13 +145,9 @@ impl NodeCore {
         ensures unchanged { OnErr result (frame.new ≡ frame.old) }
     {
         self.tables.expire(now);
-        match find_port(&self.ports, port) {
-            Some(port) => {
-                fill_frame(&mut self.tables, port.ranges(), frame);
-                Ok(())
-            }
-            None => Err(NoPort),
-        }
+        let port = find_port(&self.ports, port).ok_or(NoPort)?;
+        fill_frame(&mut self.tables, port.ranges(), frame);
+        Ok(())
     }
 
     /// The source of this CID on a universe, as the latest call with a moment left it.

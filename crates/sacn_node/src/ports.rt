@@ -37,13 +37,11 @@ impl NodePort {
     fn new(alloc: Global, port: &PortSetup) -> Result<Self, TableFault>
         ensures { IfOk result (λ p. p ≡ port.now) }
     {
-        match port.ranges().to_vec(alloc) {
-            Ok(ranges) => Ok(NodePort {
-                number: port.number(),
-                ranges,
-            }),
-            Err(_) => Err(TableFault::OutOfMemory),
-        }
+        let ranges = port.ranges().to_vec(alloc)?;
+        Ok(NodePort {
+            number: port.number(),
+            ranges,
+        })
     }
 
     pub(crate) fn number(&self) -> u8
@@ -64,14 +62,9 @@ impl NodePort {
 pub(crate) fn copy_ports(alloc: Global, ports: &[PortSetup]) -> Result<Vec<NodePort>, TableFault>
     ensures { IfOk result (λ copy. copy.items ≡ ports.now) }
 {
-    let Ok(mut copy) = Vec::with_capacity(alloc, ports.len()) else {
-        return Err(TableFault::OutOfMemory);
-    };
+    let mut copy = Vec::with_capacity(alloc, ports.len())?;
     for port in ports {
-        let port = NodePort::new(alloc, port)?;
-        if copy.push(port).is_err() {
-            return Err(TableFault::OutOfMemory);
-        }
+        copy.push(NodePort::new(alloc, port)?)?;
     }
     Ok(copy)
 }

@@ -226,18 +226,13 @@ fn expire_all(tables: &mut [OneUniverse], now: u64) -> usize
 fn new_tables(alloc: Global, universes: &[u16]) -> Result<Vec<OneUniverse>, TableFault>
     ensures { IfOk result (λ list. list.items ≡ map new_one universes.now) }
 {
-    let Ok(mut list) = Vec::with_capacity(alloc, universes.len()) else {
-        return Err(TableFault::OutOfMemory);
-    };
+    let mut list = Vec::with_capacity(alloc, universes.len())?;
     for universe in universes {
         let table = SourceTable::new(alloc)?;
-        let one = OneUniverse {
+        list.push(OneUniverse {
             universe: *universe,
             table,
-        };
-        if list.push(one).is_err() {
-            return Err(TableFault::OutOfMemory);
-        }
+        })?;
     }
     Ok(list)
 }

@@ -1,6 +1,8 @@
 //! Why a patch takes no slot.
 ghost use Rattle.std.specs.Prelude.{◌≡◌};
+ghost use Rattle.sacn_patch.specs.declared.fault.PatchFault.TheVariants.{OutOfMemory};
 
+use std::alloc::{AllocError, AllocFailed};
 use thiserror::Error;
 
 /// Why `Patch::add` or `Patch::try_copy` is refused. The patch is then as it was.
@@ -32,5 +34,21 @@ impl PatchFault {
         ensures { result ≡ fault_number self }
     {
         self as u8
+    }
+}
+
+impl From<AllocError> for PatchFault {
+    ghost from_gives = { λ _ fault. fault ≡ OutOfMemory };
+
+    fn from(_refused: AllocError) -> PatchFault {
+        PatchFault::OutOfMemory
+    }
+}
+
+impl<T: Drop> From<AllocFailed<T>> for PatchFault {
+    ghost from_gives = { λ _ fault. fault ≡ OutOfMemory };
+
+    fn from(_refused: AllocFailed<T>) -> PatchFault {
+        PatchFault::OutOfMemory
     }
 }

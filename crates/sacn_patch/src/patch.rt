@@ -71,15 +71,12 @@ impl Patch {
         if let Some(fault) = self.refusal(channel, universe, slot, wide) {
             return Err(fault);
         }
-        let put = if wide {
-            self.put_wide(channel, universe, slot)
+        if wide {
+            self.put_wide(channel, universe, slot)?;
         } else {
-            self.put(universe, slot, high_part(channel))
-        };
-        match put {
-            Ok(()) => Ok(()),
-            Err(_) => Err(PatchFault::OutOfMemory),
+            self.put(universe, slot, high_part(channel))?;
         }
+        Ok(())
     }
 
     /// A patch that shows the same. The only fault is `OutOfMemory`.
@@ -87,10 +84,8 @@ impl Patch {
         ensures copied { IfOk result (λ copy. copy ≡ self.now) }
         ensures refused { IfErr result (λ fault. fault ≡ OutOfMemory) }
     {
-        match self.parts.clone() {
-            Ok(parts) => Ok(Patch { parts }),
-            Err(_) => Err(PatchFault::OutOfMemory),
-        }
+        let parts = self.parts.clone()?;
+        Ok(Patch { parts })
     }
 
     /// The same patch in one row, from which frames are made faster. The only fault is `OutOfMemory`.
@@ -100,15 +95,9 @@ impl Patch {
     {
         let mut row = Vec::new(alloc);
         for (place, part) in self.parts.iter() {
-            match row.push((*place, *part)) {
-                Ok(()) => {}
-                Err(_) => return Err(PatchFault::OutOfMemory),
-            }
+            row.push((*place, *part))?;
         }
-        match FlatPatch::of(alloc, row) {
-            Ok(flat) => Ok(flat),
-            Err(_) => Err(PatchFault::OutOfMemory),
-        }
+        Ok(FlatPatch::of(alloc, row)?)
     }
 
     /// Writes the slots of a universe, each in its place: slot `s` at index `s - 1`. A slot that
@@ -171,10 +160,8 @@ impl Patch {
         ensures put { OnOk result (self.new ≡ map.insert self.old (universe, slot) part) }
         ensures unchanged { OnErr result (self.new ≡ self.old) }
     {
-        match self.parts.insert((universe, slot), part) {
-            Ok(_) => Ok(()),
-            Err(_) => Err(AllocError),
-        }
+        let _ = self.parts.insert((universe, slot), part)?;
+        Ok(())
     }
 
     fn take_out(&mut self, universe: u16, slot: u16)

@@ -55,16 +55,11 @@ fn event_in(alloc: Global, line: usize, words: &[&str]) -> Result<Event, TextFau
 fn events_of(alloc: Global, text: &str) -> Result<Vec<Event>, TextFault>
     ensures { GivesEvents result (schedule_in text.now) }
 {
-    let Ok(lines) = said_lines(alloc, text) else {
-        return Err(TextFault::OutOfMemory);
-    };
+    let lines = said_lines(alloc, text)?;
     let mut events = Vec::new(alloc);
     for line in lines.as_slice() {
         let event = event_in(alloc, line.number, line.words.as_slice())?;
-        match events.push(event) {
-            Ok(()) => {}
-            Err(_) => return Err(TextFault::OutOfMemory),
-        }
+        events.push(event)?;
     }
     Ok(events)
 }

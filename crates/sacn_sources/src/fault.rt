@@ -1,6 +1,7 @@
 //! Why a table could not be made.
 ghost use Rattle.std.specs.Prelude.{◌≡◌};
 
+use std::alloc::{AllocError, AllocFailed};
 use thiserror::Error;
 
 /// Why a table could not be made. A table that was made has no faults: it takes no further memory.
@@ -19,5 +20,17 @@ impl TableFault {
         ensures { result ≡ table_fault_number self }
     {
         self as u8
+    }
+}
+
+impl From<AllocError> for TableFault {
+    fn from(_refused: AllocError) -> TableFault {
+        TableFault::OutOfMemory
+    }
+}
+
+impl<T: Drop> From<AllocFailed<T>> for TableFault {
+    fn from(_refused: AllocFailed<T>) -> TableFault {
+        TableFault::OutOfMemory
     }
 }

@@ -374,8 +374,5 @@ pub(crate) fn frames_in<A: Allocator>(alloc: A) -> Result<Slab<Levels, A>, Table
     ensures empty { IfOk result (λ frames. frames.slots ≡ []) }
     ensures room { IfOk result (λ frames. MAX_SOURCES ≤ frames.capacity) }
 {
-    match Slab::with_capacity(alloc, MAX_SOURCES) {
-        Ok(frames) => Ok(frames),
-        Err(_) => Err(TableFault::OutOfMemory),
-    }
+    Ok(Slab::with_capacity(alloc, MAX_SOURCES)?)
 }

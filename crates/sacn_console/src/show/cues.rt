@@ -7,7 +7,7 @@ ghost use Rattle.sacn_console.specs.ShowReading.{pair_in, level_in, levels_at, t
 
 use super::ShowFault;
 use super::rows::rows_in;
-use sacn_cues::{Cue, CueFault, CueList};
+use sacn_cues::{Cue, CueList};
 use sacn_files::rows::ReadRow;
 use sacn_files::values::{array_at, array_values, number_at, short_at, short_in};
 use std::alloc::{AllocError, Global};
@@ -114,11 +114,7 @@ pub(super) fn cues_added(alloc: Global, cues: Vec<Cue>) -> Result<CueList, ShowF
     let mut list = CueList::new(alloc);
     let mut rest = cues.into_iter();
     while let Some(cue) = rest.next() {
-        match list.add(cue) {
-            Ok(()) => {}
-            Err(CueFault::OutOfMemory) => return Err(ShowFault::OutOfMemory),
-            Err(_) => return Err(ShowFault::Cue),
-        }
+        list.add(cue)?;
     }
     Ok(list)
 }

@@ -2,7 +2,9 @@
 ghost use Rattle.std.specs.Prelude.{◌≡◌};
 ghost use Rattle.sacn_console.specs.declared.show.fault.ShowFault.TheVariants.{OutOfMemory};
 
+use sacn_cues::CueFault;
 use sacn_files::faults::FileFault;
+use sacn_patch::PatchFault;
 use std::alloc::{AllocError, AllocFailed};
 use thiserror::Error;
 
@@ -63,6 +65,32 @@ impl From<FileFault> for ShowFault {
             FileFault::UnknownKey => ShowFault::UnknownKey,
             FileFault::KeyValue => ShowFault::KeyValue,
             FileFault::Version => ShowFault::Version,
+        }
+    }
+}
+
+impl From<CueFault> for ShowFault {
+    ghost use Rattle.sacn_console.specs.ShowReading.{show_fault_of_cue};
+
+    ghost from_gives = { λ fault show_fault. show_fault ≡ show_fault_of_cue fault };
+
+    fn from(fault: CueFault) -> ShowFault {
+        match fault {
+            CueFault::OutOfMemory => ShowFault::OutOfMemory,
+            _ => ShowFault::Cue,
+        }
+    }
+}
+
+impl From<PatchFault> for ShowFault {
+    ghost use Rattle.sacn_console.specs.ShowReading.{show_fault_of_patch};
+
+    ghost from_gives = { λ fault show_fault. show_fault ≡ show_fault_of_patch fault };
+
+    fn from(fault: PatchFault) -> ShowFault {
+        match fault {
+            PatchFault::OutOfMemory => ShowFault::OutOfMemory,
+            _ => ShowFault::Patch,
         }
     }
 }

@@ -10,7 +10,7 @@ use super::ShowFault;
 use super::rows::rows_in;
 use sacn_files::rows::ReadRow;
 use sacn_files::values::{short_at, value_in};
-use sacn_patch::{Patch, PatchFault};
+use sacn_patch::Patch;
 use std::alloc::{AllocError, Global};
 use toml::Value;
 
@@ -89,11 +89,7 @@ pub(super) fn patches_added(
         if !is_among(row.universe, universes) {
             return Err(ShowFault::Patch);
         }
-        match patch.add(row.channel, row.universe, row.slot, row.wide) {
-            Ok(()) => {}
-            Err(PatchFault::OutOfMemory) => return Err(ShowFault::OutOfMemory),
-            Err(_) => return Err(ShowFault::Patch),
-        }
+        patch.add(row.channel, row.universe, row.slot, row.wide)?;
     }
     Ok(patch)
 }

@@ -11,5 +11,5 @@ loop-line-preserved c =
     let here : drop i lines ≡ line ∷ drop (i + 1) lines = drop_more lines i line c.loop-line-test.true ∙ ap (λ l. l ∷ drop (i + 1) lines) (sym c.line-item.is) in
     read_more _ lines i line c.loop-line.events.items c.push.new.self.items c.in_ok-event.event here
     (rw c.as_slice.ensures.value at c.in_ok-event.ensures)
-    c.in-Ok-push.ensures.items
+    c.in_ok-push.ensures.items
     c.loop-line.invariant

@@ -11,6 +11,6 @@ fill_frame-requires-clause-expired c = core_twice c.expire.new.self c.self.insid
 
 pub fill_frame-requires-clause-ranges : goal.fill_frame-requires-clause-ranges
 fill_frame-requires-clause-ranges c =
-    subst (λ (rs : List SlotRange). All IsShown rs) (sym c.ranges-in-Some.ensures)
-    (found_has (λ (p : Port). All IsShown p.ranges) c.args.port c.self.inside.ports.items c.in-Some.port.now
-    (ap (port_of c.args.port) (sym c.deref.ensures.value) ∙ c.in-Some.ensures) c.self.invariant.0.shown)
+    subst (λ (rs : List SlotRange). All IsShown rs) (sym c.ranges-2.ensures)
+    (found_has (λ (p : Port). All IsShown p.ranges) c.args.port c.self.inside.ports.items c.in_ok-port.port.now
+    (ap (port_of c.args.port) (sym c.deref.ensures.value) ∙ (rw c.in_ok-port.ensures.ok_part at c.find_port.ensures)) c.self.invariant.0.shown)

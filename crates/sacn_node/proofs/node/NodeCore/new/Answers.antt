@@ -5,4 +5,4 @@ use Rattle.sacn_node.proofs.Prepared.{universes_rise}
 use Rattle.sacn_node.proofs.node.NodeCore.new.Goals as goal
 
 pub new-requires-clause-rising : goal.new-requires-clause-rising
-new-requires-clause-rising c = subst Rising (sym (c.as_slice.ensures.value ∙ c.in-Ok.ensures ∙ ap universes c.ports-ports.ensures.ports)) (universes_rise c.args.setup.now.ports)
+new-requires-clause-rising c = subst Rising (sym (c.as_slice.ensures.value ∙ c.in_ok-universes.ensures ∙ ap universes c.ports-ports.ensures.ports)) (universes_rise c.args.setup.now.ports)
