@@ -51,15 +51,13 @@ impl<R: BufRead + Drop> Capture<R> {
         ensures place { IfErr result (λ fault. fault.at ≡ 0) }
         ensures told { Opens R.Read.remaining (R.Read.remaining reader) result }
     {
-        match Pieces::open(alloc, reader) {
-            Ok(pieces) => Ok(Capture {
-                pieces,
-                mark: 0,
-                counts: Counts::new(),
-                stopped: None,
-            }),
-            Err(kind) => Err(CaptureFault { at: 0, kind }),
-        }
+        let pieces = Pieces::open(alloc, reader).map_err(|kind| CaptureFault { at: 0, kind })?;
+        Ok(Capture {
+            pieces,
+            mark: 0,
+            counts: Counts::new(),
+            stopped: None,
+        })
     }
 }
 
