@@ -1,4 +1,4 @@
-//! Tests of the words and lines of files, of cues, shows, scripts and the console, by their public calls.
+//! Tests of the words and lines of files, of patches, cues, shows, scripts and the console, by their public calls.
 #![tactic(auto)]
 
 #[cfg(test)]
@@ -7,3 +7,5 @@ mod console;
 mod cues;
 #[cfg(test)]
 mod files;
+#[cfg(test)]
+mod patch;

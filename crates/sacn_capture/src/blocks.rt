@@ -82,10 +82,8 @@ impl<R: BufRead> Pieces<R> {
         ensures { ReadsPiece R.Read.remaining (interface_end order size (state_of self.old) (interface_of interface)) self.old self.new result }
     {
         end_of_block(&mut self.input, order, size)?;
-        match self.interfaces.push(interface) {
-            Ok(()) => Ok(None),
-            Err(_) => Err(FaultKind::OutOfMemory),
-        }
+        self.interfaces.push(interface)?;
+        Ok(None)
     }
 
     // The frame of an enhanced packet block.
@@ -117,10 +115,10 @@ impl<R: BufRead> Pieces<R> {
     fn interface_at(&self, index: usize) -> Result<Described, FaultKind>
         ensures { map_ok interface_of result ≡ interface_at (state_of self.now) index }
     {
-        match self.interfaces.get(index) {
-            Some(interface) => Ok(*interface),
-            None => Err(FaultKind::Interface),
-        }
+        self.interfaces
+            .get(index)
+            .copied()
+            .ok_or(FaultKind::Interface)
     }
 
     // The frame of a simple packet block, which is of the section's first interface.

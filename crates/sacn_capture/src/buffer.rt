@@ -38,10 +38,8 @@ impl Buffer {
     pub fn new(alloc: Global) -> Result<Self, FaultKind>
         ensures { IfErr result (λ kind. kind ≡ OutOfMemory) }
     {
-        match vec![in alloc; 0; LONGEST_KEPT] {
-            Ok(octets) => Ok(Buffer { octets }),
-            Err(_) => Err(FaultKind::OutOfMemory),
-        }
+        let octets = vec![in alloc; 0; LONGEST_KEPT]?;
+        Ok(Buffer { octets })
     }
 
     /// Reads so many octets to the front. Errors: CutShort where the file ends before, Device.

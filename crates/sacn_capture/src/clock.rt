@@ -36,10 +36,7 @@ pub fn units_in(resolution: u8) -> Result<u64, FaultKind>
     } else {
         power(2, u32::from(resolution - BINARY))
     };
-    match units {
-        Some(units) => Ok(units),
-        None => Err(FaultKind::Resolution),
-    }
+    units.ok_or(FaultKind::Resolution)
 }
 
 // A power below 2^64.

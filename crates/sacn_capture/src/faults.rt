@@ -1,5 +1,10 @@
 //! Why a recording is refused.
 
+ghost use Rattle.std.specs.Prelude.{◌≡◌};
+ghost use Rattle.sacn_capture.specs.declared.faults.FaultKind.TheVariants.{Device, OutOfMemory};
+
+use std::alloc::{AllocError, AllocFailed};
+use std::io;
 use thiserror::Error;
 
 /// What is wrong with a recording.
@@ -32,6 +37,30 @@ pub enum FaultKind {
     /// The device that gives the file failed.
     #[error("the file can't be read")]
     Device,
+}
+
+impl From<AllocError> for FaultKind {
+    ghost from_gives = { λ _ kind. kind ≡ OutOfMemory };
+
+    fn from(_refused: AllocError) -> Self {
+        FaultKind::OutOfMemory
+    }
+}
+
+impl<T: Drop> From<AllocFailed<T>> for FaultKind {
+    ghost from_gives = { λ _ kind. kind ≡ OutOfMemory };
+
+    fn from(_refused: AllocFailed<T>) -> Self {
+        FaultKind::OutOfMemory
+    }
+}
+
+impl From<io::Error> for FaultKind {
+    ghost from_gives = { λ _ kind. kind ≡ Device };
+
+    fn from(_failed: io::Error) -> Self {
+        FaultKind::Device
+    }
 }
 
 /// What is wrong with a recording, and where.

@@ -42,10 +42,8 @@ fn by_front<R: BufRead>(input: &mut Input<R>, front: [u8; BLOCK_HEAD]) -> Result
 fn by_stamp<R: BufRead>(input: &mut Input<R>, front: [u8; BLOCK_HEAD]) -> Result<Format, FaultKind>
     ensures { ReadsInput R.Read.remaining (pcap_behind front) input.old input.new result }
 {
-    match stamp_in(&front) {
-        Some(stamp) => stamped_header(input, stamp, front),
-        None => Err(FaultKind::NotACapture),
-    }
+    let stamp = stamp_in(&front).ok_or(FaultKind::NotACapture)?;
+    stamped_header(input, stamp, front)
 }
 
 fn stamped_header<R: BufRead>(

@@ -27,10 +27,7 @@ impl<R: BufRead> Input<R> {
         ensures kept { OnOk result (Keeps (R.Read.remaining self.old.reader) (R.Read.remaining self.new.reader)) }
         ensures end { IfOk result (λ ended. IsTrue ended → IfSome (R.Read.remaining self.old.reader) (λ octets. octets ≡ [])) }
     {
-        match self.reader.fill_buf() {
-            Ok(octets) => Ok(octets.is_empty()),
-            Err(_) => Err(FaultKind::Device),
-        }
+        Ok(self.reader.fill_buf()?.is_empty())
     }
 
     /// Reads as many octets as the buffer has. Errors: CutShort where the file ends before, Device.
@@ -91,7 +88,7 @@ fn read_full<R: BufRead>(reader: &mut R, buffer: &mut [u8]) -> Result<(), FaultK
             Ok(0) => return Err(FaultKind::CutShort),
             Ok(n) => at += n,
             Err(error) if error.kind() == ErrorKind::Interrupted => continue,
-            Err(_) => return Err(FaultKind::Device),
+            Err(error) => return Err(error.into()),
         }
     }
     Err(FaultKind::Device)

@@ -63,10 +63,8 @@ pub fn pcap_header(octets: &[u8]) -> Result<PcapHeader, FaultKind>
     if octets.len() < 4 {
         return Err(FaultKind::NotACapture);
     }
-    match stamp_in(octets) {
-        Some(stamp) => header_in(stamp, octets),
-        None => Err(FaultKind::NotACapture),
-    }
+    let stamp = stamp_in(octets).ok_or(FaultKind::NotACapture)?;
+    header_in(stamp, octets)
 }
 
 /// The header of a pcap file whose first number is known.
@@ -81,10 +79,8 @@ pub fn header_in(stamp: Stamp, octets: &[u8]) -> Result<PcapHeader, FaultKind>
     if stamp.order.u16_at(octets, 4) != MAJOR {
         return Err(FaultKind::Version);
     }
-    match link_type(link_number_in(stamp.order, octets)) {
-        Some(link) => Ok(PcapHeader { stamp, link }),
-        None => Err(FaultKind::LinkType),
-    }
+    let link = link_type(link_number_in(stamp.order, octets)).ok_or(FaultKind::LinkType)?;
+    Ok(PcapHeader { stamp, link })
 }
 
 /// The head of a record of a pcap file.

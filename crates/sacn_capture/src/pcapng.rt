@@ -142,10 +142,8 @@ pub fn section_in(octets: &[u8]) -> Result<Section, FaultKind>
     if octets.len() < SECTION_HEAD {
         return Err(FaultKind::CutShort);
     }
-    match order_in(octets) {
-        Some(order) => checked_section(order, octets),
-        None => Err(FaultKind::NotACapture),
-    }
+    let order = order_in(octets).ok_or(FaultKind::NotACapture)?;
+    checked_section(order, octets)
 }
 
 // What is left to check once the order is known.

@@ -41,12 +41,8 @@ impl<R: BufRead + Drop> Pieces<R> {
         ensures begun { IfOk result IsBegun }
         ensures exact { Does opening (place_at 0 (R.Read.remaining reader)) (opened_place R.Read.remaining result) (map_ok (λ pieces. pieces.format) result) }
     {
-        let Ok(buffer) = Buffer::new(alloc) else {
-            return Err(FaultKind::OutOfMemory);
-        };
-        let Ok(interfaces) = Vec::with_capacity(alloc, MAX_INTERFACES) else {
-            return Err(FaultKind::OutOfMemory);
-        };
+        let buffer = Buffer::new(alloc)?;
+        let interfaces = Vec::with_capacity(alloc, MAX_INTERFACES)?;
         let mut input = Input { reader, at: 0 };
         let format = first_header(&mut input)?;
         Ok(Pieces {

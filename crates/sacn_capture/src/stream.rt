@@ -51,15 +51,13 @@ impl<R: BufRead + Drop> Capture<R> {
         ensures place { IfErr result (λ fault. fault.at ≡ 0) }
         ensures told { Opens R.Read.remaining (R.Read.remaining reader) result }
     {
-        match Pieces::open(alloc, reader) {
-            Ok(pieces) => Ok(Capture {
-                pieces,
-                mark: 0,
-                counts: Counts::new(),
-                stopped: None,
-            }),
-            Err(kind) => Err(CaptureFault { at: 0, kind }),
-        }
+        let pieces = Pieces::open(alloc, reader).map_err(|kind| CaptureFault { at: 0, kind })?;
+        Ok(Capture {
+            pieces,
+            mark: 0,
+            counts: Counts::new(),
+            stopped: None,
+        })
     }
 }
 
@@ -90,13 +88,12 @@ impl<R: BufRead> Capture<R> {
         ensures* rests { sem 𝓛 (Rests (the_row R.row) self.entry (λ new. GivesNext R.Read.remaining (map_ok (λ found. option_map shown_of found) result) self.old new)) }
         ensures told { GivesFirst (map_ok (λ found. option_map shown_of found) result) (to_come R.Read.remaining self.old) }
     {
-        match self.advance() {
-            Ok(None) => Ok(None),
-            Ok(Some(frame)) => {
+        match self.advance()? {
+            Some(frame) => {
                 self.count(frame);
                 Ok(Some(self.shown(frame)))
             }
-            Err(fault) => Err(fault),
+            None => Ok(None),
         }
     }
 
@@ -145,14 +142,12 @@ impl<R: BufRead> Capture<R> {
         ensures told { Steps result self.new.mark self.new.pieces (to_come R.Read.remaining self.old) (to_come R.Read.remaining self.new) }
     {
         self.mark = self.pieces.input.at;
-        match self.pieces.is_ended() {
-            Ok(true) => Ok(Step::Ended),
-            Ok(false) => match self.pieces.next() {
-                Ok(Some(frame)) => Ok(Step::Found(frame)),
-                Ok(None) => Ok(Step::Nothing),
-                Err(kind) => Err(kind),
-            },
-            Err(kind) => Err(kind),
+        if self.pieces.is_ended()? {
+            return Ok(Step::Ended);
+        }
+        match self.pieces.next()? {
+            Some(frame) => Ok(Step::Found(frame)),
+            None => Ok(Step::Nothing),
         }
     }
 

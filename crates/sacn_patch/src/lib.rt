@@ -11,8 +11,6 @@ mod level;
 pub mod limits;
 mod part;
 mod patch;
-#[cfg(test)]
-mod tests;
 
 pub use fault::PatchFault;
 pub use flat::FlatPatch;
