@@ -1,5 +1,5 @@
 -- The runs of numbers, where a number is put behind one.
-use Rattle.std.proofs.Common.{◌≡◌, ℕ, ◌+◌, ◌==◌, Bool, true, false, cond, List, [], ◌∷◌, ◌++◌, codes, refl, sym, ap, ◌∙◌, append_assoc, append-nil}
+use Rattle.std.proofs.Common.{◌≡◌, ℕ, ◌+◌, ◌==◌, Bool, true, false, cond, List, [], ◌∷◌, ◌++◌, codes, refl, sym, ap, ◌∙◌, append_assoc}
 use Rattle.std.specs.List.{flat_map}
 use Rattle.sacn_explain.specs.declared.numbers.Run.{Run}
 use Rattle.sacn_explain.specs.Numbers.{begun_at, one_number, run_text, runs, runs_from, runs_text}

@@ -1,4 +1,4 @@
--- Why octets are no packet: the name of each fault, and what is said of it.
+-- Why octets are no packet: what is said of each fault.
 use Rattle.std.specs.Prelude.{ℕ, List, codes}
 use Rattle.sacn_root.specs.declared.fault.PacketFault.{PacketFault}
 use Rattle.sacn_root.specs.declared.fault.PacketFault.TheVariants.{TooShort, Preamble, Postamble, Identifier, Flags, Length, RootVector, FramingVector, DmpVector, AddressType, FirstAddress, Increment, ValueCount, Priority, Universe, DiscoveryVector, PageRange, TooManyUniverses}
@@ -22,23 +22,3 @@ fault_words Universe = codes "the universe is out of range"
 fault_words DiscoveryVector = codes "the discovery vector is wrong"
 fault_words PageRange = codes "the page is above the last page"
 fault_words TooManyUniverses = codes "the page has too many universes"
-
-abbrev pub fault_name : PacketFault → List ℕ
-fault_name TooShort = codes "TooShort"
-fault_name Preamble = codes "Preamble"
-fault_name Postamble = codes "Postamble"
-fault_name Identifier = codes "Identifier"
-fault_name Flags = codes "Flags"
-fault_name Length = codes "Length"
-fault_name RootVector = codes "RootVector"
-fault_name FramingVector = codes "FramingVector"
-fault_name DmpVector = codes "DmpVector"
-fault_name AddressType = codes "AddressType"
-fault_name FirstAddress = codes "FirstAddress"
-fault_name Increment = codes "Increment"
-fault_name ValueCount = codes "ValueCount"
-fault_name Priority = codes "Priority"
-fault_name Universe = codes "Universe"
-fault_name DiscoveryVector = codes "DiscoveryVector"
-fault_name PageRange = codes "PageRange"
-fault_name TooManyUniverses = codes "TooManyUniverses"

@@ -1,4 +1,4 @@
-use Rattle.std.proofs.Common.{◌≡◌, ◌++◌, ℕ, drop, codes, decimal, string_bytes}
+use Rattle.std.proofs.Common.{◌≡◌, ◌++◌, drop, codes, decimal, string_bytes}
 use Rattle.std.specs.List.{flat_map}
 use Rattle.sacn_explain.specs.Numbers.{number_list}
 use Rattle.sacn_explain.proofs.numbers.push_list.Given as goal

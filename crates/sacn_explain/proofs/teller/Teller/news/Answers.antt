@@ -1,7 +1,7 @@
-use Rattle.std.proofs.Common.{ℕ, nat_lt, List, ◌++◌}
+use Rattle.std.proofs.Common.{nat_lt, ◌++◌}
 use Rattle.sacn_explain.specs.declared.options.Form.{Form}
 use Rattle.sacn_explain.specs.PacketLines.{anew_line, moved_line, renamed_line, skipped_line}
-use Rattle.sacn_explain.specs.Told.{event_told, priority_told, where_so}
+use Rattle.sacn_explain.specs.Told.{priority_told, where_so}
 use Rattle.sacn_explain.proofs.Telling.{then}
 use Rattle.sacn_explain.proofs.teller.Teller.news.Goals as goal
 
