@@ -6,3 +6,6 @@ pub mod Amounts
 pub mod Contested
 mod Padding
 mod Letters
+mod Runs
+mod Texts
+pub mod Telling

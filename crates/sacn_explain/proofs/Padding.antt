@@ -1,8 +1,8 @@
 -- What `{:>w}`, `{:0w}` and `{:0wx}` write.
-use Rattle.std.proofs.Common.{◌≡◌, ℕ, zero, suc, ◌+◌, ◌-◌, ◌^◌, ◌<◌, ◌≤◌, Bool, true, false, List, [], ◌∷◌, ◌++◌, length, replicate, decimal, encode_utf8, refl, sym, ap, ◌∙◌, arith}
+use Rattle.std.proofs.Common.{◌≡◌, ℕ, zero, suc, ◌-◌, ◌^◌, false, List, [], ◌∷◌, ◌++◌, length, replicate, encode_utf8, refl, ap, arith}
 use lib.Utf8.{encode}
 use Rattle.std.specs.List.{repeat}
-use Rattle.std.specs.Fmt.{padded_integral, padded, format_spec, digits, char_count, take_chars}
+use Rattle.std.specs.Fmt.{padded_integral, format_spec, char_count}
 use Rattle.sacn_explain.specs.Spelled.{right, zeros}
 
 repeated : (n : ℕ) → repeat n (encode_utf8 32) ≡ replicate n 32

@@ -10,3 +10,9 @@ pub mod Contested
 pub mod Spelled
 pub mod Members
 pub mod Sentences
+pub mod Numbers
+pub mod Refusals
+pub mod Causes
+pub mod PacketLines
+pub mod Lines
+pub mod Told

@@ -8,6 +8,7 @@ use Rattle.sacn_monitor.specs.declared.news.Event.TheVariants.{GoesOn, Appeared,
 use Rattle.sacn_monitor.specs.declared.stream.Stream.{Stream}
 use Rattle.sacn_explain.specs.Spelled.{right, zeros, octets_text, sender_text, moment_text, name_text}
 use Rattle.sacn_explain.specs.Members.{name_of}
+use Rattle.sacn_explain.specs.Refusals.{fault_words}
 
 -- the front of a line: the moment in seconds
 unfoldable pub line_front : ℕ → List ℕ
@@ -46,6 +47,10 @@ event_key Ended = codes "ended"
 event_key OutOfSequence = codes "out_of_sequence"
 event_key Repeated = codes "repeated"
 
+-- where a source sends from now
+unfoldable pub moved_words : Sender → List ℕ
+moved_words s = codes "now sends from " ++ sender_text s
+
 -- the moment of the last packet of a source that is lost (E1.31, 6.7.1)
 unfoldable pub loss_words : Stream → List ℕ
 loss_words s = codes "is lost: silent since " ++ (decimal (s.account.latest / 1000) ++ (codes "." ++ (zeros 3 (decimal (s.account.latest % 1000)) ++ codes " s")))
@@ -55,3 +60,15 @@ priority_words c = codes "priority " ++ (decimal c.to ++ (codes ", before " ++ d
 
 unfoldable pub skipped_words : ℕ → List ℕ
 skipped_words skipped = if skipped == 1 then codes "skipped 1 number" else codes "skipped " ++ (decimal skipped ++ codes " numbers")
+
+-- why a datagram is no packet
+unfoldable pub refusal_words : PacketFault → List ℕ
+refusal_words fault = codes "  refused: " ++ fault_words fault
+
+-- the same, and where it came from
+unfoldable pub refused_words : Sender → PacketFault → List ℕ
+refused_words s fault = codes "from " ++ (sender_text s ++ refusal_words fault)
+
+-- where a packet came from for which there is no room
+unfoldable pub untracked_words : Sender → List ℕ
+untracked_words s = codes "from " ++ (sender_text s ++ codes "  no room for a further source, not followed")

@@ -1,5 +1,5 @@
 -- How numbers, moments, CIDs, addresses and names are spelled.
-use Rattle.std.specs.Prelude.{ℕ, ◌+◌, ◌-◌, ◌/◌, ◌%◌, Bool, false, ◌||◌, ◌&&◌, ◌==◌, nat_le, List, [], ◌∷◌, ◌++◌, length, replicate, get_or, codes, chars, decimal, encode_utf8, if◌then◌else◌}
+use Rattle.std.specs.Prelude.{ℕ, ◌-◌, ◌/◌, ◌%◌, Bool, false, ◌||◌, ◌&&◌, ◌==◌, nat_le, List, ◌++◌, length, replicate, get_or, codes, chars, decimal, encode_utf8, if◌then◌else◌}
 use Rattle.std.specs.Fmt.{digits}
 use Rattle.std.specs.List.{flat_map}
 use Rattle.std.specs.Str.{is_utf8}
@@ -51,11 +51,3 @@ letters_of name = if is_utf8 name then chars name else name
 -- a name between quotes, as JSON writes a string
 unfoldable pub name_text : List ℕ → List ℕ
 name_text name = codes "\"" ++ (flat_map letter_text (letters_of name) ++ codes "\"")
-
--- numbers with commas between them
-abbrev pub after_commas : List ℕ → List ℕ
-after_commas numbers = flat_map (λ n. codes "," ++ decimal n) numbers
-
-abbrev pub with_commas : List ℕ → List ℕ
-with_commas [] = []
-with_commas (n ∷ numbers) = decimal n ++ after_commas numbers

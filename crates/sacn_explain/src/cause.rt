@@ -1,7 +1,9 @@
 //! Why a frame of a node is another one.
 
-use crate::json;
-use crate::spelling::{push_cid, push_name};
+ghost use Rattle.std.specs.Prelude.{◌≡◌, ◌++◌, OnOk, string_bytes};
+ghost use Rattle.sacn_explain.specs.Causes.{on_universe, by_words, cause_words, by_members, cause_members};
+
+use crate::{json, words};
 use sacn_framing::up_to_nul;
 use sacn_monitor::Stream;
 use std::alloc::AllocError;
@@ -23,7 +25,9 @@ pub enum Cause<'a> {
 }
 
 /// A cause in words.
-pub fn push_cause(text: &mut String, cause: &Cause<'_>) -> Result<(), AllocError> {
+pub fn push_cause(text: &mut String, cause: &Cause<'_>) -> Result<(), AllocError>
+    ensures { OnOk result (string_bytes text.new ≡ string_bytes text.old ++ cause_words cause.now) }
+{
     match cause {
         Cause::Start => text.push_str("at the start"),
         Cause::Packet(stream) => push_by(text, "by a packet", stream),
@@ -33,16 +37,25 @@ pub fn push_cause(text: &mut String, cause: &Cause<'_>) -> Result<(), AllocError
     }
 }
 
-fn push_by(text: &mut String, word: &str, stream: &Stream) -> Result<(), AllocError> {
-    let universe = stream.universe;
-    write!(text, "{word} on universe {universe} of ")?;
-    push_cid(text, &stream.cid)?;
-    text.push(' ')?;
-    push_name(text, up_to_nul(&stream.account.name))
+#[tactic(auto, unfolding(crate::specs::Causes::by_words))]
+fn push_by(text: &mut String, word: &str, stream: &Stream) -> Result<(), AllocError>
+    ensures { OnOk result (string_bytes text.new ≡ string_bytes text.old ++ by_words word.now stream.now) }
+{
+    push_universe(text, word, stream.universe)?;
+    words::push_source(text, &stream.cid, up_to_nul(&stream.account.name))
+}
+
+#[tactic(auto, unfolding(crate::specs::Causes::on_universe))]
+fn push_universe(text: &mut String, word: &str, universe: u16) -> Result<(), AllocError>
+    ensures { OnOk result (string_bytes text.new ≡ string_bytes text.old ++ on_universe word.now universe) }
+{
+    write!(text, "{word} on universe {universe} of ")
 }
 
 /// A cause as members of an object.
-pub fn push_cause_members(text: &mut String, cause: &Cause<'_>) -> Result<(), AllocError> {
+pub fn push_cause_members(text: &mut String, cause: &Cause<'_>) -> Result<(), AllocError>
+    ensures { OnOk result (string_bytes text.new ≡ string_bytes text.old ++ cause_members cause.now) }
+{
     match cause {
         Cause::Start => json::push_word(text, "cause", "start"),
         Cause::Packet(stream) => push_by_members(text, "packet", stream),
@@ -52,7 +65,10 @@ pub fn push_cause_members(text: &mut String, cause: &Cause<'_>) -> Result<(), Al
     }
 }
 
-fn push_by_members(text: &mut String, word: &str, stream: &Stream) -> Result<(), AllocError> {
+#[tactic(auto, unfolding(crate::specs::Causes::by_members))]
+fn push_by_members(text: &mut String, word: &str, stream: &Stream) -> Result<(), AllocError>
+    ensures { OnOk result (string_bytes text.new ≡ string_bytes text.old ++ by_members word.now stream.now) }
+{
     json::push_word(text, "cause", word)?;
     json::push_stream(text, stream)
 }

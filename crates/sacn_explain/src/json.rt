@@ -72,8 +72,9 @@ fn push_quoted_address(text: &mut String, address: &[u8; 4]) -> Result<(), Alloc
     text.push_str("\"")
 }
 
+/// A member's key, before its value.
 #[tactic(auto, unfolding(crate::specs::Members::key_text))]
-fn push_key(text: &mut String, key: &str) -> Result<(), AllocError>
+pub fn push_key(text: &mut String, key: &str) -> Result<(), AllocError>
     ensures { OnOk result (string_bytes text.new ≡ string_bytes text.old ++ key_text key.now) }
 {
     write!(text, ",\"{key}\":")

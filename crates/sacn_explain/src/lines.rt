@@ -1,9 +1,15 @@
 //! Lines of universes, lists and frames.
 
+ghost use Rattle.std.specs.Prelude.{◌≡◌, ◌++◌, OnOk, string_bytes};
+ghost use Rattle.sacn_explain.specs.Lines.{frame_line, list_words, listed_member, listed_ranges, listing_line, port_text, rivals_key, rivals_line, rivals_words, slot_digits, slots_member};
+ghost use Rattle.sacn_explain.specs.Members.{source_members};
+ghost use Rattle.sacn_explain.specs.Sentences.{source_text};
+
 use crate::cause::{Cause, push_cause, push_cause_members};
 use crate::listings::Listing;
+use crate::numbers::{push_numbers, push_ranges};
 use crate::options::Form;
-use crate::spelling::{push_cid, push_name, push_numbers, push_ranges};
+use crate::spelling::push_digits;
 use crate::{json, words};
 use sacn_edge::PortShown;
 use std::alloc::AllocError;
@@ -17,12 +23,14 @@ pub fn rivals_line(
     universe: u16,
     sources: usize,
     priority: u8,
-) -> Result<(), AllocError> {
+) -> Result<(), AllocError>
+    ensures { OnOk result (string_bytes text.new ≡ string_bytes text.old ++ rivals_line form now universe sources priority) }
+{
     let sources = sources as u64;
     match form {
         Form::Text => {
             words::begin(text, now)?;
-            write!(text, "universe {universe:>5}  ")?;
+            words::push_universe(text, universe)?;
             push_rivals(text, sources, priority)
         }
         Form::Json => {
@@ -35,11 +43,16 @@ pub fn rivals_line(
     }
 }
 
-fn rivals_key(sources: u64) -> &'static str {
+fn rivals_key(sources: u64) -> &'static str
+    ensures { result.now ≡ rivals_key sources }
+{
     if sources >= 2 { "rivals" } else { "no_rivals" }
 }
 
-fn push_rivals(text: &mut String, sources: u64, priority: u8) -> Result<(), AllocError> {
+#[tactic(auto, unfolding(crate::specs::Lines::rivals_words))]
+fn push_rivals(text: &mut String, sources: u64, priority: u8) -> Result<(), AllocError>
+    ensures { OnOk result (string_bytes text.new ≡ string_bytes text.old ++ rivals_words sources priority) }
+{
     match sources {
         0 => text.push_str("no source sends any longer"),
         1 => write!(
@@ -60,12 +73,14 @@ pub fn listing_line(
     now: u64,
     event: &str,
     listing: &Listing,
-) -> Result<(), AllocError> {
+) -> Result<(), AllocError>
+    ensures { OnOk result (string_bytes text.new ≡ string_bytes text.old ++ listing_line form now event.now listing.now) }
+{
     match form {
         Form::Text => {
             words::begin(text, now)?;
             push_source(text, listing)?;
-            text.push_str(list_word(event))?;
+            push_list_word(text, event)?;
             push_listed(text, listing)
         }
         Form::Json => {
@@ -77,36 +92,42 @@ pub fn listing_line(
     }
 }
 
-fn list_word(event: &str) -> &'static str {
-    match event {
-        "lists" => "  lists universes ",
-        _ => "  lists other universes than before: ",
+#[tactic(auto, unfolding(crate::specs::Lines::list_words))]
+fn push_list_word(text: &mut String, event: &str) -> Result<(), AllocError>
+    ensures { OnOk result (string_bytes text.new ≡ string_bytes text.old ++ list_words event.now) }
+{
+    if event == "lists" {
+        return text.push_str("  lists universes ");
     }
+    text.push_str("  lists other universes than before: ")
 }
 
 /// A source: its CID and name.
-pub fn push_source(text: &mut String, listing: &Listing) -> Result<(), AllocError> {
-    push_cid(text, &listing.cid)?;
-    text.push(' ')?;
-    push_name(text, listing.name.as_slice())
+pub fn push_source(text: &mut String, listing: &Listing) -> Result<(), AllocError>
+    ensures { OnOk result (string_bytes text.new ≡ string_bytes text.old ++ source_text listing.now.cid listing.now.name.items) }
+{
+    words::push_source(text, &listing.cid, listing.name.as_slice())
 }
 
 /// The same as members of an object.
-pub fn push_source_members(text: &mut String, listing: &Listing) -> Result<(), AllocError> {
-    text.push_str(",\"cid\":\"")?;
-    push_cid(text, &listing.cid)?;
-    text.push_str("\",\"name\":")?;
-    push_name(text, listing.name.as_slice())
+pub fn push_source_members(text: &mut String, listing: &Listing) -> Result<(), AllocError>
+    ensures { OnOk result (string_bytes text.new ≡ string_bytes text.old ++ source_members listing.now.cid listing.now.name.items) }
+{
+    json::push_source(text, &listing.cid, listing.name.as_slice())
 }
 
-fn push_listed(text: &mut String, listing: &Listing) -> Result<(), AllocError> {
+fn push_listed(text: &mut String, listing: &Listing) -> Result<(), AllocError>
+    ensures { OnOk result (string_bytes text.new ≡ string_bytes text.old ++ listed_ranges listing.now.universes) }
+{
     match &listing.universes {
         Some(universes) => push_ranges(text, universes.as_slice()),
         None => Ok(()),
     }
 }
 
-fn push_listed_member(text: &mut String, listing: &Listing) -> Result<(), AllocError> {
+fn push_listed_member(text: &mut String, listing: &Listing) -> Result<(), AllocError>
+    ensures { OnOk result (string_bytes text.new ≡ string_bytes text.old ++ listed_member listing.now.universes) }
+{
     match &listing.universes {
         Some(universes) => push_numbers(text, "universes", universes.as_slice()),
         None => Ok(()),
@@ -120,31 +141,49 @@ pub fn frame_line(
     now: u64,
     shown: &PortShown,
     cause: &Cause<'_>,
-) -> Result<(), AllocError> {
+) -> Result<(), AllocError>
+    ensures { OnOk result (string_bytes text.new ≡ string_bytes text.old ++ frame_line form now shown.now cause.now) }
+{
     let port = shown.port;
     match form {
         Form::Text => {
             words::begin(text, now)?;
-            write!(text, "port {port:>9}  ")?;
+            push_port(text, port)?;
             push_cause(text, cause)
         }
         Form::Json => {
             json::begin(text, now, "frame")?;
             json::push_number(text, "port", u64::from(port))?;
             push_cause_members(text, cause)?;
-            push_slots(text, shown)?;
+            push_slots_member(text, shown)?;
             text.push('}')
         }
     }
 }
 
-// The digits of a frame's slots, two for each.
-fn push_slots(text: &mut String, shown: &PortShown) -> Result<(), AllocError> {
-    text.push_str(",\"slots\":\"")?;
-    if let Some(frame) = &shown.last {
-        for slot in &frame[1..] {
-            write!(text, "{slot:02x}")?;
-        }
-    }
+#[tactic(auto, unfolding(crate::specs::Lines::port_text), using(crate::proofs::Padding::right_is))]
+fn push_port(text: &mut String, port: u8) -> Result<(), AllocError>
+    ensures { OnOk result (string_bytes text.new ≡ string_bytes text.old ++ port_text port) }
+{
+    write!(text, "port {port:>9}  ")
+}
+
+#[tactic(auto, unfolding(crate::specs::Lines::slots_member))]
+fn push_slots_member(text: &mut String, shown: &PortShown) -> Result<(), AllocError>
+    ensures { OnOk result (string_bytes text.new ≡ string_bytes text.old ++ slots_member shown.now.last) }
+{
+    json::push_key(text, "slots")?;
+    text.push('"')?;
+    push_slots(text, shown)?;
     text.push('"')
+}
+
+// The digits of a frame's slots, two for each.
+fn push_slots(text: &mut String, shown: &PortShown) -> Result<(), AllocError>
+    ensures { OnOk result (string_bytes text.new ≡ string_bytes text.old ++ slot_digits shown.now.last) }
+{
+    match &shown.last {
+        Some(frame) => push_digits(text, frame.split_at(1).1),
+        None => Ok(()),
+    }
 }

@@ -17,14 +17,21 @@ fn push_octet(text: &mut String, octet: u8) -> Result<(), AllocError>
     write!(text, "{octet:02x}")
 }
 
+/// The digits of octets, two for each.
+pub fn push_digits(text: &mut String, octets: &[u8]) -> Result<(), AllocError>
+    ensures { OnOk result (string_bytes text.new ≡ string_bytes text.old ++ octets_text octets.now) }
+{
+    for octet in octets {
+        push_octet(text, *octet)?;
+    }
+    Ok(())
+}
+
 /// A CID's 32 digits (E1.31, 5.6).
 pub fn push_cid(text: &mut String, cid: &[u8; 16]) -> Result<(), AllocError>
     ensures { OnOk result (string_bytes text.new ≡ string_bytes text.old ++ octets_text cid.now) }
 {
-    for octet in cid {
-        push_octet(text, *octet)?;
-    }
-    Ok(())
+    push_digits(text, cid)
 }
 
 /// An address, a colon and a port.
@@ -112,43 +119,4 @@ fn push_escape(text: &mut String, letter: char) -> Result<(), AllocError>
 {
     let code = letter as u32;
     write!(text, "\\u{code:04x}")
-}
-
-/// Numbers that ascend, as ranges; a dash where there is none.
-pub fn push_ranges(text: &mut String, numbers: &[u16]) -> Result<(), AllocError> {
-    let mut range: Option<(u16, u16)> = None;
-    for number in numbers {
-        range = match range {
-            Some((first, last)) if last.saturating_add(1) == *number => Some((first, *number)),
-            _ => {
-                push_range(text, range)?;
-                Some((*number, *number))
-            }
-        };
-    }
-    match range {
-        Some((first, last)) if first == last => write!(text, "{first}"),
-        Some((first, last)) => write!(text, "{first}-{last}"),
-        None => text.push('-'),
-    }
-}
-
-// A range before another one.
-fn push_range(text: &mut String, range: Option<(u16, u16)>) -> Result<(), AllocError> {
-    match range {
-        Some((first, last)) if first == last => write!(text, "{first}, "),
-        Some((first, last)) => write!(text, "{first}-{last}, "),
-        None => Ok(()),
-    }
-}
-
-/// A member that is a list of numbers.
-pub fn push_numbers(text: &mut String, key: &str, numbers: &[u16]) -> Result<(), AllocError> {
-    write!(text, ",\"{key}\":[")?;
-    let mut comma = "";
-    for number in numbers {
-        write!(text, "{comma}{number}")?;
-        comma = ",";
-    }
-    text.push(']')
 }

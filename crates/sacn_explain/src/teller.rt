@@ -1,15 +1,22 @@
 //! Lines as they are written.
 
+ghost use Rattle.std.specs.Prelude.{◌≡◌, ◌++◌, [], OnOk, nat_lt, string_bytes, codes};
+ghost use Rattle.sacn_explain.specs.Lines.{frame_line, listing_line, rivals_line};
+ghost use Rattle.sacn_explain.specs.PacketLines.{anew_line, loss_line, moved_line, refused_line, renamed_line, skipped_line, untracked_line};
+
 use crate::cause::Cause;
 use crate::fault::TellFault;
 use crate::lines::{frame_line, listing_line, rivals_line};
 use crate::listings::Listing;
 use crate::options::Form;
-use crate::{json, words};
+use crate::packet_lines::{
+    anew_line, event_line, loss_line, moved_line, priority_line, refused_line, renamed_line,
+    skipped_line, untracked_line,
+};
 use sacn_edge::PortShown;
-use sacn_monitor::{Event, News, Sender, Stream};
+use sacn_monitor::{Change, Event, News, Sender, Stream};
 use sacn_root::PacketFault;
-use std::alloc::{AllocError, Global};
+use std::alloc::Global;
 use std::io::Write;
 
 /// Writes a line for each thing that happened. One line is kept in memory.
@@ -21,7 +28,15 @@ pub struct Teller<'o, O> {
 }
 
 impl<'o, O: Write> Teller<'o, O> {
-    pub fn new(alloc: Global, form: Form, out: &'o mut O) -> Self {
+    ghost use Rattle.sacn_explain.specs.Told.{Tells, ended, event_told, news_told, priority_told, shown_in, where_so};
+
+    /// A teller that has told nothing.
+    pub fn new(alloc: Global, form: Form, out: &'o mut O) -> Self
+        ensures form { result.form ≡ form }
+        ensures line { string_bytes result.line ≡ [] }
+        ensures out { result.out.ghost_name ≡ out.entry.ghost_name }
+        ensures nothing { result.out.now ≡ out.old }
+    {
         Teller {
             form,
             line: String::new(alloc),
@@ -30,7 +45,10 @@ impl<'o, O: Write> Teller<'o, O> {
     }
 
     /// Ends the line, and writes it.
-    pub fn write(&mut self) -> Result<(), TellFault> {
+    pub fn write(&mut self) -> Result<(), TellFault>
+        ensures told { OnOk result (Tells O.contents self.old self.new (codes "\n")) }
+        ensures line { OnOk result (string_bytes self.new.line ≡ []) }
+    {
         self.line.push('\n')?;
         self.out.write_all(self.line.as_bytes())?;
         self.line.clear();
@@ -38,40 +56,86 @@ impl<'o, O: Write> Teller<'o, O> {
     }
 
     /// All that a data packet told.
-    pub fn news(&mut self, now: u64, stream: &Stream, news: &News) -> Result<(), TellFault> {
-        if news.event != Event::GoesOn {
-            event_line(&mut self.line, self.form, now, stream, news.event)?;
-            self.write()?;
-        }
-        if news.moved {
-            moved_line(&mut self.line, self.form, now, stream)?;
-            self.write()?;
-        }
-        if news.renamed {
-            renamed_line(&mut self.line, self.form, now, stream)?;
-            self.write()?;
-        }
-        self.numbers(now, stream, news)
+    pub fn news(&mut self, now: u64, stream: &Stream, news: &News) -> Result<(), TellFault>
+        ensures { OnOk result (Tells O.contents self.old self.new (news_told self.old.form now stream.now news.now)) }
+    {
+        self.event(now, stream, news.event)?;
+        self.moved(now, stream, news.moved)?;
+        self.renamed(now, stream, news.renamed)?;
+        self.priority(now, stream, news.priority)?;
+        self.anew(now, stream, news.began_anew)?;
+        self.skipped(now, stream, news)
     }
 
-    fn numbers(&mut self, now: u64, stream: &Stream, news: &News) -> Result<(), TellFault> {
-        if let Some(change) = news.priority {
-            priority_line(&mut self.line, self.form, now, stream, change)?;
-            self.write()?;
+    fn event(&mut self, now: u64, stream: &Stream, event: Event) -> Result<(), TellFault>
+        ensures { OnOk result (Tells O.contents self.old self.new (event_told self.old.form now stream.now event)) }
+    {
+        if event == Event::GoesOn {
+            return Ok(());
         }
-        if news.began_anew {
-            anew_line(&mut self.line, self.form, now, stream)?;
-            self.write()?;
+        event_line(&mut self.line, self.form, now, stream, event)?;
+        self.write()
+    }
+
+    fn moved(&mut self, now: u64, stream: &Stream, has_moved: bool) -> Result<(), TellFault>
+        ensures { OnOk result (Tells O.contents self.old self.new (where_so has_moved (moved_line self.old.form now stream.now))) }
+    {
+        if !has_moved {
+            return Ok(());
         }
-        if news.skipped > 0 {
-            skipped_line(&mut self.line, self.form, now, stream, news)?;
-            self.write()?;
+        moved_line(&mut self.line, self.form, now, stream)?;
+        self.write()
+    }
+
+    fn renamed(&mut self, now: u64, stream: &Stream, is_renamed: bool) -> Result<(), TellFault>
+        ensures { OnOk result (Tells O.contents self.old self.new (where_so is_renamed (renamed_line self.old.form now stream.now))) }
+    {
+        if !is_renamed {
+            return Ok(());
         }
-        Ok(())
+        renamed_line(&mut self.line, self.form, now, stream)?;
+        self.write()
+    }
+
+    fn priority(
+        &mut self,
+        now: u64,
+        stream: &Stream,
+        change: Option<Change>,
+    ) -> Result<(), TellFault>
+        ensures { OnOk result (Tells O.contents self.old self.new (priority_told self.old.form now stream.now change)) }
+    {
+        let Some(change) = change else {
+            return Ok(());
+        };
+        priority_line(&mut self.line, self.form, now, stream, change)?;
+        self.write()
+    }
+
+    fn anew(&mut self, now: u64, stream: &Stream, began_anew: bool) -> Result<(), TellFault>
+        ensures { OnOk result (Tells O.contents self.old self.new (where_so began_anew (anew_line self.old.form now stream.now))) }
+    {
+        if !began_anew {
+            return Ok(());
+        }
+        anew_line(&mut self.line, self.form, now, stream)?;
+        self.write()
+    }
+
+    fn skipped(&mut self, now: u64, stream: &Stream, news: &News) -> Result<(), TellFault>
+        ensures { OnOk result (Tells O.contents self.old self.new (where_so (nat_lt 0 news.now.skipped) (skipped_line self.old.form now stream.now news.now.skipped))) }
+    {
+        if news.skipped == 0 {
+            return Ok(());
+        }
+        skipped_line(&mut self.line, self.form, now, stream, news)?;
+        self.write()
     }
 
     /// A stream that is lost.
-    pub fn loss(&mut self, now: u64, stream: &Stream) -> Result<(), TellFault> {
+    pub fn loss(&mut self, now: u64, stream: &Stream) -> Result<(), TellFault>
+        ensures { OnOk result (Tells O.contents self.old self.new (ended (loss_line self.old.form now stream.now))) }
+    {
         loss_line(&mut self.line, self.form, now, stream)?;
         self.write()
     }
@@ -82,13 +146,17 @@ impl<'o, O: Write> Teller<'o, O> {
         now: u64,
         sender: &Sender,
         fault: PacketFault,
-    ) -> Result<(), TellFault> {
+    ) -> Result<(), TellFault>
+        ensures { OnOk result (Tells O.contents self.old self.new (ended (refused_line self.old.form now sender.now fault))) }
+    {
         refused_line(&mut self.line, self.form, now, sender, fault)?;
         self.write()
     }
 
     /// A data packet of a stream for which there is no room.
-    pub fn untracked(&mut self, now: u64, sender: &Sender) -> Result<(), TellFault> {
+    pub fn untracked(&mut self, now: u64, sender: &Sender) -> Result<(), TellFault>
+        ensures { OnOk result (Tells O.contents self.old self.new (ended (untracked_line self.old.form now sender.now))) }
+    {
         untracked_line(&mut self.line, self.form, now, sender)?;
         self.write()
     }
@@ -100,13 +168,17 @@ impl<'o, O: Write> Teller<'o, O> {
         universe: u16,
         sources: usize,
         priority: u8,
-    ) -> Result<(), TellFault> {
+    ) -> Result<(), TellFault>
+        ensures { OnOk result (Tells O.contents self.old self.new (ended (rivals_line self.old.form now universe sources priority))) }
+    {
         rivals_line(&mut self.line, self.form, now, universe, sources, priority)?;
         self.write()
     }
 
     /// A list of universes, which is another one than before.
-    pub fn listing(&mut self, now: u64, event: &str, listing: &Listing) -> Result<(), TellFault> {
+    pub fn listing(&mut self, now: u64, event: &str, listing: &Listing) -> Result<(), TellFault>
+        ensures { OnOk result (Tells O.contents self.old self.new (ended (listing_line self.old.form now event.now listing.now))) }
+    {
         listing_line(&mut self.line, self.form, now, event, listing)?;
         self.write()
     }
@@ -118,195 +190,24 @@ impl<'o, O: Write> Teller<'o, O> {
         shown: &PortShown,
         cause: &Cause<'_>,
         line: &[u8],
-    ) -> Result<(), TellFault> {
+    ) -> Result<(), TellFault>
+        ensures { OnOk result (Tells O.contents self.old self.new (ended (frame_line self.old.form now shown.now cause.now) ++ shown_in self.old.form line.now)) }
+    {
         frame_line(&mut self.line, self.form, now, shown, cause)?;
         self.write()?;
-        if self.form == Form::Text {
-            self.out.write_all(line)?;
-        }
-        Ok(())
+        self.pass(line)
     }
-}
 
-// The key of an event in JSON.
-fn event_key(event: Event) -> &'static str {
-    match event {
-        Event::GoesOn => "goes_on",
-        Event::Appeared => "appeared",
-        Event::CameBack => "came_back",
-        Event::Ended => "ended",
-        Event::OutOfSequence => "out_of_sequence",
-        Event::Repeated => "repeated",
-    }
-}
-
-fn event_line(
-    text: &mut String,
-    form: Form,
-    now: u64,
-    stream: &Stream,
-    event: Event,
-) -> Result<(), AllocError> {
-    match form {
-        Form::Text => {
-            words::begin_stream(text, now, stream)?;
-            words::push_event(text, event, stream)
-        }
-        Form::Json => {
-            json::begin(text, now, event_key(event))?;
-            json::push_stream(text, stream)?;
-            json::push_sender(text, &stream.account.sender)?;
-            json::push_number(text, "priority", u64::from(stream.account.priority))?;
-            text.push('}')
-        }
-    }
-}
-
-fn moved_line(text: &mut String, form: Form, now: u64, stream: &Stream) -> Result<(), AllocError> {
-    match form {
-        Form::Text => {
-            words::begin_stream(text, now, stream)?;
-            text.push_str("now sends from ")?;
-            crate::spelling::push_sender(text, &stream.account.sender)
-        }
-        Form::Json => {
-            json::begin(text, now, "moved")?;
-            json::push_stream(text, stream)?;
-            json::push_sender(text, &stream.account.sender)?;
-            text.push('}')
-        }
-    }
-}
-
-fn renamed_line(
-    text: &mut String,
-    form: Form,
-    now: u64,
-    stream: &Stream,
-) -> Result<(), AllocError> {
-    match form {
-        Form::Text => {
-            words::begin_stream(text, now, stream)?;
-            text.push_str("has this name now")
-        }
-        Form::Json => {
-            json::begin(text, now, "renamed")?;
-            json::push_stream(text, stream)?;
-            text.push('}')
-        }
-    }
-}
-
-fn priority_line(
-    text: &mut String,
-    form: Form,
-    now: u64,
-    stream: &Stream,
-    change: sacn_monitor::Change,
-) -> Result<(), AllocError> {
-    match form {
-        Form::Text => {
-            words::begin_stream(text, now, stream)?;
-            words::push_priority(text, change)
-        }
-        Form::Json => {
-            json::begin(text, now, "priority")?;
-            json::push_stream(text, stream)?;
-            json::push_number(text, "from", u64::from(change.from))?;
-            json::push_number(text, "to", u64::from(change.to))?;
-            text.push('}')
-        }
-    }
-}
-
-fn anew_line(text: &mut String, form: Form, now: u64, stream: &Stream) -> Result<(), AllocError> {
-    match form {
-        Form::Text => {
-            words::begin_stream(text, now, stream)?;
-            text.push_str("begins its numbers anew")
-        }
-        Form::Json => {
-            json::begin(text, now, "began_anew")?;
-            json::push_stream(text, stream)?;
-            text.push('}')
-        }
-    }
-}
-
-fn skipped_line(
-    text: &mut String,
-    form: Form,
-    now: u64,
-    stream: &Stream,
-    news: &News,
-) -> Result<(), AllocError> {
-    match form {
-        Form::Text => {
-            words::begin_stream(text, now, stream)?;
-            words::push_skipped(text, news)
-        }
-        Form::Json => {
-            json::begin(text, now, "skipped")?;
-            json::push_stream(text, stream)?;
-            json::push_number(text, "count", u64::from(news.skipped))?;
-            text.push('}')
-        }
-    }
-}
-
-fn loss_line(text: &mut String, form: Form, now: u64, stream: &Stream) -> Result<(), AllocError> {
-    match form {
-        Form::Text => {
-            words::begin_stream(text, now, stream)?;
-            words::push_loss(text, stream)
-        }
-        Form::Json => {
-            json::begin(text, now, "lost")?;
-            json::push_stream(text, stream)?;
-            json::push_number(text, "since", stream.account.latest)?;
-            text.push('}')
-        }
-    }
-}
-
-fn refused_line(
-    text: &mut String,
-    form: Form,
-    now: u64,
-    sender: &Sender,
-    fault: PacketFault,
-) -> Result<(), AllocError> {
-    match form {
-        Form::Text => {
-            words::begin(text, now)?;
-            words::push_refused(text, sender, fault)
-        }
-        Form::Json => {
-            json::begin(text, now, "refused")?;
-            json::push_sender(text, sender)?;
-            json::push_number(text, "fault", u64::from(fault.number()))?;
-            text.push('}')
-        }
-    }
-}
-
-fn untracked_line(
-    text: &mut String,
-    form: Form,
-    now: u64,
-    sender: &Sender,
-) -> Result<(), AllocError> {
-    match form {
-        Form::Text => {
-            words::begin(text, now)?;
-            text.push_str("from ")?;
-            crate::spelling::push_sender(text, sender)?;
-            text.push_str("  no room for a further source, not followed")
-        }
-        Form::Json => {
-            json::begin(text, now, "untracked")?;
-            json::push_sender(text, sender)?;
-            text.push('}')
+    // Writes what a node wrote, where it is told for people.
+    fn pass(&mut self, line: &[u8]) -> Result<(), TellFault>
+        ensures { string_bytes self.old.line ≡ [] → OnOk result (Tells O.contents self.old self.new (shown_in self.old.form line.now)) }
+    {
+        match self.form {
+            Form::Text => {
+                self.out.write_all(line)?;
+                Ok(())
+            }
+            Form::Json => Ok(()),
         }
     }
 }

@@ -1,8 +1,9 @@
 //! Things that happen, in words for people.
 
 ghost use Rattle.std.specs.Prelude.{◌≡◌, ◌++◌, OnOk, string_bytes};
-ghost use Rattle.sacn_explain.specs.Sentences.{line_front, source_text, universe_text, stream_front, presence_words, event_words, loss_words, priority_words, skipped_words};
+ghost use Rattle.sacn_explain.specs.Sentences.{line_front, source_text, universe_text, stream_front, presence_words, event_words, moved_words, loss_words, priority_words, skipped_words, refusal_words, refused_words, untracked_words};
 
+use crate::refusals::fault_words;
 use crate::spelling::{push_cid, push_moment, push_name, push_sender};
 use sacn_framing::up_to_nul;
 use sacn_monitor::{Change, Event, News, Sender, Stream};
@@ -73,6 +74,15 @@ fn push_presence(text: &mut String, word: &str, stream: &Stream) -> Result<(), A
     write!(text, ", priority {priority}")
 }
 
+/// Where a source sends from now.
+#[tactic(auto, unfolding(crate::specs::Sentences::moved_words))]
+pub fn push_moved(text: &mut String, sender: &Sender) -> Result<(), AllocError>
+    ensures { OnOk result (string_bytes text.new ≡ string_bytes text.old ++ moved_words sender.now) }
+{
+    text.push_str("now sends from ")?;
+    push_sender(text, sender)
+}
+
 /// The first moment of silence.
 #[tactic(auto, unfolding(crate::specs::Sentences::loss_words), using(crate::proofs::Padding::zeros_is))]
 pub fn push_loss(text: &mut String, stream: &Stream) -> Result<(), AllocError>
@@ -103,12 +113,34 @@ pub fn push_skipped(text: &mut String, news: &News) -> Result<(), AllocError>
     }
 }
 
+/// Why a datagram is no packet, and from where it came.
+#[tactic(auto, unfolding(crate::specs::Sentences::refused_words))]
 pub fn push_refused(
     text: &mut String,
     sender: &Sender,
     fault: PacketFault,
-) -> Result<(), AllocError> {
+) -> Result<(), AllocError>
+    ensures { OnOk result (string_bytes text.new ≡ string_bytes text.old ++ refused_words sender.now fault) }
+{
     text.push_str("from ")?;
     push_sender(text, sender)?;
-    write!(text, "  refused: {fault}")
+    push_refusal(text, fault)
+}
+
+#[tactic(auto, unfolding(crate::specs::Sentences::refusal_words))]
+fn push_refusal(text: &mut String, fault: PacketFault) -> Result<(), AllocError>
+    ensures { OnOk result (string_bytes text.new ≡ string_bytes text.old ++ refusal_words fault) }
+{
+    text.push_str("  refused: ")?;
+    text.push_str(fault_words(fault))
+}
+
+/// A packet of a source for which there is no room, and from where it came.
+#[tactic(auto, unfolding(crate::specs::Sentences::untracked_words))]
+pub fn push_untracked(text: &mut String, sender: &Sender) -> Result<(), AllocError>
+    ensures { OnOk result (string_bytes text.new ≡ string_bytes text.old ++ untracked_words sender.now) }
+{
+    text.push_str("from ")?;
+    push_sender(text, sender)?;
+    text.push_str("  no room for a further source, not followed")
 }
