@@ -63,6 +63,10 @@ status=$?
 count() {
   if grep -qE "$2" <<<"$said"; then echo "ok gate: $1"; else echo "not ok gate: $1: $(tail -n 4 <<<"$said" | tr '\n' ';')"; fi
 }
+# What the kit calls the functions of an impl of a trait whose own type is a path: by all its words.
+named=$(cd "$top/tools" && python3 -B -c 'import gate; print(*gate.impl_of(["impl From<io::Error> for Fault {", "    fn from(error: io::Error) -> Fault {"], 1, "    ")[1])')
+if [ "$named" = "FaultFrom FaultFromIoError" ]; then echo "ok gate: an impl is found by the kit's name"; else echo "not ok gate: an impl is found by the kit's name: $named"; fi
+
 count "a sum that is wrong is refused for its own goal" '^rt: must-fail sums/two_more\.edit: refused, as it must be: add::next: '
 count "a number falls by the law that states it" '^rt: must-fail sums/another_most\.edit: refused, as it must be: laws::numbers: '
 count "what falls only with what it calls is tried alone" '^rt: sums: 2 of 3 edits refused together; one by one: as_before\.edit$'

@@ -65,8 +65,8 @@ def impl_of(lines, at, indent):
     if not found:
         return "", []
     name = found[3][0].upper() + found[3][1:] + (found[1] or "")
-    given = re.findall(r"(?:^|, )&?(?:'\w+ )?(\w+)", found[2] or "")
-    return found[3], [name, name + "".join(it[0].upper() + it[1:] for it in given)]
+    given = re.findall(r"(?:^|, )&?(?:'\w+ )?(\w+(?:::\w+)*)", found[2] or "")
+    return found[3], [name, name + "".join(it[0].upper() + it[1:] for path in given for it in path.split("::"))]
 
 
 def functions_of(path, text, homes):
