@@ -1,5 +1,5 @@
 -- The tables at the end: of the sources, of the universes, of the lists and of the refusals, and all counts.
-use Rattle.std.specs.Prelude.{ℕ, ◌==◌, nat_lt, Bool, not, is_some, List, [], ◌∷◌, ◌++◌, codes, filter, get_or, map, take, slice_index, Option, None, Some, Vec, if◌then◌else◌}
+use Rattle.std.specs.Prelude.{ℕ, ◌==◌, nat_lt, Bool, not, is_some, List, [], ◌∷◌, ◌++◌, filter, get_or, map, take, slice_index, Option, None, Some, Vec, if◌then◌else◌}
 use Rattle.std.specs.List.{flat_map, list_any}
 use Rattle.std.specs.declared.alloc.Global.{Global}
 use Rattle.sacn_root.specs.declared.fault.PacketFault.{PacketFault}

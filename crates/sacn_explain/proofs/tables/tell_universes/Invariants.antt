@@ -1,6 +1,6 @@
-use Rattle.std.proofs.Common.{◌≡◌, ◌++◌, nat_lt, is_some, map, take}
-use Rattle.std.specs.List.{flat_map, list_any}
-use Rattle.sacn_explain.specs.declared.tables.TheConstants.{FAULTS, LIST_HEAD, REFUSED_HEAD, STREAM_HEAD, UNIVERSE_HEAD}
+use Rattle.std.proofs.Common.{◌++◌, map, take}
+use Rattle.std.specs.List.{flat_map}
+use Rattle.sacn_explain.specs.declared.tables.TheConstants.{UNIVERSE_HEAD}
 use Rattle.sacn_explain.specs.Tables.{each_once, head_told, universe_told}
 use Rattle.sacn_explain.specs.Told.{Tells}
 use Rattle.sacn_explain.proofs.tables.tell_universes.Given as goal

@@ -1,6 +1,6 @@
 use Rattle.std.proofs.Common.{◌++◌, ℕ, ap, ◌∙◌, codes, string_bytes}
 use Rattle.sacn_explain.specs.Members.{number_member}
-use Rattle.sacn_explain.specs.Totals.{named_count, frames_members}
+use Rattle.sacn_explain.specs.Totals.{frames_members}
 use Rattle.sacn_explain.proofs.Texts.{two_pieces}
 use Rattle.sacn_explain.proofs.totals.push_frames_members.Goals as goal
 

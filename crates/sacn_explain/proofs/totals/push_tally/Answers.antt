@@ -1,5 +1,4 @@
 use Rattle.std.proofs.Common.{◌++◌, ℕ, ap, ◌∙◌, codes, string_bytes}
-use Rattle.sacn_explain.specs.Members.{number_member}
 use Rattle.sacn_explain.specs.Totals.{named_count, tally_text}
 use Rattle.sacn_explain.proofs.Texts.{two_pieces}
 use Rattle.sacn_explain.proofs.totals.push_tally.Goals as goal
