@@ -9,3 +9,4 @@ mod Letters
 mod Runs
 mod Texts
 pub mod Telling
+mod RowTexts

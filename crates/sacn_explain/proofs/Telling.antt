@@ -50,3 +50,8 @@ module _ {O : Type 0} (contents : O → Option (List ℕ)) where
       → OnOk r (Tells contents a c (first ++ next a.form))
   then (Err fault) a b c first next p q = tt
   then (Ok x) a b c first next p q = both a b c first (next a.form) p (subst (λ (form : Form). Tells contents b c (next form)) p.form q)
+
+  -- the rows so far, and one more
+  pub one_row : (a b c : Teller O) (so_far whole : List ℕ) (row : Form → List ℕ) → Tells contents a b so_far → Tells contents b c (row b.form) → so_far ++ row a.form ≡ whole → Tells contents a c whole
+  one_row a b c so_far whole row p q is =
+      subst (λ (t : List ℕ). Tells contents a c t) is (both a b c so_far (row a.form) p (subst (λ (form : Form). Tells contents b c (row form)) p.form q))

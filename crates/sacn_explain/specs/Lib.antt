@@ -16,3 +16,7 @@ pub mod Causes
 pub mod PacketLines
 pub mod Lines
 pub mod Told
+pub mod Rows
+pub mod StreamRows
+pub mod Totals
+pub mod Tables

@@ -9,6 +9,10 @@ use Rattle.sacn_explain.specs.Spelled.{octets_text, address_text, name_text}
 unfoldable pub object_front : ℕ → List ℕ → List ℕ
 object_front moment event = codes "{\"ms\":" ++ (decimal moment ++ (codes ",\"event\":\"" ++ (event ++ codes "\"")))
 
+-- the front of the object of a table's row
+unfoldable pub row_front : List ℕ → List ℕ
+row_front row = codes "{\"row\":\"" ++ (row ++ codes "\"")
+
 -- a member that is a number, and one that is a word
 unfoldable pub number_member : List ℕ → ℕ → List ℕ
 number_member key number = codes ",\"" ++ (key ++ (codes "\":" ++ decimal number))

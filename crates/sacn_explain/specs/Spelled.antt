@@ -5,12 +5,15 @@ use Rattle.std.specs.List.{flat_map}
 use Rattle.std.specs.Str.{is_utf8}
 use Rattle.sacn_monitor.specs.declared.account.Sender.{Sender}
 
--- behind as many spaces, or zeros, as it lacks of a width
+-- behind as many spaces, or zeros, as it lacks of a width; and before as many spaces
 abbrev pub right : ℕ → List ℕ → List ℕ
 right width text = replicate (width - length text) 32 ++ text
 
 abbrev pub zeros : ℕ → List ℕ → List ℕ
 zeros width text = replicate (width - length text) 48 ++ text
+
+abbrev pub left : ℕ → List ℕ → List ℕ
+left width text = text ++ replicate (width - length text) 32
 
 -- two hexadecimal digits
 unfoldable pub octet_text : ℕ → List ℕ

@@ -1,7 +1,7 @@
 //! Members of JSON objects.
 
 ghost use Rattle.std.specs.Prelude.{◌≡◌, ◌++◌, OnOk, string_bytes};
-ghost use Rattle.sacn_explain.specs.Members.{object_front, number_member, word_member, stream_members, source_members, quoted_address, key_text, sender_members};
+ghost use Rattle.sacn_explain.specs.Members.{object_front, row_front, number_member, word_member, stream_members, source_members, quoted_address, key_text, sender_members};
 
 use crate::spelling::{push_address, push_cid, push_name};
 use sacn_framing::up_to_nul;
@@ -15,6 +15,14 @@ pub fn begin(text: &mut String, moment: u64, event: &str) -> Result<(), AllocErr
     ensures { OnOk result (string_bytes text.new ≡ string_bytes text.old ++ object_front moment event.now) }
 {
     write!(text, "{{\"ms\":{moment},\"event\":\"{event}\"")
+}
+
+/// The front of the object of a table's row.
+#[tactic(auto, unfolding(crate::specs::Members::row_front))]
+pub fn begin_row(text: &mut String, row: &str) -> Result<(), AllocError>
+    ensures { OnOk result (string_bytes text.new ≡ string_bytes text.old ++ row_front row.now) }
+{
+    write!(text, "{{\"row\":\"{row}\"")
 }
 
 /// A member that is a number.

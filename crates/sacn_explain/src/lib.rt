@@ -20,8 +20,10 @@ mod report;
 mod rows;
 mod spelling;
 mod stage;
+mod stream_rows;
 mod tables;
 mod teller;
+mod totals;
 mod words;
 
 pub use fault::ExplainFault;

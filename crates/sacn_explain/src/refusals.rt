@@ -1,7 +1,7 @@
 //! Why octets are no packet, in words.
 
 ghost use Rattle.std.specs.Prelude.{◌≡◌};
-ghost use Rattle.sacn_explain.specs.Refusals.{fault_words};
+ghost use Rattle.sacn_explain.specs.Refusals.{fault_name, fault_words};
 
 use sacn_root::PacketFault;
 
@@ -28,5 +28,31 @@ pub fn fault_words(fault: PacketFault) -> &'static str
         PacketFault::DiscoveryVector => "the discovery vector is wrong",
         PacketFault::PageRange => "the page is above the last page",
         PacketFault::TooManyUniverses => "the page has too many universes",
+    }
+}
+
+/// A fault's name: the text of its `Debug`.
+pub fn fault_name(fault: PacketFault) -> &'static str
+    ensures { result.now ≡ fault_name fault }
+{
+    match fault {
+        PacketFault::TooShort => "TooShort",
+        PacketFault::Preamble => "Preamble",
+        PacketFault::Postamble => "Postamble",
+        PacketFault::Identifier => "Identifier",
+        PacketFault::Flags => "Flags",
+        PacketFault::Length => "Length",
+        PacketFault::RootVector => "RootVector",
+        PacketFault::FramingVector => "FramingVector",
+        PacketFault::DmpVector => "DmpVector",
+        PacketFault::AddressType => "AddressType",
+        PacketFault::FirstAddress => "FirstAddress",
+        PacketFault::Increment => "Increment",
+        PacketFault::ValueCount => "ValueCount",
+        PacketFault::Priority => "Priority",
+        PacketFault::Universe => "Universe",
+        PacketFault::DiscoveryVector => "DiscoveryVector",
+        PacketFault::PageRange => "PageRange",
+        PacketFault::TooManyUniverses => "TooManyUniverses",
     }
 }

@@ -1,120 +1,133 @@
-//! Rows of lists, and of what was refused.
+//! Rows of universes, lists and refusals.
 
-use crate::fault::TellFault;
+ghost use Rattle.std.specs.Prelude.{◌≡◌, ◌++◌, OnOk, string_bytes};
+ghost use Rattle.sacn_explain.specs.Rows.{column, list_row, packets_members, refused_row, silent_text, universe_columns, universe_json, universe_members, universe_row, universe_text, unlisted_text};
+
+use crate::count::UniverseCounts;
 use crate::json;
 use crate::lines::{push_source, push_source_members};
-use crate::listings::{Listing, silent, unlisted};
+use crate::listings::Listing;
 use crate::numbers::{push_numbers, push_ranges};
 use crate::options::Form;
-use crate::teller::Teller;
-use sacn_monitor::{Stream, Tally};
+use crate::refusals::fault_name;
+use crate::spelling::push_left;
 use sacn_root::PacketFault;
-use std::alloc::{AllocError, Global};
-use std::fmt::Write as _;
-use std::io::Write;
+use std::alloc::AllocError;
+use std::fmt::Write;
 
-const LIST_HEAD: &str = "\nlists of universes";
-
-const REFUSED_HEAD: &str = "\nrefused by fault";
-
-/// The faults of datagrams, by number.
-const FAULTS: [PacketFault; 18] = [
-    PacketFault::TooShort,
-    PacketFault::Preamble,
-    PacketFault::Postamble,
-    PacketFault::Identifier,
-    PacketFault::Flags,
-    PacketFault::Length,
-    PacketFault::RootVector,
-    PacketFault::FramingVector,
-    PacketFault::DmpVector,
-    PacketFault::AddressType,
-    PacketFault::FirstAddress,
-    PacketFault::Increment,
-    PacketFault::ValueCount,
-    PacketFault::Priority,
-    PacketFault::Universe,
-    PacketFault::DiscoveryVector,
-    PacketFault::PageRange,
-    PacketFault::TooManyUniverses,
-];
-
-/// Writes the lists of the sources that list universes, each beside what was heard of it.
-pub fn tell_listings<O: Write>(
-    alloc: Global,
-    teller: &mut Teller<'_, O>,
-    streams: &[Stream],
-    listings: &[Listing],
-) -> Result<(), TellFault> {
-    let mut is_first = true;
-    for listing in listings {
-        if let Some(universes) = &listing.universes {
-            begin_table(teller, is_first, LIST_HEAD)?;
-            is_first = false;
-            let lists = Lists::of(alloc, streams, &listing.cid, universes.as_slice())?;
-            list_row(&mut teller.line, teller.form, listing, &lists)?;
-            teller.write()?;
-        }
-    }
-    Ok(())
+/// A number, right-aligned in nine places behind a space.
+#[tactic(auto, unfolding(crate::specs::Rows::column), using(crate::proofs::Padding::right_is))]
+pub fn push_column(text: &mut String, count: u64) -> Result<(), AllocError>
+    ensures { OnOk result (string_bytes text.new ≡ string_bytes text.old ++ column count) }
+{
+    write!(text, " {count:>9}")
 }
 
-// The head of a table, before its first row.
-fn begin_table<O: Write>(
-    teller: &mut Teller<'_, O>,
-    is_first: bool,
-    head: &str,
-) -> Result<(), TellFault> {
-    if is_first & (teller.form == Form::Text) {
-        teller.line.push_str(head)?;
-        teller.write()?;
+/// The counts of a universe.
+pub fn universe_row(
+    text: &mut String,
+    form: Form,
+    universe: u16,
+    counts: &UniverseCounts,
+) -> Result<(), AllocError>
+    ensures { OnOk result (string_bytes text.new ≡ string_bytes text.old ++ universe_row form universe counts.now) }
+{
+    match form {
+        Form::Text => universe_text(text, universe, counts),
+        Form::Json => universe_json(text, universe, counts),
     }
-    Ok(())
+}
+
+#[tactic(auto, unfolding(crate::specs::Rows::universe_text))]
+fn universe_text(
+    text: &mut String,
+    universe: u16,
+    counts: &UniverseCounts,
+) -> Result<(), AllocError>
+    ensures { OnOk result (string_bytes text.new ≡ string_bytes text.old ++ universe_text universe counts.now) }
+{
+    push_universe(text, universe, counts)?;
+    push_column(text, counts.taken)?;
+    push_column(text, counts.skipped)?;
+    push_column(text, counts.discarded)
+}
+
+#[tactic(auto, unfolding(crate::specs::Rows::universe_columns), using(crate::proofs::Padding::right_is))]
+fn push_universe(
+    text: &mut String,
+    universe: u16,
+    counts: &UniverseCounts,
+) -> Result<(), AllocError>
+    ensures { OnOk result (string_bytes text.new ≡ string_bytes text.old ++ universe_columns universe counts.now) }
+{
+    let sources = counts.sources;
+    let sending = counts.sending;
+    write!(text, "{universe:>8} {sources:>8} {sending:>8}")
+}
+
+#[tactic(auto, unfolding(crate::specs::Rows::universe_json))]
+fn universe_json(
+    text: &mut String,
+    universe: u16,
+    counts: &UniverseCounts,
+) -> Result<(), AllocError>
+    ensures { OnOk result (string_bytes text.new ≡ string_bytes text.old ++ universe_json universe counts.now) }
+{
+    json::begin_row(text, "universe")?;
+    push_universe_members(text, universe, counts)?;
+    push_packets_members(text, counts)?;
+    text.push('}')
+}
+
+#[tactic(auto, unfolding(crate::specs::Rows::universe_members))]
+fn push_universe_members(
+    text: &mut String,
+    universe: u16,
+    counts: &UniverseCounts,
+) -> Result<(), AllocError>
+    ensures { OnOk result (string_bytes text.new ≡ string_bytes text.old ++ universe_members universe counts.now) }
+{
+    json::push_number(text, "universe", u64::from(universe))?;
+    json::push_number(text, "sources", counts.sources)?;
+    json::push_number(text, "sending", counts.sending)
+}
+
+#[tactic(auto, unfolding(crate::specs::Rows::packets_members))]
+fn push_packets_members(text: &mut String, counts: &UniverseCounts) -> Result<(), AllocError>
+    ensures { OnOk result (string_bytes text.new ≡ string_bytes text.old ++ packets_members counts.now) }
+{
+    json::push_number(text, "taken", counts.taken)?;
+    json::push_number(text, "skipped", counts.skipped)?;
+    json::push_number(text, "discarded", counts.discarded)
 }
 
 /// What a source lists, and how that differs from what was heard of it.
 #[derive(Drop)]
-struct Lists<'a> {
-    listed: &'a [u16],
-    silent: Vec<u16>,
-    unlisted: Vec<u16>,
+pub struct Lists<'a> {
+    pub listed: &'a [u16],
+    pub silent: Vec<u16>,
+    pub unlisted: Vec<u16>,
 }
 
-impl<'a> Lists<'a> {
-    fn of(
-        alloc: Global,
-        streams: &[Stream],
-        cid: &[u8; 16],
-        listed: &'a [u16],
-    ) -> Result<Self, AllocError> {
-        let silent = silent(alloc, streams, cid, listed)?;
-        let unlisted = unlisted(alloc, streams, cid, listed)?;
-        Ok(Lists {
-            listed,
-            silent,
-            unlisted,
-        })
-    }
-}
-
-fn list_row(
+/// The list of a source, beside what was heard of it.
+pub fn list_row(
     text: &mut String,
     form: Form,
     listing: &Listing,
     lists: &Lists<'_>,
-) -> Result<(), AllocError> {
+) -> Result<(), AllocError>
+    ensures { OnOk result (string_bytes text.new ≡ string_bytes text.old ++ list_row form listing.now lists.now.listed.now lists.now.silent.items lists.now.unlisted.items) }
+{
     match form {
         Form::Text => {
             push_source(text, listing)?;
             text.push_str("  lists ")?;
             push_ranges(text, lists.listed)?;
-            text.push_str("; listed and silent: ")?;
-            push_ranges(text, lists.silent.as_slice())?;
-            text.push_str("; heard and unlisted: ")?;
-            push_ranges(text, lists.unlisted.as_slice())
+            push_silent(text, lists.silent.as_slice())?;
+            push_unlisted(text, lists.unlisted.as_slice())
         }
         Form::Json => {
-            text.push_str("{\"row\":\"list\"")?;
+            json::begin_row(text, "list")?;
             push_source_members(text, listing)?;
             push_numbers(text, "universes", lists.listed)?;
             push_numbers(text, "silent", lists.silent.as_slice())?;
@@ -124,48 +137,40 @@ fn list_row(
     }
 }
 
-/// Writes how many datagrams were refused for each fault.
-pub fn tell_refused<O: Write>(teller: &mut Teller<'_, O>, tally: &Tally) -> Result<(), TellFault> {
-    let mut is_first = true;
-    for fault in FAULTS {
-        let count = refused_for(tally, fault);
-        if count > 0 {
-            begin_table(teller, is_first, REFUSED_HEAD)?;
-            is_first = false;
-            refused_row(&mut teller.line, teller.form, fault, count)?;
-            teller.write()?;
-        }
-    }
-    Ok(())
+#[tactic(auto, unfolding(crate::specs::Rows::silent_text))]
+fn push_silent(text: &mut String, silent: &[u16]) -> Result<(), AllocError>
+    ensures { OnOk result (string_bytes text.new ≡ string_bytes text.old ++ silent_text silent.now) }
+{
+    text.push_str("; listed and silent: ")?;
+    push_ranges(text, silent)
 }
 
-// The datagrams that were refused for a fault.
-fn refused_for(tally: &Tally, fault: PacketFault) -> u64 {
-    match tally.refused.get(usize::from(fault.number())) {
-        Some(count) => *count,
-        None => 0,
-    }
+#[tactic(auto, unfolding(crate::specs::Rows::unlisted_text))]
+fn push_unlisted(text: &mut String, unlisted: &[u16]) -> Result<(), AllocError>
+    ensures { OnOk result (string_bytes text.new ≡ string_bytes text.old ++ unlisted_text unlisted.now) }
+{
+    text.push_str("; heard and unlisted: ")?;
+    push_ranges(text, unlisted)
 }
 
-fn refused_row(
+/// How many datagrams were refused for a fault.
+pub fn refused_row(
     text: &mut String,
     form: Form,
     fault: PacketFault,
     count: u64,
-) -> Result<(), AllocError> {
+) -> Result<(), AllocError>
+    ensures { OnOk result (string_bytes text.new ≡ string_bytes text.old ++ refused_row form fault count) }
+{
     match form {
         Form::Text => {
-            let start = text.len();
-            write!(text, "{fault:?}")?;
-            for _ in text.len().saturating_sub(start)..30 {
-                text.push(' ')?;
-            }
+            push_left(text, fault_name(fault), 30)?;
             write!(text, " {count}")
         }
         Form::Json => {
-            text.push_str("{\"row\":\"refused\"")?;
+            json::begin_row(text, "refused")?;
             json::push_number(text, "fault", u64::from(fault.number()))?;
-            write!(text, ",\"name\":\"{fault:?}\"")?;
+            json::push_word(text, "name", fault_name(fault))?;
             json::push_number(text, "count", count)?;
             text.push('}')
         }

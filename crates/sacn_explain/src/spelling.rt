@@ -1,8 +1,8 @@
 //! How names, CIDs and moments are spelled.
 
-ghost use Rattle.std.specs.Prelude.{◌≡◌, ◌++◌, OnOk, string_bytes, chars};
+ghost use Rattle.std.specs.Prelude.{◌≡◌, ◌++◌, OnOk, string_bytes, chars, replicate};
 ghost use Rattle.std.specs.List.{flat_map};
-ghost use Rattle.sacn_explain.specs.Spelled.{octet_text, octets_text, address_text, sender_text, moment_text, escape_text, letter_text, letters_of, name_text};
+ghost use Rattle.sacn_explain.specs.Spelled.{left, octet_text, octets_text, address_text, sender_text, moment_text, escape_text, letter_text, letters_of, name_text};
 
 use sacn_monitor::Sender;
 use std::alloc::AllocError;
@@ -15,6 +15,23 @@ fn push_octet(text: &mut String, octet: u8) -> Result<(), AllocError>
     ensures { OnOk result (string_bytes text.new ≡ string_bytes text.old ++ octet_text octet) }
 {
     write!(text, "{octet:02x}")
+}
+
+/// A word of ASCII, left-aligned in so many places.
+pub fn push_left(text: &mut String, word: &str, width: usize) -> Result<(), AllocError>
+    ensures { OnOk result (string_bytes text.new ≡ string_bytes text.old ++ left width word.now) }
+{
+    text.push_str(word)?;
+    push_spaces(text, width.saturating_sub(word.len()))
+}
+
+fn push_spaces(text: &mut String, spaces: usize) -> Result<(), AllocError>
+    ensures { OnOk result (string_bytes text.new ≡ string_bytes text.old ++ replicate spaces 32) }
+{
+    for _space in 0..spaces {
+        text.push(' ')?;
+    }
+    Ok(())
 }
 
 /// The digits of octets, two for each.

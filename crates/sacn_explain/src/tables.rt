@@ -1,265 +1,342 @@
 //! Tables at the end.
 
+ghost use Rattle.std.specs.Prelude.{◌≡◌, ◌<◌, ◌==◌, OnOk, IfOk, is_some, length};
+ghost use Rattle.std.specs.List.{list_any};
+ghost use Rattle.sacn_explain.specs.Lists.{silent, unlisted};
+ghost use Rattle.sacn_explain.specs.Totals.{counts_row};
+ghost use Rattle.sacn_explain.specs.Told.{Tells, ended};
+ghost use Rattle.sacn_explain.specs.Tables.{faults_told, has_refusals, head_told, head_where, is_told, list_told, lists_told, place_told, refused_for, refused_told, refusals_told, stream_told, streams_told, tables_told, universe_at, universe_told, universes_told};
+
 use crate::count::UniverseCounts;
 use crate::fault::TellFault;
-use crate::json;
-use crate::listings::Listings;
+use crate::listings::{Listing, Listings, silent, unlisted};
 use crate::options::{Form, Options};
 use crate::report::Report;
-use crate::rows::{tell_listings, tell_refused};
-use crate::spelling::{push_cid, push_moment, push_name, push_sender};
+use crate::rows::{Lists, list_row, refused_row, universe_row};
+use crate::stream_rows::stream_row;
 use crate::teller::Teller;
-use sacn_framing::up_to_nul;
-use sacn_monitor::{Monitor, State, Stream};
-use std::alloc::AllocError;
-use std::fmt::Write as _;
+use crate::totals::counts_row;
+use sacn_monitor::{Monitor, Stream, Tally};
+use sacn_root::PacketFault;
+use std::alloc::{AllocError, Global};
 use std::io::Write;
-
-/// Writes the rows of the sources, of the universes, and of all counts.
-pub fn tell<O: Write>(
-    teller: &mut Teller<'_, O>,
-    options: &Options<'_>,
-    monitor: &Monitor,
-    listings: &Listings,
-    report: &Report,
-) -> Result<(), TellFault> {
-    if teller.form == Form::Text {
-        teller.line.push_str(STREAM_HEAD)?;
-        teller.write()?;
-    }
-    for stream in monitor.streams() {
-        if options.is_wanted(stream.universe) {
-            stream_row(&mut teller.line, teller.form, report.length, stream)?;
-            teller.write()?;
-        }
-    }
-    tell_universes(teller, options, monitor, report.length)?;
-    tell_listings(
-        listings.alloc(),
-        teller,
-        monitor.streams(),
-        listings.known(),
-    )?;
-    tell_refused(teller, &report.tally)?;
-    counts_row(&mut teller.line, teller.form, report)?;
-    teller.write()
-}
 
 const STREAM_HEAD: &str =
     "\nuniverse state    priority      first       last     taken   preview     other   skipped      late  repeated   gap ms  source";
 
 const UNIVERSE_HEAD: &str = "\nuniverse  sources  sending     taken   skipped discarded";
 
-fn tell_universes<O: Write>(
+const LIST_HEAD: &str = "\nlists of universes";
+
+const REFUSED_HEAD: &str = "\nrefused by fault";
+
+/// The faults of datagrams, by number.
+const FAULTS: [PacketFault; 18] = [
+    PacketFault::TooShort,
+    PacketFault::Preamble,
+    PacketFault::Postamble,
+    PacketFault::Identifier,
+    PacketFault::Flags,
+    PacketFault::Length,
+    PacketFault::RootVector,
+    PacketFault::FramingVector,
+    PacketFault::DmpVector,
+    PacketFault::AddressType,
+    PacketFault::FirstAddress,
+    PacketFault::Increment,
+    PacketFault::ValueCount,
+    PacketFault::Priority,
+    PacketFault::Universe,
+    PacketFault::DiscoveryVector,
+    PacketFault::PageRange,
+    PacketFault::TooManyUniverses,
+];
+
+/// Writes the rows of the sources, of the universes, of the lists and refusals, and of all counts.
+pub fn tell<O: Write>(
     teller: &mut Teller<'_, O>,
     options: &Options<'_>,
     monitor: &Monitor,
-    moment: u64,
-) -> Result<(), TellFault> {
-    if teller.form == Form::Text {
-        teller.line.push_str(UNIVERSE_HEAD)?;
-        teller.write()?;
-    }
-    let streams = monitor.streams();
-    for place in 0..streams.len() {
-        let universe = streams[place].universe;
-        if is_first(&streams[..place], universe) & options.is_wanted(universe) {
-            let counts = UniverseCounts::of(streams, universe, moment);
-            universe_row(&mut teller.line, teller.form, universe, &counts)?;
-            teller.write()?;
+    listings: &Listings,
+    report: &Report,
+) -> Result<(), TellFault>
+    ensures { OnOk result (Tells O.contents teller.old teller.new (tables_told teller.old.form options.now.universes.now monitor.now.streams listings.now.known.items report.now)) }
+{
+    let alloc = listings.alloc();
+    tell_tables(
+        alloc,
+        teller,
+        options,
+        monitor.streams(),
+        listings.known(),
+        report,
+    )
+}
+
+fn tell_tables<O: Write>(
+    alloc: Global,
+    teller: &mut Teller<'_, O>,
+    options: &Options<'_>,
+    streams: &[Stream],
+    listings: &[Listing],
+    report: &Report,
+) -> Result<(), TellFault>
+    ensures { OnOk result (Tells O.contents teller.old teller.new (tables_told teller.old.form options.now.universes.now streams.now listings.now report.now)) }
+{
+    tell_streams(teller, options, streams, report.length)?;
+    tell_universes(teller, options, streams, report.length)?;
+    tell_listings(alloc, teller, streams, listings)?;
+    tell_refused(teller, &report.tally)?;
+    tell_counts(teller, report)
+}
+
+// The head of a table, for people.
+fn begin_table<O: Write>(teller: &mut Teller<'_, O>, head: &str) -> Result<(), TellFault>
+    ensures { OnOk result (Tells O.contents teller.old teller.new (head_told teller.old.form head.now)) }
+{
+    match teller.form {
+        Form::Text => {
+            teller.line.push_str(head)?;
+            teller.write()
         }
+        Form::Json => Ok(()),
+    }
+}
+
+// The head of a table that has rows.
+fn begin_where<O: Write>(
+    teller: &mut Teller<'_, O>,
+    has_rows: bool,
+    head: &str,
+) -> Result<(), TellFault>
+    ensures { OnOk result (Tells O.contents teller.old teller.new (head_where has_rows teller.old.form head.now)) }
+{
+    if !has_rows {
+        return Ok(());
+    }
+    begin_table(teller, head)
+}
+
+fn tell_streams<O: Write>(
+    teller: &mut Teller<'_, O>,
+    options: &Options<'_>,
+    streams: &[Stream],
+    moment: u64,
+) -> Result<(), TellFault>
+    ensures { OnOk result (Tells O.contents teller.old teller.new (streams_told teller.old.form options.now.universes.now moment streams.now)) }
+{
+    begin_table(teller, STREAM_HEAD)?;
+    for stream in streams {
+        tell_stream(teller, options, stream, moment)?;
     }
     Ok(())
 }
 
-// Whether no stream before is of the universe.
-fn is_first(before: &[Stream], universe: u16) -> bool {
-    !before.iter().any(|stream| stream.universe == universe)
-}
-
-fn state_word(state: State) -> &'static str {
-    match state {
-        State::Sending => "sending",
-        State::Ended => "ended",
-        State::Lost => "lost",
-    }
-}
-
-fn stream_row(
-    text: &mut String,
-    form: Form,
-    moment: u64,
+// The row of a source on a universe, where that is asked for.
+fn tell_stream<O: Write>(
+    teller: &mut Teller<'_, O>,
+    options: &Options<'_>,
     stream: &Stream,
-) -> Result<(), AllocError> {
-    match form {
-        Form::Text => stream_text(text, moment, stream),
-        Form::Json => stream_json(text, moment, stream),
+    moment: u64,
+) -> Result<(), TellFault>
+    ensures { OnOk result (Tells O.contents teller.old teller.new (stream_told teller.old.form options.now.universes.now moment stream.now)) }
+{
+    if !options.is_wanted(stream.universe) {
+        return Ok(());
     }
+    stream_row(&mut teller.line, teller.form, moment, stream)?;
+    teller.write()
 }
 
-fn stream_text(text: &mut String, moment: u64, stream: &Stream) -> Result<(), AllocError> {
-    let account = &stream.account;
-    push_stream_state(text, moment, stream)?;
-    push_moment(text, account.first)?;
-    text.push(' ')?;
-    push_moment(text, account.latest)?;
-    push_column(text, account.kinds.total())?;
-    push_column(text, account.kinds.previews)?;
-    push_column(text, account.kinds.others)?;
-    push_column(text, account.skipped)?;
-    push_column(text, account.late)?;
-    push_column(text, account.repeats)?;
-    let gap = account.greatest_gap;
-    write!(text, " {gap:>8}  ")?;
-    push_cid(text, &stream.cid)?;
-    text.push(' ')?;
-    push_name(text, up_to_nul(&account.name))?;
-    text.push_str(" at ")?;
-    push_sender(text, &account.sender)
+fn tell_universes<O: Write>(
+    teller: &mut Teller<'_, O>,
+    options: &Options<'_>,
+    streams: &[Stream],
+    moment: u64,
+) -> Result<(), TellFault>
+    ensures { OnOk result (Tells O.contents teller.old teller.new (universes_told teller.old.form options.now.universes.now moment streams.now)) }
+{
+    begin_table(teller, UNIVERSE_HEAD)?;
+    for place in 0..streams.len() {
+        tell_place(teller, options, streams, place, moment)?;
+    }
+    Ok(())
 }
 
-fn push_stream_state(text: &mut String, moment: u64, stream: &Stream) -> Result<(), AllocError> {
-    let universe = stream.universe;
-    let state = state_word(stream.state(moment));
-    let priority = stream.account.priority;
-    write!(text, "{universe:>8} {state:<8} {priority:>8} ")
+// Whether one of these streams is of the universe.
+fn is_among(streams: &[Stream], universe: u16) -> bool
+    ensures { result ≡ list_any (λ s. s.universe == universe) streams.now }
+{
+    streams.iter().any(|stream| stream.universe == universe)
 }
 
-fn push_column(text: &mut String, count: u64) -> Result<(), AllocError> {
-    write!(text, " {count:>9}")
+fn universe_at(streams: &[Stream], place: usize) -> u16
+    requires { place < length streams.now }
+    ensures { result ≡ universe_at streams.now place }
+{
+    streams[place].universe
 }
 
-fn stream_json(text: &mut String, moment: u64, stream: &Stream) -> Result<(), AllocError> {
-    let account = &stream.account;
-    text.push_str("{\"row\":\"source\"")?;
-    json::push_stream(text, stream)?;
-    json::push_sender(text, &account.sender)?;
-    json::push_word(text, "state", state_word(stream.state(moment)))?;
-    json::push_number(text, "priority", u64::from(account.priority))?;
-    json::push_number(text, "first", account.first)?;
-    json::push_number(text, "last", account.latest)?;
-    push_kinds(text, stream)?;
-    json::push_number(text, "skipped", account.skipped)?;
-    json::push_number(text, "late", account.late)?;
-    json::push_number(text, "repeated", account.repeats)?;
-    json::push_number(text, "gap", account.greatest_gap)?;
-    let rate = account.rate.last_second(moment);
-    json::push_number(text, "last_second", rate)?;
-    text.push('}')
+// Whether a stream before is of the same universe.
+fn is_told(streams: &[Stream], place: usize) -> bool
+    requires { place < length streams.now }
+    ensures { result ≡ is_told streams.now place }
+{
+    is_among(&streams[..place], universe_at(streams, place))
 }
 
-fn push_kinds(text: &mut String, stream: &Stream) -> Result<(), AllocError> {
-    let kinds = &stream.account.kinds;
-    json::push_number(text, "live", kinds.live)?;
-    json::push_number(text, "preview", kinds.previews)?;
-    json::push_number(text, "terminated", kinds.terminations)?;
-    json::push_number(text, "other", kinds.others)
+// The row of the universe of a stream, where no stream before is of it.
+fn tell_place<O: Write>(
+    teller: &mut Teller<'_, O>,
+    options: &Options<'_>,
+    streams: &[Stream],
+    place: usize,
+    moment: u64,
+) -> Result<(), TellFault>
+    requires { place < length streams.now }
+    ensures { OnOk result (Tells O.contents teller.old teller.new (place_told teller.old.form options.now.universes.now moment streams.now place)) }
+{
+    if is_told(streams, place) {
+        return Ok(());
+    }
+    let universe = universe_at(streams, place);
+    tell_universe(teller, options, universe, streams, moment)
 }
 
-fn universe_row(
-    text: &mut String,
-    form: Form,
+// The row of a universe, where it is asked for.
+fn tell_universe<O: Write>(
+    teller: &mut Teller<'_, O>,
+    options: &Options<'_>,
     universe: u16,
-    counts: &UniverseCounts,
-) -> Result<(), AllocError> {
-    match form {
-        Form::Text => universe_text(text, universe, counts),
-        Form::Json => universe_json(text, universe, counts),
+    streams: &[Stream],
+    moment: u64,
+) -> Result<(), TellFault>
+    ensures { OnOk result (Tells O.contents teller.old teller.new (universe_told teller.old.form options.now.universes.now moment streams.now universe)) }
+{
+    if !options.is_wanted(universe) {
+        return Ok(());
+    }
+    let counts = UniverseCounts::of(streams, universe, moment);
+    universe_row(&mut teller.line, teller.form, universe, &counts)?;
+    teller.write()
+}
+
+/// Writes the lists of the sources that list universes, each beside what was heard of it.
+pub fn tell_listings<O: Write>(
+    alloc: Global,
+    teller: &mut Teller<'_, O>,
+    streams: &[Stream],
+    listings: &[Listing],
+) -> Result<(), TellFault>
+    ensures { OnOk result (Tells O.contents teller.old teller.new (lists_told teller.old.form streams.now listings.now)) }
+{
+    begin_where(teller, has_lists(listings), LIST_HEAD)?;
+    for listing in listings {
+        tell_list(alloc, teller, streams, listing)?;
+    }
+    Ok(())
+}
+
+// Whether a list came whole.
+fn has_lists(listings: &[Listing]) -> bool
+    ensures { result ≡ list_any (λ l. is_some l.universes) listings.now }
+{
+    listings.iter().any(|listing| listing.universes.is_some())
+}
+
+// The row of a source of which a list came whole.
+fn tell_list<O: Write>(
+    alloc: Global,
+    teller: &mut Teller<'_, O>,
+    streams: &[Stream],
+    listing: &Listing,
+) -> Result<(), TellFault>
+    ensures { OnOk result (Tells O.contents teller.old teller.new (list_told teller.old.form streams.now listing.now)) }
+{
+    let Some(universes) = &listing.universes else {
+        return Ok(());
+    };
+    let lists = lists_of(alloc, streams, &listing.cid, universes.as_slice())?;
+    list_row(&mut teller.line, teller.form, listing, &lists)?;
+    teller.write()
+}
+
+// What a source lists, beside what was heard of it.
+fn lists_of<'a>(
+    alloc: Global,
+    streams: &[Stream],
+    cid: &[u8; 16],
+    listed: &'a [u16],
+) -> Result<Lists<'a>, AllocError>
+    ensures listed { IfOk result (λ lists. lists.listed.now ≡ listed.now) }
+    ensures silent { IfOk result (λ lists. lists.silent.items ≡ silent streams.now cid.now listed.now) }
+    ensures unlisted { IfOk result (λ lists. lists.unlisted.items ≡ unlisted streams.now cid.now listed.now) }
+{
+    let silent = silent(alloc, streams, cid, listed)?;
+    let unlisted = unlisted(alloc, streams, cid, listed)?;
+    Ok(Lists {
+        listed,
+        silent,
+        unlisted,
+    })
+}
+
+/// Writes how many datagrams were refused for each fault.
+pub fn tell_refused<O: Write>(teller: &mut Teller<'_, O>, tally: &Tally) -> Result<(), TellFault>
+    ensures { OnOk result (Tells O.contents teller.old teller.new (refusals_told teller.old.form tally.now)) }
+{
+    tell_faults(teller, tally, &FAULTS)
+}
+
+fn tell_faults<O: Write>(
+    teller: &mut Teller<'_, O>,
+    tally: &Tally,
+    faults: &[PacketFault],
+) -> Result<(), TellFault>
+    ensures { OnOk result (Tells O.contents teller.old teller.new (faults_told teller.old.form tally.now faults.now)) }
+{
+    begin_where(teller, has_refusals(tally, faults), REFUSED_HEAD)?;
+    for fault in faults {
+        tell_fault(teller, *fault, refused_for(tally, *fault))?;
+    }
+    Ok(())
+}
+
+// Whether datagrams were refused for one of these faults.
+fn has_refusals(tally: &Tally, faults: &[PacketFault]) -> bool
+    ensures { result ≡ has_refusals tally.now faults.now }
+{
+    faults.iter().any(|fault| refused_for(tally, *fault) > 0)
+}
+
+// The datagrams that were refused for a fault.
+fn refused_for(tally: &Tally, fault: PacketFault) -> u64
+    ensures { result ≡ refused_for tally.now fault }
+{
+    match tally.refused.get(usize::from(fault.number())) {
+        Some(count) => *count,
+        None => 0,
     }
 }
 
-fn universe_text(
-    text: &mut String,
-    universe: u16,
-    counts: &UniverseCounts,
-) -> Result<(), AllocError> {
-    let sources = counts.sources;
-    let sending = counts.sending;
-    write!(text, "{universe:>8} {sources:>8} {sending:>8}")?;
-    push_column(text, counts.taken)?;
-    push_column(text, counts.skipped)?;
-    push_column(text, counts.discarded)
-}
-
-fn universe_json(
-    text: &mut String,
-    universe: u16,
-    counts: &UniverseCounts,
-) -> Result<(), AllocError> {
-    text.push_str("{\"row\":\"universe\"")?;
-    json::push_number(text, "universe", u64::from(universe))?;
-    json::push_number(text, "sources", counts.sources)?;
-    json::push_number(text, "sending", counts.sending)?;
-    json::push_number(text, "taken", counts.taken)?;
-    json::push_number(text, "skipped", counts.skipped)?;
-    json::push_number(text, "discarded", counts.discarded)?;
-    text.push('}')
-}
-
-fn counts_row(text: &mut String, form: Form, report: &Report) -> Result<(), AllocError> {
-    match form {
-        Form::Text => counts_text(text, report),
-        Form::Json => counts_json(text, report),
+// The row of a fault for which datagrams were refused.
+fn tell_fault<O: Write>(
+    teller: &mut Teller<'_, O>,
+    fault: PacketFault,
+    count: u64,
+) -> Result<(), TellFault>
+    ensures { OnOk result (Tells O.contents teller.old teller.new (refused_told teller.old.form fault count)) }
+{
+    if count == 0 {
+        return Ok(());
     }
+    refused_row(&mut teller.line, teller.form, fault, count)?;
+    teller.write()
 }
 
-// All datagrams that are no packets.
-fn refused_in(report: &Report) -> u64 {
-    let mut sum = 0_u64;
-    for count in &report.tally.refused {
-        sum = sum.saturating_add(*count);
-    }
-    sum
-}
-
-// All frames with no datagram.
-fn passed_in(report: &Report) -> u64 {
-    let frames = &report.frames;
-    let others = [
-        frames.not_ip,
-        frames.not_ipv4,
-        frames.not_udp,
-        frames.fragments,
-        frames.cut,
-        frames.other_links,
-        frames.too_long,
-    ];
-    let mut sum = 0_u64;
-    for count in others {
-        sum = sum.saturating_add(count);
-    }
-    sum
-}
-
-fn counts_text(text: &mut String, report: &Report) -> Result<(), AllocError> {
-    let tally = &report.tally;
-    push_named(text, "datagrams to the port", tally.datagrams)?;
-    push_named(text, "refused", refused_in(report))?;
-    push_named(text, "pages", tally.pages)?;
-    push_named(text, "pages not followed", report.pages_passed)?;
-    push_named(text, "synchronization", tally.syncs)?;
-    push_named(text, "not followed", tally.untracked)?;
-    push_named(text, "datagrams to other ports", report.other_ports)?;
-    push_named(text, "frames without a datagram", passed_in(report))?;
-    push_named(text, "frames with an earlier moment", report.went_back)
-}
-
-fn push_named(text: &mut String, name: &str, count: u64) -> Result<(), AllocError> {
-    write!(text, "\n{name:<30} {count}")
-}
-
-fn counts_json(text: &mut String, report: &Report) -> Result<(), AllocError> {
-    let tally = &report.tally;
-    text.push_str("{\"row\":\"counts\"")?;
-    json::push_number(text, "datagrams", tally.datagrams)?;
-    json::push_number(text, "refused", refused_in(report))?;
-    json::push_number(text, "pages", tally.pages)?;
-    json::push_number(text, "pages_untracked", report.pages_passed)?;
-    json::push_number(text, "synchronization", tally.syncs)?;
-    json::push_number(text, "untracked", tally.untracked)?;
-    json::push_number(text, "other_ports", report.other_ports)?;
-    json::push_number(text, "other_frames", passed_in(report))?;
-    json::push_number(text, "went_back", report.went_back)?;
-    json::push_number(text, "ms", report.length)?;
-    text.push('}')
+fn tell_counts<O: Write>(teller: &mut Teller<'_, O>, report: &Report) -> Result<(), TellFault>
+    ensures { OnOk result (Tells O.contents teller.old teller.new (ended (counts_row teller.old.form report.now))) }
+{
+    counts_row(&mut teller.line, teller.form, report)?;
+    teller.write()
 }
