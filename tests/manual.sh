@@ -87,5 +87,5 @@ offers "bash fish zsh " sacn completion ""
 offers "--stay " sacn desk --s""t
 offers " " sacn gateway x --seconds ""
 
-# The version is told with the kits that the tree was proved with.
+# The version is told with the kits that the tree takes.
 if diff <("$sacn" --version | grep '^kit ') <(sed 's/^/kit /' "$top/tools/kit") >/dev/null; then echo "ok manual: the kit of --version"; else echo "not ok manual: the kit of --version"; fi

@@ -9,7 +9,7 @@ use clap::{Arg, ArgAction, ArgMatches, Command, Error, value_parser};
 use sacn_manual::Form;
 use std::alloc::{AllocError, Global};
 
-/// The version, and the kits that it was proved with.
+/// The version, and the kits that may prove it.
 const VERSION: &str = "1, streaming ACN by ANSI E1.31-2018
 kit rattle-kit-13b logic dac8208d650f15bf
 kit rattle-kit-13f logic dac8208d650f15bf";
