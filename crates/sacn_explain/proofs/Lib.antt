@@ -10,3 +10,5 @@ mod Runs
 mod Texts
 pub mod Telling
 mod RowTexts
+mod Showing
+mod Hearing

@@ -20,3 +20,5 @@ pub mod Rows
 pub mod StreamRows
 pub mod Totals
 pub mod Tables
+pub mod Shows
+pub mod Happened

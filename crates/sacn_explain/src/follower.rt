@@ -1,11 +1,19 @@
 //! What happens, told as it happens.
 
-ghost use Rattle.std.specs.Prelude.{◌≡◌, ◌≤◌, ◌⊎◌, IfErr, IfOk, IfSome, OnOk, is_some, max};
+ghost use Rattle.std.specs.Prelude.{◌≡◌, ◌==◌, ◌≤◌, ◌⊎◌, ℕ, IfErr, IfOk, IfSome, OnOk, is_some, map, max, slice_get, if◌then◌else◌};
 ghost use Rattle.sacn_framing.specs.PacketReading.{reading_packet};
 ghost use Rattle.sacn_monitor.specs.Books.{new_book, after_take, after_tick};
+ghost use Rattle.sacn_node.specs.Setup.{port_numbers};
+ghost use Rattle.sacn_edge.specs.PortLines.{port_after, unshown};
+ghost use Rattle.sacn_explain.specs.Contested.{is_noted};
 ghost use Rattle.sacn_explain.specs.Faults.{IsOfTelling};
 ghost use Rattle.sacn_explain.specs.Following.{IsTicked, IsTaken};
+ghost use Rattle.sacn_explain.specs.Happened.{is_contested, loss_told, noted_told, packet_told, rivals_told, stirred_told, stirs};
 ghost use Rattle.sacn_explain.specs.Listed.{after_noted, after_reading, listed_in, none_listed};
+ghost use Rattle.sacn_explain.specs.Shows.{stage_told, start_told, started_node};
+ghost use Rattle.sacn_explain.specs.Tables.{tables_told};
+ghost use Rattle.sacn_explain.specs.Told.{Tells};
+ghost use Rattle.sacn_explain.specs.declared.cause.Cause.TheVariants.{Lost};
 
 use crate::cause::Cause;
 use crate::contests::Contests;
@@ -149,6 +157,8 @@ impl<'a, O: Write> Follower<'a, O> {
     ///
     /// Errors: OutOfMemory; Device where a line can't be written.
     pub fn finish(&mut self, report: &Report) -> Result<(), ExplainFault>
+        ensures told { OnOk result (Tells O.contents self.old.teller self.new.teller
+            (tables_told self.old.teller.form self.old.options.universes.now self.old.monitor.streams self.old.listings.known.items report.now)) }
         ensures monitor { self.new.monitor ≡ self.old.monitor }
         ensures listings { self.new.listings ≡ self.old.listings }
         ensures moment { self.new.moment ≡ self.old.moment }
@@ -191,11 +201,24 @@ impl<'a, O: Write> Follower<'a, O> {
         ensures moment { self.new.moment ≡ self.old.moment }
         ensures listed { OnOk result (listed_in self.new.listings ≡ after_noted noted (reading_packet octets.now) (listed_in self.old.listings)) }
     {
+        match noted {
+            Noted::Page => self.tell_page(octets),
+            _ => self.tell_noted(sender, noted),
+        }
+    }
+
+    // What a datagram that is no page tells.
+    fn tell_noted(&mut self, sender: &Sender, noted: Noted) -> Result<(), TellFault>
+        ensures told { OnOk result (Tells O.contents self.old.teller self.new.teller
+            (noted_told self.old.teller.form self.old.options.universes.now self.old.contests self.old.monitor sender.now noted)) }
+        ensures monitor { self.new.monitor ≡ self.old.monitor }
+        ensures moment { self.new.moment ≡ self.old.moment }
+        ensures listings { self.new.listings ≡ self.old.listings }
+    {
         let now = self.monitor.moment();
         match noted {
             Noted::Refused(fault) => self.teller.refused(now, sender, fault),
-            Noted::Page => self.tell_page(octets),
-            Noted::Sync => Ok(()),
+            Noted::Page | Noted::Sync => Ok(()),
             Noted::Untracked => self.teller.untracked(now, sender),
             Noted::Heard(place, news) => self.tell_news(place, &news),
         }
@@ -203,7 +226,11 @@ impl<'a, O: Write> Follower<'a, O> {
 
     // What a data packet tells of its source on its universe.
     fn tell_news(&mut self, place: usize, news: &News) -> Result<(), TellFault>
+        ensures told { OnOk result (Tells O.contents self.old.teller self.new.teller
+            (packet_told self.old.teller.form self.old.options.universes.now self.old.contests self.old.monitor news.now (slice_get self.old.monitor.streams place))) }
         ensures monitor { self.new.monitor ≡ self.old.monitor }
+        ensures options { self.new.options ≡ self.old.options }
+        ensures stage { self.new.stage ≡ self.old.stage }
         ensures moment { self.new.moment ≡ self.old.moment }
         ensures listings { self.new.listings ≡ self.old.listings }
     {
@@ -216,15 +243,32 @@ impl<'a, O: Write> Follower<'a, O> {
             return Ok(());
         }
         self.teller.news(now, stream, news)?;
-        if stirs(stream, news) {
-            self.tell_rivals(universe)?;
+        let is_stirred = stirs(stream, news);
+        self.tell_stirred(universe, is_stirred)
+    }
+
+    // Whether two sources begin or cease to send at the same top priority on a universe, where a packet may have changed that.
+    fn tell_stirred(&mut self, universe: u16, is_stirred: bool) -> Result<(), TellFault>
+        ensures told { OnOk result (Tells O.contents self.old.teller self.new.teller (stirred_told is_stirred self.old.teller.form universe self.old.contests self.old.monitor)) }
+        ensures monitor { self.new.monitor ≡ self.old.monitor }
+        ensures options { self.new.options ≡ self.old.options }
+        ensures stage { self.new.stage ≡ self.old.stage }
+        ensures moment { self.new.moment ≡ self.old.moment }
+        ensures listings { self.new.listings ≡ self.old.listings }
+    {
+        if !is_stirred {
+            return Ok(());
         }
-        Ok(())
+        self.tell_rivals(universe)
     }
 
     // Whether two sources begin or cease to send at the same top priority on a universe.
     fn tell_rivals(&mut self, universe: u16) -> Result<(), TellFault>
+        ensures told { OnOk result (Tells O.contents self.old.teller self.new.teller (rivals_told self.old.teller.form universe self.old.contests self.old.monitor)) }
+        ensures noted { OnOk result ((u : ℕ) → is_noted u self.new.contests ≡ (if u == universe then is_contested universe self.old.monitor else is_noted u self.old.contests)) }
         ensures monitor { self.new.monitor ≡ self.old.monitor }
+        ensures options { self.new.options ≡ self.old.options }
+        ensures stage { self.new.stage ≡ self.old.stage }
         ensures moment { self.new.moment ≡ self.old.moment }
         ensures listings { self.new.listings ≡ self.old.listings }
     {
@@ -260,7 +304,11 @@ impl<'a, O: Write> Follower<'a, O> {
 
     // A stream that is lost at a moment.
     fn tell_loss(&mut self, at: u64) -> Result<(), TellFault>
+        ensures told { OnOk result (Tells O.contents self.old.teller self.new.teller
+            (loss_told self.old.teller.form self.old.options.universes.now at self.old.contests self.old.monitor)) }
         ensures monitor { self.new.monitor ≡ after_tick at self.old.monitor }
+        ensures options { self.new.options ≡ self.old.options }
+        ensures stage { self.new.stage ≡ self.old.stage }
         ensures moment { self.new.moment ≡ self.old.moment }
         ensures listings { self.new.listings ≡ self.old.listings }
     {
@@ -288,6 +336,7 @@ impl<'a, O: Write> Follower<'a, O> {
 
     // The frames of the node, where a source is lost at a moment.
     fn show_dark(&mut self, at: u64) -> Result<(), TellFault>
+        ensures told { OnOk result (Tells O.contents self.old.teller self.new.teller (stage_told self.old.teller.form at Lost self.old.stage)) }
         ensures monitor { self.new.monitor ≡ self.old.monitor }
         ensures moment { self.new.moment ≡ self.old.moment }
         ensures listings { self.new.listings ≡ self.old.listings }
@@ -332,14 +381,20 @@ fn started<O: Write>(
     alloc: Global,
     setup: &NodeSetup,
     teller: &mut Teller<'_, O>,
-) -> Result<Stage, TellFault> {
+) -> Result<Stage, TellFault>
+    ensures core { IfOk result (λ s. s.core ≡ started_node setup.now.ports) }
+    ensures ports { IfOk result (λ s. s.ports.items ≡ map (port_after (started_node setup.now.ports)) (map unshown (port_numbers setup.now.ports))) }
+    ensures told { OnOk result (Tells O.contents teller.old teller.new (start_told teller.old.form setup.now.ports)) }
+{
     let mut stage = Stage::new(alloc, setup)?;
     stage.show(0, &Cause::Start, teller)?;
     Ok(stage)
 }
 
 // Whether a packet may change who lights its universe at the top priority.
-fn stirs(stream: &Stream, news: &News) -> bool {
+fn stirs(stream: &Stream, news: &News) -> bool
+    ensures { result ≡ stirs stream.now news.now }
+{
     (news.event != Event::GoesOn) | news.priority.is_some() | (stream.account.kinds.live == 1)
 }
 

@@ -2,10 +2,12 @@
 
 ghost use Rattle.std.specs.Prelude.{◌≡◌, ◌<◌, ◌≤◌, ◌-◌, ◌^◌, ℕ, IfOk, OnOk, map};
 ghost use Rattle.sacn_node.specs.Calls.{step, Take, Tick};
-ghost use Rattle.sacn_node.specs.Cores.{new_node, core_lost};
+ghost use Rattle.sacn_node.specs.Cores.{new_node, core_at, core_lost};
 ghost use Rattle.sacn_node.specs.Setup.{port_numbers};
-ghost use Rattle.sacn_edge.specs.PortLines.{port_after, ports_text, unshown};
+ghost use Rattle.sacn_edge.specs.PortLines.{port_after, port_text, ports_text, unshown};
+ghost use Rattle.sacn_explain.specs.Shows.{frame_told, frames_told, port_told};
 ghost use Rattle.sacn_explain.specs.Staging.{may_change_frames};
+ghost use Rattle.sacn_explain.specs.Told.{Tells};
 
 use crate::cause::Cause;
 use crate::fault::TellFault;
@@ -15,6 +17,7 @@ use sacn_edge::{PortShown, WriterOut, ports_of, show};
 use sacn_node::{MAX_PORTS, NodeCore, NodeSetup, NodeTaken};
 use std::alloc::Global;
 use std::io::Write;
+use std::slice;
 
 /// A node that is given datagrams, and the frames of its latest lines.
 #[derive(Drop)]
@@ -65,16 +68,84 @@ impl Stage {
         now: u64,
         cause: &Cause<'_>,
         teller: &mut Teller<'_, O>,
-    ) -> Result<(), TellFault> {
+    ) -> Result<(), TellFault>
+        ensures core { self.new.core ≡ step (Tick now) self.old.core }
+        ensures ports { OnOk result (self.new.ports.items ≡ map (port_after self.new.core) self.old.ports.items) }
+        ensures told { OnOk result (Tells O.contents teller.old teller.new (frames_told teller.old.form now cause.now self.new.core self.old.ports.items)) }
+    {
+        self.core.tick(now);
         let ports = self.ports.as_mut_slice();
-        for index in 0..ports.len() {
-            let line = line_of(self.alloc, &mut self.core, now, &mut ports[index..=index])?;
-            if !line.is_empty() {
-                teller.frame(now, &ports[index], cause, line.as_slice())?;
-            }
-        }
-        Ok(())
+        show_ports(self.alloc, &mut self.core, now, cause, ports, teller)
     }
+}
+
+// Tells the frames of these ports.
+fn show_ports<O: Write>(
+    alloc: Global,
+    core: &mut NodeCore,
+    now: u64,
+    cause: &Cause<'_>,
+    ports: &mut [PortShown],
+    teller: &mut Teller<'_, O>,
+) -> Result<(), TellFault>
+    requires settled { core_at now core.old.core ≡ core.old.core }
+    ensures core { core.new ≡ core.old }
+    ensures ports { OnOk result (ports.new ≡ map (port_after core.old) ports.old) }
+    ensures told { OnOk result (Tells O.contents teller.old teller.new (frames_told teller.old.form now cause.now core.old ports.old)) }
+{
+    for shown in ports.iter_mut() {
+        show_port(alloc, core, now, cause, shown, teller)?;
+    }
+    Ok(())
+}
+
+// Tells the frame of a port, where it isn't that of its latest line.
+fn show_port<O: Write>(
+    alloc: Global,
+    core: &mut NodeCore,
+    now: u64,
+    cause: &Cause<'_>,
+    shown: &mut PortShown,
+    teller: &mut Teller<'_, O>,
+) -> Result<(), TellFault>
+    requires settled { core_at now core.old.core ≡ core.old.core }
+    ensures core { core.new ≡ core.old }
+    ensures shown { OnOk result (shown.new ≡ port_after core.old shown.old) }
+    ensures told { OnOk result (Tells O.contents teller.old teller.new (port_told teller.old.form now cause.now core.old shown.old)) }
+{
+    let line = line_of_port(alloc, core, now, shown)?;
+    tell_frame(now, shown, cause, line.as_slice(), teller)
+}
+
+// Tells a frame of a port, where it has a line.
+fn tell_frame<O: Write>(
+    now: u64,
+    shown: &PortShown,
+    cause: &Cause<'_>,
+    line: &[u8],
+    teller: &mut Teller<'_, O>,
+) -> Result<(), TellFault>
+    ensures { OnOk result (Tells O.contents teller.old teller.new (frame_told teller.old.form now cause.now shown.now line.now)) }
+{
+    if line.is_empty() {
+        return Ok(());
+    }
+    teller.frame(now, shown, cause, line)
+}
+
+// The line that a node's loop writes of a port at a moment; empty where it writes none.
+fn line_of_port(
+    alloc: Global,
+    core: &mut NodeCore,
+    now: u64,
+    shown: &mut PortShown,
+) -> Result<Vec<u8>, TellFault>
+    requires settled { core_at now core.old.core ≡ core.old.core }
+    ensures core { core.new ≡ core.old }
+    ensures line { IfOk result (λ line. line.items ≡ port_text core.old shown.old) }
+    ensures shown { OnOk result (shown.new ≡ port_after core.old shown.old) }
+{
+    line_of(alloc, core, now, slice::from_mut(shown))
 }
 
 // The lines that a node's loop writes of these ports at a moment.
@@ -84,11 +155,11 @@ fn line_of(
     now: u64,
     ports: &mut [PortShown],
 ) -> Result<Vec<u8>, TellFault>
-    ensures core { core.new ≡ step (Tick now) core.old }
+    requires settled { core_at now core.old.core ≡ core.old.core }
+    ensures core { core.new ≡ core.old }
     ensures lines { IfOk result (λ lines. lines.items ≡ ports_text core.new ports.old) }
     ensures ports { OnOk result (ports.new ≡ map (port_after core.new) ports.old) }
 {
-    core.tick(now);
     let mut lines = WriterOut::new(Vec::new(alloc));
     match show(&mut lines, core, now, false, ports) {
         Ok(()) => Ok(lines.writer),
