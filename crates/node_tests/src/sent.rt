@@ -43,7 +43,7 @@ pub(crate) fn cid_of(cid: u32) -> [u8; 16] {
     [a, b, c, d, a, b, c, d, a, b, c, d, a, b, c, d]
 }
 
-/// Writes the packet's octets, and answers how many they are: 0 where there is no such packet.
+/// Writes the packet's octets, and returns how many they are: 0 where there is no such packet.
 pub(crate) fn write_sent(sent: &Sent<'_>, octets: &mut [u8; 638]) -> usize
     ensures { result ≤ 638 }
 {

@@ -137,7 +137,7 @@ impl From<WriteFailed> for Ending {
     }
 }
 
-/// Says how a run ended, and answers its status.
+/// Says how a run ended, and returns its status.
 pub fn ended<E: Write>(ending: Ending, err: &mut E) -> u8 {
     match ending {
         Ending::OutOfMemory => refused(err, "OutOfMemory"),

@@ -98,7 +98,7 @@ fn serve_recording<R: AllocGlobal + Files + Net + Clock, E: Write>(
     ending
 }
 
-// Reads a recording to its end, and answers whether it came there before standard input ended.
+// Reads a recording to its end, and returns whether it came there before standard input ended.
 fn read_all<R: Files, L: Listener>(
     recording: &mut Recording<FileTape<R>>,
     listener: &mut L,

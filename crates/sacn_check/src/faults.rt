@@ -19,7 +19,7 @@ use std::alloc::{AllocError, Global};
 /// All faults of a text that should be a file of this kind, at most [`MAX_TOLD`](crate::MAX_TOLD) told and the rest
 /// counted.
 ///
-/// There are none exactly where the kind's reader gives a value, and else the first is the one that the reader answers.
+/// There are none exactly where the kind's reader gives a value, and else the first is the one that the reader returns.
 /// Those of one phase of reading come before those of the next, and a console's before those of the next console.
 pub fn faults_of(alloc: Global, kind: FileKind, text: &str) -> Result<Findings, AllocError>
     ensures { IfOk result (λ findings. first_refusal findings.told.items ≡ refusal kind text.now) }

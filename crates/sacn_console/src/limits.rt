@@ -5,8 +5,8 @@
 /// The most universes of a console (profile). Their list fills two discovery pages.
 pub const CONSOLE_UNIVERSES: usize = 1024;
 
-/// The least time between two data packets on a universe: a change waits for it. The profile's: E1.31
-/// section 6.6.1 bounds the rate by that of the DMX512-A line, some 44 frames a second, and 25 ms stay below it.
+/// The least time between two data packets on a universe: a change waits for it. The profile's: E1.31,
+/// 6.6.1, bounds the rate by that of the DMX512-A line, some 44 frames a second, and 25 ms stay below it.
 pub const MIN_GAP: u64 = 25;
 
 /// The longest time without a data packet on a running universe (E1.31, 6.6.2: a source repeats

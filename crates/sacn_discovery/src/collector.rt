@@ -76,7 +76,7 @@ impl Collector {
         Ok(self.list_at(cid)?)
     }
 
-    /// Moves the clock, forgets the sources whose latest page is too old, and answers how many those were.
+    /// Moves the clock, forgets the sources whose latest page is too old, and returns how many those were.
     pub fn expire(&mut self, now: u64) -> usize
         ensures gone { result + map.len self.new.sources ≡ map.len self.old.sources }
         ensures forgotten { result ≡ forgotten now self.old }

@@ -39,7 +39,7 @@ pub fn page_count(n: usize) -> usize
     (n - 1) / PAGE_NUMBERS + 1
 }
 
-/// Writes page `k` of a list of universes at the front, and answers its length in octets: 120, and two
+/// Writes page `k` of a list of universes at the front, and returns its length in octets: 120, and two
 /// for each of its numbers. No other octets are written. A list ascends, so it has at most 65,536
 /// universes on 128 pages.
 pub fn write_page(

@@ -50,7 +50,7 @@ fn hand<L: Link>(link: &mut L, octets: &[u8; MAX_DATAGRAM], len: usize) -> bool
     link.send(&octets[..len])
 }
 
-/// Sends what is due, and answers whether the send succeeded; None where nothing is due.
+/// Sends what is due, and returns whether the send succeeded; None where nothing is due.
 pub fn send<L: Link>(
     link: &mut L,
     core: &mut ConsoleCore,
@@ -84,7 +84,7 @@ pub fn count(report: &mut ConsoleReport, sent: Option<bool>)
 /// those before the first whose moment is above the greatest reading so far, as commands at that reading,
 /// then polls the core once and hands the link what is due, once, whatever the link answered before.
 ///
-/// The answer counts the sends that succeeded, those that failed, and the commands that the core refused.
+/// The result counts the sends that succeeded, those that failed, and the commands that the core refused.
 pub fn run_console<L: Link, C: Clock>(
     link: &mut L,
     clock: &mut C,

@@ -64,7 +64,7 @@ impl Clock for ListClock {
 /// A link that receives a list in order and then nothing, and keeps what it is handed.
 ///
 /// It tells its transcript, until a send can't keep its datagram for want of memory, or `u64::MAX` receives
-/// were made. A send that can't keep its datagram answers false.
+/// were made. A send that can't keep its datagram returns false.
 #[derive(Drop)]
 pub struct MemoryLink {
     alloc: Global,

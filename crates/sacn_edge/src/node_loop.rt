@@ -87,7 +87,7 @@ pub fn ports_of(core: &NodeCore) -> ArrayVec<PortShown, MAX_PORTS>
 /// to the node at that reading; then for each port in ascending number it writes a line, where the port's
 /// frame isn't that of the last line written for it, or none was. A failed receive counts as a turn.
 ///
-/// The answer counts the datagrams received and the receives that failed. `WriteFailed` where `out` has
+/// The result counts the datagrams received and the receives that failed. `WriteFailed` where `out` has
 /// failed; the run then ends, and nothing further is read, received or written.
 pub fn run_node<L: Link, C: Clock, O: Out>(
     link: &mut L,

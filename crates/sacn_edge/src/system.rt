@@ -4,7 +4,7 @@ use crate::clock::Clock;
 use std::rt::Clock as MachineClock;
 use std::time::Instant;
 
-/// A clock that reads the milliseconds since its first reading that succeeded. A reading that fails answers
+/// A clock that reads the milliseconds since its first reading that succeeded. A reading that fails returns
 /// the one before, and 0 at first. It tells nothing.
 #[derive(Drop)]
 pub struct SystemClock<'a, R> {

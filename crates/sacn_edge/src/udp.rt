@@ -15,8 +15,8 @@ pub struct SocketFailed;
 
 /// A UDP socket on 127.0.0.1, which sends to some ports there. It tells nothing.
 ///
-/// A receive with nothing there answers `Nothing` at once; a datagram of more than 2048 octets is cut. A send
-/// goes to each of the destinations in turn, also after one that failed, and answers false where one failed.
+/// A receive with nothing there returns `Nothing` at once; a datagram of more than 2048 octets is cut. A send
+/// goes to each of the destinations in turn, also after one that failed, and returns false where one failed.
 #[derive(Drop)]
 pub struct UdpLink {
     socket: UdpSocket,

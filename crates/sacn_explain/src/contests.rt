@@ -21,7 +21,7 @@ impl Contests {
         })
     }
 
-    /// Notes whether a universe is contested, and answers whether it was otherwise before.
+    /// Notes whether a universe is contested, and returns whether it was otherwise before.
     pub fn note(&mut self, universe: u16, is_contested: bool) -> Result<bool, AllocError>
         ensures answer { IfOk result (λ r. r ≡ (if is_contested then not (is_noted universe self.old) else is_noted universe self.old)) }
         ensures noted { OnOk result ((u : ℕ) → is_noted u self.new ≡ (if u == universe then is_contested else is_noted u self.old)) }

@@ -38,7 +38,7 @@ impl Stage {
         Ok(Stage { alloc, core, ports })
     }
 
-    /// Gives the node a datagram, and answers whether a frame may have changed.
+    /// Gives the node a datagram, and returns whether a frame may have changed.
     pub fn take(&mut self, now: u64, octets: &[u8]) -> bool
         ensures answer { result ≡ may_change_frames now octets.now self.old.core.core }
         ensures core { self.new.core ≡ step (Take now octets.now) (step (Tick now) self.old.core) }

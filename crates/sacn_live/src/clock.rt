@@ -6,7 +6,7 @@ use std::io::ErrorKind;
 use std::rt::Clock as MachineClock;
 use std::time::Instant;
 
-/// A clock that reads the milliseconds since it was started. A reading that fails answers the one before. It tells
+/// A clock that reads the milliseconds since it was started. A reading that fails returns the one before. It tells
 /// nothing.
 #[derive(Drop)]
 pub struct RigClock<'a, R> {

@@ -14,7 +14,7 @@ use sacn_console::limits::MAX_DATAGRAM;
 use sacn_console::{Command, ConsoleCore};
 use sacn_edge::{Clock, ConsoleReport, Link, count_send, send};
 
-/// Gives the core an order, and its answer to where the order came from. Answers how many were refused, 0 or 1.
+/// Gives the core an order, and its answer to where the order came from. Returns how many were refused, 0 or 1.
 fn give<O: Orders>(orders: &mut O, core: &mut ConsoleCore, now: u64, command: Command) -> u64
     ensures talk { Extends (O.told orders.old) (O.told orders.new) (Answered (answer command (at now core.old)) ∷ []) }
     ensures core { core.new ≡ after_command now command core.old }
@@ -26,7 +26,7 @@ fn give<O: Orders>(orders: &mut O, core: &mut ConsoleCore, now: u64, command: Co
     if answer.is_ok() { 0 } else { 1 }
 }
 
-/// Gives the core the orders that are there, or as many as a round takes. Answers how many it refused.
+/// Gives the core the orders that are there, or as many as a round takes. Returns how many it refused.
 fn order<O: Orders>(orders: &mut O, core: &mut ConsoleCore, now: u64) -> u64
     ensures given { (ks : List Order) × (length ks ≤ MAX_ORDERS)
         × Extends (O.told orders.old) (O.told orders.new) (given now ks core.old ++ asked_last now ks)
@@ -85,7 +85,7 @@ fn next_wait(core: &mut ConsoleCore, now: u64) -> u64
 /// datagram once, whatever the link answered before. It ends after the first round in which no order will come any
 /// more, or after so many rounds.
 ///
-/// The answer counts the sends that succeeded, those that failed, and the orders that the core refused.
+/// The result counts the sends that succeeded, those that failed, and the orders that the core refused.
 pub fn run_desk<L: Link, C: Clock, O: Orders>(
     link: &mut L,
     clock: &mut C,

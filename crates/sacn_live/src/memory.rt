@@ -50,7 +50,7 @@ impl MemoryReceiver {
     }
 }
 
-/// Puts the octets of a datagram at the front of the buffer, and answers how many fit.
+/// Puts the octets of a datagram at the front of the buffer, and returns how many fit.
 fn put_octets(octets: &[u8], buffer: &mut [u8; BUFFER_OCTETS]) -> usize
     ensures fits { result ≤ 2048 }
     ensures put { take result buffer.new ≡ take 2048 octets.now }

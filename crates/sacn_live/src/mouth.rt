@@ -49,7 +49,7 @@ struct Failure {
 
 /// A UDP socket that sends to some destinations. It tells nothing, and receives nothing.
 ///
-/// A send goes to each of the destinations in turn, also after one that failed, and answers false where one failed. Failures are
+/// A send goes to each of the destinations in turn, also after one that failed, and returns false where one failed. Failures are
 /// counted and said on an output, at most once a second.
 #[derive(Drop)]
 pub struct UdpSender<'a, R, E> {

@@ -57,7 +57,7 @@ impl Monitor {
         })
     }
 
-    /// Takes a datagram that came at a moment, in milliseconds, and answers what it told that is new.
+    /// Takes a datagram that came at a moment, in milliseconds, and returns what it told that is new.
     pub fn take(&mut self, now: u64, sender: Sender, octets: &[u8]) -> Noted
         ensures noted { result ≡ noted now sender octets.now self.old }
         ensures book { self.new ≡ after_take now sender octets.now self.old }
@@ -81,8 +81,8 @@ impl Monitor {
         }
     }
 
-    /// Moves the clock, and answers the place of a stream that is lost by then, if there is one whose loss this call
-    /// didn't answer since its latest packet. Called again it answers the next one.
+    /// Moves the clock, and returns the place of a stream that is lost by then, if there is one whose loss this call
+    /// didn't return since its latest packet. Called again it returns the next one.
     pub fn tick(&mut self, now: u64) -> Option<usize>
         ensures place { result ≡ silent_place (max self.old.moment now) self.old.streams }
         ensures book { self.new ≡ after_tick now self.old }
@@ -95,7 +95,7 @@ impl Monitor {
         place
     }
 
-    /// The first moment at which `tick` answers a stream, where no packet comes; `u64::MAX` where it never does.
+    /// The first moment at which `tick` returns a stream, where no packet comes; `u64::MAX` where it never does.
     pub fn next_loss(&self) -> u64
         ensures { result ≡ next_loss self.now.streams }
     {

@@ -77,7 +77,7 @@ impl Stream {
         (self.universe == universe) & (self.cid == *cid)
     }
 
-    /// A packet more. Answers what it tells that is new.
+    /// A packet more. Returns what it tells that is new.
     pub(crate) fn hear(&mut self, moment: u64, sender: Sender, packet: &DataView<'_>) -> News
         ensures news { result ≡ news_of moment sender packet.now self.old.account }
         ensures stream { self.new ≡ stream_after moment sender packet.now self.old }

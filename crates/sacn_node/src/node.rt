@@ -113,7 +113,7 @@ impl NodeCore {
         }
     }
 
-    /// Drops the sources that are lost. Answers how many those were, in all tables, ended ones too.
+    /// Drops the sources that are lost. Returns how many those were, in all tables, ended ones too.
     pub fn tick(&mut self, now: u64) -> usize
         ensures gone { result ≡ core_lost now self.old.core }
         ensures core { self.new ≡ record self.old { core = core_at now self.old.core } }

@@ -69,7 +69,7 @@ impl Tables {
         self.moment
     }
 
-    /// Moves the clock, and drops the sources that are lost, in all tables. Answers how many those were.
+    /// Moves the clock, and drops the sources that are lost, in all tables. Returns how many those were.
     pub(crate) fn expire(&mut self, now: u64) -> usize
         ensures gone { result ≡ core_lost now self.old }
         ensures core { self.new ≡ core_at now self.old }

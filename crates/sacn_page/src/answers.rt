@@ -168,7 +168,7 @@ fn begin_events<C: Connection + Drop, S: Scene + Drop>(
     viewer.give(text.as_str(), Phase::Watching(named), now)
 }
 
-// Merges the universe that is named, or the first, and answers whether there is room for it.
+// Merges the universe that is named, or the first, and returns whether there is room for it.
 fn prepare<S: Scene + Drop>(
     scene: &mut S,
     named: Option<u16>,

@@ -67,7 +67,7 @@ impl Board {
         }
     }
 
-    /// Moves the clock, and answers whether a source was lost.
+    /// Moves the clock, and returns whether a source was lost.
     ///
     /// Errors: OutOfMemory.
     pub fn tick(&mut self, now: u64) -> Result<bool, AllocError>
@@ -78,7 +78,7 @@ impl Board {
         Ok(is_lost)
     }
 
-    // Notes the sources that are lost by a moment, each at its own, and answers whether there was one.
+    // Notes the sources that are lost by a moment, each at its own, and returns whether there was one.
     fn note_losses(&mut self, now: u64) -> Result<bool, AllocError>
         ensures { IsTicked now self.old.monitor self.new.monitor }
     {
@@ -140,7 +140,7 @@ impl Board {
         self.lit.iter().find(|lit| lit.number() == number)
     }
 
-    /// Sees to it that a universe is merged from now on, in place of one that isn't among those that are looked at. Answers
+    /// Sees to it that a universe is merged from now on, in place of one that isn't among those that are looked at. Returns
     /// whether there is room for it.
     ///
     /// Errors: OutOfMemory.

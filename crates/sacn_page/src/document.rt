@@ -114,7 +114,7 @@ pub fn push_facts(text: &mut String, facts: &Facts) -> Result<(), AllocError> {
 }
 
 /// Writes the document of a viewer that names this universe, or none, and notes what was given; of a recording with what is known of
-/// it. Answers whether any member but the moment was written.
+/// it. Returns whether any member but the moment was written.
 ///
 /// Errors: a growth was refused; the text and what was given then are of no use.
 pub fn push_document(
@@ -200,7 +200,7 @@ fn push_rows(
     Ok(())
 }
 
-// Notes a row at a place, and answers whether it is another one.
+// Notes a row at a place, and returns whether it is another one.
 fn note_row(rows: &mut Vec<Row>, place: usize, row: Row) -> Result<bool, AllocError> {
     match rows.get_mut(place) {
         Some(given) if *given == row => Ok(false),

@@ -69,7 +69,7 @@ impl<T: Tape + Drop> Recording<T> {
         })
     }
 
-    /// Reads on towards its end in at most so many steps, and answers whether it is there: then its length is known, and what is
+    /// Reads on towards its end in at most so many steps, and returns whether it is there: then its length is known, and what is
     /// wrong with it.
     ///
     /// Errors: OutOfMemory; Device where its reader fails.

@@ -62,7 +62,7 @@ impl<R: BufRead + Drop> Replay<R> {
         })
     }
 
-    /// Follows the recording to a moment, or to its end where that is earlier, in at most so many steps, and answers whether it is
+    /// Follows the recording to a moment, or to its end where that is earlier, in at most so many steps, and returns whether it is
     /// there. A frame takes two steps. A moment before the one that is shown counts as that one.
     ///
     /// Errors: OutOfMemory; Device where the reader fails. The replay is of no use then.

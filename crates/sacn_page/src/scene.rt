@@ -41,7 +41,7 @@ pub trait Scene {
     /// Errors: OutOfMemory.
     fn take(&mut self, now: u64, sender: Sender, octets: &[u8]) -> Result<(), AllocError>;
 
-    /// Moves the clock, and answers whether a source was lost.
+    /// Moves the clock, and returns whether a source was lost.
     ///
     /// Errors: OutOfMemory.
     fn tick(&mut self, now: u64) -> Result<bool, AllocError>;
@@ -52,7 +52,7 @@ pub trait Scene {
     /// What is known.
     fn board(&self) -> &Board;
 
-    /// Sees to it that a universe is merged from now on, and answers whether there is room for it beside those that are looked at.
+    /// Sees to it that a universe is merged from now on, and returns whether there is room for it beside those that are looked at.
     ///
     /// Errors: OutOfMemory.
     fn open(&mut self, number: u16, watched: &[u16]) -> Result<bool, AllocError>;
@@ -63,7 +63,7 @@ pub trait Scene {
     /// What is known of the recording as a whole, where it is one.
     fn facts(&self) -> Option<&Facts>;
 
-    /// Moves a recording towards a moment, or to its end where none is named, in at most so many steps. Answers whether it is
+    /// Moves a recording towards a moment, or to its end where none is named, in at most so many steps. Returns whether it is
     /// there; then the board is as at that moment, and the universe that is named, or chosen where none is, is merged.
     ///
     /// Errors: OutOfMemory; Device where the recording can't be read. The next call begins at its start.

@@ -66,7 +66,7 @@ pub(crate) fn renumber(entries: &mut ArrayVec<Entry, MAX_SOURCES>, at: usize, se
     entries[at].sequence_number = sequence_number;
 }
 
-/// Writes all of the entry at this place but its CID and key. Answers its key.
+/// Writes all of the entry at this place but its CID and key. Returns its key.
 pub(crate) fn renew(
     entries: &mut ArrayVec<Entry, MAX_SOURCES>,
     at: usize,

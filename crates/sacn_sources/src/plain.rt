@@ -48,7 +48,7 @@ impl PlainTable {
         }
     }
 
-    /// Moves the clock, and drops the sources that are lost. Answers how many those were, ended ones too.
+    /// Moves the clock, and drops the sources that are lost. Returns how many those were, ended ones too.
     pub fn expire(&mut self, now: u64) -> usize
         ensures gone { result ≡ rows_lost (max self.old.table.moment now) self.old.table.rows }
         ensures few { result ≤ MAX_SOURCES }

@@ -237,7 +237,7 @@ impl Store {
         self.count() >= MAX_SOURCES
     }
 
-    // Drops the sources that are lost at the table's moment, in one scan. Answers whether one of them was live.
+    // Drops the sources that are lost at the table's moment, in one scan. Returns whether one of them was live.
     fn sweep(&mut self) -> bool
         ensures live { result ≡ loses_live self.old.moment self.old.rows }
         ensures table { self.new ≡ record self.old { rows = rows_kept self.old.moment self.old.rows } }
@@ -262,7 +262,7 @@ impl Store {
         self.moment.saturating_sub(entry.moment) >= NETWORK_DATA_LOSS
     }
 
-    // Drops the source at this place. Answers whether it was live.
+    // Drops the source at this place. Returns whether it was live.
     fn drop_at(&mut self, at: usize) -> bool
         requires { at < length self.old.rows }
         ensures live { (d : Row) → result ≡ is_some (slice_index_or self.old.rows at d).shown }

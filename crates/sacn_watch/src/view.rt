@@ -65,7 +65,7 @@ impl View {
         }
     }
 
-    /// Moves the clock. Answers whether a source was lost.
+    /// Moves the clock. Returns whether a source was lost.
     pub fn tick(&mut self, now: u64) -> bool
         ensures lost { result ≡ is_some (silent_place (max self.old.monitor.moment now) self.old.monitor.streams) }
         ensures ticked { IsTicked now self.old.monitor self.new.monitor }

@@ -116,7 +116,7 @@ fn drain<L: Listener, W: Watcher>(
     Ok(())
 }
 
-// Receives once, and hands on what came. Answers whether a datagram was there, so that there may be another.
+// Receives once, and hands on what came. Returns whether a datagram was there, so that there may be another.
 fn hear<L: Listener, W: Watcher>(
     listener: &mut L,
     watcher: &mut W,

@@ -14,7 +14,7 @@ pub const REFUSE: &str = "refuse a data packet of priority 201";
 
 pub const WRITE: &str = "write a data packet of 512 slots";
 
-/// Writes a full data packet of a source of a universe, and answers its length.
+/// Writes a full data packet of a source of a universe, and returns its length.
 pub fn written(
     source: u8,
     universe: u16,

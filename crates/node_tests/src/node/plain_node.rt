@@ -86,7 +86,7 @@ impl PlainNode {
         }
     }
 
-    /// Moves the clock and drops the rows that are lost. Answers how many those were.
+    /// Moves the clock and drops the rows that are lost. Returns how many those were.
     pub(super) fn expire(&mut self, now: u64) -> usize {
         self.moment = self.moment.max(now);
         let before = self.rows.len();

@@ -92,7 +92,7 @@ impl Entries {
         false
     }
 
-    /// Moves the clock, and drops the sources that are lost. Answers how many those were.
+    /// Moves the clock, and drops the sources that are lost. Returns how many those were.
     pub(crate) fn expire(&mut self, now: u64) -> usize
         ensures gone { result ≡ rows_lost (max self.old.moment now) self.old.rows }
         ensures few { result ≤ MAX_SOURCES }
