@@ -12,10 +12,9 @@ together too, and each must fall by the clause of a law that states its constant
 file's module. What isn't refused so is tried by the kit's own way. All else is the kit's: every proof from nothing (or, by a kit that keeps
 them, kept of an earlier run on this machine of the same files), each edit's text, what is printed, and the last line.
 
-There are two ways in, by what the kit has: kit 13f makes a folder of what its own check proved, over copies of which edits are tried, and takes names
-and --anew; kit 13b has one function that tries a crate's edits, and proves all anew.
+There are two ways in, by what the kit has: kit 13f checks a crate as it stands before its edits (here only where some are left), and takes names and
+--anew; kit 13b has one function that tries a crate's edits, and proves all anew.
 """
-import contextlib
 import difflib
 import hashlib
 import importlib.machinery
@@ -214,17 +213,17 @@ def words_of(fell):
 
 
 class Crate:
-    """The edits of a crate, under way: those that were refused, by file, and the folder of what their checks proved."""
+    """The edits of a crate, under way: those that were refused, by file. Their checks fill a folder with what they prove, which begins empty or with the
+    work of others: so what no edit touches is proved once."""
 
-    def __init__(self, rt, crate, files, flags, folder):
-        self.rt, self.crate, self.flags, self.folder = rt, crate, flags, folder
-        self.texts, self.told, self.why = Texts(crate.folder), {}, ""
+    def __init__(self, rt, crate, files, flags, kept):
+        self.rt, self.crate, self.flags, self.kept = rt, crate, flags, kept
+        self.files, self.texts, self.told, self.why = files, Texts(crate.folder), {}, ""
         self.edits = [self.texts.edit(it) for it in files if not rt.read_edit(it, crate.folder)[1]]
 
     def only(self, texts, paths):
         """What falls of some modules and functions, and what they reach, with these texts, and what the check said."""
-        with self.folder() as kept:
-            said = self.rt.checked(self.crate, texts, [*self.flags, *(word for it in paths for word in ("--only", it))], kept)
+        said = self.rt.checked(self.crate, texts, [*self.flags, *(word for it in paths for word in ("--only", it))], self.kept)
         return fallen(self.rt, self.crate, texts, self.texts.homes, said), said.stdout
 
     def check(self, edits):
@@ -285,25 +284,25 @@ class Crate:
             edits = [it for it in edits if it.file not in self.told]
 
 
-    def every(self, files):
-        """Tries all edits, and says which files are left for the kit's own way."""
+    def every(self):
+        """Tries all edits, and returns the files that are left for the kit's own way."""
         self.together([it for it in self.edits if it.targets and not it.clause])
         self.together([it for it in self.edits if it.clause])
         for edit in self.edits:
             if edit.file not in self.told:
                 self.by_module(edit)
-        rest = [it for it in files if it not in self.told]
+        rest = [it for it in self.files if it not in self.told]
         if rest:
             names = " ".join(os.path.basename(it) for it in rest)
-            print(f"rt: {self.crate.name}: {len(files) - len(rest)} of {len(files)} edits refused together; one by one: {names}{self.why}", flush=True)
+            print(f"rt: {self.crate.name}: {len(self.told)} of {len(self.files)} edits refused together; one by one: {names}{self.why}", flush=True)
         return rest
 
 
 class Together:
-    """The way of kit 13f with edits, but that those of a crate are first tried together, over what the kit's check of the crate as it stands proved."""
+    """The way of kit 13f with edits, but that those of a crate are first tried together. Only for what is left does the kit check the crate as it stands."""
 
     def __init__(self, rt):
-        self.rt, self.edits, self.told = rt, {}, {}
+        self.rt, self.edits, self.told, self.done = rt, {}, {}, set()
         self.kits = {it: getattr(rt, it) for it in ("add_edits", "seeded", "must_fail")}
         for name in self.kits:
             setattr(rt, name, getattr(self, name))
@@ -320,34 +319,34 @@ class Together:
         return results, known
 
     def seeded(self, crate, flags, start=None):
-        """As the kit's: makes the folder over which each edit of a crate is tried. All are then tried together over copies of it."""
-        room = self.kits["seeded"](crate, flags, start)
-        if room:
-            edits, known = self.edits[crate.folder]
-            try:
-                self.try_all(crate, [it for at, it in enumerate(edits) if at not in known()], flags, f"{room}/seed")
-            except Exception as error:  # (whatever it is: the kit's way is left)
-                print(f"rt: {crate.name}: its edits can't be tried together: {error!r}", flush=True)
-        return room
+        """As the kit's: makes the folder over which each edit of a crate is tried, from what the tries of all together proved. None is left to try where those
+        refused all: an empty name says so."""
+        edits, known = self.edits[crate.folder]
+        room = tempfile.mkdtemp(prefix=f"rt-edits-{os.getpid()}-")
+        self.rt.SEEDS.append(room)
+        try:
+            kept = f"{room}/kept"
+            self.rt.linked(start, kept) if start else os.mkdir(kept)
+            tried = Crate(self.rt, crate, [it for at, it in enumerate(edits) if at not in known()], flags, kept)
+            rest = tried.every()
+            self.told.update(tried.told)
+            if rest:
+                return self.kits["seeded"](crate, flags, kept)
+            self.done.add(crate.folder)
+            return ""
+        except Exception as error:  # (whatever it is: the kit's way is left)
+            print(f"rt: {crate.name}: its edits can't be tried together: {error!r}", flush=True)
+            return self.kits["seeded"](crate, flags, start)
+        finally:
+            shutil.rmtree(room, ignore_errors=True)
 
     def must_fail(self, crate, edit, flags, kept=None):
         """As the kit's, of what wasn't refused together: what an edit comes to, and what to say."""
-        return kept and self.told.get(edit) or self.kits["must_fail"](crate, edit, flags, kept)
-
-    def try_all(self, crate, files, flags, seed):
-        @contextlib.contextmanager
-        def copied():
-            with tempfile.TemporaryDirectory(prefix=f"rt-edits-{os.getpid()}-") as room:
-                self.rt.linked(seed, f"{room}/kept")
-                yield f"{room}/kept"
-
-        tried = Crate(self.rt, crate, files, flags, copied)
-        tried.every(files)
-        self.told.update(tried.told)
+        return (kept or crate.folder in self.done) and self.told.get(edit) or self.kits["must_fail"](crate, edit, flags, kept)
 
 
 class TogetherAtOnce:
-    """The same over kit 13b, whose one function tries all edits of a crate in turn, over a folder that fills as they go."""
+    """The same over kit 13b, whose one function tries all edits of a crate in turn."""
 
     def __init__(self, rt):
         self.rt, self.kits = rt, rt.must_fail_all
@@ -364,8 +363,8 @@ class TogetherAtOnce:
     def try_all(self, crate, files, flags):
         rt = self.rt
         with tempfile.TemporaryDirectory(prefix="rt-edits-") as kept:
-            tried = Crate(rt, crate, files, flags, lambda: contextlib.nullcontext(kept))
-            rest = tried.every(files)
+            tried = Crate(rt, crate, files, flags, kept)
+            rest = tried.every()
             alone = {it: rt.must_fail(crate, it, flags, kept) for it in rest}
             if any(not it[0] for it in alone.values()) or rest and rt.checked(crate, {}, flags, kept).returncode:
                 alone = {it: rt.must_fail(crate, it, flags) for it in rest}

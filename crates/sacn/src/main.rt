@@ -18,11 +18,7 @@ use std::process::ExitCode;
 use std::{env, io};
 
 fn main(rt: HostRuntime) -> ExitCode {
-    let words: Result<Vec<String>, io::Error> = match env::args(&rt) {
-        Ok(words) => words.collect(rt.alloc()).map_err(io::Error::from),
-        Err(error) => Err(error),
-    };
-    let status = match words {
+    let status = match words_of(&rt) {
         Ok(words) => program::run_program(
             &rt,
             words.as_slice(),
@@ -33,4 +29,9 @@ fn main(rt: HostRuntime) -> ExitCode {
         Err(error) => ending::wordless(error.kind(), &mut rt.stderr()),
     };
     ExitCode::from(status)
+}
+
+// The words that the program was called with.
+fn words_of(rt: &HostRuntime) -> Result<Vec<String>, io::Error> {
+    Ok(env::args(rt)?.collect(rt.alloc())?)
 }

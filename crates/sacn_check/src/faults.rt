@@ -24,13 +24,9 @@ use std::alloc::{AllocError, Global};
 pub fn faults_of(alloc: Global, kind: FileKind, text: &str) -> Result<Findings, AllocError>
     ensures { IfOk result (λ findings. first_refusal findings.told.items ≡ refusal kind text.now) }
 {
-    match refusal_of(alloc, kind, text) {
-        Ok(Some(refusal)) => match found_by_rules(alloc, kind, text) {
-            Ok(findings) => led_by(alloc, refusal, findings),
-            Err(error) => Err(error),
-        },
-        Ok(None) => Ok(Findings::new(alloc)),
-        Err(error) => Err(error),
+    match refusal_of(alloc, kind, text)? {
+        Some(refusal) => led_by(alloc, refusal, found_by_rules(alloc, kind, text)?),
+        None => Ok(Findings::new(alloc)),
     }
 }
 
@@ -198,11 +194,9 @@ fn led_by(alloc: Global, refusal: Refusal, findings: Findings) -> Result<Finding
         found: Found::Nothing,
         wanted: Wanted::Text("another file"),
     };
-    match finding_of(alloc, &fault) {
-        Ok(finding) => match told.insert(0, finding) {
-            Ok(()) => Ok(Findings { told, more }),
-            Err(_) => Err(AllocError),
-        },
-        Err(error) => Err(error),
+    let finding = finding_of(alloc, &fault)?;
+    match told.insert(0, finding) {
+        Ok(()) => Ok(Findings { told, more }),
+        Err(_) => Err(AllocError),
     }
 }

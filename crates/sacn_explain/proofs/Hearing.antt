@@ -8,7 +8,7 @@ use Rattle.sacn_monitor.specs.Books.{Book, after_tick, silent_place}
 use Rattle.sacn_explain.specs.declared.contests.Contests.{Contests}
 use Rattle.sacn_explain.specs.declared.options.Form.{Form}
 use Rattle.sacn_explain.specs.declared.teller.Teller.{Teller}
-use Rattle.sacn_explain.specs.Happened.{lost_stream, loss_told, packet_told, rivals_told, stirred_told, stirs}
+use Rattle.sacn_explain.specs.Occurrences.{lost_stream, loss_told, packet_told, rivals_told, stirred_told, stirs}
 use Rattle.sacn_explain.specs.PacketLines.{loss_line}
 use Rattle.sacn_explain.specs.Told.{Tells, ended, news_told}
 use Rattle.sacn_explain.specs.Wanted.{is_wanted}

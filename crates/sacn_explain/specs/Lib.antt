@@ -21,4 +21,4 @@ pub mod StreamRows
 pub mod Totals
 pub mod Tables
 pub mod Shows
-pub mod Happened
+pub mod Occurrences

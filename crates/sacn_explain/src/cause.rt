@@ -5,7 +5,7 @@ ghost use Rattle.sacn_explain.specs.Causes.{on_universe, by_words, cause_words, 
 
 use crate::{json, words};
 use sacn_framing::up_to_nul;
-use sacn_monitor::Stream;
+use sacn_monitor::{Noted, Stream};
 use std::alloc::AllocError;
 use std::fmt::Write;
 
@@ -22,6 +22,18 @@ pub enum Cause<'a> {
     Unfollowed,
     /// No packet of a source came for 2500 ms (E1.31, 6.7.1).
     Lost,
+}
+
+/// Why a datagram changed a frame.
+pub fn cause_of(streams: &[Stream], noted: Noted) -> Cause<'_> {
+    match noted {
+        Noted::Heard(place, _) => match streams.get(place) {
+            Some(stream) if stream.account.ended => Cause::Ended(stream),
+            Some(stream) => Cause::Packet(stream),
+            None => Cause::Unfollowed,
+        },
+        _ => Cause::Unfollowed,
+    }
 }
 
 /// A cause in words.

@@ -1,31 +1,29 @@
 //! What happens, told as it happens.
 
-ghost use Rattle.std.specs.Prelude.{◌≡◌, ◌==◌, ◌≤◌, ◌⊎◌, ℕ, IfErr, IfOk, IfSome, OnOk, is_some, map, max, slice_get, if◌then◌else◌};
+ghost use Rattle.std.specs.Prelude.{◌≡◌, ◌==◌, ◌≤◌, ◌⊎◌, ℕ, IfErr, IfOk, IfSome, OnOk, is_some, max, slice_get, if◌then◌else◌};
 ghost use Rattle.sacn_framing.specs.PacketReading.{reading_packet};
-ghost use Rattle.sacn_monitor.specs.Books.{new_book, after_take, after_tick};
-ghost use Rattle.sacn_node.specs.Setup.{port_numbers};
-ghost use Rattle.sacn_edge.specs.PortLines.{port_after, unshown};
+ghost use Rattle.sacn_monitor.specs.Books.{new_book, after_tick};
 ghost use Rattle.sacn_explain.specs.Contested.{is_noted};
 ghost use Rattle.sacn_explain.specs.Faults.{IsOfTelling};
 ghost use Rattle.sacn_explain.specs.Following.{IsTicked, IsTaken};
-ghost use Rattle.sacn_explain.specs.Happened.{is_contested, loss_told, noted_told, packet_told, rivals_told, stirred_told, stirs};
+ghost use Rattle.sacn_explain.specs.Occurrences.{is_contested, loss_told, noted_told, packet_told, rivals_told, stirred_told};
 ghost use Rattle.sacn_explain.specs.Listed.{after_noted, after_reading, listed_in, none_listed};
-ghost use Rattle.sacn_explain.specs.Shows.{stage_told, start_told, started_node};
+ghost use Rattle.sacn_explain.specs.Shows.{stage_told};
 ghost use Rattle.sacn_explain.specs.Tables.{tables_told};
 ghost use Rattle.sacn_explain.specs.Told.{Tells};
 ghost use Rattle.sacn_explain.specs.declared.cause.Cause.TheVariants.{Lost};
 
-use crate::cause::Cause;
-use crate::contests::Contests;
+use crate::cause::{Cause, cause_of};
+use crate::contests::{Contests, stirs};
 use crate::fault::{ExplainFault, TellFault};
 use crate::listings::{Listings, PageNews};
 use crate::options::Options;
 use crate::report::Report;
-use crate::stage::Stage;
+use crate::stage::{Stage, started};
 use crate::tables;
 use crate::teller::Teller;
 use sacn_framing::{Packet, read_packet};
-use sacn_monitor::{Event, Monitor, News, Noted, Sender, Stream, Tally};
+use sacn_monitor::{Monitor, News, Noted, Sender, Stream, Tally};
 use sacn_node::NodeSetup;
 use sacn_sources::NETWORK_DATA_LOSS;
 use std::alloc::Global;
@@ -374,38 +372,4 @@ fn end_by(now: u64, lost: u64, dark: u64) -> Option<u64>
         return None;
     }
     Some(at)
-}
-
-// A node, whose first frames are told.
-fn started<O: Write>(
-    alloc: Global,
-    setup: &NodeSetup,
-    teller: &mut Teller<'_, O>,
-) -> Result<Stage, TellFault>
-    ensures core { IfOk result (λ s. s.core ≡ started_node setup.now.ports) }
-    ensures ports { IfOk result (λ s. s.ports.items ≡ map (port_after (started_node setup.now.ports)) (map unshown (port_numbers setup.now.ports))) }
-    ensures told { OnOk result (Tells O.contents teller.old teller.new (start_told teller.old.form setup.now.ports)) }
-{
-    let mut stage = Stage::new(alloc, setup)?;
-    stage.show(0, &Cause::Start, teller)?;
-    Ok(stage)
-}
-
-// Whether a packet may change who lights its universe at the top priority.
-fn stirs(stream: &Stream, news: &News) -> bool
-    ensures { result ≡ stirs stream.now news.now }
-{
-    (news.event != Event::GoesOn) | news.priority.is_some() | (stream.account.kinds.live == 1)
-}
-
-// Why a datagram changed a frame.
-fn cause_of(streams: &[Stream], noted: Noted) -> Cause<'_> {
-    match noted {
-        Noted::Heard(place, _) => match streams.get(place) {
-            Some(stream) if stream.account.ended => Cause::Ended(stream),
-            Some(stream) => Cause::Packet(stream),
-            None => Cause::Unfollowed,
-        },
-        _ => Cause::Unfollowed,
-    }
 }

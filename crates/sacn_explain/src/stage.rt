@@ -5,7 +5,7 @@ ghost use Rattle.sacn_node.specs.Calls.{step, Take, Tick};
 ghost use Rattle.sacn_node.specs.Cores.{new_node, core_at, core_lost};
 ghost use Rattle.sacn_node.specs.Setup.{port_numbers};
 ghost use Rattle.sacn_edge.specs.PortLines.{port_after, port_text, ports_text, unshown};
-ghost use Rattle.sacn_explain.specs.Shows.{frame_told, frames_told, port_told};
+ghost use Rattle.sacn_explain.specs.Shows.{frame_told, frames_told, port_told, start_told, started_node};
 ghost use Rattle.sacn_explain.specs.Staging.{may_change_frames};
 ghost use Rattle.sacn_explain.specs.Told.{Tells};
 
@@ -77,6 +77,21 @@ impl Stage {
         let ports = self.ports.as_mut_slice();
         show_ports(self.alloc, &mut self.core, now, cause, ports, teller)
     }
+}
+
+/// A node of a setup, whose first frames are told.
+pub fn started<O: Write>(
+    alloc: Global,
+    setup: &NodeSetup,
+    teller: &mut Teller<'_, O>,
+) -> Result<Stage, TellFault>
+    ensures core { IfOk result (λ s. s.core ≡ started_node setup.now.ports) }
+    ensures ports { IfOk result (λ s. s.ports.items ≡ map (port_after (started_node setup.now.ports)) (map unshown (port_numbers setup.now.ports))) }
+    ensures told { OnOk result (Tells O.contents teller.old teller.new (start_told teller.old.form setup.now.ports)) }
+{
+    let mut stage = Stage::new(alloc, setup)?;
+    stage.show(0, &Cause::Start, teller)?;
+    Ok(stage)
 }
 
 // Tells the frames of these ports.

@@ -91,13 +91,12 @@ impl TypedInput {
         }
         let begin = self.begin;
         self.begin = self.len;
-        match gather_part(&mut self.line, &self.piece, begin, self.len) {
-            Ok(Gathered::Ended(count)) => {
+        match gather_part(&mut self.line, &self.piece, begin, self.len)? {
+            Gathered::Ended(count) => {
                 self.begin = begin.saturating_add(count);
                 Ok(true)
             }
-            Ok(Gathered::Partly) => Ok(false),
-            Err(error) => Err(error),
+            Gathered::Partly => Ok(false),
         }
     }
 

@@ -15,8 +15,7 @@ use std::rt::Clock as MachineClock;
 /// The most destinations of a desk.
 pub const MAX_DESTINATIONS: usize = 64;
 
-/// The universe whose group hears discovery pages and, before it, what a group's number stands for (E1.31 section
-/// 9.3.2, E131_DISCOVERY_UNIVERSE).
+/// The universe whose group hears discovery pages and, before it, what a group's number stands for (E1.31, 9.3.2).
 pub const DISCOVERY_UNIVERSE: u16 = 64_214;
 
 /// The group that a datagram goes to: that of its universe, or that of discovery for a page; None where it is neither.

@@ -119,30 +119,33 @@ impl<C: Connection + Drop, S: Scene + Drop> Room<C, S> {
 
     /// Takes what the viewer of a key sent, answers it, and sends what its connection takes.
     pub fn serve(&mut self, key: usize, now: u64) {
-        let watched = self.watched();
         let question = Question {
             turn: self.turns,
             now,
         };
         self.turns = self.turns.saturating_add(1);
-        let Some(viewer) = self.viewers.get_mut(key) else {
-            return;
-        };
-        let served = match watched {
-            Ok(watched) => serve(
-                self.alloc,
-                &mut self.scene,
-                viewer,
-                watched.as_slice(),
-                question,
-            ),
-            Err(fault) => Err(fault),
-        };
+        let stays = self.serve_viewer(key, question).unwrap_or(false);
         // A viewer that took all may be owed what changed in the meantime.
         self.is_stale = true;
-        if served.is_err() || viewer.phase() == Phase::Gone {
+        if !stays {
             let _ = self.viewers.try_remove(key);
         }
+    }
+
+    // The same for the viewer alone: whether it stays.
+    fn serve_viewer(&mut self, key: usize, question: Question) -> Result<bool, AllocError> {
+        let watched = self.watched()?;
+        let Some(viewer) = self.viewers.get_mut(key) else {
+            return Ok(true);
+        };
+        serve(
+            self.alloc,
+            &mut self.scene,
+            viewer,
+            watched.as_slice(),
+            question,
+        )?;
+        Ok(viewer.phase() != Phase::Gone)
     }
 
     // The universes that are looked at.

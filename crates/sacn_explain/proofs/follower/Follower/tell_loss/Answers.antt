@@ -1,6 +1,6 @@
 use Rattle.std.proofs.Common.{◌≡◌, ◌∙◌, Some, true, OnOk, ap, sym}
 use Rattle.sacn_monitor.specs.Books.{Book, after_tick}
-use Rattle.sacn_explain.specs.Happened.{lost_stream, rivals_told}
+use Rattle.sacn_explain.specs.Occurrences.{lost_stream, rivals_told}
 use Rattle.sacn_explain.specs.PacketLines.{loss_line}
 use Rattle.sacn_explain.specs.Told.{Tells, ended}
 use Rattle.sacn_explain.specs.Wanted.{is_wanted}

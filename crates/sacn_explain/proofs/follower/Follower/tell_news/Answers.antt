@@ -1,5 +1,5 @@
 use Rattle.std.proofs.Common.{◌≡◌, Some, slice_get, true, OnOk, sym}
-use Rattle.sacn_explain.specs.Happened.{stirred_told, stirs}
+use Rattle.sacn_explain.specs.Occurrences.{stirred_told, stirs}
 use Rattle.sacn_explain.specs.Told.{Tells, news_told}
 use Rattle.sacn_explain.specs.Wanted.{is_wanted}
 use Rattle.sacn_explain.proofs.Hearing.{packet_heard, stands_at}
