@@ -1,5 +1,5 @@
 //! Files checked.
-use crate::ending::{DEVICE_FAILED, DONE, Ending, REFUSED};
+use crate::ending::{DEVICE_FAILED, DONE, Ending, REFUSED, of_write};
 use crate::files::text_of_file;
 use sacn_check::{FileKind, ReportFault, faults_of, kind_of, write_report, write_unread};
 use sacn_words::CheckAsked;
@@ -18,16 +18,14 @@ pub fn check<R: AllocGlobal + Files, O: Write, E: Write>(
     for path in asked.files.as_slice() {
         worst = worst.max(check_file(rt, path, asked.kind, out, err)?);
     }
-    if out.flush().is_err() {
-        return Err(Ending::DeviceWrite);
-    }
+    of_write(out.flush())?;
     match worst {
         DONE => Ok(()),
         status => Err(Ending::Said(status)),
     }
 }
 
-// Checks a file, and answers the status that it gives.
+// Checks a file, and returns the status that it gives.
 fn check_file<R: AllocGlobal + Files, O: Write, E: Write>(
     rt: &R,
     path: &str,
@@ -53,19 +51,10 @@ fn check_file<R: AllocGlobal + Files, O: Write, E: Write>(
     }
 }
 
-fn ending_of(fault: ReportFault) -> Ending {
-    match fault {
-        ReportFault::OutOfMemory => Ending::OutOfMemory,
-        ReportFault::WriteFailed => Ending::DeviceWrite,
-    }
-}
-
 // The status of a file with faults, once they are written.
 fn refused_file(written: Result<(), ReportFault>) -> Result<u8, Ending> {
-    match written {
-        Ok(()) => Ok(REFUSED),
-        Err(fault) => Err(ending_of(fault)),
-    }
+    written?;
+    Ok(REFUSED)
 }
 
 fn kind_in(
@@ -91,12 +80,10 @@ fn check_text<O: Write>(
         return refused_file(write_unread(alloc, path, "Kind", wanted, out));
     };
     let findings = faults_of(alloc, kind, text)?;
-    let written = write_report(alloc, path, kind, &findings, out);
+    write_report(alloc, path, kind, &findings, out)?;
     if findings.told.is_empty() {
-        return match written {
-            Ok(()) => Ok(DONE),
-            Err(fault) => Err(ending_of(fault)),
-        };
+        Ok(DONE)
+    } else {
+        Ok(REFUSED)
     }
-    refused_file(written)
 }

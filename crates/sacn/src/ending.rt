@@ -1,6 +1,7 @@
 //! Why a run ends before its work is done, and how it says so.
 use clap::error::ErrorKind;
 use hex::FromHexError;
+use sacn_check::ReportFault;
 use sacn_console::{ShowFault, TextFault};
 use sacn_edge::{SocketFailed, WriteFailed};
 use sacn_node::SetupFault;
@@ -9,8 +10,8 @@ use sacn_sources::TableFault;
 use sacn_text::{DecodeFault, ReadFault, SimFault};
 use sacn_watch::WatchFault;
 use sacn_world::{WorldFault, WorldTextFault};
-use std::alloc::{AllocError, Global};
-use std::io::Write;
+use std::alloc::{AllocError, AllocFailed, Global};
+use std::io::{self, Write};
 
 /// The exit statuses.
 pub const DONE: u8 = 0;
@@ -47,6 +48,12 @@ pub enum Ending {
 
 impl From<AllocError> for Ending {
     fn from(_error: AllocError) -> Ending {
+        Ending::OutOfMemory
+    }
+}
+
+impl<T: Drop> From<AllocFailed<T>> for Ending {
+    fn from(_error: AllocFailed<T>) -> Ending {
         Ending::OutOfMemory
     }
 }
@@ -137,13 +144,30 @@ impl From<WriteFailed> for Ending {
     }
 }
 
+impl From<ReportFault> for Ending {
+    fn from(fault: ReportFault) -> Ending {
+        match fault {
+            ReportFault::OutOfMemory => Ending::OutOfMemory,
+            ReportFault::WriteFailed => Ending::DeviceWrite,
+        }
+    }
+}
+
+/// What came of a write, where a failure ends the run.
+pub fn of_write(outcome: io::Result<()>) -> Result<(), Ending> {
+    match outcome {
+        Ok(()) => Ok(()),
+        Err(_) => Err(Ending::DeviceWrite),
+    }
+}
+
 /// Says how a run ended, and returns its status.
-pub fn ended<E: Write>(ending: Ending, err: &mut E) -> u8 {
+pub fn tell_ending<E: Write>(ending: Ending, err: &mut E) -> u8 {
     match ending {
-        Ending::OutOfMemory => refused(err, "OutOfMemory"),
-        Ending::TooLarge => refused(err, "TooLarge"),
-        Ending::Hex => refused(err, "Hex"),
-        Ending::NotText => refused(err, "NotText"),
+        Ending::OutOfMemory => tell_refusal(err, "OutOfMemory"),
+        Ending::TooLarge => tell_refusal(err, "TooLarge"),
+        Ending::Hex => tell_refusal(err, "Hex"),
+        Ending::NotText => tell_refusal(err, "NotText"),
         Ending::Packet(fault) => {
             let _ = writeln!(err, "refused {fault:?}");
             REFUSED
@@ -156,50 +180,50 @@ pub fn ended<E: Write>(ending: Ending, err: &mut E) -> u8 {
             let _ = writeln!(err, "refused {fault:?}");
             REFUSED
         }
-        Ending::Line(fault) => refused_line(err, fault),
-        Ending::World(fault) => refused_world(err, fault),
+        Ending::Line(fault) => tell_line_fault(err, fault),
+        Ending::World(fault) => tell_world_fault(err, fault),
         Ending::Event(step, fault) => {
             let _ = writeln!(err, "refused step {step} {fault:?}");
             REFUSED
         }
-        Ending::DeviceRead => failed(err, "read"),
-        Ending::DeviceWrite => failed(err, "write"),
-        Ending::DeviceSocket => failed(err, "socket"),
+        Ending::DeviceRead => tell_failure(err, "read"),
+        Ending::DeviceWrite => tell_failure(err, "write"),
+        Ending::DeviceSocket => tell_failure(err, "socket"),
         Ending::Said(status) => status,
     }
 }
 
-/// Explains bad words on standard error, or prints help to standard output, and answers the status.
-pub fn explained<O: Write, E: Write>(
+/// Explains bad words on standard error, or prints help to standard output, and returns the status.
+pub fn tell_words<O: Write, E: Write>(
     alloc: Global,
     error: clap::Error,
     out: &mut O,
     err: &mut E,
 ) -> u8 {
     if error.kind() == ErrorKind::OutOfMemory {
-        return refused(err, "OutOfMemory");
+        return tell_refusal(err, "OutOfMemory");
     }
     let Ok(text) = format!(in alloc; "{error}") else {
-        return refused(err, "OutOfMemory");
+        return tell_refusal(err, "OutOfMemory");
     };
     if error.use_stderr() {
         let _ = err.write_all(text.as_bytes());
         return BAD_WORDS;
     }
     if out.write_all(text.as_bytes()).is_err() || out.flush().is_err() {
-        return failed(err, "write");
+        return tell_failure(err, "write");
     }
     DONE
 }
 
-fn refused<E: Write>(err: &mut E, cause: &str) -> u8 {
+fn tell_refusal<E: Write>(err: &mut E, cause: &str) -> u8 {
     let _ = writeln!(err, "refused {cause}");
     REFUSED
 }
 
-fn refused_line<E: Write>(err: &mut E, fault: TextFault) -> u8 {
+fn tell_line_fault<E: Write>(err: &mut E, fault: TextFault) -> u8 {
     let (line, name) = match fault {
-        TextFault::OutOfMemory => return refused(err, "OutOfMemory"),
+        TextFault::OutOfMemory => return tell_refusal(err, "OutOfMemory"),
         TextFault::UnknownWord(line) => (line, "UnknownWord"),
         TextFault::WordCount(line) => (line, "WordCount"),
         TextFault::Number(line) => (line, "Number"),
@@ -210,7 +234,7 @@ fn refused_line<E: Write>(err: &mut E, fault: TextFault) -> u8 {
 }
 
 // A world's own fault, or that of one of its consoles or nodes.
-fn refused_world<E: Write>(err: &mut E, fault: WorldTextFault) -> u8 {
+fn tell_world_fault<E: Write>(err: &mut E, fault: WorldTextFault) -> u8 {
     let _ = match fault {
         WorldTextFault::Console(index, fault) => {
             writeln!(err, "refused Console {index} {fault:?}")
@@ -221,15 +245,15 @@ fn refused_world<E: Write>(err: &mut E, fault: WorldTextFault) -> u8 {
     REFUSED
 }
 
-fn failed<E: Write>(err: &mut E, what: &str) -> u8 {
+fn tell_failure<E: Write>(err: &mut E, what: &str) -> u8 {
     let _ = writeln!(err, "device {what}");
     DEVICE_FAILED
 }
 
 /// The status where the words themselves can't be had: one of them is no text, or no memory is left.
-pub fn wordless<E: Write>(kind: std::io::ErrorKind, err: &mut E) -> u8 {
-    if kind == std::io::ErrorKind::OutOfMemory {
-        return refused(err, "OutOfMemory");
+pub fn wordless<E: Write>(kind: io::ErrorKind, err: &mut E) -> u8 {
+    if kind == io::ErrorKind::OutOfMemory {
+        return tell_refusal(err, "OutOfMemory");
     }
     let _ = err.write_all(b"error: a word of the command line is no text\n");
     BAD_WORDS

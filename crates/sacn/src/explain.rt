@@ -1,6 +1,6 @@
 //! Recordings told.
-use crate::ending::{DEVICE_FAILED, Ending, REFUSED};
-use crate::live::{said_of_file, setup_of_file};
+use crate::ending::{DEVICE_FAILED, Ending, REFUSED, of_write};
+use crate::live::{of_file, setup_of_file};
 use crate::recording::serve;
 use sacn_capture::{CaptureFault, FaultKind};
 use sacn_explain::{ExplainFault, Options, explain};
@@ -16,8 +16,8 @@ use std::rt::{Clock, Files};
 /// The octets of a recording that are read at once.
 pub const ROOM: usize = 65_536;
 
-/// Says that a recording can't be read.
-pub fn unread<E: Write>(path: &str, err: &mut E) -> Ending {
+/// Says that a recording can't be read, and returns how the run ends.
+pub fn say_unread<E: Write>(path: &str, err: &mut E) -> Ending {
     let _ = writeln!(err, "device read {path}");
     Ending::Said(DEVICE_FAILED)
 }
@@ -25,7 +25,7 @@ pub fn unread<E: Write>(path: &str, err: &mut E) -> Ending {
 /// Says what is wrong with a recording, and where.
 pub fn said_of_capture<E: Write>(path: &str, fault: CaptureFault, err: &mut E) -> Ending {
     match fault.kind {
-        FaultKind::Device => return unread(path, err),
+        FaultKind::Device => return say_unread(path, err),
         FaultKind::OutOfMemory => return Ending::OutOfMemory,
         _ => {}
     }
@@ -47,10 +47,10 @@ pub fn tell<R: AllocGlobal + Files + Net + Clock, O: Write, E: Write>(
     }
     match asked.setup {
         None => tell_file(rt, asked, None, out, err),
-        Some(path) => match setup_of_file(rt, path) {
-            Ok(setup) => tell_file(rt, asked, Some(&setup), out, err),
-            Err(ending) => Err(said_of_file(path, ending, err)),
-        },
+        Some(path) => {
+            let setup = of_file(setup_of_file(rt, path), path, err)?;
+            tell_file(rt, asked, Some(&setup), out, err)
+        }
     }
 }
 
@@ -62,7 +62,7 @@ fn tell_file<R: AllocGlobal + Files, O: Write, E: Write>(
     err: &mut E,
 ) -> Result<(), Ending> {
     let Ok(file) = fs::open(rt, asked.capture) else {
-        return Err(unread(asked.capture, err));
+        return Err(say_unread(asked.capture, err));
     };
     match BufReader::with_capacity(rt.alloc(), ROOM, file) {
         Ok(reader) => tell_to_lines(rt.alloc(), reader, asked, setup, out, err),
@@ -83,9 +83,7 @@ fn tell_to_lines<I: BufRead + Drop, O: Write, E: Write>(
         return Err(Ending::OutOfMemory);
     };
     let told = tell_reader(alloc, reader, asked, setup, &mut lines);
-    if lines.flush().is_err() {
-        return Err(Ending::DeviceWrite);
-    }
+    of_write(lines.flush())?;
     match told {
         Ok(()) => Ok(()),
         Err(ExplainFault::OutOfMemory) => Err(Ending::OutOfMemory),

@@ -20,10 +20,7 @@ pub fn octets_of_files<R: AllocGlobal + Files>(
 ) -> Result<Vec<Vec<u8>>, Ending> {
     let mut files = Vec::with_capacity(rt.alloc(), paths.len())?;
     for path in paths {
-        let octets = octets_of_file(rt, path)?;
-        if files.push(octets).is_err() {
-            return Err(Ending::OutOfMemory);
-        }
+        files.push(octets_of_file(rt, path)?)?;
     }
     Ok(files)
 }

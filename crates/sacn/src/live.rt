@@ -1,5 +1,5 @@
 //! Gateways and desks that run a rig.
-use crate::ending::{DEVICE_FAILED, Ending, REFUSED};
+use crate::ending::{DEVICE_FAILED, Ending, REFUSED, of_write};
 use crate::files::text_of_file;
 use crate::network::tell;
 use sacn_console::{Command, ConsoleCore, Show, TextFault, read_script, read_show};
@@ -17,8 +17,8 @@ use std::io::{ErrorKind, Write};
 use std::net::{Ipv4Addr, Net, SocketAddrV4};
 use std::rt::{Clock, Files};
 
-/// Says the fault of a file with its name.
-pub fn said_of_file<E: Write>(path: &str, ending: Ending, err: &mut E) -> Ending {
+// Says the fault of a file with its name, and returns how the run ends.
+fn said_of_file<E: Write>(path: &str, ending: Ending, err: &mut E) -> Ending {
     let (line, status) = match ending {
         Ending::DeviceRead => (writeln!(err, "device read {path}"), DEVICE_FAILED),
         Ending::TooLarge => (writeln!(err, "refused {path} TooLarge"), REFUSED),
@@ -42,7 +42,15 @@ fn said_of_line<E: Write>(path: &str, fault: TextFault, err: &mut E) -> std::io:
     }
 }
 
-/// Says why the machine refused a socket.
+/// What was read from a file, whose fault is said with its name.
+pub fn of_file<T, E: Write>(read: Result<T, Ending>, path: &str, err: &mut E) -> Result<T, Ending> {
+    match read {
+        Ok(value) => Ok(value),
+        Err(ending) => Err(said_of_file(path, ending, err)),
+    }
+}
+
+/// Says why the machine refused a socket, and returns how the run ends.
 pub fn said_of_socket<E: Write>(address: SocketAddrV4, kind: ErrorKind, err: &mut E) -> Ending {
     let [a, b, c, d] = address.ip().octets();
     let _ = writeln!(
@@ -51,6 +59,18 @@ pub fn said_of_socket<E: Write>(address: SocketAddrV4, kind: ErrorKind, err: &mu
         address.port()
     );
     Ending::Said(DEVICE_FAILED)
+}
+
+/// What has its socket at this address; where the machine refused it, that is said.
+pub fn of_socket<T, E: Write>(
+    bound: Result<T, ErrorKind>,
+    address: SocketAddrV4,
+    err: &mut E,
+) -> Result<T, Ending> {
+    match bound {
+        Ok(value) => Ok(value),
+        Err(kind) => Err(said_of_socket(address, kind, err)),
+    }
 }
 
 /// The setup in a file.
@@ -85,14 +105,10 @@ fn universes_of_setup<R: AllocGlobal>(rt: &R, setup: &NodeSetup) -> Result<Vec<u
     let mut universes = Vec::new(rt.alloc());
     for port in setup.ports() {
         for range in port.ranges() {
-            if universes.push(range.universe).is_err() {
-                return Err(Ending::OutOfMemory);
-            }
+            universes.push(range.universe)?;
         }
     }
-    if universes.sort().is_err() {
-        return Err(Ending::OutOfMemory);
-    }
+    universes.sort()?;
     universes.dedup();
     Ok(universes)
 }
@@ -123,9 +139,7 @@ fn widgets_of<'a, R: AllocGlobal>(
 ) -> Result<Vec<Widget<'a>>, Ending> {
     let mut widgets = Vec::new(rt.alloc());
     for (port, path) in asked {
-        if widgets.push(Widget::new(*port, path)).is_err() {
-            return Err(Ending::OutOfMemory);
-        }
+        widgets.push(Widget::new(*port, path))?;
     }
     Ok(widgets)
 }
@@ -138,10 +152,8 @@ pub fn gateway<R: AllocGlobal + Files + Net + Clock, O: Write, E: Write>(
     err: &mut E,
 ) -> Result<(), Ending> {
     guard_standard_descriptors();
-    match setup_of_file(rt, asked.setup) {
-        Ok(setup) => show_setup(rt, asked, &setup, out, err),
-        Err(ending) => Err(said_of_file(asked.setup, ending, err)),
-    }
+    let setup = of_file(setup_of_file(rt, asked.setup), asked.setup, err)?;
+    show_setup(rt, asked, &setup, out, err)
 }
 
 // Runs a gateway of a setup. (The check of a function takes much longer the more values it has to drop on its ways out.)
@@ -172,10 +184,7 @@ fn show_setup<R: AllocGlobal + Net + Clock, O: Write, E: Write>(
         asked.from.as_slice(),
         span,
     )?;
-    if out.flush().is_err() {
-        return Err(Ending::DeviceWrite);
-    }
-    Ok(())
+    of_write(out.flush())
 }
 
 // The socket at which a setup is heard; what it hears is said.
@@ -187,13 +196,10 @@ fn receiver_of<'a, R: AllocGlobal + Net + Clock, E: Write>(
 ) -> Result<UdpReceiver<'a, R>, Ending> {
     let universes = universes_of_setup(rt, setup)?;
     let address = SocketAddrV4::new(asked.listen, setup.udp_port());
-    match UdpReceiver::bind(rt, address, clock_of(rt)?) {
-        Ok(receiver) => {
-            say_gateway(address, receiver.room(), universes.as_slice(), err);
-            Ok(receiver)
-        }
-        Err(kind) => Err(said_of_socket(address, kind, err)),
-    }
+    let bound = UdpReceiver::bind(rt, address, clock_of(rt)?);
+    let receiver = of_socket(bound, address, err)?;
+    say_gateway(address, receiver.room(), universes.as_slice(), err);
+    Ok(receiver)
 }
 
 // Where a desk sends.
@@ -206,17 +212,10 @@ fn destinations_of<R: AllocGlobal>(
         return Ok(Destinations::Groups);
     }
     let mut hosts = Vec::new(rt.alloc());
-    if hosts.extend_from_slice(asked.to.as_slice()).is_err() {
-        return Err(Ending::OutOfMemory);
-    }
+    hosts.extend_from_slice(asked.to.as_slice())?;
     if hosts.is_empty() {
         for port in show.send_to() {
-            if hosts
-                .push(SocketAddrV4::new(Ipv4Addr::LOCALHOST, *port))
-                .is_err()
-            {
-                return Err(Ending::OutOfMemory);
-            }
+            hosts.push(SocketAddrV4::new(Ipv4Addr::LOCALHOST, *port))?;
         }
     }
     Ok(Destinations::Hosts(hosts))
@@ -230,12 +229,10 @@ pub fn desk<R: AllocGlobal + Files + Net + Clock, O: Write, E: Write>(
     err: &mut E,
 ) -> Result<(), Ending> {
     guard_standard_descriptors();
-    match show_of_file(rt, asked.show) {
-        Ok(show) => match asked.script {
-            Some(path) => perform_script(rt, asked, &show, path, out, err),
-            None => perform(rt, asked, &show, None, out, err),
-        },
-        Err(ending) => Err(said_of_file(asked.show, ending, err)),
+    let show = of_file(show_of_file(rt, asked.show), asked.show, err)?;
+    match asked.script {
+        Some(path) => perform_script(rt, asked, &show, path, out, err),
+        None => perform(rt, asked, &show, None, out, err),
     }
 }
 
@@ -247,10 +244,8 @@ fn perform_script<R: AllocGlobal + Files + Net + Clock, O: Write, E: Write>(
     out: &mut O,
     err: &mut E,
 ) -> Result<(), Ending> {
-    match script_of_file(rt, path) {
-        Ok(script) => perform(rt, asked, show, Some(script.as_slice()), out, err),
-        Err(ending) => Err(said_of_file(path, ending, err)),
-    }
+    let script = of_file(script_of_file(rt, path), path, err)?;
+    perform(rt, asked, show, Some(script.as_slice()), out, err)
 }
 
 fn perform<R: AllocGlobal + Net + Clock, O: Write, E: Write>(
@@ -320,10 +315,7 @@ fn universes_of_file<R: AllocGlobal + Files>(rt: &R, path: &str) -> Result<Vec<u
     match read_node(rt.alloc(), text.as_str()) {
         Ok(setup) => universes_of_setup(rt, &setup),
         Err(fault) => match read_show(rt.alloc(), text.as_str()) {
-            Ok(show) => match show.universes().to_vec(rt.alloc()) {
-                Ok(universes) => Ok(universes),
-                Err(_) => Err(Ending::OutOfMemory),
-            },
+            Ok(show) => Ok(show.universes().to_vec(rt.alloc())?),
             Err(_) => Err(Ending::Setup(fault)),
         },
     }
@@ -337,26 +329,14 @@ pub fn groups<R: AllocGlobal + Files, O: Write, E: Write>(
     out: &mut O,
     err: &mut E,
 ) -> Result<(), Ending> {
-    let mut universes = match universes_of_file(rt, path) {
-        Ok(universes) => universes,
-        Err(ending) => return Err(said_of_file(path, ending, err)),
-    };
-    if universes.push(DISCOVERY_UNIVERSE).is_err() {
-        return Err(Ending::OutOfMemory);
-    }
+    let mut universes = of_file(universes_of_file(rt, path), path, err)?;
+    universes.push(DISCOVERY_UNIVERSE)?;
     for universe in universes.as_slice() {
         let [a, b, c, d] = multicast_group(*universe);
-        if writeln!(
+        of_write(writeln!(
             out,
             "ip address add {a}.{b}.{c}.{d}/32 dev {device} autojoin"
-        )
-        .is_err()
-        {
-            return Err(Ending::DeviceWrite);
-        }
+        ))?;
     }
-    if out.flush().is_err() {
-        return Err(Ending::DeviceWrite);
-    }
-    Ok(())
+    of_write(out.flush())
 }

@@ -1,5 +1,5 @@
 //! The program's manual and completions, printed.
-use crate::ending::Ending;
+use crate::ending::{Ending, of_write};
 use sacn_manual::Form;
 use sacn_words::manual_text;
 use std::alloc::Global;
@@ -8,8 +8,6 @@ use std::io::Write;
 /// Prints a text that is made from the table of commands.
 pub fn print<O: Write>(alloc: Global, form: Form, out: &mut O) -> Result<(), Ending> {
     let text = manual_text(alloc, form)?;
-    if out.write_all(text.as_slice()).is_err() || out.flush().is_err() {
-        return Err(Ending::DeviceWrite);
-    }
-    Ok(())
+    of_write(out.write_all(text.as_slice()))?;
+    of_write(out.flush())
 }

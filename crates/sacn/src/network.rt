@@ -1,5 +1,5 @@
 //! A console and a node on 127.0.0.1.
-use crate::ending::Ending;
+use crate::ending::{Ending, of_write};
 use sacn_console::{Command, ConsoleCore, Show, read_script, read_show};
 use sacn_edge::{
     ConsoleReport, SystemClock, UdpLink, WriterOut, print_report, run_console, run_node,
@@ -50,10 +50,7 @@ fn play<R: AllocGlobal + Net + Clock>(
 
 /// Prints what came of a console's run.
 pub fn tell<O: Write>(report: &ConsoleReport, out: &mut O) -> Result<(), Ending> {
-    match print_report(out, report) {
-        Ok(()) => Ok(()),
-        Err(_) => Err(Ending::DeviceWrite),
-    }
+    of_write(print_report(out, report))
 }
 
 /// Runs a node of a setup for so many turns, which prints its frames as they change.
@@ -70,8 +67,5 @@ pub fn node<R: AllocGlobal + Net + Clock, O: Write>(
     let mut clock = SystemClock::new(rt);
     let mut lines = WriterOut::new(&mut *out);
     run_node(&mut link, &mut clock, &mut lines, &mut core, turns)?;
-    if out.flush().is_err() {
-        return Err(Ending::DeviceWrite);
-    }
-    Ok(())
+    of_write(out.flush())
 }

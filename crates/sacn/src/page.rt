@@ -1,6 +1,6 @@
 //! A watch that browsers see.
 use crate::ending::Ending;
-use crate::live::{clock_of, said_of_socket, say_hearing};
+use crate::live::{clock_of, of_socket, said_of_socket, say_hearing};
 use sacn_page::{Board, Ear, MAX_ALARMS, Pages};
 use sacn_watch::run_watch;
 use std::io::{ErrorKind, Write};
@@ -11,6 +11,19 @@ use std::rt::Clock;
 pub fn say_page<E: Write>(place: SocketAddrV4, err: &mut E) {
     let [a, b, c, d] = place.ip().octets();
     let _ = writeln!(err, "page http://{a}.{b}.{c}.{d}:{}/", place.port());
+}
+
+/// The pages that have their socket at a place; where the machine refused it, that is said, unless memory was wanting.
+pub fn of_pages<T, E: Write>(
+    bound: Result<T, ErrorKind>,
+    place: SocketAddrV4,
+    err: &mut E,
+) -> Result<T, Ending> {
+    match bound {
+        Ok(pages) => Ok(pages),
+        Err(ErrorKind::OutOfMemory) => Err(Ending::OutOfMemory),
+        Err(kind) => Err(said_of_socket(place, kind, err)),
+    }
 }
 
 /// Hears at an address until a moment in milliseconds, and serves a page of it. A viewer that names no universe is shown this
@@ -24,15 +37,9 @@ pub fn serve<R: AllocGlobal + Net + Clock, E: Write>(
     err: &mut E,
 ) -> Result<(), Ending> {
     let board = Board::new(rt.alloc(), universe, MAX_ALARMS)?;
-    let mut pages = match Pages::bind(rt, rt.alloc(), place, board) {
-        Ok(pages) => pages,
-        Err(ErrorKind::OutOfMemory) => return Err(Ending::OutOfMemory),
-        Err(kind) => return Err(said_of_socket(place, kind, err)),
-    };
-    let mut ear = match Ear::bind(rt, address, clock_of(rt)?, pages.descriptor()) {
-        Ok(ear) => ear,
-        Err(kind) => return Err(said_of_socket(address, kind, err)),
-    };
+    let mut pages = of_pages(Pages::bind(rt, rt.alloc(), place, board), place, err)?;
+    let bound = Ear::bind(rt, address, clock_of(rt)?, pages.descriptor());
+    let mut ear = of_socket(bound, address, err)?;
     say_hearing(address, ear.room(), err);
     say_page(place, err);
     Ok(run_watch(&mut ear, &mut pages, until)?)

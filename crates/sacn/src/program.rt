@@ -1,5 +1,5 @@
 //! The program, over any words, input and outputs.
-use crate::ending::{DONE, Ending, ended, explained};
+use crate::ending::{DONE, Ending, of_write, tell_ending, tell_words};
 use crate::files::{octets_of_files, text_of_file};
 use crate::{check, explain, live, manual, network, watch};
 use sacn_text::{
@@ -12,7 +12,7 @@ use std::io::{Read, Write};
 use std::net::Net;
 use std::rt::{Clock, Files};
 
-/// Runs the program on its words, of which the first is its name, and answers the exit status: 0, 2
+/// Runs the program on its words, of which the first is its name, and returns the exit status: 0, 2
 /// for bad words, 3 for input that is refused, 4 for a device that fails.
 pub fn run_program<
     R: AllocGlobal + Files + Env + Net + Clock,
@@ -22,11 +22,11 @@ pub fn run_program<
 >(rt: &R, words: &[String], input: I, mut out: O, mut err: E) -> u8 {
     let asked = match parse(rt.alloc(), words) {
         Ok(asked) => asked,
-        Err(error) => return explained(rt.alloc(), error, &mut out, &mut err),
+        Err(error) => return tell_words(rt.alloc(), error, &mut out, &mut err),
     };
     match run(rt, asked, input, out, &mut err) {
         Ok(()) => DONE,
-        Err(ending) => ended(ending, &mut err),
+        Err(ending) => tell_ending(ending, &mut err),
     }
 }
 
@@ -66,7 +66,7 @@ fn decode_input<I: Read + Drop, O: Write + Drop>(
     out: O,
 ) -> Result<(), Ending> {
     let datagrams = standard_input(alloc, input)?;
-    finished(print_packets(alloc, datagrams.as_slice(), out))
+    finish(print_packets(alloc, datagrams.as_slice(), out))
 }
 
 // Decodes files of one datagram each.
@@ -76,7 +76,7 @@ fn decode_files<R: AllocGlobal + Files, O: Write + Drop>(
     out: O,
 ) -> Result<(), Ending> {
     let datagrams = octets_of_files(rt, files)?;
-    finished(print_packets(rt.alloc(), datagrams.as_slice(), out))
+    finish(print_packets(rt.alloc(), datagrams.as_slice(), out))
 }
 
 // Runs a world by a schedule.
@@ -89,7 +89,7 @@ fn simulate<R: AllocGlobal + Files, O: Write + Drop>(
     let world = text_of_file(rt, world)?;
     let schedule = text_of_file(rt, schedule)?;
     let printed = print_looks(rt.alloc(), world.as_str(), schedule.as_str(), out);
-    finished(printed)
+    finish(printed)
 }
 
 // Runs a console of a show's file, as a script's file orders.
@@ -121,20 +121,18 @@ fn standard_input<I: Read + Drop>(alloc: Global, input: I) -> Result<Vec<Vec<u8>
     let text = read_limited(alloc, input, MAX_FILE_OCTETS)?;
     let octets = octets_of_digits(alloc, text.as_slice())?;
     let mut datagrams = Vec::new(alloc);
-    if datagrams.push(octets).is_err() {
-        return Err(Ending::OutOfMemory);
-    }
+    datagrams.push(octets)?;
     Ok(datagrams)
 }
 
 // Flushes what was written: a refusal stands only where the device did its part.
-fn finished<W: Write + Drop, F: Drop>(printed: Printed<W, F>) -> Result<(), Ending>
+fn finish<W: Write + Drop, F: Drop>(printed: Printed<W, F>) -> Result<(), Ending>
 where
     Ending: From<F>,
 {
     let Printed { mut out, ended } = printed;
-    if out.is_marked() && out.flush().is_err() {
-        return Err(Ending::DeviceWrite);
+    if out.is_marked() {
+        of_write(out.flush())?;
     }
     Ok(ended?)
 }

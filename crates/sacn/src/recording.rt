@@ -1,15 +1,15 @@
 //! A recording that browsers see.
 use crate::ending::{Ending, REFUSED};
-use crate::explain::{ROOM, said_of_capture, unread};
-use crate::live::{clock_of, said_of_socket};
-use crate::page::say_page;
+use crate::explain::{ROOM, said_of_capture, say_unread};
+use crate::live::clock_of;
+use crate::page::{of_pages, say_page};
 use sacn_live::{SACN_PORT, guard_standard_descriptors};
 use sacn_page::{Pages, Quiet, Recording, SeekFault, Tape};
 use sacn_watch::{Listener, WatchFault, run_watch};
 use sacn_words::ExplainAsked;
 use std::alloc::Global;
 use std::fs::{self, OpenFile};
-use std::io::{self, BufReader, ErrorKind, Seek, SeekFrom, Write};
+use std::io::{self, BufReader, Seek, SeekFrom, Write};
 use std::net::{Net, SocketAddrV4};
 use std::rt::{Clock, Files};
 
@@ -51,7 +51,7 @@ pub fn serve<R: AllocGlobal + Files + Net + Clock, E: Write>(
     guard_standard_descriptors();
     match fs::open(rt, asked.capture) {
         Ok(file) => serve_file(rt, asked, file, place, err),
-        Err(_) => Err(unread(asked.capture, err)),
+        Err(_) => Err(say_unread(asked.capture, err)),
     }
 }
 
@@ -87,7 +87,7 @@ fn serve_recording<R: AllocGlobal + Files + Net + Clock, E: Write>(
         Ok(true) => {}
         Ok(false) => return Ok(()),
         Err(SeekFault::OutOfMemory) => return Err(Ending::OutOfMemory),
-        Err(SeekFault::Device) => return Err(unread(asked.capture, err)),
+        Err(SeekFault::Device) => return Err(say_unread(asked.capture, err)),
     }
     let fault = recording.fault();
     let mut ending = Ok(());
@@ -122,11 +122,8 @@ fn serve_pages<R: AllocGlobal + Files + Net + Clock, E: Write>(
     until: u64,
     err: &mut E,
 ) -> Result<(), Ending> {
-    match Pages::bind(rt, rt.alloc(), place, recording) {
-        Ok(pages) => Ok(show(pages, quiet, place, until, err)?),
-        Err(ErrorKind::OutOfMemory) => Err(Ending::OutOfMemory),
-        Err(kind) => Err(said_of_socket(place, kind, err)),
-    }
+    let pages = of_pages(Pages::bind(rt, rt.alloc(), place, recording), place, err)?;
+    Ok(show(pages, quiet, place, until, err)?)
 }
 
 // Serves pages that have their place.

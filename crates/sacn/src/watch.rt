@@ -1,6 +1,6 @@
 //! A network watched.
 use crate::ending::Ending;
-use crate::live::{clock_of, said_of_socket, say_hearing};
+use crate::live::{clock_of, of_socket, say_hearing};
 use crate::page::serve;
 use sacn_explain::{Form, Options};
 use sacn_files::words::short_in;
@@ -33,10 +33,7 @@ pub fn watch<R: AllocGlobal + Env + Net + Clock, O: Write, E: Write>(
         return serve(rt, address, place, universe, until, err);
     }
     let clock = clock_of(rt)?;
-    let mut receiver = match UdpReceiver::bind(rt, address, clock) {
-        Ok(receiver) => receiver,
-        Err(kind) => return Err(said_of_socket(address, kind, err)),
-    };
+    let mut receiver = of_socket(UdpReceiver::bind(rt, address, clock), address, err)?;
     receiver.wait_for_input();
     say_hearing(address, receiver.room(), err);
     Ok(tell(rt, &mut receiver, asked, until, out)?)

@@ -22,7 +22,7 @@ fn give<O: Orders>(orders: &mut O, core: &mut ConsoleCore, now: u64, command: Co
     ensures one { result ≤ 1 }
 {
     let answer = core.command(now, command);
-    orders.answered(answer);
+    orders.take_answer(answer);
     if answer.is_ok() { 0 } else { 1 }
 }
 

@@ -286,7 +286,7 @@ impl<'a, R: MachineClock, O: Write> Orders for DeskOrders<'a, R, O> {
             return;
         }
         let until = self.next_moment(until);
-        let millis = self.clock.left(until);
+        let millis = self.clock.millis_until(until);
         let input = if self.input.is_open && !self.is_closing() {
             STDIN
         } else {
@@ -299,7 +299,7 @@ impl<'a, R: MachineClock, O: Write> Orders for DeskOrders<'a, R, O> {
         self.next_order(now)
     }
 
-    fn answered(&mut self, answer: Result<(), ConsoleFault>) {
+    fn take_answer(&mut self, answer: Result<(), ConsoleFault>) {
         match self.source {
             Source::Script => {}
             Source::Typed => match answer {

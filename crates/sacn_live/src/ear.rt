@@ -84,7 +84,7 @@ fn place_of(sender: SocketAddr) -> (Octets4, u16) {
 
 impl<'a, R: Net + MachineClock> Receiver for UdpReceiver<'a, R> {
     fn wait(&mut self, until: u64) {
-        let millis = self.clock.left(until);
+        let millis = self.clock.millis_until(until);
         if self.is_failing {
             let _ = wait_readable(self.input, NO_DESCRIPTOR, millis.max(1).min(FAILED_WAIT));
             return;

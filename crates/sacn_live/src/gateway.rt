@@ -144,7 +144,7 @@ pub fn run_gateway<G: Receiver, N: Notes, O: Out>(
         let now = drained.now;
         show_changed(out, core, now, &changes, ports.as_mut_slice())?;
         changes.clear();
-        notes.shown(now, ports.as_slice());
+        notes.note_frames(now, ports.as_slice());
         if now >= span.until {
             return Ok(());
         }

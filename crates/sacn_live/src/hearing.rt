@@ -25,16 +25,16 @@ pub enum PassedOver {
 /// does changes the gateway's text.
 pub trait Notes {
     /// A datagram went to the node.
-    fn taken(&mut self, now: u64, sender: Octets4, octets: &[u8], taken: NodeTaken);
+    fn note_taken(&mut self, now: u64, sender: Octets4, octets: &[u8], taken: NodeTaken);
 
     /// A datagram didn't.
-    fn passed_over(&mut self, now: u64, sender: Octets4, why: PassedOver);
+    fn note_passed_over(&mut self, now: u64, sender: Octets4, why: PassedOver);
 
     /// The device failed in a receive.
-    fn failed(&mut self, now: u64);
+    fn note_failure(&mut self, now: u64);
 
     /// A turn's lines are written: these are the frames of the ports.
-    fn shown(&mut self, now: u64, ports: &[PortShown]);
+    fn note_frames(&mut self, now: u64, ports: &[PortShown]);
 }
 
 /// What a receive brought, and what is known after it.
@@ -101,10 +101,10 @@ fn give<N: Notes>(
     match why_passed(senders, emptied, now, &sender) {
         None => {
             let taken = changes.take(core, now, octets);
-            notes.taken(now, sender, octets, taken);
+            notes.note_taken(now, sender, octets, taken);
         }
         Some(why) => {
-            notes.passed_over(now, sender, why);
+            notes.note_passed_over(now, sender, why);
             changes.tick(core, now);
         }
     }
@@ -159,7 +159,7 @@ pub(crate) fn hear<G: Receiver, N: Notes>(
             }
         }
         Arrival::Failed => {
-            notes.failed(now);
+            notes.note_failure(now);
             changes.tick(core, now);
             Step {
                 now,

@@ -21,7 +21,7 @@ pub trait Orders {
         ensures told { Extends (told self.old) (told self.new) (Asked now result ∷ []) };
 
     /// The console's answer to the latest order.
-    fn answered(&mut self, answer: Result<(), ConsoleFault>)
+    fn take_answer(&mut self, answer: Result<(), ConsoleFault>)
         ensures told { Extends (told self.old) (told self.new) (Answered answer ∷ []) };
 
     /// Looks at the core once a round has sent what was due, and at what was sent so far.

@@ -64,7 +64,7 @@ impl Sources {
     }
 
     /// A source's packet that is shown. Says so where the source wasn't there.
-    pub fn held<E: Write>(
+    pub fn note_packet<E: Write>(
         &mut self,
         now: u64,
         cid: &[u8; 16],
@@ -88,7 +88,7 @@ impl Sources {
     }
 
     /// A source's termination.
-    pub fn ended<E: Write>(&mut self, _now: u64, cid: &[u8; 16], universe: u16, err: &mut E) {
+    pub fn note_end<E: Write>(&mut self, _now: u64, cid: &[u8; 16], universe: u16, err: &mut E) {
         if let Some(place) = self.place_of(cid, universe) {
             let _ = self.watched.swap_pop(place);
             say(err, cid, universe, "ended");

@@ -25,7 +25,7 @@ pub(crate) struct Ready {
     pub(crate) second: bool,
 }
 
-fn asked(fd: RawFd, events: i16) -> pollfd {
+fn request(fd: RawFd, events: i16) -> pollfd {
     pollfd {
         fd,
         events,
@@ -35,7 +35,7 @@ fn asked(fd: RawFd, events: i16) -> pollfd {
 
 /// Waits until one of two descriptors can be read, has ended or has failed, for at most so many milliseconds.
 pub(crate) fn wait_readable(first: RawFd, second: RawFd, millis: i32) -> Ready {
-    let mut fds = [asked(first, c::POLLIN), asked(second, c::POLLIN)];
+    let mut fds = [request(first, c::POLLIN), request(second, c::POLLIN)];
     if c::poll(&mut fds, millis) <= 0 {
         return Ready {
             first: false,
@@ -50,7 +50,7 @@ pub(crate) fn wait_readable(first: RawFd, second: RawFd, millis: i32) -> Ready {
 
 /// Whether a descriptor takes octets now.
 pub(crate) fn is_writable(fd: RawFd) -> bool {
-    let mut fds = [asked(fd, c::POLLOUT)];
+    let mut fds = [request(fd, c::POLLOUT)];
     c::poll(&mut fds, 0) > 0 && fds[0].revents & c::POLLOUT != 0
 }
 
@@ -58,7 +58,7 @@ fn last_fault() -> ErrorKind {
     Error::from_raw_os_error(os::errno()).kind()
 }
 
-fn passed(status: i32) -> Result<(), ErrorKind> {
+fn result_of(status: i32) -> Result<(), ErrorKind> {
     if status < 0 {
         Err(last_fault())
     } else {
@@ -67,7 +67,7 @@ fn passed(status: i32) -> Result<(), ErrorKind> {
 }
 
 /// The octets of C's `sockaddr_in`, the first sixteen.
-fn encoded(address: SocketAddrV4) -> [u8; c::_SS_SIZE] {
+fn encode(address: SocketAddrV4) -> [u8; c::_SS_SIZE] {
     let mut raw = [0; c::_SS_SIZE];
     raw[..2].copy_from_slice(&(c::AF_INET as u16).to_ne_bytes());
     raw[2..4].copy_from_slice(&address.port().to_be_bytes());
@@ -97,11 +97,11 @@ pub fn bind_shared<R: Net>(_rt: &R, address: SocketAddrV4) -> Result<UdpSocket, 
     let owned = unsafe { OwnedFd::from_raw_fd(fd) };
     let on = number_value(1);
     let room = number_value(RECEIVE_ROOM);
-    passed(unsafe { c::setsockopt(owned.as_raw_fd(), c::SOL_SOCKET, c::SO_REUSEADDR, &on, 4) })?;
-    passed(unsafe { c::setsockopt(owned.as_raw_fd(), c::SOL_SOCKET, c::SO_REUSEPORT, &on, 4) })?;
-    passed(unsafe { c::setsockopt(owned.as_raw_fd(), c::SOL_SOCKET, c::SO_RCVBUF, &room, 4) })?;
-    let raw = encoded(address);
-    passed(unsafe { c::bind(owned.as_raw_fd(), &raw, 16) })?;
+    result_of(unsafe { c::setsockopt(owned.as_raw_fd(), c::SOL_SOCKET, c::SO_REUSEADDR, &on, 4) })?;
+    result_of(unsafe { c::setsockopt(owned.as_raw_fd(), c::SOL_SOCKET, c::SO_REUSEPORT, &on, 4) })?;
+    result_of(unsafe { c::setsockopt(owned.as_raw_fd(), c::SOL_SOCKET, c::SO_RCVBUF, &room, 4) })?;
+    let raw = encode(address);
+    result_of(unsafe { c::bind(owned.as_raw_fd(), &raw, 16) })?;
     Ok(UdpSocket::from(owned))
 }
 

@@ -57,14 +57,14 @@ impl<'a, E: Write> Watch<'a, E> {
     }
 
     /// A data packet of one of the node's universes.
-    fn taken_by_table(&mut self, now: u64, sender: Octets4, packet: &DataView<'_>, taken: Taken) {
+    fn note_from_table(&mut self, now: u64, sender: Octets4, packet: &DataView<'_>, taken: Taken) {
         let cid = packet.cid();
         let universe = packet.universe();
         match taken {
             Taken::Held => self
                 .sources
-                .held(now, &cid, universe, sender, &mut self.err),
-            Taken::EndedNow => self.sources.ended(now, &cid, universe, &mut self.err),
+                .note_packet(now, &cid, universe, sender, &mut self.err),
+            Taken::EndedNow => self.sources.note_end(now, &cid, universe, &mut self.err),
             Taken::OutOfSequence => self.counts.count("discarded OutOfSequence"),
             Taken::SourcesExceeded => self.counts.count("discarded SourcesExceeded"),
             Taken::Observed => {}
@@ -74,11 +74,11 @@ impl<'a, E: Write> Watch<'a, E> {
 }
 
 impl<'a, E: Write> Notes for Watch<'a, E> {
-    fn taken(&mut self, now: u64, sender: Octets4, octets: &[u8], taken: NodeTaken) {
+    fn note_taken(&mut self, now: u64, sender: Octets4, octets: &[u8], taken: NodeTaken) {
         match taken {
             NodeTaken::FromTable(taken) => {
                 if let Ok(Packet::DataPacket(packet)) = read_packet(octets) {
-                    self.taken_by_table(now, sender, &packet, taken);
+                    self.note_from_table(now, sender, &packet, taken);
                 }
             }
             NodeTaken::Refused(fault) => self.counts.count(fault_name(fault)),
@@ -88,18 +88,18 @@ impl<'a, E: Write> Notes for Watch<'a, E> {
         }
     }
 
-    fn passed_over(&mut self, _now: u64, _sender: Octets4, why: PassedOver) {
+    fn note_passed_over(&mut self, _now: u64, _sender: Octets4, why: PassedOver) {
         match why {
             PassedOver::Late => self.counts.count("dropped Late"),
             PassedOver::OtherSender => self.counts.count("dropped OtherSender"),
         }
     }
 
-    fn failed(&mut self, _now: u64) {
+    fn note_failure(&mut self, _now: u64) {
         self.counts.count("device receive");
     }
 
-    fn shown(&mut self, now: u64, ports: &[PortShown]) {
+    fn note_frames(&mut self, now: u64, ports: &[PortShown]) {
         self.counts.say(now, &mut self.err);
         self.sources.check(now, &mut self.err);
         for widget in self.widgets.iter_mut() {

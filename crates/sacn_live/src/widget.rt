@@ -38,7 +38,7 @@ pub struct Widget<'a> {
 }
 
 /// Whether so many milliseconds have passed since a moment, or there was none.
-fn passed(wait: u64, now: u64, since: Option<u64>) -> bool {
+fn has_passed(wait: u64, now: u64, since: Option<u64>) -> bool {
     match since {
         Some(since) => now.saturating_sub(since) >= wait,
         None => true,
@@ -93,8 +93,8 @@ impl<'a> Widget<'a> {
 
     fn is_due(&self, now: u64, frame: &[u8; FRAME_OCTETS]) -> bool {
         match self.last {
-            Some(moment) => !is_same(&self.frame, frame) || passed(REFRESH, now, Some(moment)),
-            None => self.device.is_some() || passed(SAID_EACH, now, self.tried),
+            Some(moment) => !is_same(&self.frame, frame) || has_passed(REFRESH, now, Some(moment)),
+            None => self.device.is_some() || has_passed(SAID_EACH, now, self.tried),
         }
     }
 

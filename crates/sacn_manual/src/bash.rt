@@ -2,7 +2,7 @@
 use crate::action::{Action, action_of};
 use crate::form::{Form, mark};
 use crate::pieces::Piece::{self, Raw, Text, Words};
-use crate::pieces::joined;
+use crate::pieces::join;
 use crate::tree::{Argument, Command, Spelling};
 use std::alloc::{AllocError, Global};
 
@@ -52,13 +52,13 @@ fn action_word<'a>(argument: &Argument<'a>) -> [Piece<'a>; 3] {
 
 /// What stands before a command's name.
 pub fn before_command(alloc: Global) -> Result<Vec<u8>, AllocError> {
-    joined(alloc, FORM, &[Raw("    commands+=' ")])
+    join(alloc, FORM, &[Raw("    commands+=' ")])
 }
 
 /// What stands between a command's name and what it does.
 pub fn before_about(alloc: Global, command: &Command<'_>) -> Result<Vec<u8>, AllocError> {
     let name = command.name;
-    joined(
+    join(
         alloc,
         FORM,
         &[
@@ -72,10 +72,10 @@ pub fn before_about(alloc: Global, command: &Command<'_>) -> Result<Vec<u8>, All
 /// What stands before an argument's name.
 pub fn before_argument(alloc: Global, argument: &Argument<'_>) -> Result<Vec<u8>, AllocError> {
     if argument.spelling != Spelling::Positional {
-        return joined(alloc, FORM, &[Raw("        options+=' ")]);
+        return join(alloc, FORM, &[Raw("        options+=' ")]);
     }
     let [open, words, close] = action_word(argument);
-    joined(
+    join(
         alloc,
         FORM,
         &[Raw("        operand="), open, words, close, Raw(" # ")],
@@ -85,13 +85,13 @@ pub fn before_argument(alloc: Global, argument: &Argument<'_>) -> Result<Vec<u8>
 /// What stands between an argument's name and what help says of it.
 pub fn before_help(alloc: Global, argument: &Argument<'_>) -> Result<Vec<u8>, AllocError> {
     if argument.spelling == Spelling::Positional {
-        return joined(alloc, FORM, &[Raw(": ")]);
+        return join(alloc, FORM, &[Raw(": ")]);
     }
     if argument.value.is_none() {
-        return joined(alloc, FORM, &[Raw("' # ")]);
+        return join(alloc, FORM, &[Raw("' # ")]);
     }
     let [open, words, close] = action_word(argument);
-    joined(
+    join(
         alloc,
         FORM,
         &[

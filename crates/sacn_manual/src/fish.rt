@@ -2,7 +2,7 @@
 use crate::action::{Action, action_of};
 use crate::form::Form;
 use crate::pieces::Piece::{self, Raw, Text, Words};
-use crate::pieces::joined;
+use crate::pieces::join;
 use crate::tree::{Argument, Command, Spelling};
 use std::alloc::{AllocError, Global};
 
@@ -25,7 +25,7 @@ fn action_words<'a>(argument: &Argument<'a>) -> [Piece<'a>; 3] {
 
 /// What stands before a command's name.
 pub fn before_command(alloc: Global) -> Result<Vec<u8>, AllocError> {
-    joined(
+    join(
         alloc,
         FORM,
         &[Raw("complete -c sacn -n __fish_use_subcommand -f -a ")],
@@ -34,12 +34,12 @@ pub fn before_command(alloc: Global) -> Result<Vec<u8>, AllocError> {
 
 /// What stands between a command's name and what it does.
 pub fn before_about(alloc: Global) -> Result<Vec<u8>, AllocError> {
-    joined(alloc, FORM, &[Raw(" -d '")])
+    join(alloc, FORM, &[Raw(" -d '")])
 }
 
 /// What stands between what a command does and its arguments.
 pub fn after_about(alloc: Global, command: &Command<'_>) -> Result<Vec<u8>, AllocError> {
-    joined(
+    join(
         alloc,
         FORM,
         &[
@@ -62,14 +62,14 @@ pub fn before_argument<'a>(
         [Raw("__fish_seen_subcommand_from "), Text(command)]
     };
     if argument.spelling != Spelling::Positional {
-        return joined(
+        return join(
             alloc,
             FORM,
             &[Raw("complete -c sacn -n '"), test, name, Raw("' ")],
         );
     }
     let [open, words, close] = action_words(argument);
-    joined(
+    join(
         alloc,
         FORM,
         &[
@@ -88,13 +88,13 @@ pub fn before_argument<'a>(
 /// What stands between an argument's name and what help says of it.
 pub fn before_help(alloc: Global, argument: &Argument<'_>) -> Result<Vec<u8>, AllocError> {
     if argument.spelling == Spelling::Positional {
-        return joined(alloc, FORM, &[Raw(": ")]);
+        return join(alloc, FORM, &[Raw(": ")]);
     }
     if argument.value.is_none() {
-        return joined(alloc, FORM, &[Raw(" -d '")]);
+        return join(alloc, FORM, &[Raw(" -d '")]);
     }
     let [open, words, close] = action_words(argument);
-    joined(alloc, FORM, &[Raw(" -r"), open, words, close, Raw(" -d '")])
+    join(alloc, FORM, &[Raw(" -r"), open, words, close, Raw(" -d '")])
 }
 
 /// What stands after what help says of an argument.
@@ -103,5 +103,5 @@ pub fn after_help(alloc: Global, argument: &Argument<'_>) -> Result<Vec<u8>, All
         Spelling::Positional => "\n",
         Spelling::Short | Spelling::Long => "'\n",
     };
-    joined(alloc, FORM, &[Raw(end)])
+    join(alloc, FORM, &[Raw(end)])
 }

@@ -74,7 +74,7 @@ pub fn push_all(text: &mut Vec<u8>, form: Form, pieces: &[Piece<'_>]) -> Result<
 /// The text of pieces.
 ///
 /// Errors: a growth was refused.
-pub fn joined(alloc: Global, form: Form, pieces: &[Piece<'_>]) -> Result<Vec<u8>, AllocError> {
+pub fn join(alloc: Global, form: Form, pieces: &[Piece<'_>]) -> Result<Vec<u8>, AllocError> {
     let mut text = Vec::new(alloc);
     push_all(&mut text, form, pieces)?;
     Ok(text)

@@ -6,7 +6,7 @@ ghost use Rattle.sacn_manual.specs.Texts.{Grows, IsTold, TellsArgument, TellsCom
 
 use crate::form::{Form, mark};
 use crate::pieces::Piece::{Raw, Text};
-use crate::pieces::{joined, push_all};
+use crate::pieces::{join, push_all};
 use crate::tree::{Argument, Command, Program};
 use crate::{bash, fish, roff, zsh};
 use std::alloc::{AllocError, Global};
@@ -14,9 +14,9 @@ use std::alloc::{AllocError, Global};
 fn head(alloc: Global, form: Form, program: &Program<'_>) -> Result<Vec<u8>, AllocError> {
     match form {
         Form::Manual => roff::head(alloc, program),
-        Form::Bash => joined(alloc, form, &[Raw(bash::HEAD)]),
-        Form::Zsh => joined(alloc, form, &[Raw(zsh::HEAD)]),
-        Form::Fish => joined(alloc, form, &[Raw(fish::HEAD)]),
+        Form::Bash => join(alloc, form, &[Raw(bash::HEAD)]),
+        Form::Zsh => join(alloc, form, &[Raw(zsh::HEAD)]),
+        Form::Fish => join(alloc, form, &[Raw(fish::HEAD)]),
     }
 }
 
@@ -28,15 +28,15 @@ fn between(alloc: Global, form: Form) -> Result<Vec<u8>, AllocError> {
         Form::Zsh => zsh::BETWEEN,
         Form::Fish => "",
     };
-    joined(alloc, form, &[Raw(between)])
+    join(alloc, form, &[Raw(between)])
 }
 
 fn tail(alloc: Global, form: Form, program: &Program<'_>) -> Result<Vec<u8>, AllocError> {
     match form {
         Form::Manual => roff::tail(alloc, program),
-        Form::Bash => joined(alloc, form, &[Raw(bash::TAIL)]),
-        Form::Zsh => joined(alloc, form, &[Raw(zsh::TAIL)]),
-        Form::Fish => joined(alloc, form, &[]),
+        Form::Bash => join(alloc, form, &[Raw(bash::TAIL)]),
+        Form::Zsh => join(alloc, form, &[Raw(zsh::TAIL)]),
+        Form::Fish => join(alloc, form, &[]),
     }
 }
 
@@ -60,7 +60,7 @@ fn before_about(alloc: Global, form: Form, command: &Command<'_>) -> Result<Vec<
 
 fn after_about(alloc: Global, form: Form, command: &Command<'_>) -> Result<Vec<u8>, AllocError> {
     match form {
-        Form::Manual | Form::Bash => joined(alloc, form, &[Raw("\n")]),
+        Form::Manual | Form::Bash => join(alloc, form, &[Raw("\n")]),
         Form::Zsh => zsh::after_about(alloc, command),
         Form::Fish => fish::after_about(alloc, command),
     }
@@ -72,7 +72,7 @@ fn after_command(alloc: Global, form: Form) -> Result<Vec<u8>, AllocError> {
         Form::Manual | Form::Fish => "",
         Form::Bash | Form::Zsh => "    fi\n",
     };
-    joined(alloc, form, &[Raw(after)])
+    join(alloc, form, &[Raw(after)])
 }
 
 fn before_argument<'a>(
@@ -101,7 +101,7 @@ fn before_help(alloc: Global, form: Form, argument: &Argument<'_>) -> Result<Vec
 fn after_help(alloc: Global, form: Form, argument: &Argument<'_>) -> Result<Vec<u8>, AllocError> {
     match form {
         Form::Manual => roff::after_help(alloc, argument),
-        Form::Bash => joined(alloc, form, &[Raw("\n")]),
+        Form::Bash => join(alloc, form, &[Raw("\n")]),
         Form::Zsh => zsh::after_help(alloc, argument),
         Form::Fish => fish::after_help(alloc, argument),
     }

@@ -1,7 +1,7 @@
 //! A page of a manual, in roff with the macros of man(7).
 use crate::form::Form;
 use crate::pieces::Piece::{Raw, Text};
-use crate::pieces::{joined, push_all};
+use crate::pieces::{join, push_all};
 use crate::tree::{Argument, Command, Program, Spelling};
 use std::alloc::{AllocError, Global};
 
@@ -58,7 +58,7 @@ fn first_line(text: &str) -> &str {
 
 /// The page up to its options.
 pub fn head(alloc: Global, program: &Program<'_>) -> Result<Vec<u8>, AllocError> {
-    let mut text = joined(
+    let mut text = join(
         alloc,
         FORM,
         &[
@@ -98,7 +98,7 @@ fn push_paragraphs(text: &mut Vec<u8>, about: &str) -> Result<(), AllocError> {
 
 /// The page after its commands.
 pub fn tail(alloc: Global, program: &Program<'_>) -> Result<Vec<u8>, AllocError> {
-    let mut text = joined(alloc, FORM, &[Raw(ENDS), Raw(".SH EXAMPLES\n.nf\n")])?;
+    let mut text = join(alloc, FORM, &[Raw(ENDS), Raw(".SH EXAMPLES\n.nf\n")])?;
     for line in program.notes.lines() {
         if let Some(("", example)) = line.split_once("  ") {
             push_all(&mut text, FORM, &[Text(example), Raw("\n")])?;
@@ -110,12 +110,12 @@ pub fn tail(alloc: Global, program: &Program<'_>) -> Result<Vec<u8>, AllocError>
 
 /// What stands before a command's name.
 pub fn before_command(alloc: Global) -> Result<Vec<u8>, AllocError> {
-    joined(alloc, FORM, &[Raw(".SS ")])
+    join(alloc, FORM, &[Raw(".SS ")])
 }
 
 /// What stands between a command's name and what it does.
 pub fn before_about(alloc: Global, command: &Command<'_>) -> Result<Vec<u8>, AllocError> {
-    joined(
+    join(
         alloc,
         FORM,
         &[Raw("\n.B "), Text(command.usage), Raw("\n.PP\n")],
@@ -128,37 +128,37 @@ pub fn before_argument(alloc: Global, argument: &Argument<'_>) -> Result<Vec<u8>
         Spelling::Positional => ".TP\n\\fI",
         Spelling::Short | Spelling::Long => ".TP\n\\fB",
     };
-    joined(alloc, FORM, &[Raw(font)])
+    join(alloc, FORM, &[Raw(font)])
 }
 
 /// What stands between an argument's name and what help says of it.
 pub fn before_help(alloc: Global, argument: &Argument<'_>) -> Result<Vec<u8>, AllocError> {
     let end = if argument.is_repeated { " ...\n" } else { "\n" };
     match (argument.spelling, argument.value) {
-        (Spelling::Short | Spelling::Long, Some(value)) => joined(
+        (Spelling::Short | Spelling::Long, Some(value)) => join(
             alloc,
             FORM,
             &[Raw("\\fR \\fI"), Text(value), Raw("\\fR"), Raw(end)],
         ),
-        _ => joined(alloc, FORM, &[Raw("\\fR"), Raw(end)]),
+        _ => join(alloc, FORM, &[Raw("\\fR"), Raw(end)]),
     }
 }
 
 /// What stands after what help says of an argument.
 pub fn after_help(alloc: Global, argument: &Argument<'_>) -> Result<Vec<u8>, AllocError> {
     if !argument.choices.is_empty() {
-        return joined(
+        return join(
             alloc,
             FORM,
             &[Raw(" (one of: "), Text(argument.choices), Raw(")\n")],
         );
     }
     match argument.default {
-        Some(default) => joined(
+        Some(default) => join(
             alloc,
             FORM,
             &[Raw(" (default: "), Text(default), Raw(")\n")],
         ),
-        None => joined(alloc, FORM, &[Raw("\n")]),
+        None => join(alloc, FORM, &[Raw("\n")]),
     }
 }

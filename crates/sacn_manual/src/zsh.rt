@@ -2,7 +2,7 @@
 use crate::action::{Action, action_of};
 use crate::form::Form;
 use crate::pieces::Piece::{self, Raw, Text, Words};
-use crate::pieces::joined;
+use crate::pieces::join;
 use crate::tree::{Argument, Command, Spelling};
 use std::alloc::{AllocError, Global};
 
@@ -44,18 +44,18 @@ fn action_word<'a>(argument: &Argument<'a>) -> [Piece<'a>; 3] {
 
 /// What stands before a command's name.
 pub fn before_command(alloc: Global) -> Result<Vec<u8>, AllocError> {
-    joined(alloc, FORM, &[Raw("    commands+=('")])
+    join(alloc, FORM, &[Raw("    commands+=('")])
 }
 
 /// What stands between a command's name and what it does.
 pub fn before_about(alloc: Global) -> Result<Vec<u8>, AllocError> {
-    joined(alloc, FORM, &[Raw(":")])
+    join(alloc, FORM, &[Raw(":")])
 }
 
 /// What stands between what a command does and its arguments.
 pub fn after_about(alloc: Global, command: &Command<'_>) -> Result<Vec<u8>, AllocError> {
     let name = command.name;
-    joined(
+    join(
         alloc,
         FORM,
         &[
@@ -73,7 +73,7 @@ pub fn before_argument(alloc: Global, argument: &Argument<'_>) -> Result<Vec<u8>
         Spelling::Positional => ":",
         Spelling::Short | Spelling::Long => "",
     };
-    joined(
+    join(
         alloc,
         FORM,
         &[Raw("        arguments+=('"), Raw(repeated), Raw(place)],
@@ -86,7 +86,7 @@ pub fn before_help(alloc: Global, argument: &Argument<'_>) -> Result<Vec<u8>, Al
         Spelling::Positional => " (",
         Spelling::Short | Spelling::Long => "[",
     };
-    joined(alloc, FORM, &[Raw(between)])
+    join(alloc, FORM, &[Raw(between)])
 }
 
 /// What stands after what help says of an argument.
@@ -94,10 +94,10 @@ pub fn after_help(alloc: Global, argument: &Argument<'_>) -> Result<Vec<u8>, All
     let [open, words, close] = action_word(argument);
     match (argument.spelling, argument.value) {
         (Spelling::Positional, _) => {
-            joined(alloc, FORM, &[Raw(")"), open, words, close, Raw("')\n")])
+            join(alloc, FORM, &[Raw(")"), open, words, close, Raw("')\n")])
         }
-        (_, None) => joined(alloc, FORM, &[Raw("]')\n")]),
-        (_, Some(value)) => joined(
+        (_, None) => join(alloc, FORM, &[Raw("]')\n")]),
+        (_, Some(value)) => join(
             alloc,
             FORM,
             &[Raw("]:"), Text(value), open, words, close, Raw("')\n")],

@@ -215,23 +215,23 @@ pub fn table<'a>(alloc: Global) -> Result<Command<'a>, AllocError> {
 }
 
 /// What these words, which ask for help, are told.
-pub fn told(alloc: Global, words: &[&str]) -> Result<String, AllocError> {
+pub fn help_of(alloc: Global, words: &[&str]) -> Result<String, AllocError> {
     let mut owned = Vec::new(alloc);
     for word in words {
         owned.push(String::from_str(alloc, word)?)?;
     }
-    told_of(alloc, owned.as_slice())
+    help_of_owned(alloc, owned.as_slice())
 }
 
-fn told_of(alloc: Global, words: &[String]) -> Result<String, AllocError> {
+fn help_of_owned(alloc: Global, words: &[String]) -> Result<String, AllocError> {
     match matches(alloc, words) {
         Ok(_matches) => Ok(String::new(alloc)),
-        Err(error) => said(alloc, &error),
+        Err(error) => error_text(alloc, &error),
     }
 }
 
 // What an error of clap prints.
-fn said(alloc: Global, error: &Error) -> Result<String, AllocError> {
+fn error_text(alloc: Global, error: &Error) -> Result<String, AllocError> {
     if error.kind() == ErrorKind::OutOfMemory {
         return Err(AllocError);
     }
@@ -333,9 +333,9 @@ fn asked_of<'a>(alloc: Global, matches: &ArgMatches<'a>) -> Result<Asked<'a>, Er
         Some(("gateway", gateway)) => live::gateway_asked(alloc, gateway),
         Some(("desk", desk)) => live::desk_asked(alloc, desk),
         Some(("groups", groups)) => Ok(live::groups_asked(groups)),
-        Some(("explain", words)) => explain::asked(alloc, words),
-        Some(("watch", words)) => watch::asked(alloc, words),
-        Some(("check", words)) => check::asked(alloc, words),
+        Some(("explain", words)) => explain::asked_of(alloc, words),
+        Some(("watch", words)) => watch::asked_of(alloc, words),
+        Some(("check", words)) => check::asked_of(alloc, words),
         Some(("manual", _)) => Ok(Asked::Manual(Form::Manual)),
         Some(("completion", words)) => Ok(manual::completion_asked(words)),
         Some((_, decode)) => decode_asked(alloc, decode),

@@ -114,7 +114,7 @@ fn time_in<'a>(
 }
 
 /// What the words of `explain` ask for.
-pub fn asked<'a>(alloc: Global, matches: &ArgMatches<'a>) -> Result<Asked<'a>, Error> {
+pub fn asked_of<'a>(alloc: Global, matches: &ArgMatches<'a>) -> Result<Asked<'a>, Error> {
     let port = port_in(alloc, matches)?;
     let universes = universes_in(alloc, matches)?;
     let page = page_in(alloc, matches)?;

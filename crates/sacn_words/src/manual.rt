@@ -1,5 +1,5 @@
 //! The program's manual and completions, from its own table of commands.
-use crate::command::{ABOUT, Asked, EXAMPLE, file, subcommand, table, text, told};
+use crate::command::{ABOUT, Asked, EXAMPLE, file, help_of, subcommand, table, text};
 use clap::{Arg, ArgAction, ArgMatches, Command, Error};
 use sacn_manual::{
     Argument, Form, Program, SHELLS, Spelling, choices_in, render, shell_of, short_in, usage_in,
@@ -33,10 +33,10 @@ pub fn completion_asked<'a>(matches: &ArgMatches<'a>) -> Asked<'a> {
 pub fn manual_text(alloc: Global, form: Form) -> Result<Vec<u8>, AllocError> {
     let table = table(alloc)?;
     let helps = helps(alloc, table.get_subcommands())?;
-    rendered(alloc, form, &table, helps.as_slice())
+    render_table(alloc, form, &table, helps.as_slice())
 }
 
-fn rendered(
+fn render_table(
     alloc: Global,
     form: Form,
     table: &Command<'static>,
@@ -49,9 +49,9 @@ fn rendered(
 // The help of the program, and then that of each command.
 fn helps(alloc: Global, commands: &[Command<'_>]) -> Result<Vec<String>, AllocError> {
     let mut helps = Vec::new(alloc);
-    helps.push(told(alloc, &["sacn", "--help"])?)?;
+    helps.push(help_of(alloc, &["sacn", "--help"])?)?;
     for command in commands {
-        helps.push(told(alloc, &["sacn", command.get_name(), "--help"])?)?;
+        helps.push(help_of(alloc, &["sacn", command.get_name(), "--help"])?)?;
     }
     Ok(helps)
 }

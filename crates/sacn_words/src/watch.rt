@@ -53,7 +53,7 @@ pub fn command<'a>(alloc: Global) -> Result<Command<'a>, Error> {
 }
 
 /// What the words of `watch` ask for.
-pub fn asked<'a>(alloc: Global, matches: &ArgMatches<'a>) -> Result<Asked<'a>, Error> {
+pub fn asked_of<'a>(alloc: Global, matches: &ArgMatches<'a>) -> Result<Asked<'a>, Error> {
     let listen = host(alloc, matches, "listen", Ipv4Addr::UNSPECIFIED)?;
     let seconds = seconds_in(alloc, matches)?;
     let port = port_in(alloc, matches)?;

@@ -53,7 +53,7 @@ impl Orders for ListOrders {
         Some(command)
     }
 
-    fn answered(&mut self, answer: Result<(), ConsoleFault>) {
+    fn take_answer(&mut self, answer: Result<(), ConsoleFault>) {
         match answer {
             Ok(()) => self.accepted = self.accepted.saturating_add(1),
             Err(_) => self.refused = self.refused.saturating_add(1),

@@ -95,20 +95,20 @@ struct Tally {
 }
 
 impl Notes for Tally {
-    fn taken(&mut self, _now: u64, _sender: Octets4, _octets: &[u8], _taken: NodeTaken) {
+    fn note_taken(&mut self, _now: u64, _sender: Octets4, _octets: &[u8], _taken: NodeTaken) {
         self.taken = self.taken.saturating_add(1);
     }
 
-    fn passed_over(&mut self, _now: u64, _sender: Octets4, why: PassedOver) {
+    fn note_passed_over(&mut self, _now: u64, _sender: Octets4, why: PassedOver) {
         match why {
             PassedOver::Late => self.late = self.late.saturating_add(1),
             PassedOver::OtherSender => self.other = self.other.saturating_add(1),
         }
     }
 
-    fn failed(&mut self, _now: u64) {}
+    fn note_failure(&mut self, _now: u64) {}
 
-    fn shown(&mut self, _now: u64, _ports: &[PortShown]) {
+    fn note_frames(&mut self, _now: u64, _ports: &[PortShown]) {
         self.turns = self.turns.saturating_add(1);
     }
 }
