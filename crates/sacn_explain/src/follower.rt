@@ -89,7 +89,7 @@ impl<'a, O: Write> Follower<'a, O> {
     /// accounts are then those that the monitor has after this datagram, once.
     ///
     /// Errors: OutOfMemory; Device where a line can't be written.
-    #[tactic(auto, using(crate::proofs::Listings::take_listed))]
+    #[tactic(auto, using(crate::proofs::PageLists::take_listed))]
     pub fn take(&mut self, now: u64, sender: Sender, octets: &[u8]) -> Result<(), ExplainFault>
         ensures moment { self.new.moment ≡ max self.old.moment now }
         ensures taken { OnOk result (IsTaken (max self.old.moment now) sender octets.now self.old.monitor self.new.monitor) }
