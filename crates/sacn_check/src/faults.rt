@@ -195,8 +195,6 @@ fn led_by(alloc: Global, refusal: Refusal, findings: Findings) -> Result<Finding
         wanted: Wanted::Text("another file"),
     };
     let finding = finding_of(alloc, &fault)?;
-    match told.insert(0, finding) {
-        Ok(()) => Ok(Findings { told, more }),
-        Err(_) => Err(AllocError),
-    }
+    told.insert(0, finding)?;
+    Ok(Findings { told, more })
 }

@@ -101,9 +101,7 @@ impl Findings {
             self.more = self.more.saturating_add(1);
             return Ok(());
         }
-        match self.told.push(finding_of(alloc, fault)?) {
-            Ok(()) => Ok(()),
-            Err(_) => Err(AllocError),
-        }
+        self.told.push(finding_of(alloc, fault)?)?;
+        Ok(())
     }
 }

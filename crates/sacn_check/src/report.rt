@@ -5,7 +5,7 @@ use crate::kinds::FileKind;
 use crate::spelling::{push_name, push_shown};
 use std::alloc::{AllocError, Global};
 use std::fmt::Write as _;
-use std::io::Write;
+use std::io::{self, Write};
 use thiserror::Error;
 
 /// Why what is wrong with a file can't be printed.
@@ -23,6 +23,12 @@ impl From<AllocError> for ReportFault {
     }
 }
 
+impl From<io::Error> for ReportFault {
+    fn from(_error: io::Error) -> ReportFault {
+        ReportFault::WriteFailed
+    }
+}
+
 fn kind_name(kind: FileKind) -> &'static str {
     match kind {
         FileKind::Show => "a show",
@@ -36,10 +42,8 @@ fn kind_name(kind: FileKind) -> &'static str {
 /// A line's end, and the line written.
 fn end_line<W: Write>(mut line: String, out: &mut W) -> Result<(), ReportFault> {
     line.push('\n')?;
-    match out.write_all(line.as_bytes()) {
-        Ok(()) => Ok(()),
-        Err(_) => Err(ReportFault::WriteFailed),
-    }
+    out.write_all(line.as_bytes())?;
+    Ok(())
 }
 
 fn push_part(line: &mut String, part: &str) -> Result<(), AllocError> {

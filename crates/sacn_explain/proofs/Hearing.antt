@@ -10,8 +10,8 @@ use Rattle.sacn_explain.specs.declared.options.Form.{Form}
 use Rattle.sacn_explain.specs.declared.teller.Teller.{Teller}
 use Rattle.sacn_explain.specs.Occurrences.{lost_stream, loss_told, packet_told, rivals_told, stirred_told, stirs}
 use Rattle.sacn_explain.specs.PacketLines.{loss_line}
-use Rattle.sacn_explain.specs.Told.{Tells, ended, news_told}
-use Rattle.sacn_explain.specs.Wanted.{is_wanted}
+use Rattle.sacn_explain.specs.Tellings.{Tells, ended, news_told}
+use Rattle.sacn_explain.specs.Choice.{is_wanted}
 use Rattle.sacn_explain.proofs.Telling.{then}
 
 -- all that a packet told, and then of the rivals

@@ -3,7 +3,7 @@ use Rattle.std.proofs.Common.{◌≡◌, ℕ, Bool, true, false, List, [], ◌�
 use Rattle.std.specs.List.{flat_map}
 use Rattle.std.specs.Str.{IsUtf8, is_utf8}
 use Rattle.std.proofs.lemmas.Str.{IsUtf8-from_is_utf8, is_utf8-from_IsUtf8}
-use Rattle.sacn_explain.specs.Spelled.{letters_of, letter_text}
+use Rattle.sacn_explain.specs.Spelling.{letters_of, letter_text}
 
 pub of_text : (name : List ℕ) → IsUtf8 name → letters_of name ≡ chars name
 of_text name text = rw (is_utf8-from_IsUtf8 name text) refl

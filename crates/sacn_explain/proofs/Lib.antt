@@ -1,9 +1,9 @@
 pub mod Following
 pub mod Story
 pub mod Counts
-pub mod Known
+pub mod PageLists
 pub mod Amounts
-pub mod Contested
+pub mod Rivalry
 mod Padding
 mod Letters
 mod Runs

@@ -3,7 +3,7 @@ use Rattle.std.proofs.Common.{◌≡◌, ℕ, zero, suc, ◌-◌, ◌^◌, false
 use lib.Utf8.{encode}
 use Rattle.std.specs.List.{repeat}
 use Rattle.std.specs.Fmt.{padded_integral, format_spec, char_count}
-use Rattle.sacn_explain.specs.Spelled.{right, zeros}
+use Rattle.sacn_explain.specs.Spelling.{right, zeros}
 
 repeated : (n : ℕ) → repeat n (encode_utf8 32) ≡ replicate n 32
 unfolding encode

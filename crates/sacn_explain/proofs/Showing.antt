@@ -11,7 +11,7 @@ use Rattle.sacn_explain.specs.declared.cause.Cause.{Cause}
 use Rattle.sacn_explain.specs.declared.options.Form.{Form}
 use Rattle.sacn_explain.specs.declared.teller.Teller.{Teller}
 use Rattle.sacn_explain.specs.Shows.{frames_told, port_told}
-use Rattle.sacn_explain.specs.Told.{Tells}
+use Rattle.sacn_explain.specs.Tellings.{Tells}
 use Rattle.sacn_explain.proofs.Telling.{one_row}
 
 -- the text of one element more

@@ -12,22 +12,22 @@ use Rattle.sacn_capture.specs.Recordings.{Shown, Told}
 use Rattle.sacn_capture.specs.Streams.{Gives, GivesFirst, counted_with, shown_of}
 use Rattle.sacn_monitor.specs.Books.{Book}
 use Rattle.sacn_monitor.specs.Histories.{Call, Take, Tick, after_calls, moment_in_use, moment_of}
-use Rattle.sacn_explain.specs.declared.follow.Followed.{Followed}
+use Rattle.sacn_explain.specs.declared.follow.Progress.{Progress}
 use Rattle.sacn_explain.specs.declared.follow.Timeline.{Timeline}
 use Rattle.sacn_explain.specs.Following.{Follows}
-use Rattle.sacn_explain.specs.Listed.{listed_by, listed_with}
+use Rattle.sacn_explain.specs.KeptLists.{listed_by, listed_with}
 use Rattle.sacn_explain.proofs.Counts.{counts_are_of_what_was_handed}
 use Rattle.sacn_explain.specs.Story.{Heard, Hears, Kept, IsHeard, IsHeardTo, after_frame, after_frames, at_moment, call_of, elsewhere, heard_in}
 
-abbrev heard_by : Followed → Counts → List Call → Heard
-heard_by followed frames calls = record { frames = frames; clock = followed.timeline; other_ports = followed.other_ports; calls = calls }
+abbrev heard_by : Progress → Counts → List Call → Heard
+heard_by progress frames calls = record { frames = frames; clock = progress.timeline; other_ports = progress.other_ports; calls = calls }
 
 -- what was heard, and then what is still to come, is all that there is to hear
-abbrev pub IsUpTo : ℕ → Option Told → Option Told → Followed → Kept → Type 0
-IsUpTo port None after followed kept = ⊤
-IsUpTo port (Some all) after followed kept =
+abbrev pub IsUpTo : ℕ → Option Told → Option Told → Progress → Kept → Type 0
+IsUpTo port None after progress kept = ⊤
+IsUpTo port (Some all) after progress kept =
     (rest : Told) × (after ≡ Some rest) × (all.fault ≡ rest.fault) × (calls : List Call)
-    × (heard_in port all.frames ≡ after_frames port rest.frames (heard_by followed kept.frames calls)) × (followed.timeline.now ≡ moment_in_use calls) × Follows calls kept.book
+    × (heard_in port all.frames ≡ after_frames port rest.frames (heard_by progress kept.frames calls)) × (progress.timeline.now ≡ moment_in_use calls) × Follows calls kept.book
     × (kept.listed ≡ listed_by calls)
 
 -- what a call of a recording's reader gave, where it gave a frame
@@ -50,9 +50,9 @@ pub nothing_counted : (result : Result (Option Record) CaptureFault) (found : Op
 nothing_counted result found before after is none counts =
     subst (λ (r : Result (Option Record) CaptureFault). after ≡ counted_with (map_ok (λ x. option_map shown_of x) r) before) (is ∙ ap Ok none) counts
 
-pub counts_stay : (port : ℕ) (all : Option Told) (followed : Followed) (kept : Kept) (before after : Counts) → after ≡ before
-    → IfSome all (λ told. IsHeard port told followed (record kept { frames = before })) → IfSome all (λ told. IsHeard port told followed (record kept { frames = after }))
-counts_stay port all followed kept before after same heard = subst (λ (c : Counts). IfSome all (λ told. IsHeard port told followed (record kept { frames = c }))) (sym same) heard
+pub counts_stay : (port : ℕ) (all : Option Told) (progress : Progress) (kept : Kept) (before after : Counts) → after ≡ before
+    → IfSome all (λ told. IsHeard port told progress (record kept { frames = before })) → IfSome all (λ told. IsHeard port told progress (record kept { frames = after }))
+counts_stay port all progress kept before after same heard = subst (λ (c : Counts). IfSome all (λ told. IsHeard port told progress (record kept { frames = c }))) (sym same) heard
 
 -- a call has the moment that was handed in
 call_moment_by : (b : Bool) (now : ℕ) (take : Call) → moment_of take ≡ now → moment_of (cond b take (Tick now)) ≡ now
@@ -67,7 +67,7 @@ follows_on : (call : Call) (earlier : List Call) (old new : Book) → Follows ea
 follows_on (Take now sender octets) earlier old new follows hears = (old, follows, hears)
 follows_on (Tick now) earlier old new follows hears = (old, follows, hears)
 
-module _ (port : ℕ) (frame : Shown) (old new : Followed) (clock : new.timeline ≡ at_moment frame.moment old.timeline) (others : new.other_ports ≡ elsewhere port frame.content old.other_ports) where
+module _ (port : ℕ) (frame : Shown) (old new : Progress) (clock : new.timeline ≡ at_moment frame.moment old.timeline) (others : new.other_ports ≡ elsewhere port frame.content old.other_ports) where
   heard_on : (c d : Counts) (calls : List Call) → d ≡ counted (passed_by frame.content) c
       → after_frame port frame (heard_by old c calls) ≡ heard_by new d (call_of port new.timeline.now frame.content ∷ calls)
   heard_on c d calls more =
@@ -105,18 +105,18 @@ module _ (port : ℕ) (frame : Shown) (old new : Followed) (clock : new.timeline
         lists ∙ ap (listed_with (call_of port new.timeline.now frame.content)) listed,
       )
 
-to_end : (port : ℕ) (told : Told) (new : Followed) (b : Kept) (stopped : Option CaptureFault) → stopped ≡ None → IsHeardTo None port told new b → IsHeardTo stopped port told new b
+to_end : (port : ℕ) (told : Told) (new : Progress) (b : Kept) (stopped : Option CaptureFault) → stopped ≡ None → IsHeardTo None port told new b → IsHeardTo stopped port told new b
 to_end port told new b stopped is h = subst (λ (o : Option CaptureFault). IsHeardTo o port told new b) (sym is) h
 
 -- at the end all was heard
-pub ended_heard : (port : ℕ) (all before : Option Told) (followed : Followed) (b : Kept) → IsUpTo port all before followed b → GivesFirst (Ok None) before → followed.stopped ≡ None
-    → IfSome all (λ told. IsHeard port told followed b)
-ended_heard port None before followed b upto gives is = tt
-ended_heard port (Some all) before followed b (left, left_is, whole, calls, heard, now, follows, listed) gives is =
+pub ended_heard : (port : ℕ) (all before : Option Told) (progress : Progress) (b : Kept) → IsUpTo port all before progress b → GivesFirst (Ok None) before → progress.stopped ≡ None
+    → IfSome all (λ told. IsHeard port told progress b)
+ended_heard port None before progress b upto gives is = tt
+ended_heard port (Some all) before progress b (left, left_is, whole, calls, heard, now, follows, listed) gives is =
     let came = subst (λ (o : Option Told). Gives (Ok None) o gives.0) left_is gives.1 in
-    let said : heard_in port all.frames ≡ heard_by followed b.frames calls = heard ∙ ap (λ (x : Told). after_frames port x.frames (heard_by followed b.frames calls)) came.0 in
+    let said : heard_in port all.frames ≡ heard_by progress b.frames calls = heard ∙ ap (λ (x : Told). after_frames port x.frames (heard_by progress b.frames calls)) came.0 in
     let counts = counts_are_of_what_was_handed calls b.book follows in
-    to_end port all followed b followed.stopped is (
+    to_end port all progress b progress.stopped is (
       whole ∙ ap (λ (x : Told). x.fault) came.0,
       record {
         frames = ap (λ (h : Heard). h.frames) (sym said);
@@ -129,11 +129,11 @@ ended_heard port (Some all) before followed b (left, left_is, whole, calls, hear
     )
 
 -- what is wrong with a recording
-wrong : (fault : CaptureFault) (port : ℕ) (told : Told) (new : Followed) (b : Kept) (stopped : Option CaptureFault) → stopped ≡ Some fault
+wrong : (fault : CaptureFault) (port : ℕ) (told : Told) (new : Progress) (b : Kept) (stopped : Option CaptureFault) → stopped ≡ Some fault
     → IsHeardTo (Some fault) port told new b → IsHeardTo stopped port told new b
 wrong fault port told new b stopped is h = subst (λ (o : Option CaptureFault). IsHeardTo o port told new b) (sym is) h
 
-pub stopped_heard : (port : ℕ) (all before after : Option Told) (fault : CaptureFault) (old new : Followed) (b0 b1 : Kept)
+pub stopped_heard : (port : ℕ) (all before after : Option Told) (fault : CaptureFault) (old new : Progress) (b0 b1 : Kept)
     → IsUpTo port all before old b0 → Gives (Err fault) before after → new.stopped ≡ Some fault → IfSome all (λ told. IsHeard port told new b1)
 stopped_heard port None before after fault old new b0 b1 upto gives is = tt
 stopped_heard port (Some all) before after fault old new b0 b1 (left, left_is, whole, calls, heard, now, follows, listed) gives is =

@@ -5,7 +5,7 @@ use Rattle.std.proofs.KnownBytes.{Appends-nil, Appends-trans}
 use Rattle.std.specs.Borrow.{MutBor}
 use Rattle.sacn_explain.specs.declared.options.Form.{Form}
 use Rattle.sacn_explain.specs.declared.teller.Teller.{Teller}
-use Rattle.sacn_explain.specs.Told.{Tells, ended, told}
+use Rattle.sacn_explain.specs.Tellings.{Tells, ended, told}
 
 -- a line grows
 pub pushed : (known : Option (List ℕ)) (old new more : List ℕ) → new ≡ old ++ more → Appends (append_known known old) (append_known known new) more

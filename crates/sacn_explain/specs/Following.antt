@@ -4,7 +4,7 @@ use Rattle.sacn_monitor.specs.declared.account.Sender.{Sender}
 use Rattle.sacn_monitor.specs.declared.limits.TheConstants.{MAX_STREAMS}
 use Rattle.sacn_monitor.specs.Books.{Book, new_book, after_take, after_tick}
 use Rattle.sacn_explain.specs.declared.follower.Follower.{Follower}
-use Rattle.sacn_explain.specs.Listed.{listed_by, listed_in}
+use Rattle.sacn_explain.specs.KeptLists.{listed_by, listed_in}
 use Rattle.sacn_monitor.specs.Histories.{Call, Take, Tick, moment_in_use, after_calls, arrivals, account_by, account_in}
 
 -- each of these moments is t or earlier

@@ -1,13 +1,13 @@
 pub mod Faults
-pub mod Wanted
+pub mod Choice
 pub mod Lists
-pub mod Listed
+pub mod KeptLists
 pub mod Following
 pub mod Story
 pub mod Amounts
 pub mod Staging
-pub mod Contested
-pub mod Spelled
+pub mod Contests
+pub mod Spelling
 pub mod Members
 pub mod Sentences
 pub mod Numbers
@@ -15,7 +15,7 @@ pub mod Refusals
 pub mod Causes
 pub mod PacketLines
 pub mod Lines
-pub mod Told
+pub mod Tellings
 pub mod Rows
 pub mod StreamRows
 pub mod Totals

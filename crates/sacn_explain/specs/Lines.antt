@@ -7,7 +7,7 @@ use Rattle.sacn_explain.specs.declared.cause.Cause.{Cause}
 use Rattle.sacn_explain.specs.declared.listings.Listing.{Listing}
 use Rattle.sacn_explain.specs.declared.options.Form.{Form}
 use Rattle.sacn_explain.specs.declared.options.Form.TheVariants.{Text, Json}
-use Rattle.sacn_explain.specs.Spelled.{octets_text, right}
+use Rattle.sacn_explain.specs.Spelling.{octets_text, right}
 use Rattle.sacn_explain.specs.Members.{key_text, number_member, object_front, source_members}
 use Rattle.sacn_explain.specs.Sentences.{line_front, source_text, universe_text}
 use Rattle.sacn_explain.specs.Causes.{cause_members, cause_words}

@@ -3,7 +3,7 @@ use Rattle.std.specs.Prelude.{ℕ, ◌==◌, List, ◌++◌, codes, decimal}
 use Rattle.std.specs.List.{before_first}
 use Rattle.sacn_monitor.specs.declared.account.Sender.{Sender}
 use Rattle.sacn_monitor.specs.declared.stream.Stream.{Stream}
-use Rattle.sacn_explain.specs.Spelled.{octets_text, address_text, name_text}
+use Rattle.sacn_explain.specs.Spelling.{octets_text, address_text, name_text}
 
 -- the front of an event's object: the moment and the event's key
 unfoldable pub object_front : ℕ → List ℕ → List ℕ

@@ -12,11 +12,11 @@ use Rattle.sacn_monitor.specs.Books.{Book, after_tick, silent_place}
 use Rattle.sacn_monitor.specs.Rivals.{rivals, top_priority}
 use Rattle.sacn_explain.specs.declared.contests.Contests.{Contests}
 use Rattle.sacn_explain.specs.declared.options.Form.{Form}
-use Rattle.sacn_explain.specs.Contested.{is_noted}
+use Rattle.sacn_explain.specs.Contests.{is_noted}
 use Rattle.sacn_explain.specs.Lines.{rivals_line}
 use Rattle.sacn_explain.specs.PacketLines.{loss_line, refused_line, untracked_line}
-use Rattle.sacn_explain.specs.Told.{ended, news_told, where_so}
-use Rattle.sacn_explain.specs.Wanted.{is_wanted}
+use Rattle.sacn_explain.specs.Tellings.{ended, news_told, where_so}
+use Rattle.sacn_explain.specs.Choice.{is_wanted}
 
 -- two sources or more send at the top priority of a universe
 abbrev pub is_contested : ℕ → Book → Bool

@@ -6,7 +6,7 @@ use Rattle.sacn_explain.specs.declared.count.UniverseCounts.{UniverseCounts}
 use Rattle.sacn_explain.specs.declared.listings.Listing.{Listing}
 use Rattle.sacn_explain.specs.declared.options.Form.{Form}
 use Rattle.sacn_explain.specs.declared.options.Form.TheVariants.{Text, Json}
-use Rattle.sacn_explain.specs.Spelled.{left, right}
+use Rattle.sacn_explain.specs.Spelling.{left, right}
 use Rattle.sacn_explain.specs.Members.{number_member, row_front, source_members, word_member}
 use Rattle.sacn_explain.specs.Sentences.{source_text}
 use Rattle.sacn_explain.specs.Numbers.{numbers_member, ranges_text}

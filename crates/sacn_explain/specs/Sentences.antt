@@ -6,7 +6,7 @@ use Rattle.sacn_monitor.specs.declared.news.Change.{Change}
 use Rattle.sacn_monitor.specs.declared.news.Event.{Event}
 use Rattle.sacn_monitor.specs.declared.news.Event.TheVariants.{GoesOn, Appeared, CameBack, Ended, OutOfSequence, Repeated}
 use Rattle.sacn_monitor.specs.declared.stream.Stream.{Stream}
-use Rattle.sacn_explain.specs.Spelled.{right, zeros, octets_text, sender_text, moment_text, name_text}
+use Rattle.sacn_explain.specs.Spelling.{right, zeros, octets_text, sender_text, moment_text, name_text}
 use Rattle.sacn_explain.specs.Members.{name_of}
 use Rattle.sacn_explain.specs.Refusals.{fault_words}
 

@@ -11,7 +11,7 @@ use Rattle.sacn_explain.specs.declared.cause.Cause.TheVariants.{Start}
 use Rattle.sacn_explain.specs.declared.options.Form.{Form}
 use Rattle.sacn_explain.specs.declared.stage.Stage.{Stage}
 use Rattle.sacn_explain.specs.Lines.{frame_line}
-use Rattle.sacn_explain.specs.Told.{ended, shown_in}
+use Rattle.sacn_explain.specs.Tellings.{ended, shown_in}
 
 -- the frame of a port with its cause, and its line as a node writes it; nothing where there is no such line
 abbrev pub frame_told : Form → ℕ → Cause → PortShown → List ℕ → List ℕ

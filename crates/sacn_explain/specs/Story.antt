@@ -11,11 +11,11 @@ use Rattle.sacn_monitor.specs.declared.account.Sender.{Sender}
 use Rattle.sacn_monitor.specs.Books.{Book}
 use Rattle.sacn_monitor.specs.Histories.{Call, Take, Tick, after_calls}
 use Rattle.sacn_monitor.specs.Kinds.{more}
-use Rattle.sacn_explain.specs.declared.follow.Followed.{Followed}
+use Rattle.sacn_explain.specs.declared.follow.Progress.{Progress}
 use Rattle.sacn_explain.specs.declared.follow.Timeline.{Timeline}
 use Rattle.sacn_explain.specs.declared.report.Report.{Report}
 use Rattle.sacn_explain.specs.Following.{IsTaken, IsTicked}
-use Rattle.sacn_explain.specs.Listed.{Listed, listed_by}
+use Rattle.sacn_explain.specs.KeptLists.{Listed, listed_by}
 
 -- milliseconds from the first frame, which is this one where there was none before
 abbrev pub since_first : ℕ → Timeline → ℕ
@@ -86,7 +86,7 @@ abbrev pub Hears : ℕ → Call → Book → Book → Type 0
 Hears t (Take now sender octets) old new = IsTaken (max t now) sender octets old new
 Hears t (Tick now) old new = IsTicked (max t now) old new
 
-abbrev pub begun : Followed
+abbrev pub begun : Progress
 begun = record { timeline = no_clock; other_ports = 0; stopped = None }
 
 -- what is kept of a recording that is followed: what its frames were, what it told, and the lists
@@ -96,18 +96,18 @@ pub record Kept : Type 0 where
   pub listed : Listed
 
 -- this is what was heard, and these are the counts that it gives
-pub record IsHeardAs (h : Heard) (followed : Followed) (kept : Kept) : Type 0 where
+pub record IsHeardAs (h : Heard) (progress : Progress) (kept : Kept) : Type 0 where
   pub frames : kept.frames ≡ h.frames
-  pub clock : followed.timeline ≡ h.clock
-  pub other_ports : followed.other_ports ≡ h.other_ports
+  pub clock : progress.timeline ≡ h.clock
+  pub other_ports : progress.other_ports ≡ h.other_ports
   pub tally : kept.book.tally ≡ (after_calls h.calls).tally
   pub streams : length kept.book.streams ≡ length (after_calls h.calls).streams
   pub listed : kept.listed ≡ listed_by h.calls
 
 -- a recording was followed to its end, or to what is wrong with it
-abbrev pub IsHeardTo : Option CaptureFault → ℕ → Told → Followed → Kept → Type 0
-IsHeardTo None port told followed kept = (told.fault ≡ None) × IsHeardAs (heard_in port told.frames) followed kept
-IsHeardTo (Some fault) port told followed kept = IsOutside fault.kind ⊎ (told.fault ≡ Some fault)
+abbrev pub IsHeardTo : Option CaptureFault → ℕ → Told → Progress → Kept → Type 0
+IsHeardTo None port told progress kept = (told.fault ≡ None) × IsHeardAs (heard_in port told.frames) progress kept
+IsHeardTo (Some fault) port told progress kept = IsOutside fault.kind ⊎ (told.fault ≡ Some fault)
 
-abbrev pub IsHeard : ℕ → Told → Followed → Kept → Type 0
-IsHeard port told followed kept = IsHeardTo followed.stopped port told followed kept
+abbrev pub IsHeard : ℕ → Told → Progress → Kept → Type 0
+IsHeard port told progress kept = IsHeardTo progress.stopped port told progress kept

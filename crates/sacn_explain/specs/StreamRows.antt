@@ -8,7 +8,7 @@ use Rattle.sacn_monitor.specs.Rates.{last_second}
 use Rattle.sacn_monitor.specs.Streams.{state_of}
 use Rattle.sacn_explain.specs.declared.options.Form.{Form}
 use Rattle.sacn_explain.specs.declared.options.Form.TheVariants.{Text, Json}
-use Rattle.sacn_explain.specs.Spelled.{left, moment_text, right, sender_text}
+use Rattle.sacn_explain.specs.Spelling.{left, moment_text, right, sender_text}
 use Rattle.sacn_explain.specs.Members.{name_of, number_member, row_front, sender_members, stream_members, word_member}
 use Rattle.sacn_explain.specs.Sentences.{source_text}
 use Rattle.sacn_explain.specs.Rows.{column}

@@ -15,9 +15,9 @@ use Rattle.sacn_explain.specs.Amounts.{counts_of}
 use Rattle.sacn_explain.specs.Lists.{silent, unlisted}
 use Rattle.sacn_explain.specs.Rows.{list_row, refused_row, universe_row}
 use Rattle.sacn_explain.specs.StreamRows.{stream_row}
-use Rattle.sacn_explain.specs.Told.{ended, where_so}
+use Rattle.sacn_explain.specs.Tellings.{ended, where_so}
 use Rattle.sacn_explain.specs.Totals.{counts_row}
-use Rattle.sacn_explain.specs.Wanted.{is_wanted}
+use Rattle.sacn_explain.specs.Choice.{is_wanted}
 
 -- a table's head, for people
 abbrev pub head_told : Form → List ℕ → List ℕ

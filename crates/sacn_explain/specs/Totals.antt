@@ -3,7 +3,7 @@ use Rattle.std.specs.Prelude.{ℕ, ◌-◌, ◌^◌, min, sum, List, [], ◌∷�
 use Rattle.sacn_explain.specs.declared.options.Form.{Form}
 use Rattle.sacn_explain.specs.declared.options.Form.TheVariants.{Text, Json}
 use Rattle.sacn_explain.specs.declared.report.Report.{Report}
-use Rattle.sacn_explain.specs.Spelled.{left}
+use Rattle.sacn_explain.specs.Spelling.{left}
 use Rattle.sacn_explain.specs.Members.{number_member, row_front}
 
 -- all datagrams that are no packets, at most what 64 bits hold

@@ -1,7 +1,7 @@
 //! Universes on which two sources or more send at the top priority.
 
 ghost use Rattle.std.specs.Prelude.{◌≡◌, ◌==◌, ℕ, [], not, IfOk, OnOk, OnErr, filter, if◌then◌else◌};
-ghost use Rattle.sacn_explain.specs.Contested.{is_noted};
+ghost use Rattle.sacn_explain.specs.Contests.{is_noted};
 ghost use Rattle.sacn_explain.specs.Occurrences.{stirs};
 
 use sacn_monitor::{Event, News, Stream};

@@ -9,7 +9,7 @@ ghost use Rattle.sacn_framing.specs.PacketReading.{reading_packet};
 ghost use Rattle.sacn_monitor.specs.Books.{new_book};
 ghost use Rattle.sacn_explain.specs.Faults.{IsFaultOf, IsOfTelling};
 ghost use Rattle.sacn_explain.specs.Following.{IsTaken};
-ghost use Rattle.sacn_explain.specs.Listed.{after_reading, listed_in, listed_with, none_listed};
+ghost use Rattle.sacn_explain.specs.KeptLists.{after_reading, listed_in, listed_with, none_listed};
 ghost use Rattle.sacn_explain.specs.Story.{Hears, IsAccountOf, IsHeard, at_moment, begun, call_of, elsewhere, no_clock, sender_of};
 
 use crate::fault::ExplainFault;
@@ -55,18 +55,18 @@ pub fn explain<R: BufRead + Drop, O: Write>(
 {
     let mut capture = Capture::open(alloc, capture)?;
     let mut follower = Follower::new(alloc, *options, setup, out)?;
-    let followed = follow(&mut capture, &mut follower, options.port)?;
+    let progress = follow(&mut capture, &mut follower, options.port)?;
     let report = Report {
         frames: capture.counts(),
         tally: *follower.tally(),
         pages_passed: follower.pages_passed(),
-        other_ports: followed.other_ports,
-        went_back: followed.timeline.went_back,
+        other_ports: progress.other_ports,
+        went_back: progress.timeline.went_back,
         streams: follower.streams().len(),
-        length: followed.timeline.now,
+        length: progress.timeline.now,
     };
     follower.finish(&report)?;
-    match followed.stopped {
+    match progress.stopped {
         Some(fault) => Err(ExplainFault::from(fault)),
         None => Ok(report),
     }
@@ -74,7 +74,7 @@ pub fn explain<R: BufRead + Drop, O: Write>(
 
 /// How far a recording was followed.
 #[derive(Clone, Copy)]
-struct Followed {
+struct Progress {
     timeline: Timeline,
     other_ports: u64,
     /// What is wrong with the recording.
@@ -86,33 +86,33 @@ fn follow<R: BufRead + Drop, O: Write>(
     capture: &mut Capture<R>,
     follower: &mut Follower<'_, O>,
     port: u16,
-) -> Result<Followed, ExplainFault>
+) -> Result<Progress, ExplainFault>
     requires nothing { follower.old.monitor ≡ new_book }
     requires moment { follower.old.moment ≡ 0 }
     requires lists { listed_in follower.old.listings ≡ none_listed }
     requires frames { counts_of capture.old ≡ none_counted }
-    ensures told { IfSome (to_come R.Read.remaining capture.old) (λ told. IfOk result (λ followed. IsHeard port told followed
+    ensures told { IfSome (to_come R.Read.remaining capture.old) (λ told. IfOk result (λ progress. IsHeard port told progress
         (record { frames = counts_of capture.new; book = follower.new.monitor; listed = listed_in follower.new.listings }))) }
     ensures fault { IfErr result IsOfTelling }
 {
-    let mut followed = Followed::begin();
+    let mut progress = Progress::begin();
     for _ in 0..u64::MAX {
         match capture.next() {
-            Ok(Some(frame)) => followed.take(&frame, port, follower)?,
-            Ok(None) => return Ok(followed),
-            Err(fault) => return Ok(followed.stop(fault)),
+            Ok(Some(frame)) => progress.take(&frame, port, follower)?,
+            Ok(None) => return Ok(progress),
+            Err(fault) => return Ok(progress.stop(fault)),
         }
     }
     // No device holds so many frames.
     Err(ExplainFault::Device)
 }
 
-impl Followed {
+impl Progress {
     // Nothing was followed yet.
     fn begin() -> Self
         ensures { result ≡ begun }
     {
-        Followed {
+        Progress {
             timeline: Timeline::begin(),
             other_ports: 0,
             stopped: None,
@@ -123,7 +123,7 @@ impl Followed {
     fn stop(self, fault: CaptureFault) -> Self
         ensures { result.stopped ≡ Some fault }
     {
-        Followed {
+        Progress {
             stopped: Some(fault),
             ..self
         }

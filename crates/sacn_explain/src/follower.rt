@@ -3,14 +3,14 @@
 ghost use Rattle.std.specs.Prelude.{◌≡◌, ◌==◌, ◌≤◌, ◌⊎◌, ℕ, IfErr, IfOk, IfSome, OnOk, is_some, max, slice_get, if◌then◌else◌};
 ghost use Rattle.sacn_framing.specs.PacketReading.{reading_packet};
 ghost use Rattle.sacn_monitor.specs.Books.{new_book, after_tick};
-ghost use Rattle.sacn_explain.specs.Contested.{is_noted};
+ghost use Rattle.sacn_explain.specs.Contests.{is_noted};
 ghost use Rattle.sacn_explain.specs.Faults.{IsOfTelling};
 ghost use Rattle.sacn_explain.specs.Following.{IsTicked, IsTaken};
 ghost use Rattle.sacn_explain.specs.Occurrences.{is_contested, loss_told, noted_told, packet_told, rivals_told, stirred_told};
-ghost use Rattle.sacn_explain.specs.Listed.{after_noted, after_reading, listed_in, none_listed};
+ghost use Rattle.sacn_explain.specs.KeptLists.{after_noted, after_reading, listed_in, none_listed};
 ghost use Rattle.sacn_explain.specs.Shows.{stage_told};
 ghost use Rattle.sacn_explain.specs.Tables.{tables_told};
-ghost use Rattle.sacn_explain.specs.Told.{Tells};
+ghost use Rattle.sacn_explain.specs.Tellings.{Tells};
 ghost use Rattle.sacn_explain.specs.declared.cause.Cause.TheVariants.{Lost};
 
 use crate::cause::{Cause, cause_of};
@@ -19,7 +19,7 @@ use crate::fault::{ExplainFault, TellFault};
 use crate::listings::{Listings, PageNews};
 use crate::options::Options;
 use crate::report::Report;
-use crate::stage::{Stage, started};
+use crate::stage::{Stage, start};
 use crate::tables;
 use crate::teller::Teller;
 use sacn_framing::{Packet, read_packet};
@@ -70,7 +70,7 @@ impl<'a, O: Write> Follower<'a, O> {
         let contests = Contests::new(alloc)?;
         let mut teller = Teller::new(alloc, options.form, out);
         let stage = match setup {
-            Some(setup) => Some(started(alloc, setup, &mut teller)?),
+            Some(setup) => Some(start(alloc, setup, &mut teller)?),
             None => None,
         };
         Ok(Follower {
@@ -89,7 +89,7 @@ impl<'a, O: Write> Follower<'a, O> {
     /// accounts are then those that the monitor has after this datagram, once.
     ///
     /// Errors: OutOfMemory; Device where a line can't be written.
-    #[tactic(auto, using(crate::proofs::Known::take_listed))]
+    #[tactic(auto, using(crate::proofs::PageLists::take_listed))]
     pub fn take(&mut self, now: u64, sender: Sender, octets: &[u8]) -> Result<(), ExplainFault>
         ensures moment { self.new.moment ≡ max self.old.moment now }
         ensures taken { OnOk result (IsTaken (max self.old.moment now) sender octets.now self.old.monitor self.new.monitor) }
@@ -190,7 +190,7 @@ impl<'a, O: Write> Follower<'a, O> {
     pub fn pages_passed(&self) -> u64
         ensures { result ≡ (listed_in self.now.listings).passed }
     {
-        self.listings.passed()
+        self.listings.pages_passed()
     }
 
     // What a datagram tells.
@@ -215,9 +215,9 @@ impl<'a, O: Write> Follower<'a, O> {
     {
         let now = self.monitor.moment();
         match noted {
-            Noted::Refused(fault) => self.teller.refused(now, sender, fault),
+            Noted::Refused(fault) => self.teller.tell_refusal(now, sender, fault),
             Noted::Page | Noted::Sync => Ok(()),
-            Noted::Untracked => self.teller.untracked(now, sender),
+            Noted::Untracked => self.teller.tell_untracked(now, sender),
             Noted::Heard(place, news) => self.tell_news(place, &news),
         }
     }
@@ -240,7 +240,7 @@ impl<'a, O: Write> Follower<'a, O> {
         if !self.options.is_wanted(universe) {
             return Ok(());
         }
-        self.teller.news(now, stream, news)?;
+        self.teller.tell_news(now, stream, news)?;
         let is_stirred = stirs(stream, news);
         self.tell_stirred(universe, is_stirred)
     }
@@ -276,7 +276,7 @@ impl<'a, O: Write> Follower<'a, O> {
         }
         let priority = self.monitor.top_priority(universe);
         let now = self.monitor.moment();
-        self.teller.rivals(now, universe, sources, priority)
+        self.teller.tell_rivals(now, universe, sources, priority)
     }
 
     // The list of a source, where it is another one than before.
@@ -295,7 +295,7 @@ impl<'a, O: Write> Follower<'a, O> {
             PageNews::Changes => "relists",
         };
         match self.listings.of(&page.cid()) {
-            Some(listing) => self.teller.listing(now, event, listing),
+            Some(listing) => self.teller.tell_listing(now, event, listing),
             None => Ok(()),
         }
     }
@@ -320,7 +320,7 @@ impl<'a, O: Write> Follower<'a, O> {
         if !self.options.is_wanted(universe) {
             return Ok(());
         }
-        self.teller.loss(at, stream)?;
+        self.teller.tell_loss(at, stream)?;
         self.tell_rivals(universe)
     }
 

@@ -5,7 +5,7 @@ ghost use Rattle.std.specs.Str.{bytes_eq};
 ghost use Rattle.std.specs.List.{list_any, position};
 ghost use Rattle.std.specs.Option.{option_map};
 ghost use Rattle.sacn_explain.specs.Lists.{is_heard, silent, is_unlisted, unlisted};
-ghost use Rattle.sacn_explain.specs.Listed.{after_page, collected, is_read, listed_in, listing_of, none_listed};
+ghost use Rattle.sacn_explain.specs.KeptLists.{after_page, collected, is_read, listed_in, listing_of, none_listed};
 
 use sacn_discovery::{Collector, DiscoveryFault};
 use sacn_framing::PageView;
@@ -70,14 +70,14 @@ impl Listings {
     }
 
     /// The sources in the order of their first pages.
-    pub fn known(&self) -> &[Listing]
+    pub fn listings(&self) -> &[Listing]
         ensures { result.now ≡ self.now.known.items }
     {
         self.known.as_slice()
     }
 
     /// Pages of sources for which there was no room.
-    pub fn passed(&self) -> u64
+    pub fn pages_passed(&self) -> u64
         ensures { result ≡ (listed_in self.now).passed }
     {
         self.passed
@@ -136,13 +136,9 @@ impl Listings {
             name: Vec::new(self.alloc),
             universes: None,
         };
-        if self.known.push(listing).is_err() {
-            return Err(DiscoveryFault::OutOfMemory);
-        }
-        match self.sources.push(cid) {
-            Ok(()) => Ok(()),
-            Err(_) => Err(DiscoveryFault::OutOfMemory),
-        }
+        self.known.push(listing)?;
+        self.sources.push(cid)?;
+        Ok(())
     }
 
     // A page of a source that is known.
@@ -179,10 +175,7 @@ impl Listing {
             Some(known) if known.as_slice() == universes.as_slice() => return Ok(PageNews::Nothing),
             Some(_) => PageNews::Changes,
         };
-        let Ok(name) = name.to_vec(alloc) else {
-            return Err(DiscoveryFault::OutOfMemory);
-        };
-        self.name = name;
+        self.name = name.to_vec(alloc)?;
         self.universes = Some(universes);
         Ok(news)
     }
@@ -196,7 +189,7 @@ fn is_heard(streams: &[Stream], cid: &[u8; 16], universe: u16) -> bool
 }
 
 /// The universes that a source lists, and on which it wasn't heard.
-pub fn silent(
+pub fn silent_universes(
     alloc: Global,
     streams: &[Stream],
     cid: &[u8; 16],
@@ -219,7 +212,7 @@ fn is_unlisted(stream: &Stream, cid: &[u8; 16], listed: &[u16]) -> bool
 }
 
 /// The universes on which a source was heard, and that it doesn't list, in the order in which it appeared there.
-pub fn unlisted(
+pub fn unlisted_universes(
     alloc: Global,
     streams: &[Stream],
     cid: &[u8; 16],

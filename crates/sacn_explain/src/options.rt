@@ -2,7 +2,7 @@
 
 ghost use Rattle.std.specs.Prelude.{◌≡◌, ◌==◌};
 ghost use Rattle.std.specs.List.{list_any};
-ghost use Rattle.sacn_explain.specs.Wanted.{is_wanted};
+ghost use Rattle.sacn_explain.specs.Choice.{is_wanted};
 
 /// How things are told.
 #[derive(Clone, Copy, Debug, PartialEq, Eq)]

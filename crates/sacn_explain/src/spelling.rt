@@ -2,7 +2,7 @@
 
 ghost use Rattle.std.specs.Prelude.{◌≡◌, ◌++◌, OnOk, string_bytes, chars, replicate};
 ghost use Rattle.std.specs.List.{flat_map};
-ghost use Rattle.sacn_explain.specs.Spelled.{left, octet_text, octets_text, address_text, sender_text, moment_text, escape_text, letter_text, letters_of, name_text};
+ghost use Rattle.sacn_explain.specs.Spelling.{left, octet_text, octets_text, address_text, sender_text, moment_text, escape_text, letter_text, letters_of, name_text};
 
 use sacn_monitor::Sender;
 use std::alloc::AllocError;
@@ -10,7 +10,7 @@ use std::fmt::Write;
 use std::str;
 
 /// Two digits of an octet.
-#[tactic(auto, unfolding(crate::specs::Spelled::octet_text), using(crate::proofs::Padding::zeros_is))]
+#[tactic(auto, unfolding(crate::specs::Spelling::octet_text), using(crate::proofs::Padding::zeros_is))]
 fn push_octet(text: &mut String, octet: u8) -> Result<(), AllocError>
     ensures { OnOk result (string_bytes text.new ≡ string_bytes text.old ++ octet_text octet) }
 {
@@ -52,7 +52,7 @@ pub fn push_cid(text: &mut String, cid: &[u8; 16]) -> Result<(), AllocError>
 }
 
 /// An address, a colon and a port.
-#[tactic(auto, unfolding(crate::specs::Spelled::sender_text))]
+#[tactic(auto, unfolding(crate::specs::Spelling::sender_text))]
 pub fn push_sender(text: &mut String, sender: &Sender) -> Result<(), AllocError>
     ensures { OnOk result (string_bytes text.new ≡ string_bytes text.old ++ sender_text sender.now) }
 {
@@ -62,7 +62,7 @@ pub fn push_sender(text: &mut String, sender: &Sender) -> Result<(), AllocError>
 }
 
 /// An IPv4 address.
-#[tactic(auto, unfolding(crate::specs::Spelled::address_text))]
+#[tactic(auto, unfolding(crate::specs::Spelling::address_text))]
 pub fn push_address(text: &mut String, address: &[u8; 4]) -> Result<(), AllocError>
     ensures { OnOk result (string_bytes text.new ≡ string_bytes text.old ++ address_text address.now) }
 {
@@ -71,7 +71,7 @@ pub fn push_address(text: &mut String, address: &[u8; 4]) -> Result<(), AllocErr
 }
 
 /// A moment in seconds, with three places behind the point, right-aligned in ten places.
-#[tactic(auto, unfolding(crate::specs::Spelled::moment_text), using(crate::proofs::Padding::right_is, crate::proofs::Padding::zeros_is))]
+#[tactic(auto, unfolding(crate::specs::Spelling::moment_text), using(crate::proofs::Padding::right_is, crate::proofs::Padding::zeros_is))]
 pub fn push_moment(text: &mut String, moment: u64) -> Result<(), AllocError>
     ensures { OnOk result (string_bytes text.new ≡ string_bytes text.old ++ moment_text moment) }
 {
@@ -81,7 +81,7 @@ pub fn push_moment(text: &mut String, moment: u64) -> Result<(), AllocError>
 }
 
 /// A name between quotes, as JSON writes a string. One that isn't UTF-8 has its octets as characters below 256.
-#[tactic(auto, unfolding(crate::specs::Spelled::name_text))]
+#[tactic(auto, unfolding(crate::specs::Spelling::name_text))]
 pub fn push_name(text: &mut String, name: &[u8]) -> Result<(), AllocError>
     ensures { OnOk result (string_bytes text.new ≡ string_bytes text.old ++ name_text name.now) }
 {
@@ -118,7 +118,7 @@ fn push_octets(text: &mut String, octets: &[u8]) -> Result<(), AllocError>
     Ok(())
 }
 
-#[tactic(auto, unfolding(crate::specs::Spelled::letter_text))]
+#[tactic(auto, unfolding(crate::specs::Spelling::letter_text))]
 fn push_letter(text: &mut String, letter: char) -> Result<(), AllocError>
     ensures { OnOk result (string_bytes text.new ≡ string_bytes text.old ++ letter_text letter) }
 {
@@ -130,7 +130,7 @@ fn push_letter(text: &mut String, letter: char) -> Result<(), AllocError>
     }
 }
 
-#[tactic(auto, unfolding(crate::specs::Spelled::escape_text), using(crate::proofs::Padding::zeros_is))]
+#[tactic(auto, unfolding(crate::specs::Spelling::escape_text), using(crate::proofs::Padding::zeros_is))]
 fn push_escape(text: &mut String, letter: char) -> Result<(), AllocError>
     ensures { OnOk result (string_bytes text.new ≡ string_bytes text.old ++ escape_text letter) }
 {

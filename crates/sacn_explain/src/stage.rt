@@ -7,7 +7,7 @@ ghost use Rattle.sacn_node.specs.Setup.{port_numbers};
 ghost use Rattle.sacn_edge.specs.PortLines.{port_after, port_text, ports_text, unshown};
 ghost use Rattle.sacn_explain.specs.Shows.{frame_told, frames_told, port_told, start_told, started_node};
 ghost use Rattle.sacn_explain.specs.Staging.{may_change_frames};
-ghost use Rattle.sacn_explain.specs.Told.{Tells};
+ghost use Rattle.sacn_explain.specs.Tellings.{Tells};
 
 use crate::cause::Cause;
 use crate::fault::TellFault;
@@ -80,7 +80,7 @@ impl Stage {
 }
 
 /// A node of a setup, whose first frames are told.
-pub fn started<O: Write>(
+pub fn start<O: Write>(
     alloc: Global,
     setup: &NodeSetup,
     teller: &mut Teller<'_, O>,
@@ -145,7 +145,7 @@ fn tell_frame<O: Write>(
     if line.is_empty() {
         return Ok(());
     }
-    teller.frame(now, shown, cause, line)
+    teller.tell_frame(now, shown, cause, line)
 }
 
 // The line that a node's loop writes of a port at a moment; empty where it writes none.

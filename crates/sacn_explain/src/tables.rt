@@ -4,12 +4,12 @@ ghost use Rattle.std.specs.Prelude.{◌≡◌, ◌<◌, ◌==◌, OnOk, IfOk, is
 ghost use Rattle.std.specs.List.{list_any};
 ghost use Rattle.sacn_explain.specs.Lists.{silent, unlisted};
 ghost use Rattle.sacn_explain.specs.Totals.{counts_row};
-ghost use Rattle.sacn_explain.specs.Told.{Tells, ended};
+ghost use Rattle.sacn_explain.specs.Tellings.{Tells, ended};
 ghost use Rattle.sacn_explain.specs.Tables.{faults_told, has_refusals, head_told, head_where, is_told, list_told, lists_told, place_told, refused_for, refused_told, refusals_told, stream_told, streams_told, tables_told, universe_at, universe_told, universes_told};
 
 use crate::count::UniverseCounts;
 use crate::fault::TellFault;
-use crate::listings::{Listing, Listings, silent, unlisted};
+use crate::listings::{Listing, Listings, silent_universes, unlisted_universes};
 use crate::options::{Form, Options};
 use crate::report::Report;
 use crate::rows::{Lists, list_row, refused_row, universe_row};
@@ -68,7 +68,7 @@ pub fn tell<O: Write>(
         teller,
         options,
         monitor.streams(),
-        listings.known(),
+        listings.listings(),
         report,
     )
 }
@@ -272,8 +272,8 @@ fn lists_of<'a>(
     ensures silent { IfOk result (λ lists. lists.silent.items ≡ silent streams.now cid.now listed.now) }
     ensures unlisted { IfOk result (λ lists. lists.unlisted.items ≡ unlisted streams.now cid.now listed.now) }
 {
-    let silent = silent(alloc, streams, cid, listed)?;
-    let unlisted = unlisted(alloc, streams, cid, listed)?;
+    let silent = silent_universes(alloc, streams, cid, listed)?;
+    let unlisted = unlisted_universes(alloc, streams, cid, listed)?;
     Ok(Lists {
         listed,
         silent,

@@ -28,7 +28,7 @@ pub struct Teller<'o, O> {
 }
 
 impl<'o, O: Write> Teller<'o, O> {
-    ghost use Rattle.sacn_explain.specs.Told.{Tells, ended, event_told, news_told, priority_told, shown_in, where_so};
+    ghost use Rattle.sacn_explain.specs.Tellings.{Tells, ended, event_told, news_told, priority_told, shown_in, where_so};
 
     /// A teller that has told nothing.
     pub fn new(alloc: Global, form: Form, out: &'o mut O) -> Self
@@ -56,18 +56,18 @@ impl<'o, O: Write> Teller<'o, O> {
     }
 
     /// All that a data packet told.
-    pub fn news(&mut self, now: u64, stream: &Stream, news: &News) -> Result<(), TellFault>
+    pub fn tell_news(&mut self, now: u64, stream: &Stream, news: &News) -> Result<(), TellFault>
         ensures { OnOk result (Tells O.contents self.old self.new (news_told self.old.form now stream.now news.now)) }
     {
-        self.event(now, stream, news.event)?;
-        self.moved(now, stream, news.moved)?;
-        self.renamed(now, stream, news.renamed)?;
-        self.priority(now, stream, news.priority)?;
-        self.anew(now, stream, news.began_anew)?;
-        self.skipped(now, stream, news)
+        self.tell_event(now, stream, news.event)?;
+        self.tell_move(now, stream, news.moved)?;
+        self.tell_name(now, stream, news.renamed)?;
+        self.tell_priority(now, stream, news.priority)?;
+        self.tell_restart(now, stream, news.began_anew)?;
+        self.tell_gap(now, stream, news)
     }
 
-    fn event(&mut self, now: u64, stream: &Stream, event: Event) -> Result<(), TellFault>
+    fn tell_event(&mut self, now: u64, stream: &Stream, event: Event) -> Result<(), TellFault>
         ensures { OnOk result (Tells O.contents self.old self.new (event_told self.old.form now stream.now event)) }
     {
         if event == Event::GoesOn {
@@ -77,7 +77,7 @@ impl<'o, O: Write> Teller<'o, O> {
         self.write()
     }
 
-    fn moved(&mut self, now: u64, stream: &Stream, has_moved: bool) -> Result<(), TellFault>
+    fn tell_move(&mut self, now: u64, stream: &Stream, has_moved: bool) -> Result<(), TellFault>
         ensures { OnOk result (Tells O.contents self.old self.new (where_so has_moved (moved_line self.old.form now stream.now))) }
     {
         if !has_moved {
@@ -87,7 +87,7 @@ impl<'o, O: Write> Teller<'o, O> {
         self.write()
     }
 
-    fn renamed(&mut self, now: u64, stream: &Stream, is_renamed: bool) -> Result<(), TellFault>
+    fn tell_name(&mut self, now: u64, stream: &Stream, is_renamed: bool) -> Result<(), TellFault>
         ensures { OnOk result (Tells O.contents self.old self.new (where_so is_renamed (renamed_line self.old.form now stream.now))) }
     {
         if !is_renamed {
@@ -97,7 +97,7 @@ impl<'o, O: Write> Teller<'o, O> {
         self.write()
     }
 
-    fn priority(
+    fn tell_priority(
         &mut self,
         now: u64,
         stream: &Stream,
@@ -112,7 +112,7 @@ impl<'o, O: Write> Teller<'o, O> {
         self.write()
     }
 
-    fn anew(&mut self, now: u64, stream: &Stream, began_anew: bool) -> Result<(), TellFault>
+    fn tell_restart(&mut self, now: u64, stream: &Stream, began_anew: bool) -> Result<(), TellFault>
         ensures { OnOk result (Tells O.contents self.old self.new (where_so began_anew (anew_line self.old.form now stream.now))) }
     {
         if !began_anew {
@@ -122,7 +122,7 @@ impl<'o, O: Write> Teller<'o, O> {
         self.write()
     }
 
-    fn skipped(&mut self, now: u64, stream: &Stream, news: &News) -> Result<(), TellFault>
+    fn tell_gap(&mut self, now: u64, stream: &Stream, news: &News) -> Result<(), TellFault>
         ensures { OnOk result (Tells O.contents self.old self.new (where_so (nat_lt 0 news.now.skipped) (skipped_line self.old.form now stream.now news.now.skipped))) }
     {
         if news.skipped == 0 {
@@ -133,7 +133,7 @@ impl<'o, O: Write> Teller<'o, O> {
     }
 
     /// A stream that is lost.
-    pub fn loss(&mut self, now: u64, stream: &Stream) -> Result<(), TellFault>
+    pub fn tell_loss(&mut self, now: u64, stream: &Stream) -> Result<(), TellFault>
         ensures { OnOk result (Tells O.contents self.old self.new (ended (loss_line self.old.form now stream.now))) }
     {
         loss_line(&mut self.line, self.form, now, stream)?;
@@ -141,7 +141,7 @@ impl<'o, O: Write> Teller<'o, O> {
     }
 
     /// A datagram that is no packet.
-    pub fn refused(
+    pub fn tell_refusal(
         &mut self,
         now: u64,
         sender: &Sender,
@@ -154,7 +154,7 @@ impl<'o, O: Write> Teller<'o, O> {
     }
 
     /// A data packet of a stream for which there is no room.
-    pub fn untracked(&mut self, now: u64, sender: &Sender) -> Result<(), TellFault>
+    pub fn tell_untracked(&mut self, now: u64, sender: &Sender) -> Result<(), TellFault>
         ensures { OnOk result (Tells O.contents self.old self.new (ended (untracked_line self.old.form now sender.now))) }
     {
         untracked_line(&mut self.line, self.form, now, sender)?;
@@ -162,7 +162,7 @@ impl<'o, O: Write> Teller<'o, O> {
     }
 
     /// How many sources send at the top priority of a universe.
-    pub fn rivals(
+    pub fn tell_rivals(
         &mut self,
         now: u64,
         universe: u16,
@@ -176,7 +176,12 @@ impl<'o, O: Write> Teller<'o, O> {
     }
 
     /// A list of universes, which is another one than before.
-    pub fn listing(&mut self, now: u64, event: &str, listing: &Listing) -> Result<(), TellFault>
+    pub fn tell_listing(
+        &mut self,
+        now: u64,
+        event: &str,
+        listing: &Listing,
+    ) -> Result<(), TellFault>
         ensures { OnOk result (Tells O.contents self.old self.new (ended (listing_line self.old.form now event.now listing.now))) }
     {
         listing_line(&mut self.line, self.form, now, event, listing)?;
@@ -184,7 +189,7 @@ impl<'o, O: Write> Teller<'o, O> {
     }
 
     /// A frame of a port with its cause, and its line as a node writes it.
-    pub fn frame(
+    pub fn tell_frame(
         &mut self,
         now: u64,
         shown: &PortShown,

@@ -151,12 +151,12 @@ impl Board {
             return Ok(true);
         }
         if self.lit.len() < MAX_LIT {
-            self.lit.push(unlit(self.alloc, number)?)?;
+            self.lit.push(unlit_universe(self.alloc, number)?)?;
             return Ok(true);
         }
         for lit in self.lit.iter_mut() {
             if !watched.contains(&lit.number()) {
-                *lit = unlit(self.alloc, number)?;
+                *lit = unlit_universe(self.alloc, number)?;
                 return Ok(true);
             }
         }
@@ -239,7 +239,7 @@ impl Board {
     {
         let number = packet.universe();
         if self.lit(number).is_none() && self.lit.len() < MAX_LIT {
-            self.lit.push(unlit(self.alloc, number)?)?;
+            self.lit.push(unlit_universe(self.alloc, number)?)?;
         }
         for lit in self.lit.iter_mut() {
             if lit.number() == number {
@@ -258,7 +258,7 @@ fn loss_by(now: u64, loss: u64) -> Option<u64>
 }
 
 // A universe of which nothing was heard.
-fn unlit(alloc: Global, number: u16) -> Result<LitUniverse, AllocError> {
+fn unlit_universe(alloc: Global, number: u16) -> Result<LitUniverse, AllocError> {
     match LitUniverse::new(alloc, number) {
         Ok(lit) => Ok(lit),
         Err(_) => Err(AllocError),

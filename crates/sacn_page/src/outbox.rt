@@ -34,7 +34,7 @@ impl Outbox {
     }
 
     /// Those that are left.
-    pub fn left(&self) -> &[u8]
+    pub fn rest(&self) -> &[u8]
         ensures { result.now ≡ self.now }
     {
         &self.octets.as_slice()[self.sent..]

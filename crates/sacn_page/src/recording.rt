@@ -50,9 +50,7 @@ impl<T: Tape + Drop> Recording<T> {
     ) -> Result<Self, CaptureFault> {
         let mut tape = tape;
         let replay = replay_from_start(alloc, &mut tape, port, preferred, None)?;
-        let Ok(name) = String::from_str(alloc, name) else {
-            return Err(at_start(FaultKind::OutOfMemory));
-        };
+        let name = String::from_str(alloc, name).map_err(memory_fault)?;
         let facts = Facts {
             name,
             length: 0,
@@ -102,6 +100,19 @@ fn at_start(kind: FaultKind) -> CaptureFault {
     CaptureFault { at: 0, kind }
 }
 
+// The fault of a growth that was refused.
+fn memory_fault(_refused: AllocError) -> CaptureFault {
+    at_start(FaultKind::OutOfMemory)
+}
+
+// The fault of a tape that gives no reader.
+fn tape_fault(error: io::Error) -> CaptureFault {
+    match error.kind() {
+        ErrorKind::OutOfMemory => at_start(FaultKind::OutOfMemory),
+        _ => at_start(FaultKind::Device),
+    }
+}
+
 // A recording from its start, with this universe merged from there on.
 fn replay_from_start<T: Tape>(
     alloc: Global,
@@ -110,17 +121,9 @@ fn replay_from_start<T: Tape>(
     preferred: Option<u16>,
     universe: Option<u16>,
 ) -> Result<Replay<T::Reader>, CaptureFault> {
-    let reader = match tape.rewind() {
-        Ok(reader) => reader,
-        Err(error) if error.kind() == ErrorKind::OutOfMemory => {
-            return Err(at_start(FaultKind::OutOfMemory));
-        }
-        Err(_) => return Err(at_start(FaultKind::Device)),
-    };
-    match board_of(alloc, preferred, universe) {
-        Ok(board) => Replay::open(alloc, reader, port, board),
-        Err(_) => Err(at_start(FaultKind::OutOfMemory)),
-    }
+    let reader = tape.rewind().map_err(tape_fault)?;
+    let board = board_of(alloc, preferred, universe).map_err(memory_fault)?;
+    Replay::open(alloc, reader, port, board)
 }
 
 // Nothing heard; these universes are merged.
@@ -176,13 +179,7 @@ impl<T: Tape + Drop> Scene for Recording<T> {
         if !self.reaches(universe, until) {
             self.is_broken = true;
             let tape = &mut self.tape;
-            match replay_from_start(self.alloc, tape, self.port, self.preferred, universe) {
-                Ok(replay) => self.replay = replay,
-                Err(fault) if fault.kind == FaultKind::OutOfMemory => {
-                    return Err(SeekFault::OutOfMemory);
-                }
-                Err(_) => return Err(SeekFault::Device),
-            }
+            self.replay = replay_from_start(self.alloc, tape, self.port, self.preferred, universe)?;
         }
         self.is_broken = true;
         let is_there = self.replay.advance(until, steps)?;

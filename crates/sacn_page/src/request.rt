@@ -97,7 +97,7 @@ pub fn read_request(octets: &[u8], hosts: &Hosts) -> Reading
             if len > MAX_HEAD {
                 return Reading::Refused(Refusal::TooLarge);
             }
-            decided(asked_by(&request, hosts))
+            decide(asked_by(&request, hosts))
         }
         Ok(Status::Partial) => {
             if octets.len() >= MAX_HEAD {
@@ -111,7 +111,7 @@ pub fn read_request(octets: &[u8], hosts: &Hosts) -> Reading
     }
 }
 
-fn decided(asked: Result<Asked, Refusal>) -> Reading
+fn decide(asked: Result<Asked, Refusal>) -> Reading
     ensures open { result ≢ More }
     ensures asked { OnAsked result (IsOk asked) }
 {

@@ -98,10 +98,8 @@ impl<C: Connection + Drop, S: Scene + Drop> Room<C, S> {
         let is_surplus = self.guests() >= MAX_VIEWERS;
         let hosts = Hosts::of(self.alloc, address)?;
         let viewer = Viewer::new(self.alloc, connection, hosts, is_surplus, now);
-        match self.viewers.insert(viewer) {
-            Ok(_) => Ok(()),
-            Err(_) => Err(AllocError),
-        }
+        self.viewers.insert(viewer)?;
+        Ok(())
     }
 
     // The viewers for whom there was room, and that aren't leaving.
@@ -134,7 +132,7 @@ impl<C: Connection + Drop, S: Scene + Drop> Room<C, S> {
 
     // The same for the viewer alone: whether it stays.
     fn serve_viewer(&mut self, key: usize, question: Question) -> Result<bool, AllocError> {
-        let watched = self.watched()?;
+        let watched = self.universes_watched()?;
         let Some(viewer) = self.viewers.get_mut(key) else {
             return Ok(true);
         };
@@ -149,7 +147,7 @@ impl<C: Connection + Drop, S: Scene + Drop> Room<C, S> {
     }
 
     // The universes that are looked at.
-    fn watched(&self) -> Result<Vec<u16>, AllocError> {
+    fn universes_watched(&self) -> Result<Vec<u16>, AllocError> {
         let mut universes = Vec::new(self.alloc);
         for key in 0..MAX_CONNECTIONS {
             if let Some(viewer) = self.viewers.get(key) {
@@ -179,7 +177,7 @@ impl<C: Connection + Drop, S: Scene + Drop> Room<C, S> {
         if is_beat {
             self.beat = now.saturating_add(MAX_WAIT);
         }
-        let watched = self.watched()?;
+        let watched = self.universes_watched()?;
         for universe in watched.as_slice() {
             let _ = self.scene.open(*universe, watched.as_slice())?;
         }

@@ -1,7 +1,7 @@
 //! What viewers look at.
 
 use crate::board::Board;
-use sacn_capture::CaptureFault;
+use sacn_capture::{CaptureFault, FaultKind};
 use sacn_monitor::Sender;
 use std::alloc::AllocError;
 use thiserror::Error;
@@ -31,6 +31,15 @@ pub enum SeekFault {
 impl From<AllocError> for SeekFault {
     fn from(_fault: AllocError) -> Self {
         SeekFault::OutOfMemory
+    }
+}
+
+impl From<CaptureFault> for SeekFault {
+    fn from(fault: CaptureFault) -> Self {
+        match fault.kind {
+            FaultKind::OutOfMemory => SeekFault::OutOfMemory,
+            _ => SeekFault::Device,
+        }
     }
 }
 

@@ -52,13 +52,13 @@ impl<S: Scene + Drop> Pages<S> {
         address: SocketAddrV4,
         scene: S,
     ) -> Result<Self, ErrorKind> {
-        match Pages::bound(rt, alloc, address, scene) {
+        match Pages::open(rt, alloc, address, scene) {
             Ok(pages) => Ok(pages),
             Err(error) => Err(error.kind()),
         }
     }
 
-    fn bound<R: Net>(rt: &R, alloc: Global, address: SocketAddrV4, scene: S) -> io::Result<Self> {
+    fn open<R: Net>(rt: &R, alloc: Global, address: SocketAddrV4, scene: S) -> io::Result<Self> {
         let room = Room::new(alloc, scene)?;
         let poll = Poll::new(rt)?;
         let events = Events::with_capacity(alloc, MAX_EVENTS)?;

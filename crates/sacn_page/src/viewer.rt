@@ -110,7 +110,7 @@ impl<C: Connection> Viewer<C> {
 
     /// Whether all that it was to be sent went.
     pub fn is_idle(&self) -> bool {
-        self.output.left().is_empty()
+        self.output.rest().is_empty()
     }
 
     /// The moment at which it is closed where nothing happens; `u64::MAX` where it never is.
@@ -129,7 +129,7 @@ impl<C: Connection> Viewer<C> {
             match self.receive(&mut chunk) {
                 Some(0) => {
                     self.has_ended = true;
-                    return Ok(self.ended(reading));
+                    return Ok(self.conclude(reading));
                 }
                 Some(count) => {
                     if (self.phase == Phase::Asking) & (reading == Reading::More) {
@@ -145,7 +145,7 @@ impl<C: Connection> Viewer<C> {
     }
 
     // What is known of its request, where it sends nothing more.
-    fn ended(&mut self, reading: Reading) -> Reading {
+    fn conclude(&mut self, reading: Reading) -> Reading {
         match self.phase {
             Phase::Asking => match reading {
                 Reading::More if self.head.is_empty() => {
@@ -204,7 +204,7 @@ impl<C: Connection> Viewer<C> {
             if self.is_idle() {
                 break;
             }
-            match self.connection.write(self.output.left()) {
+            match self.connection.write(self.output.rest()) {
                 Ok(0) => self.phase = Phase::Gone,
                 Ok(count) => {
                     self.output.advance(count);

@@ -13,7 +13,7 @@ use Rattle.sacn_monitor.specs.Streams.{is_of, first_stream}
 use Rattle.sacn_monitor.specs.Books.{Book, after_take, after_tick, after_data, after_read, handed}
 use Rattle.sacn_monitor.specs.Histories.{Call, Take, Tick, moment_in_use}
 use Rattle.sacn_explain.specs.Following.{AreBy, after_ticks, IsTicked, IsTaken, Follows, IsFollowing}
-use Rattle.sacn_explain.specs.Listed.{after_reading, listed_in}
+use Rattle.sacn_explain.specs.KeptLists.{after_reading, listed_in}
 use Rattle.sacn_explain.specs.declared.follower.Follower.{Follower}
 
 -- what holds whatever a call answered

@@ -1,5 +1,5 @@
 pub mod Pages
-pub mod Drawn
+pub mod Drawing
 pub mod Views
 pub mod Watches
 pub mod Screens

@@ -2,7 +2,7 @@
 
 ghost use Rattle.std.specs.Prelude.{◌≡◌, ◌≤◌, [], ◌++◌, true, length, string_bytes, OnOk, IfOk};
 ghost use Rattle.sacn_watch.specs.Pages.{is_shown, shown_as, with_cell, with_text, with_row, row_of, FitsOn};
-ghost use Rattle.sacn_watch.specs.Drawn.{is_same, ink_code, change_code, letter_of, inked, placed_row, cleared_from, page_text};
+ghost use Rattle.sacn_watch.specs.Drawing.{is_same, ink_code, change_code, letter_of, inked, placed_row, cleared_from, page_text};
 ghost use Rattle.sacn_watch.specs.declared.page.Ink.TheVariants.{Plain};
 
 use std::alloc::{AllocError, Global};

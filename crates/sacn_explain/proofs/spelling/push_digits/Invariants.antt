@@ -1,5 +1,5 @@
 use Rattle.std.proofs.Common.{◌≡◌, ◌++◌, drop, string_bytes}
-use Rattle.sacn_explain.specs.Spelled.{octets_text}
+use Rattle.sacn_explain.specs.Spelling.{octets_text}
 use Rattle.sacn_explain.proofs.spelling.push_digits.Given as goal
 
 -- what is written, and then the octets that are left, is all

@@ -1,6 +1,6 @@
 use Rattle.std.proofs.Common.{◌≡◌, ◌++◌, string_bytes}
 use Rattle.std.specs.List.{flat_map}
-use Rattle.sacn_explain.specs.Spelled.{letter_text}
+use Rattle.sacn_explain.specs.Spelling.{letter_text}
 use Rattle.sacn_explain.proofs.spelling.push_letters.Given as goal
 
 -- the letters so far are written

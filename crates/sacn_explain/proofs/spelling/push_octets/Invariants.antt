@@ -1,6 +1,6 @@
 use Rattle.std.proofs.Common.{◌≡◌, ◌++◌, drop, string_bytes}
 use Rattle.std.specs.List.{flat_map}
-use Rattle.sacn_explain.specs.Spelled.{letter_text}
+use Rattle.sacn_explain.specs.Spelling.{letter_text}
 use Rattle.sacn_explain.proofs.spelling.push_octets.Given as goal
 
 abbrev pub invariant-loop-octet : goal.invariant-loop-octet

@@ -1,7 +1,7 @@
 use Rattle.std.proofs.Common.{◌≡◌, ◌++◌, map, take, drop}
 use Rattle.sacn_edge.specs.PortLines.{port_after}
 use Rattle.sacn_explain.specs.Shows.{frames_told}
-use Rattle.sacn_explain.specs.Told.{Tells}
+use Rattle.sacn_explain.specs.Tellings.{Tells}
 use Rattle.sacn_explain.proofs.stage.show_ports.Given as goal
 
 -- the frames of the ports so far are told, and the rest are as they were

@@ -1,6 +1,6 @@
 use Rattle.std.proofs.Common.{◌≡◌, ◌++◌, ℕ, List, ap, ◌∙◌, string_bytes}
 use Rattle.sacn_monitor.specs.Streams.{state_of}
-use Rattle.sacn_explain.specs.Spelled.{left}
+use Rattle.sacn_explain.specs.Spelling.{left}
 use Rattle.sacn_explain.specs.StreamRows.{state_text, state_word}
 use Rattle.sacn_explain.proofs.Texts.{two_pieces}
 use Rattle.sacn_explain.proofs.stream_rows.push_state.Goals as goal

@@ -2,7 +2,7 @@ use Rattle.std.proofs.Common.{◌++◌, take}
 use Rattle.std.specs.List.{flat_map}
 use Rattle.sacn_explain.specs.declared.tables.TheConstants.{REFUSED_HEAD}
 use Rattle.sacn_explain.specs.Tables.{has_refusals, head_where, refused_for, refused_told}
-use Rattle.sacn_explain.specs.Told.{Tells}
+use Rattle.sacn_explain.specs.Tellings.{Tells}
 use Rattle.sacn_explain.proofs.tables.tell_faults.Given as goal
 
 -- the rows so far

@@ -2,7 +2,7 @@ use Rattle.std.proofs.Common.{◌++◌, is_some, take}
 use Rattle.std.specs.List.{flat_map, list_any}
 use Rattle.sacn_explain.specs.declared.tables.TheConstants.{LIST_HEAD}
 use Rattle.sacn_explain.specs.Tables.{head_where, list_told}
-use Rattle.sacn_explain.specs.Told.{Tells}
+use Rattle.sacn_explain.specs.Tellings.{Tells}
 use Rattle.sacn_explain.proofs.tables.tell_listings.Given as goal
 
 -- the rows so far

@@ -2,7 +2,7 @@ use Rattle.std.proofs.Common.{◌++◌, take}
 use Rattle.std.specs.List.{flat_map}
 use Rattle.sacn_explain.specs.declared.tables.TheConstants.{STREAM_HEAD}
 use Rattle.sacn_explain.specs.Tables.{head_told, stream_told}
-use Rattle.sacn_explain.specs.Told.{Tells}
+use Rattle.sacn_explain.specs.Tellings.{Tells}
 use Rattle.sacn_explain.proofs.tables.tell_streams.Given as goal
 
 -- the rows so far

@@ -1,7 +1,7 @@
 use Rattle.std.proofs.Common.{◌++◌}
 use Rattle.sacn_explain.specs.declared.options.Form.{Form}
 use Rattle.sacn_explain.specs.Tables.{lists_told, refusals_told, universes_told}
-use Rattle.sacn_explain.specs.Told.{ended}
+use Rattle.sacn_explain.specs.Tellings.{ended}
 use Rattle.sacn_explain.specs.Totals.{counts_row}
 use Rattle.sacn_explain.proofs.Telling.{then}
 use Rattle.sacn_explain.proofs.tables.tell_tables.Goals as goal

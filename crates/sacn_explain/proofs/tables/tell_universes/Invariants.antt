@@ -2,7 +2,7 @@ use Rattle.std.proofs.Common.{◌++◌, map, take}
 use Rattle.std.specs.List.{flat_map}
 use Rattle.sacn_explain.specs.declared.tables.TheConstants.{UNIVERSE_HEAD}
 use Rattle.sacn_explain.specs.Tables.{each_once, head_told, universe_told}
-use Rattle.sacn_explain.specs.Told.{Tells}
+use Rattle.sacn_explain.specs.Tellings.{Tells}
 use Rattle.sacn_explain.proofs.tables.tell_universes.Given as goal
 
 -- the rows so far

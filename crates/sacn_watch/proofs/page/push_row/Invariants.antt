@@ -1,6 +1,6 @@
 use Rattle.std.proofs.Common.{◌≡◌, ◌++◌, drop, string_bytes}
 use Rattle.sacn_watch.specs.declared.page.Ink.TheVariants.{Plain}
-use Rattle.sacn_watch.specs.Drawn.{inked}
+use Rattle.sacn_watch.specs.Drawing.{inked}
 use Rattle.sacn_watch.proofs.page.push_row.Given as goal
 
 -- what is written, and then the letters that are left, is all

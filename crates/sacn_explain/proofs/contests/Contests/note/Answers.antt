@@ -1,5 +1,5 @@
 use Rattle.std.proofs.Common.{ℕ, List, ap, sym, ◌∙◌, cond, Bool, ◌==◌}
-use Rattle.sacn_explain.proofs.Contested.{noted_in, noted_but}
+use Rattle.sacn_explain.proofs.Rivalry.{noted_in, noted_but}
 use Rattle.sacn_explain.proofs.contests.Contests.note.Goals as goal
 
 pub returns-in-true-false-clause-noted : goal.returns-in-true-false-clause-noted

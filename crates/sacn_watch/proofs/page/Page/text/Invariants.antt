@@ -1,5 +1,5 @@
 use Rattle.std.proofs.Common.{◌≡◌, ◌+◌, ◌++◌, drop, string_bytes}
-use Rattle.sacn_watch.specs.Drawn.{page_text, placed_from}
+use Rattle.sacn_watch.specs.Drawing.{page_text, placed_from}
 use Rattle.sacn_watch.proofs.page.Page.text.Given as goal
 
 -- what is written, and then the rows that are left, is all

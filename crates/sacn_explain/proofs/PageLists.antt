@@ -11,7 +11,7 @@ use Rattle.sacn_monitor.specs.declared.news.Noted.TheVariants.{Heard, Untracked}
 use Rattle.sacn_monitor.specs.declared.news.News.{News}
 use Rattle.sacn_monitor.specs.declared.stream.Stream.{Stream}
 use Rattle.sacn_monitor.specs.Books.{Book, noted_data, noted_packet, news_at, place_of}
-use Rattle.sacn_explain.specs.Listed.{Listed, after_noted, after_reading, listed_in}
+use Rattle.sacn_explain.specs.KeptLists.{Listed, after_noted, after_reading, listed_in}
 use Rattle.sacn_explain.specs.declared.listings.Listings.{Listings}
 
 -- a data packet is no page

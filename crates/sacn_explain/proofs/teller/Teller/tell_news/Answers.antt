@@ -1,16 +1,16 @@
 use Rattle.std.proofs.Common.{nat_lt, ◌++◌}
 use Rattle.sacn_explain.specs.declared.options.Form.{Form}
 use Rattle.sacn_explain.specs.PacketLines.{anew_line, moved_line, renamed_line, skipped_line}
-use Rattle.sacn_explain.specs.Told.{priority_told, where_so}
+use Rattle.sacn_explain.specs.Tellings.{priority_told, where_so}
 use Rattle.sacn_explain.proofs.Telling.{then}
-use Rattle.sacn_explain.proofs.teller.Teller.news.Goals as goal
+use Rattle.sacn_explain.proofs.teller.Teller.tell_news.Goals as goal
 
 pub returns : goal.returns
 returns g c =
     let O = g.row.O.Denot in
     let contents = g.O.Write.contents in
-    let r = c.skipped.result in
-    let end = c.skipped.new.self in
+    let r = c.tell_gap.result in
+    let end = c.tell_gap.new.self in
     let now = c.args.now in
     let s = c.args.stream.now in
     let news = c.args.news.now in
@@ -19,8 +19,8 @@ returns g c =
     let priority = λ (form : Form). priority_told form now s news.priority ++ anew form in
     let renamed = λ (form : Form). where_so news.renamed (renamed_line form now s) ++ priority form in
     let moved = λ (form : Form). where_so news.moved (moved_line form now s) ++ renamed form in
-    then {O = O} contents r c.args.self.now c.event.new.self end _ moved c.in_ok-event.ensures
-    (then {O = O} contents r c.event.new.self c.moved.new.self end _ renamed c.in_ok-moved.ensures
-    (then {O = O} contents r c.moved.new.self c.renamed.new.self end _ priority c.in_ok-renamed.ensures
-    (then {O = O} contents r c.renamed.new.self c.priority.new.self end _ anew c.in_ok-priority.ensures
-    (then {O = O} contents r c.priority.new.self c.anew.new.self end _ skipped c.in_ok-anew.ensures c.skipped.ensures))))
+    then {O = O} contents r c.args.self.now c.tell_event.new.self end _ moved c.in_ok-tell_event.ensures
+    (then {O = O} contents r c.tell_event.new.self c.tell_move.new.self end _ renamed c.in_ok-tell_move.ensures
+    (then {O = O} contents r c.tell_move.new.self c.tell_name.new.self end _ priority c.in_ok-tell_name.ensures
+    (then {O = O} contents r c.tell_name.new.self c.tell_priority.new.self end _ anew c.in_ok-tell_priority.ensures
+    (then {O = O} contents r c.tell_priority.new.self c.tell_restart.new.self end _ skipped c.in_ok-tell_restart.ensures c.tell_gap.ensures))))
