@@ -50,6 +50,11 @@ for command in $commands; do
     name=$("$sacn" "$command" --help | sed -n "s/^ *$value <\([^>]*\)>.*/\1/p")
     grep -qF -- "$value $name" of_page || missing+=" value of $value"
   done
+  # Nothing else stands there, and what does is told of.
+  for option in $(grep -oE -- '^--?[a-z]+' of_page) $(grep -oE -- "options\\+=' [-a-z]+'" of_bash | grep -oE -- '--?[a-z]+'); do
+    grep -qxF -- "$option" <<<"$options" || missing+=" $option of help"
+  done
+  missing+=$(awk 'name != "" && ($0 == "" || index($0, ".") == 1) {printf " words on %s", name} {name = last == ".TP" ? $1 : ""; last = $0}' of_page)
   if [ -z "$missing" ]; then echo "ok manual: $command and its options stand in all"; else echo "not ok manual: $command lacks$missing"; fi
 done
 

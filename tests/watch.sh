@@ -45,10 +45,9 @@ ends "universe 0" 2 "error: 0: Universe" --universe 0
 ends "no seconds" 2 "error: *" --seconds 0
 ends "a file" 2 "error: *" file
 # (Input that ends while it runs ends it; one that had ended before doesn't.)
-start=$SECONDS
 status=0
 sleep 1 | timeout 20 "$sacn" watch --port 25830 >out 2>err || status=$?
-[ "$status" = 0 ] && [ $((SECONDS - start)) -lt 5 ] && grep -q '^datagrams to the port          0$' out
+[ "$status" = 0 ] && grep -q '^datagrams to the port          0$' out
 verdict "the end of standard input" $? "status $status"
 
 cat >show.toml <<'T'
