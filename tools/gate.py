@@ -306,9 +306,9 @@ class Together:
         self.kits = {it: getattr(rt, it) for it in ("add_edits", "seeded", "must_fail")}
         for name in self.kits:
             setattr(rt, name, getattr(self, name))
-        # (what an edit came to is kept from run to run: under names of this way's own, so that neither takes the other's)
-        with open(os.path.realpath(__file__), "rb") as it:
-            own = hashlib.sha256(it.read()).hexdigest()
+        # (what an edit came to is kept from run to run: under names of this way's own, so that neither takes the other's. All that judges edits stands above)
+        with open(os.path.realpath(__file__), encoding="utf-8") as it:
+            own = hashlib.sha256(it.read().partition("\nclass Together:")[0].encode()).hexdigest()
         name_of = rt.Kept.of_edit
         rt.Kept.of_edit = lambda kept, edit, sum: name_of(kept, edit, f"{own} {sum}")
 
@@ -371,13 +371,18 @@ class TogetherAtOnce:
         return [tried.told.get(it) or alone[it] for it in files]
 
 
+# The kit guesses the memory of a check from the lines that it reads, and begins none that may not fit. The checks of this tree took at most about half of
+# that, so great ones, behind which most others wait, stood back for small ones.
+SHARE_OF_NEED = 0.6
+
+
 class Spent:
-    """The processor seconds of the kit's checks, by crate and by what they were for. It stands where the kit looks for Python's `subprocess`."""
+    """The processor seconds of the kit's checks, by crate and by what they were for, and their memory. It stands where the kit looks for Python's `subprocess`."""
 
     KINDS = "proof", "tests", "edits"
 
     def __init__(self, rt):
-        self.took, self.began, in_lanes = [], time.monotonic(), rt.in_lanes
+        self.took, self.most, self.began, in_lanes = [], Counter(), time.monotonic(), rt.in_lanes
         rt.subprocess = rt.rtlib.subprocess = self
 
         def told(tasks):
@@ -399,7 +404,9 @@ class Spent:
             _, status, took = os.wait4(ran.pid, 0)
             ran.returncode = os.waitstatus_to_exitcode(status)
         kind = "tests" if "--test" in words else "edits" if "--incremental" in words else "proof"
-        self.took.append((words[words.index("--crate-name") + 1], kind, took.ru_utime + took.ru_stime))
+        crate = words[words.index("--crate-name") + 1]
+        self.took.append((crate, kind, took.ru_utime + took.ru_stime))
+        self.most[crate] = max(self.most[crate], took.ru_maxrss // 1000)
         return subprocess.CompletedProcess(words, ran.returncode, said)
 
     def tell(self):
@@ -409,7 +416,7 @@ class Spent:
             by_kind[kind] += took
         for crate in sorted({it for it, _ in seconds}):
             parts = [f"{kind} {seconds[crate, kind]:.0f}" for kind in self.KINDS if seconds[crate, kind]]
-            print(f"rt: processor seconds, {crate}: {', '.join(parts)}")
+            print(f"rt: processor seconds, {crate}: {', '.join(parts)}; at most {self.most[crate]} MB")
         minutes = [f"{kind} {by_kind[kind] / 60:.0f}" for kind in self.KINDS]
         print(f"rt: processor minutes: {', '.join(minutes)}; by the clock {(time.monotonic() - self.began) / 60:.0f}", flush=True)
 
@@ -425,6 +432,9 @@ def gate():
     else:
         TogetherAtOnce(rt)
     Spent(rt)
+    if hasattr(rt, "need"):
+        need = rt.need
+        rt.need = lambda crate: int(SHARE_OF_NEED * need(crate))
     return rt
 
 
