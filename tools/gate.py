@@ -208,6 +208,11 @@ def is_of(name, target):
     return name in target.names
 
 
+def path_of(target):
+    """What a check is asked for so that it proves the target: its name where it can have but one, or else its module, with all that stands in it."""
+    return min(target.names) if len(target.names) == 1 or not target.module else target.module
+
+
 def words_of(fell):
     return re.sub(r"^no proof: (expected answers in \S+ )?", "", fell)[:160]
 
@@ -233,9 +238,10 @@ class Crate:
             return {}
         targets = {it for edit in edits for it in edit.targets}
         is_of_constants = any(it.clause for it in edits)
-        # (the modules of what is touched; what stands in none, and a law, by its name)
-        reached = sorted({min(it.names) if is_of_constants or not it.module else it.module for it in targets})
-        found, said = self.only(texts, reached)
+        # (what is touched, by its name; where that can't be told, by its module)
+        found, said = self.only(texts, sorted({path_of(it) for it in targets}))
+        if found is None:
+            found, said = self.only(texts, sorted({min(it.names) if is_of_constants or not it.module else it.module for it in targets}))
         # A function that falls though no edit touched it: this check isn't trusted with any of them. (What a law calls may fall with a constant. The
         # law's own clause is an equation of the constant and a number.)
         odd = [name for name in found or {} if not is_of_constants and not any(is_of(name, it) for it in targets)]
