@@ -195,7 +195,7 @@ def heard(browser, desk):
     """A desk that begins: how long until its row stands there."""
     desk.stdin.write(b"go\n")
     desk.stdin.flush()
-    took = browser.until(f"{STATE} && {STATE}.textContent == 'live' && document.querySelector('#slot-1 b').textContent == '255'", 5)
+    took = browser.until(f"{STATE} && {STATE}.textContent == 'sending' && document.querySelector('#slot-1 b').textContent == '255'", 5)
     verdict("a source and its level appear within a second", took is not None and took < 1, f"{took}")
     return took is not None
 
@@ -319,7 +319,7 @@ def sought(browser):
     wrong = []
     for keys, moment, rows, state in (
         (["right"] * 4, "0:04.000", 1, None),
-        (["right"], "0:05.000", 2, "live"),
+        (["right"], "0:05.000", 2, "sending"),
         (["left"], "0:04.000", 1, None),
         (["later"], "0:14.000", 2, "ended"),
         (["earlier"], "0:04.000", 1, None),

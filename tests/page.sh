@@ -202,7 +202,7 @@ answers "the document of a universe" 200 $at/state
 none=$(printf '0%.0s' $(seq 2036))
 for part in '"universe":7,"heard":[1,7],' '"name":"\u003cb\u003e\u0022D\u00f6sk\u0022 \u0026 \ud83c\udfad\u005c"' \
   '"sources":[{"place":0,"universe":1,"cid":"000102030405060708090a0b0c0d0e0f",' '{"place":1,"universe":7,"cid":"000102030405060708090a0b0c0d0e0f",' \
-  '"address":"127.0.0.1","port":' '"state":"live","priority":100,"first":' \
+  '"address":"127.0.0.1","port":' '"state":"sending","priority":100,"first":' \
   '"preview":0,"terminated":0,"other":0,"skipped":0,"late":0,"repeated":0,"gap":' \
   "\"levels\":\"0000ff$dark\"" "\"winners\":\"000000000002$none\"" '"alarms":[]' '"refused":0,"pages":' '"untracked":0}}'; do
   grep -qF -- "$part" body

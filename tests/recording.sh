@@ -99,7 +99,7 @@ verdict "the page is under 60 KB" $? "$(wc -c <body)"
 answers "the first packet" 200 "$at/state?at=0"
 source='"sources":[{"place":0,"universe":1,"cid":"0102030405060708090a0b0c0d0e0f10","name":"OLA Server","address":"10.77.0.1","port":5568,'
 has "the state at the first packet" '{"ms":0,"recording":{"name":"ola.pcap","length":5970,"fault":null},"universe":1,"heard":[1],' \
-  "$source\"state\":\"live\",\"priority\":100,\"first\":0,\"last\":0,\"live\":1," "\"levels\":\"ff800007$(zeros 1016)\"" "\"winners\":\"0001000100000001$(zeros 2032)\"" \
+  "$source\"state\":\"sending\",\"priority\":100,\"first\":0,\"last\":0,\"live\":1," "\"levels\":\"ff800007$(zeros 1016)\"" "\"winners\":\"0001000100000001$(zeros 2032)\"" \
   '"alarms":[],"counts":{"datagrams":1,"refused":0,"pages":0,"untracked":0}}'
 for moment in 326 500 867; do
   answers "the state at $moment ms" 200 "$at/state?at=$moment"
@@ -108,7 +108,7 @@ done
 answers "a moment before the second packet" 200 "$at/state?at=325"
 has "moving back reads anew" '{"ms":325,' '"last":0,"live":1,' "\"levels\":\"ff800007$(zeros 1016)\"" '"counts":{"datagrams":1,'
 answers "the state before the end of the stream" 200 "$at/state?universe=1&at=2411"
-has "three packets at 2411 ms" '"state":"live"' '"live":3,"preview":0,"terminated":0,' '"gap":542,' "\"levels\":\"010203$(zeros 1018)\"" '"alarms":[]'
+has "three packets at 2411 ms" '"state":"sending"' '"live":3,"preview":0,"terminated":0,' '"gap":542,' "\"levels\":\"010203$(zeros 1018)\"" '"alarms":[]'
 answers "the state at the end of the stream" 200 "$at/state?at=2412&universe=1"
 ended='{"ms":2412,"kind":"ended","text":"universe 1: OLA Server ended its stream"}'
 has "the stream has ended at 2412 ms" '"state":"ended"' '"terminated":3,' '"gap":1544,' "\"levels\":\"$(zeros 1024)\"" "\"alarms\":[$ended]," '"counts":{"datagrams":6,'
@@ -190,7 +190,7 @@ answers "the state before the second source" 200 "$at/state?at=499"
 has "one source on universe 1 at 499 ms" "$both" '"name":"\u003cb\u003eMain \u0026 more"' "\"levels\":\"1020$(zeros 1020)\"" '"alarms":[]' '"counts":{"datagrams":20,'
 answers "the state with both" 200 "$at/state?at=500"
 # (the packet of 400 ms is taken at 500, the latest moment so far; its numbers 1 to 3 were skipped)
-has "both sources at 500 ms" '"name":"Spare","address":"10.0.0.2","port":5000,"state":"live"' "\"levels\":\"3020$(zeros 1020)\"" "\"winners\":\"00150001$(zeros 2040)\"" \
+has "both sources at 500 ms" '"name":"Spare","address":"10.0.0.2","port":5000,"state":"sending"' "\"levels\":\"3020$(zeros 1020)\"" "\"winners\":\"00150001$(zeros 2040)\"" \
   '{"ms":500,"kind":"rivals","text":"universe 1: 2 sources share the top priority 100"}' '{"ms":500,"kind":"skipped","text":"universe 1: \u003cb\u003eMain \u0026 more skipped 3 numbers"}' '"counts":{"datagrams":22,'
 lost='{"ms":3000,"kind":"lost","text":"universe 1: Spare is lost"}'
 answers "a moment before the losses" 200 "$at/state?at=2599"

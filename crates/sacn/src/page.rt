@@ -1,7 +1,8 @@
 //! A watch that browsers see.
 use crate::ending::Ending;
 use crate::live::{clock_of, of_socket, said_of_socket, say_hearing};
-use sacn_page::{Board, Ear, MAX_ALARMS, Pages};
+use sacn_live::UdpReceiver;
+use sacn_page::{Board, MAX_ALARMS, Pages};
 use sacn_watch::run_watch;
 use std::io::{ErrorKind, Write};
 use std::net::{Net, SocketAddrV4};
@@ -38,9 +39,11 @@ pub fn serve<R: AllocGlobal + Net + Clock, E: Write>(
 ) -> Result<(), Ending> {
     let board = Board::new(rt.alloc(), universe, MAX_ALARMS)?;
     let mut pages = of_pages(Pages::bind(rt, rt.alloc(), place, board), place, err)?;
-    let bound = Ear::bind(rt, address, clock_of(rt)?, pages.descriptor());
-    let mut ear = of_socket(bound, address, err)?;
-    say_hearing(address, ear.room(), err);
+    let bound = UdpReceiver::bind(rt, address, clock_of(rt)?);
+    let mut receiver = of_socket(bound, address, err)?;
+    receiver.wait_for_input();
+    receiver.wait_beside(pages.descriptor());
+    say_hearing(address, receiver.room(), err);
     say_page(place, err);
-    Ok(run_watch(&mut ear, &mut pages, until)?)
+    Ok(run_watch(&mut receiver, &mut pages, until)?)
 }

@@ -134,7 +134,7 @@ fn show<R: AllocGlobal + Files + Net + Clock, E: Write>(
     until: u64,
     err: &mut E,
 ) -> Result<(), WatchFault> {
-    quiet.wait_for(pages.descriptor());
+    quiet.wait_beside(pages.descriptor());
     say_page(place, err);
     run_watch(quiet, &mut pages, until)
 }

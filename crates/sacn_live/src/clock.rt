@@ -33,8 +33,8 @@ impl<'a, R: MachineClock> RigClock<'a, R> {
         }
     }
 
-    /// The milliseconds to a moment, at most the greatest wait of one call.
-    pub(crate) fn millis_until(&mut self, until: u64) -> i32
+    /// The milliseconds to a moment, at most those of the longest wait of one call.
+    pub fn millis_until(&mut self, until: u64) -> i32
         ensures { pos 0 ≤ℤ result }
     {
         until.saturating_sub(self.now()).min(MAX_MILLIS) as i32

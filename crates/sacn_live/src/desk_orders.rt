@@ -292,7 +292,7 @@ impl<'a, R: MachineClock, O: Write> Orders for DeskOrders<'a, R, O> {
         } else {
             NO_DESCRIPTOR
         };
-        let _ = wait_readable(input, NO_DESCRIPTOR, millis);
+        wait_readable(input, NO_DESCRIPTOR, NO_DESCRIPTOR, millis);
     }
 
     fn next(&mut self, now: u64) -> Option<Command> {

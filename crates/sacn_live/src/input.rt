@@ -3,7 +3,7 @@ ghost use Rattle.std.specs.Prelude.{◌≤◌};
 ghost use Rattle.sacn_live.specs.declared.input.TheConstants.{PIECE_OCTETS};
 
 use crate::lines::{Gathered, LineBuffer};
-use crate::sys::{NO_DESCRIPTOR, STDIN, read_input, wait_readable};
+use crate::sys::{STDIN, is_readable, read_input};
 use std::alloc::{AllocError, Global};
 
 const PIECE_OCTETS: usize = 4096;
@@ -68,7 +68,7 @@ impl TypedInput {
 
     /// Reads a piece where one is there.
     fn read_piece(&mut self) -> bool {
-        if !self.is_open || !wait_readable(STDIN, NO_DESCRIPTOR, 0).first {
+        if !self.is_open || !is_readable(STDIN) {
             return false;
         }
         self.begin = 0;

@@ -18,13 +18,6 @@ const STDOUT: RawFd = 1;
 /// No descriptor: `poll` passes it over.
 pub const NO_DESCRIPTOR: RawFd = -1;
 
-/// What of two descriptors can be read.
-#[derive(Clone, Copy)]
-pub(crate) struct Ready {
-    pub(crate) first: bool,
-    pub(crate) second: bool,
-}
-
 fn request(fd: RawFd, events: i16) -> pollfd {
     pollfd {
         fd,
@@ -33,19 +26,20 @@ fn request(fd: RawFd, events: i16) -> pollfd {
     }
 }
 
-/// Waits until one of two descriptors can be read, has ended or has failed, for at most so many milliseconds.
-pub(crate) fn wait_readable(first: RawFd, second: RawFd, millis: i32) -> Ready {
-    let mut fds = [request(first, c::POLLIN), request(second, c::POLLIN)];
-    if c::poll(&mut fds, millis) <= 0 {
-        return Ready {
-            first: false,
-            second: false,
-        };
-    }
-    Ready {
-        first: fds[0].revents != 0,
-        second: fds[1].revents != 0,
-    }
+/// Waits until one of three descriptors can be read, has ended or has failed, for at most so many milliseconds.
+pub fn wait_readable(first: RawFd, second: RawFd, third: RawFd, millis: i32) {
+    let mut fds = [
+        request(first, c::POLLIN),
+        request(second, c::POLLIN),
+        request(third, c::POLLIN),
+    ];
+    let _ = c::poll(&mut fds, millis);
+}
+
+/// Whether a descriptor can be read, has ended or has failed.
+pub(crate) fn is_readable(fd: RawFd) -> bool {
+    let mut fds = [request(fd, c::POLLIN)];
+    c::poll(&mut fds, 0) > 0
 }
 
 /// Whether a descriptor takes octets now.

@@ -217,7 +217,7 @@ fn note_row(rows: &mut Vec<Row>, place: usize, row: Row) -> Result<bool, AllocEr
 
 fn state_word(state: State) -> &'static str {
     match state {
-        State::Sending => "live",
+        State::Sending => "sending",
         State::Ended => "ended",
         State::Lost => "lost",
     }

@@ -37,11 +37,11 @@ function letterOf(rank) {
   return letters;
 }
 function colourOf(rank) { return `var(--s${rank % COLOURS})`; }
-// Those that a node follows: of the live ones, the ones of the highest priority.
+// Those that a node follows: of those that send, the ones of the highest priority.
 function winnersOf(universe) {
-  const live = sourcesOf(universe).filter((s) => s.state === 'live');
-  const top = Math.max(...live.map((s) => s.priority));
-  return live.filter((s) => s.priority === top);
+  const sending = sourcesOf(universe).filter((s) => s.state === 'sending');
+  const top = Math.max(...sending.map((s) => s.priority));
+  return sending.filter((s) => s.priority === top);
 }
 
 function takeDocument(told) {
@@ -84,8 +84,8 @@ function showAll() { showUniverses(); showLevels(); showSources(); showAlarms();
 
 function showCounts() {
   const { datagrams = 0, refused = 0 } = known.counts;
-  const live = [...known.sources.values()].filter((s) => s.state === 'live').length;
-  put(part('counts'), `${live} of ${known.sources.size} sources live, ${datagrams.toLocaleString()} datagrams` + (refused ? `, ${refused.toLocaleString()} refused` : ''));
+  const sending = [...known.sources.values()].filter((s) => s.state === 'sending').length;
+  put(part('counts'), `${sending} of ${known.sources.size} sources sending, ${datagrams.toLocaleString()} datagrams` + (refused ? `, ${refused.toLocaleString()} refused` : ''));
   document.title = (known.universe === null ? '' : `universe ${known.universe} - `) + (isRecording ? `${film.name} - sacn explain` : 'sacn watch');
 }
 
@@ -239,15 +239,15 @@ function showSources() {
       sourceRows.set(source.place, row);
     }
     const row = sourceRows.get(source.place), rank = rankOf(source);
-    const texts = [source.universe, source.state, source.priority, source.state === 'live' ? source.last_second : 0, source.skipped, source.late, source.gap,
+    const texts = [source.universe, source.state, source.priority, source.state === 'sending' ? source.last_second : 0, source.skipped, source.late, source.gap,
       `${source.address}:${source.port}`, source.name, source.cid];
     put(row.firstChild.firstChild, letterOf(rank));
-    row.firstChild.firstChild.style.setProperty('--colour', source.state === 'live' ? colourOf(rank) : 'var(--none)');
+    row.firstChild.firstChild.style.setProperty('--colour', source.state === 'sending' ? colourOf(rank) : 'var(--none)');
     texts.forEach((text, i) => put(row.children[i + 1], String(text)));
     row.children[9].title = source.name;
     row.children[5].classList.toggle('over', source.skipped > 0);
     row.children[6].classList.toggle('over', source.late > 0);
-    row.classList.toggle('gone', source.state !== 'live');
+    row.classList.toggle('gone', source.state !== 'sending');
     if ((before ? before.nextSibling : part('sources').firstChild) !== row) part('sources').insertBefore(row, before ? before.nextSibling : part('sources').firstChild);
     before = row;
   }

@@ -1,8 +1,9 @@
 //! A receiver over a UDP socket of the machine.
 use crate::clock::RigClock;
+use crate::input_end::InputEnd;
 use crate::limits::FAILED_WAIT;
 use crate::receiver::{Arrival, Octets4, Receipt, Receiver};
-use crate::sys::{NO_DESCRIPTOR, STDIN, bind_shared, read_input, room_of, wait_readable};
+use crate::sys::{NO_DESCRIPTOR, bind_shared, room_of, wait_readable};
 use sacn_edge::{BUFFER_OCTETS, Clock};
 use std::io::ErrorKind;
 use std::net::{Net, SocketAddr, SocketAddrV4, UdpSocket};
@@ -20,12 +21,11 @@ pub struct UdpReceiver<'a, R> {
     is_failing: bool,
     // The UDP port of the sender of the latest datagram.
     sender_port: u16,
-    // Standard input, where it is waited for too.
-    input: RawFd,
+    // Whether a wait ends at the end of standard input.
+    input: InputEnd,
+    // What a wait ends at too, where it can be read.
+    beside: RawFd,
 }
-
-/// The most octets of standard input that are passed over at once.
-const PASSED_OCTETS: usize = 256;
 
 impl<'a, R: Net + MachineClock> UdpReceiver<'a, R> {
     /// A receiver at this address. The error is the machine's where it refuses the socket.
@@ -39,7 +39,8 @@ impl<'a, R: Net + MachineClock> UdpReceiver<'a, R> {
             clock,
             is_failing: false,
             sender_port: 0,
-            input: NO_DESCRIPTOR,
+            input: InputEnd::ignored(),
+            beside: NO_DESCRIPTOR,
         })
     }
 
@@ -50,22 +51,17 @@ impl<'a, R: Net + MachineClock> UdpReceiver<'a, R> {
 
     /// From now on a wait ends at the end of standard input too; where this has ended already, it isn't waited for.
     pub fn wait_for_input(&mut self) {
-        self.input = STDIN;
-        if self.input_ended() {
-            self.input = NO_DESCRIPTOR;
-        }
+        self.input = InputEnd::awaited();
+    }
+
+    /// From now on a wait ends where this descriptor can be read, too.
+    pub fn wait_beside(&mut self, descriptor: RawFd) {
+        self.beside = descriptor;
     }
 
     /// Whether standard input is waited for and has ended or failed. What is there of it is passed over.
     pub fn input_ended(&mut self) -> bool {
-        if self.input == NO_DESCRIPTOR || !wait_readable(self.input, NO_DESCRIPTOR, 0).first {
-            return false;
-        }
-        let mut passed = [0; PASSED_OCTETS];
-        match read_input(&mut passed) {
-            Some(count) => count == 0,
-            None => true,
-        }
+        self.input.came()
     }
 
     /// The room for datagrams that wait, in octets, as the machine tells it; None where it doesn't.
@@ -85,11 +81,13 @@ fn place_of(sender: SocketAddr) -> (Octets4, u16) {
 impl<'a, R: Net + MachineClock> Receiver for UdpReceiver<'a, R> {
     fn wait(&mut self, until: u64) {
         let millis = self.clock.millis_until(until);
+        let input = self.input.descriptor();
         if self.is_failing {
-            let _ = wait_readable(self.input, NO_DESCRIPTOR, millis.max(1).min(FAILED_WAIT));
+            let millis = millis.max(1).min(FAILED_WAIT);
+            wait_readable(NO_DESCRIPTOR, input, self.beside, millis);
             return;
         }
-        let _ = wait_readable(self.socket.as_raw_fd(), self.input, millis);
+        wait_readable(self.socket.as_raw_fd(), input, self.beside, millis);
     }
 
     fn receive(&mut self, buffer: &mut [u8; BUFFER_OCTETS]) -> Receipt {
