@@ -12,3 +12,4 @@ pub mod Telling
 mod RowTexts
 mod Showing
 mod Hearing
+mod Turns

@@ -22,3 +22,4 @@ pub mod Totals
 pub mod Tables
 pub mod Shows
 pub mod Occurrences
+pub mod Silences

@@ -3,14 +3,13 @@ use Rattle.std.specs.Prelude.{ℕ, ◌==◌, nat_le, List, [], ◌++◌, codes, 
 use Rattle.std.specs.declared.alloc.Global.{Global}
 use Rattle.std.specs.Str.{bytes_eq}
 use Rattle.sacn_edge.specs.declared.port_lines.PortShown.{PortShown}
-use Rattle.sacn_explain.specs.declared.cause.Cause.{Cause}
 use Rattle.sacn_explain.specs.declared.listings.Listing.{Listing}
 use Rattle.sacn_explain.specs.declared.options.Form.{Form}
 use Rattle.sacn_explain.specs.declared.options.Form.TheVariants.{Text, Json}
 use Rattle.sacn_explain.specs.Spelling.{octets_text, right}
 use Rattle.sacn_explain.specs.Members.{key_text, number_member, object_front, source_members}
 use Rattle.sacn_explain.specs.Sentences.{line_front, source_text, universe_text}
-use Rattle.sacn_explain.specs.Causes.{cause_members, cause_words}
+use Rattle.sacn_explain.specs.Causes.{Reason, cause_members, cause_words}
 use Rattle.sacn_explain.specs.Numbers.{numbers_member, ranges_text}
 
 -- how many sources send at the top priority of a universe
@@ -58,6 +57,6 @@ unfoldable pub slots_member : Option (List ℕ) → List ℕ
 slots_member frame = key_text (codes "slots") ++ (codes "\"" ++ (slot_digits frame ++ codes "\""))
 
 -- why a frame of a port is another one, and as JSON its slots
-abbrev pub frame_line : Form → ℕ → PortShown → Cause → List ℕ
-frame_line Text now shown cause = line_front now ++ (port_text shown.port ++ cause_words cause)
-frame_line Json now shown cause = object_front now (codes "frame") ++ (number_member (codes "port") shown.port ++ (cause_members cause ++ (slots_member shown.last ++ codes "}")))
+abbrev pub frame_line : Form → ℕ → PortShown → Reason → List ℕ
+frame_line Text now shown reason = line_front now ++ (port_text shown.port ++ cause_words reason)
+frame_line Json now shown reason = object_front now (codes "frame") ++ (number_member (codes "port") shown.port ++ (cause_members reason ++ (slots_member shown.last ++ codes "}")))

@@ -1,17 +1,19 @@
 //! What happens, told as it happens.
 
-ghost use Rattle.std.specs.Prelude.{◌≡◌, ◌==◌, ◌≤◌, ◌⊎◌, ℕ, IfErr, IfOk, IfSome, OnOk, is_some, max, slice_get, if◌then◌else◌};
+ghost use Rattle.std.specs.Prelude.{◌≡◌, ◌==◌, ◌<◌, ◌≤◌, ◌⊎◌, ◌-◌, ◌^◌, ℕ, IfErr, IfNone, IfOk, IfSome, OnOk, is_some, max, slice_get, if◌then◌else◌};
 ghost use Rattle.sacn_framing.specs.PacketReading.{reading_packet};
 ghost use Rattle.sacn_monitor.specs.Books.{new_book, after_tick};
+ghost use Rattle.sacn_node.specs.Cores.{core_lost};
+ghost use Rattle.sacn_explain.specs.Causes.{cause_among};
 ghost use Rattle.sacn_explain.specs.Contests.{is_noted};
 ghost use Rattle.sacn_explain.specs.Faults.{IsOfTelling};
 ghost use Rattle.sacn_explain.specs.Following.{IsTicked, IsTaken};
 ghost use Rattle.sacn_explain.specs.Occurrences.{is_contested, loss_told, noted_told, packet_told, rivals_told, stirred_told};
 ghost use Rattle.sacn_explain.specs.KeptLists.{after_noted, after_reading, listed_in, none_listed};
-ghost use Rattle.sacn_explain.specs.Shows.{stage_told};
+ghost use Rattle.sacn_explain.specs.Shows.{after_loss, after_turn, loss_shown, staged, turn_shown};
+ghost use Rattle.sacn_explain.specs.Silences.{end_by};
 ghost use Rattle.sacn_explain.specs.Tables.{tables_told};
 ghost use Rattle.sacn_explain.specs.Tellings.{Tells};
-ghost use Rattle.sacn_explain.specs.declared.cause.Cause.TheVariants.{Lost};
 
 use crate::cause::{Cause, cause_of};
 use crate::contests::{Contests, stirs};
@@ -325,7 +327,11 @@ impl<'a, O: Write> Follower<'a, O> {
     }
 
     // The first moment at which the node loses a source; `u64::MAX` where there is none.
-    fn next_dark(&self) -> u64 {
+    fn next_dark(&self) -> u64
+        ensures never { IfNone self.now.stage (result ≡ 2 ^ 64 - 1) }
+        ensures asleep { IfSome self.now.stage (λ s. (t : ℕ) → t < result → core_lost t s.core.core ≡ 0) }
+        ensures awake { IfSome self.now.stage (λ s. result < 2 ^ 64 - 1 → 1 ≤ core_lost result s.core.core) }
+    {
         match &self.stage {
             Some(stage) => stage.wakes(),
             None => u64::MAX,
@@ -334,7 +340,9 @@ impl<'a, O: Write> Follower<'a, O> {
 
     // The frames of the node, where a source is lost at a moment.
     fn show_dark(&mut self, at: u64) -> Result<(), TellFault>
-        ensures told { OnOk result (Tells O.contents self.old.teller self.new.teller (stage_told self.old.teller.form at Lost self.old.stage)) }
+        ensures told { OnOk result (Tells O.contents self.old.teller self.new.teller
+            (loss_shown self.old.teller.form at (staged self.old.stage))) }
+        ensures stage { OnOk result (staged self.new.stage ≡ after_loss at (staged self.old.stage)) }
         ensures monitor { self.new.monitor ≡ self.old.monitor }
         ensures moment { self.new.moment ≡ self.old.moment }
         ensures listings { self.new.listings ≡ self.old.listings }
@@ -347,6 +355,10 @@ impl<'a, O: Write> Follower<'a, O> {
 
     // The frames of the node after a datagram.
     fn show_turn(&mut self, octets: &[u8], noted: Noted) -> Result<(), TellFault>
+        ensures told { OnOk result (Tells O.contents self.old.teller self.new.teller
+            (turn_shown self.old.teller.form self.old.monitor.moment octets.now
+                (cause_among self.old.monitor.streams noted) (staged self.old.stage))) }
+        ensures stage { OnOk result (staged self.new.stage ≡ after_turn self.old.monitor.moment octets.now (staged self.old.stage)) }
         ensures monitor { self.new.monitor ≡ self.old.monitor }
         ensures moment { self.new.moment ≡ self.old.moment }
         ensures listings { self.new.listings ≡ self.old.listings }
@@ -365,7 +377,8 @@ impl<'a, O: Write> Follower<'a, O> {
 
 // The earlier of two moments, where it is no later than now; the last moment of all never comes.
 fn end_by(now: u64, lost: u64, dark: u64) -> Option<u64>
-    ensures { IfSome result (λ at. at ≤ now) }
+    ensures end { result ≡ end_by now lost dark }
+    ensures past { IfSome result (λ at. at ≤ now) }
 {
     let at = lost.min(dark);
     if (now < at) | (at == u64::MAX) {

@@ -1,6 +1,7 @@
 //! Lines of universes, lists and frames.
 
 ghost use Rattle.std.specs.Prelude.{◌≡◌, ◌++◌, OnOk, string_bytes};
+ghost use Rattle.sacn_explain.specs.Causes.{reason_of};
 ghost use Rattle.sacn_explain.specs.Lines.{frame_line, list_words, listed_member, listed_ranges, listing_line, port_text, rivals_key, rivals_line, rivals_words, slot_digits, slots_member};
 ghost use Rattle.sacn_explain.specs.Members.{source_members};
 ghost use Rattle.sacn_explain.specs.Sentences.{source_text};
@@ -142,7 +143,7 @@ pub fn frame_line(
     shown: &PortShown,
     cause: &Cause<'_>,
 ) -> Result<(), AllocError>
-    ensures { OnOk result (string_bytes text.new ≡ string_bytes text.old ++ frame_line form now shown.now cause.now) }
+    ensures { OnOk result (string_bytes text.new ≡ string_bytes text.old ++ frame_line form now shown.now (reason_of cause.now)) }
 {
     let port = shown.port;
     match form {

@@ -1,6 +1,7 @@
 //! Lines as they are written.
 
 ghost use Rattle.std.specs.Prelude.{◌≡◌, ◌++◌, [], OnOk, nat_lt, string_bytes, codes};
+ghost use Rattle.sacn_explain.specs.Causes.{reason_of};
 ghost use Rattle.sacn_explain.specs.Lines.{frame_line, listing_line, rivals_line};
 ghost use Rattle.sacn_explain.specs.PacketLines.{anew_line, loss_line, moved_line, refused_line, renamed_line, skipped_line, untracked_line};
 
@@ -196,7 +197,7 @@ impl<'o, O: Write> Teller<'o, O> {
         cause: &Cause<'_>,
         line: &[u8],
     ) -> Result<(), TellFault>
-        ensures { OnOk result (Tells O.contents self.old self.new (ended (frame_line self.old.form now shown.now cause.now) ++ shown_in self.old.form line.now)) }
+        ensures { OnOk result (Tells O.contents self.old self.new (ended (frame_line self.old.form now shown.now (reason_of cause.now)) ++ shown_in self.old.form line.now)) }
     {
         frame_line(&mut self.line, self.form, now, shown, cause)?;
         self.write()?;

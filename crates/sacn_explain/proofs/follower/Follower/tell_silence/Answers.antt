@@ -6,5 +6,5 @@ loop-preserved g c = record {
   now = search;
   moment = search;
   listings = search;
-  ticked = one_more_told _ _ _ _ _ c.in-Some.ensures c.loop.invariant.ticked c.tell_end.ensures.monitor;
+  ticked = one_more_told _ _ _ _ _ c.in-Some.ensures.past c.loop.invariant.ticked c.tell_end.ensures.monitor;
 }
