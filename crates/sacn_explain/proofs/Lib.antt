@@ -13,3 +13,5 @@ mod RowTexts
 mod Showing
 mod Hearing
 mod Turns
+mod ListBooks
+mod PageNews

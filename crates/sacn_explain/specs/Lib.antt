@@ -23,3 +23,5 @@ pub mod Tables
 pub mod Shows
 pub mod Occurrences
 pub mod Silences
+pub mod ListBooks
+pub mod Datagrams

@@ -6,9 +6,12 @@ ghost use Rattle.sacn_monitor.specs.Books.{new_book, after_tick};
 ghost use Rattle.sacn_node.specs.Cores.{core_lost};
 ghost use Rattle.sacn_explain.specs.Causes.{cause_among};
 ghost use Rattle.sacn_explain.specs.Contests.{is_noted};
+ghost use Rattle.sacn_explain.specs.Datagrams.{datagram_told, lists_after};
 ghost use Rattle.sacn_explain.specs.Faults.{IsOfTelling};
 ghost use Rattle.sacn_explain.specs.Following.{IsTicked, IsTaken};
 ghost use Rattle.sacn_explain.specs.Occurrences.{is_contested, loss_told, noted_told, packet_told, rivals_told, stirred_told};
+ghost use Rattle.sacn_explain.specs.ListBooks as books;
+ghost use Rattle.sacn_explain.specs.ListBooks.{list_book, page_told};
 ghost use Rattle.sacn_explain.specs.KeptLists.{after_noted, after_reading, listed_in, none_listed};
 ghost use Rattle.sacn_explain.specs.Shows.{after_loss, after_turn, loss_shown, staged, turn_shown};
 ghost use Rattle.sacn_explain.specs.Silences.{end_by};
@@ -197,6 +200,12 @@ impl<'a, O: Write> Follower<'a, O> {
 
     // What a datagram tells.
     fn tell(&mut self, sender: &Sender, octets: &[u8], noted: Noted) -> Result<(), TellFault>
+        ensures told { OnOk result (Tells O.contents self.old.teller self.new.teller
+            (datagram_told self.old.teller.form self.old.options.universes.now self.old.contests self.old.monitor sender.now
+                (list_book self.old.listings) (reading_packet octets.now) noted)) }
+        ensures lists { OnOk result (list_book self.new.listings
+            ≡ lists_after self.old.monitor.moment (reading_packet octets.now) noted (list_book self.old.listings)) }
+        ensures stage { self.new.stage ≡ self.old.stage }
         ensures monitor { self.new.monitor ≡ self.old.monitor }
         ensures moment { self.new.moment ≡ self.old.moment }
         ensures listed { OnOk result (listed_in self.new.listings ≡ after_noted noted (reading_packet octets.now) (listed_in self.old.listings)) }
@@ -209,6 +218,7 @@ impl<'a, O: Write> Follower<'a, O> {
 
     // What a datagram that is no page tells.
     fn tell_noted(&mut self, sender: &Sender, noted: Noted) -> Result<(), TellFault>
+        ensures stage { self.new.stage ≡ self.old.stage }
         ensures told { OnOk result (Tells O.contents self.old.teller self.new.teller
             (noted_told self.old.teller.form self.old.options.universes.now self.old.contests self.old.monitor sender.now noted)) }
         ensures monitor { self.new.monitor ≡ self.old.monitor }
@@ -283,6 +293,11 @@ impl<'a, O: Write> Follower<'a, O> {
 
     // The list of a source, where it is another one than before.
     fn tell_page(&mut self, octets: &[u8]) -> Result<(), TellFault>
+        ensures told { OnOk result (Tells O.contents self.old.teller self.new.teller
+            (page_told self.old.teller.form self.old.monitor.moment (reading_packet octets.now) (list_book self.old.listings))) }
+        ensures lists { OnOk result (list_book self.new.listings
+            ≡ books.after_read self.old.monitor.moment (reading_packet octets.now) (list_book self.old.listings)) }
+        ensures stage { self.new.stage ≡ self.old.stage }
         ensures monitor { self.new.monitor ≡ self.old.monitor }
         ensures moment { self.new.moment ≡ self.old.moment }
         ensures listed { OnOk result (listed_in self.new.listings ≡ after_reading (reading_packet octets.now) (listed_in self.old.listings)) }
