@@ -15,3 +15,4 @@ mod Hearing
 mod Turns
 mod ListBooks
 mod PageNews
+mod Turning

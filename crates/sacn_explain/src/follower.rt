@@ -6,7 +6,7 @@ ghost use Rattle.sacn_monitor.specs.Books.{new_book, after_tick};
 ghost use Rattle.sacn_node.specs.Cores.{core_lost};
 ghost use Rattle.sacn_explain.specs.Causes.{cause_among};
 ghost use Rattle.sacn_explain.specs.Contests.{is_noted};
-ghost use Rattle.sacn_explain.specs.Datagrams.{datagram_told, lists_after};
+ghost use Rattle.sacn_explain.specs.Datagrams.{TellsSome, TellsTurn, datagram_told, lists_after};
 ghost use Rattle.sacn_explain.specs.Faults.{IsOfTelling};
 ghost use Rattle.sacn_explain.specs.Following.{IsTicked, IsTaken};
 ghost use Rattle.sacn_explain.specs.Occurrences.{is_contested, loss_told, noted_told, packet_told, rivals_told, stirred_told};
@@ -97,6 +97,7 @@ impl<'a, O: Write> Follower<'a, O> {
     #[tactic(auto, using(crate::proofs::PageLists::take_listed))]
     pub fn take(&mut self, now: u64, sender: Sender, octets: &[u8]) -> Result<(), ExplainFault>
         ensures moment { self.new.moment ≡ max self.old.moment now }
+        ensures told { OnOk result (TellsTurn O.contents (max self.old.moment now) sender octets.now self.old self.new) }
         ensures taken { OnOk result (IsTaken (max self.old.moment now) sender octets.now self.old.monitor self.new.monitor) }
         ensures listed { OnOk result (listed_in self.new.listings ≡ after_reading (reading_packet octets.now) (listed_in self.old.listings)) }
         ensures fault { IfErr result IsOfTelling }
@@ -113,7 +114,9 @@ impl<'a, O: Write> Follower<'a, O> {
     /// Errors: OutOfMemory; Device where a line can't be written.
     pub fn tick(&mut self, now: u64) -> Result<(), ExplainFault>
         ensures moment { self.new.moment ≡ max self.old.moment now }
+        ensures told { OnOk result (TellsSome O.contents self.old.teller self.new.teller) }
         ensures ticked { OnOk result (IsTicked (max self.old.moment now) self.old.monitor self.new.monitor) }
+        ensures options { self.new.options ≡ self.old.options }
         ensures listings { self.new.listings ≡ self.old.listings }
         ensures fault { IfErr result IsOfTelling }
     {
@@ -128,7 +131,9 @@ impl<'a, O: Write> Follower<'a, O> {
     // Tells what has ended by silence by now.
     fn tell_silence(&mut self) -> Result<(), TellFault>
         ensures moment { self.new.moment ≡ self.old.moment }
+        ensures told { OnOk result (TellsSome O.contents self.old.teller self.new.teller) }
         ensures ticked { OnOk result (IsTicked self.old.moment self.old.monitor self.new.monitor) }
+        ensures options { self.new.options ≡ self.old.options }
         ensures listings { self.new.listings ≡ self.old.listings }
     {
         let now = self.moment;
@@ -146,6 +151,11 @@ impl<'a, O: Write> Follower<'a, O> {
 
     // Tells what ends by silence at a moment: a stream, or else what the node loses.
     fn tell_end(&mut self, at: u64, is_stream: bool) -> Result<(), TellFault>
+        ensures told { OnOk result (Tells O.contents self.old.teller self.new.teller
+            (if is_stream
+                then loss_told self.old.teller.form self.old.options.universes.now at self.old.contests self.old.monitor
+                else loss_shown self.old.teller.form at (staged self.old.stage))) }
+        ensures options { self.new.options ≡ self.old.options }
         ensures monitor { (self.new.monitor ≡ self.old.monitor) ⊎ (self.new.monitor ≡ after_tick at self.old.monitor) }
         ensures moment { self.new.moment ≡ self.old.moment }
         ensures listings { self.new.listings ≡ self.old.listings }
@@ -358,6 +368,7 @@ impl<'a, O: Write> Follower<'a, O> {
         ensures told { OnOk result (Tells O.contents self.old.teller self.new.teller
             (loss_shown self.old.teller.form at (staged self.old.stage))) }
         ensures stage { OnOk result (staged self.new.stage ≡ after_loss at (staged self.old.stage)) }
+        ensures options { self.new.options ≡ self.old.options }
         ensures monitor { self.new.monitor ≡ self.old.monitor }
         ensures moment { self.new.moment ≡ self.old.moment }
         ensures listings { self.new.listings ≡ self.old.listings }
