@@ -12,3 +12,7 @@ pub mod Telling
 mod RowTexts
 mod Showing
 mod Hearing
+mod Turns
+mod ListBooks
+mod PageNews
+mod Turning

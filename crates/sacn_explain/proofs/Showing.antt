@@ -7,9 +7,9 @@ use Rattle.std.proofs.lemmas.Grind.{flat_map-append}
 use Rattle.sacn_node.specs.Cores.{Node}
 use Rattle.sacn_edge.specs.declared.port_lines.PortShown.{PortShown}
 use Rattle.sacn_edge.proofs.PortLineLemmas.{no_port}
-use Rattle.sacn_explain.specs.declared.cause.Cause.{Cause}
 use Rattle.sacn_explain.specs.declared.options.Form.{Form}
 use Rattle.sacn_explain.specs.declared.teller.Teller.{Teller}
+use Rattle.sacn_explain.specs.Causes.{Reason}
 use Rattle.sacn_explain.specs.Shows.{frames_told, port_told}
 use Rattle.sacn_explain.specs.Tellings.{Tells}
 use Rattle.sacn_explain.proofs.Telling.{one_row}
@@ -22,10 +22,10 @@ flat_more f xs i d below =
     ∙ sym (ap (flat_map f) (take_more xs i d below))
 
 -- the frame of one port more is told
-pub one_port_more : {O : Type 0} (contents : O → Option (List ℕ)) (a b c : Teller O) (now : ℕ) (cause : Cause) (n m : Node) (ss : List PortShown) (i : ℕ) (s : PortShown) → i < length ss
-    → m ≡ n → s ≡ get_or ss i no_port → Tells contents a b (frames_told a.form now cause n (take i ss)) → Tells contents b c (port_told b.form now cause m s)
-    → Tells contents a c (frames_told a.form now cause n (take (i + 1) ss))
-one_port_more {O = O} contents a b c now cause n m ss i s below node port before told =
-    one_row {O = O} contents a b c _ _ (λ (form : Form). port_told form now cause n (get_or ss i no_port)) before
-    (subst (λ (t : PortShown). Tells contents b c (port_told b.form now cause n t)) port (subst (λ (x : Node). Tells contents b c (port_told b.form now cause x s)) node told))
-    (flat_more (port_told a.form now cause n) ss i no_port below)
+pub one_port_more : {O : Type 0} (contents : O → Option (List ℕ)) (a b c : Teller O) (now : ℕ) (reason : Reason) (n m : Node) (ss : List PortShown) (i : ℕ) (s : PortShown) → i < length ss
+    → m ≡ n → s ≡ get_or ss i no_port → Tells contents a b (frames_told a.form now reason n (take i ss)) → Tells contents b c (port_told b.form now reason m s)
+    → Tells contents a c (frames_told a.form now reason n (take (i + 1) ss))
+one_port_more {O = O} contents a b c now reason n m ss i s below node port before told =
+    one_row {O = O} contents a b c _ _ (λ (form : Form). port_told form now reason n (get_or ss i no_port)) before
+    (subst (λ (t : PortShown). Tells contents b c (port_told b.form now reason n t)) port (subst (λ (x : Node). Tells contents b c (port_told b.form now reason x s)) node told))
+    (flat_more (port_told a.form now reason n) ss i no_port below)

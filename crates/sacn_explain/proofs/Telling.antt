@@ -55,3 +55,9 @@ module _ {O : Type 0} (contents : O → Option (List ℕ)) where
   pub one_row : (a b c : Teller O) (so_far whole : List ℕ) (row : Form → List ℕ) → Tells contents a b so_far → Tells contents b c (row b.form) → so_far ++ row a.form ≡ whole → Tells contents a c whole
   one_row a b c so_far whole row p q is =
       subst (λ (t : List ℕ). Tells contents a c t) is (both a b c so_far (row a.form) p (subst (λ (form : Form). Tells contents b c (row form)) p.form q))
+
+  -- three calls, of which the latter two tell what their form asks for
+  pub then_both : {T E : Type 0} (r : Result T E) (a b c d : Teller O) (first : List ℕ) (next last : Form → List ℕ) → Tells contents a b first → Tells contents b c (next b.form)
+      → OnOk r (Tells contents c d (last c.form)) → OnOk r (Tells contents a d (first ++ (next a.form ++ last a.form)))
+  then_both r a b c d first next last p q s =
+      then r a b d first (λ (form : Form). next form ++ last form) p (then r b c d (next b.form) last q s)

@@ -22,3 +22,6 @@ pub mod Totals
 pub mod Tables
 pub mod Shows
 pub mod Occurrences
+pub mod Silences
+pub mod ListBooks
+pub mod Datagrams

@@ -1,16 +1,15 @@
 -- The lines of universes, lists and frames: for people, and as objects of JSON.
-use Rattle.std.specs.Prelude.{ℕ, ◌==◌, nat_le, List, [], ◌++◌, codes, decimal, drop, Option, None, Some, Vec, if◌then◌else◌}
-use Rattle.std.specs.declared.alloc.Global.{Global}
+use Rattle.std.specs.Prelude.{ℕ, ◌==◌, nat_le, List, [], ◌++◌, codes, decimal, drop, Option, None, Some, if◌then◌else◌}
 use Rattle.std.specs.Str.{bytes_eq}
+use Rattle.std.specs.Option.{option_map}
 use Rattle.sacn_edge.specs.declared.port_lines.PortShown.{PortShown}
-use Rattle.sacn_explain.specs.declared.cause.Cause.{Cause}
 use Rattle.sacn_explain.specs.declared.listings.Listing.{Listing}
 use Rattle.sacn_explain.specs.declared.options.Form.{Form}
 use Rattle.sacn_explain.specs.declared.options.Form.TheVariants.{Text, Json}
 use Rattle.sacn_explain.specs.Spelling.{octets_text, right}
 use Rattle.sacn_explain.specs.Members.{key_text, number_member, object_front, source_members}
 use Rattle.sacn_explain.specs.Sentences.{line_front, source_text, universe_text}
-use Rattle.sacn_explain.specs.Causes.{cause_members, cause_words}
+use Rattle.sacn_explain.specs.Causes.{Reason, cause_members, cause_words}
 use Rattle.sacn_explain.specs.Numbers.{numbers_member, ranges_text}
 
 -- how many sources send at the top priority of a universe
@@ -33,18 +32,27 @@ rivals_line Json now universe sources priority =
 unfoldable pub list_words : List ℕ → List ℕ
 list_words event = if bytes_eq event (codes "lists") then codes "  lists universes " else codes "  lists other universes than before: "
 
+-- a source, its name in the latest page of its list, and the universes of that list, where one came whole
+pub record KeptList : Type 0 where
+  pub cid : List ℕ
+  pub name : List ℕ
+  pub universes : Option (List ℕ)
+
+abbrev pub kept_list : Listing → KeptList
+kept_list l = record { cid = l.cid; name = l.name.items; universes = option_map (λ v. v.items) l.universes }
+
 -- the universes of a list, where one came whole
-abbrev pub listed_ranges : Option (Vec ℕ Global) → List ℕ
+abbrev pub listed_ranges : Option (List ℕ) → List ℕ
 listed_ranges None = []
-listed_ranges (Some universes) = ranges_text universes.items
+listed_ranges (Some universes) = ranges_text universes
 
-abbrev pub listed_member : Option (Vec ℕ Global) → List ℕ
+abbrev pub listed_member : Option (List ℕ) → List ℕ
 listed_member None = []
-listed_member (Some universes) = numbers_member (codes "universes") universes.items
+listed_member (Some universes) = numbers_member (codes "universes") universes
 
-abbrev pub listing_line : Form → ℕ → List ℕ → Listing → List ℕ
-listing_line Text now event l = line_front now ++ (source_text l.cid l.name.items ++ (list_words event ++ listed_ranges l.universes))
-listing_line Json now event l = object_front now event ++ (source_members l.cid l.name.items ++ (listed_member l.universes ++ codes "}"))
+abbrev pub listing_line : Form → ℕ → List ℕ → KeptList → List ℕ
+listing_line Text now event l = line_front now ++ (source_text l.cid l.name ++ (list_words event ++ listed_ranges l.universes))
+listing_line Json now event l = object_front now event ++ (source_members l.cid l.name ++ (listed_member l.universes ++ codes "}"))
 
 unfoldable pub port_text : ℕ → List ℕ
 port_text port = codes "port " ++ (right 9 (decimal port) ++ codes "  ")
@@ -58,6 +66,6 @@ unfoldable pub slots_member : Option (List ℕ) → List ℕ
 slots_member frame = key_text (codes "slots") ++ (codes "\"" ++ (slot_digits frame ++ codes "\""))
 
 -- why a frame of a port is another one, and as JSON its slots
-abbrev pub frame_line : Form → ℕ → PortShown → Cause → List ℕ
-frame_line Text now shown cause = line_front now ++ (port_text shown.port ++ cause_words cause)
-frame_line Json now shown cause = object_front now (codes "frame") ++ (number_member (codes "port") shown.port ++ (cause_members cause ++ (slots_member shown.last ++ codes "}")))
+abbrev pub frame_line : Form → ℕ → PortShown → Reason → List ℕ
+frame_line Text now shown reason = line_front now ++ (port_text shown.port ++ cause_words reason)
+frame_line Json now shown reason = object_front now (codes "frame") ++ (number_member (codes "port") shown.port ++ (cause_members reason ++ (slots_member shown.last ++ codes "}")))

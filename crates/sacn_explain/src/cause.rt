@@ -1,7 +1,7 @@
 //! Why a frame of a node is another one.
 
 ghost use Rattle.std.specs.Prelude.{◌≡◌, ◌++◌, OnOk, string_bytes};
-ghost use Rattle.sacn_explain.specs.Causes.{on_universe, by_words, cause_words, by_members, cause_members};
+ghost use Rattle.sacn_explain.specs.Causes.{on_universe, by_words, cause_among, cause_words, by_members, cause_members, reason_of};
 
 use crate::{json, words};
 use sacn_framing::up_to_nul;
@@ -25,7 +25,9 @@ pub enum Cause<'a> {
 }
 
 /// Why a datagram changed a frame.
-pub fn cause_of(streams: &[Stream], noted: Noted) -> Cause<'_> {
+pub fn cause_of(streams: &[Stream], noted: Noted) -> Cause<'_>
+    ensures { reason_of result ≡ cause_among streams.now noted }
+{
     match noted {
         Noted::Heard(place, _) => match streams.get(place) {
             Some(stream) if stream.account.ended => Cause::Ended(stream),
@@ -38,7 +40,7 @@ pub fn cause_of(streams: &[Stream], noted: Noted) -> Cause<'_> {
 
 /// A cause in words.
 pub fn push_cause(text: &mut String, cause: &Cause<'_>) -> Result<(), AllocError>
-    ensures { OnOk result (string_bytes text.new ≡ string_bytes text.old ++ cause_words cause.now) }
+    ensures { OnOk result (string_bytes text.new ≡ string_bytes text.old ++ cause_words (reason_of cause.now)) }
 {
     match cause {
         Cause::Start => text.push_str("at the start"),
@@ -66,7 +68,7 @@ fn push_universe(text: &mut String, word: &str, universe: u16) -> Result<(), All
 
 /// A cause as members of an object.
 pub fn push_cause_members(text: &mut String, cause: &Cause<'_>) -> Result<(), AllocError>
-    ensures { OnOk result (string_bytes text.new ≡ string_bytes text.old ++ cause_members cause.now) }
+    ensures { OnOk result (string_bytes text.new ≡ string_bytes text.old ++ cause_members (reason_of cause.now)) }
 {
     match cause {
         Cause::Start => json::push_word(text, "cause", "start"),

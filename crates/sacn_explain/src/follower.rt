@@ -1,17 +1,22 @@
 //! What happens, told as it happens.
 
-ghost use Rattle.std.specs.Prelude.{◌≡◌, ◌==◌, ◌≤◌, ◌⊎◌, ℕ, IfErr, IfOk, IfSome, OnOk, is_some, max, slice_get, if◌then◌else◌};
+ghost use Rattle.std.specs.Prelude.{◌≡◌, ◌==◌, ◌<◌, ◌≤◌, ◌⊎◌, ◌-◌, ◌^◌, ℕ, IfErr, IfNone, IfOk, IfSome, OnOk, is_some, max, slice_get, if◌then◌else◌};
 ghost use Rattle.sacn_framing.specs.PacketReading.{reading_packet};
 ghost use Rattle.sacn_monitor.specs.Books.{new_book, after_tick};
+ghost use Rattle.sacn_node.specs.Cores.{core_lost};
+ghost use Rattle.sacn_explain.specs.Causes.{cause_among};
 ghost use Rattle.sacn_explain.specs.Contests.{is_noted};
+ghost use Rattle.sacn_explain.specs.Datagrams.{TellsSome, TellsTurn, datagram_told, lists_after};
 ghost use Rattle.sacn_explain.specs.Faults.{IsOfTelling};
 ghost use Rattle.sacn_explain.specs.Following.{IsTicked, IsTaken};
 ghost use Rattle.sacn_explain.specs.Occurrences.{is_contested, loss_told, noted_told, packet_told, rivals_told, stirred_told};
+ghost use Rattle.sacn_explain.specs.ListBooks as books;
+ghost use Rattle.sacn_explain.specs.ListBooks.{list_book, page_told};
 ghost use Rattle.sacn_explain.specs.KeptLists.{after_noted, after_reading, listed_in, none_listed};
-ghost use Rattle.sacn_explain.specs.Shows.{stage_told};
+ghost use Rattle.sacn_explain.specs.Shows.{after_loss, after_turn, loss_shown, staged, turn_shown};
+ghost use Rattle.sacn_explain.specs.Silences.{end_by};
 ghost use Rattle.sacn_explain.specs.Tables.{tables_told};
 ghost use Rattle.sacn_explain.specs.Tellings.{Tells};
-ghost use Rattle.sacn_explain.specs.declared.cause.Cause.TheVariants.{Lost};
 
 use crate::cause::{Cause, cause_of};
 use crate::contests::{Contests, stirs};
@@ -92,6 +97,7 @@ impl<'a, O: Write> Follower<'a, O> {
     #[tactic(auto, using(crate::proofs::PageLists::take_listed))]
     pub fn take(&mut self, now: u64, sender: Sender, octets: &[u8]) -> Result<(), ExplainFault>
         ensures moment { self.new.moment ≡ max self.old.moment now }
+        ensures told { OnOk result (TellsTurn O.contents (max self.old.moment now) sender octets.now self.old self.new) }
         ensures taken { OnOk result (IsTaken (max self.old.moment now) sender octets.now self.old.monitor self.new.monitor) }
         ensures listed { OnOk result (listed_in self.new.listings ≡ after_reading (reading_packet octets.now) (listed_in self.old.listings)) }
         ensures fault { IfErr result IsOfTelling }
@@ -108,7 +114,9 @@ impl<'a, O: Write> Follower<'a, O> {
     /// Errors: OutOfMemory; Device where a line can't be written.
     pub fn tick(&mut self, now: u64) -> Result<(), ExplainFault>
         ensures moment { self.new.moment ≡ max self.old.moment now }
+        ensures told { OnOk result (TellsSome O.contents self.old.teller self.new.teller) }
         ensures ticked { OnOk result (IsTicked (max self.old.moment now) self.old.monitor self.new.monitor) }
+        ensures options { self.new.options ≡ self.old.options }
         ensures listings { self.new.listings ≡ self.old.listings }
         ensures fault { IfErr result IsOfTelling }
     {
@@ -123,7 +131,9 @@ impl<'a, O: Write> Follower<'a, O> {
     // Tells what has ended by silence by now.
     fn tell_silence(&mut self) -> Result<(), TellFault>
         ensures moment { self.new.moment ≡ self.old.moment }
+        ensures told { OnOk result (TellsSome O.contents self.old.teller self.new.teller) }
         ensures ticked { OnOk result (IsTicked self.old.moment self.old.monitor self.new.monitor) }
+        ensures options { self.new.options ≡ self.old.options }
         ensures listings { self.new.listings ≡ self.old.listings }
     {
         let now = self.moment;
@@ -141,6 +151,11 @@ impl<'a, O: Write> Follower<'a, O> {
 
     // Tells what ends by silence at a moment: a stream, or else what the node loses.
     fn tell_end(&mut self, at: u64, is_stream: bool) -> Result<(), TellFault>
+        ensures told { OnOk result (Tells O.contents self.old.teller self.new.teller
+            (if is_stream
+                then loss_told self.old.teller.form self.old.options.universes.now at self.old.contests self.old.monitor
+                else loss_shown self.old.teller.form at (staged self.old.stage))) }
+        ensures options { self.new.options ≡ self.old.options }
         ensures monitor { (self.new.monitor ≡ self.old.monitor) ⊎ (self.new.monitor ≡ after_tick at self.old.monitor) }
         ensures moment { self.new.moment ≡ self.old.moment }
         ensures listings { self.new.listings ≡ self.old.listings }
@@ -195,6 +210,12 @@ impl<'a, O: Write> Follower<'a, O> {
 
     // What a datagram tells.
     fn tell(&mut self, sender: &Sender, octets: &[u8], noted: Noted) -> Result<(), TellFault>
+        ensures told { OnOk result (Tells O.contents self.old.teller self.new.teller
+            (datagram_told self.old.teller.form self.old.options.universes.now self.old.contests self.old.monitor sender.now
+                (list_book self.old.listings) (reading_packet octets.now) noted)) }
+        ensures lists { OnOk result (list_book self.new.listings
+            ≡ lists_after self.old.monitor.moment (reading_packet octets.now) noted (list_book self.old.listings)) }
+        ensures stage { self.new.stage ≡ self.old.stage }
         ensures monitor { self.new.monitor ≡ self.old.monitor }
         ensures moment { self.new.moment ≡ self.old.moment }
         ensures listed { OnOk result (listed_in self.new.listings ≡ after_noted noted (reading_packet octets.now) (listed_in self.old.listings)) }
@@ -207,6 +228,7 @@ impl<'a, O: Write> Follower<'a, O> {
 
     // What a datagram that is no page tells.
     fn tell_noted(&mut self, sender: &Sender, noted: Noted) -> Result<(), TellFault>
+        ensures stage { self.new.stage ≡ self.old.stage }
         ensures told { OnOk result (Tells O.contents self.old.teller self.new.teller
             (noted_told self.old.teller.form self.old.options.universes.now self.old.contests self.old.monitor sender.now noted)) }
         ensures monitor { self.new.monitor ≡ self.old.monitor }
@@ -281,6 +303,11 @@ impl<'a, O: Write> Follower<'a, O> {
 
     // The list of a source, where it is another one than before.
     fn tell_page(&mut self, octets: &[u8]) -> Result<(), TellFault>
+        ensures told { OnOk result (Tells O.contents self.old.teller self.new.teller
+            (page_told self.old.teller.form self.old.monitor.moment (reading_packet octets.now) (list_book self.old.listings))) }
+        ensures lists { OnOk result (list_book self.new.listings
+            ≡ books.after_read self.old.monitor.moment (reading_packet octets.now) (list_book self.old.listings)) }
+        ensures stage { self.new.stage ≡ self.old.stage }
         ensures monitor { self.new.monitor ≡ self.old.monitor }
         ensures moment { self.new.moment ≡ self.old.moment }
         ensures listed { OnOk result (listed_in self.new.listings ≡ after_reading (reading_packet octets.now) (listed_in self.old.listings)) }
@@ -325,7 +352,11 @@ impl<'a, O: Write> Follower<'a, O> {
     }
 
     // The first moment at which the node loses a source; `u64::MAX` where there is none.
-    fn next_dark(&self) -> u64 {
+    fn next_dark(&self) -> u64
+        ensures never { IfNone self.now.stage (result ≡ 2 ^ 64 - 1) }
+        ensures asleep { IfSome self.now.stage (λ s. (t : ℕ) → t < result → core_lost t s.core.core ≡ 0) }
+        ensures awake { IfSome self.now.stage (λ s. result < 2 ^ 64 - 1 → 1 ≤ core_lost result s.core.core) }
+    {
         match &self.stage {
             Some(stage) => stage.wakes(),
             None => u64::MAX,
@@ -334,7 +365,10 @@ impl<'a, O: Write> Follower<'a, O> {
 
     // The frames of the node, where a source is lost at a moment.
     fn show_dark(&mut self, at: u64) -> Result<(), TellFault>
-        ensures told { OnOk result (Tells O.contents self.old.teller self.new.teller (stage_told self.old.teller.form at Lost self.old.stage)) }
+        ensures told { OnOk result (Tells O.contents self.old.teller self.new.teller
+            (loss_shown self.old.teller.form at (staged self.old.stage))) }
+        ensures stage { OnOk result (staged self.new.stage ≡ after_loss at (staged self.old.stage)) }
+        ensures options { self.new.options ≡ self.old.options }
         ensures monitor { self.new.monitor ≡ self.old.monitor }
         ensures moment { self.new.moment ≡ self.old.moment }
         ensures listings { self.new.listings ≡ self.old.listings }
@@ -347,6 +381,10 @@ impl<'a, O: Write> Follower<'a, O> {
 
     // The frames of the node after a datagram.
     fn show_turn(&mut self, octets: &[u8], noted: Noted) -> Result<(), TellFault>
+        ensures told { OnOk result (Tells O.contents self.old.teller self.new.teller
+            (turn_shown self.old.teller.form self.old.monitor.moment octets.now
+                (cause_among self.old.monitor.streams noted) (staged self.old.stage))) }
+        ensures stage { OnOk result (staged self.new.stage ≡ after_turn self.old.monitor.moment octets.now (staged self.old.stage)) }
         ensures monitor { self.new.monitor ≡ self.old.monitor }
         ensures moment { self.new.moment ≡ self.old.moment }
         ensures listings { self.new.listings ≡ self.old.listings }
@@ -365,7 +403,8 @@ impl<'a, O: Write> Follower<'a, O> {
 
 // The earlier of two moments, where it is no later than now; the last moment of all never comes.
 fn end_by(now: u64, lost: u64, dark: u64) -> Option<u64>
-    ensures { IfSome result (λ at. at ≤ now) }
+    ensures end { result ≡ end_by now lost dark }
+    ensures past { IfSome result (λ at. at ≤ now) }
 {
     let at = lost.min(dark);
     if (now < at) | (at == u64::MAX) {

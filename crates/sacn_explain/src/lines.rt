@@ -1,7 +1,8 @@
 //! Lines of universes, lists and frames.
 
 ghost use Rattle.std.specs.Prelude.{◌≡◌, ◌++◌, OnOk, string_bytes};
-ghost use Rattle.sacn_explain.specs.Lines.{frame_line, list_words, listed_member, listed_ranges, listing_line, port_text, rivals_key, rivals_line, rivals_words, slot_digits, slots_member};
+ghost use Rattle.sacn_explain.specs.Causes.{reason_of};
+ghost use Rattle.sacn_explain.specs.Lines.{frame_line, kept_list, list_words, listed_member, listed_ranges, listing_line, port_text, rivals_key, rivals_line, rivals_words, slot_digits, slots_member};
 ghost use Rattle.sacn_explain.specs.Members.{source_members};
 ghost use Rattle.sacn_explain.specs.Sentences.{source_text};
 
@@ -74,7 +75,7 @@ pub fn listing_line(
     event: &str,
     listing: &Listing,
 ) -> Result<(), AllocError>
-    ensures { OnOk result (string_bytes text.new ≡ string_bytes text.old ++ listing_line form now event.now listing.now) }
+    ensures { OnOk result (string_bytes text.new ≡ string_bytes text.old ++ listing_line form now event.now (kept_list listing.now)) }
 {
     match form {
         Form::Text => {
@@ -117,7 +118,7 @@ pub fn push_source_members(text: &mut String, listing: &Listing) -> Result<(), A
 }
 
 fn push_listed(text: &mut String, listing: &Listing) -> Result<(), AllocError>
-    ensures { OnOk result (string_bytes text.new ≡ string_bytes text.old ++ listed_ranges listing.now.universes) }
+    ensures { OnOk result (string_bytes text.new ≡ string_bytes text.old ++ listed_ranges (kept_list listing.now).universes) }
 {
     match &listing.universes {
         Some(universes) => push_ranges(text, universes.as_slice()),
@@ -126,7 +127,7 @@ fn push_listed(text: &mut String, listing: &Listing) -> Result<(), AllocError>
 }
 
 fn push_listed_member(text: &mut String, listing: &Listing) -> Result<(), AllocError>
-    ensures { OnOk result (string_bytes text.new ≡ string_bytes text.old ++ listed_member listing.now.universes) }
+    ensures { OnOk result (string_bytes text.new ≡ string_bytes text.old ++ listed_member (kept_list listing.now).universes) }
 {
     match &listing.universes {
         Some(universes) => push_numbers(text, "universes", universes.as_slice()),
@@ -142,7 +143,7 @@ pub fn frame_line(
     shown: &PortShown,
     cause: &Cause<'_>,
 ) -> Result<(), AllocError>
-    ensures { OnOk result (string_bytes text.new ≡ string_bytes text.old ++ frame_line form now shown.now cause.now) }
+    ensures { OnOk result (string_bytes text.new ≡ string_bytes text.old ++ frame_line form now shown.now (reason_of cause.now)) }
 {
     let port = shown.port;
     match form {

@@ -1,10 +1,13 @@
 //! The universes that sources list (E1.31, 8).
 
-ghost use Rattle.std.specs.Prelude.{◌≡◌, ◌++◌, ◌∷◌, [], IfOk, OnOk, length, if◌then◌else◌};
+ghost use Rattle.std.specs.Prelude.{◌≡◌, ◌<◌, ◌++◌, ◌∷◌, [], IfOk, OnOk, Some, length, map, slice_get, if◌then◌else◌};
 ghost use Rattle.std.specs.Str.{bytes_eq};
 ghost use Rattle.std.specs.List.{list_any, position};
 ghost use Rattle.std.specs.Option.{option_map};
 ghost use Rattle.sacn_explain.specs.Lists.{is_heard, silent, is_unlisted, unlisted};
+ghost use Rattle.sacn_explain.specs.Lines.{kept_list};
+ghost use Rattle.sacn_explain.specs.ListBooks.{after_heard, after_list, heard_news, list_at, list_book, list_news, news_in, news_of, page_news, put_list, with_list, with_source};
+ghost use Rattle.sacn_explain.specs.ListBooks as books;
 ghost use Rattle.sacn_explain.specs.KeptLists.{after_page, collected, is_read, listed_in, listing_of, none_listed};
 
 use sacn_discovery::{Collector, DiscoveryFault};
@@ -85,7 +88,8 @@ impl Listings {
 
     /// The list of a source.
     pub fn of(&self, cid: &[u8; 16]) -> Option<&Listing>
-        ensures { option_map (λ l. l.now) result ≡ listing_of cid.now self.now }
+        ensures listing { option_map (λ l. l.now) result ≡ listing_of cid.now self.now }
+        ensures kept { option_map (λ l. kept_list l.now) result ≡ list_at cid.now (list_book self.now) }
     {
         match self.place_of(cid) {
             Some(place) => self.known.get(place),
@@ -97,6 +101,8 @@ impl Listings {
     ///
     /// Errors: OutOfMemory.
     pub fn take(&mut self, now: u64, page: &PageView<'_>) -> Result<PageNews, DiscoveryFault>
+        ensures news { IfOk result (λ news. news ≡ page_news now page.now (list_book self.old)) }
+        ensures book { OnOk result (list_book self.new ≡ books.after_page now page.now (list_book self.old)) }
         ensures listed { OnOk result (listed_in self.new ≡ after_page page.now.cid (listed_in self.old)) }
         ensures collector { OnOk result (self.new.collector ≡ (if is_read page.now.cid (listed_in self.old) then collected now page.now self.old.collector else self.old.collector)) }
     {
@@ -119,6 +125,7 @@ impl Listings {
         self.sources.iter().any(|source| *source == *cid)
     }
 
+    // Its place.
     fn place_of(&self, cid: &[u8; 16]) -> Option<usize>
         ensures { result ≡ position (λ source. bytes_eq source cid.now) self.now.sources.items }
     {
@@ -130,6 +137,7 @@ impl Listings {
         ensures sources { OnOk result ((listed_in self.new).sources ≡ (listed_in self.old).sources ++ cid ∷ []) }
         ensures passed { self.new.passed ≡ self.old.passed }
         ensures collector { self.new.collector ≡ self.old.collector }
+        ensures book { OnOk result (list_book self.new ≡ with_source cid (list_book self.old)) }
     {
         let listing = Listing {
             cid,
@@ -143,21 +151,54 @@ impl Listings {
 
     // A page of a source that is known.
     fn collect(&mut self, now: u64, page: &PageView<'_>) -> Result<PageNews, DiscoveryFault>
+        ensures news { IfOk result (λ news. news ≡ heard_news now page.now (list_book self.old)) }
+        ensures book { OnOk result (list_book self.new ≡ after_heard now page.now (list_book self.old)) }
         ensures listed { listed_in self.new ≡ listed_in self.old }
         ensures collector { OnOk result (self.new.collector ≡ collected now page.now self.old.collector) }
     {
         self.collector.take(now, page)?;
-        let Some(universes) = self.collector.list_of(now, &page.cid())? else {
-            return Ok(PageNews::Nothing);
-        };
-        let Some(place) = self.place_of(&page.cid()) else {
-            return Ok(PageNews::Nothing);
-        };
-        match self.known.get_mut(place) {
-            Some(listing) => listing.keep(self.alloc, page.name(), universes),
+        let cid = page.cid();
+        match self.collector.list_of(now, &cid)? {
+            Some(universes) => self.keep(&cid, page.name(), universes),
             None => Ok(PageNews::Nothing),
         }
     }
+
+    // A whole list of a source that is known.
+    fn keep(
+        &mut self,
+        cid: &[u8; 16],
+        name: &[u8],
+        universes: Vec<u16>,
+    ) -> Result<PageNews, DiscoveryFault>
+        ensures news { IfOk result (λ news. news ≡ news_in cid.now (Some universes.items) (list_book self.old)) }
+        ensures book { OnOk result (list_book self.new ≡ after_list cid.now name.now (Some universes.items) (list_book self.old)) }
+        ensures listed { listed_in self.new ≡ listed_in self.old }
+        ensures collector { self.new.collector ≡ self.old.collector }
+    {
+        match self.place_of(cid) {
+            Some(place) => keep_at(self.alloc, &mut self.known, place, name, universes),
+            None => Ok(PageNews::Nothing),
+        }
+    }
+}
+
+// A whole list of the source at a place.
+fn keep_at(
+    alloc: Global,
+    known: &mut [Listing],
+    place: usize,
+    name: &[u8],
+    universes: Vec<u16>,
+) -> Result<PageNews, DiscoveryFault>
+    ensures news { IfOk result (λ news. news ≡ news_of universes.items (slice_get (map kept_list known.old) place)) }
+    ensures lists { OnOk result (map kept_list known.new
+        ≡ put_list name.now universes.items place (map kept_list known.old) (slice_get (map kept_list known.old) place)) }
+{
+    if place >= known.len() {
+        return Ok(PageNews::Nothing);
+    }
+    known[place].keep(alloc, name, universes)
 }
 
 impl Listing {
@@ -168,7 +209,9 @@ impl Listing {
         name: &[u8],
         universes: Vec<u16>,
     ) -> Result<PageNews, DiscoveryFault>
-        ensures { self.new.cid ≡ self.old.cid }
+        ensures cid { self.new.cid ≡ self.old.cid }
+        ensures news { IfOk result (λ news. news ≡ list_news (kept_list self.old).universes universes.items) }
+        ensures list { OnOk result (kept_list self.new ≡ with_list name.now universes.items (kept_list self.old)) }
     {
         let news = match &self.universes {
             None => PageNews::Appears,

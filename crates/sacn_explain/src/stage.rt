@@ -5,6 +5,7 @@ ghost use Rattle.sacn_node.specs.Calls.{step, Take, Tick};
 ghost use Rattle.sacn_node.specs.Cores.{new_node, core_at, core_lost};
 ghost use Rattle.sacn_node.specs.Setup.{port_numbers};
 ghost use Rattle.sacn_edge.specs.PortLines.{port_after, port_text, ports_text, unshown};
+ghost use Rattle.sacn_explain.specs.Causes.{reason_of};
 ghost use Rattle.sacn_explain.specs.Shows.{frame_told, frames_told, port_told, start_told, started_node};
 ghost use Rattle.sacn_explain.specs.Staging.{may_change_frames};
 ghost use Rattle.sacn_explain.specs.Tellings.{Tells};
@@ -71,7 +72,7 @@ impl Stage {
     ) -> Result<(), TellFault>
         ensures core { self.new.core ≡ step (Tick now) self.old.core }
         ensures ports { OnOk result (self.new.ports.items ≡ map (port_after self.new.core) self.old.ports.items) }
-        ensures told { OnOk result (Tells O.contents teller.old teller.new (frames_told teller.old.form now cause.now self.new.core self.old.ports.items)) }
+        ensures told { OnOk result (Tells O.contents teller.old teller.new (frames_told teller.old.form now (reason_of cause.now) self.new.core self.old.ports.items)) }
     {
         self.core.tick(now);
         let ports = self.ports.as_mut_slice();
@@ -106,7 +107,7 @@ fn show_ports<O: Write>(
     requires settled { core_at now core.old.core ≡ core.old.core }
     ensures core { core.new ≡ core.old }
     ensures ports { OnOk result (ports.new ≡ map (port_after core.old) ports.old) }
-    ensures told { OnOk result (Tells O.contents teller.old teller.new (frames_told teller.old.form now cause.now core.old ports.old)) }
+    ensures told { OnOk result (Tells O.contents teller.old teller.new (frames_told teller.old.form now (reason_of cause.now) core.old ports.old)) }
 {
     for shown in ports.iter_mut() {
         show_port(alloc, core, now, cause, shown, teller)?;
@@ -126,7 +127,7 @@ fn show_port<O: Write>(
     requires settled { core_at now core.old.core ≡ core.old.core }
     ensures core { core.new ≡ core.old }
     ensures shown { OnOk result (shown.new ≡ port_after core.old shown.old) }
-    ensures told { OnOk result (Tells O.contents teller.old teller.new (port_told teller.old.form now cause.now core.old shown.old)) }
+    ensures told { OnOk result (Tells O.contents teller.old teller.new (port_told teller.old.form now (reason_of cause.now) core.old shown.old)) }
 {
     let line = line_of_port(alloc, core, now, shown)?;
     tell_frame(now, shown, cause, line.as_slice(), teller)
@@ -140,7 +141,7 @@ fn tell_frame<O: Write>(
     line: &[u8],
     teller: &mut Teller<'_, O>,
 ) -> Result<(), TellFault>
-    ensures { OnOk result (Tells O.contents teller.old teller.new (frame_told teller.old.form now cause.now shown.now line.now)) }
+    ensures { OnOk result (Tells O.contents teller.old teller.new (frame_told teller.old.form now (reason_of cause.now) shown.now line.now)) }
 {
     if line.is_empty() {
         return Ok(());

@@ -1,7 +1,8 @@
 //! Lines as they are written.
 
 ghost use Rattle.std.specs.Prelude.{◌≡◌, ◌++◌, [], OnOk, nat_lt, string_bytes, codes};
-ghost use Rattle.sacn_explain.specs.Lines.{frame_line, listing_line, rivals_line};
+ghost use Rattle.sacn_explain.specs.Causes.{reason_of};
+ghost use Rattle.sacn_explain.specs.Lines.{frame_line, kept_list, listing_line, rivals_line};
 ghost use Rattle.sacn_explain.specs.PacketLines.{anew_line, loss_line, moved_line, refused_line, renamed_line, skipped_line, untracked_line};
 
 use crate::cause::Cause;
@@ -182,7 +183,7 @@ impl<'o, O: Write> Teller<'o, O> {
         event: &str,
         listing: &Listing,
     ) -> Result<(), TellFault>
-        ensures { OnOk result (Tells O.contents self.old self.new (ended (listing_line self.old.form now event.now listing.now))) }
+        ensures { OnOk result (Tells O.contents self.old self.new (ended (listing_line self.old.form now event.now (kept_list listing.now)))) }
     {
         listing_line(&mut self.line, self.form, now, event, listing)?;
         self.write()
@@ -196,7 +197,7 @@ impl<'o, O: Write> Teller<'o, O> {
         cause: &Cause<'_>,
         line: &[u8],
     ) -> Result<(), TellFault>
-        ensures { OnOk result (Tells O.contents self.old self.new (ended (frame_line self.old.form now shown.now cause.now) ++ shown_in self.old.form line.now)) }
+        ensures { OnOk result (Tells O.contents self.old self.new (ended (frame_line self.old.form now shown.now (reason_of cause.now)) ++ shown_in self.old.form line.now)) }
     {
         frame_line(&mut self.line, self.form, now, shown, cause)?;
         self.write()?;

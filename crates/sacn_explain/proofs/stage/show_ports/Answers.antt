@@ -4,6 +4,7 @@ use Rattle.std.proofs.lemmas.List.Edits.{map_over_more}
 use Rattle.sacn_edge.specs.PortLines.{port_after}
 use Rattle.sacn_edge.proofs.PortLineLemmas.{next_read, no_port}
 use Rattle.sacn_node.specs.Cores.{Node, core_at}
+use Rattle.sacn_explain.specs.Causes.{reason_of}
 use Rattle.sacn_explain.proofs.Showing.{one_port_more}
 use Rattle.sacn_explain.proofs.stage.show_ports.Goals as goal
 
@@ -22,7 +23,7 @@ loop-shown-preserved g c =
     record {
       core = ok.core ∙ core;
       ports = ap (set ys i) written ∙ map_over_more (port_after n) ss ys i (get_or ys i no_port) within c.loop-shown.invariant.ports (get_or_default ys i no_port (get_or ys i no_port) inside);
-      told = one_port_more {O = g.row.O.Denot} g.O.Write.contents c.args.teller.now c.loop-shown.teller c.show_port.new.teller c.args.now c.args.cause.now n c.loop-shown.core ss i (get_or ys i no_port) within
+      told = one_port_more {O = g.row.O.Denot} g.O.Write.contents c.args.teller.now c.loop-shown.teller c.show_port.new.teller c.args.now (reason_of c.args.cause.now) n c.loop-shown.core ss i (get_or ys i no_port) within
           core next c.loop-shown.invariant.told ok.told;
     }
 

@@ -1,4 +1,5 @@
 use Rattle.std.proofs.Common.{◌≡◌}
+use Rattle.sacn_explain.specs.Datagrams.{TellsSome}
 use Rattle.sacn_explain.specs.Following.{IsTicked}
 use Rattle.sacn_explain.proofs.follower.Follower.tell_silence.Given as goal
 
@@ -8,5 +9,7 @@ invariant-loop g l = record {
   now : l.now ≡ l.fn.self.moment;
   moment : l.self.moment ≡ l.fn.self.moment;
   listings : l.self.listings ≡ l.fn.self.listings;
+  options : l.self.options ≡ l.fn.self.options;
+  told : TellsSome {O = g.row.O.Denot} g.O.Write.contents l.fn.self.teller l.self.teller;
   ticked : IsTicked l.now l.fn.self.monitor l.self.monitor;
 }

@@ -1,0 +1,77 @@
+-- What a follower tells in its calls.
+use Rattle.std.proofs.Common.{◌≡◌, ℕ, List, [], ◌++◌, Option, Result, ap, subst, ◌∙◌}
+use Rattle.sacn_root.specs.declared.fault.PacketFault.{PacketFault}
+use Rattle.sacn_framing.specs.declared.packet.Packet.{Packet}
+use Rattle.sacn_framing.specs.PacketReading.{reading_packet}
+use Rattle.sacn_monitor.specs.declared.account.Sender.{Sender}
+use Rattle.sacn_monitor.specs.declared.news.Noted.{Noted}
+use Rattle.sacn_monitor.specs.Books.{Book, after_take, noted}
+use Rattle.sacn_explain.specs.declared.contests.Contests.{Contests}
+use Rattle.sacn_explain.specs.declared.follower.Follower.{Follower}
+use Rattle.sacn_explain.specs.declared.listings.Listings.{Listings}
+use Rattle.sacn_explain.specs.declared.options.Form.{Form}
+use Rattle.sacn_explain.specs.declared.stage.Stage.{Stage}
+use Rattle.sacn_explain.specs.declared.teller.Teller.{Teller}
+use Rattle.sacn_explain.specs.Causes.{cause_among}
+use Rattle.sacn_explain.specs.Datagrams.{TellsSome, TellsTurn, datagram_told}
+use Rattle.sacn_explain.specs.Following.{IsTicked}
+use Rattle.sacn_explain.specs.ListBooks.{ListBook, list_book}
+use Rattle.sacn_explain.specs.Shows.{Staged, after_turn, staged, turn_shown}
+use Rattle.sacn_explain.specs.Tellings.{Tells}
+use Rattle.sacn_explain.proofs.Telling.{both, nothing}
+
+-- the same texts
+same_datagram : (sender : Sender) (r : Result Packet PacketFault) (contests : Contests) (f g : Form) (v w : List ℕ) (b c : Book) (l m : ListBook) (n k : Noted) → f ≡ g → v ≡ w → b ≡ c → l ≡ m → n ≡ k
+    → datagram_told f v contests b sender l r n ≡ datagram_told g w contests c sender m r k
+same_datagram sender r contests f g v w b c l m n k form wanted book lists noted_as =
+    ap (λ (x : Form). datagram_told x v contests b sender l r n) form
+    ∙ ap (λ (x : List ℕ). datagram_told g x contests b sender l r n) wanted
+    ∙ ap (λ (x : Book). datagram_told g w contests x sender l r n) book
+    ∙ ap (λ (x : ListBook). datagram_told g w contests c sender x r n) lists
+    ∙ ap (λ (x : Noted). datagram_told g w contests c sender m r x) noted_as
+
+same_shown : (octets : List ℕ) (f g : Form) (b c : Book) (n k : Noted) (s t : Option Staged) → f ≡ g → b ≡ c → n ≡ k → s ≡ t
+    → turn_shown f b.moment octets (cause_among b.streams n) s ≡ turn_shown g c.moment octets (cause_among c.streams k) t
+same_shown octets f g b c n k s t form book noted_as stage =
+    ap (λ (x : Form). turn_shown x b.moment octets (cause_among b.streams n) s) form
+    ∙ ap (λ (x : Book). turn_shown g x.moment octets (cause_among x.streams n) s) book
+    ∙ ap (λ (x : Noted). turn_shown g c.moment octets (cause_among c.streams x) s) noted_as
+    ∙ ap (λ (x : Option Staged). turn_shown g c.moment octets (cause_among c.streams k) x) stage
+
+module _ {O : Type 0} (contents : O → Option (List ℕ)) where
+  -- some lines, and then others
+  pub some_more : (a b c : Teller O) (next : List ℕ) → TellsSome contents a b → Tells contents b c next → TellsSome contents a c
+  some_more a b c next some told = (some.0 ++ next, both {O = O} contents a b c some.0 next some.1 told)
+
+  pub none_more : (a : Teller O) → TellsSome contents a a
+  none_more a = ([], nothing {O = O} contents a)
+
+  -- a datagram, once what ended by then was told
+  pub turn_told : (t m : ℕ) (sender : Sender) (octets : List ℕ) (old ticked said new : Follower O) (n : Noted) (book : Book) → m ≡ t → IsTicked t old.monitor ticked.monitor
+      → TellsSome contents old.teller ticked.teller → ticked.options ≡ old.options → ticked.listings ≡ old.listings
+      → n ≡ noted m sender octets ticked.monitor → book ≡ after_take m sender octets ticked.monitor
+      → Tells contents ticked.teller said.teller (datagram_told ticked.teller.form ticked.options.universes.now ticked.contests book sender (list_book ticked.listings) (reading_packet octets) n)
+      → said.stage ≡ ticked.stage → said.monitor ≡ book
+      → Tells contents said.teller new.teller (turn_shown said.teller.form said.monitor.moment octets (cause_among said.monitor.streams n) (staged said.stage))
+      → staged new.stage ≡ after_turn said.monitor.moment octets (staged said.stage) → TellsTurn contents t sender octets old new
+  turn_told t m sender octets old ticked said new n book moment by some options listings noted_is book_is tells stage monitor shows after =
+      let noted_as = noted_is ∙ ap (λ (k : ℕ). noted k sender octets ticked.monitor) moment in
+      let book_as = book_is ∙ ap (λ (k : ℕ). after_take k sender octets ticked.monitor) moment in
+      let first = same_datagram sender (reading_packet octets) ticked.contests ticked.teller.form old.teller.form ticked.options.universes.now old.options.universes.now
+          book (after_take t sender octets ticked.monitor) (list_book ticked.listings) (list_book old.listings) n (noted t sender octets ticked.monitor)
+          some.1.form (ap (λ o. o.universes.now) options) book_as (ap list_book listings) noted_as in
+      let then = same_shown octets said.teller.form old.teller.form said.monitor (after_take t sender octets ticked.monitor) n (noted t sender octets ticked.monitor) (staged said.stage) (staged ticked.stage)
+          (tells.form ∙ some.1.form) (monitor ∙ book_as) noted_as (ap staged stage) in
+      record {
+        ended = some.0;
+        contests = ticked.contests;
+        book = ticked.monitor;
+        stage = staged ticked.stage;
+        ticked = by;
+        told = both {O = O} contents old.teller ticked.teller new.teller some.0 _ some.1
+            (both {O = O} contents ticked.teller said.teller new.teller _ _
+            (subst (λ (text : List ℕ). Tells {O = O} contents ticked.teller said.teller text) first tells)
+            (subst (λ (text : List ℕ). Tells {O = O} contents said.teller new.teller text) then shows));
+        staged_after = after ∙ ap (λ (b : Book). after_turn b.moment octets (staged said.stage)) (monitor ∙ book_as)
+            ∙ ap (after_turn (after_take t sender octets ticked.monitor).moment octets) (ap staged stage);
+      }
