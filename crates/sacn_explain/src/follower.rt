@@ -6,15 +6,15 @@ ghost use Rattle.sacn_monitor.specs.Books.{new_book, after_tick};
 ghost use Rattle.sacn_node.specs.Cores.{core_lost};
 ghost use Rattle.sacn_explain.specs.Causes.{cause_among};
 ghost use Rattle.sacn_explain.specs.Contests.{is_noted};
-ghost use Rattle.sacn_explain.specs.Datagrams.{TellsSome, TellsTurn, datagram_told, lists_after};
+ghost use Rattle.sacn_explain.specs.Datagrams.{TellsTurn, datagram_told, lists_after};
 ghost use Rattle.sacn_explain.specs.Faults.{IsOfTelling};
 ghost use Rattle.sacn_explain.specs.Following.{IsTicked, IsTaken};
-ghost use Rattle.sacn_explain.specs.Occurrences.{is_contested, loss_told, noted_told, packet_told, rivals_told, stirred_told};
+ghost use Rattle.sacn_explain.specs.Occurrences.{is_contested, loss_told, lost_stream, noted_told, packet_told, rivals_told, stirred_told};
 ghost use Rattle.sacn_explain.specs.ListBooks as books;
 ghost use Rattle.sacn_explain.specs.ListBooks.{list_book, page_told};
 ghost use Rattle.sacn_explain.specs.KeptLists.{after_noted, after_reading, listed_in, none_listed};
 ghost use Rattle.sacn_explain.specs.Shows.{after_loss, after_turn, loss_shown, staged, turn_shown};
-ghost use Rattle.sacn_explain.specs.Silences.{end_by};
+ghost use Rattle.sacn_explain.specs.Silences.{Leaves, TellsSilence, end_by, end_told, noted_lost, scene_of};
 ghost use Rattle.sacn_explain.specs.Tables.{tables_told};
 ghost use Rattle.sacn_explain.specs.Tellings.{Tells};
 
@@ -114,7 +114,7 @@ impl<'a, O: Write> Follower<'a, O> {
     /// Errors: OutOfMemory; Device where a line can't be written.
     pub fn tick(&mut self, now: u64) -> Result<(), ExplainFault>
         ensures moment { self.new.moment ≡ max self.old.moment now }
-        ensures told { OnOk result (TellsSome O.contents self.old.teller self.new.teller) }
+        ensures told { OnOk result (TellsSilence O.contents (max self.old.moment now) self.old self.new) }
         ensures ticked { OnOk result (IsTicked (max self.old.moment now) self.old.monitor self.new.monitor) }
         ensures options { self.new.options ≡ self.old.options }
         ensures listings { self.new.listings ≡ self.old.listings }
@@ -131,7 +131,7 @@ impl<'a, O: Write> Follower<'a, O> {
     // Tells what has ended by silence by now.
     fn tell_silence(&mut self) -> Result<(), TellFault>
         ensures moment { self.new.moment ≡ self.old.moment }
-        ensures told { OnOk result (TellsSome O.contents self.old.teller self.new.teller) }
+        ensures told { OnOk result (TellsSilence O.contents self.old.moment self.old self.new) }
         ensures ticked { OnOk result (IsTicked self.old.moment self.old.monitor self.new.monitor) }
         ensures options { self.new.options ≡ self.old.options }
         ensures listings { self.new.listings ≡ self.old.listings }
@@ -152,9 +152,8 @@ impl<'a, O: Write> Follower<'a, O> {
     // Tells what ends by silence at a moment: a stream, or else what the node loses.
     fn tell_end(&mut self, at: u64, is_stream: bool) -> Result<(), TellFault>
         ensures told { OnOk result (Tells O.contents self.old.teller self.new.teller
-            (if is_stream
-                then loss_told self.old.teller.form self.old.options.universes.now at self.old.contests self.old.monitor
-                else loss_shown self.old.teller.form at (staged self.old.stage))) }
+            (end_told self.old.teller.form self.old.options.universes.now at is_stream (scene_of self.old))) }
+        ensures left { OnOk result (Leaves self.old.options.universes.now at is_stream (scene_of self.old) (scene_of self.new)) }
         ensures options { self.new.options ≡ self.old.options }
         ensures monitor { (self.new.monitor ≡ self.old.monitor) ⊎ (self.new.monitor ≡ after_tick at self.old.monitor) }
         ensures moment { self.new.moment ≡ self.old.moment }
@@ -331,6 +330,8 @@ impl<'a, O: Write> Follower<'a, O> {
     fn tell_loss(&mut self, at: u64) -> Result<(), TellFault>
         ensures told { OnOk result (Tells O.contents self.old.teller self.new.teller
             (loss_told self.old.teller.form self.old.options.universes.now at self.old.contests self.old.monitor)) }
+        ensures noted { OnOk result ((u : ℕ) → is_noted u self.new.contests
+            ≡ noted_lost u self.old.options.universes.now self.old.contests (after_tick at self.old.monitor) (lost_stream at self.old.monitor)) }
         ensures monitor { self.new.monitor ≡ after_tick at self.old.monitor }
         ensures options { self.new.options ≡ self.old.options }
         ensures stage { self.new.stage ≡ self.old.stage }
@@ -368,6 +369,7 @@ impl<'a, O: Write> Follower<'a, O> {
         ensures told { OnOk result (Tells O.contents self.old.teller self.new.teller
             (loss_shown self.old.teller.form at (staged self.old.stage))) }
         ensures stage { OnOk result (staged self.new.stage ≡ after_loss at (staged self.old.stage)) }
+        ensures contests { self.new.contests ≡ self.old.contests }
         ensures options { self.new.options ≡ self.old.options }
         ensures monitor { self.new.monitor ≡ self.old.monitor }
         ensures moment { self.new.moment ≡ self.old.moment }
