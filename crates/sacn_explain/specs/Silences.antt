@@ -1,7 +1,8 @@
 -- What ends by silence, when, and what is told of it.
-use Rattle.std.specs.Prelude.{◌≡◌, ◌≤◌, ℕ, ◌-◌, ◌^◌, ◌==◌, Bool, ◌&&◌, min, nat_le, nat_lt, Option, None, Some, List, [], ◌∷◌, ◌++◌, if◌then◌else◌}
+use Rattle.std.specs.Prelude.{◌≡◌, ◌≤◌, ◌<◌, ℕ, IfSome, ◌-◌, ◌^◌, ◌==◌, Bool, ◌&&◌, min, nat_le, nat_lt, Option, None, Some, List, [], ◌∷◌, ◌++◌, if◌then◌else◌}
 use Rattle.sacn_monitor.specs.declared.stream.Stream.{Stream}
-use Rattle.sacn_monitor.specs.Books.{Book, after_tick}
+use Rattle.sacn_monitor.specs.Books.{Book, after_tick, next_loss}
+use Rattle.sacn_node.specs.Cores.{core_lost}
 use Rattle.sacn_explain.specs.declared.contests.Contests.{Contests}
 use Rattle.sacn_explain.specs.declared.follower.Follower.{Follower}
 use Rattle.sacn_explain.specs.declared.options.Form.{Form}
@@ -57,3 +58,11 @@ pub record TellsSilence {O : Type 0} (contents : O → Option (List ℕ)) (t : �
   pub text : List ℕ
   pub told : Tells contents old.teller new.teller text
   pub are : AreEnds old.teller.form old.options.universes.now t ends (scene_of old) (scene_of new) text
+
+-- no stream ends by t whose loss is still to be told, and the node has lost no source by then that it holds
+abbrev pub IsQuiet : {O : Type 0} → ℕ → Follower O → Type 0
+IsQuiet t f = (m : ℕ) → m ≤ t → m < 2 ^ 64 - 1 → (m < next_loss f.monitor.streams) × IfSome f.stage (λ s. core_lost m s.core.core ≡ 0)
+
+-- the same of what a datagram then finds
+abbrev pub IsStill : ℕ → Scene → Type 0
+IsStill t s = (m : ℕ) → m ≤ t → m < 2 ^ 64 - 1 → (m < next_loss s.book.streams) × IfSome s.stage (λ staged. core_lost m staged.node.core ≡ 0)

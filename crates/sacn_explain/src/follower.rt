@@ -14,7 +14,7 @@ ghost use Rattle.sacn_explain.specs.ListBooks as books;
 ghost use Rattle.sacn_explain.specs.ListBooks.{list_book, page_told};
 ghost use Rattle.sacn_explain.specs.KeptLists.{after_noted, after_reading, listed_in, none_listed};
 ghost use Rattle.sacn_explain.specs.Shows.{after_loss, after_turn, loss_shown, staged, turn_shown};
-ghost use Rattle.sacn_explain.specs.Silences.{Leaves, TellsSilence, end_by, end_told, noted_lost, scene_of};
+ghost use Rattle.sacn_explain.specs.Silences.{IsQuiet, Leaves, TellsSilence, end_by, end_told, noted_lost, scene_of};
 ghost use Rattle.sacn_explain.specs.Tables.{tables_told};
 ghost use Rattle.sacn_explain.specs.Tellings.{Tells};
 
@@ -115,6 +115,7 @@ impl<'a, O: Write> Follower<'a, O> {
     pub fn tick(&mut self, now: u64) -> Result<(), ExplainFault>
         ensures moment { self.new.moment ≡ max self.old.moment now }
         ensures told { OnOk result (TellsSilence O.contents (max self.old.moment now) self.old self.new) }
+        ensures quiet { self.old.wake ≤ max self.old.moment now → OnOk result (IsQuiet (max self.old.moment now) self.new) }
         ensures ticked { OnOk result (IsTicked (max self.old.moment now) self.old.monitor self.new.monitor) }
         ensures options { self.new.options ≡ self.old.options }
         ensures listings { self.new.listings ≡ self.old.listings }
@@ -132,6 +133,7 @@ impl<'a, O: Write> Follower<'a, O> {
     fn tell_silence(&mut self) -> Result<(), TellFault>
         ensures moment { self.new.moment ≡ self.old.moment }
         ensures told { OnOk result (TellsSilence O.contents self.old.moment self.old self.new) }
+        ensures quiet { OnOk result (IsQuiet self.old.moment self.new) }
         ensures ticked { OnOk result (IsTicked self.old.moment self.old.monitor self.new.monitor) }
         ensures options { self.new.options ≡ self.old.options }
         ensures listings { self.new.listings ≡ self.old.listings }
@@ -142,11 +144,12 @@ impl<'a, O: Write> Follower<'a, O> {
             let dark = self.next_dark();
             let Some(at) = end_by(now, lost, dark) else {
                 self.wake = lost.min(dark).min(now.saturating_add(NETWORK_DATA_LOSS));
-                break;
+                return Ok(());
             };
             self.tell_end(at, lost <= dark)?;
         }
-        Ok(())
+        // No node and no monitor holds so many sources.
+        Err(TellFault::Device)
     }
 
     // Tells what ends by silence at a moment: a stream, or else what the node loses.
@@ -407,6 +410,7 @@ impl<'a, O: Write> Follower<'a, O> {
 fn end_by(now: u64, lost: u64, dark: u64) -> Option<u64>
     ensures end { result ≡ end_by now lost dark }
     ensures past { IfSome result (λ at. at ≤ now) }
+    ensures none { IfNone result ((m : ℕ) → m ≤ now → m < 2 ^ 64 - 1 → (m < lost) × (m < dark)) }
 {
     let at = lost.min(dark);
     if (now < at) | (at == u64::MAX) {
