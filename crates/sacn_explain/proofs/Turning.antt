@@ -1,5 +1,5 @@
 -- What a follower tells in its calls.
-use Rattle.std.proofs.Common.{◌≡◌, ◌≤◌, ℕ, Bool, List, [], ◌∷◌, ◌++◌, Option, None, Some, Result, refl, ap, subst, ◌∙◌}
+use Rattle.std.proofs.Common.{◌≡◌, ◌≤◌, ◌<◌, arith, min, ℕ, Bool, List, [], ◌∷◌, ◌++◌, Option, None, Some, Result, refl, ap, subst, ◌∙◌}
 use Rattle.std.specs.Prelude.{IfSome}
 use Rattle.sacn_node.specs.Cores.{core_lost}
 use Rattle.sacn_root.specs.declared.fault.PacketFault.{PacketFault}
@@ -7,7 +7,7 @@ use Rattle.sacn_framing.specs.declared.packet.Packet.{Packet}
 use Rattle.sacn_framing.specs.PacketReading.{reading_packet}
 use Rattle.sacn_monitor.specs.declared.account.Sender.{Sender}
 use Rattle.sacn_monitor.specs.declared.news.Noted.{Noted}
-use Rattle.sacn_monitor.specs.Books.{Book, after_take, noted}
+use Rattle.sacn_monitor.specs.Books.{Book, after_take, next_loss, noted}
 use Rattle.sacn_explain.specs.declared.contests.Contests.{Contests}
 use Rattle.sacn_explain.specs.declared.follower.Follower.{Follower}
 use Rattle.sacn_explain.specs.declared.listings.Listings.{Listings}
@@ -18,7 +18,7 @@ use Rattle.sacn_explain.specs.Causes.{cause_among}
 use Rattle.sacn_explain.specs.Datagrams.{TellsTurn, datagram_told}
 use Rattle.sacn_explain.specs.ListBooks.{ListBook, list_book}
 use Rattle.sacn_explain.specs.Shows.{Staged, after_turn, staged, turn_shown}
-use Rattle.sacn_explain.specs.Silences.{IsQuiet, Leaves, TellsSilence, end_told, scene_of}
+use Rattle.sacn_explain.specs.Silences.{IsQuiet, IsStillBefore, Leaves, TellsSilence, end_told, scene_of}
 use Rattle.sacn_explain.specs.Tellings.{Tells}
 use Rattle.sacn_explain.proofs.Telling.{both, nothing}
 
@@ -45,25 +45,31 @@ none_lost : (m : ℕ) (o : Option Stage) → IfSome o (λ s. core_lost m s.core.
 none_lost m None none = none
 none_lost m (Some s) none = none
 
+asleep_at : (m dark : ℕ) (o : Option Stage) → m < dark → IfSome o (λ s. (t : ℕ) → t < dark → core_lost t s.core.core ≡ 0) → IfSome (staged o) (λ s. core_lost m s.node.core ≡ 0)
+asleep_at m dark None before asleep = asleep
+asleep_at m dark (Some s) before asleep = asleep m before
+
 module _ {O : Type 0} (contents : O → Option (List ℕ)) where
   -- nothing ended
   pub none_ended : (t : ℕ) (old : Follower O) → TellsSilence contents t old old
   none_ended t old = record { ends = []; text = []; told = nothing {O = O} contents old.teller; are = (refl, refl) }
 
   -- an end more
-  pub one_more_end : (t at : ℕ) (is_stream : Bool) (old mid new : Follower O) → at ≤ t → mid.options ≡ old.options → TellsSilence contents t old mid
+  pub one_more_end : (t at : ℕ) (is_stream : Bool) (lost dark : ℕ) (old mid new : Follower O) → at ≤ t → at ≡ min lost dark → lost ≡ next_loss mid.monitor.streams
+      → IfSome mid.stage (λ s. (m : ℕ) → m < dark → core_lost m s.core.core ≡ 0) → mid.options ≡ old.options → TellsSilence contents t old mid
       → Tells contents mid.teller new.teller (end_told mid.teller.form mid.options.universes.now at is_stream (scene_of mid))
       → Leaves mid.options.universes.now at is_stream (scene_of mid) (scene_of new) → TellsSilence contents t old new
-  one_more_end t at is_stream old mid new by options so_far told leaves =
+  one_more_end t at is_stream lost dark old mid new by first lost_is asleep options so_far told leaves =
       let form = so_far.told.form in
       let wanted = ap (λ o. o.universes.now) options in
       let more = end_told old.teller.form old.options.universes.now at is_stream (scene_of mid) in
       let same = ap (λ (x : Form). end_told x mid.options.universes.now at is_stream (scene_of mid)) form ∙ ap (λ (x : List ℕ). end_told old.teller.form x at is_stream (scene_of mid)) wanted in
+      let still : IsStillBefore at (scene_of mid) = λ m before. (subst (λ (n : ℕ). m < n) lost_is (omega (arith, before, first)), asleep_at m dark mid.stage (omega (arith, before, first)) asleep) in
       record {
         ends = (at, is_stream) ∷ so_far.ends;
         text = so_far.text ++ more;
         told = both {O = O} contents old.teller mid.teller new.teller so_far.text more so_far.told (subst (λ (text : List ℕ). Tells {O = O} contents mid.teller new.teller text) same told);
-        are = (scene_of mid, so_far.text, so_far.are, by, subst (λ (x : List ℕ). Leaves x at is_stream (scene_of mid) (scene_of new)) wanted leaves, refl);
+        are = (scene_of mid, so_far.text, so_far.are, by, still, subst (λ (x : List ℕ). Leaves x at is_stream (scene_of mid) (scene_of new)) wanted leaves, refl);
       }
 
   -- a datagram, once what ended by then was told

@@ -45,11 +45,15 @@ pub record Leaves (wanted : List ℕ) (at : ℕ) (is_stream : Bool) (old new : S
   pub stage : new.stage ≡ (if is_stream then old.stage else after_loss at old.stage)
   pub noted : (u : ℕ) → is_noted u new.contests ≡ noted_ended u wanted at is_stream old
 
--- one end after another, the latest first, each no later than t and each told in its turn
+-- nothing ends before a moment: no stream whose loss is still to be told, and no source that the node holds
+abbrev pub IsStillBefore : ℕ → Scene → Type 0
+IsStillBefore at s = (m : ℕ) → m < at → (m < next_loss s.book.streams) × IfSome s.stage (λ staged. core_lost m staged.node.core ≡ 0)
+
+-- one end after another, the latest first, each no later than t and each told in its turn, when nothing ends before it
 abbrev pub AreEnds : Form → List ℕ → ℕ → List (ℕ × Bool) → Scene → Scene → List ℕ → Type 0
 AreEnds form wanted t [] old new text = (new ≡ old) × (text ≡ [])
 AreEnds form wanted t (end ∷ earlier) old new text =
-    (mid : Scene) × (before : List ℕ) × AreEnds form wanted t earlier old mid before × (end.0 ≤ t) × Leaves wanted end.0 end.1 mid new
+    (mid : Scene) × (before : List ℕ) × AreEnds form wanted t earlier old mid before × (end.0 ≤ t) × IsStillBefore end.0 mid × Leaves wanted end.0 end.1 mid new
     × (text ≡ before ++ end_told form wanted end.0 end.1 mid)
 
 -- a call told what ended by t, and nothing else

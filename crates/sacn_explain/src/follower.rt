@@ -1,6 +1,6 @@
 //! What happens, told as it happens.
 
-ghost use Rattle.std.specs.Prelude.{◌≡◌, ◌==◌, ◌<◌, ◌≤◌, ◌⊎◌, ◌-◌, ◌^◌, ℕ, IfErr, IfNone, IfOk, IfSome, OnOk, is_some, max, slice_get, if◌then◌else◌};
+ghost use Rattle.std.specs.Prelude.{◌≡◌, ◌==◌, ◌<◌, ◌≤◌, ◌⊎◌, ◌-◌, ◌^◌, ℕ, IfErr, IfNone, IfOk, IfSome, OnOk, is_some, max, min, slice_get, if◌then◌else◌};
 ghost use Rattle.sacn_framing.specs.PacketReading.{reading_packet};
 ghost use Rattle.sacn_monitor.specs.Books.{new_book, after_tick};
 ghost use Rattle.sacn_node.specs.Cores.{core_lost};
@@ -410,6 +410,7 @@ impl<'a, O: Write> Follower<'a, O> {
 fn end_by(now: u64, lost: u64, dark: u64) -> Option<u64>
     ensures end { result ≡ end_by now lost dark }
     ensures past { IfSome result (λ at. at ≤ now) }
+    ensures first { IfSome result (λ at. at ≡ min lost dark) }
     ensures none { IfNone result ((m : ℕ) → m ≤ now → m < 2 ^ 64 - 1 → (m < lost) × (m < dark)) }
 {
     let at = lost.min(dark);
