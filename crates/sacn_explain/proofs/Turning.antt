@@ -10,10 +10,8 @@ use Rattle.sacn_monitor.specs.declared.news.Noted.{Noted}
 use Rattle.sacn_monitor.specs.Books.{Book, after_take, next_loss, noted}
 use Rattle.sacn_explain.specs.declared.contests.Contests.{Contests}
 use Rattle.sacn_explain.specs.declared.follower.Follower.{Follower}
-use Rattle.sacn_explain.specs.declared.listings.Listings.{Listings}
 use Rattle.sacn_explain.specs.declared.options.Form.{Form}
 use Rattle.sacn_explain.specs.declared.stage.Stage.{Stage}
-use Rattle.sacn_explain.specs.declared.teller.Teller.{Teller}
 use Rattle.sacn_explain.specs.Causes.{cause_among}
 use Rattle.sacn_explain.specs.Datagrams.{TellsTurn, datagram_told}
 use Rattle.sacn_explain.specs.ListBooks.{ListBook, list_book}
@@ -83,10 +81,10 @@ module _ {O : Type 0} (contents : O → Option (List ℕ)) where
       let noted_as = noted_is ∙ ap (λ (k : ℕ). noted k sender octets ticked.monitor) moment in
       let book_as = book_is ∙ ap (λ (k : ℕ). after_take k sender octets ticked.monitor) moment in
       let first = same_datagram sender (reading_packet octets) ticked.contests ticked.teller.form old.teller.form ticked.options.universes.now old.options.universes.now
-          book (after_take t sender octets ticked.monitor) (list_book ticked.listings) (list_book old.listings) n (noted t sender octets ticked.monitor)
-          some.told.form (ap (λ o. o.universes.now) options) book_as (ap list_book listings) noted_as in
+      book (after_take t sender octets ticked.monitor) (list_book ticked.listings) (list_book old.listings) n (noted t sender octets ticked.monitor)
+      some.told.form (ap (λ o. o.universes.now) options) book_as (ap list_book listings) noted_as in
       let then = same_shown octets said.teller.form old.teller.form said.monitor (after_take t sender octets ticked.monitor) n (noted t sender octets ticked.monitor) (staged said.stage) (staged ticked.stage)
-          (tells.form ∙ some.told.form) (monitor ∙ book_as) noted_as (ap staged stage) in
+      (tells.form ∙ some.told.form) (monitor ∙ book_as) noted_as (ap staged stage) in
       record {
         ends = some.ends;
         ended = some.text;

@@ -10,7 +10,6 @@ use Rattle.sacn_monitor.specs.Books.{Book, after_take, noted}
 use Rattle.sacn_explain.specs.declared.contests.Contests.{Contests}
 use Rattle.sacn_explain.specs.declared.follower.Follower.{Follower}
 use Rattle.sacn_explain.specs.declared.options.Form.{Form}
-use Rattle.sacn_explain.specs.declared.teller.Teller.{Teller}
 use Rattle.sacn_explain.specs.Causes.{cause_among}
 use Rattle.sacn_explain.specs.ListBooks.{ListBook, after_read, list_book, page_told}
 use Rattle.sacn_explain.specs.Occurrences.{noted_told}
@@ -48,5 +47,5 @@ pub record TellsTurn {O : Type 0} (contents : O → Option (List ℕ)) (t : ℕ)
   pub are : AreEnds old.teller.form old.options.universes.now t ends (scene_of old) scene ended
   pub told : Tells contents old.teller new.teller
       (ended ++ told_then old.teller.form old.options.universes.now sender octets (list_book old.listings)
-          (noted t sender octets scene.book) scene.contests (after_take t sender octets scene.book) scene.stage)
+      (noted t sender octets scene.book) scene.contests (after_take t sender octets scene.book) scene.stage)
   pub staged_after : staged new.stage ≡ after_turn (after_take t sender octets scene.book).moment octets scene.stage

@@ -214,7 +214,7 @@ impl<'a, O: Write> Follower<'a, O> {
     fn tell(&mut self, sender: &Sender, octets: &[u8], noted: Noted) -> Result<(), TellFault>
         ensures told { OnOk result (Tells O.contents self.old.teller self.new.teller
             (datagram_told self.old.teller.form self.old.options.universes.now self.old.contests self.old.monitor sender.now
-                (list_book self.old.listings) (reading_packet octets.now) noted)) }
+            (list_book self.old.listings) (reading_packet octets.now) noted)) }
         ensures lists { OnOk result (list_book self.new.listings
             ≡ lists_after self.old.monitor.moment (reading_packet octets.now) noted (list_book self.old.listings)) }
         ensures stage { self.new.stage ≡ self.old.stage }
@@ -388,7 +388,7 @@ impl<'a, O: Write> Follower<'a, O> {
     fn show_turn(&mut self, octets: &[u8], noted: Noted) -> Result<(), TellFault>
         ensures told { OnOk result (Tells O.contents self.old.teller self.new.teller
             (turn_shown self.old.teller.form self.old.monitor.moment octets.now
-                (cause_among self.old.monitor.streams noted) (staged self.old.stage))) }
+            (cause_among self.old.monitor.streams noted) (staged self.old.stage))) }
         ensures stage { OnOk result (staged self.new.stage ≡ after_turn self.old.monitor.moment octets.now (staged self.old.stage)) }
         ensures monitor { self.new.monitor ≡ self.old.monitor }
         ensures moment { self.new.moment ≡ self.old.moment }
