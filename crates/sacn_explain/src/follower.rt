@@ -3,7 +3,6 @@
 ghost use Rattle.std.specs.Prelude.{◌≡◌, ◌==◌, ◌<◌, ◌≤◌, ◌⊎◌, ◌-◌, ◌^◌, ℕ, IfErr, IfNone, IfOk, IfSome, OnOk, is_some, max, min, slice_get, if◌then◌else◌};
 ghost use Rattle.sacn_framing.specs.PacketReading.{reading_packet};
 ghost use Rattle.sacn_monitor.specs.Books.{new_book, after_tick};
-ghost use Rattle.sacn_node.specs.Cores.{core_lost};
 ghost use Rattle.sacn_explain.specs.Causes.{cause_among};
 ghost use Rattle.sacn_explain.specs.Contests.{is_noted};
 ghost use Rattle.sacn_explain.specs.Datagrams.{TellsTurn, datagram_told, lists_after};
@@ -14,7 +13,7 @@ ghost use Rattle.sacn_explain.specs.ListBooks as books;
 ghost use Rattle.sacn_explain.specs.ListBooks.{list_book, page_told};
 ghost use Rattle.sacn_explain.specs.KeptLists.{after_noted, after_reading, listed_in, none_listed};
 ghost use Rattle.sacn_explain.specs.Shows.{after_loss, after_turn, loss_shown, staged, turn_shown};
-ghost use Rattle.sacn_explain.specs.Silences.{IsQuiet, Leaves, TellsSilence, end_by, end_told, noted_lost, scene_of};
+ghost use Rattle.sacn_explain.specs.Silences.{IsQuiet, Leaves, TellsSilence, end_told, noted_lost, scene_of};
 ghost use Rattle.sacn_explain.specs.Tables.{tables_told};
 ghost use Rattle.sacn_explain.specs.Tellings.{Tells};
 
@@ -24,6 +23,7 @@ use crate::fault::{ExplainFault, TellFault};
 use crate::listings::{Listings, PageNews};
 use crate::options::Options;
 use crate::report::Report;
+use crate::silence::{end_by, next_dark};
 use crate::stage::{Stage, start};
 use crate::tables;
 use crate::teller::Teller;
@@ -141,7 +141,7 @@ impl<'a, O: Write> Follower<'a, O> {
         let now = self.moment;
         for _ in 0..u64::MAX {
             let lost = self.monitor.next_loss();
-            let dark = self.next_dark();
+            let dark = next_dark(&self.stage);
             let Some(at) = end_by(now, lost, dark) else {
                 self.wake = lost.min(dark).min(now.saturating_add(NETWORK_DATA_LOSS));
                 return Ok(());
@@ -355,18 +355,6 @@ impl<'a, O: Write> Follower<'a, O> {
         self.tell_rivals(universe)
     }
 
-    // The first moment at which the node loses a source; `u64::MAX` where there is none.
-    fn next_dark(&self) -> u64
-        ensures never { IfNone self.now.stage (result ≡ 2 ^ 64 - 1) }
-        ensures asleep { IfSome self.now.stage (λ s. (t : ℕ) → t < result → core_lost t s.core.core ≡ 0) }
-        ensures awake { IfSome self.now.stage (λ s. result < 2 ^ 64 - 1 → 1 ≤ core_lost result s.core.core) }
-    {
-        match &self.stage {
-            Some(stage) => stage.wakes(),
-            None => u64::MAX,
-        }
-    }
-
     // The frames of the node, where a source is lost at a moment.
     fn show_dark(&mut self, at: u64) -> Result<(), TellFault>
         ensures told { OnOk result (Tells O.contents self.old.teller self.new.teller
@@ -404,18 +392,4 @@ impl<'a, O: Write> Follower<'a, O> {
         let cause = cause_of(self.monitor.streams(), noted);
         stage.show(now, &cause, &mut self.teller)
     }
-}
-
-// The earlier of two moments, where it is no later than now; the last moment of all never comes.
-fn end_by(now: u64, lost: u64, dark: u64) -> Option<u64>
-    ensures end { result ≡ end_by now lost dark }
-    ensures past { IfSome result (λ at. at ≤ now) }
-    ensures first { IfSome result (λ at. at ≡ min lost dark) }
-    ensures none { IfNone result ((m : ℕ) → m ≤ now → m < 2 ^ 64 - 1 → (m < lost) × (m < dark)) }
-{
-    let at = lost.min(dark);
-    if (now < at) | (at == u64::MAX) {
-        return None;
-    }
-    Some(at)
 }
