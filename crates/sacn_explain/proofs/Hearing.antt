@@ -1,5 +1,5 @@
 -- What a packet and a loss tell.
-use Rattle.std.proofs.Common.{◌≡◌, ◌<◌, ℕ, true, List, Option, Some, Result, OnOk, length, get_or, slice_get, ap, subst, refl, ◌∙◌}
+use Rattle.std.proofs.Common.{◌≡◌, ◌<◌, ◌==◌, ℕ, true, cond, List, Option, Some, Result, OnOk, length, get_or, slice_get, ap, subst, refl, ◌∙◌}
 use Rattle.std.proofs.lemmas.Option.{slice_get_read}
 use Rattle.std.specs.Option.{option_and_then}
 use Rattle.sacn_monitor.specs.declared.news.News.{News}
@@ -8,10 +8,12 @@ use Rattle.sacn_monitor.specs.Books.{Book, after_tick, silent_place}
 use Rattle.sacn_explain.specs.declared.contests.Contests.{Contests}
 use Rattle.sacn_explain.specs.declared.options.Form.{Form}
 use Rattle.sacn_explain.specs.declared.teller.Teller.{Teller}
-use Rattle.sacn_explain.specs.Occurrences.{lost_stream, loss_told, packet_told, rivals_told, stirred_told, stirs}
+use Rattle.sacn_explain.specs.Occurrences.{is_contested, lost_stream, loss_told, packet_told, rivals_told, stirred_told, stirs}
 use Rattle.sacn_explain.specs.PacketLines.{loss_line}
 use Rattle.sacn_explain.specs.Tellings.{Tells, ended, news_told}
 use Rattle.sacn_explain.specs.Choice.{is_wanted}
+use Rattle.sacn_explain.specs.Contests.{is_noted}
+use Rattle.sacn_explain.specs.Silences.{noted_lost}
 use Rattle.sacn_explain.proofs.Telling.{then}
 
 -- all that a packet told, and then of the rivals
@@ -37,3 +39,8 @@ pub loss_heard : {O : Type 0} (contents : O → Option (List ℕ)) {T E : Type 0
     → OnOk r (Tells contents a c (loss_told a.form wanted at contests book))
 loss_heard {O = O} contents r a b c wanted at contests book s found asked told rest =
     rw (found, asked) (then {O = O} contents r a b c (ended (loss_line a.form at s)) (λ (form : Form). rivals_told form s.universe contests (after_tick at book)) told rest)
+
+-- and what is said of its universe from then on
+pub loss_noted : {T E : Type 0} (r : Result T E) (old new : Contests) (wanted : List ℕ) (book : Book) (o : Option Stream) (s : Stream) → o ≡ Some s → is_wanted wanted s.universe ≡ true
+    → OnOk r ((u : ℕ) → is_noted u new ≡ cond (u == s.universe) (is_contested s.universe book) (is_noted u old)) → OnOk r ((u : ℕ) → is_noted u new ≡ noted_lost u wanted old book o)
+loss_noted r old new wanted book o s found asked noted = rw (found, asked) noted

@@ -1,5 +1,5 @@
 -- A page that tells nothing.
-use Rattle.std.proofs.Common.{◌≡◌, ℕ, List, [], Option, None, Some, Result, Ok, refl, sym, ap, subst, ◌∙◌}
+use Rattle.std.proofs.Common.{◌≡◌, ℕ, List, [], Option, None, Result, Ok, refl, sym, ap, subst, ◌∙◌}
 use Rattle.sacn_root.specs.declared.fault.PacketFault.{PacketFault}
 use Rattle.sacn_framing.specs.declared.packet.Packet.{Packet}
 use Rattle.sacn_framing.specs.declared.packet.Packet.TheVariants.{PagePacket}
@@ -8,7 +8,6 @@ use Rattle.sacn_explain.specs.declared.listings.PageNews.{PageNews}
 use Rattle.sacn_explain.specs.declared.listings.PageNews.TheVariants.{Nothing, Appears, Changes}
 use Rattle.sacn_explain.specs.declared.options.Form.{Form}
 use Rattle.sacn_explain.specs.declared.teller.Teller.{Teller}
-use Rattle.sacn_explain.specs.Lines.{KeptList}
 use Rattle.sacn_explain.specs.ListBooks.{ListBook, after_page, list_at, listed_told, page_news, page_told}
 use Rattle.sacn_explain.specs.Tellings.{Tells}
 use Rattle.sacn_explain.proofs.Telling.{nothing}

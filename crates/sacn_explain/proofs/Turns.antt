@@ -1,5 +1,5 @@
 -- The node after a datagram, whose frames are told.
-use Rattle.std.proofs.Common.{◌≡◌, ℕ, true, false, List, map, Option, None, Some, Result, Ok, Err, OnOk, refl, sym, ap, subst, ◌∙◌}
+use Rattle.std.proofs.Common.{◌≡◌, ℕ, true, false, List, map, Option, Some, Result, Ok, Err, OnOk, refl, ap, subst, ◌∙◌}
 use Rattle.sacn_node.specs.Calls.{step, Take, Tick}
 use Rattle.sacn_node.specs.Cores.{Core, Node}
 use Rattle.sacn_edge.specs.declared.port_lines.PortShown.{PortShown}

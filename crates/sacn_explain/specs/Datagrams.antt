@@ -1,5 +1,5 @@
 -- What a datagram tells, and what it leaves of the lists that are kept.
-use Rattle.std.specs.Prelude.{◌≡◌, ℕ, List, ◌++◌, Option, Result}
+use Rattle.std.specs.Prelude.{◌≡◌, ◌≤◌, ℕ, Bool, List, ◌++◌, Option, Result}
 use Rattle.sacn_root.specs.declared.fault.PacketFault.{PacketFault}
 use Rattle.sacn_framing.specs.declared.packet.Packet.{Packet}
 use Rattle.sacn_framing.specs.PacketReading.{reading_packet}
@@ -10,12 +10,11 @@ use Rattle.sacn_monitor.specs.Books.{Book, after_take, noted}
 use Rattle.sacn_explain.specs.declared.contests.Contests.{Contests}
 use Rattle.sacn_explain.specs.declared.follower.Follower.{Follower}
 use Rattle.sacn_explain.specs.declared.options.Form.{Form}
-use Rattle.sacn_explain.specs.declared.teller.Teller.{Teller}
 use Rattle.sacn_explain.specs.Causes.{cause_among}
-use Rattle.sacn_explain.specs.Following.{IsTicked}
 use Rattle.sacn_explain.specs.ListBooks.{ListBook, after_read, list_book, page_told}
 use Rattle.sacn_explain.specs.Occurrences.{noted_told}
 use Rattle.sacn_explain.specs.Shows.{Staged, after_turn, staged, turn_shown}
+use Rattle.sacn_explain.specs.Silences.{AreEnds, IsStill, Scene, scene_of}
 use Rattle.sacn_explain.specs.Tellings.{Tells}
 
 -- by what was noted of it: the list of a page, and of any other datagram what it says of its source
@@ -41,15 +40,12 @@ told_then form wanted sender octets lists n c b s =
 
 -- what is told in a call: what ended by then, and then what the datagram tells a monitor that was told of these losses
 pub record TellsTurn {O : Type 0} (contents : O → Option (List ℕ)) (t : ℕ) (sender : Sender) (octets : List ℕ) (old new : Follower O) : Type 0 where
+  pub ends : List (ℕ × Bool)
   pub ended : List ℕ
-  pub contests : Contests
-  pub book : Book
-  pub stage : Option Staged
-  pub ticked : IsTicked t old.monitor book
+  pub scene : Scene
+  pub still : old.wake ≤ t → IsStill t scene
+  pub are : AreEnds old.teller.form old.options.universes.now t ends (scene_of old) scene ended
   pub told : Tells contents old.teller new.teller
-      (ended ++ told_then old.teller.form old.options.universes.now sender octets (list_book old.listings) (noted t sender octets book) contests (after_take t sender octets book) stage)
-  pub staged_after : staged new.stage ≡ after_turn (after_take t sender octets book).moment octets stage
-
--- some lines were told
-abbrev pub TellsSome : {O : Type 0} → (O → Option (List ℕ)) → Teller O → Teller O → Type 0
-TellsSome contents old new = (text : List ℕ) × Tells contents old new text
+      (ended ++ told_then old.teller.form old.options.universes.now sender octets (list_book old.listings)
+      (noted t sender octets scene.book) scene.contests (after_take t sender octets scene.book) scene.stage)
+  pub staged_after : staged new.stage ≡ after_turn (after_take t sender octets scene.book).moment octets scene.stage

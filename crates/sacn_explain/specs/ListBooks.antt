@@ -1,17 +1,14 @@
 -- What is kept of the lists of sources (E1.31, 8), what a page leaves of it, and what it tells.
-use Rattle.std.specs.Prelude.{ℕ, Bool, true, false, ◌==◌, Option, None, Some, is_some, slice_get, slice_set, List, [], ◌∷◌, ◌++◌, map, Result, Ok, Err, codes, if◌then◌else◌}
+use Rattle.std.specs.Prelude.{ℕ, Bool, false, ◌==◌, Option, None, Some, slice_get, slice_set, List, [], ◌∷◌, ◌++◌, map, Result, Ok, Err, codes, if◌then◌else◌}
 use Rattle.std.specs.Str.{bytes_eq}
 use Rattle.std.specs.List.{before_first, list_any, position}
-use Rattle.std.specs.Option.{option_and_then, option_map}
+use Rattle.std.specs.Option.{option_and_then}
 use Rattle.sacn_root.specs.declared.fault.PacketFault.{PacketFault}
 use Rattle.sacn_framing.specs.declared.packet.Packet.{Packet}
 use Rattle.sacn_framing.specs.declared.packet.Packet.TheVariants.{DataPacket, PagePacket, SyncPacket}
 use Rattle.sacn_framing.specs.Page.{Page as PageFields}
 use Rattle.sacn_discovery.specs.Known.{State, known_list}
-use Rattle.sacn_monitor.specs.declared.news.Noted.{Noted}
-use Rattle.sacn_monitor.specs.declared.news.Noted.TheVariants.{Refused, Page, Sync, Untracked, Heard}
 use Rattle.sacn_monitor.specs.Kinds.{more}
-use Rattle.sacn_explain.specs.declared.listings.Listing.{Listing}
 use Rattle.sacn_explain.specs.declared.listings.Listings.{Listings}
 use Rattle.sacn_explain.specs.declared.listings.PageNews.{PageNews}
 use Rattle.sacn_explain.specs.declared.listings.PageNews.TheVariants.{Nothing, Appears, Changes}

@@ -1,20 +1,19 @@
 //! What happens, told as it happens.
 
-ghost use Rattle.std.specs.Prelude.{◌≡◌, ◌==◌, ◌<◌, ◌≤◌, ◌⊎◌, ◌-◌, ◌^◌, ℕ, IfErr, IfNone, IfOk, IfSome, OnOk, is_some, max, slice_get, if◌then◌else◌};
+ghost use Rattle.std.specs.Prelude.{◌≡◌, ◌==◌, ◌<◌, ◌≤◌, ◌⊎◌, ◌-◌, ◌^◌, ℕ, IfErr, IfNone, IfOk, IfSome, OnOk, is_some, max, min, slice_get, if◌then◌else◌};
 ghost use Rattle.sacn_framing.specs.PacketReading.{reading_packet};
 ghost use Rattle.sacn_monitor.specs.Books.{new_book, after_tick};
-ghost use Rattle.sacn_node.specs.Cores.{core_lost};
 ghost use Rattle.sacn_explain.specs.Causes.{cause_among};
 ghost use Rattle.sacn_explain.specs.Contests.{is_noted};
-ghost use Rattle.sacn_explain.specs.Datagrams.{TellsSome, TellsTurn, datagram_told, lists_after};
+ghost use Rattle.sacn_explain.specs.Datagrams.{TellsTurn, datagram_told, lists_after};
 ghost use Rattle.sacn_explain.specs.Faults.{IsOfTelling};
 ghost use Rattle.sacn_explain.specs.Following.{IsTicked, IsTaken};
-ghost use Rattle.sacn_explain.specs.Occurrences.{is_contested, loss_told, noted_told, packet_told, rivals_told, stirred_told};
+ghost use Rattle.sacn_explain.specs.Occurrences.{is_contested, loss_told, lost_stream, noted_told, packet_told, rivals_told, stirred_told};
 ghost use Rattle.sacn_explain.specs.ListBooks as books;
 ghost use Rattle.sacn_explain.specs.ListBooks.{list_book, page_told};
 ghost use Rattle.sacn_explain.specs.KeptLists.{after_noted, after_reading, listed_in, none_listed};
 ghost use Rattle.sacn_explain.specs.Shows.{after_loss, after_turn, loss_shown, staged, turn_shown};
-ghost use Rattle.sacn_explain.specs.Silences.{end_by};
+ghost use Rattle.sacn_explain.specs.Silences.{IsQuiet, Leaves, TellsSilence, end_told, noted_lost, scene_of};
 ghost use Rattle.sacn_explain.specs.Tables.{tables_told};
 ghost use Rattle.sacn_explain.specs.Tellings.{Tells};
 
@@ -24,6 +23,7 @@ use crate::fault::{ExplainFault, TellFault};
 use crate::listings::{Listings, PageNews};
 use crate::options::Options;
 use crate::report::Report;
+use crate::silence::{end_by, next_dark};
 use crate::stage::{Stage, start};
 use crate::tables;
 use crate::teller::Teller;
@@ -114,7 +114,8 @@ impl<'a, O: Write> Follower<'a, O> {
     /// Errors: OutOfMemory; Device where a line can't be written.
     pub fn tick(&mut self, now: u64) -> Result<(), ExplainFault>
         ensures moment { self.new.moment ≡ max self.old.moment now }
-        ensures told { OnOk result (TellsSome O.contents self.old.teller self.new.teller) }
+        ensures told { OnOk result (TellsSilence O.contents (max self.old.moment now) self.old self.new) }
+        ensures quiet { self.old.wake ≤ max self.old.moment now → OnOk result (IsQuiet (max self.old.moment now) self.new) }
         ensures ticked { OnOk result (IsTicked (max self.old.moment now) self.old.monitor self.new.monitor) }
         ensures options { self.new.options ≡ self.old.options }
         ensures listings { self.new.listings ≡ self.old.listings }
@@ -131,7 +132,8 @@ impl<'a, O: Write> Follower<'a, O> {
     // Tells what has ended by silence by now.
     fn tell_silence(&mut self) -> Result<(), TellFault>
         ensures moment { self.new.moment ≡ self.old.moment }
-        ensures told { OnOk result (TellsSome O.contents self.old.teller self.new.teller) }
+        ensures told { OnOk result (TellsSilence O.contents self.old.moment self.old self.new) }
+        ensures quiet { OnOk result (IsQuiet self.old.moment self.new) }
         ensures ticked { OnOk result (IsTicked self.old.moment self.old.monitor self.new.monitor) }
         ensures options { self.new.options ≡ self.old.options }
         ensures listings { self.new.listings ≡ self.old.listings }
@@ -139,22 +141,22 @@ impl<'a, O: Write> Follower<'a, O> {
         let now = self.moment;
         for _ in 0..u64::MAX {
             let lost = self.monitor.next_loss();
-            let dark = self.next_dark();
+            let dark = next_dark(&self.stage);
             let Some(at) = end_by(now, lost, dark) else {
                 self.wake = lost.min(dark).min(now.saturating_add(NETWORK_DATA_LOSS));
-                break;
+                return Ok(());
             };
             self.tell_end(at, lost <= dark)?;
         }
-        Ok(())
+        // No node and no monitor holds so many sources.
+        Err(TellFault::Device)
     }
 
     // Tells what ends by silence at a moment: a stream, or else what the node loses.
     fn tell_end(&mut self, at: u64, is_stream: bool) -> Result<(), TellFault>
         ensures told { OnOk result (Tells O.contents self.old.teller self.new.teller
-            (if is_stream
-                then loss_told self.old.teller.form self.old.options.universes.now at self.old.contests self.old.monitor
-                else loss_shown self.old.teller.form at (staged self.old.stage))) }
+            (end_told self.old.teller.form self.old.options.universes.now at is_stream (scene_of self.old))) }
+        ensures left { OnOk result (Leaves self.old.options.universes.now at is_stream (scene_of self.old) (scene_of self.new)) }
         ensures options { self.new.options ≡ self.old.options }
         ensures monitor { (self.new.monitor ≡ self.old.monitor) ⊎ (self.new.monitor ≡ after_tick at self.old.monitor) }
         ensures moment { self.new.moment ≡ self.old.moment }
@@ -212,7 +214,7 @@ impl<'a, O: Write> Follower<'a, O> {
     fn tell(&mut self, sender: &Sender, octets: &[u8], noted: Noted) -> Result<(), TellFault>
         ensures told { OnOk result (Tells O.contents self.old.teller self.new.teller
             (datagram_told self.old.teller.form self.old.options.universes.now self.old.contests self.old.monitor sender.now
-                (list_book self.old.listings) (reading_packet octets.now) noted)) }
+            (list_book self.old.listings) (reading_packet octets.now) noted)) }
         ensures lists { OnOk result (list_book self.new.listings
             ≡ lists_after self.old.monitor.moment (reading_packet octets.now) noted (list_book self.old.listings)) }
         ensures stage { self.new.stage ≡ self.old.stage }
@@ -331,6 +333,8 @@ impl<'a, O: Write> Follower<'a, O> {
     fn tell_loss(&mut self, at: u64) -> Result<(), TellFault>
         ensures told { OnOk result (Tells O.contents self.old.teller self.new.teller
             (loss_told self.old.teller.form self.old.options.universes.now at self.old.contests self.old.monitor)) }
+        ensures noted { OnOk result ((u : ℕ) → is_noted u self.new.contests
+            ≡ noted_lost u self.old.options.universes.now self.old.contests (after_tick at self.old.monitor) (lost_stream at self.old.monitor)) }
         ensures monitor { self.new.monitor ≡ after_tick at self.old.monitor }
         ensures options { self.new.options ≡ self.old.options }
         ensures stage { self.new.stage ≡ self.old.stage }
@@ -351,23 +355,12 @@ impl<'a, O: Write> Follower<'a, O> {
         self.tell_rivals(universe)
     }
 
-    // The first moment at which the node loses a source; `u64::MAX` where there is none.
-    fn next_dark(&self) -> u64
-        ensures never { IfNone self.now.stage (result ≡ 2 ^ 64 - 1) }
-        ensures asleep { IfSome self.now.stage (λ s. (t : ℕ) → t < result → core_lost t s.core.core ≡ 0) }
-        ensures awake { IfSome self.now.stage (λ s. result < 2 ^ 64 - 1 → 1 ≤ core_lost result s.core.core) }
-    {
-        match &self.stage {
-            Some(stage) => stage.wakes(),
-            None => u64::MAX,
-        }
-    }
-
     // The frames of the node, where a source is lost at a moment.
     fn show_dark(&mut self, at: u64) -> Result<(), TellFault>
         ensures told { OnOk result (Tells O.contents self.old.teller self.new.teller
             (loss_shown self.old.teller.form at (staged self.old.stage))) }
         ensures stage { OnOk result (staged self.new.stage ≡ after_loss at (staged self.old.stage)) }
+        ensures contests { self.new.contests ≡ self.old.contests }
         ensures options { self.new.options ≡ self.old.options }
         ensures monitor { self.new.monitor ≡ self.old.monitor }
         ensures moment { self.new.moment ≡ self.old.moment }
@@ -383,7 +376,7 @@ impl<'a, O: Write> Follower<'a, O> {
     fn show_turn(&mut self, octets: &[u8], noted: Noted) -> Result<(), TellFault>
         ensures told { OnOk result (Tells O.contents self.old.teller self.new.teller
             (turn_shown self.old.teller.form self.old.monitor.moment octets.now
-                (cause_among self.old.monitor.streams noted) (staged self.old.stage))) }
+            (cause_among self.old.monitor.streams noted) (staged self.old.stage))) }
         ensures stage { OnOk result (staged self.new.stage ≡ after_turn self.old.monitor.moment octets.now (staged self.old.stage)) }
         ensures monitor { self.new.monitor ≡ self.old.monitor }
         ensures moment { self.new.moment ≡ self.old.moment }
@@ -399,16 +392,4 @@ impl<'a, O: Write> Follower<'a, O> {
         let cause = cause_of(self.monitor.streams(), noted);
         stage.show(now, &cause, &mut self.teller)
     }
-}
-
-// The earlier of two moments, where it is no later than now; the last moment of all never comes.
-fn end_by(now: u64, lost: u64, dark: u64) -> Option<u64>
-    ensures end { result ≡ end_by now lost dark }
-    ensures past { IfSome result (λ at. at ≤ now) }
-{
-    let at = lost.min(dark);
-    if (now < at) | (at == u64::MAX) {
-        return None;
-    }
-    Some(at)
 }

@@ -18,6 +18,7 @@ mod packet_lines;
 mod refusals;
 mod report;
 mod rows;
+mod silence;
 mod spelling;
 mod stage;
 mod stream_rows;

@@ -1,6 +1,6 @@
 //! The universes that sources list (E1.31, 8).
 
-ghost use Rattle.std.specs.Prelude.{◌≡◌, ◌<◌, ◌++◌, ◌∷◌, [], IfOk, OnOk, Some, length, map, slice_get, if◌then◌else◌};
+ghost use Rattle.std.specs.Prelude.{◌≡◌, ◌<◌, ◌++◌, ◌∷◌, [], IfErr, IfOk, OnOk, Some, length, map, slice_get, if◌then◌else◌};
 ghost use Rattle.std.specs.Str.{bytes_eq};
 ghost use Rattle.std.specs.List.{list_any, position};
 ghost use Rattle.std.specs.Option.{option_map};
@@ -132,20 +132,23 @@ impl Listings {
         self.sources.iter().position(|source| *source == *cid)
     }
 
-    // A source of which no page came before.
+    // A source of which no page came before. Where memory is refused nothing is kept of it.
     fn admit(&mut self, cid: [u8; 16]) -> Result<(), DiscoveryFault>
         ensures sources { OnOk result ((listed_in self.new).sources ≡ (listed_in self.old).sources ++ cid ∷ []) }
         ensures passed { self.new.passed ≡ self.old.passed }
         ensures collector { self.new.collector ≡ self.old.collector }
         ensures book { OnOk result (list_book self.new ≡ with_source cid (list_book self.old)) }
+        ensures refused { IfErr result (λ fault. list_book self.new ≡ list_book self.old) }
     {
+        self.known.reserve(1)?;
+        self.sources.reserve(1)?;
         let listing = Listing {
             cid,
             name: Vec::new(self.alloc),
             universes: None,
         };
-        self.known.push(listing)?;
-        self.sources.push(cid)?;
+        self.known.push_reserved(listing);
+        self.sources.push_reserved(cid);
         Ok(())
     }
 

@@ -1,7 +1,6 @@
-use Rattle.std.proofs.Common.{◌≡◌, ◌∙◌, true, false, ap, sym, List}
+use Rattle.std.proofs.Common.{◌∙◌, ap, sym, List}
 use Rattle.sacn_monitor.specs.declared.stream.Stream.{Stream}
 use Rattle.sacn_explain.specs.Causes.{cause_among, reason_of}
-use Rattle.sacn_explain.specs.Staging.{may_change_frames}
 use Rattle.sacn_explain.proofs.Turns.{still_staged, turn_staged, turn_told}
 use Rattle.sacn_explain.proofs.follower.Follower.show_turn.Goals as goal
 

@@ -1,4 +1,4 @@
-use Rattle.std.proofs.Common.{◌≡◌, ◌∙◌, sym}
+use Rattle.std.proofs.Common.{sym}
 use Rattle.sacn_framing.specs.PacketReading.{reading_packet}
 use Rattle.sacn_explain.specs.ListBooks.{list_book}
 use Rattle.sacn_explain.proofs.PageNews.{no_list_there, nothing_new}
