@@ -60,6 +60,17 @@ def below(crates, name):
     return found
 
 
+def lines_of(name):
+    """How many lines a crate has, which tells roughly how long its proof takes."""
+    count = 0
+    for part in PARTS:
+        for at, _, names in os.walk(f"{TOP}/crates/{name}/{part}"):
+            for it in names:
+                with open(f"{at}/{it}", "rb") as text:
+                    count += text.read().count(b"\n")
+    return count
+
+
 def lanes():
     """How many checks run side by side: one a processor, and no more than there is memory for."""
     processors = len(os.sched_getaffinity(0))
@@ -170,12 +181,11 @@ def prove(crates, program, cpu):
     """Proves what stands below the program, and then the program, and builds it."""
     needed = [*below(crates, program), program]
     progress, done, running, most = Progress(len(needed)), [], [], lanes()
-    # A crate with the longest chain of others above it comes first.
-    above = {name: 0 for name in needed}
+    # A crate comes first behind which the longest chain of lines waits, its own among them.
+    chain = {name: lines_of(name) for name in needed}
     for name in reversed(needed):
-        for it in crates[name]:
-            above[it] = max(above[it], above[name] + 1)
-    left = sorted(needed, key=lambda name: -above[name])
+        chain[name] += max((chain[it] for it in needed if name in crates[it]), default=0)
+    left = sorted(needed, key=lambda name: -chain[name])
     try:
         while left or running:
             ready = [it for it in left if all(lower in done for lower in crates[it])][: most - len(running)]

@@ -1,7 +1,7 @@
 //! Files checked.
-use crate::ending::{DEVICE_FAILED, DONE, Ending, REFUSED, of_write};
-use crate::files::text_of_file;
 use sacn_check::{FileKind, ReportFault, faults_of, kind_of, write_report, write_unread};
+use sacn_commands::ending::{DEVICE_FAILED, DONE, Ending, REFUSED, of_write};
+use sacn_commands::files::text_of_file;
 use sacn_words::CheckAsked;
 use std::alloc::{AllocError, Global};
 use std::io::Write;

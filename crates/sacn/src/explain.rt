@@ -1,9 +1,9 @@
 //! Recordings told.
-use crate::ending::{DEVICE_FAILED, Ending, REFUSED, of_write};
-use crate::live::{of_file, setup_of_file};
 use crate::recording::serve;
 use sacn_capture::{CaptureFault, FaultKind};
-use sacn_explain::{ExplainFault, Options, explain};
+use sacn_commands::ending::{DEVICE_FAILED, Ending, REFUSED, of_write};
+use sacn_commands::live::{of_file, setup_of_file};
+use sacn_explain::{ExplainFault, Form, Options, explain};
 use sacn_live::SACN_PORT;
 use sacn_node::NodeSetup;
 use sacn_words::ExplainAsked;
@@ -33,6 +33,11 @@ pub fn said_of_capture<E: Write>(path: &str, fault: CaptureFault, err: &mut E) -
     let kind = fault.kind;
     let _ = writeln!(err, "refused {path} octet {at} {kind:?}");
     Ending::Said(REFUSED)
+}
+
+/// How things are told.
+pub fn form_of(is_json: bool) -> Form {
+    if is_json { Form::Json } else { Form::Text }
 }
 
 /// Tells a recording, or serves a page of it.
@@ -102,7 +107,7 @@ fn tell_reader<I: BufRead + Drop, O: Write>(
     let options = Options {
         port: port_of(asked.port, setup),
         universes: asked.universes.as_slice(),
-        form: asked.form,
+        form: form_of(asked.is_json),
     };
     explain(alloc, reader, &options, setup, out)?;
     Ok(())

@@ -2,17 +2,14 @@
 #![tactic(auto)]
 
 mod check;
-mod ending;
 mod explain;
-mod files;
-mod live;
 mod manual;
-mod network;
 mod page;
 mod program;
 mod recording;
 mod watch;
 
+use sacn_commands::ending;
 use std::io::{ErrorKind, Write};
 use std::process::ExitCode;
 use std::{env, io};

@@ -1,5 +1,5 @@
 //! The program's manual and completions, printed.
-use crate::ending::{Ending, of_write};
+use sacn_commands::ending::{Ending, of_write};
 use sacn_manual::Form;
 use sacn_words::manual_text;
 use std::alloc::Global;

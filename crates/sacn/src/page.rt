@@ -1,6 +1,7 @@
 //! A watch that browsers see.
-use crate::ending::Ending;
-use crate::live::{clock_of, of_socket, said_of_socket, say_hearing};
+use crate::watch::ended;
+use sacn_commands::ending::Ending;
+use sacn_commands::live::{clock_of, of_socket, said_of_socket, say_hearing};
 use sacn_live::UdpReceiver;
 use sacn_page::{Board, MAX_ALARMS, Pages};
 use sacn_watch::run_watch;
@@ -45,5 +46,5 @@ pub fn serve<R: AllocGlobal + Net + Clock, E: Write>(
     receiver.wait_beside(pages.descriptor());
     say_hearing(address, receiver.room(), err);
     say_page(place, err);
-    Ok(run_watch(&mut receiver, &mut pages, until)?)
+    ended(run_watch(&mut receiver, &mut pages, until))
 }

@@ -1,11 +1,12 @@
 //! A recording that browsers see.
-use crate::ending::{Ending, REFUSED};
 use crate::explain::{ROOM, said_of_capture, say_unread};
-use crate::live::clock_of;
 use crate::page::{of_pages, say_page};
+use crate::watch::ended;
+use sacn_commands::ending::{Ending, REFUSED};
+use sacn_commands::live::clock_of;
 use sacn_live::{SACN_PORT, guard_standard_descriptors};
 use sacn_page::{Pages, Quiet, Recording, SeekFault, Tape};
-use sacn_watch::{Listener, WatchFault, run_watch};
+use sacn_watch::{Listener, run_watch};
 use sacn_words::ExplainAsked;
 use std::alloc::Global;
 use std::fs::{self, OpenFile};
@@ -123,7 +124,7 @@ fn serve_pages<R: AllocGlobal + Files + Net + Clock, E: Write>(
     err: &mut E,
 ) -> Result<(), Ending> {
     let pages = of_pages(Pages::bind(rt, rt.alloc(), place, recording), place, err)?;
-    Ok(show(pages, quiet, place, until, err)?)
+    show(pages, quiet, place, until, err)
 }
 
 // Serves pages that have their place.
@@ -133,8 +134,8 @@ fn show<R: AllocGlobal + Files + Net + Clock, E: Write>(
     place: SocketAddrV4,
     until: u64,
     err: &mut E,
-) -> Result<(), WatchFault> {
+) -> Result<(), Ending> {
     quiet.wait_beside(pages.descriptor());
     say_page(place, err);
-    run_watch(quiet, &mut pages, until)
+    ended(run_watch(quiet, &mut pages, until))
 }

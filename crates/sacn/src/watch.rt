@@ -1,8 +1,9 @@
 //! A network watched.
-use crate::ending::Ending;
-use crate::live::{clock_of, of_socket, say_hearing};
+use crate::explain::form_of;
 use crate::page::serve;
-use sacn_explain::{Form, Options};
+use sacn_commands::ending::Ending;
+use sacn_commands::live::{clock_of, of_socket, say_hearing};
+use sacn_explain::Options;
 use sacn_files::words::short_in;
 use sacn_live::{UdpReceiver, guard_standard_descriptors, output_is_terminal};
 use sacn_watch::{Listener, Size, WatchFault, watch_lines, watch_terminal};
@@ -14,6 +15,15 @@ use std::rt::Clock;
 
 /// The most columns and rows that a terminal is taken to have.
 const MAX_EXTENT: u16 = 1000;
+
+/// What came of a watch, where its fault ends the run.
+pub fn ended(told: Result<(), WatchFault>) -> Result<(), Ending> {
+    match told {
+        Ok(()) => Ok(()),
+        Err(WatchFault::OutOfMemory) => Err(Ending::OutOfMemory),
+        Err(WatchFault::Device) => Err(Ending::DeviceWrite),
+    }
+}
 
 /// Watches a network.
 pub fn watch<R: AllocGlobal + Env + Net + Clock, O: Write, E: Write>(
@@ -36,7 +46,7 @@ pub fn watch<R: AllocGlobal + Env + Net + Clock, O: Write, E: Write>(
     let mut receiver = of_socket(UdpReceiver::bind(rt, address, clock), address, err)?;
     receiver.wait_for_input();
     say_hearing(address, receiver.room(), err);
-    Ok(tell(rt, &mut receiver, asked, until, out)?)
+    ended(tell(rt, &mut receiver, asked, until, out))
 }
 
 // Tells what a receiver hears, line by line, or shows it on a terminal.
@@ -50,9 +60,9 @@ fn tell<R: AllocGlobal + Env, L: Listener, O: Write>(
     let options = Options {
         port: asked.port,
         universes: asked.universes.as_slice(),
-        form: asked.form,
+        form: form_of(asked.is_json),
     };
-    if asked.is_plain | (asked.form == Form::Json) || !output_is_terminal() {
+    if asked.is_plain | asked.is_json || !output_is_terminal() {
         return watch_lines(rt.alloc(), listener, &options, until, out);
     }
     let size = Size {

@@ -30,10 +30,12 @@ pub fn new(alloc: Global) -> Result<Box<Held>, u32>
 
 /// What a datagram does to a collector: a page is taken, and all else changes nothing.
 fn take_into(collector: &mut Collector, now: u64, octets: &[u8]) -> u32
-    ensures taken { result ≡ DONE → collector.new ≡ after_reading now (reading_packet octets.now) collector.old }
+    ensures taken { result ≡ DONE
+        → collector.new ≡ after_reading now (reading_packet octets.now) collector.old }
     ensures lacking { result ≡ OUT_OF_MEMORY → collector.new ≡ after_expire now collector.old }
     ensures status { result ≡ collect_status (reading_packet octets.now) result }
-    ensures collector { collector.new ≡ collected result now (reading_packet octets.now) collector.old }
+    ensures collector { collector.new
+        ≡ collected result now (reading_packet octets.now) collector.old }
 {
     match read_packet(octets) {
         Ok(Packet::PagePacket(page)) => match collector.take(now, &page) {
@@ -47,9 +49,12 @@ fn take_into(collector: &mut Collector, now: u64, octets: &[u8]) -> u32
 
 /// Takes a datagram, as `Collector::take`. The status is the fault of one that is no packet.
 pub fn take(held: &mut Held, now: u64, octets: &[u8]) -> u32
-    ensures taken { result ≡ DONE → held.new ≡ of_collector held.old (λ s. Held.Collector (after_reading now (reading_packet octets.now) s)) held.old }
-    ensures status { result ≡ of_collector WRONG_HANDLE (λ s. collect_status (reading_packet octets.now) result) held.old }
-    ensures held { held.new ≡ of_collector held.old (λ s. Held.Collector (collected result now (reading_packet octets.now) s)) held.old }
+    ensures taken { result ≡ DONE → held.new ≡ of_collector held.old
+        (λ s. Held.Collector (after_reading now (reading_packet octets.now) s)) held.old }
+    ensures status { result ≡ of_collector WRONG_HANDLE
+        (λ s. collect_status (reading_packet octets.now) result) held.old }
+    ensures held { held.new ≡ of_collector held.old
+        (λ s. Held.Collector (collected result now (reading_packet octets.now) s)) held.old }
 {
     match held {
         Held::Collector(collector) => take_into(collector, now, octets),
@@ -61,8 +66,10 @@ pub fn take(held: &mut Held, now: u64, octets: &[u8]) -> u32
 pub fn tick(held: &mut Held, now: u64, forgotten: &mut usize) -> u32
     ensures status { result ≡ of_collector WRONG_HANDLE (λ s. DONE) held.old }
     ensures forgotten { forgotten.new ≡ of_collector forgotten.old (λ s. gone now s) held.old }
-    ensures fewer { (s : State) → held.old ≡ Held.Collector s → forgotten.new + map.len (after_expire now s).sources ≡ map.len s.sources }
-    ensures held { held.new ≡ of_collector held.old (λ s. Held.Collector (after_expire now s)) held.old }
+    ensures fewer { (s : State) → held.old ≡ Held.Collector s
+        → forgotten.new + map.len (after_expire now s).sources ≡ map.len s.sources }
+    ensures held { held.new
+        ≡ of_collector held.old (λ s. Held.Collector (after_expire now s)) held.old }
 {
     match held {
         Held::Collector(collector) => {
@@ -81,12 +88,19 @@ pub fn list(
     universes: &mut [u16],
     count: &mut usize,
 ) -> u32
-    ensures list { result ≡ DONE → IfSome (of_collector None (λ s. known_list (after_expire now s) cid.now) held.old) (λ list. ShowsList list count.new universes.new) }
-    ensures held { held.new ≡ of_collector held.old (λ s. Held.Collector (after_expire now s)) held.old }
-    ensures status { (result ≡ OUT_OF_MEMORY → ⊥) → result ≡ of_collector WRONG_HANDLE (λ s. list_status universes.old (known_list (after_expire now s) cid.now)) held.old }
-    ensures count { (result ≡ OUT_OF_MEMORY → ⊥) → count.new ≡ of_collector count.old (λ s. list_count count.old (known_list (after_expire now s) cid.now)) held.old }
-    ensures room { (result ≡ OUT_OF_MEMORY → ⊥) → universes.new ≡ of_collector universes.old (λ s. list_room universes.old (known_list (after_expire now s) cid.now)) held.old }
-    ensures lacking { result ≡ OUT_OF_MEMORY → (universes.new ≡ universes.old) × (count.new ≡ count.old) }
+    ensures list { result ≡ DONE
+        → IfSome (of_collector None (λ s. known_list (after_expire now s) cid.now) held.old)
+        (λ list. ShowsList list count.new universes.new) }
+    ensures held { held.new
+        ≡ of_collector held.old (λ s. Held.Collector (after_expire now s)) held.old }
+    ensures status { (result ≡ OUT_OF_MEMORY → ⊥) → result ≡ of_collector WRONG_HANDLE
+        (λ s. list_status universes.old (known_list (after_expire now s) cid.now)) held.old }
+    ensures count { (result ≡ OUT_OF_MEMORY → ⊥) → count.new ≡ of_collector count.old
+        (λ s. list_count count.old (known_list (after_expire now s) cid.now)) held.old }
+    ensures room { (result ≡ OUT_OF_MEMORY → ⊥) → universes.new ≡ of_collector universes.old
+        (λ s. list_room universes.old (known_list (after_expire now s) cid.now)) held.old }
+    ensures lacking { result ≡ OUT_OF_MEMORY
+        → (universes.new ≡ universes.old) × (count.new ≡ count.old) }
     ensures wrong { of_collector true (λ s. false) held.old ≡ true → result ≡ WRONG_HANDLE }
 {
     match held {

@@ -22,7 +22,8 @@ use std::alloc::Global;
 
 /// A show of octets, as `read_show`; `Toml` where they aren't UTF-8.
 fn show_of(alloc: Global, octets: &[u8]) -> Result<Show, ShowFault>
-    ensures text { IsUtf8 octets.now → Gives fault.OutOfMemory result (show_or_toml (parse_document octets.now)) }
+    ensures text { IsUtf8 octets.now
+        → Gives fault.OutOfMemory result (show_or_toml (parse_document octets.now)) }
     ensures is_text { IfOk result (λ s. IsUtf8 octets.now) }
     ensures no_text { ¬ (IsUtf8 octets.now) → IfErr result (λ f. f ≡ fault.Toml) }
     ensures made { IfOk result (λ s. show_or_toml (parse_document octets.now) ≡ Ok s) }
@@ -38,7 +39,8 @@ fn show_of(alloc: Global, octets: &[u8]) -> Result<Show, ShowFault>
 /// Errors: the number of the show's fault.
 #[tactic(auto, using(crate::proofs::Refusals::show_lacks, crate::proofs::Refusals::show_counts))]
 pub fn new(alloc: Global, octets: &[u8], first: u8) -> Result<Box<Held>, u32>
-    ensures made { IfOk result (λ made. ConsoleOf (show_or_toml (parse_document octets.now)) first made.value) }
+    ensures made { IfOk result
+        (λ made. ConsoleOf (show_or_toml (parse_document octets.now)) first made.value) }
     ensures is_text { IfOk result (λ made. IsUtf8 octets.now) }
     ensures refused { IfErr result (ShowStatus octets.now) }
     ensures told { IfErr result (λ status. 1 ≤ status) }
@@ -84,9 +86,12 @@ fn command_of(kind: u8, number: u16, level: u16) -> Option<Command>
 /// Takes the command of a number, as `ConsoleCore::command`. The status is the console's fault, or `RANGE`, and nothing changes, where no
 /// command has this number.
 pub fn command(held: &mut Held, now: u64, kind: u8, number: u16, level: u16) -> u32
-    ensures status { IfSome (command_of kind number level) (λ command. result ≡ of_console WRONG_HANDLE (λ c. answer_status (answer command (at now c))) held.old) }
-    ensures held { IfSome (command_of kind number level) (λ command. held.new ≡ of_console held.old (λ c. Held.Console (after_command now command c)) held.old) }
-    ensures refused { IfNone (command_of kind number level) ((result ≡ RANGE) × (held.new ≡ held.old)) }
+    ensures status { IfSome (command_of kind number level) (λ command. result
+        ≡ of_console WRONG_HANDLE (λ c. answer_status (answer command (at now c))) held.old) }
+    ensures held { IfSome (command_of kind number level) (λ command. held.new
+        ≡ of_console held.old (λ c. Held.Console (after_command now command c)) held.old) }
+    ensures refused { IfNone (command_of kind number level)
+        ((result ≡ RANGE) × (held.new ≡ held.old)) }
 {
     match command_of(kind, number, level) {
         Some(command) => order(held, now, command),
@@ -95,8 +100,10 @@ pub fn command(held: &mut Held, now: u64, kind: u8, number: u16, level: u16) -> 
 }
 
 fn order(held: &mut Held, now: u64, command: Command) -> u32
-    ensures status { result ≡ of_console WRONG_HANDLE (λ c. answer_status (answer command (at now c))) held.old }
-    ensures held { held.new ≡ of_console held.old (λ c. Held.Console (after_command now command c)) held.old }
+    ensures status { result
+        ≡ of_console WRONG_HANDLE (λ c. answer_status (answer command (at now c))) held.old }
+    ensures held { held.new
+        ≡ of_console held.old (λ c. Held.Console (after_command now command c)) held.old }
 {
     match held {
         Held::Console(console) => answer_status(console.command(now, command)),
@@ -108,10 +115,13 @@ fn order(held: &mut Held, now: u64, command: Command) -> u32
 #[tactic(auto, using(crate::proofs::Told::none_due))]
 pub fn poll(held: &mut Held, now: u64, out: &mut [u8; MAX_DATAGRAM], count: &mut usize) -> u32
     ensures status { result ≡ of_console WRONG_HANDLE (λ c. DONE) held.old }
-    ensures lawful { (c : Core) (d : Datagram) → held.old ≡ Held.Console c → due (at now c) ≡ Some d → IsLawful c.sender d }
-    ensures octets { out.new ≡ of_console out.old (λ c. over c.sender (due (at now c)) out.old) held.old }
+    ensures lawful { (c : Core) (d : Datagram) → held.old ≡ Held.Console c → due (at now c) ≡ Some d
+        → IsLawful c.sender d }
+    ensures octets { out.new
+        ≡ of_console out.old (λ c. over c.sender (due (at now c)) out.old) held.old }
     ensures count { count.new ≡ of_console count.old (λ c. due_size (due (at now c))) held.old }
-    ensures none { (c : Core) → held.old ≡ Held.Console c → (count.new ≡ 0) ↔ (due (at now c) ≡ None) }
+    ensures none { (c : Core) → held.old ≡ Held.Console c → (count.new ≡ 0)
+        ↔ (due (at now c) ≡ None) }
     ensures held { held.new ≡ of_console held.old (λ c. Held.Console (after_poll now c)) held.old }
 {
     match held {
@@ -127,9 +137,12 @@ pub fn poll(held: &mut Held, now: u64, out: &mut [u8; MAX_DATAGRAM], count: &mut
 pub fn wakes(held: &mut Held, moment: &mut u64) -> u32
     ensures status { result ≡ of_console WRONG_HANDLE (λ c. DONE) held.old }
     ensures unwritten { result ≡ WRONG_HANDLE → moment.new ≡ moment.old }
-    ensures ahead { 0 < moment.new → of_console 0 (λ c. min (c.moment + 1) last_moment) held.old ≤ moment.new }
+    ensures ahead { 0 < moment.new
+        → of_console 0 (λ c. min (c.moment + 1) last_moment) held.old ≤ moment.new }
     ensures quiet { (t : ℕ) → t < moment.new → of_console None (λ c. due (at t c)) held.old ≡ None }
-    ensures exact { of_console false (λ c. is_still c.lights.player && nat_lt moment.new last_moment) held.old ≡ true → of_console false (λ c. is_some (due (at moment.new c))) held.old ≡ true }
+    ensures exact { of_console false
+        (λ c. is_still c.lights.player && nat_lt moment.new last_moment) held.old ≡ true
+        → of_console false (λ c. is_some (due (at moment.new c))) held.old ≡ true }
     ensures held { held.new ≡ held.old }
 {
     match held {

@@ -38,9 +38,12 @@ pub fn take(
     octets: &[u8],
     news: &mut NewsFields,
 ) -> u32
-    ensures status { result ≡ of_monitor WRONG_HANDLE (λ b. noted_status (noted now (sender_of sender.now) octets.now b)) held.old }
-    ensures news { news.new ≡ of_monitor news.old (λ b. news_told (noted now (sender_of sender.now) octets.now b)) held.old }
-    ensures held { held.new ≡ of_monitor held.old (λ b. Held.Monitor (after_take now (sender_of sender.now) octets.now b)) held.old }
+    ensures status { result ≡ of_monitor WRONG_HANDLE
+        (λ b. noted_status (noted now (sender_of sender.now) octets.now b)) held.old }
+    ensures news { news.new ≡ of_monitor news.old
+        (λ b. news_told (noted now (sender_of sender.now) octets.now b)) held.old }
+    ensures held { held.new ≡ of_monitor held.old
+        (λ b. Held.Monitor (after_take now (sender_of sender.now) octets.now b)) held.old }
 {
     match held {
         Held::Monitor(monitor) => tell(&monitor.take(now, sender_of(sender), octets), news),
@@ -51,8 +54,10 @@ pub fn take(
 /// Moves the clock, and tells the place of a source that is lost by then and of which that wasn't told yet, as `Monitor::tick`. The status is
 /// `RANGE`, and the place as it was, where there is none.
 pub fn tick(held: &mut Held, now: u64, place: &mut usize) -> u32
-    ensures status { result ≡ of_monitor WRONG_HANDLE (λ b. found_status (silent_place (max b.moment now) b.streams)) held.old }
-    ensures place { place.new ≡ of_monitor place.old (λ b. found_or place.old (silent_place (max b.moment now) b.streams)) held.old }
+    ensures status { result ≡ of_monitor WRONG_HANDLE
+        (λ b. found_status (silent_place (max b.moment now) b.streams)) held.old }
+    ensures place { place.new ≡ of_monitor place.old
+        (λ b. found_or place.old (silent_place (max b.moment now) b.streams)) held.old }
     ensures held { held.new ≡ of_monitor held.old (λ b. Held.Monitor (after_tick now b)) held.old }
 {
     match held {
@@ -98,8 +103,10 @@ pub fn count(held: &Held, count: &mut usize) -> u32
 /// The account of the pair at a place, in the order in which they appeared, from 0 on; its state and rate are those of the greatest moment
 /// that was handed in. The status is `RANGE`, and the fields as they were, where there is none.
 pub fn account(held: &Held, place: usize, fields: &mut StreamFields) -> u32
-    ensures status { result ≡ of_monitor WRONG_HANDLE (λ b. found_status (slice_get b.streams place)) held.now }
-    ensures fields { fields.new ≡ of_monitor fields.old (λ b. found_or fields.old (option_map (stream_told b.moment) (slice_get b.streams place))) held.now }
+    ensures status { result
+        ≡ of_monitor WRONG_HANDLE (λ b. found_status (slice_get b.streams place)) held.now }
+    ensures fields { fields.new ≡ of_monitor fields.old (λ b. found_or fields.old
+        (option_map (stream_told b.moment) (slice_get b.streams place))) held.now }
 {
     match held {
         Held::Monitor(monitor) => match monitor.streams().get(place) {
@@ -116,8 +123,10 @@ pub fn account(held: &Held, place: usize, fields: &mut StreamFields) -> u32
 /// How many sources light a universe at the greatest priority of those that light it, as `Monitor::rivals` and `Monitor::top_priority`.
 pub fn rivals(held: &Held, universe: u16, count: &mut usize, priority: &mut u8) -> u32
     ensures status { result ≡ of_monitor WRONG_HANDLE (λ b. DONE) held.now }
-    ensures count { count.new ≡ of_monitor count.old (λ b. rivals universe b.moment b.streams) held.now }
-    ensures priority { priority.new ≡ of_monitor priority.old (λ b. top_priority universe b.moment b.streams) held.now }
+    ensures count { count.new
+        ≡ of_monitor count.old (λ b. rivals universe b.moment b.streams) held.now }
+    ensures priority { priority.new
+        ≡ of_monitor priority.old (λ b. top_priority universe b.moment b.streams) held.now }
 {
     match held {
         Held::Monitor(monitor) => {

@@ -180,7 +180,7 @@ pub(crate) fn stream_told(moment: u64, stream: &Stream) -> StreamFields
         port: account.sender.port,
         address: account.sender.address,
         priority: account.priority,
-        number: account.number,
+        number: account.sequence_number,
         state: state_number(stream.state(moment)),
         unused: 0,
         unused_too: [0; 4],

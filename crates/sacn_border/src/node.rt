@@ -30,7 +30,8 @@ use std::alloc::Global;
 
 /// A setup of octets, as `read_node`; `Toml` where they aren't UTF-8.
 fn setup_of(alloc: Global, octets: &[u8]) -> Result<NodeSetup, SetupFault>
-    ensures text { IsUtf8 octets.now → Gives fault.OutOfMemory result (setup_or_toml (parse_document octets.now)) }
+    ensures text { IsUtf8 octets.now
+        → Gives fault.OutOfMemory result (setup_or_toml (parse_document octets.now)) }
     ensures is_text { IfOk result (λ s. IsUtf8 octets.now) }
     ensures no_text { ¬ (IsUtf8 octets.now) → IfErr result (λ f. f ≡ fault.Toml) }
     ensures made { IfOk result (λ s. setup_or_toml (parse_document octets.now) ≡ Ok s) }
@@ -46,7 +47,8 @@ fn setup_of(alloc: Global, octets: &[u8]) -> Result<NodeSetup, SetupFault>
 /// Errors: the number of the setup's fault.
 #[tactic(auto, using(crate::proofs::Refusals::setup_lacks, crate::proofs::Refusals::setup_counts))]
 pub fn new(alloc: Global, octets: &[u8], udp_port: &mut u16) -> Result<Box<Held>, u32>
-    ensures made { IfOk result (λ made. NodeOf (setup_or_toml (parse_document octets.now)) made.value udp_port.new) }
+    ensures made { IfOk result
+        (λ made. NodeOf (setup_or_toml (parse_document octets.now)) made.value udp_port.new) }
     ensures is_text { IfOk result (λ made. IsUtf8 octets.now) }
     ensures refused { IfErr result (SetupStatus octets.now) }
     ensures told { IfErr result (λ status. 1 ≤ status) }
@@ -70,9 +72,12 @@ pub fn new(alloc: Global, octets: &[u8], udp_port: &mut u16) -> Result<Box<Held>
 
 /// Takes a datagram, as `NodeCore::take`. The status is the fault of one that is no packet.
 pub fn take(held: &mut Held, now: u64, octets: &[u8], taken: &mut u8) -> u32
-    ensures status { result ≡ of_node WRONG_HANDLE (λ n. node_taken_status (reply_to (reading_packet octets.now) now n.core)) held.old }
-    ensures taken { taken.new ≡ of_node taken.old (λ n. node_taken_number (reply_to (reading_packet octets.now) now n.core)) held.old }
-    ensures held { held.new ≡ of_node held.old (λ n. Held.Node (record n { core = after_reading (reading_packet octets.now) now n.core })) held.old }
+    ensures status { result ≡ of_node WRONG_HANDLE
+        (λ n. node_taken_status (reply_to (reading_packet octets.now) now n.core)) held.old }
+    ensures taken { taken.new ≡ of_node taken.old
+        (λ n. node_taken_number (reply_to (reading_packet octets.now) now n.core)) held.old }
+    ensures held { held.new ≡ of_node held.old (λ n. Held.Node
+        (record n { core = after_reading (reading_packet octets.now) now n.core })) held.old }
 {
     match held {
         Held::Node(node) => {
@@ -88,7 +93,8 @@ pub fn take(held: &mut Held, now: u64, octets: &[u8], taken: &mut u8) -> u32
 pub fn tick(held: &mut Held, now: u64, lost: &mut usize) -> u32
     ensures status { result ≡ of_node WRONG_HANDLE (λ n. DONE) held.old }
     ensures lost { lost.new ≡ of_node lost.old (λ n. core_lost now n.core) held.old }
-    ensures held { held.new ≡ of_node held.old (λ n. Held.Node (record n { core = core_at now n.core })) held.old }
+    ensures held { held.new
+        ≡ of_node held.old (λ n. Held.Node (record n { core = core_at now n.core })) held.old }
 {
     match held {
         Held::Node(node) => {
@@ -101,9 +107,12 @@ pub fn tick(held: &mut Held, now: u64, lost: &mut usize) -> u32
 
 /// Writes the frame of a port, as `NodeCore::frame`. The status is `RANGE`, and the frame as it was, where there is no such port.
 pub fn frame(held: &mut Held, now: u64, port: u8, frame: &mut [u8; FRAME_OCTETS]) -> u32
-    ensures status { result ≡ of_node WRONG_HANDLE (λ n. frame_status (node_frame port (record n { core = core_at now n.core }))) held.old }
-    ensures frame { frame.new ≡ of_node frame.old (λ n. frame_or frame.old (node_frame port (record n { core = core_at now n.core }))) held.old }
-    ensures held { held.new ≡ of_node held.old (λ n. Held.Node (record n { core = core_at now n.core })) held.old }
+    ensures status { result ≡ of_node WRONG_HANDLE
+        (λ n. frame_status (node_frame port (record n { core = core_at now n.core }))) held.old }
+    ensures frame { frame.new ≡ of_node frame.old (λ n.
+        frame_or frame.old (node_frame port (record n { core = core_at now n.core }))) held.old }
+    ensures held { held.new
+        ≡ of_node held.old (λ n. Held.Node (record n { core = core_at now n.core })) held.old }
 {
     match held {
         Held::Node(node) => match node.frame(now, port, frame) {
@@ -116,11 +125,14 @@ pub fn frame(held: &mut Held, now: u64, port: u8, frame: &mut [u8; FRAME_OCTETS]
 
 /// The first moment at which a tick drops a source, as `NodeCore::wakes`. The status is `RANGE`, and the moment `u64::MAX`, where no tick drops any.
 pub fn wakes(held: &Held, moment: &mut u64) -> u32
-    ensures status { result ≡ of_node WRONG_HANDLE (λ n. if result == RANGE then RANGE else DONE) held.now }
+    ensures status { result
+        ≡ of_node WRONG_HANDLE (λ n. if result == RANGE then RANGE else DONE) held.now }
     ensures unwritten { result ≡ WRONG_HANDLE → moment.new ≡ moment.old }
-    ensures never { result ≡ RANGE → (t : ℕ) → t < 2 ^ 64 → of_node 0 (λ n. core_lost t n.core) held.now ≡ 0 }
+    ensures never { result ≡ RANGE → (t : ℕ) → t < 2 ^ 64
+        → of_node 0 (λ n. core_lost t n.core) held.now ≡ 0 }
     ensures latest { result ≡ RANGE → moment.new ≡ 2 ^ 64 - 1 }
-    ensures asleep { result ≡ DONE → (t : ℕ) → t < moment.new → of_node 0 (λ n. core_lost t n.core) held.now ≡ 0 }
+    ensures asleep { result ≡ DONE → (t : ℕ) → t < moment.new
+        → of_node 0 (λ n. core_lost t n.core) held.now ≡ 0 }
     ensures awake { result ≡ DONE → 1 ≤ of_node 0 (λ n. core_lost moment.new n.core) held.now }
 {
     match held {
@@ -141,9 +153,11 @@ pub fn wakes(held: &Held, moment: &mut u64) -> u32
 /// Copies the numbers of the ports, ascending, to the front of a room, and tells how many there are. The status is `LENGTH`, and the room as
 /// it was, where there is too little of it.
 pub fn ports(held: &Held, ports: &mut [u8], count: &mut usize) -> u32
-    ensures status { result ≡ of_node WRONG_HANDLE (λ n. room_status ports.old (port_numbers n.ports)) held.now }
+    ensures status { result
+        ≡ of_node WRONG_HANDLE (λ n. room_status ports.old (port_numbers n.ports)) held.now }
     ensures count { count.new ≡ of_node count.old (λ n. length (port_numbers n.ports)) held.now }
-    ensures ports { ports.new ≡ of_node ports.old (λ n. room_with ports.old (port_numbers n.ports)) held.now }
+    ensures ports { ports.new
+        ≡ of_node ports.old (λ n. room_with ports.old (port_numbers n.ports)) held.now }
     ensures rising { IsStrictlyIncreasing (of_node [] (λ n. port_numbers n.ports) held.now) }
     ensures few { length (of_node [] (λ n. port_numbers n.ports) held.now) ≤ MAX_PORTS }
 {
@@ -162,10 +176,14 @@ pub fn held(
     source: &mut SourceFields,
     slots: &mut [u8; 512],
 ) -> u32
-    ensures status { result ≡ of_node WRONG_HANDLE (λ n. found_status (core_row universe cid.now n.core)) held.now }
-    ensures source { source.new ≡ of_node source.old (λ n. found_or source.old (option_map source_told (core_row universe cid.now n.core))) held.now }
-    ensures slots { IfSome (of_node None (λ n. core_row universe cid.now n.core) held.now) (λ r. (i : ℕ) → i < 512 → slice_index slots.new i ≡ slice_index (levels_told r.shown) i) }
-    ensures unwritten { of_node None (λ n. core_row universe cid.now n.core) held.now ≡ None → slots.new ≡ slots.old }
+    ensures status { result
+        ≡ of_node WRONG_HANDLE (λ n. found_status (core_row universe cid.now n.core)) held.now }
+    ensures source { source.new ≡ of_node source.old (λ n.
+        found_or source.old (option_map source_told (core_row universe cid.now n.core))) held.now }
+    ensures slots { IfSome (of_node None (λ n. core_row universe cid.now n.core) held.now)
+        (λ r. (i : ℕ) → i < 512 → slice_index slots.new i ≡ slice_index (levels_told r.shown) i) }
+    ensures unwritten { of_node None (λ n. core_row universe cid.now n.core) held.now ≡ None
+        → slots.new ≡ slots.old }
 {
     match held {
         Held::Node(node) => match node.held(universe, cid) {

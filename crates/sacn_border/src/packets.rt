@@ -72,7 +72,8 @@ pub fn read_fields(octets: &[u8], packet: &mut PacketFields) -> u32
     // What is told stands there.
     ensures found { IfOk (reading_packet octets.now) (Reads octets.now) }
     // What stands there is told.
-    ensures only { (p : Packet) → Reads octets.now p → (result ≡ DONE) × (packet.new ≡ fields_with packet.old p) }
+    ensures only { (p : Packet) → Reads octets.now p
+        → (result ≡ DONE) × (packet.new ≡ fields_with packet.old p) }
     ensures status { result ≡ packet_status (reading_packet octets.now) }
     ensures fields { IfOk (reading_packet octets.now) (Tells packet.new) }
     ensures others { packet.new ≡ fields_after packet.old (reading_packet octets.now) }
@@ -102,7 +103,8 @@ pub fn read_data(octets: &[u8], packet: &mut PacketFields, frame: &mut [u8; 513]
     // What is told stands there.
     ensures found { IfOk (reading_packet octets.now) (Reads octets.now) }
     // What stands there is told.
-    ensures only { (p : Packet) → Reads octets.now p → (result ≡ DONE) × (packet.new ≡ fields_with packet.old p) }
+    ensures only { (p : Packet) → Reads octets.now p
+        → (result ≡ DONE) × (packet.new ≡ fields_with packet.old p) }
     ensures status { result ≡ packet_status (reading_packet octets.now) }
     ensures fields { IfOk (reading_packet octets.now) (Tells packet.new) }
     ensures others { packet.new ≡ fields_after packet.old (reading_packet octets.now) }
@@ -136,8 +138,10 @@ pub fn write_fields(
     out: &mut [u8; 638],
     count: &mut usize,
 ) -> u32
-    ensures octets { result ≡ DONE → out.new ≡ data_text (written packet.now slots.now) nothing ++ drop count.new out.old }
-    ensures reading { result ≡ DONE → (rest : List ℕ) → reading_packet (take count.new out.new ++ rest) ≡ Ok (DataPacket (written packet.now slots.now)) }
+    ensures octets { result ≡ DONE
+        → out.new ≡ data_text (written packet.now slots.now) nothing ++ drop count.new out.old }
+    ensures reading { result ≡ DONE → (rest : List ℕ) → reading_packet
+        (take count.new out.new ++ rest) ≡ Ok (DataPacket (written packet.now slots.now)) }
     ensures refused { (result ≡ DONE → ⊥) → out.new ≡ out.old }
     ensures status { result ≡ write_status packet.now slots.now }
     ensures count { count.new ≡ (if result == DONE then 126 + length slots.now else count.old) }
@@ -173,7 +177,8 @@ pub fn write_fields(
 pub fn sequence_bit(held: u8, arrived: u8) -> u8
     ensures value { result ≡ bit_of (not (is_late held arrived)) }
     ensures discarded { (result ≡ 0) ↔ IsOutOfSequence held arrived }
-    ensures ahead { (result ≡ 1) ↔ (1 ≤ (arrived + 256 - held) % 256) × ((arrived + 256 - held) % 256 ≤ 236) }
+    ensures ahead { (result ≡ 1)
+        ↔ (1 ≤ (arrived + 256 - held) % 256) × ((arrived + 256 - held) % 256 ≤ 236) }
 {
     bit_of(in_sequence(held, arrived))
 }

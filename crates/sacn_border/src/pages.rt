@@ -71,9 +71,14 @@ pub fn write_universes(
     out: &mut [u8; 1144],
     count: &mut usize,
 ) -> u32
-    ensures octets { result ≡ DONE → out.new ≡ page_text (page_of_list list.now packet.now.page packet.now.cid packet.now.name) unused ++ drop count.new out.old }
-    ensures count { result ≡ DONE → count.new ≡ 120 + 2 * length (numbers_on list.now packet.now.page) }
-    ensures reading { result ≡ DONE → (rest : List ℕ) → reading_packet (take count.new out.new ++ rest) ≡ Ok (PagePacket (page_of_list list.now packet.now.page packet.now.cid packet.now.name)) }
+    ensures octets { result ≡ DONE → out.new
+        ≡ page_text (page_of_list list.now packet.now.page packet.now.cid packet.now.name) unused
+        ++ drop count.new out.old }
+    ensures count { result ≡ DONE
+        → count.new ≡ 120 + 2 * length (numbers_on list.now packet.now.page) }
+    ensures reading { result ≡ DONE → (rest : List ℕ)
+        → reading_packet (take count.new out.new ++ rest)
+        ≡ Ok (PagePacket (page_of_list list.now packet.now.page packet.now.cid packet.now.name)) }
     ensures done { IsPageOf packet.now list.now → result ≡ DONE }
     ensures only { result ≡ DONE → IsPageOf packet.now list.now }
     ensures status { (result ≡ DONE → ⊥) → result ≡ RANGE }

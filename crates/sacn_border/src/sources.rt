@@ -64,9 +64,12 @@ fn take_into(table: &mut SourceTable, now: u64, octets: &[u8], taken: &mut u8) -
 
 /// Takes a datagram, as `SourceTable::take`.
 pub fn take(held: &mut Held, now: u64, octets: &[u8], taken: &mut u8) -> u32
-    ensures status { result ≡ of_sources WRONG_HANDLE (λ k. packet_status (reading_packet octets.now)) held.old }
-    ensures taken { taken.new ≡ of_sources taken.old (λ k. source_number now (reading_packet octets.now) k) held.old }
-    ensures held { held.new ≡ of_sources held.old (λ k. Held.Sources (after_reading now (reading_packet octets.now) k)) held.old }
+    ensures status { result
+        ≡ of_sources WRONG_HANDLE (λ k. packet_status (reading_packet octets.now)) held.old }
+    ensures taken { taken.new
+        ≡ of_sources taken.old (λ k. source_number now (reading_packet octets.now) k) held.old }
+    ensures held { held.new ≡ of_sources held.old
+        (λ k. Held.Sources (after_reading now (reading_packet octets.now) k)) held.old }
 {
     match held {
         Held::Sources(table) => take_into(table, now, octets, taken),
@@ -77,8 +80,10 @@ pub fn take(held: &mut Held, now: u64, octets: &[u8], taken: &mut u8) -> u32
 /// Writes the merge, as `SourceTable::merged`.
 pub fn merged(held: &mut Held, now: u64, slots: &mut [u8; 512]) -> u32
     ensures status { result ≡ of_sources WRONG_HANDLE (λ k. DONE) held.old }
-    ensures slots { slots.new ≡ of_sources slots.old (λ k. slots_of (after_expire now k.table).rows) held.old }
-    ensures held { held.new ≡ of_sources held.old (λ k. Held.Sources (kept_after_merged now k)) held.old }
+    ensures slots { slots.new
+        ≡ of_sources slots.old (λ k. slots_of (after_expire now k.table).rows) held.old }
+    ensures held { held.new
+        ≡ of_sources held.old (λ k. Held.Sources (kept_after_merged now k)) held.old }
 {
     match held {
         Held::Sources(table) => {
@@ -92,9 +97,11 @@ pub fn merged(held: &mut Held, now: u64, slots: &mut [u8; 512]) -> u32
 /// Moves the clock, as `SourceTable::expire`.
 pub fn tick(held: &mut Held, now: u64, lost: &mut usize) -> u32
     ensures status { result ≡ of_sources WRONG_HANDLE (λ k. DONE) held.old }
-    ensures lost { lost.new ≡ of_sources lost.old (λ k. rows_lost (max k.table.moment now) k.table.rows) held.old }
+    ensures lost { lost.new
+        ≡ of_sources lost.old (λ k. rows_lost (max k.table.moment now) k.table.rows) held.old }
     ensures few { result ≡ DONE → lost.new ≤ MAX_SOURCES }
-    ensures held { held.new ≡ of_sources held.old (λ k. Held.Sources (kept_after_expire now k)) held.old }
+    ensures held { held.new
+        ≡ of_sources held.old (λ k. Held.Sources (kept_after_expire now k)) held.old }
 {
     match held {
         Held::Sources(table) => {
@@ -107,12 +114,16 @@ pub fn tick(held: &mut Held, now: u64, lost: &mut usize) -> u32
 
 /// The first moment at which a tick drops a source, as `SourceTable::wakes`. The status is `RANGE`, and the moment `u64::MAX`, where no tick drops any.
 pub fn wakes(held: &Held, moment: &mut u64) -> u32
-    ensures status { result ≡ of_sources WRONG_HANDLE (λ k. if result == RANGE then RANGE else DONE) held.now }
+    ensures status { result
+        ≡ of_sources WRONG_HANDLE (λ k. if result == RANGE then RANGE else DONE) held.now }
     ensures unwritten { result ≡ WRONG_HANDLE → moment.new ≡ moment.old }
-    ensures never { result ≡ RANGE → (t : ℕ) → t < 2 ^ 64 → of_sources 0 (λ k. rows_lost (max k.table.moment t) k.table.rows) held.now ≡ 0 }
+    ensures never { result ≡ RANGE → (t : ℕ) → t < 2 ^ 64
+        → of_sources 0 (λ k. rows_lost (max k.table.moment t) k.table.rows) held.now ≡ 0 }
     ensures latest { result ≡ RANGE → moment.new ≡ 2 ^ 64 - 1 }
-    ensures asleep { result ≡ DONE → (t : ℕ) → t < moment.new → of_sources 0 (λ k. rows_lost (max k.table.moment t) k.table.rows) held.now ≡ 0 }
-    ensures awake { result ≡ DONE → 1 ≤ of_sources 0 (λ k. rows_lost (max k.table.moment moment.new) k.table.rows) held.now }
+    ensures asleep { result ≡ DONE → (t : ℕ) → t < moment.new
+        → of_sources 0 (λ k. rows_lost (max k.table.moment t) k.table.rows) held.now ≡ 0 }
+    ensures awake { result ≡ DONE
+        → 1 ≤ of_sources 0 (λ k. rows_lost (max k.table.moment moment.new) k.table.rows) held.now }
 {
     match held {
         Held::Sources(table) => match table.wakes() {
@@ -143,10 +154,14 @@ pub struct SourceFields {
 /// What a table holds of the source of a CID, as `SourceTable::held`, with the levels that it shows. The status is `RANGE`, and nothing is
 /// written, where it holds none.
 pub fn held(held: &Held, cid: &[u8; 16], source: &mut SourceFields, slots: &mut [u8; 512]) -> u32
-    ensures status { result ≡ of_sources WRONG_HANDLE (λ k. found_status (row_of cid.now k.table.rows)) held.now }
-    ensures source { source.new ≡ of_sources source.old (λ k. found_or source.old (option_map source_told (row_of cid.now k.table.rows))) held.now }
-    ensures slots { IfSome (of_sources None (λ k. row_of cid.now k.table.rows) held.now) (λ r. (i : ℕ) → i < 512 → slice_index slots.new i ≡ slice_index (levels_told r.shown) i) }
-    ensures unwritten { of_sources None (λ k. row_of cid.now k.table.rows) held.now ≡ None → slots.new ≡ slots.old }
+    ensures status { result
+        ≡ of_sources WRONG_HANDLE (λ k. found_status (row_of cid.now k.table.rows)) held.now }
+    ensures source { source.new ≡ of_sources source.old
+        (λ k. found_or source.old (option_map source_told (row_of cid.now k.table.rows))) held.now }
+    ensures slots { IfSome (of_sources None (λ k. row_of cid.now k.table.rows) held.now)
+        (λ r. (i : ℕ) → i < 512 → slice_index slots.new i ≡ slice_index (levels_told r.shown) i) }
+    ensures unwritten { of_sources None (λ k. row_of cid.now k.table.rows) held.now ≡ None
+        → slots.new ≡ slots.old }
 {
     match held {
         Held::Sources(table) => match table.held(cid) {
@@ -163,7 +178,8 @@ pub fn held(held: &Held, cid: &[u8; 16], source: &mut SourceFields, slots: &mut 
 /// Tells what is held of a source, and the levels that it shows.
 pub(crate) fn put_source(view: &HeldView<'_>, source: &mut SourceFields, slots: &mut [u8; 512])
     ensures source { source.new ≡ source_told view.now }
-    ensures slots { (i : ℕ) → i < 512 → slice_index slots.new i ≡ slice_index (levels_told view.now.shown) i }
+    ensures slots { (i : ℕ) → i < 512
+        → slice_index slots.new i ≡ slice_index (levels_told view.now.shown) i }
 {
     *source = source_told(view);
     put_shown(view, slots);
@@ -183,7 +199,8 @@ fn source_told(view: &HeldView<'_>) -> SourceFields
 
 /// The levels that a source shows, and 0 in each slot of one that has ended.
 fn put_shown(view: &HeldView<'_>, slots: &mut [u8; 512])
-    ensures { (i : ℕ) → i < 512 → slice_index slots.new i ≡ slice_index (levels_told view.now.shown) i }
+    ensures { (i : ℕ) → i < 512
+        → slice_index slots.new i ≡ slice_index (levels_told view.now.shown) i }
 {
     match view.levels() {
         Some(levels) => put_levels(levels, slots),

@@ -26,8 +26,10 @@ pub struct LineFields {
 /// What is kept of the universe at a place, by ascending number, from 0 on, as `ConsoleCore::lines`. The status is `RANGE`, and the fields as
 /// they were, where there is none.
 pub fn universe(held: &Held, place: usize, fields: &mut LineFields) -> u32
-    ensures status { result ≡ of_console WRONG_HANDLE (λ c. found_status (slice_get c.lines place)) held.now }
-    ensures fields { fields.new ≡ of_console fields.old (λ c. found_or fields.old (option_map line_told (slice_get c.lines place))) held.now }
+    ensures status { result
+        ≡ of_console WRONG_HANDLE (λ c. found_status (slice_get c.lines place)) held.now }
+    ensures fields { fields.new ≡ of_console fields.old
+        (λ c. found_or fields.old (option_map line_told (slice_get c.lines place))) held.now }
     ensures ascending { Rising (of_console [] (λ c. universes_of c.lines) held.now) }
 {
     match held {
@@ -66,8 +68,10 @@ fn line_told(line: &UniverseLine) -> LineFields
 
 /// The number of the cue that was gone to last, as `ConsoleCore::cue`. The status is `RANGE`, and the number as it was, before the first.
 pub fn cue(held: &Held, number: &mut u16) -> u32
-    ensures status { result ≡ of_console WRONG_HANDLE (λ c. found_status c.lights.player.current) held.now }
-    ensures number { number.new ≡ of_console number.old (λ c. found_or number.old c.lights.player.current) held.now }
+    ensures status { result
+        ≡ of_console WRONG_HANDLE (λ c. found_status c.lights.player.current) held.now }
+    ensures number { number.new
+        ≡ of_console number.old (λ c. found_or number.old c.lights.player.current) held.now }
 {
     match held {
         Held::Console(console) => match console.cue() {

@@ -38,9 +38,12 @@ pub extern "C" fn sacn_proved_collector_take(
     octets: &[u8],
 ) -> u32
     requires { is_some handle.old.value ≡ true }
-    ensures taken { result ≡ DONE → handle.new.value ≡ option_map (λ held. of_collector held (λ s. Held.Collector (after_reading now (reading_packet octets.now) s)) held) handle.old.value }
-    ensures status { IfSome handle.old.value (λ held. result ≡ of_collector WRONG_HANDLE (λ s. collect_status (reading_packet octets.now) result) held) }
-    ensures after { handle.new.value ≡ option_map (λ held. of_collector held (λ s. Held.Collector (collected result now (reading_packet octets.now) s)) held) handle.old.value }
+    ensures taken { result ≡ DONE → handle.new.value ≡ option_map (λ held. of_collector held (λ s.
+        Held.Collector (after_reading now (reading_packet octets.now) s)) held) handle.old.value }
+    ensures status { IfSome handle.old.value (λ held. result
+        ≡ of_collector WRONG_HANDLE (λ s. collect_status (reading_packet octets.now) result) held) }
+    ensures after { handle.new.value ≡ option_map (λ held. of_collector held (λ s. Held.Collector
+        (collected result now (reading_packet octets.now) s)) held) handle.old.value }
 {
     let mut held = take_out(alloc, handle);
     let status = collector::take(held.as_mut(), now, octets);
@@ -57,10 +60,14 @@ pub extern "C" fn sacn_proved_collector_tick(
     forgotten: &mut usize,
 ) -> u32
     requires { is_some handle.old.value ≡ true }
-    ensures status { IfSome handle.old.value (λ held. result ≡ of_collector WRONG_HANDLE (λ s. DONE) held) }
-    ensures forgotten { IfSome handle.old.value (λ held. forgotten.new ≡ of_collector forgotten.old (λ s. gone now s) held) }
-    ensures fewer { (s : State) → handle.old.value ≡ Some (Held.Collector s) → forgotten.new + map.len (after_expire now s).sources ≡ map.len s.sources }
-    ensures after { handle.new.value ≡ option_map (λ held. of_collector held (λ s. Held.Collector (after_expire now s)) held) handle.old.value }
+    ensures status { IfSome handle.old.value
+        (λ held. result ≡ of_collector WRONG_HANDLE (λ s. DONE) held) }
+    ensures forgotten { IfSome handle.old.value
+        (λ held. forgotten.new ≡ of_collector forgotten.old (λ s. gone now s) held) }
+    ensures fewer { (s : State) → handle.old.value ≡ Some (Held.Collector s)
+        → forgotten.new + map.len (after_expire now s).sources ≡ map.len s.sources }
+    ensures after { handle.new.value ≡ option_map (λ held.
+        of_collector held (λ s. Held.Collector (after_expire now s)) held) handle.old.value }
 {
     let mut held = take_out(alloc, handle);
     let status = collector::tick(held.as_mut(), now, forgotten);
@@ -79,13 +86,24 @@ pub extern "C" fn sacn_proved_collector_list(
     count: &mut usize,
 ) -> u32
     requires { is_some handle.old.value ≡ true }
-    ensures list { result ≡ DONE → IfSome handle.old.value (λ held. IfSome (of_collector None (λ s. known_list (after_expire now s) cid.now) held) (λ list. ShowsList list count.new universes.new)) }
-    ensures after { handle.new.value ≡ option_map (λ held. of_collector held (λ s. Held.Collector (after_expire now s)) held) handle.old.value }
-    ensures status { (result ≡ OUT_OF_MEMORY → ⊥) → IfSome handle.old.value (λ held. result ≡ of_collector WRONG_HANDLE (λ s. list_status universes.old (known_list (after_expire now s) cid.now)) held) }
-    ensures count { (result ≡ OUT_OF_MEMORY → ⊥) → IfSome handle.old.value (λ held. count.new ≡ of_collector count.old (λ s. list_count count.old (known_list (after_expire now s) cid.now)) held) }
-    ensures room { (result ≡ OUT_OF_MEMORY → ⊥) → IfSome handle.old.value (λ held. universes.new ≡ of_collector universes.old (λ s. list_room universes.old (known_list (after_expire now s) cid.now)) held) }
-    ensures lacking { result ≡ OUT_OF_MEMORY → (universes.new ≡ universes.old) × (count.new ≡ count.old) }
-    ensures wrong { IfSome handle.old.value (λ held. of_collector true (λ s. false) held ≡ true → result ≡ WRONG_HANDLE) }
+    ensures list { result ≡ DONE → IfSome handle.old.value
+        (λ held. IfSome (of_collector None (λ s. known_list (after_expire now s) cid.now) held)
+        (λ list. ShowsList list count.new universes.new)) }
+    ensures after { handle.new.value ≡ option_map (λ held.
+        of_collector held (λ s. Held.Collector (after_expire now s)) held) handle.old.value }
+    ensures status { (result ≡ OUT_OF_MEMORY → ⊥)
+        → IfSome handle.old.value (λ held. result ≡ of_collector WRONG_HANDLE
+        (λ s. list_status universes.old (known_list (after_expire now s) cid.now)) held) }
+    ensures count { (result ≡ OUT_OF_MEMORY → ⊥)
+        → IfSome handle.old.value (λ held. count.new ≡ of_collector count.old
+        (λ s. list_count count.old (known_list (after_expire now s) cid.now)) held) }
+    ensures room { (result ≡ OUT_OF_MEMORY → ⊥)
+        → IfSome handle.old.value (λ held. universes.new ≡ of_collector universes.old
+        (λ s. list_room universes.old (known_list (after_expire now s) cid.now)) held) }
+    ensures lacking { result ≡ OUT_OF_MEMORY
+        → (universes.new ≡ universes.old) × (count.new ≡ count.old) }
+    ensures wrong { IfSome handle.old.value
+        (λ held. of_collector true (λ s. false) held ≡ true → result ≡ WRONG_HANDLE) }
 {
     let mut held = take_out(alloc, handle);
     let status = collector::list(held.as_mut(), now, cid, universes, count);

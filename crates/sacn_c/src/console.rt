@@ -28,7 +28,8 @@ pub extern "C" fn sacn_proved_console_new(
     text: &[u8],
     first: u8,
 ) -> u32
-    ensures made { result ≡ DONE → MatchOption handle.new.value ⊥ (ConsoleOf (show_or_toml (parse_document text.now)) first) }
+    ensures made { result ≡ DONE → MatchOption handle.new.value ⊥
+        (ConsoleOf (show_or_toml (parse_document text.now)) first) }
     ensures is_text { result ≡ DONE → IsUtf8 text.now }
     ensures refused { (result ≡ DONE → ⊥) → handle.new.value ≡ handle.old.value }
     ensures status { (result ≡ DONE → ⊥) → ShowStatus text.now result }
@@ -54,9 +55,14 @@ pub extern "C" fn sacn_proved_console_command(
     level: u16,
 ) -> u32
     requires { is_some handle.old.value ≡ true }
-    ensures status { IfSome (command_of kind number level) (λ command. IfSome handle.old.value (λ held. result ≡ of_console WRONG_HANDLE (λ c. answer_status (answer command (at now c))) held)) }
-    ensures after { IfSome (command_of kind number level) (λ command. handle.new.value ≡ option_map (λ held. of_console held (λ c. Held.Console (after_command now command c)) held) handle.old.value) }
-    ensures refused { IfNone (command_of kind number level) ((result ≡ RANGE) × (handle.new.value ≡ handle.old.value)) }
+    ensures status { IfSome
+        (command_of kind number level) (λ command. IfSome handle.old.value (λ held. result
+        ≡ of_console WRONG_HANDLE (λ c. answer_status (answer command (at now c))) held)) }
+    ensures after { IfSome (command_of kind number level)
+        (λ command. handle.new.value ≡ option_map (λ held.
+        of_console held (λ c. Held.Console (after_command now command c)) held) handle.old.value) }
+    ensures refused { IfNone (command_of kind number level)
+        ((result ≡ RANGE) × (handle.new.value ≡ handle.old.value)) }
 {
     let mut held = take_out(alloc, handle);
     let status = console::command(held.as_mut(), now, kind, number, level);
@@ -74,12 +80,18 @@ pub extern "C" fn sacn_proved_console_poll(
     count: &mut usize,
 ) -> u32
     requires { is_some handle.old.value ≡ true }
-    ensures status { IfSome handle.old.value (λ held. result ≡ of_console WRONG_HANDLE (λ c. DONE) held) }
-    ensures lawful { (c : Core) (d : Datagram) → handle.old.value ≡ Some (Held.Console c) → due (at now c) ≡ Some d → IsLawful c.sender d }
-    ensures octets { IfSome handle.old.value (λ held. out.new ≡ of_console out.old (λ c. over c.sender (due (at now c)) out.old) held) }
-    ensures count { IfSome handle.old.value (λ held. count.new ≡ of_console count.old (λ c. due_size (due (at now c))) held) }
-    ensures none { (c : Core) → handle.old.value ≡ Some (Held.Console c) → (count.new ≡ 0) ↔ (due (at now c) ≡ None) }
-    ensures after { handle.new.value ≡ option_map (λ held. of_console held (λ c. Held.Console (after_poll now c)) held) handle.old.value }
+    ensures status { IfSome handle.old.value
+        (λ held. result ≡ of_console WRONG_HANDLE (λ c. DONE) held) }
+    ensures lawful { (c : Core) (d : Datagram) → handle.old.value ≡ Some (Held.Console c)
+        → due (at now c) ≡ Some d → IsLawful c.sender d }
+    ensures octets { IfSome handle.old.value
+        (λ held. out.new ≡ of_console out.old (λ c. over c.sender (due (at now c)) out.old) held) }
+    ensures count { IfSome handle.old.value
+        (λ held. count.new ≡ of_console count.old (λ c. due_size (due (at now c))) held) }
+    ensures none { (c : Core) → handle.old.value ≡ Some (Held.Console c) → (count.new ≡ 0)
+        ↔ (due (at now c) ≡ None) }
+    ensures after { handle.new.value ≡ option_map
+        (λ held. of_console held (λ c. Held.Console (after_poll now c)) held) handle.old.value }
 {
     let mut held = take_out(alloc, handle);
     let status = console::poll(held.as_mut(), now, out, count);
@@ -95,11 +107,16 @@ pub extern "C" fn sacn_proved_console_wakes(
     moment: &mut u64,
 ) -> u32
     requires { is_some handle.old.value ≡ true }
-    ensures status { IfSome handle.old.value (λ held. result ≡ of_console WRONG_HANDLE (λ c. DONE) held) }
+    ensures status { IfSome handle.old.value
+        (λ held. result ≡ of_console WRONG_HANDLE (λ c. DONE) held) }
     ensures unwritten { result ≡ WRONG_HANDLE → moment.new ≡ moment.old }
-    ensures ahead { IfSome handle.old.value (λ held. 0 < moment.new → of_console 0 (λ c. min (c.moment + 1) last_moment) held ≤ moment.new) }
-    ensures quiet { IfSome handle.old.value (λ held. (t : ℕ) → t < moment.new → of_console None (λ c. due (at t c)) held ≡ None) }
-    ensures exact { IfSome handle.old.value (λ held. of_console false (λ c. is_still c.lights.player && nat_lt moment.new last_moment) held ≡ true → of_console false (λ c. is_some (due (at moment.new c))) held ≡ true) }
+    ensures ahead { IfSome handle.old.value (λ held. 0 < moment.new
+        → of_console 0 (λ c. min (c.moment + 1) last_moment) held ≤ moment.new) }
+    ensures quiet { IfSome handle.old.value
+        (λ held. (t : ℕ) → t < moment.new → of_console None (λ c. due (at t c)) held ≡ None) }
+    ensures exact { IfSome handle.old.value (λ held. of_console false
+        (λ c. is_still c.lights.player && nat_lt moment.new last_moment) held ≡ true
+        → of_console false (λ c. is_some (due (at moment.new c))) held ≡ true) }
     ensures after { handle.new.value ≡ handle.old.value }
 {
     let mut held = take_out(alloc, handle);
@@ -117,9 +134,12 @@ pub extern "C" fn sacn_proved_console_universe(
     fields: &mut LineFields,
 ) -> u32
     requires { is_some handle.old.value ≡ true }
-    ensures status { IfSome handle.old.value (λ held. result ≡ of_console WRONG_HANDLE (λ c. found_status (slice_get c.lines place)) held) }
-    ensures fields { IfSome handle.old.value (λ held. fields.new ≡ of_console fields.old (λ c. found_or fields.old (option_map line_told (slice_get c.lines place))) held) }
-    ensures ascending { IfSome handle.old.value (λ held. Rising (of_console [] (λ c. universes_of c.lines) held)) }
+    ensures status { IfSome handle.old.value (λ held. result
+        ≡ of_console WRONG_HANDLE (λ c. found_status (slice_get c.lines place)) held) }
+    ensures fields { IfSome handle.old.value (λ held. fields.new ≡ of_console fields.old
+        (λ c. found_or fields.old (option_map line_told (slice_get c.lines place))) held) }
+    ensures ascending { IfSome handle.old.value
+        (λ held. Rising (of_console [] (λ c. universes_of c.lines) held)) }
     ensures after { handle.new.value ≡ handle.old.value }
 {
     let held = take_out(alloc, handle);
@@ -136,8 +156,10 @@ pub extern "C" fn sacn_proved_console_cue(
     number: &mut u16,
 ) -> u32
     requires { is_some handle.old.value ≡ true }
-    ensures status { IfSome handle.old.value (λ held. result ≡ of_console WRONG_HANDLE (λ c. found_status c.lights.player.current) held) }
-    ensures number { IfSome handle.old.value (λ held. number.new ≡ of_console number.old (λ c. found_or number.old c.lights.player.current) held) }
+    ensures status { IfSome handle.old.value (λ held. result
+        ≡ of_console WRONG_HANDLE (λ c. found_status c.lights.player.current) held) }
+    ensures number { IfSome handle.old.value (λ held. number.new
+        ≡ of_console number.old (λ c. found_or number.old c.lights.player.current) held) }
     ensures after { handle.new.value ≡ handle.old.value }
 {
     let held = take_out(alloc, handle);

@@ -39,9 +39,12 @@ pub extern "C" fn sacn_proved_monitor_take(
     news: &mut NewsFields,
 ) -> u32
     requires { is_some handle.old.value ≡ true }
-    ensures status { IfSome handle.old.value (λ held. result ≡ of_monitor WRONG_HANDLE (λ b. noted_status (noted now (sender_of sender.now) octets.now b)) held) }
-    ensures news { IfSome handle.old.value (λ held. news.new ≡ of_monitor news.old (λ b. news_told (noted now (sender_of sender.now) octets.now b)) held) }
-    ensures after { handle.new.value ≡ option_map (λ held. of_monitor held (λ b. Held.Monitor (after_take now (sender_of sender.now) octets.now b)) held) handle.old.value }
+    ensures status { IfSome handle.old.value (λ held. result ≡ of_monitor WRONG_HANDLE
+        (λ b. noted_status (noted now (sender_of sender.now) octets.now b)) held) }
+    ensures news { IfSome handle.old.value (λ held. news.new ≡ of_monitor news.old
+        (λ b. news_told (noted now (sender_of sender.now) octets.now b)) held) }
+    ensures after { handle.new.value ≡ option_map (λ held. of_monitor held (λ b.
+        Held.Monitor (after_take now (sender_of sender.now) octets.now b)) held) handle.old.value }
 {
     let mut held = take_out(alloc, handle);
     let status = monitor::take(held.as_mut(), now, sender, octets, news);
@@ -59,9 +62,12 @@ pub extern "C" fn sacn_proved_monitor_tick(
     place: &mut usize,
 ) -> u32
     requires { is_some handle.old.value ≡ true }
-    ensures status { IfSome handle.old.value (λ held. result ≡ of_monitor WRONG_HANDLE (λ b. found_status (silent_place (max b.moment now) b.streams)) held) }
-    ensures place { IfSome handle.old.value (λ held. place.new ≡ of_monitor place.old (λ b. found_or place.old (silent_place (max b.moment now) b.streams)) held) }
-    ensures after { handle.new.value ≡ option_map (λ held. of_monitor held (λ b. Held.Monitor (after_tick now b)) held) handle.old.value }
+    ensures status { IfSome handle.old.value (λ held. result ≡ of_monitor WRONG_HANDLE
+        (λ b. found_status (silent_place (max b.moment now) b.streams)) held) }
+    ensures place { IfSome handle.old.value (λ held. place.new ≡ of_monitor place.old
+        (λ b. found_or place.old (silent_place (max b.moment now) b.streams)) held) }
+    ensures after { handle.new.value ≡ option_map
+        (λ held. of_monitor held (λ b. Held.Monitor (after_tick now b)) held) handle.old.value }
 {
     let mut held = take_out(alloc, handle);
     let status = monitor::tick(held.as_mut(), now, place);
@@ -77,8 +83,10 @@ pub extern "C" fn sacn_proved_monitor_wakes(
     moment: &mut u64,
 ) -> u32
     requires { is_some handle.old.value ≡ true }
-    ensures status { IfSome handle.old.value (λ held. result ≡ of_monitor WRONG_HANDLE (λ b. DONE) held) }
-    ensures moment { IfSome handle.old.value (λ held. moment.new ≡ of_monitor moment.old (λ b. next_loss b.streams) held) }
+    ensures status { IfSome handle.old.value
+        (λ held. result ≡ of_monitor WRONG_HANDLE (λ b. DONE) held) }
+    ensures moment { IfSome handle.old.value
+        (λ held. moment.new ≡ of_monitor moment.old (λ b. next_loss b.streams) held) }
     ensures after { handle.new.value ≡ handle.old.value }
 {
     let held = take_out(alloc, handle);
@@ -95,8 +103,10 @@ pub extern "C" fn sacn_proved_monitor_count(
     count: &mut usize,
 ) -> u32
     requires { is_some handle.old.value ≡ true }
-    ensures status { IfSome handle.old.value (λ held. result ≡ of_monitor WRONG_HANDLE (λ b. DONE) held) }
-    ensures count { IfSome handle.old.value (λ held. count.new ≡ of_monitor count.old (λ b. length b.streams) held) }
+    ensures status { IfSome handle.old.value
+        (λ held. result ≡ of_monitor WRONG_HANDLE (λ b. DONE) held) }
+    ensures count { IfSome handle.old.value
+        (λ held. count.new ≡ of_monitor count.old (λ b. length b.streams) held) }
     ensures after { handle.new.value ≡ handle.old.value }
 {
     let held = take_out(alloc, handle);
@@ -114,8 +124,10 @@ pub extern "C" fn sacn_proved_monitor_account(
     fields: &mut StreamFields,
 ) -> u32
     requires { is_some handle.old.value ≡ true }
-    ensures status { IfSome handle.old.value (λ held. result ≡ of_monitor WRONG_HANDLE (λ b. found_status (slice_get b.streams place)) held) }
-    ensures fields { IfSome handle.old.value (λ held. fields.new ≡ of_monitor fields.old (λ b. found_or fields.old (option_map (stream_told b.moment) (slice_get b.streams place))) held) }
+    ensures status { IfSome handle.old.value (λ held. result
+        ≡ of_monitor WRONG_HANDLE (λ b. found_status (slice_get b.streams place)) held) }
+    ensures fields { IfSome handle.old.value (λ held. fields.new ≡ of_monitor fields.old (λ b.
+        found_or fields.old (option_map (stream_told b.moment) (slice_get b.streams place))) held) }
     ensures after { handle.new.value ≡ handle.old.value }
 {
     let held = take_out(alloc, handle);
@@ -134,9 +146,12 @@ pub extern "C" fn sacn_proved_monitor_rivals(
     priority: &mut u8,
 ) -> u32
     requires { is_some handle.old.value ≡ true }
-    ensures status { IfSome handle.old.value (λ held. result ≡ of_monitor WRONG_HANDLE (λ b. DONE) held) }
-    ensures count { IfSome handle.old.value (λ held. count.new ≡ of_monitor count.old (λ b. rivals universe b.moment b.streams) held) }
-    ensures priority { IfSome handle.old.value (λ held. priority.new ≡ of_monitor priority.old (λ b. top_priority universe b.moment b.streams) held) }
+    ensures status { IfSome handle.old.value
+        (λ held. result ≡ of_monitor WRONG_HANDLE (λ b. DONE) held) }
+    ensures count { IfSome handle.old.value
+        (λ held. count.new ≡ of_monitor count.old (λ b. rivals universe b.moment b.streams) held) }
+    ensures priority { IfSome handle.old.value (λ held. priority.new
+        ≡ of_monitor priority.old (λ b. top_priority universe b.moment b.streams) held) }
     ensures after { handle.new.value ≡ handle.old.value }
 {
     let held = take_out(alloc, handle);

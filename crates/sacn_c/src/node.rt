@@ -32,9 +32,13 @@ pub extern "C" fn sacn_proved_node_take(
     taken: &mut u8,
 ) -> u32
     requires { is_some handle.old.value ≡ true }
-    ensures status { IfSome handle.old.value (λ held. result ≡ of_node WRONG_HANDLE (λ n. node_taken_status (reply_to (reading_packet octets.now) now n.core)) held) }
-    ensures taken { IfSome handle.old.value (λ held. taken.new ≡ of_node taken.old (λ n. node_taken_number (reply_to (reading_packet octets.now) now n.core)) held) }
-    ensures after { handle.new.value ≡ option_map (λ held. of_node held (λ n. Held.Node (record n { core = after_reading (reading_packet octets.now) now n.core })) held) handle.old.value }
+    ensures status { IfSome handle.old.value (λ held. result ≡ of_node WRONG_HANDLE
+        (λ n. node_taken_status (reply_to (reading_packet octets.now) now n.core)) held) }
+    ensures taken { IfSome handle.old.value (λ held. taken.new ≡ of_node taken.old
+        (λ n. node_taken_number (reply_to (reading_packet octets.now) now n.core)) held) }
+    ensures after { handle.new.value ≡ option_map (λ held. of_node held (λ n.
+        Held.Node (record n { core = after_reading (reading_packet octets.now) now n.core })) held)
+        handle.old.value }
 {
     let mut held = take_out(alloc, handle);
     let status = node::take(held.as_mut(), now, octets, taken);
@@ -50,7 +54,8 @@ pub extern "C" fn sacn_proved_node_new(
     text: &[u8],
     udp_port: &mut u16,
 ) -> u32
-    ensures made { result ≡ DONE → MatchOption handle.new.value ⊥ (λ held. NodeOf (setup_or_toml (parse_document text.now)) held udp_port.new) }
+    ensures made { result ≡ DONE → MatchOption handle.new.value ⊥
+        (λ held. NodeOf (setup_or_toml (parse_document text.now)) held udp_port.new) }
     ensures is_text { result ≡ DONE → IsUtf8 text.now }
     ensures refused { (result ≡ DONE → ⊥) → handle.new.value ≡ handle.old.value }
     ensures status { (result ≡ DONE → ⊥) → SetupStatus text.now result }
@@ -74,9 +79,12 @@ pub extern "C" fn sacn_proved_node_tick(
     lost: &mut usize,
 ) -> u32
     requires { is_some handle.old.value ≡ true }
-    ensures status { IfSome handle.old.value (λ held. result ≡ of_node WRONG_HANDLE (λ n. DONE) held) }
-    ensures lost { IfSome handle.old.value (λ held. lost.new ≡ of_node lost.old (λ n. core_lost now n.core) held) }
-    ensures after { handle.new.value ≡ option_map (λ held. of_node held (λ n. Held.Node (record n { core = core_at now n.core })) held) handle.old.value }
+    ensures status { IfSome handle.old.value
+        (λ held. result ≡ of_node WRONG_HANDLE (λ n. DONE) held) }
+    ensures lost { IfSome handle.old.value
+        (λ held. lost.new ≡ of_node lost.old (λ n. core_lost now n.core) held) }
+    ensures after { handle.new.value ≡ option_map (λ held. of_node held
+        (λ n. Held.Node (record n { core = core_at now n.core })) held) handle.old.value }
 {
     let mut held = take_out(alloc, handle);
     let status = node::tick(held.as_mut(), now, lost);
@@ -94,9 +102,12 @@ pub extern "C" fn sacn_proved_node_frame(
     slots: &mut [u8; FRAME_OCTETS],
 ) -> u32
     requires { is_some handle.old.value ≡ true }
-    ensures status { IfSome handle.old.value (λ held. result ≡ of_node WRONG_HANDLE (λ n. frame_status (node_frame port (record n { core = core_at now n.core }))) held) }
-    ensures frame { IfSome handle.old.value (λ held. slots.new ≡ of_node slots.old (λ n. frame_or slots.old (node_frame port (record n { core = core_at now n.core }))) held) }
-    ensures after { handle.new.value ≡ option_map (λ held. of_node held (λ n. Held.Node (record n { core = core_at now n.core })) held) handle.old.value }
+    ensures status { IfSome handle.old.value (λ held. result ≡ of_node WRONG_HANDLE
+        (λ n. frame_status (node_frame port (record n { core = core_at now n.core }))) held) }
+    ensures frame { IfSome handle.old.value (λ held. slots.new ≡ of_node slots.old
+        (λ n. frame_or slots.old (node_frame port (record n { core = core_at now n.core }))) held) }
+    ensures after { handle.new.value ≡ option_map (λ held. of_node held
+        (λ n. Held.Node (record n { core = core_at now n.core })) held) handle.old.value }
 {
     let mut held = take_out(alloc, handle);
     let status = node::frame(held.as_mut(), now, port, slots);
@@ -112,12 +123,16 @@ pub extern "C" fn sacn_proved_node_wakes(
     moment: &mut u64,
 ) -> u32
     requires { is_some handle.old.value ≡ true }
-    ensures status { IfSome handle.old.value (λ held. result ≡ of_node WRONG_HANDLE (λ n. if result == RANGE then RANGE else DONE) held) }
+    ensures status { IfSome handle.old.value (λ held. result
+        ≡ of_node WRONG_HANDLE (λ n. if result == RANGE then RANGE else DONE) held) }
     ensures unwritten { result ≡ WRONG_HANDLE → moment.new ≡ moment.old }
-    ensures never { IfSome handle.old.value (λ held. result ≡ RANGE → (t : ℕ) → t < 2 ^ 64 → of_node 0 (λ n. core_lost t n.core) held ≡ 0) }
+    ensures never { IfSome handle.old.value (λ held. result ≡ RANGE → (t : ℕ) → t < 2 ^ 64
+        → of_node 0 (λ n. core_lost t n.core) held ≡ 0) }
     ensures latest { result ≡ RANGE → moment.new ≡ 2 ^ 64 - 1 }
-    ensures asleep { IfSome handle.old.value (λ held. result ≡ DONE → (t : ℕ) → t < moment.new → of_node 0 (λ n. core_lost t n.core) held ≡ 0) }
-    ensures awake { IfSome handle.old.value (λ held. result ≡ DONE → 1 ≤ of_node 0 (λ n. core_lost moment.new n.core) held) }
+    ensures asleep { IfSome handle.old.value (λ held. result ≡ DONE → (t : ℕ) → t < moment.new
+        → of_node 0 (λ n. core_lost t n.core) held ≡ 0) }
+    ensures awake { IfSome handle.old.value
+        (λ held. result ≡ DONE → 1 ≤ of_node 0 (λ n. core_lost moment.new n.core) held) }
     ensures after { handle.new.value ≡ handle.old.value }
 {
     let held = take_out(alloc, handle);
@@ -136,11 +151,16 @@ pub extern "C" fn sacn_proved_node_ports(
     count: &mut usize,
 ) -> u32
     requires { is_some handle.old.value ≡ true }
-    ensures status { IfSome handle.old.value (λ held. result ≡ of_node WRONG_HANDLE (λ n. room_status ports.old (port_numbers n.ports)) held) }
-    ensures count { IfSome handle.old.value (λ held. count.new ≡ of_node count.old (λ n. length (port_numbers n.ports)) held) }
-    ensures ports { IfSome handle.old.value (λ held. ports.new ≡ of_node ports.old (λ n. room_with ports.old (port_numbers n.ports)) held) }
-    ensures rising { IfSome handle.old.value (λ held. IsStrictlyIncreasing (of_node [] (λ n. port_numbers n.ports) held)) }
-    ensures few { IfSome handle.old.value (λ held. length (of_node [] (λ n. port_numbers n.ports) held) ≤ MAX_PORTS) }
+    ensures status { IfSome handle.old.value (λ held. result
+        ≡ of_node WRONG_HANDLE (λ n. room_status ports.old (port_numbers n.ports)) held) }
+    ensures count { IfSome handle.old.value
+        (λ held. count.new ≡ of_node count.old (λ n. length (port_numbers n.ports)) held) }
+    ensures ports { IfSome handle.old.value (λ held. ports.new
+        ≡ of_node ports.old (λ n. room_with ports.old (port_numbers n.ports)) held) }
+    ensures rising { IfSome handle.old.value
+        (λ held. IsStrictlyIncreasing (of_node [] (λ n. port_numbers n.ports) held)) }
+    ensures few { IfSome handle.old.value
+        (λ held. length (of_node [] (λ n. port_numbers n.ports) held) ≤ MAX_PORTS) }
     ensures after { handle.new.value ≡ handle.old.value }
 {
     let held = take_out(alloc, handle);
@@ -161,10 +181,15 @@ pub extern "C" fn sacn_proved_node_held(
     slots: &mut [u8; 512],
 ) -> u32
     requires { is_some handle.old.value ≡ true }
-    ensures status { IfSome handle.old.value (λ held. result ≡ of_node WRONG_HANDLE (λ n. found_status (core_row universe cid.now n.core)) held) }
-    ensures source { IfSome handle.old.value (λ held. source.new ≡ of_node source.old (λ n. found_or source.old (option_map source_told (core_row universe cid.now n.core))) held) }
-    ensures slots { IfSome handle.old.value (λ held. IfSome (of_node None (λ n. core_row universe cid.now n.core) held) (λ r. (i : ℕ) → i < 512 → slice_index slots.new i ≡ slice_index (levels_told r.shown) i)) }
-    ensures unwritten { IfSome handle.old.value (λ held. of_node None (λ n. core_row universe cid.now n.core) held ≡ None → slots.new ≡ slots.old) }
+    ensures status { IfSome handle.old.value (λ held. result
+        ≡ of_node WRONG_HANDLE (λ n. found_status (core_row universe cid.now n.core)) held) }
+    ensures source { IfSome handle.old.value (λ held. source.new ≡ of_node source.old (λ n.
+        found_or source.old (option_map source_told (core_row universe cid.now n.core))) held) }
+    ensures slots { IfSome handle.old.value
+        (λ held. IfSome (of_node None (λ n. core_row universe cid.now n.core) held)
+        (λ r. (i : ℕ) → i < 512 → slice_index slots.new i ≡ slice_index (levels_told r.shown) i)) }
+    ensures unwritten { IfSome handle.old.value (λ held.
+        of_node None (λ n. core_row universe cid.now n.core) held ≡ None → slots.new ≡ slots.old) }
     ensures after { handle.new.value ≡ handle.old.value }
 {
     let held = take_out(alloc, handle);

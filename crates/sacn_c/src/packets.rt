@@ -20,7 +20,8 @@ pub extern "C" fn sacn_proved_read_packet(octets: &[u8], packet: &mut PacketFiel
     // What is told stands there.
     ensures found { IfOk (reading_packet octets.now) (Reads octets.now) }
     // What stands there is told.
-    ensures only { (p : Packet) → Reads octets.now p → (result ≡ DONE) × (packet.new ≡ fields_with packet.old p) }
+    ensures only { (p : Packet) → Reads octets.now p
+        → (result ≡ DONE) × (packet.new ≡ fields_with packet.old p) }
     ensures status { result ≡ packet_status (reading_packet octets.now) }
     ensures fields { IfOk (reading_packet octets.now) (Tells packet.new) }
     ensures others { packet.new ≡ fields_after packet.old (reading_packet octets.now) }
@@ -40,7 +41,8 @@ pub extern "C" fn sacn_proved_read_data(
     // What is told stands there.
     ensures found { IfOk (reading_packet octets.now) (Reads octets.now) }
     // What stands there is told.
-    ensures only { (p : Packet) → Reads octets.now p → (result ≡ DONE) × (packet.new ≡ fields_with packet.old p) }
+    ensures only { (p : Packet) → Reads octets.now p
+        → (result ≡ DONE) × (packet.new ≡ fields_with packet.old p) }
     ensures status { result ≡ packet_status (reading_packet octets.now) }
     ensures fields { IfOk (reading_packet octets.now) (Tells packet.new) }
     ensures others { packet.new ≡ fields_after packet.old (reading_packet octets.now) }
@@ -60,8 +62,10 @@ pub extern "C" fn sacn_proved_write_data(
     out: &mut [u8; 638],
     count: &mut usize,
 ) -> u32
-    ensures octets { result ≡ DONE → out.new ≡ data_text (written packet.now slots.now) nothing ++ drop count.new out.old }
-    ensures reading { result ≡ DONE → (rest : List ℕ) → reading_packet (take count.new out.new ++ rest) ≡ Ok (DataPacket (written packet.now slots.now)) }
+    ensures octets { result ≡ DONE
+        → out.new ≡ data_text (written packet.now slots.now) nothing ++ drop count.new out.old }
+    ensures reading { result ≡ DONE → (rest : List ℕ) → reading_packet
+        (take count.new out.new ++ rest) ≡ Ok (DataPacket (written packet.now slots.now)) }
     ensures refused { (result ≡ DONE → ⊥) → out.new ≡ out.old }
     ensures status { result ≡ write_status packet.now slots.now }
     ensures count { count.new ≡ (if result == DONE then 126 + length slots.now else count.old) }
@@ -74,7 +78,8 @@ pub extern "C" fn sacn_proved_write_data(
 pub extern "C" fn sacn_proved_in_sequence(held: u8, arrived: u8) -> u8
     ensures value { result ≡ bit_of (not (is_late held arrived)) }
     ensures discarded { (result ≡ 0) ↔ IsOutOfSequence held arrived }
-    ensures ahead { (result ≡ 1) ↔ (1 ≤ (arrived + 256 - held) % 256) × ((arrived + 256 - held) % 256 ≤ 236) }
+    ensures ahead { (result ≡ 1)
+        ↔ (1 ≤ (arrived + 256 - held) % 256) × ((arrived + 256 - held) % 256 ≤ 236) }
 {
     packets::sequence_bit(held, arrived)
 }
@@ -118,9 +123,14 @@ pub extern "C" fn sacn_proved_write_page(
     out: &mut [u8; 1144],
     count: &mut usize,
 ) -> u32
-    ensures octets { result ≡ DONE → out.new ≡ page_text (page_of_list list.now packet.now.page packet.now.cid packet.now.name) unused ++ drop count.new out.old }
-    ensures count { result ≡ DONE → count.new ≡ 120 + 2 * length (numbers_on list.now packet.now.page) }
-    ensures reading { result ≡ DONE → (rest : List ℕ) → reading_packet (take count.new out.new ++ rest) ≡ Ok (PagePacket (page_of_list list.now packet.now.page packet.now.cid packet.now.name)) }
+    ensures octets { result ≡ DONE → out.new
+        ≡ page_text (page_of_list list.now packet.now.page packet.now.cid packet.now.name) unused
+        ++ drop count.new out.old }
+    ensures count { result ≡ DONE
+        → count.new ≡ 120 + 2 * length (numbers_on list.now packet.now.page) }
+    ensures reading { result ≡ DONE → (rest : List ℕ)
+        → reading_packet (take count.new out.new ++ rest)
+        ≡ Ok (PagePacket (page_of_list list.now packet.now.page packet.now.cid packet.now.name)) }
     ensures done { IsPageOf packet.now list.now → result ≡ DONE }
     ensures only { result ≡ DONE → IsPageOf packet.now list.now }
     ensures status { (result ≡ DONE → ⊥) → result ≡ RANGE }

@@ -41,9 +41,12 @@ pub extern "C" fn sacn_proved_sources_take(
     taken: &mut u8,
 ) -> u32
     requires { is_some handle.old.value ≡ true }
-    ensures status { IfSome handle.old.value (λ held. result ≡ of_sources WRONG_HANDLE (λ k. packet_status (reading_packet octets.now)) held) }
-    ensures taken { IfSome handle.old.value (λ held. taken.new ≡ of_sources taken.old (λ k. source_number now (reading_packet octets.now) k) held) }
-    ensures after { handle.new.value ≡ option_map (λ held. of_sources held (λ k. Held.Sources (after_reading now (reading_packet octets.now) k)) held) handle.old.value }
+    ensures status { IfSome handle.old.value (λ held. result
+        ≡ of_sources WRONG_HANDLE (λ k. packet_status (reading_packet octets.now)) held) }
+    ensures taken { IfSome handle.old.value (λ held. taken.new
+        ≡ of_sources taken.old (λ k. source_number now (reading_packet octets.now) k) held) }
+    ensures after { handle.new.value ≡ option_map (λ held. of_sources held (λ k.
+        Held.Sources (after_reading now (reading_packet octets.now) k)) held) handle.old.value }
 {
     let mut held = take_out(alloc, handle);
     let status = sources::take(held.as_mut(), now, octets, taken);
@@ -60,9 +63,12 @@ pub extern "C" fn sacn_proved_sources_merged(
     slots: &mut [u8; 512],
 ) -> u32
     requires { is_some handle.old.value ≡ true }
-    ensures status { IfSome handle.old.value (λ held. result ≡ of_sources WRONG_HANDLE (λ k. DONE) held) }
-    ensures slots { IfSome handle.old.value (λ held. slots.new ≡ of_sources slots.old (λ k. slots_of (after_expire now k.table).rows) held) }
-    ensures after { handle.new.value ≡ option_map (λ held. of_sources held (λ k. Held.Sources (kept_after_merged now k)) held) handle.old.value }
+    ensures status { IfSome handle.old.value
+        (λ held. result ≡ of_sources WRONG_HANDLE (λ k. DONE) held) }
+    ensures slots { IfSome handle.old.value (λ held. slots.new
+        ≡ of_sources slots.old (λ k. slots_of (after_expire now k.table).rows) held) }
+    ensures after { handle.new.value ≡ option_map (λ held.
+        of_sources held (λ k. Held.Sources (kept_after_merged now k)) held) handle.old.value }
 {
     let mut held = take_out(alloc, handle);
     let status = sources::merged(held.as_mut(), now, slots);
@@ -79,10 +85,13 @@ pub extern "C" fn sacn_proved_sources_tick(
     lost: &mut usize,
 ) -> u32
     requires { is_some handle.old.value ≡ true }
-    ensures status { IfSome handle.old.value (λ held. result ≡ of_sources WRONG_HANDLE (λ k. DONE) held) }
-    ensures lost { IfSome handle.old.value (λ held. lost.new ≡ of_sources lost.old (λ k. rows_lost (max k.table.moment now) k.table.rows) held) }
+    ensures status { IfSome handle.old.value
+        (λ held. result ≡ of_sources WRONG_HANDLE (λ k. DONE) held) }
+    ensures lost { IfSome handle.old.value (λ held. lost.new
+        ≡ of_sources lost.old (λ k. rows_lost (max k.table.moment now) k.table.rows) held) }
     ensures few { result ≡ DONE → lost.new ≤ MAX_SOURCES }
-    ensures after { handle.new.value ≡ option_map (λ held. of_sources held (λ k. Held.Sources (kept_after_expire now k)) held) handle.old.value }
+    ensures after { handle.new.value ≡ option_map (λ held.
+        of_sources held (λ k. Held.Sources (kept_after_expire now k)) held) handle.old.value }
 {
     let mut held = take_out(alloc, handle);
     let status = sources::tick(held.as_mut(), now, lost);
@@ -98,12 +107,16 @@ pub extern "C" fn sacn_proved_sources_wakes(
     moment: &mut u64,
 ) -> u32
     requires { is_some handle.old.value ≡ true }
-    ensures status { IfSome handle.old.value (λ held. result ≡ of_sources WRONG_HANDLE (λ k. if result == RANGE then RANGE else DONE) held) }
+    ensures status { IfSome handle.old.value (λ held. result
+        ≡ of_sources WRONG_HANDLE (λ k. if result == RANGE then RANGE else DONE) held) }
     ensures unwritten { result ≡ WRONG_HANDLE → moment.new ≡ moment.old }
-    ensures never { IfSome handle.old.value (λ held. result ≡ RANGE → (t : ℕ) → t < 2 ^ 64 → of_sources 0 (λ k. rows_lost (max k.table.moment t) k.table.rows) held ≡ 0) }
+    ensures never { IfSome handle.old.value (λ held. result ≡ RANGE → (t : ℕ) → t < 2 ^ 64
+        → of_sources 0 (λ k. rows_lost (max k.table.moment t) k.table.rows) held ≡ 0) }
     ensures latest { result ≡ RANGE → moment.new ≡ 2 ^ 64 - 1 }
-    ensures asleep { IfSome handle.old.value (λ held. result ≡ DONE → (t : ℕ) → t < moment.new → of_sources 0 (λ k. rows_lost (max k.table.moment t) k.table.rows) held ≡ 0) }
-    ensures awake { IfSome handle.old.value (λ held. result ≡ DONE → 1 ≤ of_sources 0 (λ k. rows_lost (max k.table.moment moment.new) k.table.rows) held) }
+    ensures asleep { IfSome handle.old.value (λ held. result ≡ DONE → (t : ℕ) → t < moment.new
+        → of_sources 0 (λ k. rows_lost (max k.table.moment t) k.table.rows) held ≡ 0) }
+    ensures awake { IfSome handle.old.value (λ held. result ≡ DONE
+        → 1 ≤ of_sources 0 (λ k. rows_lost (max k.table.moment moment.new) k.table.rows) held) }
     ensures after { handle.new.value ≡ handle.old.value }
 {
     let held = take_out(alloc, handle);
@@ -123,10 +136,15 @@ pub extern "C" fn sacn_proved_sources_held(
     slots: &mut [u8; 512],
 ) -> u32
     requires { is_some handle.old.value ≡ true }
-    ensures status { IfSome handle.old.value (λ held. result ≡ of_sources WRONG_HANDLE (λ k. found_status (row_of cid.now k.table.rows)) held) }
-    ensures source { IfSome handle.old.value (λ held. source.new ≡ of_sources source.old (λ k. found_or source.old (option_map source_told (row_of cid.now k.table.rows))) held) }
-    ensures slots { IfSome handle.old.value (λ held. IfSome (of_sources None (λ k. row_of cid.now k.table.rows) held) (λ r. (i : ℕ) → i < 512 → slice_index slots.new i ≡ slice_index (levels_told r.shown) i)) }
-    ensures unwritten { IfSome handle.old.value (λ held. of_sources None (λ k. row_of cid.now k.table.rows) held ≡ None → slots.new ≡ slots.old) }
+    ensures status { IfSome handle.old.value (λ held. result
+        ≡ of_sources WRONG_HANDLE (λ k. found_status (row_of cid.now k.table.rows)) held) }
+    ensures source { IfSome handle.old.value (λ held. source.new ≡ of_sources source.old
+        (λ k. found_or source.old (option_map source_told (row_of cid.now k.table.rows))) held) }
+    ensures slots { IfSome handle.old.value
+        (λ held. IfSome (of_sources None (λ k. row_of cid.now k.table.rows) held)
+        (λ r. (i : ℕ) → i < 512 → slice_index slots.new i ≡ slice_index (levels_told r.shown) i)) }
+    ensures unwritten { IfSome handle.old.value (λ held.
+        of_sources None (λ k. row_of cid.now k.table.rows) held ≡ None → slots.new ≡ slots.old) }
     ensures after { handle.new.value ≡ handle.old.value }
 {
     let held = take_out(alloc, handle);

@@ -27,7 +27,8 @@ impl<R: BufRead> Pieces<R> {
     // An interface of the section.
     pub fn described(&mut self, order: ByteOrder, size: u32) -> Result<Option<Frame>, FaultKind>
         requires { 12 ≤ size }
-        ensures { ReadsPiece R.Read.remaining (interface_piece order size (state_of self.old)) self.old self.new result }
+        ensures { ReadsPiece R.Read.remaining
+            (interface_piece order size (state_of self.old)) self.old self.new result }
     {
         let len = self.interface_len(size)?;
         self.described_in(order, size, len)
@@ -57,7 +58,8 @@ impl<R: BufRead> Pieces<R> {
         len: usize,
     ) -> Result<Option<Frame>, FaultKind>
         requires { len ≤ 65535 }
-        ensures { ReadsPiece R.Read.remaining (described_by len order size (state_of self.old)) self.old self.new result }
+        ensures { ReadsPiece R.Read.remaining
+            (described_by len order size (state_of self.old)) self.old self.new result }
     {
         self.buffer.fill(&mut self.input, len)?;
         self.added(order, size, len)
@@ -66,7 +68,8 @@ impl<R: BufRead> Pieces<R> {
     // An interface whose description was read, and its block's end.
     fn added(&mut self, order: ByteOrder, size: u32, len: usize) -> Result<Option<Frame>, FaultKind>
         requires { len ≤ 65535 }
-        ensures { ReadsPiece R.Read.remaining (interface_body order size (state_of self.old) (take len self.old.buffer.octets.items)) self.old self.new result }
+        ensures { ReadsPiece R.Read.remaining (interface_body order size (state_of self.old)
+            (take len self.old.buffer.octets.items)) self.old self.new result }
     {
         let interface = interface_in(order, self.buffer.front(len))?;
         self.pushed(order, size, interface)
@@ -79,7 +82,8 @@ impl<R: BufRead> Pieces<R> {
         size: u32,
         interface: Described,
     ) -> Result<Option<Frame>, FaultKind>
-        ensures { ReadsPiece R.Read.remaining (interface_end order size (state_of self.old) (interface_of interface)) self.old self.new result }
+        ensures { ReadsPiece R.Read.remaining (interface_end order size (state_of self.old)
+            (interface_of interface)) self.old self.new result }
     {
         end_of_block(&mut self.input, order, size)?;
         self.interfaces.push(interface)?;
@@ -88,7 +92,8 @@ impl<R: BufRead> Pieces<R> {
 
     // The frame of an enhanced packet block.
     pub fn enhanced(&mut self, order: ByteOrder, size: u32) -> Result<Option<Frame>, FaultKind>
-        ensures { ReadsPiece R.Read.remaining (enhanced_piece order size (state_of self.old)) self.old self.new result }
+        ensures { ReadsPiece R.Read.remaining
+            (enhanced_piece order size (state_of self.old)) self.old self.new result }
     {
         let mut octets = [0; ENHANCED_HEAD];
         self.input.fill(&mut octets)?;
@@ -103,7 +108,8 @@ impl<R: BufRead> Pieces<R> {
         head: EnhancedHead,
     ) -> Result<Option<Frame>, FaultKind>
         requires { head.captured + 32 ≤ size }
-        ensures { ReadsPiece R.Read.remaining (enhanced_behind order size (state_of self.old) head) self.old self.new result }
+        ensures { ReadsPiece R.Read.remaining
+            (enhanced_behind order size (state_of self.old) head) self.old self.new result }
     {
         let interface = self.interface_at(head.interface as usize)?;
         let moment = milliseconds_of(head.ticks, interface.units);
@@ -123,7 +129,8 @@ impl<R: BufRead> Pieces<R> {
 
     // The frame of a simple packet block, which is of the section's first interface.
     pub fn simple(&mut self, order: ByteOrder, size: u32) -> Result<Option<Frame>, FaultKind>
-        ensures { ReadsPiece R.Read.remaining (simple_piece order size (state_of self.old)) self.old self.new result }
+        ensures { ReadsPiece R.Read.remaining
+            (simple_piece order size (state_of self.old)) self.old self.new result }
     {
         let interface = self.interface_at(0)?;
         self.of_first(order, size, interface)
@@ -136,7 +143,8 @@ impl<R: BufRead> Pieces<R> {
         size: u32,
         interface: Described,
     ) -> Result<Option<Frame>, FaultKind>
-        ensures { ReadsPiece R.Read.remaining (simple_behind order size (state_of self.old) (interface_of interface)) self.old self.new result }
+        ensures { ReadsPiece R.Read.remaining (simple_behind order size (state_of self.old)
+            (interface_of interface)) self.old self.new result }
     {
         let mut octets = [0; SIMPLE_HEAD];
         self.input.fill(&mut octets)?;
@@ -155,7 +163,8 @@ impl<R: BufRead> Pieces<R> {
         order: ByteOrder,
         size: u32,
     ) -> Result<Option<Frame>, FaultKind>
-        ensures { ReadsPiece R.Read.remaining (packet_behind link captured moment rest order size (state_of self.old)) self.old self.new result }
+        ensures { ReadsPiece R.Read.remaining (packet_behind link captured moment rest order size
+            (state_of self.old)) self.old self.new result }
     {
         let frame = self.taken(link, captured)?;
         skip_to_end(&mut self.input, rest, order, size)?;
@@ -165,9 +174,13 @@ impl<R: BufRead> Pieces<R> {
 
     // A frame of so many octets, read into the buffer where it is kept.
     pub fn taken(&mut self, link: Option<LinkType>, captured: u32) -> Result<Frame, FaultKind>
-        ensures frame { IfOk result (λ frame. TakesFrame link captured frame (R.Read.remaining self.old.input.reader) (R.Read.remaining self.new.input.reader) self.new.buffer.octets.items) }
+        ensures frame { IfOk result
+            (λ frame. TakesFrame link captured frame (R.Read.remaining self.old.input.reader)
+            (R.Read.remaining self.new.input.reader) self.new.buffer.octets.items) }
         ensures state { state_of self.new ≡ state_of self.old }
-        ensures exact { Reads R.Read.remaining (so_many captured ▷ λ frame. gives (frame_content link frame)) self.old self.new (map_ok (λ frame. content_in frame self.new.buffer.octets.items) result) }
+        ensures exact { Reads R.Read.remaining
+            (so_many captured ▷ λ frame. gives (frame_content link frame)) self.old self.new
+            (map_ok (λ frame. content_in frame self.new.buffer.octets.items) result) }
     {
         let Some(link) = link else {
             return self.left_out(captured, Passed::OtherLink);
@@ -183,10 +196,12 @@ impl<R: BufRead> Pieces<R> {
     // A frame that isn't kept.
     fn left_out(&mut self, captured: u32, passed: Passed) -> Result<Frame, FaultKind>
         ensures frame { IfOk result (λ frame. frame ≡ LeftOut passed) }
-        ensures octets { OnOk result (LeavesOut (R.Read.remaining self.old.input.reader) (R.Read.remaining self.new.input.reader) captured) }
+        ensures octets { OnOk result (LeavesOut (R.Read.remaining self.old.input.reader)
+            (R.Read.remaining self.new.input.reader) captured) }
         ensures buffer { self.new.buffer.octets.items ≡ self.old.buffer.octets.items }
         ensures state { state_of self.new ≡ state_of self.old }
-        ensures exact { Passes captured (file_place R.Read.remaining self.old) (file_place R.Read.remaining self.new) result }
+        ensures exact { Passes captured (file_place R.Read.remaining self.old)
+            (file_place R.Read.remaining self.new) result }
     {
         self.input.skip(u64::from(captured))?;
         Ok(Frame::LeftOut(passed))

@@ -45,8 +45,10 @@ impl Buffer {
     /// Reads so many octets to the front. Errors: CutShort where the file ends before, Device.
     pub fn fill<R: BufRead>(&mut self, input: &mut Input<R>, len: usize) -> Result<(), FaultKind>
         requires { len ≤ 65535 }
-        ensures octets { OnOk result (Consumes (R.Read.remaining input.old.reader) (R.Read.remaining input.new.reader) (take len self.new.octets.items)) }
-        ensures exact { ReadsInput R.Read.remaining (so_many len) input.old input.new (map_ok (λ _. take len self.new.octets.items) result) }
+        ensures octets { OnOk result (Consumes (R.Read.remaining input.old.reader)
+            (R.Read.remaining input.new.reader) (take len self.new.octets.items)) }
+        ensures exact { ReadsInput R.Read.remaining (so_many len) input.old input.new
+            (map_ok (λ _. take len self.new.octets.items) result) }
     {
         read_front(input, &mut self.octets, len)
     }
@@ -74,9 +76,11 @@ fn read_front<R: BufRead>(
     len: usize,
 ) -> Result<(), FaultKind>
     requires { len ≤ vec_len buffer.old }
-    ensures octets { OnOk result (Consumes (R.Read.remaining input.old.reader) (R.Read.remaining input.new.reader) (take len buffer.new.items)) }
+    ensures octets { OnOk result (Consumes (R.Read.remaining input.old.reader)
+        (R.Read.remaining input.new.reader) (take len buffer.new.items)) }
     ensures len { vec_len buffer.new ≡ vec_len buffer.old }
-    ensures exact { ReadsInput R.Read.remaining (so_many len) input.old input.new (map_ok (λ _. take len buffer.new.items) result) }
+    ensures exact { ReadsInput R.Read.remaining (so_many len) input.old input.new
+        (map_ok (λ _. take len buffer.new.items) result) }
 {
     input.fill_front(buffer, len)
 }

@@ -85,7 +85,8 @@ pub fn section<R: BufRead>(
 // A section header's options and its end; its order.
 fn section_end<R: BufRead>(input: &mut Input<R>, section: Section) -> Result<ByteOrder, FaultKind>
     requires { 28 ≤ section.length }
-    ensures { ReadsInput R.Read.remaining (skipped (section.length - 20) section.order section.length ▷ λ _. gives section.order) input.old input.new result }
+    ensures { ReadsInput R.Read.remaining (skipped (section.length - 20) section.order
+        section.length ▷ λ _. gives section.order) input.old input.new result }
 {
     skip_to_end(input, section.length - 20, section.order, section.length)?;
     Ok(section.order)
@@ -98,7 +99,8 @@ fn continued<R: BufRead>(
     octets: &mut [u8],
 ) -> Result<(), FaultKind>
     requires { 8 ≤ length octets.old }
-    ensures { ReadsInput R.Read.remaining (so_many (length octets.old - 8) ▷ λ more. gives (front ++ more)) input.old input.new (map_ok (λ _. octets.new) result) }
+    ensures { ReadsInput R.Read.remaining (so_many (length octets.old - 8) ▷ λ more.
+        gives (front ++ more)) input.old input.new (map_ok (λ _. octets.new) result) }
 {
     put_front(front, octets);
     input.fill_from(octets, BLOCK_HEAD)
@@ -120,7 +122,8 @@ pub fn skip_to_end<R: BufRead>(
     order: ByteOrder,
     size: u32,
 ) -> Result<(), FaultKind>
-    ensures { ReadsInput R.Read.remaining (skipped count order size) input.old input.new (map_ok (λ _. size) result) }
+    ensures { ReadsInput R.Read.remaining (skipped count order size) input.old input.new
+        (map_ok (λ _. size) result) }
 {
     input.skip(u64::from(count))?;
     end_of_block(input, order, size)
@@ -132,7 +135,8 @@ pub fn end_of_block<R: BufRead>(
     order: ByteOrder,
     size: u32,
 ) -> Result<(), FaultKind>
-    ensures { ReadsInput R.Read.remaining (closed order size) input.old input.new (map_ok (λ _. size) result) }
+    ensures { ReadsInput R.Read.remaining (closed order size) input.old input.new
+        (map_ok (λ _. size) result) }
 {
     let mut octets = [0; 4];
     input.fill(&mut octets)?;

@@ -22,19 +22,25 @@ pub struct Input<R> {
 impl<R: BufRead> Input<R> {
     /// Whether the file has ended. Error: Device.
     pub fn is_ended(&mut self) -> Result<bool, FaultKind>
-        ensures told { TellsEnd (place_of R.Read.remaining self.old) (place_of R.Read.remaining self.new) result }
+        ensures told { TellsEnd (place_of R.Read.remaining self.old)
+            (place_of R.Read.remaining self.new) result }
         ensures place { self.new.at ≡ self.old.at }
-        ensures kept { OnOk result (Keeps (R.Read.remaining self.old.reader) (R.Read.remaining self.new.reader)) }
-        ensures end { IfOk result (λ ended. IsTrue ended → IfSome (R.Read.remaining self.old.reader) (λ octets. octets ≡ [])) }
+        ensures kept { OnOk result
+            (Keeps (R.Read.remaining self.old.reader) (R.Read.remaining self.new.reader)) }
+        ensures end { IfOk result (λ ended. IsTrue ended
+            → IfSome (R.Read.remaining self.old.reader) (λ octets. octets ≡ [])) }
     {
         Ok(self.reader.fill_buf()?.is_empty())
     }
 
     /// Reads as many octets as the buffer has. Errors: CutShort where the file ends before, Device.
     pub fn fill(&mut self, buffer: &mut [u8]) -> Result<(), FaultKind>
-        ensures octets { OnOk result (Consumes (R.Read.remaining self.old.reader) (R.Read.remaining self.new.reader) buffer.new) }
-        ensures place { OnOk result (self.new.at ≡ min (self.old.at + length buffer.new) (2 ^ 64 - 1)) }
-        ensures exact { ReadsInput R.Read.remaining (so_many (length buffer.old)) self.old self.new (map_ok (λ _. buffer.new) result) }
+        ensures octets { OnOk result (Consumes (R.Read.remaining self.old.reader)
+            (R.Read.remaining self.new.reader) buffer.new) }
+        ensures place { OnOk result
+            (self.new.at ≡ min (self.old.at + length buffer.new) (2 ^ 64 - 1)) }
+        ensures exact { ReadsInput R.Read.remaining (so_many (length buffer.old)) self.old self.new
+            (map_ok (λ _. buffer.new) result) }
     {
         read_full(&mut self.reader, buffer)?;
         self.at = self.at.saturating_add(buffer.len() as u64);
@@ -44,9 +50,11 @@ impl<R: BufRead> Input<R> {
     /// Reads so many octets to the buffer's front. Errors: CutShort where the file ends before, Device.
     pub fn fill_front(&mut self, buffer: &mut [u8], count: usize) -> Result<(), FaultKind>
         requires { count ≤ length buffer.old }
-        ensures octets { OnOk result (Consumes (R.Read.remaining self.old.reader) (R.Read.remaining self.new.reader) (take count buffer.new)) }
+        ensures octets { OnOk result (Consumes (R.Read.remaining self.old.reader)
+            (R.Read.remaining self.new.reader) (take count buffer.new)) }
         ensures len { length buffer.new ≡ length buffer.old }
-        ensures exact { ReadsInput R.Read.remaining (so_many count) self.old self.new (map_ok (λ _. take count buffer.new) result) }
+        ensures exact { ReadsInput R.Read.remaining (so_many count) self.old self.new
+            (map_ok (λ _. take count buffer.new) result) }
     {
         self.fill(&mut buffer[..count])
     }
@@ -56,16 +64,19 @@ impl<R: BufRead> Input<R> {
         requires { from ≤ length buffer.old }
         ensures front { take from buffer.new ≡ take from buffer.old }
         ensures len { length buffer.new ≡ length buffer.old }
-        ensures exact { ReadsInput R.Read.remaining (so_many (length buffer.old - from)) self.old self.new (map_ok (λ _. drop from buffer.new) result) }
+        ensures exact { ReadsInput R.Read.remaining (so_many (length buffer.old - from)) self.old
+            self.new (map_ok (λ _. drop from buffer.new) result) }
     {
         self.fill(&mut buffer[from..])
     }
 
     /// Leaves out so many octets. Errors: CutShort where the file ends before, Device.
     pub fn skip(&mut self, count: u64) -> Result<(), FaultKind>
-        ensures octets { OnOk result (LeavesOut (R.Read.remaining self.old.reader) (R.Read.remaining self.new.reader) count) }
+        ensures octets { OnOk result (LeavesOut (R.Read.remaining self.old.reader)
+            (R.Read.remaining self.new.reader) count) }
         ensures place { OnOk result (self.new.at ≡ min (self.old.at + count) (2 ^ 64 - 1)) }
-        ensures exact { Passes count (place_of R.Read.remaining self.old) (place_of R.Read.remaining self.new) result }
+        ensures exact { Passes count (place_of R.Read.remaining self.old)
+            (place_of R.Read.remaining self.new) result }
     {
         leave_out(&mut self.reader, count)?;
         self.at = self.at.saturating_add(count);
@@ -75,7 +86,8 @@ impl<R: BufRead> Input<R> {
 
 // Fills the buffer, by as many reads as it takes.
 fn read_full<R: BufRead>(reader: &mut R, buffer: &mut [u8]) -> Result<(), FaultKind>
-    ensures octets { OnOk result (Consumes (R.Read.remaining reader.old) (R.Read.remaining reader.new) buffer.new) }
+    ensures octets { OnOk result
+        (Consumes (R.Read.remaining reader.old) (R.Read.remaining reader.new) buffer.new) }
     ensures len { length buffer.new ≡ length buffer.old }
     ensures short { IfErr result (IsShort (R.Read.remaining reader.old) (length buffer.old)) }
 {
@@ -95,7 +107,8 @@ fn read_full<R: BufRead>(reader: &mut R, buffer: &mut [u8]) -> Result<(), FaultK
 }
 
 fn leave_out<R: BufRead>(reader: &mut R, count: u64) -> Result<(), FaultKind>
-    ensures octets { OnOk result (LeavesOut (R.Read.remaining reader.old) (R.Read.remaining reader.new) count) }
+    ensures octets { OnOk result
+        (LeavesOut (R.Read.remaining reader.old) (R.Read.remaining reader.new) count) }
     ensures short { IfErr result (IsShort (R.Read.remaining reader.old) count) }
 {
     let mut left = count;
@@ -109,7 +122,8 @@ fn leave_out<R: BufRead>(reader: &mut R, count: u64) -> Result<(), FaultKind>
 
 fn leave_piece<R: BufRead>(reader: &mut R, count: usize) -> Result<(), FaultKind>
     requires { count ≤ 512 }
-    ensures octets { OnOk result (LeavesOut (R.Read.remaining reader.old) (R.Read.remaining reader.new) count) }
+    ensures octets { OnOk result
+        (LeavesOut (R.Read.remaining reader.old) (R.Read.remaining reader.new) count) }
     ensures short { IfErr result (IsShort (R.Read.remaining reader.old) count) }
 {
     let mut piece = [0; PIECE as usize];
@@ -118,7 +132,8 @@ fn leave_piece<R: BufRead>(reader: &mut R, count: usize) -> Result<(), FaultKind
 
 fn leave_front<R: BufRead>(reader: &mut R, piece: &mut [u8], count: usize) -> Result<(), FaultKind>
     requires { count ≤ length piece.old }
-    ensures octets { OnOk result (LeavesOut (R.Read.remaining reader.old) (R.Read.remaining reader.new) count) }
+    ensures octets { OnOk result
+        (LeavesOut (R.Read.remaining reader.old) (R.Read.remaining reader.new) count) }
     ensures short { IfErr result (IsShort (R.Read.remaining reader.old) count) }
 {
     read_full(reader, &mut piece[..count])

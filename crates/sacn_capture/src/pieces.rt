@@ -39,7 +39,8 @@ impl<R: BufRead + Drop> Pieces<R> {
     /// A recording, whose first header is read.
     pub fn open(alloc: Global, reader: R) -> Result<Self, FaultKind>
         ensures begun { IfOk result IsBegun }
-        ensures exact { Does opening (place_at 0 (R.Read.remaining reader)) (opened_place R.Read.remaining result) (map_ok (λ pieces. pieces.format) result) }
+        ensures exact { Does opening (place_at 0 (R.Read.remaining reader))
+            (opened_place R.Read.remaining result) (map_ok (λ pieces. pieces.format) result) }
     {
         let buffer = Buffer::new(alloc)?;
         let interfaces = Vec::with_capacity(alloc, MAX_INTERFACES)?;
@@ -58,9 +59,12 @@ impl<R: BufRead + Drop> Pieces<R> {
 impl<R: BufRead> Pieces<R> {
     /// Whether no octet is left. Error: Device.
     pub fn is_ended(&mut self) -> Result<bool, FaultKind>
-        ensures end { IfOk result (λ ended. ended ≡ true → IfSome (R.Read.remaining self.old.input.reader) (λ octets. octets ≡ [])) }
-        ensures kept { OnOk result (Keeps (R.Read.remaining self.old.input.reader) (R.Read.remaining self.new.input.reader)) }
-        ensures told { TellsEnd (file_place R.Read.remaining self.old) (file_place R.Read.remaining self.new) result }
+        ensures end { IfOk result (λ ended. ended ≡ true
+            → IfSome (R.Read.remaining self.old.input.reader) (λ octets. octets ≡ [])) }
+        ensures kept { OnOk result (Keeps (R.Read.remaining self.old.input.reader)
+            (R.Read.remaining self.new.input.reader)) }
+        ensures told { TellsEnd (file_place R.Read.remaining self.old)
+            (file_place R.Read.remaining self.new) result }
         ensures state { state_of self.new ≡ state_of self.old }
     {
         self.input.is_ended()
@@ -70,9 +74,14 @@ impl<R: BufRead> Pieces<R> {
     ///
     /// Errors: what is wrong with the piece.
     pub fn next(&mut self) -> Result<Option<Frame>, FaultKind>
-        ensures record { (header : PcapHeader) → self.old.format ≡ Pcap header → IfOk result (λ found. IfSome found (λ frame. ReadsRecord header frame self.new.moment (R.Read.remaining self.old.input.reader) (R.Read.remaining self.new.input.reader) self.new.buffer.octets.items)) }
-        ensures some { (header : PcapHeader) → self.old.format ≡ Pcap header → IfOk result (λ found. IsSome found) }
-        ensures exact { ReadsPiece R.Read.remaining (piece (state_of self.old)) self.old self.new result }
+        ensures record { (header : PcapHeader)
+            → self.old.format ≡ Pcap header → IfOk result (λ found. IfSome found (λ frame.
+            ReadsRecord header frame self.new.moment (R.Read.remaining self.old.input.reader)
+            (R.Read.remaining self.new.input.reader) self.new.buffer.octets.items)) }
+        ensures some { (header : PcapHeader) → self.old.format ≡ Pcap header
+            → IfOk result (λ found. IsSome found) }
+        ensures exact { ReadsPiece R.Read.remaining
+            (piece (state_of self.old)) self.old self.new result }
     {
         match self.format {
             Format::Pcap(header) => self.record(header),
@@ -83,8 +92,11 @@ impl<R: BufRead> Pieces<R> {
     // A record of a pcap file.
     fn record(&mut self, header: PcapHeader) -> Result<Option<Frame>, FaultKind>
         ensures some { IfOk result (λ found. IsSome found) }
-        ensures record { IfOk result (λ found. IfSome found (λ frame. ReadsRecord header frame self.new.moment (R.Read.remaining self.old.input.reader) (R.Read.remaining self.new.input.reader) self.new.buffer.octets.items)) }
-        ensures exact { ReadsPiece R.Read.remaining (record_piece header (state_of self.old)) self.old self.new result }
+        ensures record { IfOk result (λ found. IfSome found (λ frame.
+            ReadsRecord header frame self.new.moment (R.Read.remaining self.old.input.reader)
+            (R.Read.remaining self.new.input.reader) self.new.buffer.octets.items)) }
+        ensures exact { ReadsPiece R.Read.remaining
+            (record_piece header (state_of self.old)) self.old self.new result }
     {
         let mut octets = [0; RECORD_HEAD];
         self.input.fill(&mut octets)?;
@@ -94,8 +106,11 @@ impl<R: BufRead> Pieces<R> {
     // The frame behind a record's head.
     fn framed(&mut self, header: PcapHeader, octets: &[u8]) -> Result<Option<Frame>, FaultKind>
         ensures some { IfOk result (λ found. IsSome found) }
-        ensures frame { IfOk result (λ found. IfSome found (λ frame. ReadsFrame header octets.now frame self.new.moment (R.Read.remaining self.old.input.reader) (R.Read.remaining self.new.input.reader) self.new.buffer.octets.items)) }
-        ensures exact { ReadsPiece R.Read.remaining (record_behind header (state_of self.old) octets.now) self.old self.new result }
+        ensures frame { IfOk result (λ found. IfSome found (λ frame. ReadsFrame
+            header octets.now frame self.new.moment (R.Read.remaining self.old.input.reader)
+            (R.Read.remaining self.new.input.reader) self.new.buffer.octets.items)) }
+        ensures exact { ReadsPiece R.Read.remaining
+            (record_behind header (state_of self.old) octets.now) self.old self.new result }
     {
         let head = pcap_record_head(header.stamp, octets)?;
         let frame = self.taken(Some(header.link), head.captured)?;
@@ -105,7 +120,8 @@ impl<R: BufRead> Pieces<R> {
 
     // A block of a pcapng file.
     fn block(&mut self, order: ByteOrder) -> Result<Option<Frame>, FaultKind>
-        ensures { ReadsPiece R.Read.remaining (so_many 8 ▷ λ head. block_behind order (state_of self.old) head) self.old self.new result }
+        ensures { ReadsPiece R.Read.remaining (so_many 8 ▷ λ head.
+            block_behind order (state_of self.old) head) self.old self.new result }
     {
         let mut octets = [0; BLOCK_HEAD];
         self.input.fill(&mut octets)?;
@@ -118,7 +134,8 @@ impl<R: BufRead> Pieces<R> {
         order: ByteOrder,
         octets: [u8; BLOCK_HEAD],
     ) -> Result<Option<Frame>, FaultKind>
-        ensures { ReadsPiece R.Read.remaining (block_behind order (state_of self.old) octets) self.old self.new result }
+        ensures { ReadsPiece R.Read.remaining
+            (block_behind order (state_of self.old) octets) self.old self.new result }
     {
         if is_section(&octets) {
             return self.section(octets);
@@ -132,7 +149,8 @@ impl<R: BufRead> Pieces<R> {
         order: ByteOrder,
         octets: [u8; BLOCK_HEAD],
     ) -> Result<Option<Frame>, FaultKind>
-        ensures { ReadsPiece R.Read.remaining (other_behind order (state_of self.old) octets) self.old self.new result }
+        ensures { ReadsPiece R.Read.remaining
+            (other_behind order (state_of self.old) octets) self.old self.new result }
     {
         let head = pcapng_block_head(order, &octets)?;
         self.by_kind(order, head)
@@ -140,7 +158,8 @@ impl<R: BufRead> Pieces<R> {
 
     // A section header: the interfaces before it are forgotten.
     fn section(&mut self, octets: [u8; BLOCK_HEAD]) -> Result<Option<Frame>, FaultKind>
-        ensures { ReadsPiece R.Read.remaining (section_piece (state_of self.old) octets) self.old self.new result }
+        ensures { ReadsPiece R.Read.remaining
+            (section_piece (state_of self.old) octets) self.old self.new result }
     {
         let order = section(&mut self.input, octets)?;
         self.format = Format::Pcapng(order);
@@ -150,7 +169,8 @@ impl<R: BufRead> Pieces<R> {
 
     fn by_kind(&mut self, order: ByteOrder, head: BlockHead) -> Result<Option<Frame>, FaultKind>
         requires { 12 ≤ head.length }
-        ensures { ReadsPiece R.Read.remaining (block_piece order head.length (state_of self.old) head.kind) self.old self.new result }
+        ensures { ReadsPiece R.Read.remaining
+            (block_piece order head.length (state_of self.old) head.kind) self.old self.new result }
     {
         match head.kind {
             BlockKind::Interface => self.described(order, head.length),

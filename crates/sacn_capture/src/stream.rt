@@ -47,7 +47,8 @@ impl<R: BufRead + Drop> Capture<R> {
     ///
     /// Errors, at octet 0: OutOfMemory, Device, and those of `pcap_header` and `section_in`.
     pub fn open(alloc: Global, reader: R) -> Result<Self, CaptureFault>
-        ensures begun { IfOk result (λ capture. (counts_of capture ≡ none_counted) × (stopped_by capture ≡ None)) }
+        ensures begun { IfOk result
+            (λ capture. (counts_of capture ≡ none_counted) × (stopped_by capture ≡ None)) }
         ensures place { IfErr result (λ fault. fault.at ≡ 0) }
         ensures told { Opens R.Read.remaining (R.Read.remaining reader) result }
     {
@@ -83,10 +84,15 @@ impl<R: BufRead> Capture<R> {
     /// OutOfMemory, which no octet tells. What was read before stays valid; each later call gives the same fault.
     pub fn next(&mut self) -> Result<Option<Record<'_>>, CaptureFault>
         ensures stopped { IfSome (stopped_by self.old) (λ fault. result ≡ Err fault) }
-        ensures end { (header : PcapHeader) → IsPcap header self.old → IfOk result (λ found. IfNone found (IfSome (left_in R.Read.remaining self.old) (λ octets. octets ≡ []))) }
-        ensures given { (header : PcapHeader) → IsPcap header self.old → IfOk result (λ found. IfSome found (λ given. GivesRecord header given.moment (map_ok sent_of given.content) (left_in R.Read.remaining self.old))) }
-        ensures* rests { sem 𝓛 (Rests (the_row R.row) self.entry (λ new. GivesNext R.Read.remaining (map_ok (λ found. option_map shown_of found) result) self.old new)) }
-        ensures told { GivesFirst (map_ok (λ found. option_map shown_of found) result) (to_come R.Read.remaining self.old) }
+        ensures end { (header : PcapHeader) → IsPcap header self.old → IfOk result (λ found.
+            IfNone found (IfSome (left_in R.Read.remaining self.old) (λ octets. octets ≡ []))) }
+        ensures given { (header : PcapHeader) → IsPcap header self.old
+            → IfOk result (λ found. IfSome found (λ given. GivesRecord header given.moment
+            (map_ok sent_of given.content) (left_in R.Read.remaining self.old))) }
+        ensures* rests { sem 𝓛 (Rests (the_row R.row) self.entry (λ new. GivesNext R.Read.remaining
+            (map_ok (λ found. option_map shown_of found) result) self.old new)) }
+        ensures told { GivesFirst (map_ok (λ found. option_map shown_of found) result)
+            (to_come R.Read.remaining self.old) }
     {
         match self.advance()? {
             Some(frame) => {
@@ -114,10 +120,16 @@ impl<R: BufRead> Capture<R> {
     // Reads on to the next frame, which is then in the buffer; none at the file's end.
     fn advance(&mut self) -> Result<Option<Frame>, CaptureFault>
         ensures stopped { IfSome (stopped_by self.old) (λ fault. result ≡ Err fault) }
-        ensures end { (header : PcapHeader) → IsPcap header self.old → IfOk result (λ found. IfNone found (IfSome (left_in R.Read.remaining self.old) (λ octets. octets ≡ []))) }
-        ensures given { (header : PcapHeader) → IsPcap header self.old → IfOk result (λ found. IfSome found (λ frame. ReadsRecord header frame self.new.pieces.moment (left_in R.Read.remaining self.old) (left_in R.Read.remaining self.new) self.new.pieces.buffer.octets.items)) }
+        ensures end { (header : PcapHeader) → IsPcap header self.old → IfOk result (λ found.
+            IfNone found (IfSome (left_in R.Read.remaining self.old) (λ octets. octets ≡ []))) }
+        ensures given { (header : PcapHeader)
+            → IsPcap header self.old → IfOk result (λ found. IfSome found (λ frame.
+            ReadsRecord header frame self.new.pieces.moment (left_in R.Read.remaining self.old)
+            (left_in R.Read.remaining self.new) self.new.pieces.buffer.octets.items)) }
         ensures counts { self.new.counts ≡ self.old.counts }
-        ensures told { Gives (map_ok (λ found. option_map (λ frame. frame_shown frame self.new.pieces) found) result) (to_come R.Read.remaining self.old) (to_come R.Read.remaining self.new) }
+        ensures told { Gives
+            (map_ok (λ found. option_map (λ frame. frame_shown frame self.new.pieces) found) result)
+            (to_come R.Read.remaining self.old) (to_come R.Read.remaining self.new) }
     {
         if let Some(fault) = self.stopped {
             return Err(fault);
@@ -138,8 +150,11 @@ impl<R: BufRead> Capture<R> {
         requires { self.old.stopped ≡ None }
         ensures going { self.new.stopped ≡ None }
         ensures counts { self.new.counts ≡ self.old.counts }
-        ensures record { (header : PcapHeader) → IsPcap header self.old → IfOk result (λ step. StepReads header step (left_in R.Read.remaining self.old) (left_in R.Read.remaining self.new) self.new.pieces) }
-        ensures told { Steps result self.new.mark self.new.pieces (to_come R.Read.remaining self.old) (to_come R.Read.remaining self.new) }
+        ensures record { (header : PcapHeader) → IsPcap header self.old
+            → IfOk result (λ step. StepReads header step (left_in R.Read.remaining self.old)
+            (left_in R.Read.remaining self.new) self.new.pieces) }
+        ensures told { Steps result self.new.mark self.new.pieces
+            (to_come R.Read.remaining self.old) (to_come R.Read.remaining self.new) }
     {
         self.mark = self.pieces.input.at;
         if self.pieces.is_ended()? {
@@ -169,7 +184,8 @@ impl<R: BufRead> Capture<R> {
     fn count(&mut self, frame: Frame)
         ensures pieces { self.new.pieces ≡ self.old.pieces }
         ensures stopped { self.new.stopped ≡ self.old.stopped }
-        ensures counts { self.new.counts ≡ counted (passed_in frame self.old.pieces) self.old.counts }
+        ensures counts { self.new.counts
+            ≡ counted (passed_in frame self.old.pieces) self.old.counts }
     {
         let content = self.pieces.buffer.content(frame);
         self.counts.add(&content);
@@ -177,7 +193,8 @@ impl<R: BufRead> Capture<R> {
 
     // The frame that was read last, with what stands in it.
     fn shown(&self, frame: Frame) -> Record<'_>
-        ensures content { map_ok sent_of result.content ≡ content_in frame self.now.pieces.buffer.octets.items }
+        ensures content { map_ok sent_of result.content
+            ≡ content_in frame self.now.pieces.buffer.octets.items }
         ensures moment { result.moment ≡ self.now.pieces.moment }
     {
         Record {

@@ -16,7 +16,7 @@ use Rattle.sacn_cues.specs.declared.cue.Cue.{Cue as CueValue}
 use Rattle.sacn_cues.specs.declared.fault.CueFault.{CueFault}
 use Rattle.sacn_cues.specs.declared.fault.CueFault.TheVariants as cue
 use Rattle.sacn_universe.specs.Results.{◌>>=◌}
-use Rattle.sacn_files.specs.Keys.{has_known_keys, has_keys, rows_are_known, rows_have_keys}
+use Rattle.sacn_files.specs.Keys.{KeyTable, has_known_keys, has_keys, rows_are_known, rows_have_keys}
 use Rattle.sacn_files.specs.Values.{rows_at, has_rows, number_in, number_at, array_values, array_at, members_or_none, value_or}
 use Rattle.sacn_files.specs.Rows.{each}
 use Rattle.sacn_files.specs.Lines.{before}
@@ -53,38 +53,42 @@ pub record Identity : Type 0 where
   pub name : List ℕ
   pub priority : ℕ
 
--- the keys of a show's own table, and those of them that are required
-abbrev pub top_keys : List (List ℕ)
-top_keys = codes "version" ∷ codes "cid" ∷ codes "name" ∷ codes "priority" ∷ codes "universes" ∷ codes "send_to" ∷ codes "cue" ∷ codes "patch" ∷ []
+-- the keys of each table: those that it must have, and those that it may have
+abbrev pub show_keys : KeyTable
+show_keys =
+    record {
+      required = codes "version" ∷ codes "cid" ∷ codes "name" ∷ codes "universes" ∷ [];
+      optional = codes "priority" ∷ codes "send_to" ∷ codes "cue" ∷ codes "patch" ∷ [];
+    }
 
-abbrev pub top_required : List (List ℕ)
-top_required = codes "cid" ∷ codes "name" ∷ codes "universes" ∷ []
+abbrev pub cue_keys : ℕ → KeyTable
+cue_keys version =
+    record {
+      required = if version == 1 then codes "number" ∷ codes "fade" ∷ codes "levels" ∷ [] else codes "number" ∷ codes "up" ∷ codes "down" ∷ codes "levels" ∷ [];
+      optional = [];
+    }
 
+abbrev pub patch_keys : KeyTable
+patch_keys = record { required = codes "channel" ∷ codes "universe" ∷ codes "slot" ∷ []; optional = codes "wide" ∷ [] }
+
+-- the tables of `cue` and of `patch`
 abbrev pub cue_rows : Members → List Data
 cue_rows ms = rows_at (codes "cue") ms
 
 abbrev pub patch_rows : Members → List Data
 patch_rows ms = rows_at (codes "patch") ms
 
--- each key of a cue is required
-abbrev pub cue_keys : ℕ → List (List ℕ)
-cue_keys version =
-    if version == 1 then codes "number" ∷ codes "fade" ∷ codes "levels" ∷ []
-    else codes "number" ∷ codes "up" ∷ codes "down" ∷ codes "levels" ∷ []
-
-abbrev pub patch_keys : List (List ℕ)
-patch_keys = codes "channel" ∷ codes "universe" ∷ codes "slot" ∷ codes "wide" ∷ []
-
-abbrev pub patch_required : List (List ℕ)
-patch_required = codes "channel" ∷ codes "universe" ∷ codes "slot" ∷ []
-
 -- no table has another key
 abbrev pub keys_are_known : ℕ → Members → Bool
-keys_are_known version ms = has_known_keys top_keys ms && (rows_are_known (cue_keys version) (cue_rows ms) && rows_are_known patch_keys (patch_rows ms))
+keys_are_known version ms = has_known_keys show_keys ms && (rows_are_known (cue_keys version) (cue_rows ms) && rows_are_known patch_keys (patch_rows ms))
+
+-- each required key of a cue, and of an entry of the patch, is there
+unfoldable pub rows_are_whole : ℕ → Members → Bool
+rows_are_whole version ms = rows_have_keys (cue_keys version) (cue_rows ms) && rows_have_keys patch_keys (patch_rows ms)
 
 -- each required key is there
 abbrev pub keys_are_there : ℕ → Members → Bool
-keys_are_there version ms = has_keys top_required ms && (rows_have_keys (cue_keys version) (cue_rows ms) && rows_have_keys patch_required (patch_rows ms))
+keys_are_there version ms = has_keys show_keys ms && rows_are_whole version ms
 
 -- a name: at most 63 octets, none of them NUL
 abbrev pub name_in : Data → Option (List ℕ)

@@ -99,7 +99,8 @@ impl ConsoleCore {
         ensures answer { result ≡ option_map size (due (at now self.old)) }
         ensures octets { out.new ≡ over self.old.sender (due (at now self.old)) out.old }
         ensures core { self.new ≡ after_poll now self.old }
-        ensures lawful { (d : Datagram) → due (at now self.old) ≡ Some d → IsLawful self.old.sender d }
+        ensures lawful { (d : Datagram) → due (at now self.old) ≡ Some d
+            → IsLawful self.old.sender d }
     {
         self.tell_lawful(now);
         self.move_clock(now);
@@ -177,7 +178,8 @@ impl ConsoleCore {
 
     fn go_to(&mut self, number: u16) -> Result<(), ConsoleFault>
         ensures answer { result ≡ answer (Command.GoTo number) self.old }
-        ensures core { self.new ≡ taken (Command.GoTo number) (answer (Command.GoTo number) self.old) self.old }
+        ensures core { self.new
+            ≡ taken (Command.GoTo number) (answer (Command.GoTo number) self.old) self.old }
     {
         self.wakes.clear();
         console_answer(self.player.go_to(self.moment, number))
@@ -185,7 +187,8 @@ impl ConsoleCore {
 
     fn set_level(&mut self, channel: u16, level: u16) -> Result<(), ConsoleFault>
         ensures answer { result ≡ answer (Command.SetLevel channel level) self.old }
-        ensures core { self.new ≡ taken (Command.SetLevel channel level) (answer (Command.SetLevel channel level) self.old) self.old }
+        ensures core { self.new ≡ taken (Command.SetLevel channel level)
+            (answer (Command.SetLevel channel level) self.old) self.old }
     {
         self.wakes.clear();
         console_answer(self.player.set(self.moment, channel, level))
@@ -193,7 +196,8 @@ impl ConsoleCore {
 
     fn set_master(&mut self, master: u16) -> Result<(), ConsoleFault>
         ensures answer { result ≡ answer (Command.Master master) self.old }
-        ensures core { self.new ≡ taken (Command.Master master) (answer (Command.Master master) self.old) self.old }
+        ensures core { self.new
+            ≡ taken (Command.Master master) (answer (Command.Master master) self.old) self.old }
     {
         self.wakes.clear();
         self.player.master(self.moment, master);
@@ -202,7 +206,8 @@ impl ConsoleCore {
 
     fn end(&mut self, universe: u16) -> Result<(), ConsoleFault>
         ensures answer { result ≡ answer (Command.EndUniverse universe) self.old }
-        ensures core { self.new ≡ taken (Command.EndUniverse universe) (answer (Command.EndUniverse universe) self.old) self.old }
+        ensures core { self.new ≡ taken (Command.EndUniverse universe)
+            (answer (Command.EndUniverse universe) self.old) self.old }
     {
         let place = self.place_of(universe).ok_or(ConsoleFault::NoUniverse)?;
         self.can_end(place)?;
@@ -212,7 +217,8 @@ impl ConsoleCore {
 
     fn start(&mut self, universe: u16) -> Result<(), ConsoleFault>
         ensures answer { result ≡ answer (Command.StartUniverse universe) self.old }
-        ensures core { self.new ≡ taken (Command.StartUniverse universe) (answer (Command.StartUniverse universe) self.old) self.old }
+        ensures core { self.new ≡ taken (Command.StartUniverse universe)
+            (answer (Command.StartUniverse universe) self.old) self.old }
     {
         let place = self.place_of(universe).ok_or(ConsoleFault::NoUniverse)?;
         self.can_start(place)?;
@@ -222,7 +228,9 @@ impl ConsoleCore {
 
     fn place_of(&self, universe: u16) -> Option<usize>
         ensures rising { Rising (universes_of self.now.lines) }
-        ensures found { MatchOption result (find (is_of universe) self.now.lines ≡ None) (λ i. (i < length self.now.lines) × (find (is_of universe) self.now.lines ≡ Some (line_at self.now i)) × ((line_at self.now i).universe ≡ universe)) }
+        ensures found { MatchOption result (find (is_of universe) self.now.lines ≡ None)
+            (λ i. (i < length self.now.lines) × (find (is_of universe) self.now.lines
+            ≡ Some (line_at self.now i)) × ((line_at self.now i).universe ≡ universe)) }
     {
         place_of(&self.lines, universe)
     }
@@ -243,7 +251,9 @@ impl ConsoleCore {
 
     fn set_state(&mut self, place: usize, state: State)
         requires { place < length self.old.lines }
-        ensures { self.new ≡ record self.old { lines = slice_set self.old.lines place (line_in state (line_at self.old place)) } }
+        ensures { self.new ≡ record self.old {
+          lines = slice_set self.old.lines place (line_in state (line_at self.old place));
+        } }
     {
         let line = &mut self.lines[place];
         line.state = state;

@@ -81,7 +81,8 @@ fn same(a: &[u8; SLOTS], b: &[u8; SLOTS]) -> bool
 
 #[tactic(auto, unfolding(crate::specs::Lights::frame_now))]
 fn fill(patch: &FlatPatch, player: &PlayerAt<'_>, universe: u16, slots: &mut [u8; SLOTS])
-    ensures { slots.new ≡ frame_now (record { patch = patch.now; player = player.now.player.now }) universe }
+    ensures { slots.new
+        ≡ frame_now (record { patch = patch.now; player = player.now.player.now }) universe }
 {
     match player.octets() {
         Some(octets) => patch.fill_octets(universe, octets, slots),
@@ -91,7 +92,8 @@ fn fill(patch: &FlatPatch, player: &PlayerAt<'_>, universe: u16, slots: &mut [u8
 
 // Whether none of the channels that the universe shows fades.
 fn rests(patch: &FlatPatch, player: &PlayerAt<'_>, universe: u16) -> bool
-    ensures { result ≡ true → FrameStays (record { patch = patch.now; player = player.now.player.now }) universe }
+    ensures { result ≡ true
+        → FrameStays (record { patch = patch.now; player = player.now.player.now }) universe }
 {
     patch.rests(universe, player)
 }
@@ -130,7 +132,8 @@ impl UniverseLine {
         requires clock { player.now.player.now.moment ≡ moment }
         requires tells { is_still ≡ play.is_still player.now.player.now }
         requires still { is_still ≡ true → StaysAsItIs player.now.player.now }
-        ensures { Finds (record { patch = patch.now; player = player.now.player.now }) moment self.now slots.new result }
+        ensures { Finds (record { patch = patch.now; player = player.now.player.now }) moment
+            self.now slots.new result }
     {
         if self.is_stopped() {
             return Look::Asleep(u64::MAX);
@@ -166,7 +169,8 @@ impl UniverseLine {
         requires still { is_still ≡ true → StaysAsItIs player.now.player.now }
         requires early { has_passed limits.MIN_GAP moment self.now.last ≡ false }
         requires goes { is_stopped self.now.state ≡ false }
-        ensures { Finds (record { patch = patch.now; player = player.now.player.now }) moment self.now slots.new result }
+        ensures { Finds (record { patch = patch.now; player = player.now.player.now }) moment
+            self.now slots.new result }
     {
         let gap = when_passed(MIN_GAP, self.last);
         if !is_still {

@@ -32,10 +32,20 @@ pub(crate) fn first_due(
     requires clock { player.now.player.now.moment ≡ moment }
     requires tells { is_still ≡ play.is_still player.now.player.now }
     requires still { is_still ≡ true → StaysAsItIs player.now.player.now }
-    requires wakes { WakesOk wakes.old (record { patch = patch.now; player = player.now.player.now }) moment lines.now }
-    ensures wakes { WakesOk wakes.new (record { patch = patch.now; player = player.now.player.now }) moment lines.now }
-    ensures found { MatchOption result (find (line_due (record { patch = patch.now; player = player.now.player.now }) moment) lines.now ≡ None) (λ i. (i < length lines.now) × ((d : KeptLine) → (find (line_due (record { patch = patch.now; player = player.now.player.now }) moment) lines.now ≡ Some (slice_index_or lines.now i d)) × (slots.new ≡ frame (record { patch = patch.now; player = player.now.player.now }) (slice_index_or lines.now i d).universe moment))) }
-    ensures ahead { MatchOption result (IsLeast wakes.new.each (min (moment + 1) last_moment)) (λ i. wakes.new.from ≡ i) }
+    requires wakes { WakesOk wakes.old
+        (record { patch = patch.now; player = player.now.player.now }) moment lines.now }
+    ensures wakes { WakesOk wakes.new
+        (record { patch = patch.now; player = player.now.player.now }) moment lines.now }
+    ensures found { MatchOption result (find
+        (line_due (record { patch = patch.now; player = player.now.player.now }) moment) lines.now
+        ≡ None) (λ i. (i < length lines.now) × ((d : KeptLine) → (find
+        (line_due (record { patch = patch.now; player = player.now.player.now }) moment) lines.now
+        ≡ Some (slice_index_or lines.now i d)) × (slots.new ≡ frame (record {
+          patch = patch.now;
+          player = player.now.player.now;
+        }) (slice_index_or lines.now i d).universe moment))) }
+    ensures ahead { MatchOption result (IsLeast wakes.new.each (min (moment + 1) last_moment))
+        (λ i. wakes.new.from ≡ i) }
 {
     for place in wakes.from()..lines.len() {
         if moment < wakes.at(place) {
@@ -56,7 +66,9 @@ pub(crate) fn first_due(
 
 /// Where a universe stands.
 pub(crate) fn place_of(lines: &[UniverseLine], universe: u16) -> Option<usize>
-    ensures { MatchOption result (find (is_of universe) lines.now ≡ None) (λ i. (i < length lines.now) × ((d : KeptLine) → (find (is_of universe) lines.now ≡ Some (slice_index_or lines.now i d)) × ((slice_index_or lines.now i d).universe ≡ universe))) }
+    ensures { MatchOption result (find (is_of universe) lines.now ≡ None)
+        (λ i. (i < length lines.now) × ((d : KeptLine) → (find (is_of universe) lines.now ≡ Some
+        (slice_index_or lines.now i d)) × ((slice_index_or lines.now i d).universe ≡ universe))) }
 {
     for place in 0..lines.len() {
         let line = &lines[place];

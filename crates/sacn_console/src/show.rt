@@ -67,7 +67,16 @@ impl Show {
         cues: CueList,
         patch: Patch,
     ) -> Self
-        ensures { result ≡ record { cid = identity.cid; name = identity.name; priority = identity.priority; universes = universes; send_to = send_to; cues = cues; patch = patch } }
+        ensures { result
+            ≡ record {
+              cid = identity.cid;
+              name = identity.name;
+              priority = identity.priority;
+              universes = universes;
+              send_to = send_to;
+              cues = cues;
+              patch = patch;
+            } }
     {
         let Identity { sender, name } = identity;
         Show {

@@ -31,7 +31,8 @@ impl Wakes {
 
     /// Every universe has to be looked at.
     pub(crate) fn new(alloc: Global, universes: &[u16]) -> Result<Self, AllocError>
-        ensures { IfOk result (λ w. w ≡ record { each = map awake universes.now; least = 0; from = 0 }) }
+        ensures { IfOk result
+            (λ w. w ≡ record { each = map awake universes.now; least = 0; from = 0 }) }
     {
         let each = first_wakes(alloc, universes)?;
         Ok(Wakes {
@@ -43,7 +44,8 @@ impl Wakes {
 
     /// Every universe has to be looked at again.
     pub(crate) fn clear(&mut self)
-        ensures { self.new ≡ record { each = replicate (length self.old.each) 0; least = 0; from = 0 } }
+        ensures { self.new
+            ≡ record { each = replicate (length self.old.each) 0; least = 0; from = 0 } }
     {
         self.each.fill(0);
         self.least = 0;
@@ -61,7 +63,11 @@ impl Wakes {
     /// Gives the universe at this place a wake.
     pub(crate) fn put(&mut self, place: usize, wake: u64)
         requires { place < length self.old.each }
-        ensures { self.new ≡ record { each = slice_set self.old.each place wake; least = min self.old.least wake; from = self.old.from } }
+        ensures { self.new ≡ record {
+          each = slice_set self.old.each place wake;
+          least = min self.old.least wake;
+          from = self.old.from;
+        } }
     {
         self.each[place] = wake;
         self.least = self.least.min(wake);
@@ -91,7 +97,11 @@ impl Wakes {
     /// The universe at this place isn't due at the clock's moment.
     pub(crate) fn pass(&mut self, place: usize)
         requires { place < usize.MAX }
-        ensures { self.new ≡ record { each = self.old.each; least = self.old.least; from = passed_over place self.old.from } }
+        ensures { self.new ≡ record {
+          each = self.old.each;
+          least = self.old.least;
+          from = passed_over place self.old.from;
+        } }
     {
         if self.from == place {
             self.from = place + 1;
@@ -109,7 +119,8 @@ impl Wakes {
     /// The earliest wake, or the last moment that a clock can show.
     pub(crate) fn first(&self) -> u64
         ensures least { IsLeast self.now.each result }
-        ensures attained { result < last_moment → (i : ℕ) × (i < length self.now.each) × (slice_index_or self.now.each i 0 ≡ result) }
+        ensures attained { result < last_moment
+            → (i : ℕ) × (i < length self.now.each) × (slice_index_or self.now.each i 0 ≡ result) }
     {
         earliest(&self.each)
     }
@@ -118,7 +129,8 @@ impl Wakes {
 // The earliest of some moments, or the last that a clock can show.
 fn earliest(moments: &[u64]) -> u64
     ensures least { IsLeast moments.now result }
-    ensures attained { result < last_moment → (i : ℕ) × (i < length moments.now) × (slice_index_or moments.now i 0 ≡ result) }
+    ensures attained { result < last_moment
+        → (i : ℕ) × (i < length moments.now) × (slice_index_or moments.now i 0 ≡ result) }
 {
     let mut least = u64::MAX;
     for place in 0..moments.len() {

@@ -66,7 +66,11 @@ impl Fades {
 
     /// Begins the fades of the channels that a cue names.
     pub(crate) fn play(&mut self, scene: &Scene, now: u64)
-        ensures { self.new ≡ record { rest = max self.old.rest (end_of now (longer scene.now)); fades = all_begun (λ channel. given_to scene.now.up scene.now.down (level_of_channel scene.now.levels channel)) now 1 self.old.fades } }
+        ensures { self.new ≡ record {
+          rest = max self.old.rest (end_of now (longer scene.now));
+          fades = all_begun (λ channel. given_to scene.now.up scene.now.down
+              (level_of_channel scene.now.levels channel)) now 1 self.old.fades;
+        } }
     {
         play_scene(scene, &mut self.targets, &mut self.fades, now);
         self.rest = rest_after(self.rest, now, scene.longer());
@@ -75,7 +79,12 @@ impl Fades {
     /// Begins the fades of the channels to which going to a cue gives a level.
     pub(crate) fn play_to(&mut self, track: &Track, now: u64)
         requires { length track.now.targets ≡ MAX_CHANNELS }
-        ensures { (level : ℕ → Option ℕ) → AreTargets level track.now.targets → self.new ≡ record { rest = max self.old.rest (end_of now (max track.now.up track.now.down)); fades = all_begun (λ channel. given_to track.now.up track.now.down (level channel)) now 1 self.old.fades } }
+        ensures { (level : ℕ → Option ℕ)
+            → AreTargets level track.now.targets → self.new ≡ record {
+              rest = max self.old.rest (end_of now (max track.now.up track.now.down));
+              fades = all_begun (λ channel.
+                  given_to track.now.up track.now.down (level channel)) now 1 self.old.fades;
+            } }
     {
         begin_all(track.targets(), &mut self.fades, track.times(), now);
         self.rest = rest_after(self.rest, now, track.longer());
@@ -84,7 +93,10 @@ impl Fades {
     /// Sets a channel at once.
     pub(crate) fn set(&mut self, channel: u16, level: u16, now: u64)
         requires { is_channel channel ≡ true }
-        ensures { self.new ≡ record { rest = max self.old.rest now; fades = all_begun (set_to channel level) now 1 self.old.fades } }
+        ensures { self.new ≡ record {
+          rest = max self.old.rest now;
+          fades = all_begun (set_to channel level) now 1 self.old.fades;
+        } }
     {
         set_one(&mut self.fades, channel, level, now);
         self.rest = self.rest.max(now);
@@ -96,7 +108,8 @@ impl Fades {
         requires before { IsBlankBefore octets.old }
         ensures length { length octets.new ≡ OCTETS }
         ensures before { IsBlankBefore octets.new }
-        ensures levels { AreOctets (λ channel. level_at self.now.fades channel now * master / FULL) octets.new }
+        ensures levels { AreOctets
+            (λ channel. level_at self.now.fades channel now * master / FULL) octets.new }
     {
         fill_octets(&self.fades, now, master, octets);
     }
@@ -136,7 +149,8 @@ impl Fades {
 fn play_scene(scene: &Scene, targets: &mut [Option<u16>], fades: &mut [Fade], now: u64)
     requires { targets.old ≡ replicate (length fades.old) None }
     ensures targets { targets.new ≡ targets.old }
-    ensures fades { fades.new ≡ all_begun (λ channel. given_to scene.now.up scene.now.down (level_of_channel scene.now.levels channel)) now 1 fades.old }
+    ensures fades { fades.new ≡ all_begun (λ channel. given_to scene.now.up scene.now.down
+        (level_of_channel scene.now.levels channel)) now 1 fades.old }
 {
     let times = scene.times();
     scene.aim(targets);

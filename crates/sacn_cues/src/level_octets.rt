@@ -26,7 +26,8 @@ pub(crate) fn mastered(level: u16, master: u16) -> u16
 /// Writes the octets of a channel's level; channels count from 0 here.
 pub(crate) fn put_level(octets: &mut [u8], at: usize, level: u16)
     requires { 2 * at + 3 < length octets.old }
-    ensures { octets.new ≡ set (set octets.old (2 * at + 2) (level / 256)) (2 * at + 3) (level % 256) }
+    ensures { octets.new
+        ≡ set (set octets.old (2 * at + 2) (level / 256)) (2 * at + 3) (level % 256) }
 {
     octets[2 * at + 2] = (level / 256) as u8;
     octets[2 * at + 3] = (level % 256) as u8;

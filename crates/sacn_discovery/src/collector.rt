@@ -69,7 +69,8 @@ impl Collector {
     ///
     /// Errors: OutOfMemory.
     pub fn list_of(&mut self, now: u64, cid: &[u8; 16]) -> Result<Option<Vec<u16>>, DiscoveryFault>
-        ensures list { IfOk result (λ list. option_map (λ v. v.items) list ≡ known_list (after_expire now self.old) cid.now) }
+        ensures list { IfOk result (λ list. option_map (λ v. v.items) list
+            ≡ known_list (after_expire now self.old) cid.now) }
         ensures state { self.new ≡ after_expire now self.old }
     {
         self.expire(now);
@@ -97,7 +98,8 @@ impl Collector {
 
     // Forgets what is too old at the moment that the clock shows.
     fn sweep(&mut self)
-        ensures left { map.entries self.new.sources ≡ filter (λ e. is_fresh self.old.moment e.1) (map.entries self.old.sources) }
+        ensures left { map.entries self.new.sources
+            ≡ filter (λ e. is_fresh self.old.moment e.1) (map.entries self.old.sources) }
         ensures moment { self.new.moment ≡ self.old.moment }
     {
         let moment = self.moment;
@@ -126,7 +128,8 @@ impl Collector {
     fn add(&mut self, cid: &[u8; 16], page: u8, last: u8, numbers: Vec<u16>)
         requires page { page ≤ last }
         requires known { goes_on last (map.get self.old.sources cid.now) ≡ true }
-        ensures { self.new ≡ with_source cid.now (with_page self.old.moment page last numbers.items (map.get self.old.sources cid.now)) self.old }
+        ensures { self.new ≡ with_source cid.now (with_page self.old.moment page last numbers.items
+            (map.get self.old.sources cid.now)) self.old }
     {
         let moment = self.moment;
         match self.sources.get_mut(cid) {
@@ -145,7 +148,8 @@ impl Collector {
     ) -> Result<(), DiscoveryFault>
         requires page { page ≤ last }
         requires other { goes_on last (map.get self.old.sources cid) ≡ false }
-        ensures ok { OnOk result (self.new ≡ with_source cid (with_page self.old.moment page last numbers.items (map.get self.old.sources cid)) self.old) }
+        ensures ok { OnOk result (self.new ≡ with_source cid (with_page self.old.moment page last
+            numbers.items (map.get self.old.sources cid)) self.old) }
         ensures err { OnErr result (self.new ≡ self.old) }
     {
         let heard = SourcePages::begin(self.alloc, self.moment, page, last, numbers)?;
@@ -165,7 +169,8 @@ impl Collector {
 
     // The list of a source, where all its pages are there.
     fn list_at(&self, cid: &[u8; 16]) -> Result<Option<Vec<u16>>, AllocError>
-        ensures { IfOk result (λ list. option_map (λ v. v.items) list ≡ known_list self.now cid.now) }
+        ensures { IfOk result
+            (λ list. option_map (λ v. v.items) list ≡ known_list self.now cid.now) }
     {
         match self.sources.get(cid) {
             Some(heard) => heard.list(self.alloc),

@@ -51,10 +51,12 @@ pub fn write_page(
 ) -> usize
     requires rising { IsStrictlyIncreasing list.now }
     requires there { k < page_count (length list.now) }
-    ensures text { out.new ≡ page_text (page_of_list list.now k cid.now name.now) unused ++ drop result out.old }
+    ensures text { out.new
+        ≡ page_text (page_of_list list.now k cid.now name.now) unused ++ drop result out.old }
     ensures len { result ≡ 120 + 2 * length (numbers_on list.now k) }
     // What was written, followed by anything, is read as this page.
-    ensures reading { (rest : List ℕ) → reading_packet (take result out.new ++ rest) ≡ Ok (PagePacket (page_of_list list.now k cid.now name.now)) }
+    ensures reading { (rest : List ℕ) → reading_packet (take result out.new ++ rest)
+        ≡ Ok (PagePacket (page_of_list list.now k cid.now name.now)) }
 {
     let start = PAGE_NUMBERS * k;
     let count = (list.len() - start).min(PAGE_NUMBERS);

@@ -17,7 +17,7 @@ abbrev pub first_heard : List Incoming → ℕ → List Heard
 first_heard items zero = []
 first_heard items (suc n) = first_heard items n ++ heard_in (slice_get items n) ∷ []
 
--- whether the send of a number fails
+-- whether the send at a place, from 0, fails
 abbrev pub fails_at : Option ℕ → ℕ → Bool
 fails_at None n = false
 fails_at (Some k) n = k == n

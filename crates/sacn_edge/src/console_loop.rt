@@ -58,7 +58,8 @@ pub fn send<L: Link>(
     octets: &mut [u8; MAX_DATAGRAM],
 ) -> Option<bool>
     ensures due { is_some result ≡ is_some (due (at now core.old)) }
-    ensures link { Hands (L.told link.old) (L.told link.new) (handed_of (sent_at now core.old) result) }
+    ensures link { Hands (L.told link.old) (L.told link.new)
+        (handed_of (sent_at now core.old) result) }
     ensures core { core.new ≡ after_poll now core.old }
 {
     match core.poll(now, octets) {

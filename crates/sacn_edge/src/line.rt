@@ -37,7 +37,8 @@ pub(crate) fn line_of(
     moment: u64,
     frame: &[u8; FRAME_OCTETS],
 ) -> ArrayVec<u8, LINE_OCTETS>
-    ensures { result.items ≡ line_text (record { port = port; moment = moment; frame = frame.now }) }
+    ensures { result.items
+        ≡ line_text (record { port = port; moment = moment; frame = frame.now }) }
 {
     let mut line = ArrayVec::new();
     add_part(&mut line, Buffer::new().format(port).as_bytes());

@@ -78,7 +78,7 @@ pub struct MemoryLink {
 impl MemoryLink {
     ghost use Rattle.sacn_edge.specs.MemoryTold.{link_told, brings, fails};
 
-    /// A link of which nothing was asked yet. The send whose number, from 0, is `failing` will fail.
+    /// A link of which nothing was asked yet. The send at the place `failing`, from 0, will fail.
     pub fn new(alloc: Global, incoming: Vec<Incoming>, failing: Option<u64>) -> Self
         ensures told { link_told result ≡ Some (record { heard = []; handed = [] }) }
         ensures brings { brings result ≡ incoming.items }
@@ -96,7 +96,8 @@ impl MemoryLink {
 
     /// Each datagram handed to `send`, in order, whatever was answered.
     pub fn handed(&self) -> &[Vec<u8>]
-        ensures { IfSome (link_told self.now) (λ t. map (λ h. h.0) t.handed ≡ map (λ v. v.items) result.now) }
+        ensures { IfSome (link_told self.now)
+            (λ t. map (λ h. h.0) t.handed ≡ map (λ v. v.items) result.now) }
     {
         self.handed.as_slice()
     }
@@ -128,12 +129,12 @@ fn bring(item: Option<&Incoming>, buffer: &mut [u8; BUFFER_OCTETS]) -> Received
     }
 }
 
-/// Whether the send of a number fails.
-fn fails_at(failing: Option<u64>, number: usize) -> bool
-    ensures { result ≡ fails_at failing number }
+/// Whether the send at this place, from 0, fails.
+fn fails_at(failing: Option<u64>, place: usize) -> bool
+    ensures { result ≡ fails_at failing place }
 {
     match failing {
-        Some(at) => at == number as u64,
+        Some(at) => at == place as u64,
         None => false,
     }
 }
@@ -150,13 +151,13 @@ impl Link for MemoryLink {
     }
 
     fn send(&mut self, datagram: &[u8]) -> bool {
-        let number = self.handed.len();
+        let place = self.handed.len();
         let Ok(octets) = datagram.to_vec(self.alloc) else {
             self.lost = true;
             return false;
         };
         match self.handed.push(octets) {
-            Ok(()) => !fails_at(self.failing, number),
+            Ok(()) => !fails_at(self.failing, place),
             Err(_) => {
                 self.lost = true;
                 false

@@ -37,8 +37,10 @@ fn hear<L: Link, C: Clock>(
     buffer: &mut [u8; BUFFER_OCTETS],
 ) -> Hearing
     ensures clock { Extends (C.readings clock.old) (C.readings clock.new) (result.now ∷ []) }
-    ensures link { Hears (L.told link.old) (L.told link.new) (heard_of result.received buffer.new ∷ []) }
-    ensures core { core.new ≡ step (call_at result.now (heard_of result.received buffer.new)) core.old }
+    ensures link { Hears (L.told link.old) (L.told link.new)
+        (heard_of result.received buffer.new ∷ []) }
+    ensures core { core.new
+        ≡ step (call_at result.now (heard_of result.received buffer.new)) core.old }
     ensures grows { Grows changes.old changes.new }
     ensures told { IsTold changes.new core.old.core core.new.core }
 {
@@ -57,9 +59,12 @@ fn hear<L: Link, C: Clock>(
 /// Counts one receive.
 fn count(report: &mut NodeReport, received: Received)
     requires { report.old.received + report.old.failed < 2 ^ 64 - 1 }
-    ensures received { (buffer : List ℕ) → report.new.received ≡ report.old.received + (if is_datagram (heard_of received buffer) then 1 else 0) }
-    ensures failed { (buffer : List ℕ) → report.new.failed ≡ report.old.failed + (if is_failure (heard_of received buffer) then 1 else 0) }
-    ensures few { report.new.received + report.new.failed ≤ report.old.received + report.old.failed + 1 }
+    ensures received { (buffer : List ℕ) → report.new.received
+        ≡ report.old.received + (if is_datagram (heard_of received buffer) then 1 else 0) }
+    ensures failed { (buffer : List ℕ) → report.new.failed
+        ≡ report.old.failed + (if is_failure (heard_of received buffer) then 1 else 0) }
+    ensures few { report.new.received + report.new.failed
+        ≤ report.old.received + report.old.failed + 1 }
 {
     match received {
         Received::Datagram(_) => report.received += 1,
@@ -99,19 +104,16 @@ pub fn run_node<L: Link, C: Clock, O: Out>(
     requires { O.failed out.old ≡ false }
 
     // Each turn has one reading and one receive, and what is written is the node's text over them.
-    ensures ok { IfOk result (λ report. (ts : List Turn)
-        × (length ts ≡ turns)
-        × Turned (C.readings clock.old) (C.readings clock.new) (L.told link.old) (L.told link.new) ts
-        × Adds (O.Tells out.old) (O.Tells out.new) (node_text core.old ts)
-        × (core.new ≡ node_after core.old ts)
-        × (report ≡ report_of ts)) }
+    ensures ok { IfOk result (λ report. (ts : List Turn) × (length ts ≡ turns)
+        × Turned (C.readings clock.old) (C.readings clock.new) (L.told link.old)
+        (L.told link.new) ts × Adds (O.Tells out.old) (O.Tells out.new) (node_text core.old ts)
+        × (core.new ≡ node_after core.old ts) × (report ≡ report_of ts)) }
     ensures works { OnOk result (O.failed out.new ≡ false) }
 
     // What is written is the node's text up to a line of the last turn, of which a part is.
-    ensures err { OnErr result ((t : Turn) × (ts : List Turn)
-        × (length ts < turns)
-        × Turned (C.readings clock.old) (C.readings clock.new) (L.told link.old) (L.told link.new) (t ∷ ts)
-        × StopsIn core.old t ts (O.Tells out.old) (O.Tells out.new)
+    ensures err { OnErr result ((t : Turn) × (ts : List Turn) × (length ts < turns)
+        × Turned (C.readings clock.old) (C.readings clock.new) (L.told link.old)
+        (L.told link.new) (t ∷ ts) × StopsIn core.old t ts (O.Tells out.old) (O.Tells out.new)
         × (core.new ≡ node_after core.old (t ∷ ts))) }
     ensures failed { OnErr result (O.failed out.new ≡ true) }
 {

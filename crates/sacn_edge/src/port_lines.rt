@@ -41,8 +41,11 @@ fn show_frame<O: Out>(
     frame: &[u8; FRAME_OCTETS],
 ) -> Result<(), WriteFailed>
     requires { O.failed out.old ≡ false }
-    ensures ok { OnOk result ((O.failed out.new ≡ false) × Adds (O.Tells out.old) (O.Tells out.new) (frame_text moment shown.old (Some frame.now)) × (shown.new ≡ with_last shown.old (Some frame.now))) }
-    ensures err { OnErr result ((O.failed out.new ≡ true) × AddsPart (O.Tells out.old) (O.Tells out.new) (frame_text moment shown.old (Some frame.now))) }
+    ensures ok { OnOk result ((O.failed out.new ≡ false)
+        × Adds (O.Tells out.old) (O.Tells out.new) (frame_text moment shown.old (Some frame.now))
+        × (shown.new ≡ with_last shown.old (Some frame.now))) }
+    ensures err { OnErr result ((O.failed out.new ≡ true) × AddsPart (O.Tells out.old)
+        (O.Tells out.new) (frame_text moment shown.old (Some frame.now))) }
 {
     if is_shown(&shown.last, frame) {
         return Ok(());
@@ -63,8 +66,10 @@ fn show_port<O: Out>(
     requires works { O.failed out.old ≡ false }
     requires settled { core_at now core.old.core ≡ core.old.core }
     ensures core { core.new ≡ core.old }
-    ensures ok { OnOk result ((O.failed out.new ≡ false) × Adds (O.Tells out.old) (O.Tells out.new) (port_text core.old shown.old) × (shown.new ≡ port_after core.old shown.old)) }
-    ensures err { OnErr result ((O.failed out.new ≡ true) × AddsPart (O.Tells out.old) (O.Tells out.new) (port_text core.old shown.old)) }
+    ensures ok { OnOk result ((O.failed out.new ≡ false) × Adds (O.Tells out.old) (O.Tells out.new)
+        (port_text core.old shown.old) × (shown.new ≡ port_after core.old shown.old)) }
+    ensures err { OnErr result ((O.failed out.new ≡ true)
+        × AddsPart (O.Tells out.old) (O.Tells out.new) (port_text core.old shown.old)) }
 {
     let mut frame = [0; FRAME_OCTETS];
     match core.frame(now, shown.port, &mut frame) {
@@ -86,8 +91,10 @@ pub fn show<O: Out>(
     requires settled { core_at now core.old.core ≡ core.old.core }
     requires still { is_still ≡ true → AreCurrent core.old ports.old }
     ensures core { core.new ≡ core.old }
-    ensures ok { OnOk result ((O.failed out.new ≡ false) × Adds (O.Tells out.old) (O.Tells out.new) (ports_text core.old ports.old) × (ports.new ≡ map (port_after core.old) ports.old)) }
-    ensures err { OnErr result ((O.failed out.new ≡ true) × FailsAmong core.old ports.old (O.Tells out.old) (O.Tells out.new)) }
+    ensures ok { OnOk result ((O.failed out.new ≡ false) × Adds (O.Tells out.old) (O.Tells out.new)
+        (ports_text core.old ports.old) × (ports.new ≡ map (port_after core.old) ports.old)) }
+    ensures err { OnErr result ((O.failed out.new ≡ true)
+        × FailsAmong core.old ports.old (O.Tells out.old) (O.Tells out.new)) }
 {
     if is_still {
         return Ok(());
@@ -110,8 +117,10 @@ fn show_changed_port<O: Out>(
     requires settled { core_at now core.old.core ≡ core.old.core }
     requires current { IsCurrentBut changes.now core.old shown.old }
     ensures core { core.new ≡ core.old }
-    ensures ok { OnOk result ((O.failed out.new ≡ false) × Adds (O.Tells out.old) (O.Tells out.new) (port_text core.old shown.old) × (shown.new ≡ port_after core.old shown.old)) }
-    ensures err { OnErr result ((O.failed out.new ≡ true) × AddsPart (O.Tells out.old) (O.Tells out.new) (port_text core.old shown.old)) }
+    ensures ok { OnOk result ((O.failed out.new ≡ false) × Adds (O.Tells out.old) (O.Tells out.new)
+        (port_text core.old shown.old) × (shown.new ≡ port_after core.old shown.old)) }
+    ensures err { OnErr result ((O.failed out.new ≡ true)
+        × AddsPart (O.Tells out.old) (O.Tells out.new) (port_text core.old shown.old)) }
 {
     if changes.concern(core, shown.port) {
         return show_port(out, core, now, shown);
@@ -132,8 +141,10 @@ pub fn show_changed<O: Out>(
     requires settled { core_at now core.old.core ≡ core.old.core }
     requires current { AreCurrentBut changes.now core.old ports.old }
     ensures core { core.new ≡ core.old }
-    ensures ok { OnOk result ((O.failed out.new ≡ false) × Adds (O.Tells out.old) (O.Tells out.new) (ports_text core.old ports.old) × (ports.new ≡ map (port_after core.old) ports.old)) }
-    ensures err { OnErr result ((O.failed out.new ≡ true) × FailsAmong core.old ports.old (O.Tells out.old) (O.Tells out.new)) }
+    ensures ok { OnOk result ((O.failed out.new ≡ false) × Adds (O.Tells out.old) (O.Tells out.new)
+        (ports_text core.old ports.old) × (ports.new ≡ map (port_after core.old) ports.old)) }
+    ensures err { OnErr result ((O.failed out.new ≡ true)
+        × FailsAmong core.old ports.old (O.Tells out.old) (O.Tells out.new)) }
 {
     if changes.is_none() {
         return Ok(());

@@ -49,7 +49,8 @@ fn report_line(report: &ConsoleReport) -> ArrayVec<u8, REPORT_OCTETS>
 
 /// Prints the line of a report, as `sent 3 failed 1 refused 0`: the writer then has it, after what it had.
 pub fn print_report<W: Write>(writer: &mut W, report: &ConsoleReport) -> io::Result<()>
-    ensures { OnOk result (Appends (W.contents writer.old) (W.contents writer.new) (report_text report.now)) }
+    ensures { OnOk result
+        (Appends (W.contents writer.old) (W.contents writer.new) (report_text report.now)) }
 {
     let line = report_line(report);
     writer.write_all(line.as_slice())?;

@@ -14,8 +14,10 @@ pub struct WriteFailed;
 /// a proper prefix.
 pub fn write_text<O: Out>(out: &mut O, text: &[u8]) -> Result<(), WriteFailed>
     requires { O.failed out.old ≡ false }
-    ensures ok { OnOk result ((O.failed out.new ≡ false) × Adds (O.Tells out.old) (O.Tells out.new) text.now) }
-    ensures err { OnErr result ((O.failed out.new ≡ true) × ((n : ℕ) × (n < length text.now) × Adds (O.Tells out.old) (O.Tells out.new) (take n text.now))) }
+    ensures ok { OnOk result
+        ((O.failed out.new ≡ false) × Adds (O.Tells out.old) (O.Tells out.new) text.now) }
+    ensures err { OnErr result ((O.failed out.new ≡ true) × ((n : ℕ) × (n < length text.now)
+        × Adds (O.Tells out.old) (O.Tells out.new) (take n text.now))) }
 {
     let mut done = 0;
     while done < text.len() {

@@ -16,3 +16,4 @@ mod Turns
 mod ListBooks
 mod PageNews
 mod Turning
+mod Waking

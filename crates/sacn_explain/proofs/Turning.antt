@@ -16,7 +16,7 @@ use Rattle.sacn_explain.specs.Causes.{cause_among}
 use Rattle.sacn_explain.specs.Datagrams.{TellsTurn, datagram_told}
 use Rattle.sacn_explain.specs.ListBooks.{ListBook, list_book}
 use Rattle.sacn_explain.specs.Shows.{Staged, after_turn, staged, turn_shown}
-use Rattle.sacn_explain.specs.Silences.{IsQuiet, IsStillBefore, Leaves, TellsSilence, end_told, scene_of}
+use Rattle.sacn_explain.specs.Silences.{IsQuiet, IsStillBefore, Leaves, TellsSilence, WakesInTime, end_told, scene_of}
 use Rattle.sacn_explain.specs.Tellings.{Tells}
 use Rattle.sacn_explain.proofs.Telling.{both, nothing}
 
@@ -71,13 +71,13 @@ module _ {O : Type 0} (contents : O → Option (List ℕ)) where
       }
 
   -- a datagram, once what ended by then was told
-  pub turn_told : (t m : ℕ) (sender : Sender) (octets : List ℕ) (old ticked said new : Follower O) (n : Noted) (book : Book) → m ≡ t → TellsSilence contents t old ticked → (old.wake ≤ t → IsQuiet t ticked) → ticked.options ≡ old.options → ticked.listings ≡ old.listings
+  pub turn_told : (t m : ℕ) (sender : Sender) (octets : List ℕ) (old ticked said new : Follower O) (n : Noted) (book : Book) → m ≡ t → TellsSilence contents t old ticked → (old.wake ≤ t → IsQuiet t ticked) → (WakesInTime old → IsQuiet t ticked) → ticked.options ≡ old.options → ticked.listings ≡ old.listings
       → n ≡ noted m sender octets ticked.monitor → book ≡ after_take m sender octets ticked.monitor
       → Tells contents ticked.teller said.teller (datagram_told ticked.teller.form ticked.options.universes.now ticked.contests book sender (list_book ticked.listings) (reading_packet octets) n)
       → said.stage ≡ ticked.stage → said.monitor ≡ book
       → Tells contents said.teller new.teller (turn_shown said.teller.form said.monitor.moment octets (cause_among said.monitor.streams n) (staged said.stage))
       → staged new.stage ≡ after_turn said.monitor.moment octets (staged said.stage) → TellsTurn contents t sender octets old new
-  turn_told t m sender octets old ticked said new n book moment some quiet options listings noted_is book_is tells stage monitor shows after =
+  turn_told t m sender octets old ticked said new n book moment some quiet all options listings noted_is book_is tells stage monitor shows after =
       let noted_as = noted_is ∙ ap (λ (k : ℕ). noted k sender octets ticked.monitor) moment in
       let book_as = book_is ∙ ap (λ (k : ℕ). after_take k sender octets ticked.monitor) moment in
       let first = same_datagram sender (reading_packet octets) ticked.contests ticked.teller.form old.teller.form ticked.options.universes.now old.options.universes.now
@@ -90,6 +90,7 @@ module _ {O : Type 0} (contents : O → Option (List ℕ)) where
         ended = some.text;
         scene = scene_of ticked;
         still = λ due m by below. let q = quiet due m by below in (q.0, none_lost m ticked.stage q.1);
+        all = λ in_time m by below. let q = all in_time m by below in (q.0, none_lost m ticked.stage q.1);
         are = some.are;
         told = both {O = O} contents old.teller ticked.teller new.teller some.text _ some.told
             (both {O = O} contents ticked.teller said.teller new.teller _ _

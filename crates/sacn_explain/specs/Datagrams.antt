@@ -14,7 +14,7 @@ use Rattle.sacn_explain.specs.Causes.{cause_among}
 use Rattle.sacn_explain.specs.ListBooks.{ListBook, after_read, list_book, page_told}
 use Rattle.sacn_explain.specs.Occurrences.{noted_told}
 use Rattle.sacn_explain.specs.Shows.{Staged, after_turn, staged, turn_shown}
-use Rattle.sacn_explain.specs.Silences.{AreEnds, IsStill, Scene, scene_of}
+use Rattle.sacn_explain.specs.Silences.{AreEnds, IsStill, Scene, WakesInTime, scene_of}
 use Rattle.sacn_explain.specs.Tellings.{Tells}
 
 -- by what was noted of it: the list of a page, and of any other datagram what it says of its source
@@ -44,6 +44,7 @@ pub record TellsTurn {O : Type 0} (contents : O → Option (List ℕ)) (t : ℕ)
   pub ended : List ℕ
   pub scene : Scene
   pub still : old.wake ≤ t → IsStill t scene
+  pub all : WakesInTime old → IsStill t scene
   pub are : AreEnds old.teller.form old.options.universes.now t ends (scene_of old) scene ended
   pub told : Tells contents old.teller new.teller
       (ended ++ told_then old.teller.form old.options.universes.now sender octets (list_book old.listings)

@@ -1,11 +1,13 @@
 -- What ends by silence, when, and what is told of it.
-use Rattle.std.specs.Prelude.{◌≡◌, ◌≤◌, ◌<◌, ℕ, IfSome, ◌-◌, ◌^◌, ◌==◌, Bool, ◌&&◌, min, nat_le, nat_lt, Option, None, Some, List, [], ◌∷◌, ◌++◌, if◌then◌else◌}
+use Rattle.std.specs.Prelude.{◌≡◌, ◌≤◌, ◌<◌, ℕ, ⊤, IfSome, ◌+◌, ◌-◌, ◌^◌, ◌==◌, Bool, true, ◌&&◌, min, nat_le, nat_lt, Option, None, Some, List, [], ◌∷◌, ◌++◌, if◌then◌else◌}
+use Rattle.sacn_sources.specs.declared.limits.TheConstants.{NETWORK_DATA_LOSS}
 use Rattle.sacn_monitor.specs.declared.stream.Stream.{Stream}
 use Rattle.sacn_monitor.specs.Books.{Book, after_tick, next_loss}
 use Rattle.sacn_node.specs.Cores.{core_lost}
 use Rattle.sacn_explain.specs.declared.contests.Contests.{Contests}
 use Rattle.sacn_explain.specs.declared.follower.Follower.{Follower}
 use Rattle.sacn_explain.specs.declared.options.Form.{Form}
+use Rattle.sacn_explain.specs.declared.stage.Stage.{Stage}
 use Rattle.sacn_explain.specs.Choice.{is_wanted}
 use Rattle.sacn_explain.specs.Contests.{is_noted}
 use Rattle.sacn_explain.specs.Occurrences.{is_contested, loss_told, lost_stream}
@@ -70,3 +72,21 @@ IsQuiet t f = (m : ℕ) → m ≤ t → m < 2 ^ 64 - 1 → (m < next_loss f.moni
 -- the same of what a datagram then finds
 abbrev pub IsStill : ℕ → Scene → Type 0
 IsStill t s = (m : ℕ) → m ≤ t → m < 2 ^ 64 - 1 → (m < next_loss s.book.streams) × IfSome s.stage (λ staged. core_lost m staged.node.core ≡ 0)
+
+-- ---- a follower looks in time
+
+-- where the loss of a stream was told, it is lost at t
+abbrev pub AreToldLost : ℕ → List Stream → Type 0
+AreToldLost t [] = ⊤
+AreToldLost t (s ∷ ss) = (s.told ≡ true → s.account.latest + NETWORK_DATA_LOSS ≤ t) × AreToldLost t ss
+
+-- nothing that is held ends before a moment, nor does what comes at t or later
+pub record EndsNothingBefore (wake t : ℕ) (book : Book) (stage : Option Stage) : Type 0 where
+  pub losses : wake ≤ next_loss book.streams
+  pub dark : (m : ℕ) → m < wake → IfSome stage (λ s. core_lost m s.core.core ≡ 0)
+  pub soon : wake ≤ min (t + NETWORK_DATA_LOSS) (2 ^ 64 - 1)
+
+-- nothing ends before a follower's wake, and whatever it hears doesn't either
+pub record WakesInTime {O : Type 0} (f : Follower O) : Type 0 where
+  pub nothing_before : EndsNothingBefore f.wake f.moment f.monitor f.stage
+  pub lost : AreToldLost f.monitor.moment f.monitor.streams

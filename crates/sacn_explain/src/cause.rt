@@ -40,7 +40,8 @@ pub fn cause_of(streams: &[Stream], noted: Noted) -> Cause<'_>
 
 /// A cause in words.
 pub fn push_cause(text: &mut String, cause: &Cause<'_>) -> Result<(), AllocError>
-    ensures { OnOk result (string_bytes text.new ≡ string_bytes text.old ++ cause_words (reason_of cause.now)) }
+    ensures { OnOk result
+        (string_bytes text.new ≡ string_bytes text.old ++ cause_words (reason_of cause.now)) }
 {
     match cause {
         Cause::Start => text.push_str("at the start"),
@@ -53,7 +54,8 @@ pub fn push_cause(text: &mut String, cause: &Cause<'_>) -> Result<(), AllocError
 
 #[tactic(auto, unfolding(crate::specs::Causes::by_words))]
 fn push_by(text: &mut String, word: &str, stream: &Stream) -> Result<(), AllocError>
-    ensures { OnOk result (string_bytes text.new ≡ string_bytes text.old ++ by_words word.now stream.now) }
+    ensures { OnOk result
+        (string_bytes text.new ≡ string_bytes text.old ++ by_words word.now stream.now) }
 {
     push_universe(text, word, stream.universe)?;
     words::push_source(text, &stream.cid, up_to_nul(&stream.account.name))
@@ -61,14 +63,16 @@ fn push_by(text: &mut String, word: &str, stream: &Stream) -> Result<(), AllocEr
 
 #[tactic(auto, unfolding(crate::specs::Causes::on_universe))]
 fn push_universe(text: &mut String, word: &str, universe: u16) -> Result<(), AllocError>
-    ensures { OnOk result (string_bytes text.new ≡ string_bytes text.old ++ on_universe word.now universe) }
+    ensures { OnOk result
+        (string_bytes text.new ≡ string_bytes text.old ++ on_universe word.now universe) }
 {
     write!(text, "{word} on universe {universe} of ")
 }
 
 /// A cause as members of an object.
 pub fn push_cause_members(text: &mut String, cause: &Cause<'_>) -> Result<(), AllocError>
-    ensures { OnOk result (string_bytes text.new ≡ string_bytes text.old ++ cause_members (reason_of cause.now)) }
+    ensures { OnOk result
+        (string_bytes text.new ≡ string_bytes text.old ++ cause_members (reason_of cause.now)) }
 {
     match cause {
         Cause::Start => json::push_word(text, "cause", "start"),
@@ -81,7 +85,8 @@ pub fn push_cause_members(text: &mut String, cause: &Cause<'_>) -> Result<(), Al
 
 #[tactic(auto, unfolding(crate::specs::Causes::by_members))]
 fn push_by_members(text: &mut String, word: &str, stream: &Stream) -> Result<(), AllocError>
-    ensures { OnOk result (string_bytes text.new ≡ string_bytes text.old ++ by_members word.now stream.now) }
+    ensures { OnOk result
+        (string_bytes text.new ≡ string_bytes text.old ++ by_members word.now stream.now) }
 {
     json::push_word(text, "cause", word)?;
     json::push_stream(text, stream)

@@ -25,8 +25,10 @@ impl Contests {
 
     /// Notes whether a universe is contested, and returns whether it was otherwise before.
     pub fn note(&mut self, universe: u16, is_contested: bool) -> Result<bool, AllocError>
-        ensures answer { IfOk result (λ r. r ≡ (if is_contested then not (is_noted universe self.old) else is_noted universe self.old)) }
-        ensures noted { OnOk result ((u : ℕ) → is_noted u self.new ≡ (if u == universe then is_contested else is_noted u self.old)) }
+        ensures answer { IfOk result (λ r. r ≡ (if is_contested
+            then not (is_noted universe self.old) else is_noted universe self.old)) }
+        ensures noted { OnOk result ((u : ℕ)
+            → is_noted u self.new ≡ (if u == universe then is_contested else is_noted u self.old)) }
         ensures refused { OnErr result (self.new.universes.items ≡ self.old.universes.items) }
     {
         match (self.is_noted(universe), is_contested) {
@@ -49,7 +51,8 @@ impl Contests {
     }
 
     fn forget(&mut self, universe: u16)
-        ensures { self.new.universes.items ≡ filter (λ noted. not (noted == universe)) self.old.universes.items }
+        ensures { self.new.universes.items
+            ≡ filter (λ noted. not (noted == universe)) self.old.universes.items }
     {
         self.universes.retain(|noted| *noted != universe);
     }

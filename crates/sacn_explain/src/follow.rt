@@ -50,8 +50,10 @@ pub fn explain<R: BufRead + Drop, O: Write>(
     setup: Option<&NodeSetup>,
     out: &mut O,
 ) -> Result<Report, ExplainFault>
-    ensures told { IfSome (R.Read.remaining capture) (λ file. IfOk result (λ report. IsAccountOf options.now.port (recording file) report)) }
-    ensures fault { IfSome (R.Read.remaining capture) (λ file. IfErr result (IsFaultOf (recording file))) }
+    ensures told { IfSome (R.Read.remaining capture)
+        (λ file. IfOk result (λ report. IsAccountOf options.now.port (recording file) report)) }
+    ensures fault { IfSome (R.Read.remaining capture)
+        (λ file. IfErr result (IsFaultOf (recording file))) }
 {
     let mut capture = Capture::open(alloc, capture)?;
     let mut follower = Follower::new(alloc, *options, setup, out)?;
@@ -91,8 +93,12 @@ fn follow<R: BufRead + Drop, O: Write>(
     requires moment { follower.old.moment ≡ 0 }
     requires lists { listed_in follower.old.listings ≡ none_listed }
     requires frames { counts_of capture.old ≡ none_counted }
-    ensures told { IfSome (to_come R.Read.remaining capture.old) (λ told. IfOk result (λ progress. IsHeard port told progress
-        (record { frames = counts_of capture.new; book = follower.new.monitor; listed = listed_in follower.new.listings }))) }
+    ensures told { IfSome (to_come R.Read.remaining capture.old) (λ told. IfOk result
+        (λ progress. IsHeard port told progress (record {
+          frames = counts_of capture.new;
+          book = follower.new.monitor;
+          listed = listed_in follower.new.listings;
+        }))) }
     ensures fault { IfErr result IsOfTelling }
 {
     let mut progress = Progress::begin();
@@ -138,12 +144,13 @@ impl Progress {
     ) -> Result<(), ExplainFault>
         ensures stopped { self.new.stopped ≡ self.old.stopped }
         ensures timeline { self.new.timeline ≡ at_moment frame.now.moment self.old.timeline }
-        ensures elsewhere { self.new.other_ports ≡ elsewhere port (shown_of frame.now).content self.old.other_ports }
+        ensures elsewhere { self.new.other_ports
+            ≡ elsewhere port (shown_of frame.now).content self.old.other_ports }
         ensures moment { follower.new.moment ≡ max follower.old.moment self.new.timeline.now }
-        ensures taken { OnOk result (Hears follower.old.moment (call_of port self.new.timeline.now (shown_of frame.now).content)
-            follower.old.monitor follower.new.monitor) }
-        ensures listed { OnOk result (listed_in follower.new.listings
-            ≡ listed_with (call_of port self.new.timeline.now (shown_of frame.now).content) (listed_in follower.old.listings)) }
+        ensures taken { OnOk result (Hears follower.old.moment (call_of port self.new.timeline.now
+            (shown_of frame.now).content) follower.old.monitor follower.new.monitor) }
+        ensures listed { OnOk result (listed_in follower.new.listings ≡ listed_with (call_of port
+            self.new.timeline.now (shown_of frame.now).content) (listed_in follower.old.listings)) }
         ensures fault { IfErr result IsOfTelling }
     {
         self.timeline.advance(frame.moment);
@@ -166,9 +173,11 @@ fn hear<O: Write>(
     follower: &mut Follower<'_, O>,
 ) -> Result<(), ExplainFault>
     ensures moment { follower.new.moment ≡ max follower.old.moment now }
-    ensures taken { OnOk result (IsTaken (max follower.old.moment now) (sender_of (sent_of datagram.now)) (sent_of datagram.now).payload
-        follower.old.monitor follower.new.monitor) }
-    ensures listed { OnOk result (listed_in follower.new.listings ≡ after_reading (reading_packet (sent_of datagram.now).payload) (listed_in follower.old.listings)) }
+    ensures taken { OnOk result
+        (IsTaken (max follower.old.moment now) (sender_of (sent_of datagram.now))
+        (sent_of datagram.now).payload follower.old.monitor follower.new.monitor) }
+    ensures listed { OnOk result (listed_in follower.new.listings ≡ after_reading
+        (reading_packet (sent_of datagram.now).payload) (listed_in follower.old.listings)) }
     ensures fault { IfErr result IsOfTelling }
 {
     let sender = Sender {

@@ -13,7 +13,7 @@ ghost use Rattle.sacn_explain.specs.ListBooks as books;
 ghost use Rattle.sacn_explain.specs.ListBooks.{list_book, page_told};
 ghost use Rattle.sacn_explain.specs.KeptLists.{after_noted, after_reading, listed_in, none_listed};
 ghost use Rattle.sacn_explain.specs.Shows.{after_loss, after_turn, loss_shown, staged, turn_shown};
-ghost use Rattle.sacn_explain.specs.Silences.{IsQuiet, Leaves, TellsSilence, end_told, noted_lost, scene_of};
+ghost use Rattle.sacn_explain.specs.Silences.{EndsNothingBefore, IsQuiet, Leaves, TellsSilence, WakesInTime, end_told, noted_lost, scene_of};
 ghost use Rattle.sacn_explain.specs.Tables.{tables_told};
 ghost use Rattle.sacn_explain.specs.Tellings.{Tells};
 
@@ -69,6 +69,7 @@ impl<'a, O: Write> Follower<'a, O> {
         ensures moment { IfOk result (λ f. f.moment ≡ 0) }
         ensures options { IfOk result (λ f. f.options ≡ options.entry) }
         ensures stage { IfOk result (λ f. is_some f.stage ≡ is_some setup.entry) }
+        ensures in_time { IfOk result WakesInTime }
         ensures fault { IfErr result IsOfTelling }
     {
         let monitor = Monitor::new(alloc)?;
@@ -97,9 +98,13 @@ impl<'a, O: Write> Follower<'a, O> {
     #[tactic(auto, using(crate::proofs::PageLists::take_listed))]
     pub fn take(&mut self, now: u64, sender: Sender, octets: &[u8]) -> Result<(), ExplainFault>
         ensures moment { self.new.moment ≡ max self.old.moment now }
-        ensures told { OnOk result (TellsTurn O.contents (max self.old.moment now) sender octets.now self.old self.new) }
-        ensures taken { OnOk result (IsTaken (max self.old.moment now) sender octets.now self.old.monitor self.new.monitor) }
-        ensures listed { OnOk result (listed_in self.new.listings ≡ after_reading (reading_packet octets.now) (listed_in self.old.listings)) }
+        ensures told { OnOk result
+            (TellsTurn O.contents (max self.old.moment now) sender octets.now self.old self.new) }
+        ensures taken { OnOk result (IsTaken
+            (max self.old.moment now) sender octets.now self.old.monitor self.new.monitor) }
+        ensures listed { OnOk result (listed_in self.new.listings
+            ≡ after_reading (reading_packet octets.now) (listed_in self.old.listings)) }
+        ensures in_time { WakesInTime self.old → OnOk result (WakesInTime self.new) }
         ensures fault { IfErr result IsOfTelling }
     {
         self.tick(now)?;
@@ -114,9 +119,15 @@ impl<'a, O: Write> Follower<'a, O> {
     /// Errors: OutOfMemory; Device where a line can't be written.
     pub fn tick(&mut self, now: u64) -> Result<(), ExplainFault>
         ensures moment { self.new.moment ≡ max self.old.moment now }
-        ensures told { OnOk result (TellsSilence O.contents (max self.old.moment now) self.old self.new) }
-        ensures quiet { self.old.wake ≤ max self.old.moment now → OnOk result (IsQuiet (max self.old.moment now) self.new) }
-        ensures ticked { OnOk result (IsTicked (max self.old.moment now) self.old.monitor self.new.monitor) }
+        ensures told { OnOk result
+            (TellsSilence O.contents (max self.old.moment now) self.old self.new) }
+        ensures quiet { self.old.wake ≤ max self.old.moment now
+            → OnOk result (IsQuiet (max self.old.moment now) self.new) }
+        ensures all { WakesInTime self.old
+            → OnOk result (IsQuiet (max self.old.moment now) self.new) }
+        ensures in_time { WakesInTime self.old → OnOk result (WakesInTime self.new) }
+        ensures ticked { OnOk result
+            (IsTicked (max self.old.moment now) self.old.monitor self.new.monitor) }
         ensures options { self.new.options ≡ self.old.options }
         ensures listings { self.new.listings ≡ self.old.listings }
         ensures fault { IfErr result IsOfTelling }
@@ -134,6 +145,8 @@ impl<'a, O: Write> Follower<'a, O> {
         ensures moment { self.new.moment ≡ self.old.moment }
         ensures told { OnOk result (TellsSilence O.contents self.old.moment self.old self.new) }
         ensures quiet { OnOk result (IsQuiet self.old.moment self.new) }
+        ensures wakes { OnOk result (EndsNothingBefore self.new.wake self.new.moment
+            self.new.monitor self.new.stage) }
         ensures ticked { OnOk result (IsTicked self.old.moment self.old.monitor self.new.monitor) }
         ensures options { self.new.options ≡ self.old.options }
         ensures listings { self.new.listings ≡ self.old.listings }
@@ -154,12 +167,15 @@ impl<'a, O: Write> Follower<'a, O> {
 
     // Tells what ends by silence at a moment: a stream, or else what the node loses.
     fn tell_end(&mut self, at: u64, is_stream: bool) -> Result<(), TellFault>
-        ensures told { OnOk result (Tells O.contents self.old.teller self.new.teller
-            (end_told self.old.teller.form self.old.options.universes.now at is_stream (scene_of self.old))) }
-        ensures left { OnOk result (Leaves self.old.options.universes.now at is_stream (scene_of self.old) (scene_of self.new)) }
+        ensures told { OnOk result (Tells O.contents self.old.teller self.new.teller (end_told
+            self.old.teller.form self.old.options.universes.now at is_stream (scene_of self.old))) }
+        ensures left { OnOk result (Leaves self.old.options.universes.now at is_stream
+            (scene_of self.old) (scene_of self.new)) }
         ensures options { self.new.options ≡ self.old.options }
-        ensures monitor { (self.new.monitor ≡ self.old.monitor) ⊎ (self.new.monitor ≡ after_tick at self.old.monitor) }
+        ensures monitor { (self.new.monitor ≡ self.old.monitor)
+            ⊎ (self.new.monitor ≡ after_tick at self.old.monitor) }
         ensures moment { self.new.moment ≡ self.old.moment }
+        ensures wake { self.new.wake ≡ self.old.wake }
         ensures listings { self.new.listings ≡ self.old.listings }
     {
         if is_stream {
@@ -173,10 +189,13 @@ impl<'a, O: Write> Follower<'a, O> {
     /// Errors: OutOfMemory; Device where a line can't be written.
     pub fn finish(&mut self, report: &Report) -> Result<(), ExplainFault>
         ensures told { OnOk result (Tells O.contents self.old.teller self.new.teller
-            (tables_told self.old.teller.form self.old.options.universes.now self.old.monitor.streams self.old.listings.known.items report.now)) }
+            (tables_told self.old.teller.form self.old.options.universes.now
+            self.old.monitor.streams self.old.listings.known.items report.now)) }
         ensures monitor { self.new.monitor ≡ self.old.monitor }
         ensures listings { self.new.listings ≡ self.old.listings }
         ensures moment { self.new.moment ≡ self.old.moment }
+        ensures wake { self.new.wake ≡ self.old.wake }
+        ensures in_time { WakesInTime self.old → WakesInTime self.new }
         ensures fault { IfErr result IsOfTelling }
     {
         tables::tell(
@@ -212,15 +231,18 @@ impl<'a, O: Write> Follower<'a, O> {
 
     // What a datagram tells.
     fn tell(&mut self, sender: &Sender, octets: &[u8], noted: Noted) -> Result<(), TellFault>
-        ensures told { OnOk result (Tells O.contents self.old.teller self.new.teller
-            (datagram_told self.old.teller.form self.old.options.universes.now self.old.contests self.old.monitor sender.now
-            (list_book self.old.listings) (reading_packet octets.now) noted)) }
-        ensures lists { OnOk result (list_book self.new.listings
-            ≡ lists_after self.old.monitor.moment (reading_packet octets.now) noted (list_book self.old.listings)) }
+        ensures told { OnOk result (Tells O.contents self.old.teller self.new.teller (datagram_told
+            self.old.teller.form self.old.options.universes.now self.old.contests self.old.monitor
+            sender.now (list_book self.old.listings) (reading_packet octets.now) noted)) }
+        ensures lists { OnOk result
+            (list_book self.new.listings ≡ lists_after self.old.monitor.moment
+            (reading_packet octets.now) noted (list_book self.old.listings)) }
         ensures stage { self.new.stage ≡ self.old.stage }
         ensures monitor { self.new.monitor ≡ self.old.monitor }
         ensures moment { self.new.moment ≡ self.old.moment }
-        ensures listed { OnOk result (listed_in self.new.listings ≡ after_noted noted (reading_packet octets.now) (listed_in self.old.listings)) }
+        ensures wake { self.new.wake ≡ self.old.wake }
+        ensures listed { OnOk result (listed_in self.new.listings
+            ≡ after_noted noted (reading_packet octets.now) (listed_in self.old.listings)) }
     {
         match noted {
             Noted::Page => self.tell_page(octets),
@@ -231,10 +253,12 @@ impl<'a, O: Write> Follower<'a, O> {
     // What a datagram that is no page tells.
     fn tell_noted(&mut self, sender: &Sender, noted: Noted) -> Result<(), TellFault>
         ensures stage { self.new.stage ≡ self.old.stage }
-        ensures told { OnOk result (Tells O.contents self.old.teller self.new.teller
-            (noted_told self.old.teller.form self.old.options.universes.now self.old.contests self.old.monitor sender.now noted)) }
+        ensures told { OnOk result
+            (Tells O.contents self.old.teller self.new.teller (noted_told self.old.teller.form
+            self.old.options.universes.now self.old.contests self.old.monitor sender.now noted)) }
         ensures monitor { self.new.monitor ≡ self.old.monitor }
         ensures moment { self.new.moment ≡ self.old.moment }
+        ensures wake { self.new.wake ≡ self.old.wake }
         ensures listings { self.new.listings ≡ self.old.listings }
     {
         let now = self.monitor.moment();
@@ -249,11 +273,13 @@ impl<'a, O: Write> Follower<'a, O> {
     // What a data packet tells of its source on its universe.
     fn tell_news(&mut self, place: usize, news: &News) -> Result<(), TellFault>
         ensures told { OnOk result (Tells O.contents self.old.teller self.new.teller
-            (packet_told self.old.teller.form self.old.options.universes.now self.old.contests self.old.monitor news.now (slice_get self.old.monitor.streams place))) }
+            (packet_told self.old.teller.form self.old.options.universes.now self.old.contests
+            self.old.monitor news.now (slice_get self.old.monitor.streams place))) }
         ensures monitor { self.new.monitor ≡ self.old.monitor }
         ensures options { self.new.options ≡ self.old.options }
         ensures stage { self.new.stage ≡ self.old.stage }
         ensures moment { self.new.moment ≡ self.old.moment }
+        ensures wake { self.new.wake ≡ self.old.wake }
         ensures listings { self.new.listings ≡ self.old.listings }
     {
         let now = self.monitor.moment();
@@ -271,11 +297,13 @@ impl<'a, O: Write> Follower<'a, O> {
 
     // Whether two sources begin or cease to send at the same top priority on a universe, where a packet may have changed that.
     fn tell_stirred(&mut self, universe: u16, is_stirred: bool) -> Result<(), TellFault>
-        ensures told { OnOk result (Tells O.contents self.old.teller self.new.teller (stirred_told is_stirred self.old.teller.form universe self.old.contests self.old.monitor)) }
+        ensures told { OnOk result (Tells O.contents self.old.teller self.new.teller (stirred_told
+            is_stirred self.old.teller.form universe self.old.contests self.old.monitor)) }
         ensures monitor { self.new.monitor ≡ self.old.monitor }
         ensures options { self.new.options ≡ self.old.options }
         ensures stage { self.new.stage ≡ self.old.stage }
         ensures moment { self.new.moment ≡ self.old.moment }
+        ensures wake { self.new.wake ≡ self.old.wake }
         ensures listings { self.new.listings ≡ self.old.listings }
     {
         if !is_stirred {
@@ -286,12 +314,15 @@ impl<'a, O: Write> Follower<'a, O> {
 
     // Whether two sources begin or cease to send at the same top priority on a universe.
     fn tell_rivals(&mut self, universe: u16) -> Result<(), TellFault>
-        ensures told { OnOk result (Tells O.contents self.old.teller self.new.teller (rivals_told self.old.teller.form universe self.old.contests self.old.monitor)) }
-        ensures noted { OnOk result ((u : ℕ) → is_noted u self.new.contests ≡ (if u == universe then is_contested universe self.old.monitor else is_noted u self.old.contests)) }
+        ensures told { OnOk result (Tells O.contents self.old.teller self.new.teller
+            (rivals_told self.old.teller.form universe self.old.contests self.old.monitor)) }
+        ensures noted { OnOk result ((u : ℕ) → is_noted u self.new.contests ≡ (if u == universe
+            then is_contested universe self.old.monitor else is_noted u self.old.contests)) }
         ensures monitor { self.new.monitor ≡ self.old.monitor }
         ensures options { self.new.options ≡ self.old.options }
         ensures stage { self.new.stage ≡ self.old.stage }
         ensures moment { self.new.moment ≡ self.old.moment }
+        ensures wake { self.new.wake ≡ self.old.wake }
         ensures listings { self.new.listings ≡ self.old.listings }
     {
         let sources = self.monitor.rivals(universe);
@@ -306,13 +337,16 @@ impl<'a, O: Write> Follower<'a, O> {
     // The list of a source, where it is another one than before.
     fn tell_page(&mut self, octets: &[u8]) -> Result<(), TellFault>
         ensures told { OnOk result (Tells O.contents self.old.teller self.new.teller
-            (page_told self.old.teller.form self.old.monitor.moment (reading_packet octets.now) (list_book self.old.listings))) }
-        ensures lists { OnOk result (list_book self.new.listings
-            ≡ books.after_read self.old.monitor.moment (reading_packet octets.now) (list_book self.old.listings)) }
+            (page_told self.old.teller.form self.old.monitor.moment (reading_packet octets.now)
+            (list_book self.old.listings))) }
+        ensures lists { OnOk result (list_book self.new.listings ≡ books.after_read
+            self.old.monitor.moment (reading_packet octets.now) (list_book self.old.listings)) }
         ensures stage { self.new.stage ≡ self.old.stage }
         ensures monitor { self.new.monitor ≡ self.old.monitor }
         ensures moment { self.new.moment ≡ self.old.moment }
-        ensures listed { OnOk result (listed_in self.new.listings ≡ after_reading (reading_packet octets.now) (listed_in self.old.listings)) }
+        ensures wake { self.new.wake ≡ self.old.wake }
+        ensures listed { OnOk result (listed_in self.new.listings
+            ≡ after_reading (reading_packet octets.now) (listed_in self.old.listings)) }
     {
         let Ok(Packet::PagePacket(page)) = read_packet(octets) else {
             return Ok(());
@@ -331,14 +365,17 @@ impl<'a, O: Write> Follower<'a, O> {
 
     // A stream that is lost at a moment.
     fn tell_loss(&mut self, at: u64) -> Result<(), TellFault>
-        ensures told { OnOk result (Tells O.contents self.old.teller self.new.teller
-            (loss_told self.old.teller.form self.old.options.universes.now at self.old.contests self.old.monitor)) }
+        ensures told { OnOk result
+            (Tells O.contents self.old.teller self.new.teller (loss_told self.old.teller.form
+            self.old.options.universes.now at self.old.contests self.old.monitor)) }
         ensures noted { OnOk result ((u : ℕ) → is_noted u self.new.contests
-            ≡ noted_lost u self.old.options.universes.now self.old.contests (after_tick at self.old.monitor) (lost_stream at self.old.monitor)) }
+            ≡ noted_lost u self.old.options.universes.now self.old.contests
+            (after_tick at self.old.monitor) (lost_stream at self.old.monitor)) }
         ensures monitor { self.new.monitor ≡ after_tick at self.old.monitor }
         ensures options { self.new.options ≡ self.old.options }
         ensures stage { self.new.stage ≡ self.old.stage }
         ensures moment { self.new.moment ≡ self.old.moment }
+        ensures wake { self.new.wake ≡ self.old.wake }
         ensures listings { self.new.listings ≡ self.old.listings }
     {
         let Some(place) = self.monitor.tick(at) else {
@@ -359,11 +396,13 @@ impl<'a, O: Write> Follower<'a, O> {
     fn show_dark(&mut self, at: u64) -> Result<(), TellFault>
         ensures told { OnOk result (Tells O.contents self.old.teller self.new.teller
             (loss_shown self.old.teller.form at (staged self.old.stage))) }
-        ensures stage { OnOk result (staged self.new.stage ≡ after_loss at (staged self.old.stage)) }
+        ensures stage { OnOk result
+            (staged self.new.stage ≡ after_loss at (staged self.old.stage)) }
         ensures contests { self.new.contests ≡ self.old.contests }
         ensures options { self.new.options ≡ self.old.options }
         ensures monitor { self.new.monitor ≡ self.old.monitor }
         ensures moment { self.new.moment ≡ self.old.moment }
+        ensures wake { self.new.wake ≡ self.old.wake }
         ensures listings { self.new.listings ≡ self.old.listings }
     {
         match &mut self.stage {
@@ -377,9 +416,11 @@ impl<'a, O: Write> Follower<'a, O> {
         ensures told { OnOk result (Tells O.contents self.old.teller self.new.teller
             (turn_shown self.old.teller.form self.old.monitor.moment octets.now
             (cause_among self.old.monitor.streams noted) (staged self.old.stage))) }
-        ensures stage { OnOk result (staged self.new.stage ≡ after_turn self.old.monitor.moment octets.now (staged self.old.stage)) }
+        ensures stage { OnOk result (staged self.new.stage
+            ≡ after_turn self.old.monitor.moment octets.now (staged self.old.stage)) }
         ensures monitor { self.new.monitor ≡ self.old.monitor }
         ensures moment { self.new.moment ≡ self.old.moment }
+        ensures wake { self.new.wake ≡ self.old.wake }
         ensures listings { self.new.listings ≡ self.old.listings }
     {
         let now = self.monitor.moment();

@@ -12,7 +12,8 @@ use std::fmt::Write;
 /// The front of an event's object: the moment and the event's key.
 #[tactic(auto, unfolding(crate::specs::Members::object_front))]
 pub fn begin(text: &mut String, moment: u64, event: &str) -> Result<(), AllocError>
-    ensures { OnOk result (string_bytes text.new ≡ string_bytes text.old ++ object_front moment event.now) }
+    ensures { OnOk result
+        (string_bytes text.new ≡ string_bytes text.old ++ object_front moment event.now) }
 {
     write!(text, "{{\"ms\":{moment},\"event\":\"{event}\"")
 }
@@ -28,7 +29,8 @@ pub fn begin_row(text: &mut String, row: &str) -> Result<(), AllocError>
 /// A member that is a number.
 #[tactic(auto, unfolding(crate::specs::Members::number_member))]
 pub fn push_number(text: &mut String, key: &str, number: u64) -> Result<(), AllocError>
-    ensures { OnOk result (string_bytes text.new ≡ string_bytes text.old ++ number_member key.now number) }
+    ensures { OnOk result
+        (string_bytes text.new ≡ string_bytes text.old ++ number_member key.now number) }
 {
     write!(text, ",\"{key}\":{number}")
 }
@@ -36,7 +38,8 @@ pub fn push_number(text: &mut String, key: &str, number: u64) -> Result<(), Allo
 /// A member that is a word.
 #[tactic(auto, unfolding(crate::specs::Members::word_member))]
 pub fn push_word(text: &mut String, key: &str, word: &str) -> Result<(), AllocError>
-    ensures { OnOk result (string_bytes text.new ≡ string_bytes text.old ++ word_member key.now word.now) }
+    ensures { OnOk result
+        (string_bytes text.new ≡ string_bytes text.old ++ word_member key.now word.now) }
 {
     write!(text, ",\"{key}\":\"{word}\"")
 }
@@ -44,7 +47,8 @@ pub fn push_word(text: &mut String, key: &str, word: &str) -> Result<(), AllocEr
 /// A stream: its universe, CID and name.
 #[tactic(auto, unfolding(crate::specs::Members::stream_members))]
 pub fn push_stream(text: &mut String, stream: &Stream) -> Result<(), AllocError>
-    ensures { OnOk result (string_bytes text.new ≡ string_bytes text.old ++ stream_members stream.now) }
+    ensures { OnOk result
+        (string_bytes text.new ≡ string_bytes text.old ++ stream_members stream.now) }
 {
     push_number(text, "universe", u64::from(stream.universe))?;
     push_source(text, &stream.cid, up_to_nul(&stream.account.name))
@@ -53,7 +57,8 @@ pub fn push_stream(text: &mut String, stream: &Stream) -> Result<(), AllocError>
 /// A source: its CID and name.
 #[tactic(auto, unfolding(crate::specs::Members::source_members))]
 pub fn push_source(text: &mut String, cid: &[u8; 16], name: &[u8]) -> Result<(), AllocError>
-    ensures { OnOk result (string_bytes text.new ≡ string_bytes text.old ++ source_members cid.now name.now) }
+    ensures { OnOk result
+        (string_bytes text.new ≡ string_bytes text.old ++ source_members cid.now name.now) }
 {
     text.push_str(",\"cid\":\"")?;
     push_cid(text, cid)?;
@@ -64,7 +69,8 @@ pub fn push_source(text: &mut String, cid: &[u8; 16], name: &[u8]) -> Result<(),
 /// A sender: its address and port.
 #[tactic(auto, unfolding(crate::specs::Members::sender_members))]
 pub fn push_sender(text: &mut String, sender: &Sender) -> Result<(), AllocError>
-    ensures { OnOk result (string_bytes text.new ≡ string_bytes text.old ++ sender_members sender.now) }
+    ensures { OnOk result
+        (string_bytes text.new ≡ string_bytes text.old ++ sender_members sender.now) }
 {
     push_key(text, "address")?;
     push_quoted_address(text, &sender.address)?;
@@ -73,7 +79,8 @@ pub fn push_sender(text: &mut String, sender: &Sender) -> Result<(), AllocError>
 
 #[tactic(auto, unfolding(crate::specs::Members::quoted_address))]
 fn push_quoted_address(text: &mut String, address: &[u8; 4]) -> Result<(), AllocError>
-    ensures { OnOk result (string_bytes text.new ≡ string_bytes text.old ++ quoted_address address.now) }
+    ensures { OnOk result
+        (string_bytes text.new ≡ string_bytes text.old ++ quoted_address address.now) }
 {
     text.push_str("\"")?;
     push_address(text, address)?;

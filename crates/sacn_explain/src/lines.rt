@@ -25,7 +25,8 @@ pub fn rivals_line(
     sources: usize,
     priority: u8,
 ) -> Result<(), AllocError>
-    ensures { OnOk result (string_bytes text.new ≡ string_bytes text.old ++ rivals_line form now universe sources priority) }
+    ensures { OnOk result (string_bytes text.new
+        ≡ string_bytes text.old ++ rivals_line form now universe sources priority) }
 {
     let sources = sources as u64;
     match form {
@@ -52,7 +53,8 @@ fn rivals_key(sources: u64) -> &'static str
 
 #[tactic(auto, unfolding(crate::specs::Lines::rivals_words))]
 fn push_rivals(text: &mut String, sources: u64, priority: u8) -> Result<(), AllocError>
-    ensures { OnOk result (string_bytes text.new ≡ string_bytes text.old ++ rivals_words sources priority) }
+    ensures { OnOk result
+        (string_bytes text.new ≡ string_bytes text.old ++ rivals_words sources priority) }
 {
     match sources {
         0 => text.push_str("no source sends any longer"),
@@ -75,7 +77,8 @@ pub fn listing_line(
     event: &str,
     listing: &Listing,
 ) -> Result<(), AllocError>
-    ensures { OnOk result (string_bytes text.new ≡ string_bytes text.old ++ listing_line form now event.now (kept_list listing.now)) }
+    ensures { OnOk result (string_bytes text.new
+        ≡ string_bytes text.old ++ listing_line form now event.now (kept_list listing.now)) }
 {
     match form {
         Form::Text => {
@@ -105,20 +108,23 @@ fn push_list_word(text: &mut String, event: &str) -> Result<(), AllocError>
 
 /// A source: its CID and name.
 pub fn push_source(text: &mut String, listing: &Listing) -> Result<(), AllocError>
-    ensures { OnOk result (string_bytes text.new ≡ string_bytes text.old ++ source_text listing.now.cid listing.now.name.items) }
+    ensures { OnOk result (string_bytes text.new
+        ≡ string_bytes text.old ++ source_text listing.now.cid listing.now.name.items) }
 {
     words::push_source(text, &listing.cid, listing.name.as_slice())
 }
 
 /// The same as members of an object.
 pub fn push_source_members(text: &mut String, listing: &Listing) -> Result<(), AllocError>
-    ensures { OnOk result (string_bytes text.new ≡ string_bytes text.old ++ source_members listing.now.cid listing.now.name.items) }
+    ensures { OnOk result (string_bytes text.new
+        ≡ string_bytes text.old ++ source_members listing.now.cid listing.now.name.items) }
 {
     json::push_source(text, &listing.cid, listing.name.as_slice())
 }
 
 fn push_listed(text: &mut String, listing: &Listing) -> Result<(), AllocError>
-    ensures { OnOk result (string_bytes text.new ≡ string_bytes text.old ++ listed_ranges (kept_list listing.now).universes) }
+    ensures { OnOk result (string_bytes text.new
+        ≡ string_bytes text.old ++ listed_ranges (kept_list listing.now).universes) }
 {
     match &listing.universes {
         Some(universes) => push_ranges(text, universes.as_slice()),
@@ -127,7 +133,8 @@ fn push_listed(text: &mut String, listing: &Listing) -> Result<(), AllocError>
 }
 
 fn push_listed_member(text: &mut String, listing: &Listing) -> Result<(), AllocError>
-    ensures { OnOk result (string_bytes text.new ≡ string_bytes text.old ++ listed_member (kept_list listing.now).universes) }
+    ensures { OnOk result (string_bytes text.new
+        ≡ string_bytes text.old ++ listed_member (kept_list listing.now).universes) }
 {
     match &listing.universes {
         Some(universes) => push_numbers(text, "universes", universes.as_slice()),
@@ -143,7 +150,8 @@ pub fn frame_line(
     shown: &PortShown,
     cause: &Cause<'_>,
 ) -> Result<(), AllocError>
-    ensures { OnOk result (string_bytes text.new ≡ string_bytes text.old ++ frame_line form now shown.now (reason_of cause.now)) }
+    ensures { OnOk result (string_bytes text.new
+        ≡ string_bytes text.old ++ frame_line form now shown.now (reason_of cause.now)) }
 {
     let port = shown.port;
     match form {
@@ -171,7 +179,8 @@ fn push_port(text: &mut String, port: u8) -> Result<(), AllocError>
 
 #[tactic(auto, unfolding(crate::specs::Lines::slots_member))]
 fn push_slots_member(text: &mut String, shown: &PortShown) -> Result<(), AllocError>
-    ensures { OnOk result (string_bytes text.new ≡ string_bytes text.old ++ slots_member shown.now.last) }
+    ensures { OnOk result
+        (string_bytes text.new ≡ string_bytes text.old ++ slots_member shown.now.last) }
 {
     json::push_key(text, "slots")?;
     text.push('"')?;
@@ -181,7 +190,8 @@ fn push_slots_member(text: &mut String, shown: &PortShown) -> Result<(), AllocEr
 
 // The digits of a frame's slots, two for each.
 fn push_slots(text: &mut String, shown: &PortShown) -> Result<(), AllocError>
-    ensures { OnOk result (string_bytes text.new ≡ string_bytes text.old ++ slot_digits shown.now.last) }
+    ensures { OnOk result
+        (string_bytes text.new ≡ string_bytes text.old ++ slot_digits shown.now.last) }
 {
     match &shown.last {
         Some(frame) => push_digits(text, frame.split_at(1).1),

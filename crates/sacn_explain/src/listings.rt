@@ -89,7 +89,8 @@ impl Listings {
     /// The list of a source.
     pub fn of(&self, cid: &[u8; 16]) -> Option<&Listing>
         ensures listing { option_map (λ l. l.now) result ≡ listing_of cid.now self.now }
-        ensures kept { option_map (λ l. kept_list l.now) result ≡ list_at cid.now (list_book self.now) }
+        ensures kept { option_map (λ l. kept_list l.now) result
+            ≡ list_at cid.now (list_book self.now) }
     {
         match self.place_of(cid) {
             Some(place) => self.known.get(place),
@@ -102,9 +103,13 @@ impl Listings {
     /// Errors: OutOfMemory.
     pub fn take(&mut self, now: u64, page: &PageView<'_>) -> Result<PageNews, DiscoveryFault>
         ensures news { IfOk result (λ news. news ≡ page_news now page.now (list_book self.old)) }
-        ensures book { OnOk result (list_book self.new ≡ books.after_page now page.now (list_book self.old)) }
-        ensures listed { OnOk result (listed_in self.new ≡ after_page page.now.cid (listed_in self.old)) }
-        ensures collector { OnOk result (self.new.collector ≡ (if is_read page.now.cid (listed_in self.old) then collected now page.now self.old.collector else self.old.collector)) }
+        ensures book { OnOk result
+            (list_book self.new ≡ books.after_page now page.now (list_book self.old)) }
+        ensures listed { OnOk result
+            (listed_in self.new ≡ after_page page.now.cid (listed_in self.old)) }
+        ensures collector { OnOk result
+            (self.new.collector ≡ (if is_read page.now.cid (listed_in self.old)
+            then collected now page.now self.old.collector else self.old.collector)) }
     {
         let cid = page.cid();
         if self.is_known(&cid) {
@@ -120,7 +125,8 @@ impl Listings {
 
     // Whether a page of this source came.
     fn is_known(&self, cid: &[u8; 16]) -> bool
-        ensures { result ≡ list_any (λ source. bytes_eq source cid.now) (listed_in self.now).sources }
+        ensures { result
+            ≡ list_any (λ source. bytes_eq source cid.now) (listed_in self.now).sources }
     {
         self.sources.iter().any(|source| *source == *cid)
     }
@@ -134,7 +140,8 @@ impl Listings {
 
     // A source of which no page came before. Where memory is refused nothing is kept of it.
     fn admit(&mut self, cid: [u8; 16]) -> Result<(), DiscoveryFault>
-        ensures sources { OnOk result ((listed_in self.new).sources ≡ (listed_in self.old).sources ++ cid ∷ []) }
+        ensures sources { OnOk result
+            ((listed_in self.new).sources ≡ (listed_in self.old).sources ++ cid ∷ []) }
         ensures passed { self.new.passed ≡ self.old.passed }
         ensures collector { self.new.collector ≡ self.old.collector }
         ensures book { OnOk result (list_book self.new ≡ with_source cid (list_book self.old)) }
@@ -155,9 +162,11 @@ impl Listings {
     // A page of a source that is known.
     fn collect(&mut self, now: u64, page: &PageView<'_>) -> Result<PageNews, DiscoveryFault>
         ensures news { IfOk result (λ news. news ≡ heard_news now page.now (list_book self.old)) }
-        ensures book { OnOk result (list_book self.new ≡ after_heard now page.now (list_book self.old)) }
+        ensures book { OnOk result
+            (list_book self.new ≡ after_heard now page.now (list_book self.old)) }
         ensures listed { listed_in self.new ≡ listed_in self.old }
-        ensures collector { OnOk result (self.new.collector ≡ collected now page.now self.old.collector) }
+        ensures collector { OnOk result
+            (self.new.collector ≡ collected now page.now self.old.collector) }
     {
         self.collector.take(now, page)?;
         let cid = page.cid();
@@ -174,8 +183,10 @@ impl Listings {
         name: &[u8],
         universes: Vec<u16>,
     ) -> Result<PageNews, DiscoveryFault>
-        ensures news { IfOk result (λ news. news ≡ news_in cid.now (Some universes.items) (list_book self.old)) }
-        ensures book { OnOk result (list_book self.new ≡ after_list cid.now name.now (Some universes.items) (list_book self.old)) }
+        ensures news { IfOk result
+            (λ news. news ≡ news_in cid.now (Some universes.items) (list_book self.old)) }
+        ensures book { OnOk result (list_book self.new
+            ≡ after_list cid.now name.now (Some universes.items) (list_book self.old)) }
         ensures listed { listed_in self.new ≡ listed_in self.old }
         ensures collector { self.new.collector ≡ self.old.collector }
     {
@@ -194,9 +205,10 @@ fn keep_at(
     name: &[u8],
     universes: Vec<u16>,
 ) -> Result<PageNews, DiscoveryFault>
-    ensures news { IfOk result (λ news. news ≡ news_of universes.items (slice_get (map kept_list known.old) place)) }
-    ensures lists { OnOk result (map kept_list known.new
-        ≡ put_list name.now universes.items place (map kept_list known.old) (slice_get (map kept_list known.old) place)) }
+    ensures news { IfOk result
+        (λ news. news ≡ news_of universes.items (slice_get (map kept_list known.old) place)) }
+    ensures lists { OnOk result (map kept_list known.new ≡ put_list name.now universes.items place
+        (map kept_list known.old) (slice_get (map kept_list known.old) place)) }
 {
     if place >= known.len() {
         return Ok(PageNews::Nothing);
@@ -213,8 +225,10 @@ impl Listing {
         universes: Vec<u16>,
     ) -> Result<PageNews, DiscoveryFault>
         ensures cid { self.new.cid ≡ self.old.cid }
-        ensures news { IfOk result (λ news. news ≡ list_news (kept_list self.old).universes universes.items) }
-        ensures list { OnOk result (kept_list self.new ≡ with_list name.now universes.items (kept_list self.old)) }
+        ensures news { IfOk result
+            (λ news. news ≡ list_news (kept_list self.old).universes universes.items) }
+        ensures list { OnOk result
+            (kept_list self.new ≡ with_list name.now universes.items (kept_list self.old)) }
     {
         let news = match &self.universes {
             None => PageNews::Appears,

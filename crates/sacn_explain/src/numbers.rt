@@ -36,7 +36,8 @@ impl Run {
 
 /// Numbers that ascend, as ranges; a dash where there is none.
 pub fn push_ranges(text: &mut String, numbers: &[u16]) -> Result<(), AllocError>
-    ensures { OnOk result (string_bytes text.new ≡ string_bytes text.old ++ ranges_text numbers.now) }
+    ensures { OnOk result
+        (string_bytes text.new ≡ string_bytes text.old ++ ranges_text numbers.now) }
 {
     match numbers.split_first() {
         Some((first, rest)) => push_runs(text, *first, rest),
@@ -46,7 +47,8 @@ pub fn push_ranges(text: &mut String, numbers: &[u16]) -> Result<(), AllocError>
 
 // The runs of a number and of those behind it.
 fn push_runs(text: &mut String, first: u16, rest: &[u16]) -> Result<(), AllocError>
-    ensures { OnOk result (string_bytes text.new ≡ string_bytes text.old ++ ranges_text (first ∷ rest.now)) }
+    ensures { OnOk result
+        (string_bytes text.new ≡ string_bytes text.old ++ ranges_text (first ∷ rest.now)) }
 {
     let mut run = Run::of(first);
     for number in rest {
@@ -57,7 +59,8 @@ fn push_runs(text: &mut String, first: u16, rest: &[u16]) -> Result<(), AllocErr
 
 // The run with a number behind it, which is a run of its own where it isn't the next one.
 fn push_where_ended(text: &mut String, run: Run, number: u16) -> Result<Run, AllocError>
-    ensures { IfOk result (λ now. (ns : List ℕ) → string_bytes text.new ++ runs_text (runs_from now ns) ≡ string_bytes text.old ++ runs_text (runs_from run (number ∷ ns))) }
+    ensures { IfOk result (λ now. (ns : List ℕ) → string_bytes text.new ++ runs_text
+        (runs_from now ns) ≡ string_bytes text.old ++ runs_text (runs_from run (number ∷ ns))) }
 {
     if run.goes_on(number) {
         return Ok(Run {
@@ -84,7 +87,8 @@ fn push_run(text: &mut String, run: Run) -> Result<(), AllocError>
 /// A member that is a list of numbers.
 #[tactic(auto, unfolding(crate::specs::Numbers::numbers_member))]
 pub fn push_numbers(text: &mut String, key: &str, numbers: &[u16]) -> Result<(), AllocError>
-    ensures { OnOk result (string_bytes text.new ≡ string_bytes text.old ++ numbers_member key.now numbers.now) }
+    ensures { OnOk result
+        (string_bytes text.new ≡ string_bytes text.old ++ numbers_member key.now numbers.now) }
 {
     push_key(text, key)?;
     text.push('[')?;
@@ -94,7 +98,8 @@ pub fn push_numbers(text: &mut String, key: &str, numbers: &[u16]) -> Result<(),
 
 // Numbers with commas between them.
 fn push_list(text: &mut String, numbers: &[u16]) -> Result<(), AllocError>
-    ensures { OnOk result (string_bytes text.new ≡ string_bytes text.old ++ number_list numbers.now) }
+    ensures { OnOk result
+        (string_bytes text.new ≡ string_bytes text.old ++ number_list numbers.now) }
 {
     let Some((first, rest)) = numbers.split_first() else {
         return Ok(());

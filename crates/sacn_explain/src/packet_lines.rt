@@ -32,7 +32,8 @@ pub fn event_line(
     stream: &Stream,
     event: Event,
 ) -> Result<(), AllocError>
-    ensures { OnOk result (string_bytes text.new ≡ string_bytes text.old ++ event_line form now stream.now event) }
+    ensures { OnOk result
+        (string_bytes text.new ≡ string_bytes text.old ++ event_line form now stream.now event) }
 {
     match form {
         Form::Text => {
@@ -56,7 +57,8 @@ pub fn moved_line(
     now: u64,
     stream: &Stream,
 ) -> Result<(), AllocError>
-    ensures { OnOk result (string_bytes text.new ≡ string_bytes text.old ++ moved_line form now stream.now) }
+    ensures { OnOk result
+        (string_bytes text.new ≡ string_bytes text.old ++ moved_line form now stream.now) }
 {
     match form {
         Form::Text => {
@@ -79,7 +81,8 @@ pub fn renamed_line(
     now: u64,
     stream: &Stream,
 ) -> Result<(), AllocError>
-    ensures { OnOk result (string_bytes text.new ≡ string_bytes text.old ++ renamed_line form now stream.now) }
+    ensures { OnOk result
+        (string_bytes text.new ≡ string_bytes text.old ++ renamed_line form now stream.now) }
 {
     match form {
         Form::Text => {
@@ -102,7 +105,8 @@ pub fn priority_line(
     stream: &Stream,
     change: Change,
 ) -> Result<(), AllocError>
-    ensures { OnOk result (string_bytes text.new ≡ string_bytes text.old ++ priority_line form now stream.now change) }
+    ensures { OnOk result (string_bytes text.new
+        ≡ string_bytes text.old ++ priority_line form now stream.now change) }
 {
     match form {
         Form::Text => {
@@ -121,7 +125,8 @@ pub fn priority_line(
 
 /// A source that begins its sequence numbers anew.
 pub fn anew_line(text: &mut String, form: Form, now: u64, stream: &Stream) -> Result<(), AllocError>
-    ensures { OnOk result (string_bytes text.new ≡ string_bytes text.old ++ anew_line form now stream.now) }
+    ensures { OnOk result
+        (string_bytes text.new ≡ string_bytes text.old ++ anew_line form now stream.now) }
 {
     match form {
         Form::Text => {
@@ -144,7 +149,8 @@ pub fn skipped_line(
     stream: &Stream,
     news: &News,
 ) -> Result<(), AllocError>
-    ensures { OnOk result (string_bytes text.new ≡ string_bytes text.old ++ skipped_line form now stream.now news.now.skipped) }
+    ensures { OnOk result (string_bytes text.new
+        ≡ string_bytes text.old ++ skipped_line form now stream.now news.now.skipped) }
 {
     match form {
         Form::Text => {
@@ -162,7 +168,8 @@ pub fn skipped_line(
 
 /// A source that is lost (E1.31, 6.7.1).
 pub fn loss_line(text: &mut String, form: Form, now: u64, stream: &Stream) -> Result<(), AllocError>
-    ensures { OnOk result (string_bytes text.new ≡ string_bytes text.old ++ loss_line form now stream.now) }
+    ensures { OnOk result
+        (string_bytes text.new ≡ string_bytes text.old ++ loss_line form now stream.now) }
 {
     match form {
         Form::Text => {
@@ -186,7 +193,8 @@ pub fn refused_line(
     sender: &Sender,
     fault: PacketFault,
 ) -> Result<(), AllocError>
-    ensures { OnOk result (string_bytes text.new ≡ string_bytes text.old ++ refused_line form now sender.now fault) }
+    ensures { OnOk result
+        (string_bytes text.new ≡ string_bytes text.old ++ refused_line form now sender.now fault) }
 {
     match form {
         Form::Text => {
@@ -209,7 +217,8 @@ pub fn untracked_line(
     now: u64,
     sender: &Sender,
 ) -> Result<(), AllocError>
-    ensures { OnOk result (string_bytes text.new ≡ string_bytes text.old ++ untracked_line form now sender.now) }
+    ensures { OnOk result
+        (string_bytes text.new ≡ string_bytes text.old ++ untracked_line form now sender.now) }
 {
     match form {
         Form::Text => {

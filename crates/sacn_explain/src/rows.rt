@@ -30,7 +30,8 @@ pub fn universe_row(
     universe: u16,
     counts: &UniverseCounts,
 ) -> Result<(), AllocError>
-    ensures { OnOk result (string_bytes text.new ≡ string_bytes text.old ++ universe_row form universe counts.now) }
+    ensures { OnOk result
+        (string_bytes text.new ≡ string_bytes text.old ++ universe_row form universe counts.now) }
 {
     match form {
         Form::Text => universe_text(text, universe, counts),
@@ -44,7 +45,8 @@ fn universe_text(
     universe: u16,
     counts: &UniverseCounts,
 ) -> Result<(), AllocError>
-    ensures { OnOk result (string_bytes text.new ≡ string_bytes text.old ++ universe_text universe counts.now) }
+    ensures { OnOk result
+        (string_bytes text.new ≡ string_bytes text.old ++ universe_text universe counts.now) }
 {
     push_universe(text, universe, counts)?;
     push_column(text, counts.taken)?;
@@ -58,7 +60,8 @@ fn push_universe(
     universe: u16,
     counts: &UniverseCounts,
 ) -> Result<(), AllocError>
-    ensures { OnOk result (string_bytes text.new ≡ string_bytes text.old ++ universe_columns universe counts.now) }
+    ensures { OnOk result
+        (string_bytes text.new ≡ string_bytes text.old ++ universe_columns universe counts.now) }
 {
     let sources = counts.sources;
     let sending = counts.sending;
@@ -71,7 +74,8 @@ fn universe_json(
     universe: u16,
     counts: &UniverseCounts,
 ) -> Result<(), AllocError>
-    ensures { OnOk result (string_bytes text.new ≡ string_bytes text.old ++ universe_json universe counts.now) }
+    ensures { OnOk result
+        (string_bytes text.new ≡ string_bytes text.old ++ universe_json universe counts.now) }
 {
     json::begin_row(text, "universe")?;
     push_universe_members(text, universe, counts)?;
@@ -85,7 +89,8 @@ fn push_universe_members(
     universe: u16,
     counts: &UniverseCounts,
 ) -> Result<(), AllocError>
-    ensures { OnOk result (string_bytes text.new ≡ string_bytes text.old ++ universe_members universe counts.now) }
+    ensures { OnOk result
+        (string_bytes text.new ≡ string_bytes text.old ++ universe_members universe counts.now) }
 {
     json::push_number(text, "universe", u64::from(universe))?;
     json::push_number(text, "sources", counts.sources)?;
@@ -94,7 +99,8 @@ fn push_universe_members(
 
 #[tactic(auto, unfolding(crate::specs::Rows::packets_members))]
 fn push_packets_members(text: &mut String, counts: &UniverseCounts) -> Result<(), AllocError>
-    ensures { OnOk result (string_bytes text.new ≡ string_bytes text.old ++ packets_members counts.now) }
+    ensures { OnOk result
+        (string_bytes text.new ≡ string_bytes text.old ++ packets_members counts.now) }
 {
     json::push_number(text, "taken", counts.taken)?;
     json::push_number(text, "skipped", counts.skipped)?;
@@ -116,7 +122,8 @@ pub fn list_row(
     listing: &Listing,
     lists: &Lists<'_>,
 ) -> Result<(), AllocError>
-    ensures { OnOk result (string_bytes text.new ≡ string_bytes text.old ++ list_row form listing.now lists.now.listed.now lists.now.silent.items lists.now.unlisted.items) }
+    ensures { OnOk result (string_bytes text.new ≡ string_bytes text.old ++ list_row form
+        listing.now lists.now.listed.now lists.now.silent.items lists.now.unlisted.items) }
 {
     match form {
         Form::Text => {
@@ -139,7 +146,8 @@ pub fn list_row(
 
 #[tactic(auto, unfolding(crate::specs::Rows::silent_text))]
 fn push_silent(text: &mut String, silent: &[u16]) -> Result<(), AllocError>
-    ensures { OnOk result (string_bytes text.new ≡ string_bytes text.old ++ silent_text silent.now) }
+    ensures { OnOk result
+        (string_bytes text.new ≡ string_bytes text.old ++ silent_text silent.now) }
 {
     text.push_str("; listed and silent: ")?;
     push_ranges(text, silent)
@@ -147,7 +155,8 @@ fn push_silent(text: &mut String, silent: &[u16]) -> Result<(), AllocError>
 
 #[tactic(auto, unfolding(crate::specs::Rows::unlisted_text))]
 fn push_unlisted(text: &mut String, unlisted: &[u16]) -> Result<(), AllocError>
-    ensures { OnOk result (string_bytes text.new ≡ string_bytes text.old ++ unlisted_text unlisted.now) }
+    ensures { OnOk result
+        (string_bytes text.new ≡ string_bytes text.old ++ unlisted_text unlisted.now) }
 {
     text.push_str("; heard and unlisted: ")?;
     push_ranges(text, unlisted)
@@ -160,7 +169,8 @@ pub fn refused_row(
     fault: PacketFault,
     count: u64,
 ) -> Result<(), AllocError>
-    ensures { OnOk result (string_bytes text.new ≡ string_bytes text.old ++ refused_row form fault count) }
+    ensures { OnOk result
+        (string_bytes text.new ≡ string_bytes text.old ++ refused_row form fault count) }
 {
     match form {
         Form::Text => {

@@ -36,7 +36,8 @@ fn push_spaces(text: &mut String, spaces: usize) -> Result<(), AllocError>
 
 /// The digits of octets, two for each.
 pub fn push_digits(text: &mut String, octets: &[u8]) -> Result<(), AllocError>
-    ensures { OnOk result (string_bytes text.new ≡ string_bytes text.old ++ octets_text octets.now) }
+    ensures { OnOk result
+        (string_bytes text.new ≡ string_bytes text.old ++ octets_text octets.now) }
 {
     for octet in octets {
         push_octet(text, *octet)?;
@@ -54,7 +55,8 @@ pub fn push_cid(text: &mut String, cid: &[u8; 16]) -> Result<(), AllocError>
 /// An address, a colon and a port.
 #[tactic(auto, unfolding(crate::specs::Spelling::sender_text))]
 pub fn push_sender(text: &mut String, sender: &Sender) -> Result<(), AllocError>
-    ensures { OnOk result (string_bytes text.new ≡ string_bytes text.old ++ sender_text sender.now) }
+    ensures { OnOk result
+        (string_bytes text.new ≡ string_bytes text.old ++ sender_text sender.now) }
 {
     push_address(text, &sender.address)?;
     let port = sender.port;
@@ -64,7 +66,8 @@ pub fn push_sender(text: &mut String, sender: &Sender) -> Result<(), AllocError>
 /// An IPv4 address.
 #[tactic(auto, unfolding(crate::specs::Spelling::address_text))]
 pub fn push_address(text: &mut String, address: &[u8; 4]) -> Result<(), AllocError>
-    ensures { OnOk result (string_bytes text.new ≡ string_bytes text.old ++ address_text address.now) }
+    ensures { OnOk result
+        (string_bytes text.new ≡ string_bytes text.old ++ address_text address.now) }
 {
     let [a, b, c, d] = *address;
     write!(text, "{a}.{b}.{c}.{d}")
@@ -92,7 +95,8 @@ pub fn push_name(text: &mut String, name: &[u8]) -> Result<(), AllocError>
 
 #[tactic(auto, using(crate::proofs::Letters::of_text, crate::proofs::Letters::of_octets))]
 fn push_name_letters(text: &mut String, name: &[u8]) -> Result<(), AllocError>
-    ensures { OnOk result (string_bytes text.new ≡ string_bytes text.old ++ flat_map letter_text (letters_of name.now)) }
+    ensures { OnOk result (string_bytes text.new
+        ≡ string_bytes text.old ++ flat_map letter_text (letters_of name.now)) }
 {
     match str::from_utf8(name) {
         Ok(letters) => push_letters(text, letters),
@@ -101,7 +105,8 @@ fn push_name_letters(text: &mut String, name: &[u8]) -> Result<(), AllocError>
 }
 
 fn push_letters(text: &mut String, letters: &str) -> Result<(), AllocError>
-    ensures { OnOk result (string_bytes text.new ≡ string_bytes text.old ++ flat_map letter_text (chars letters.now)) }
+    ensures { OnOk result (string_bytes text.new
+        ≡ string_bytes text.old ++ flat_map letter_text (chars letters.now)) }
 {
     for letter in letters.chars() {
         push_letter(text, letter)?;
@@ -110,7 +115,8 @@ fn push_letters(text: &mut String, letters: &str) -> Result<(), AllocError>
 }
 
 fn push_octets(text: &mut String, octets: &[u8]) -> Result<(), AllocError>
-    ensures { OnOk result (string_bytes text.new ≡ string_bytes text.old ++ flat_map letter_text octets.now) }
+    ensures { OnOk result
+        (string_bytes text.new ≡ string_bytes text.old ++ flat_map letter_text octets.now) }
 {
     for octet in octets {
         push_letter(text, char::from(*octet))?;

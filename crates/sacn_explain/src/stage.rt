@@ -32,7 +32,8 @@ impl Stage {
     /// A node of a setup, of which no frame was shown.
     pub fn new(alloc: Global, setup: &NodeSetup) -> Result<Self, TellFault>
         ensures core { IfOk result (λ s. s.core ≡ new_node setup.now.ports) }
-        ensures ports { IfOk result (λ s. s.ports.items ≡ map unshown (port_numbers setup.now.ports)) }
+        ensures ports { IfOk result
+            (λ s. s.ports.items ≡ map unshown (port_numbers setup.now.ports)) }
     {
         let core = NodeCore::new(alloc, setup)?;
         let ports = ports_of(&core);
@@ -71,8 +72,10 @@ impl Stage {
         teller: &mut Teller<'_, O>,
     ) -> Result<(), TellFault>
         ensures core { self.new.core ≡ step (Tick now) self.old.core }
-        ensures ports { OnOk result (self.new.ports.items ≡ map (port_after self.new.core) self.old.ports.items) }
-        ensures told { OnOk result (Tells O.contents teller.old teller.new (frames_told teller.old.form now (reason_of cause.now) self.new.core self.old.ports.items)) }
+        ensures ports { OnOk result
+            (self.new.ports.items ≡ map (port_after self.new.core) self.old.ports.items) }
+        ensures told { OnOk result (Tells O.contents teller.old teller.new (frames_told
+            teller.old.form now (reason_of cause.now) self.new.core self.old.ports.items)) }
     {
         self.core.tick(now);
         let ports = self.ports.as_mut_slice();
@@ -87,8 +90,10 @@ pub fn start<O: Write>(
     teller: &mut Teller<'_, O>,
 ) -> Result<Stage, TellFault>
     ensures core { IfOk result (λ s. s.core ≡ started_node setup.now.ports) }
-    ensures ports { IfOk result (λ s. s.ports.items ≡ map (port_after (started_node setup.now.ports)) (map unshown (port_numbers setup.now.ports))) }
-    ensures told { OnOk result (Tells O.contents teller.old teller.new (start_told teller.old.form setup.now.ports)) }
+    ensures ports { IfOk result (λ s. s.ports.items ≡ map
+        (port_after (started_node setup.now.ports)) (map unshown (port_numbers setup.now.ports))) }
+    ensures told { OnOk result
+        (Tells O.contents teller.old teller.new (start_told teller.old.form setup.now.ports)) }
 {
     let mut stage = Stage::new(alloc, setup)?;
     stage.show(0, &Cause::Start, teller)?;
@@ -107,7 +112,8 @@ fn show_ports<O: Write>(
     requires settled { core_at now core.old.core ≡ core.old.core }
     ensures core { core.new ≡ core.old }
     ensures ports { OnOk result (ports.new ≡ map (port_after core.old) ports.old) }
-    ensures told { OnOk result (Tells O.contents teller.old teller.new (frames_told teller.old.form now (reason_of cause.now) core.old ports.old)) }
+    ensures told { OnOk result (Tells O.contents teller.old teller.new
+        (frames_told teller.old.form now (reason_of cause.now) core.old ports.old)) }
 {
     for shown in ports.iter_mut() {
         show_port(alloc, core, now, cause, shown, teller)?;
@@ -127,7 +133,8 @@ fn show_port<O: Write>(
     requires settled { core_at now core.old.core ≡ core.old.core }
     ensures core { core.new ≡ core.old }
     ensures shown { OnOk result (shown.new ≡ port_after core.old shown.old) }
-    ensures told { OnOk result (Tells O.contents teller.old teller.new (port_told teller.old.form now (reason_of cause.now) core.old shown.old)) }
+    ensures told { OnOk result (Tells O.contents teller.old teller.new
+        (port_told teller.old.form now (reason_of cause.now) core.old shown.old)) }
 {
     let line = line_of_port(alloc, core, now, shown)?;
     tell_frame(now, shown, cause, line.as_slice(), teller)
@@ -141,7 +148,8 @@ fn tell_frame<O: Write>(
     line: &[u8],
     teller: &mut Teller<'_, O>,
 ) -> Result<(), TellFault>
-    ensures { OnOk result (Tells O.contents teller.old teller.new (frame_told teller.old.form now (reason_of cause.now) shown.now line.now)) }
+    ensures { OnOk result (Tells O.contents teller.old teller.new
+        (frame_told teller.old.form now (reason_of cause.now) shown.now line.now)) }
 {
     if line.is_empty() {
         return Ok(());

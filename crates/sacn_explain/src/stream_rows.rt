@@ -19,7 +19,8 @@ pub fn stream_row(
     moment: u64,
     stream: &Stream,
 ) -> Result<(), AllocError>
-    ensures { OnOk result (string_bytes text.new ≡ string_bytes text.old ++ stream_row form moment stream.now) }
+    ensures { OnOk result
+        (string_bytes text.new ≡ string_bytes text.old ++ stream_row form moment stream.now) }
 {
     match form {
         Form::Text => stream_text(text, moment, stream),
@@ -39,7 +40,8 @@ fn state_word(state: State) -> &'static str
 
 #[tactic(auto, unfolding(crate::specs::StreamRows::stream_text))]
 fn stream_text(text: &mut String, moment: u64, stream: &Stream) -> Result<(), AllocError>
-    ensures { OnOk result (string_bytes text.new ≡ string_bytes text.old ++ stream_text moment stream.now) }
+    ensures { OnOk result
+        (string_bytes text.new ≡ string_bytes text.old ++ stream_text moment stream.now) }
 {
     push_state(text, moment, stream)?;
     push_moments(text, stream)?;
@@ -50,7 +52,8 @@ fn stream_text(text: &mut String, moment: u64, stream: &Stream) -> Result<(), Al
 
 #[tactic(auto, unfolding(crate::specs::StreamRows::state_text))]
 fn push_state(text: &mut String, moment: u64, stream: &Stream) -> Result<(), AllocError>
-    ensures { OnOk result (string_bytes text.new ≡ string_bytes text.old ++ state_text moment stream.now) }
+    ensures { OnOk result
+        (string_bytes text.new ≡ string_bytes text.old ++ state_text moment stream.now) }
 {
     push_universe(text, stream.universe)?;
     push_left(text, state_word(stream.state(moment)), 8)?;
@@ -59,21 +62,24 @@ fn push_state(text: &mut String, moment: u64, stream: &Stream) -> Result<(), All
 
 #[tactic(auto, unfolding(crate::specs::StreamRows::universe_column), using(crate::proofs::Padding::right_is))]
 fn push_universe(text: &mut String, universe: u16) -> Result<(), AllocError>
-    ensures { OnOk result (string_bytes text.new ≡ string_bytes text.old ++ universe_column universe) }
+    ensures { OnOk result
+        (string_bytes text.new ≡ string_bytes text.old ++ universe_column universe) }
 {
     write!(text, "{universe:>8} ")
 }
 
 #[tactic(auto, unfolding(crate::specs::StreamRows::priority_column), using(crate::proofs::Padding::right_is))]
 fn push_priority(text: &mut String, priority: u8) -> Result<(), AllocError>
-    ensures { OnOk result (string_bytes text.new ≡ string_bytes text.old ++ priority_column priority) }
+    ensures { OnOk result
+        (string_bytes text.new ≡ string_bytes text.old ++ priority_column priority) }
 {
     write!(text, " {priority:>8} ")
 }
 
 #[tactic(auto, unfolding(crate::specs::StreamRows::moments_text))]
 fn push_moments(text: &mut String, stream: &Stream) -> Result<(), AllocError>
-    ensures { OnOk result (string_bytes text.new ≡ string_bytes text.old ++ moments_text stream.now) }
+    ensures { OnOk result
+        (string_bytes text.new ≡ string_bytes text.old ++ moments_text stream.now) }
 {
     push_moment(text, stream.account.first)?;
     text.push(' ')?;
@@ -82,7 +88,8 @@ fn push_moments(text: &mut String, stream: &Stream) -> Result<(), AllocError>
 
 #[tactic(auto, unfolding(crate::specs::StreamRows::packet_columns))]
 fn push_packets(text: &mut String, stream: &Stream) -> Result<(), AllocError>
-    ensures { OnOk result (string_bytes text.new ≡ string_bytes text.old ++ packet_columns stream.now) }
+    ensures { OnOk result
+        (string_bytes text.new ≡ string_bytes text.old ++ packet_columns stream.now) }
 {
     let account = &stream.account;
     push_column(text, account.kinds.total())?;
@@ -111,7 +118,8 @@ fn push_place(text: &mut String, stream: &Stream) -> Result<(), AllocError>
 
 #[tactic(auto, unfolding(crate::specs::StreamRows::stream_json))]
 fn stream_json(text: &mut String, moment: u64, stream: &Stream) -> Result<(), AllocError>
-    ensures { OnOk result (string_bytes text.new ≡ string_bytes text.old ++ stream_json moment stream.now) }
+    ensures { OnOk result
+        (string_bytes text.new ≡ string_bytes text.old ++ stream_json moment stream.now) }
 {
     json::begin_row(text, "source")?;
     push_origin(text, stream)?;
@@ -122,7 +130,8 @@ fn stream_json(text: &mut String, moment: u64, stream: &Stream) -> Result<(), Al
 
 #[tactic(auto, unfolding(crate::specs::StreamRows::origin_members))]
 fn push_origin(text: &mut String, stream: &Stream) -> Result<(), AllocError>
-    ensures { OnOk result (string_bytes text.new ≡ string_bytes text.old ++ origin_members stream.now) }
+    ensures { OnOk result
+        (string_bytes text.new ≡ string_bytes text.old ++ origin_members stream.now) }
 {
     json::push_stream(text, stream)?;
     json::push_sender(text, &stream.account.sender)
@@ -130,7 +139,8 @@ fn push_origin(text: &mut String, stream: &Stream) -> Result<(), AllocError>
 
 #[tactic(auto, unfolding(crate::specs::StreamRows::state_members))]
 fn push_state_members(text: &mut String, moment: u64, stream: &Stream) -> Result<(), AllocError>
-    ensures { OnOk result (string_bytes text.new ≡ string_bytes text.old ++ state_members moment stream.now) }
+    ensures { OnOk result
+        (string_bytes text.new ≡ string_bytes text.old ++ state_members moment stream.now) }
 {
     let account = &stream.account;
     json::push_word(text, "state", state_word(stream.state(moment)))?;
@@ -141,7 +151,8 @@ fn push_state_members(text: &mut String, moment: u64, stream: &Stream) -> Result
 
 #[tactic(auto, unfolding(crate::specs::StreamRows::counts_members))]
 fn push_counts(text: &mut String, moment: u64, stream: &Stream) -> Result<(), AllocError>
-    ensures { OnOk result (string_bytes text.new ≡ string_bytes text.old ++ counts_members moment stream.now) }
+    ensures { OnOk result
+        (string_bytes text.new ≡ string_bytes text.old ++ counts_members moment stream.now) }
 {
     push_kinds(text, stream)?;
     push_numbers(text, stream)?;
@@ -150,7 +161,8 @@ fn push_counts(text: &mut String, moment: u64, stream: &Stream) -> Result<(), Al
 
 #[tactic(auto, unfolding(crate::specs::StreamRows::rate_member))]
 fn push_rate(text: &mut String, moment: u64, stream: &Stream) -> Result<(), AllocError>
-    ensures { OnOk result (string_bytes text.new ≡ string_bytes text.old ++ rate_member moment stream.now) }
+    ensures { OnOk result
+        (string_bytes text.new ≡ string_bytes text.old ++ rate_member moment stream.now) }
 {
     let rate = stream.account.rate.last_second(moment);
     json::push_number(text, "last_second", rate)
@@ -158,7 +170,8 @@ fn push_rate(text: &mut String, moment: u64, stream: &Stream) -> Result<(), Allo
 
 #[tactic(auto, unfolding(crate::specs::StreamRows::kinds_members))]
 fn push_kinds(text: &mut String, stream: &Stream) -> Result<(), AllocError>
-    ensures { OnOk result (string_bytes text.new ≡ string_bytes text.old ++ kinds_members stream.now) }
+    ensures { OnOk result
+        (string_bytes text.new ≡ string_bytes text.old ++ kinds_members stream.now) }
 {
     let kinds = &stream.account.kinds;
     json::push_number(text, "live", kinds.live)?;
@@ -169,7 +182,8 @@ fn push_kinds(text: &mut String, stream: &Stream) -> Result<(), AllocError>
 
 #[tactic(auto, unfolding(crate::specs::StreamRows::numbers_members))]
 fn push_numbers(text: &mut String, stream: &Stream) -> Result<(), AllocError>
-    ensures { OnOk result (string_bytes text.new ≡ string_bytes text.old ++ numbers_members stream.now) }
+    ensures { OnOk result
+        (string_bytes text.new ≡ string_bytes text.old ++ numbers_members stream.now) }
 {
     let account = &stream.account;
     json::push_number(text, "skipped", account.skipped)?;

@@ -60,7 +60,8 @@ pub fn tell<O: Write>(
     listings: &Listings,
     report: &Report,
 ) -> Result<(), TellFault>
-    ensures { OnOk result (Tells O.contents teller.old teller.new (tables_told teller.old.form options.now.universes.now monitor.now.streams listings.now.known.items report.now)) }
+    ensures { OnOk result (Tells O.contents teller.old teller.new (tables_told teller.old.form
+        options.now.universes.now monitor.now.streams listings.now.known.items report.now)) }
 {
     let alloc = listings.alloc();
     tell_tables(
@@ -81,7 +82,8 @@ fn tell_tables<O: Write>(
     listings: &[Listing],
     report: &Report,
 ) -> Result<(), TellFault>
-    ensures { OnOk result (Tells O.contents teller.old teller.new (tables_told teller.old.form options.now.universes.now streams.now listings.now report.now)) }
+    ensures { OnOk result (Tells O.contents teller.old teller.new (tables_told teller.old.form
+        options.now.universes.now streams.now listings.now report.now)) }
 {
     tell_streams(teller, options, streams, report.length)?;
     tell_universes(teller, options, streams, report.length)?;
@@ -92,7 +94,8 @@ fn tell_tables<O: Write>(
 
 // The head of a table, for people.
 fn begin_table<O: Write>(teller: &mut Teller<'_, O>, head: &str) -> Result<(), TellFault>
-    ensures { OnOk result (Tells O.contents teller.old teller.new (head_told teller.old.form head.now)) }
+    ensures { OnOk result
+        (Tells O.contents teller.old teller.new (head_told teller.old.form head.now)) }
 {
     match teller.form {
         Form::Text => {
@@ -109,7 +112,8 @@ fn begin_where<O: Write>(
     has_rows: bool,
     head: &str,
 ) -> Result<(), TellFault>
-    ensures { OnOk result (Tells O.contents teller.old teller.new (head_where has_rows teller.old.form head.now)) }
+    ensures { OnOk result
+        (Tells O.contents teller.old teller.new (head_where has_rows teller.old.form head.now)) }
 {
     if !has_rows {
         return Ok(());
@@ -123,7 +127,8 @@ fn tell_streams<O: Write>(
     streams: &[Stream],
     moment: u64,
 ) -> Result<(), TellFault>
-    ensures { OnOk result (Tells O.contents teller.old teller.new (streams_told teller.old.form options.now.universes.now moment streams.now)) }
+    ensures { OnOk result (Tells O.contents teller.old teller.new
+        (streams_told teller.old.form options.now.universes.now moment streams.now)) }
 {
     begin_table(teller, STREAM_HEAD)?;
     for stream in streams {
@@ -139,7 +144,8 @@ fn tell_stream<O: Write>(
     stream: &Stream,
     moment: u64,
 ) -> Result<(), TellFault>
-    ensures { OnOk result (Tells O.contents teller.old teller.new (stream_told teller.old.form options.now.universes.now moment stream.now)) }
+    ensures { OnOk result (Tells O.contents teller.old teller.new
+        (stream_told teller.old.form options.now.universes.now moment stream.now)) }
 {
     if !options.is_wanted(stream.universe) {
         return Ok(());
@@ -154,7 +160,8 @@ fn tell_universes<O: Write>(
     streams: &[Stream],
     moment: u64,
 ) -> Result<(), TellFault>
-    ensures { OnOk result (Tells O.contents teller.old teller.new (universes_told teller.old.form options.now.universes.now moment streams.now)) }
+    ensures { OnOk result (Tells O.contents teller.old teller.new
+        (universes_told teller.old.form options.now.universes.now moment streams.now)) }
 {
     begin_table(teller, UNIVERSE_HEAD)?;
     for place in 0..streams.len() {
@@ -194,7 +201,8 @@ fn tell_place<O: Write>(
     moment: u64,
 ) -> Result<(), TellFault>
     requires { place < length streams.now }
-    ensures { OnOk result (Tells O.contents teller.old teller.new (place_told teller.old.form options.now.universes.now moment streams.now place)) }
+    ensures { OnOk result (Tells O.contents teller.old teller.new
+        (place_told teller.old.form options.now.universes.now moment streams.now place)) }
 {
     if is_told(streams, place) {
         return Ok(());
@@ -211,7 +219,8 @@ fn tell_universe<O: Write>(
     streams: &[Stream],
     moment: u64,
 ) -> Result<(), TellFault>
-    ensures { OnOk result (Tells O.contents teller.old teller.new (universe_told teller.old.form options.now.universes.now moment streams.now universe)) }
+    ensures { OnOk result (Tells O.contents teller.old teller.new
+        (universe_told teller.old.form options.now.universes.now moment streams.now universe)) }
 {
     if !options.is_wanted(universe) {
         return Ok(());
@@ -228,7 +237,8 @@ pub fn tell_listings<O: Write>(
     streams: &[Stream],
     listings: &[Listing],
 ) -> Result<(), TellFault>
-    ensures { OnOk result (Tells O.contents teller.old teller.new (lists_told teller.old.form streams.now listings.now)) }
+    ensures { OnOk result (Tells O.contents teller.old teller.new
+        (lists_told teller.old.form streams.now listings.now)) }
 {
     begin_where(teller, has_lists(listings), LIST_HEAD)?;
     for listing in listings {
@@ -251,7 +261,8 @@ fn tell_list<O: Write>(
     streams: &[Stream],
     listing: &Listing,
 ) -> Result<(), TellFault>
-    ensures { OnOk result (Tells O.contents teller.old teller.new (list_told teller.old.form streams.now listing.now)) }
+    ensures { OnOk result (Tells O.contents teller.old teller.new
+        (list_told teller.old.form streams.now listing.now)) }
 {
     let Some(universes) = &listing.universes else {
         return Ok(());
@@ -269,8 +280,10 @@ fn lists_of<'a>(
     listed: &'a [u16],
 ) -> Result<Lists<'a>, AllocError>
     ensures listed { IfOk result (λ lists. lists.listed.now ≡ listed.now) }
-    ensures silent { IfOk result (λ lists. lists.silent.items ≡ silent streams.now cid.now listed.now) }
-    ensures unlisted { IfOk result (λ lists. lists.unlisted.items ≡ unlisted streams.now cid.now listed.now) }
+    ensures silent { IfOk result
+        (λ lists. lists.silent.items ≡ silent streams.now cid.now listed.now) }
+    ensures unlisted { IfOk result
+        (λ lists. lists.unlisted.items ≡ unlisted streams.now cid.now listed.now) }
 {
     let silent = silent_universes(alloc, streams, cid, listed)?;
     let unlisted = unlisted_universes(alloc, streams, cid, listed)?;
@@ -283,7 +296,8 @@ fn lists_of<'a>(
 
 /// Writes how many datagrams were refused for each fault.
 pub fn tell_refused<O: Write>(teller: &mut Teller<'_, O>, tally: &Tally) -> Result<(), TellFault>
-    ensures { OnOk result (Tells O.contents teller.old teller.new (refusals_told teller.old.form tally.now)) }
+    ensures { OnOk result
+        (Tells O.contents teller.old teller.new (refusals_told teller.old.form tally.now)) }
 {
     tell_faults(teller, tally, &FAULTS)
 }
@@ -293,7 +307,8 @@ fn tell_faults<O: Write>(
     tally: &Tally,
     faults: &[PacketFault],
 ) -> Result<(), TellFault>
-    ensures { OnOk result (Tells O.contents teller.old teller.new (faults_told teller.old.form tally.now faults.now)) }
+    ensures { OnOk result (Tells O.contents teller.old teller.new
+        (faults_told teller.old.form tally.now faults.now)) }
 {
     begin_where(teller, has_refusals(tally, faults), REFUSED_HEAD)?;
     for fault in faults {
@@ -325,7 +340,8 @@ fn tell_fault<O: Write>(
     fault: PacketFault,
     count: u64,
 ) -> Result<(), TellFault>
-    ensures { OnOk result (Tells O.contents teller.old teller.new (refused_told teller.old.form fault count)) }
+    ensures { OnOk result
+        (Tells O.contents teller.old teller.new (refused_told teller.old.form fault count)) }
 {
     if count == 0 {
         return Ok(());
@@ -335,7 +351,8 @@ fn tell_fault<O: Write>(
 }
 
 fn tell_counts<O: Write>(teller: &mut Teller<'_, O>, report: &Report) -> Result<(), TellFault>
-    ensures { OnOk result (Tells O.contents teller.old teller.new (ended (counts_row teller.old.form report.now))) }
+    ensures { OnOk result
+        (Tells O.contents teller.old teller.new (ended (counts_row teller.old.form report.now))) }
 {
     counts_row(&mut teller.line, teller.form, report)?;
     teller.write()

@@ -58,7 +58,8 @@ impl<'o, O: Write> Teller<'o, O> {
 
     /// All that a data packet told.
     pub fn tell_news(&mut self, now: u64, stream: &Stream, news: &News) -> Result<(), TellFault>
-        ensures { OnOk result (Tells O.contents self.old self.new (news_told self.old.form now stream.now news.now)) }
+        ensures { OnOk result
+            (Tells O.contents self.old self.new (news_told self.old.form now stream.now news.now)) }
     {
         self.tell_event(now, stream, news.event)?;
         self.tell_move(now, stream, news.moved)?;
@@ -69,7 +70,8 @@ impl<'o, O: Write> Teller<'o, O> {
     }
 
     fn tell_event(&mut self, now: u64, stream: &Stream, event: Event) -> Result<(), TellFault>
-        ensures { OnOk result (Tells O.contents self.old self.new (event_told self.old.form now stream.now event)) }
+        ensures { OnOk result
+            (Tells O.contents self.old self.new (event_told self.old.form now stream.now event)) }
     {
         if event == Event::GoesOn {
             return Ok(());
@@ -79,7 +81,8 @@ impl<'o, O: Write> Teller<'o, O> {
     }
 
     fn tell_move(&mut self, now: u64, stream: &Stream, has_moved: bool) -> Result<(), TellFault>
-        ensures { OnOk result (Tells O.contents self.old self.new (where_so has_moved (moved_line self.old.form now stream.now))) }
+        ensures { OnOk result (Tells O.contents self.old self.new
+            (where_so has_moved (moved_line self.old.form now stream.now))) }
     {
         if !has_moved {
             return Ok(());
@@ -89,7 +92,8 @@ impl<'o, O: Write> Teller<'o, O> {
     }
 
     fn tell_name(&mut self, now: u64, stream: &Stream, is_renamed: bool) -> Result<(), TellFault>
-        ensures { OnOk result (Tells O.contents self.old self.new (where_so is_renamed (renamed_line self.old.form now stream.now))) }
+        ensures { OnOk result (Tells O.contents self.old self.new
+            (where_so is_renamed (renamed_line self.old.form now stream.now))) }
     {
         if !is_renamed {
             return Ok(());
@@ -104,7 +108,8 @@ impl<'o, O: Write> Teller<'o, O> {
         stream: &Stream,
         change: Option<Change>,
     ) -> Result<(), TellFault>
-        ensures { OnOk result (Tells O.contents self.old self.new (priority_told self.old.form now stream.now change)) }
+        ensures { OnOk result (Tells O.contents self.old self.new
+            (priority_told self.old.form now stream.now change)) }
     {
         let Some(change) = change else {
             return Ok(());
@@ -114,7 +119,8 @@ impl<'o, O: Write> Teller<'o, O> {
     }
 
     fn tell_restart(&mut self, now: u64, stream: &Stream, began_anew: bool) -> Result<(), TellFault>
-        ensures { OnOk result (Tells O.contents self.old self.new (where_so began_anew (anew_line self.old.form now stream.now))) }
+        ensures { OnOk result (Tells O.contents self.old self.new
+            (where_so began_anew (anew_line self.old.form now stream.now))) }
     {
         if !began_anew {
             return Ok(());
@@ -124,7 +130,9 @@ impl<'o, O: Write> Teller<'o, O> {
     }
 
     fn tell_gap(&mut self, now: u64, stream: &Stream, news: &News) -> Result<(), TellFault>
-        ensures { OnOk result (Tells O.contents self.old self.new (where_so (nat_lt 0 news.now.skipped) (skipped_line self.old.form now stream.now news.now.skipped))) }
+        ensures { OnOk result
+            (Tells O.contents self.old self.new (where_so (nat_lt 0 news.now.skipped)
+            (skipped_line self.old.form now stream.now news.now.skipped))) }
     {
         if news.skipped == 0 {
             return Ok(());
@@ -135,7 +143,8 @@ impl<'o, O: Write> Teller<'o, O> {
 
     /// A stream that is lost.
     pub fn tell_loss(&mut self, now: u64, stream: &Stream) -> Result<(), TellFault>
-        ensures { OnOk result (Tells O.contents self.old self.new (ended (loss_line self.old.form now stream.now))) }
+        ensures { OnOk result
+            (Tells O.contents self.old self.new (ended (loss_line self.old.form now stream.now))) }
     {
         loss_line(&mut self.line, self.form, now, stream)?;
         self.write()
@@ -148,7 +157,8 @@ impl<'o, O: Write> Teller<'o, O> {
         sender: &Sender,
         fault: PacketFault,
     ) -> Result<(), TellFault>
-        ensures { OnOk result (Tells O.contents self.old self.new (ended (refused_line self.old.form now sender.now fault))) }
+        ensures { OnOk result (Tells O.contents self.old self.new
+            (ended (refused_line self.old.form now sender.now fault))) }
     {
         refused_line(&mut self.line, self.form, now, sender, fault)?;
         self.write()
@@ -156,7 +166,8 @@ impl<'o, O: Write> Teller<'o, O> {
 
     /// A data packet of a stream for which there is no room.
     pub fn tell_untracked(&mut self, now: u64, sender: &Sender) -> Result<(), TellFault>
-        ensures { OnOk result (Tells O.contents self.old self.new (ended (untracked_line self.old.form now sender.now))) }
+        ensures { OnOk result (Tells O.contents self.old self.new
+            (ended (untracked_line self.old.form now sender.now))) }
     {
         untracked_line(&mut self.line, self.form, now, sender)?;
         self.write()
@@ -170,7 +181,8 @@ impl<'o, O: Write> Teller<'o, O> {
         sources: usize,
         priority: u8,
     ) -> Result<(), TellFault>
-        ensures { OnOk result (Tells O.contents self.old self.new (ended (rivals_line self.old.form now universe sources priority))) }
+        ensures { OnOk result (Tells O.contents self.old self.new
+            (ended (rivals_line self.old.form now universe sources priority))) }
     {
         rivals_line(&mut self.line, self.form, now, universe, sources, priority)?;
         self.write()
@@ -183,7 +195,8 @@ impl<'o, O: Write> Teller<'o, O> {
         event: &str,
         listing: &Listing,
     ) -> Result<(), TellFault>
-        ensures { OnOk result (Tells O.contents self.old self.new (ended (listing_line self.old.form now event.now (kept_list listing.now)))) }
+        ensures { OnOk result (Tells O.contents self.old self.new
+            (ended (listing_line self.old.form now event.now (kept_list listing.now)))) }
     {
         listing_line(&mut self.line, self.form, now, event, listing)?;
         self.write()
@@ -197,7 +210,8 @@ impl<'o, O: Write> Teller<'o, O> {
         cause: &Cause<'_>,
         line: &[u8],
     ) -> Result<(), TellFault>
-        ensures { OnOk result (Tells O.contents self.old self.new (ended (frame_line self.old.form now shown.now (reason_of cause.now)) ++ shown_in self.old.form line.now)) }
+        ensures { OnOk result (Tells O.contents self.old self.new (ended (frame_line self.old.form
+            now shown.now (reason_of cause.now)) ++ shown_in self.old.form line.now)) }
     {
         frame_line(&mut self.line, self.form, now, shown, cause)?;
         self.write()?;
@@ -206,7 +220,8 @@ impl<'o, O: Write> Teller<'o, O> {
 
     // Writes what a node wrote, where it is told for people.
     fn pass(&mut self, line: &[u8]) -> Result<(), TellFault>
-        ensures { string_bytes self.old.line ≡ [] → OnOk result (Tells O.contents self.old self.new (shown_in self.old.form line.now)) }
+        ensures { string_bytes self.old.line ≡ []
+            → OnOk result (Tells O.contents self.old self.new (shown_in self.old.form line.now)) }
     {
         match self.form {
             Form::Text => {

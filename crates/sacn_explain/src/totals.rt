@@ -12,7 +12,8 @@ use std::fmt::Write;
 
 /// All counts of a recording.
 pub fn counts_row(text: &mut String, form: Form, report: &Report) -> Result<(), AllocError>
-    ensures { OnOk result (string_bytes text.new ≡ string_bytes text.old ++ counts_row form report.now) }
+    ensures { OnOk result
+        (string_bytes text.new ≡ string_bytes text.old ++ counts_row form report.now) }
 {
     match form {
         Form::Text => counts_text(text, report),
@@ -58,7 +59,8 @@ fn passed_in(report: &Report) -> u64
 
 #[tactic(auto, unfolding(crate::specs::Totals::counts_text))]
 fn counts_text(text: &mut String, report: &Report) -> Result<(), AllocError>
-    ensures { OnOk result (string_bytes text.new ≡ string_bytes text.old ++ counts_text report.now) }
+    ensures { OnOk result
+        (string_bytes text.new ≡ string_bytes text.old ++ counts_text report.now) }
 {
     push_tally(text, report)?;
     push_frames(text, report)
@@ -79,7 +81,8 @@ fn push_tally(text: &mut String, report: &Report) -> Result<(), AllocError>
 
 #[tactic(auto, unfolding(crate::specs::Totals::frames_text))]
 fn push_frames(text: &mut String, report: &Report) -> Result<(), AllocError>
-    ensures { OnOk result (string_bytes text.new ≡ string_bytes text.old ++ frames_text report.now) }
+    ensures { OnOk result
+        (string_bytes text.new ≡ string_bytes text.old ++ frames_text report.now) }
 {
     push_named(text, "datagrams to other ports", report.other_ports)?;
     push_named(text, "frames without a datagram", passed_in(report))?;
@@ -88,7 +91,8 @@ fn push_frames(text: &mut String, report: &Report) -> Result<(), AllocError>
 
 #[tactic(auto, unfolding(crate::specs::Totals::named_count))]
 fn push_named(text: &mut String, name: &str, count: u64) -> Result<(), AllocError>
-    ensures { OnOk result (string_bytes text.new ≡ string_bytes text.old ++ named_count name.now count) }
+    ensures { OnOk result
+        (string_bytes text.new ≡ string_bytes text.old ++ named_count name.now count) }
 {
     text.push('\n')?;
     push_left(text, name, 30)?;
@@ -97,7 +101,8 @@ fn push_named(text: &mut String, name: &str, count: u64) -> Result<(), AllocErro
 
 #[tactic(auto, unfolding(crate::specs::Totals::counts_json))]
 fn counts_json(text: &mut String, report: &Report) -> Result<(), AllocError>
-    ensures { OnOk result (string_bytes text.new ≡ string_bytes text.old ++ counts_json report.now) }
+    ensures { OnOk result
+        (string_bytes text.new ≡ string_bytes text.old ++ counts_json report.now) }
 {
     json::begin_row(text, "counts")?;
     push_tally_members(text, report)?;
@@ -107,7 +112,8 @@ fn counts_json(text: &mut String, report: &Report) -> Result<(), AllocError>
 
 #[tactic(auto, unfolding(crate::specs::Totals::tally_members))]
 fn push_tally_members(text: &mut String, report: &Report) -> Result<(), AllocError>
-    ensures { OnOk result (string_bytes text.new ≡ string_bytes text.old ++ tally_members report.now) }
+    ensures { OnOk result
+        (string_bytes text.new ≡ string_bytes text.old ++ tally_members report.now) }
 {
     let tally = &report.tally;
     json::push_number(text, "datagrams", tally.datagrams)?;
@@ -120,7 +126,8 @@ fn push_tally_members(text: &mut String, report: &Report) -> Result<(), AllocErr
 
 #[tactic(auto, unfolding(crate::specs::Totals::frames_members))]
 fn push_frames_members(text: &mut String, report: &Report) -> Result<(), AllocError>
-    ensures { OnOk result (string_bytes text.new ≡ string_bytes text.old ++ frames_members report.now) }
+    ensures { OnOk result
+        (string_bytes text.new ≡ string_bytes text.old ++ frames_members report.now) }
 {
     json::push_number(text, "other_ports", report.other_ports)?;
     json::push_number(text, "other_frames", passed_in(report))?;

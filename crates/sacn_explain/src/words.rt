@@ -23,7 +23,8 @@ pub fn begin(text: &mut String, moment: u64) -> Result<(), AllocError>
 /// The front of a stream's line: the moment, the universe and the source.
 #[tactic(auto, unfolding(crate::specs::Sentences::stream_front))]
 pub fn begin_stream(text: &mut String, moment: u64, stream: &Stream) -> Result<(), AllocError>
-    ensures { OnOk result (string_bytes text.new ≡ string_bytes text.old ++ stream_front moment stream.now) }
+    ensures { OnOk result
+        (string_bytes text.new ≡ string_bytes text.old ++ stream_front moment stream.now) }
 {
     begin(text, moment)?;
     push_universe(text, stream.universe)?;
@@ -34,7 +35,8 @@ pub fn begin_stream(text: &mut String, moment: u64, stream: &Stream) -> Result<(
 /// A universe's number, right-aligned in five places.
 #[tactic(auto, unfolding(crate::specs::Sentences::universe_text), using(crate::proofs::Padding::right_is))]
 pub fn push_universe(text: &mut String, universe: u16) -> Result<(), AllocError>
-    ensures { OnOk result (string_bytes text.new ≡ string_bytes text.old ++ universe_text universe) }
+    ensures { OnOk result
+        (string_bytes text.new ≡ string_bytes text.old ++ universe_text universe) }
 {
     write!(text, "universe {universe:>5}  ")
 }
@@ -42,7 +44,8 @@ pub fn push_universe(text: &mut String, universe: u16) -> Result<(), AllocError>
 /// A source: its CID and name.
 #[tactic(auto, unfolding(crate::specs::Sentences::source_text))]
 pub fn push_source(text: &mut String, cid: &[u8; 16], name: &[u8]) -> Result<(), AllocError>
-    ensures { OnOk result (string_bytes text.new ≡ string_bytes text.old ++ source_text cid.now name.now) }
+    ensures { OnOk result
+        (string_bytes text.new ≡ string_bytes text.old ++ source_text cid.now name.now) }
 {
     push_cid(text, cid)?;
     text.push_str(" ")?;
@@ -51,7 +54,8 @@ pub fn push_source(text: &mut String, cid: &[u8; 16], name: &[u8]) -> Result<(),
 
 /// What an event says; nothing where the source goes on.
 pub fn push_event(text: &mut String, event: Event, stream: &Stream) -> Result<(), AllocError>
-    ensures { OnOk result (string_bytes text.new ≡ string_bytes text.old ++ event_words event stream.now) }
+    ensures { OnOk result
+        (string_bytes text.new ≡ string_bytes text.old ++ event_words event stream.now) }
 {
     match event {
         Event::GoesOn => Ok(()),
@@ -65,7 +69,8 @@ pub fn push_event(text: &mut String, event: Event, stream: &Stream) -> Result<()
 
 #[tactic(auto, unfolding(crate::specs::Sentences::presence_words))]
 fn push_presence(text: &mut String, word: &str, stream: &Stream) -> Result<(), AllocError>
-    ensures { OnOk result (string_bytes text.new ≡ string_bytes text.old ++ presence_words word.now stream.now) }
+    ensures { OnOk result
+        (string_bytes text.new ≡ string_bytes text.old ++ presence_words word.now stream.now) }
 {
     text.push_str(word)?;
     text.push_str(" at ")?;
@@ -77,7 +82,8 @@ fn push_presence(text: &mut String, word: &str, stream: &Stream) -> Result<(), A
 /// Where a source sends from now.
 #[tactic(auto, unfolding(crate::specs::Sentences::moved_words))]
 pub fn push_moved(text: &mut String, sender: &Sender) -> Result<(), AllocError>
-    ensures { OnOk result (string_bytes text.new ≡ string_bytes text.old ++ moved_words sender.now) }
+    ensures { OnOk result
+        (string_bytes text.new ≡ string_bytes text.old ++ moved_words sender.now) }
 {
     text.push_str("now sends from ")?;
     push_sender(text, sender)
@@ -105,7 +111,8 @@ pub fn push_priority(text: &mut String, change: Change) -> Result<(), AllocError
 
 #[tactic(auto, unfolding(crate::specs::Sentences::skipped_words))]
 pub fn push_skipped(text: &mut String, news: &News) -> Result<(), AllocError>
-    ensures { OnOk result (string_bytes text.new ≡ string_bytes text.old ++ skipped_words news.now.skipped) }
+    ensures { OnOk result
+        (string_bytes text.new ≡ string_bytes text.old ++ skipped_words news.now.skipped) }
 {
     match news.skipped {
         1 => text.push_str("skipped 1 number"),
@@ -120,7 +127,8 @@ pub fn push_refused(
     sender: &Sender,
     fault: PacketFault,
 ) -> Result<(), AllocError>
-    ensures { OnOk result (string_bytes text.new ≡ string_bytes text.old ++ refused_words sender.now fault) }
+    ensures { OnOk result
+        (string_bytes text.new ≡ string_bytes text.old ++ refused_words sender.now fault) }
 {
     text.push_str("from ")?;
     push_sender(text, sender)?;
@@ -138,7 +146,8 @@ fn push_refusal(text: &mut String, fault: PacketFault) -> Result<(), AllocError>
 /// A packet of a source for which there is no room, and from where it came.
 #[tactic(auto, unfolding(crate::specs::Sentences::untracked_words))]
 pub fn push_untracked(text: &mut String, sender: &Sender) -> Result<(), AllocError>
-    ensures { OnOk result (string_bytes text.new ≡ string_bytes text.old ++ untracked_words sender.now) }
+    ensures { OnOk result
+        (string_bytes text.new ≡ string_bytes text.old ++ untracked_words sender.now) }
 {
     text.push_str("from ")?;
     push_sender(text, sender)?;

@@ -1,14 +1,13 @@
 -- A table's entries beside the members that it stands for.
-use Rattle.std.proofs.Common.{◌≡◌, ℕ, Bool, ◌&&◌, ◌||◌, List, [], ◌∷◌, map, string_bytes, refl, ap, Bor, option_map}
+use Rattle.std.proofs.Common.{◌≡◌, Bool, ◌&&◌, ◌||◌, List, [], ◌∷◌, map, string_bytes, refl, ap, option_map}
 use Rattle.std.specs.List.{list_all, list_any}
-use Rattle.std.specs.Str.{bytes_eq}
 use Rattle.std.specs.Map.{keys_of}
 use Rattle.toml.specs.Data.{Data, string, integer, float, boolean, datetime, array, table, as_array}
 use Rattle.toml.specs.View.{view, members_view, items_view}
 use Rattle.toml.proofs.Views.{Entry}
 use Rattle.toml.specs.declared.value.Value.{Value}
 use Rattle.sacn_files.specs.Values.{keys_in, values_in, array_values}
-use Rattle.sacn_files.specs.Keys.{has_known_keys}
+use Rattle.sacn_files.specs.Keys.{KeyTable, is_known, has_known_keys}
 
 pub keys_in-view : (es : List Entry) → keys_in (members_view es) ≡ map string_bytes (keys_of es)
 keys_in-view [] = refl
@@ -26,9 +25,8 @@ pub list_any-map : {X Y : Type 0} (p : Y → Bool) (f : X → Y) (xs : List X) �
 list_any-map p f [] = refl
 list_any-map p f (x ∷ xs) = ap (λ b. p (f x) || b) (list_any-map p f xs)
 
-pub known_keys : (known : List (Bor (List ℕ))) (es : List Entry)
-    → list_all (λ key. list_any (λ name. bytes_eq name.now (string_bytes key)) known) (keys_of es) ≡ has_known_keys (map (λ k. k.now) known) (members_view es)
-known_keys known es = simp (keys_in-view, list_all-map, list_any-map)
+pub known_keys : (known : KeyTable) (es : List Entry) → list_all (λ key. is_known known (string_bytes key)) (keys_of es) ≡ has_known_keys known (members_view es)
+known_keys known es = simp (keys_in-view, list_all-map)
 
 pub array_values-as_array : (d : Data) → array_values d ≡ option_map values_in (as_array d)
 array_values-as_array (string s) = refl

@@ -11,7 +11,8 @@ use crate::numbers::Numbered;
 pub fn order_rises<T: Numbered>(items: &[T])
     ensures same { IsPermutation items.now (in_order T.number_of items.now) }
     ensures rising { IsNonDecreasingBy T.number_of (in_order T.number_of items.now) }
-    ensures strictly { has_repeat (map T.number_of items.now) ≡ false → IsStrictlyIncreasing (map T.number_of (in_order T.number_of items.now)) }
+    ensures strictly { has_repeat (map T.number_of items.now) ≡ false
+        → IsStrictlyIncreasing (map T.number_of (in_order T.number_of items.now)) }
 {}
 
 /// What the numbers of the files are.

@@ -50,7 +50,8 @@ fn add_line<'a>(
     number: usize,
     text: &'a str,
 ) -> Result<(), AllocError>
-    ensures { OnOk result (map said found.new.items ≡ saying (map said found.old.items) number (words text.now)) }
+    ensures { OnOk result
+        (map said found.new.items ≡ saying (map said found.old.items) number (words text.now)) }
 {
     let words = words(alloc, text)?;
     if !is_skipped(words.as_slice()) {

@@ -30,7 +30,8 @@ pub fn read_rows<R: ReadRow>(
     reader: &R,
     rows: &[Value],
 ) -> Result<Option<Vec<R::Item>>, AllocError>
-    ensures { IfOk result (λ o. option_map (λ v. v.items) o ≡ each (R.reads reader.now) (map view rows.now)) }
+    ensures { IfOk result
+        (λ o. option_map (λ v. v.items) o ≡ each (R.reads reader.now) (map view rows.now)) }
 {
     let mut found = Vec::new(alloc);
     for row in rows {

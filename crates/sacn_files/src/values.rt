@@ -16,7 +16,8 @@ pub fn value_at<'a>(table: &'a Table, key: &str) -> Option<&'a Value>
 
 /// The value at a key of a row; none where the row is no table.
 pub fn value_in<'a>(row: &'a Value, key: &str) -> Option<&'a Value>
-    ensures { option_map (λ v. view v.now) result ≡ get_member key.now (members_or_none (view row.now)) }
+    ensures { option_map (λ v. view v.now) result
+        ≡ get_member key.now (members_or_none (view row.now)) }
 {
     match row.as_table() {
         Some(table) => value_at(table, key),

@@ -16,7 +16,8 @@ use sacn_edge::{Clock, ConsoleReport, Link, count_send, send};
 
 /// Gives the core an order, and its answer to where the order came from. Returns how many were refused, 0 or 1.
 fn give<O: Orders>(orders: &mut O, core: &mut ConsoleCore, now: u64, command: Command) -> u64
-    ensures talk { Extends (O.told orders.old) (O.told orders.new) (Answered (answer command (at now core.old)) ∷ []) }
+    ensures talk { Extends (O.told orders.old) (O.told orders.new)
+        (Answered (answer command (at now core.old)) ∷ []) }
     ensures core { core.new ≡ after_command now command core.old }
     ensures refused { result ≡ (if is_ok (answer command (at now core.old)) then 0 else 1) }
     ensures one { result ≤ 1 }
@@ -28,10 +29,9 @@ fn give<O: Orders>(orders: &mut O, core: &mut ConsoleCore, now: u64, command: Co
 
 /// Gives the core the orders that are there, or as many as a round takes. Returns how many it refused.
 fn order<O: Orders>(orders: &mut O, core: &mut ConsoleCore, now: u64) -> u64
-    ensures given { (ks : List Order) × (length ks ≤ MAX_ORDERS)
-        × Extends (O.told orders.old) (O.told orders.new) (given now ks core.old ++ asked_last now ks)
-        × (core.new ≡ ordered now ks core.old)
-        × (result ≡ refusals now ks core.old) }
+    ensures given { (ks : List Order) × (length ks ≤ MAX_ORDERS) × Extends
+        (O.told orders.old) (O.told orders.new) (given now ks core.old ++ asked_last now ks)
+        × (core.new ≡ ordered now ks core.old) × (result ≡ refusals now ks core.old) }
     ensures few { result ≤ MAX_ORDERS }
 {
     let mut refused = 0;
@@ -53,13 +53,13 @@ fn send_due<L: Link>(
     report: &mut ConsoleReport,
 )
     requires { report.old.sent + report.old.failed < 2 ^ 64 - MAX_POLLS }
-    ensures sent { (n : ℕ) × (handed : Handed) × (0 < n) × (n ≤ MAX_POLLS)
-        × Hands (L.told link.old) (L.told link.new) handed
-        × (datagrams handed ≡ sends now n core.old)
-        × (core.new ≡ polled now n core.old)
-        × (n < MAX_POLLS → due core.new ≡ None)
-        × ((earlier : Handed) (refused : ℕ) → report.old ≡ sends_report earlier refused → report.new ≡ sends_report (earlier ++ handed) refused) }
-    ensures few { report.new.sent + report.new.failed ≤ report.old.sent + report.old.failed + MAX_POLLS }
+    ensures sent { (n : ℕ) × (handed : Handed)
+        × (0 < n) × (n ≤ MAX_POLLS) × Hands (L.told link.old) (L.told link.new) handed
+        × (datagrams handed ≡ sends now n core.old) × (core.new ≡ polled now n core.old)
+        × (n < MAX_POLLS → due core.new ≡ None) × ((earlier : Handed) (refused : ℕ) → report.old
+        ≡ sends_report earlier refused → report.new ≡ sends_report (earlier ++ handed) refused) }
+    ensures few { report.new.sent + report.new.failed
+        ≤ report.old.sent + report.old.failed + MAX_POLLS }
     ensures refused { report.new.refused ≡ report.old.refused }
 {
     for _count in 0..MAX_POLLS {

@@ -24,7 +24,7 @@ fn fault_name(fault: TextFault) -> &'static str {
 }
 
 /// The meaning of a line's words, of which there is one at least.
-fn said_by(words: &[&str], number: usize) -> DeskLine {
+fn said_by(words: &[&str], line_number: usize) -> DeskLine {
     if let [word] = words {
         if *word == "status" {
             return DeskLine::Status;
@@ -36,14 +36,14 @@ fn said_by(words: &[&str], number: usize) -> DeskLine {
             return DeskLine::Quit;
         }
     }
-    match command_of(words, number) {
+    match command_of(words, line_number) {
         Ok(command) => DeskLine::Order(command),
         Err(fault) => DeskLine::Fault(fault_name(fault)),
     }
 }
 
 /// The meaning of a line. One without words, or whose first begins with `#`, says nothing.
-pub(crate) fn line_said(alloc: Global, line: Option<&[u8]>, number: usize) -> DeskLine {
+pub(crate) fn line_said(alloc: Global, line: Option<&[u8]>, line_number: usize) -> DeskLine {
     let Some(octets) = line else {
         return DeskLine::Fault("TooLong");
     };
@@ -59,7 +59,7 @@ pub(crate) fn line_said(alloc: Global, line: Option<&[u8]>, number: usize) -> De
             if word.starts_with('#') {
                 DeskLine::Nothing
             } else {
-                said_by(words.as_slice(), number)
+                said_by(words.as_slice(), line_number)
             }
         }
     }

@@ -60,7 +60,7 @@ pub struct DeskOrders<'a, R, O> {
     ends_with_script: bool,
     source: Source,
     input: TypedInput,
-    number: usize,
+    line_number: usize,
     asks_status: bool,
     closing: Closing,
     // The universes that ran when the end was asked for.
@@ -89,7 +89,7 @@ impl<'a, R: MachineClock, O: Write> DeskOrders<'a, R, O> {
             has_script: plan.script.is_some(),
             source: Source::Script,
             input: TypedInput::new(alloc),
-            number: 0,
+            line_number: 0,
             asks_status: false,
             closing: Closing::Open,
             ending: Vec::with_capacity(alloc, plan.universes.len())?,
@@ -112,7 +112,9 @@ impl<'a, R: MachineClock, O: Write> DeskOrders<'a, R, O> {
     }
 
     fn say_fault(&mut self, name: &str) {
-        if writeln!(self.out, "line {} {name}", self.number).is_err() || self.out.flush().is_err() {
+        if writeln!(self.out, "line {} {name}", self.line_number).is_err()
+            || self.out.flush().is_err()
+        {
             self.write_failed = true;
             self.close();
         }
@@ -148,8 +150,8 @@ impl<'a, R: MachineClock, O: Write> DeskOrders<'a, R, O> {
 
     /// The order of the line that is there; None where it is something else, which is then done.
     fn take_line(&mut self) -> Option<Command> {
-        self.number = self.number.saturating_add(1);
-        let said = line_said(self.alloc, self.input.line.line(), self.number);
+        self.line_number = self.line_number.saturating_add(1);
+        let said = line_said(self.alloc, self.input.line.line(), self.line_number);
         self.input.line.clear();
         match said {
             DeskLine::Order(command) => {

@@ -96,7 +96,8 @@ fn give<N: Notes>(
 )
     ensures grows { Grows changes.old changes.new }
     ensures changed { IsTold changes.new core.old.core core.new.core }
-    ensures core { core.new ≡ step (call_at now (heard_of senders.now emptied now (From sender octets.now))) core.old }
+    ensures core { core.new
+        ≡ step (call_at now (heard_of senders.now emptied now (From sender octets.now))) core.old }
 {
     match why_passed(senders, emptied, now, &sender) {
         None => {
@@ -120,9 +121,12 @@ pub(crate) fn hear<G: Receiver, N: Notes>(
     emptied: u64,
     buffer: &mut [u8; BUFFER_OCTETS],
 ) -> Step
-    ensures told { Extends (G.told receiver.old) (G.told receiver.new) (hearing_in result.now result.arrival buffer.new ∷ []) }
-    ensures core { core.new ≡ step (call_at result.now (heard_of senders.now emptied result.now (came_of result.arrival buffer.new))) core.old }
-    ensures emptied { result.emptied ≡ emptied_with emptied result.now (came_of result.arrival buffer.new) }
+    ensures told { Extends (G.told receiver.old) (G.told receiver.new)
+        (hearing_in result.now result.arrival buffer.new ∷ []) }
+    ensures core { core.new ≡ step (call_at result.now
+        (heard_of senders.now emptied result.now (came_of result.arrival buffer.new))) core.old }
+    ensures emptied { result.emptied
+        ≡ emptied_with emptied result.now (came_of result.arrival buffer.new) }
     ensures grows { Grows changes.old changes.new }
     ensures changed { IsTold changes.new core.old.core core.new.core }
     ensures more { result.is_more ≡ is_datagram (came_of result.arrival buffer.new) }

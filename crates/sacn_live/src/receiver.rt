@@ -40,5 +40,6 @@ pub trait Receiver {
     /// Reads the clock, then receives once, without waiting.
     fn receive(&mut self, buffer: &mut [u8; BUFFER_OCTETS]) -> Receipt
         ensures fits { FitsBuffer result.arrival }
-        ensures told { Extends (told self.old) (told self.new) (hearing_of result buffer.new ∷ []) };
+        ensures told { Extends (told self.old) (told self.new)
+            (hearing_of result buffer.new ∷ []) };
 }

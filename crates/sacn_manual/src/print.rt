@@ -213,7 +213,8 @@ fn push_name(
     command: &Command<'_>,
 ) -> Result<(), AllocError>
     ensures grows { OnOk result (Grows text.old.items text.new.items) }
-    ensures told { OnOk result (IsTold form [] command.now.name.now command.now.about.now text.new.items) }
+    ensures told { OnOk result
+        (IsTold form [] command.now.name.now command.now.about.now text.new.items) }
 {
     let around = around_command(alloc, form, command)?;
     push_told(text, form, &around, "", command.name, command.about)

@@ -32,7 +32,7 @@ is_fresh t a = nat_lt (t - a.latest) NETWORK_DATA_LOSS
 
 -- at t a packet of this number is out of sequence
 abbrev pub is_discarded : ℕ → ℕ → Account → Bool
-is_discarded t number a = is_fresh t a && is_late a.number number
+is_discarded t arrived a = is_fresh t a && is_late a.sequence_number arrived
 
 -- the numbers that lie between two; none where the second seems to lie behind the first
 abbrev pub skipped_by : ℕ → ℕ → ℕ
@@ -40,16 +40,16 @@ skipped_by held arrived = let ahead = (arrived + 256 - held) % 256 in if nat_lt 
 
 -- the numbers that a packet skips that is taken at t
 abbrev pub skipped_at : ℕ → ℕ → Account → ℕ
-skipped_at t number a = if is_fresh t a then skipped_by a.number number else 0
+skipped_at t arrived a = if is_fresh t a then skipped_by a.sequence_number arrived else 0
 
 -- the sender began its numbers anew
 abbrev pub begins_anew : ℕ → ℕ → Account → Bool
-begins_anew t number a = is_fresh t a && int_lt (step a.number number) (pos 0)
+begins_anew t arrived a = is_fresh t a && int_lt (step a.sequence_number arrived) (pos 0)
 
 -- ---- a packet after others
 
 abbrev pub after_discarded : ℕ → Account → Account
-after_discarded number a = if number == a.number then record a { repeats = more 1 a.repeats } else record a { late = more 1 a.late }
+after_discarded arrived a = if arrived == a.sequence_number then record a { repeats = more 1 a.repeats } else record a { late = more 1 a.late }
 
 unfoldable pub after_taken : ℕ → Sender → Data → Account → Account
 after_taken t sender d a = record {
@@ -58,7 +58,7 @@ after_taken t sender d a = record {
   priority = d.priority;
   first = a.first;
   latest = t;
-  number = d.number;
+  sequence_number = d.number;
   ended = d.terminated;
   kinds = counted (kind_of d) a.kinds;
   skipped = more (skipped_at t d.number a) a.skipped;
@@ -78,7 +78,7 @@ first_account t sender d = record {
   priority = d.priority;
   first = t;
   latest = t;
-  number = d.number;
+  sequence_number = d.number;
   ended = d.terminated;
   kinds = counted (kind_of d) no_packets;
   skipped = 0;
@@ -94,7 +94,7 @@ abbrev pub quiet : Event → News
 quiet event = record { event = event; skipped = 0; began_anew = false; priority = None; renamed = false; moved = false }
 
 abbrev pub discarded_event : ℕ → Account → Event
-discarded_event number a = if number == a.number then Repeated else OutOfSequence
+discarded_event arrived a = if arrived == a.sequence_number then Repeated else OutOfSequence
 
 abbrev pub taken_event : ℕ → Bool → Account → Event
 taken_event t true a = if a.ended then GoesOn else Ended

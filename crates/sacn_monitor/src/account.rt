@@ -38,7 +38,7 @@ pub struct Account {
     /// The moment of the latest taken packet.
     pub latest: u64,
     /// The sequence number of the latest taken packet.
-    pub number: u8,
+    pub sequence_number: u8,
     /// Whether the latest taken packet ended the stream.
     pub ended: bool,
     /// The taken packets, by kind.
@@ -69,7 +69,7 @@ impl Account {
             priority: packet.priority(),
             first: moment,
             latest: moment,
-            number: packet.number(),
+            sequence_number: packet.number(),
             ended: packet.terminated(),
             kinds,
             skipped: 0,
@@ -124,17 +124,17 @@ impl Account {
     }
 
     // Whether a packet with this number is out of sequence.
-    fn discards(&self, moment: u64, number: u8) -> bool
-        ensures { result ≡ is_discarded moment number self.now }
+    fn discards(&self, moment: u64, arrived: u8) -> bool
+        ensures { result ≡ is_discarded moment arrived self.now }
     {
-        self.is_fresh(moment) & !in_sequence(self.number, number)
+        self.is_fresh(moment) & !in_sequence(self.sequence_number, arrived)
     }
 
     // The event of a discarded packet.
-    fn discarded_event(&self, number: u8) -> Event
-        ensures { result ≡ discarded_event number self.now }
+    fn discarded_event(&self, arrived: u8) -> Event
+        ensures { result ≡ discarded_event arrived self.now }
     {
-        if number == self.number {
+        if arrived == self.sequence_number {
             Event::Repeated
         } else {
             Event::OutOfSequence
@@ -160,28 +160,28 @@ impl Account {
     }
 
     // The numbers that a taken packet skips.
-    fn skips(&self, moment: u64, number: u8) -> u8
-        ensures { result ≡ skipped_at moment number self.now }
+    fn skips(&self, moment: u64, arrived: u8) -> u8
+        ensures { result ≡ skipped_at moment arrived self.now }
     {
         if self.is_fresh(moment) {
-            skipped(self.number, number)
+            skipped(self.sequence_number, arrived)
         } else {
             0
         }
     }
 
     // Whether a taken packet begins the numbers anew.
-    fn begins_anew(&self, moment: u64, number: u8) -> bool
-        ensures { result ≡ begins_anew moment number self.now }
+    fn begins_anew(&self, moment: u64, arrived: u8) -> bool
+        ensures { result ≡ begins_anew moment arrived self.now }
     {
-        self.is_fresh(moment) & (signed_step(self.number, number) < 0)
+        self.is_fresh(moment) & (signed_step(self.sequence_number, arrived) < 0)
     }
 
     // A packet that is discarded.
-    fn discard(&mut self, number: u8)
-        ensures { self.new ≡ after_discarded number self.old }
+    fn discard(&mut self, arrived: u8)
+        ensures { self.new ≡ after_discarded arrived self.old }
     {
-        if number == self.number {
+        if arrived == self.sequence_number {
             self.repeats = self.repeats.saturating_add(1);
         } else {
             self.late = self.late.saturating_add(1);
@@ -199,7 +199,7 @@ impl Account {
         self.name = fitted(packet.name());
         self.priority = packet.priority();
         self.latest = moment;
-        self.number = packet.number();
+        self.sequence_number = packet.number();
         self.ended = packet.terminated();
         self.kinds.count(packet);
         self.skipped = self.skipped.saturating_add(u64::from(skipped));

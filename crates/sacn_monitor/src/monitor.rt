@@ -141,8 +141,10 @@ impl Monitor {
     // A data packet.
     #[tactic(auto, unfolding(crate::specs::Books::noted_data, crate::specs::Books::after_data))]
     fn hear(&mut self, sender: Sender, packet: &DataView<'_>) -> Noted
-        ensures noted { result ≡ noted_data sender packet.now self.old (place_of packet.now.universe packet.now.cid self.old.streams) }
-        ensures book { self.new ≡ after_data sender packet.now self.old (place_of packet.now.universe packet.now.cid self.old.streams) }
+        ensures noted { result ≡ noted_data sender packet.now self.old
+            (place_of packet.now.universe packet.now.cid self.old.streams) }
+        ensures book { self.new ≡ after_data sender packet.now self.old
+            (place_of packet.now.universe packet.now.cid self.old.streams) }
     {
         match self.place_of(packet.universe(), &packet.cid()) {
             Some(at) => Noted::Heard(at, self.hear_at(at, sender, packet)),
@@ -167,8 +169,13 @@ impl Monitor {
     // A packet of the stream at a place.
     fn hear_at(&mut self, at: usize, sender: Sender, packet: &DataView<'_>) -> News
         requires { at < length self.old.streams }
-        ensures news { (s : Stream) → result ≡ news_of self.old.moment sender packet.now (slice_index_or self.old.streams at s).account }
-        ensures book { (s : Stream) → self.new ≡ record self.old { streams = slice_set self.old.streams at (stream_after self.old.moment sender packet.now (slice_index_or self.old.streams at s)) } }
+        ensures news { (s : Stream) → result ≡ news_of self.old.moment sender packet.now
+            (slice_index_or self.old.streams at s).account }
+        ensures book { (s : Stream)
+            → self.new ≡ record self.old {
+              streams = slice_set self.old.streams at (stream_after
+                  self.old.moment sender packet.now (slice_index_or self.old.streams at s));
+            } }
     {
         let moment = self.moment;
         self.streams[at].hear(moment, sender, packet)
@@ -177,7 +184,10 @@ impl Monitor {
     // A stream whose loss is told.
     fn tell(&mut self, at: usize)
         requires { at < length self.old.streams }
-        ensures { (s : Stream) → self.new ≡ record self.old { streams = slice_set self.old.streams at (told (slice_index_or self.old.streams at s)) } }
+        ensures { (s : Stream)
+            → self.new ≡ record self.old {
+              streams = slice_set self.old.streams at (told (slice_index_or self.old.streams at s));
+            } }
     {
         self.streams[at].told = true;
     }

@@ -9,7 +9,7 @@ use Rattle.sacn_universe.specs.Results.{◌>>=◌}
 use Rattle.sacn_files.specs.declared.limits.TheConstants.{DEFAULT_UDP_PORT, MIN_UDP_PORT, MAX_UDP_PORT}
 use Rattle.sacn_files.specs.declared.faults.FileFault.{FileFault}
 use Rattle.sacn_files.specs.Document.{version_in}
-use Rattle.sacn_files.specs.Keys.{has_known_keys, rows_are_known, rows_have_keys, inner_rows_are_known, inner_rows_have_keys}
+use Rattle.sacn_files.specs.Keys.{KeyTable, has_known_keys, has_keys, rows_are_known, rows_have_keys, inner_rows_are_known, inner_rows_have_keys}
 use Rattle.sacn_files.specs.Values.{rows_at, has_rows, number_in, number_at, array_at, value_or}
 use Rattle.sacn_files.specs.Rows.{each}
 use Rattle.sacn_files.specs.Lines.{before}
@@ -30,15 +30,15 @@ abbrev pub GivesList : {X : Type 0} → Result (Vec X Global) SetupFault → Res
 GivesList (Ok found) wanted = wanted ≡ Ok found.items
 GivesList (Err fault) wanted = (fault ≡ OutOfMemory) ⊎ (wanted ≡ Err fault)
 
--- the keys of each table; each key of a port and of a range is required
-abbrev pub top_keys : List (List ℕ)
-top_keys = codes "version" ∷ codes "udp_port" ∷ codes "port" ∷ []
+-- the keys of each table: those that it must have, and those that it may have
+abbrev pub setup_keys : KeyTable
+setup_keys = record { required = codes "version" ∷ []; optional = codes "udp_port" ∷ codes "port" ∷ [] }
 
-abbrev pub port_keys : ℕ → List (List ℕ)
-port_keys version = if version == 1 then codes "number" ∷ codes "universe" ∷ [] else codes "number" ∷ codes "range" ∷ []
+abbrev pub port_keys : ℕ → KeyTable
+port_keys version = record { required = if version == 1 then codes "number" ∷ codes "universe" ∷ [] else codes "number" ∷ codes "range" ∷ []; optional = [] }
 
-abbrev pub range_keys : List (List ℕ)
-range_keys = codes "universe" ∷ codes "slot" ∷ codes "count" ∷ codes "port_slot" ∷ []
+abbrev pub range_keys : KeyTable
+range_keys = record { required = codes "universe" ∷ codes "slot" ∷ codes "count" ∷ codes "port_slot" ∷ []; optional = [] }
 
 -- the tables of `port`
 abbrev pub port_rows : Members → List Data
@@ -47,13 +47,13 @@ port_rows ms = rows_at (codes "port") ms
 -- no table has another key; version 1 has no tables below a port
 abbrev pub keys_are_known : ℕ → Members → Bool
 keys_are_known version ms =
-    has_known_keys top_keys ms && rows_are_known (port_keys version) (port_rows ms)
+    has_known_keys setup_keys ms && rows_are_known (port_keys version) (port_rows ms)
     && ((version == 1) || inner_rows_are_known (codes "range") range_keys (port_rows ms))
 
 -- each required key is there
 abbrev pub keys_are_there : ℕ → Members → Bool
 keys_are_there version ms =
-    rows_have_keys (port_keys version) (port_rows ms)
+    has_keys setup_keys ms && rows_have_keys (port_keys version) (port_rows ms)
     && ((version == 1) || inner_rows_have_keys (codes "range") range_keys (port_rows ms))
 
 abbrev pub universe_at : Data → Option ℕ

@@ -67,7 +67,9 @@ impl NodeCore {
     /// every other datagram moves the clock alone.
     pub fn take(&mut self, now: u64, octets: &[u8]) -> NodeTaken
         ensures answer { result ≡ reply_to (reading_packet octets.now) now self.old.core }
-        ensures core { self.new ≡ record self.old { core = after_reading (reading_packet octets.now) now self.old.core } }
+        ensures core { self.new ≡ record self.old {
+          core = after_reading (reading_packet octets.now) now self.old.core;
+        } }
     {
         match read_packet(octets) {
             Ok(Packet::DataPacket(packet)) => self.tables.take(now, &packet),
@@ -91,8 +93,11 @@ impl NodeCore {
     pub fn take_and_tell(&mut self, now: u64, octets: &[u8]) -> NodeChange
         ensures taken { result.taken ≡ reply_to (reading_packet octets.now) now self.old.core }
         ensures lost { result.lost ≡ core_lost now self.old.core }
-        ensures universe { result.universe ≡ universe_changed (reading_packet octets.now) now self.old.core }
-        ensures core { self.new ≡ record self.old { core = after_reading (reading_packet octets.now) now self.old.core } }
+        ensures universe { result.universe
+            ≡ universe_changed (reading_packet octets.now) now self.old.core }
+        ensures core { self.new ≡ record self.old {
+          core = after_reading (reading_packet octets.now) now self.old.core;
+        } }
     {
         match read_packet(octets) {
             Ok(Packet::DataPacket(packet)) => self.tables.take_and_tell(now, &packet),

@@ -144,8 +144,10 @@ fn whole_range(ranges: &[SlotRange]) -> Option<SlotRange>
 fn show_range(tables: &mut Tables, range: SlotRange, frame: &mut [u8; FRAME_OCTETS])
     requires expired { core_at tables.old.moment tables.old ≡ tables.old }
     requires range { IsShown range }
-    ensures inside { (i : ℕ) → covers i range ≡ true → slice_index frame.new i ≡ level_in (core_slots tables.old) i range }
-    ensures outside { (i : ℕ) → covers i range ≡ false → slice_index frame.new i ≡ slice_index frame.old i }
+    ensures inside { (i : ℕ) → covers i range ≡ true
+        → slice_index frame.new i ≡ level_in (core_slots tables.old) i range }
+    ensures outside { (i : ℕ) → covers i range ≡ false
+        → slice_index frame.new i ≡ slice_index frame.old i }
     ensures core { tables.new ≡ tables.old }
 {
     let to = usize::from(range.port_slot);

@@ -84,18 +84,23 @@ impl Tables {
 
     /// Takes a data packet.
     pub(crate) fn take(&mut self, now: u64, packet: &DataView<'_>) -> NodeTaken
-        ensures answer { result ≡ core_reply packet.now.universe (packet_of packet.now) now self.old }
-        ensures core { self.new ≡ core_after packet.now.universe (packet_of packet.now) now self.old }
+        ensures answer { result
+            ≡ core_reply packet.now.universe (packet_of packet.now) now self.old }
+        ensures core { self.new
+            ≡ core_after packet.now.universe (packet_of packet.now) now self.old }
     {
         self.take_and_tell(now, packet).taken
     }
 
     /// Takes a data packet, and says what it may have changed.
     pub(crate) fn take_and_tell(&mut self, now: u64, packet: &DataView<'_>) -> NodeChange
-        ensures taken { result.taken ≡ core_reply packet.now.universe (packet_of packet.now) now self.old }
+        ensures taken { result.taken
+            ≡ core_reply packet.now.universe (packet_of packet.now) now self.old }
         ensures lost { result.lost ≡ core_lost now self.old }
-        ensures universe { result.universe ≡ universe_by packet.now.universe (core_reply packet.now.universe (packet_of packet.now) now self.old) }
-        ensures core { self.new ≡ core_after packet.now.universe (packet_of packet.now) now self.old }
+        ensures universe { result.universe ≡ universe_by packet.now.universe
+            (core_reply packet.now.universe (packet_of packet.now) now self.old) }
+        ensures core { self.new
+            ≡ core_after packet.now.universe (packet_of packet.now) now self.old }
     {
         let lost = self.expire(now);
         let universe = packet.universe();
@@ -132,7 +137,8 @@ impl Tables {
     pub(crate) fn slots(&mut self, universe: u16, from: usize, part: &mut [u8])
         requires expired { core_at self.old.moment self.old ≡ self.old }
         requires within { from + length part.old ≤ SLOTS }
-        ensures part { part.new ≡ take (length part.old) (drop from (core_slots self.old universe)) }
+        ensures part { part.new
+            ≡ take (length part.old) (drop from (core_slots self.old universe)) }
         ensures core { self.new ≡ self.old }
     {
         match self.search(universe) {
@@ -156,8 +162,13 @@ impl Tables {
     /// Takes a packet into the table at this place.
     fn take_at(&mut self, at: usize, packet: &DataView<'_>) -> Taken
         requires { at < length self.old.tables }
-        ensures answer { (d : Table) → result ≡ taken (packet_of packet.now) (rows_kept self.old.moment (slice_index_or self.old.tables at d).rows) }
-        ensures core { (d : Table) → self.new ≡ record self.old { tables = slice_set self.old.tables at (with_taken (packet_of packet.now) self.old.moment (slice_index_or self.old.tables at d)) } }
+        ensures answer { (d : Table) → result ≡ taken (packet_of packet.now)
+            (rows_kept self.old.moment (slice_index_or self.old.tables at d).rows) }
+        ensures core { (d : Table)
+            → self.new ≡ record self.old {
+              tables = slice_set self.old.tables at (with_taken
+                  (packet_of packet.now) self.old.moment (slice_index_or self.old.tables at d));
+            } }
     {
         let moment = self.moment;
         self.list[at].table.take(moment, packet)
@@ -167,8 +178,13 @@ impl Tables {
     fn slots_at(&mut self, at: usize, from: usize, part: &mut [u8])
         requires there { at < length self.old.tables }
         requires within { from + length part.old ≤ SLOTS }
-        ensures part { (d : Table) → part.new ≡ take (length part.old) (drop from (slots_of (rows_kept self.old.moment (slice_index_or self.old.tables at d).rows))) }
-        ensures core { (d : Table) → self.new ≡ record self.old { tables = slice_set self.old.tables at (with_kept self.old.moment (slice_index_or self.old.tables at d)) } }
+        ensures part { (d : Table) → part.new ≡ take (length part.old) (drop from
+            (slots_of (rows_kept self.old.moment (slice_index_or self.old.tables at d).rows))) }
+        ensures core { (d : Table)
+            → self.new ≡ record self.old {
+              tables = slice_set self.old.tables at
+                  (with_kept self.old.moment (slice_index_or self.old.tables at d));
+            } }
     {
         let moment = self.moment;
         self.list[at].table.merged_part(moment, from, part);
@@ -176,9 +192,13 @@ impl Tables {
 
     /// Where the table of a universe is, or where it would go.
     fn search(&self, universe: u16) -> Result<usize, usize>
-        ensures found { IfOk result (λ at. (at < length self.now.tables) × ((d : Table) → (slice_index_or self.now.tables at d).universe ≡ universe) × ((j : ℕ) (d : Table) → j < at → (slice_index_or self.now.tables j d).universe < universe)) }
+        ensures found { IfOk result (λ at. (at < length self.now.tables)
+            × ((d : Table) → (slice_index_or self.now.tables at d).universe ≡ universe) × ((j : ℕ)
+            (d : Table) → j < at → (slice_index_or self.now.tables j d).universe < universe)) }
         ensures gap { IfErr result (λ at. at ≤ length self.now.tables) }
-        ensures absent { IfErr result (λ at. (j : ℕ) (d : Table) → j < length self.now.tables → (j < at → (slice_index_or self.now.tables j d).universe < universe) × (at ≤ j → universe < (slice_index_or self.now.tables j d).universe)) }
+        ensures absent { IfErr result (λ at. (j : ℕ) (d : Table) → j < length self.now.tables
+            → (j < at → (slice_index_or self.now.tables j d).universe < universe)
+            × (at ≤ j → universe < (slice_index_or self.now.tables j d).universe)) }
     {
         self.list.binary_search_by_key(
             &universe,

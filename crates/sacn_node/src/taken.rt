@@ -34,7 +34,8 @@ pub struct NodeChange {
 
 /// What a data packet of a universe did, that became this.
 pub(crate) fn change_by(taken: NodeTaken, lost: usize, universe: u16) -> NodeChange
-    ensures { result ≡ record { taken = taken; lost = lost; universe = universe_by universe taken } }
+    ensures { result
+        ≡ record { taken = taken; lost = lost; universe = universe_by universe taken } }
 {
     NodeChange {
         taken,

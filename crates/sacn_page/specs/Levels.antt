@@ -2,12 +2,12 @@
 use Rattle.std.specs.Prelude.{ℕ, List, replicate}
 use Rattle.sacn_sources.specs.Kept.{Kept, new_kept}
 
--- its number, its sources as a node holds them, and the levels that are shown
+-- which it is, its sources as a node holds them, and the levels that are shown
 pub record Lit : Type 0 where
-  pub number : ℕ
+  pub universe : ℕ
   pub sources : Kept
   pub shown : List ℕ
 
 -- a universe of which nothing was heard
 abbrev pub nothing_lit : ℕ → Lit
-nothing_lit number = record { number = number; sources = new_kept; shown = replicate 512 0 }
+nothing_lit universe = record { universe = universe; sources = new_kept; shown = replicate 512 0 }

@@ -53,7 +53,8 @@ impl Board {
     ///
     /// Errors: OutOfMemory.
     pub fn take(&mut self, now: u64, sender: Sender, octets: &[u8]) -> Result<(), AllocError>
-        ensures taken { OnOk result (IsTaken now sender octets.now self.old.monitor self.new.monitor) }
+        ensures taken { OnOk result
+            (IsTaken now sender octets.now self.old.monitor self.new.monitor) }
     {
         self.tick(now)?;
         match self.monitor.take(now, sender, octets) {
@@ -136,27 +137,27 @@ impl Board {
     }
 
     /// A universe as it is merged, where it is.
-    pub fn lit(&self, number: u16) -> Option<&LitUniverse> {
-        self.lit.iter().find(|lit| lit.number() == number)
+    pub fn lit(&self, universe: u16) -> Option<&LitUniverse> {
+        self.lit.iter().find(|lit| lit.universe() == universe)
     }
 
     /// Sees to it that a universe is merged from now on, in place of one that isn't among those that are looked at. Returns
     /// whether there is room for it.
     ///
     /// Errors: OutOfMemory.
-    pub fn open(&mut self, number: u16, watched: &[u16]) -> Result<bool, AllocError>
+    pub fn open(&mut self, universe: u16, watched: &[u16]) -> Result<bool, AllocError>
         ensures monitor { self.new.monitor ≡ self.old.monitor }
     {
-        if self.lit(number).is_some() {
+        if self.lit(universe).is_some() {
             return Ok(true);
         }
         if self.lit.len() < MAX_LIT {
-            self.lit.push(unlit_universe(self.alloc, number)?)?;
+            self.lit.push(unlit_universe(self.alloc, universe)?)?;
             return Ok(true);
         }
         for lit in self.lit.iter_mut() {
-            if !watched.contains(&lit.number()) {
-                *lit = unlit_universe(self.alloc, number)?;
+            if !watched.contains(&lit.universe()) {
+                *lit = unlit_universe(self.alloc, universe)?;
                 return Ok(true);
             }
         }
@@ -168,7 +169,7 @@ impl Board {
         ensures monitor { self.new.monitor ≡ self.old.monitor }
     {
         for lit in self.lit.iter_mut() {
-            if watched.contains(&lit.number()) {
+            if watched.contains(&lit.universe()) {
                 lit.refresh(now, self.monitor.streams());
             }
         }
@@ -237,12 +238,12 @@ impl Board {
     fn light(&mut self, now: u64, packet: &DataView<'_>) -> Result<(), AllocError>
         ensures monitor { self.new.monitor ≡ self.old.monitor }
     {
-        let number = packet.universe();
-        if self.lit(number).is_none() && self.lit.len() < MAX_LIT {
-            self.lit.push(unlit_universe(self.alloc, number)?)?;
+        let universe = packet.universe();
+        if self.lit(universe).is_none() && self.lit.len() < MAX_LIT {
+            self.lit.push(unlit_universe(self.alloc, universe)?)?;
         }
         for lit in self.lit.iter_mut() {
-            if lit.number() == number {
+            if lit.universe() == universe {
                 lit.take(now, packet);
             }
         }
@@ -258,8 +259,8 @@ fn loss_by(now: u64, loss: u64) -> Option<u64>
 }
 
 // A universe of which nothing was heard.
-fn unlit_universe(alloc: Global, number: u16) -> Result<LitUniverse, AllocError> {
-    match LitUniverse::new(alloc, number) {
+fn unlit_universe(alloc: Global, universe: u16) -> Result<LitUniverse, AllocError> {
+    match LitUniverse::new(alloc, universe) {
         Ok(lit) => Ok(lit),
         Err(_) => Err(AllocError),
     }

@@ -15,7 +15,7 @@ use std::marker::Model;
 /// A universe with the sources that light it, merged as a node merges them.
 #[derive(Drop)]
 pub struct LitUniverse {
-    number: u16,
+    universe: u16,
     table: SourceTable,
     levels: [u8; SLOTS],
     winners: [u16; SLOTS],
@@ -26,32 +26,32 @@ impl Model for LitUniverse {
 
     ghost Value = { Lit };
 
-    ghost view = { λ u. record { number = u.number; sources = u.table; shown = u.levels } };
+    ghost view = { λ u. record { universe = u.universe; sources = u.table; shown = u.levels } };
 }
 
 impl LitUniverse {
     ghost use Rattle.sacn_page.specs.Levels.{nothing_lit};
     ghost use Rattle.std.specs.Prelude.{IfOk};
 
-    /// A universe of this number, of which nothing was heard.
+    /// This universe, of which nothing was heard.
     ///
     /// Errors: OutOfMemory.
-    pub fn new(alloc: Global, number: u16) -> Result<Self, TableFault>
-        ensures { IfOk result (λ u. u ≡ nothing_lit number) }
+    pub fn new(alloc: Global, universe: u16) -> Result<Self, TableFault>
+        ensures { IfOk result (λ u. u ≡ nothing_lit universe) }
     {
         Ok(LitUniverse {
-            number,
+            universe,
             table: SourceTable::new(alloc)?,
             levels: [0; SLOTS],
             winners: [0; SLOTS],
         })
     }
 
-    /// Its number, 1 to 63999 (E1.31, 6.2.7).
-    pub fn number(&self) -> u16
-        ensures { result ≡ self.now.number }
+    /// Which universe, 1 to 63999 (E1.31, 6.2.7).
+    pub fn universe(&self) -> u16
+        ensures { result ≡ self.now.universe }
     {
-        self.number
+        self.universe
     }
 
     /// The levels of its slots at the latest call of `refresh`.
@@ -68,7 +68,9 @@ impl LitUniverse {
 
     /// Takes a packet of this universe.
     pub fn take(&mut self, now: u64, packet: &DataView<'_>)
-        ensures { self.new ≡ record self.old { sources = kept_after_take now (packet_of packet.now) self.old.sources } }
+        ensures { self.new ≡ record self.old {
+          sources = kept_after_take now (packet_of packet.now) self.old.sources;
+        } }
     {
         let _ = self.table.take(now, packet);
     }
@@ -78,25 +80,25 @@ impl LitUniverse {
     pub fn refresh(&mut self, now: u64, streams: &[Stream])
         ensures levels { self.new.shown ≡ slots_of (after_expire now self.old.sources.table).rows }
         ensures sources { self.new.sources ≡ kept_after_merged now self.old.sources }
-        ensures number { self.new.number ≡ self.old.number }
+        ensures universe { self.new.universe ≡ self.old.universe }
     {
         self.table.merged(now, &mut self.levels);
-        self.winners = winners_of(&self.table, self.number, &self.levels, streams);
+        self.winners = winners_of(&self.table, self.universe, &self.levels, streams);
     }
 }
 
 // For each slot the place plus one of the first source that gives it its level.
 fn winners_of(
     table: &SourceTable,
-    number: u16,
+    universe: u16,
     levels: &[u8; SLOTS],
     streams: &[Stream],
 ) -> [u16; SLOTS] {
     let mut winners = [0; SLOTS];
-    let top = top_priority(table, number, streams);
+    let top = top_priority(table, universe, streams);
     for (place, stream) in streams.iter().enumerate() {
         if let Ok(mark) = u16::try_from(place.saturating_add(1)) {
-            if stream.universe == number {
+            if stream.universe == universe {
                 claim(table, &stream.cid, top, mark, levels, &mut winners);
             }
         }
@@ -105,10 +107,10 @@ fn winners_of(
 }
 
 // The highest priority of the sources that light a universe.
-fn top_priority(table: &SourceTable, number: u16, streams: &[Stream]) -> u8 {
+fn top_priority(table: &SourceTable, universe: u16, streams: &[Stream]) -> u8 {
     let mut top = 0;
     for stream in streams {
-        if stream.universe == number {
+        if stream.universe == universe {
             if let Some(held) = table.held(&stream.cid) {
                 top = top.max(held.priority());
             }

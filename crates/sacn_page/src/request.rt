@@ -123,7 +123,8 @@ fn decide(asked: Result<Asked, Refusal>) -> Reading
 
 // What a whole head asks for.
 fn asked_by(request: &Request<'_, '_>, hosts: &Hosts) -> Result<Asked, Refusal>
-    ensures own { OnOk result (IsTrue (is_own hosts.now (map header_parts request.now.headers.now))) }
+    ensures own { OnOk result
+        (IsTrue (is_own hosts.now (map header_parts request.now.headers.now))) }
     ensures method { OnOk result (option_copied request.now.method ≡ Some (codes "GET")) }
 {
     let fields: &[Header<'_>] = request.headers;

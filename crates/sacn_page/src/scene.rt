@@ -64,7 +64,7 @@ pub trait Scene {
     /// Sees to it that a universe is merged from now on, and returns whether there is room for it beside those that are looked at.
     ///
     /// Errors: OutOfMemory.
-    fn open(&mut self, number: u16, watched: &[u16]) -> Result<bool, AllocError>;
+    fn open(&mut self, universe: u16, watched: &[u16]) -> Result<bool, AllocError>;
 
     /// Merges anew the universes that are looked at.
     fn refresh(&mut self, now: u64, watched: &[u16]);
@@ -102,8 +102,8 @@ impl Scene for Board {
         self
     }
 
-    fn open(&mut self, number: u16, watched: &[u16]) -> Result<bool, AllocError> {
-        self.open(number, watched)
+    fn open(&mut self, universe: u16, watched: &[u16]) -> Result<bool, AllocError> {
+        self.open(universe, watched)
     }
 
     fn refresh(&mut self, now: u64, watched: &[u16]) {

@@ -83,7 +83,8 @@ impl FlatPatch {
     /// Writes the slots of a universe as `fill` does, of levels whose octets stand in one row: those of
     /// channel c at 2 c and 2 c + 1, the high one first, and none or 0 outside the channels.
     pub fn fill_octets(&self, universe: u16, octets: &[u8], slots: &mut [u8; SLOTS])
-        ensures { (level : ℕ → ℕ) → AreOctets level octets.now → slots.new ≡ universe_frame level self.now universe }
+        ensures { (level : ℕ → ℕ) → AreOctets level octets.now
+            → slots.new ≡ universe_frame level self.now universe }
     {
         slots.fill(0);
         let row = self.row.as_slice();

@@ -65,7 +65,8 @@ impl Patch {
     ) -> Result<(), PatchFault>
         ensures added { OnOk result (self.new ≡ with_slot self.old channel universe slot wide) }
         ensures accepted { OnOk result (refusal self.old channel universe slot wide ≡ None) }
-        ensures refused { IfErr result (λ fault. fault ≡ unwrap_or (refusal self.old channel universe slot wide) OutOfMemory) }
+        ensures refused { IfErr result
+            (λ fault. fault ≡ unwrap_or (refusal self.old channel universe slot wide) OutOfMemory) }
         ensures unchanged { OnErr result (self.new ≡ self.old) }
     {
         if let Some(fault) = self.refusal(channel, universe, slot, wide) {
@@ -143,7 +144,8 @@ impl Patch {
     fn put_wide(&mut self, channel: u16, universe: u16, slot: u16) -> Result<(), AllocError>
         requires free { map.get self.old (universe, slot) ≡ None }
         requires next { slot < SLOTS }
-        ensures put { OnOk result (self.new ≡ map.insert (map.insert self.old (universe, slot) (high_part channel)) (universe, slot + 1) (low_part channel)) }
+        ensures put { OnOk result (self.new ≡ map.insert (map.insert self.old (universe, slot)
+            (high_part channel)) (universe, slot + 1) (low_part channel)) }
         ensures unchanged { OnErr result (self.new ≡ self.old) }
     {
         self.put(universe, slot, high_part(channel))?;

@@ -6,7 +6,7 @@ use Rattle.toml.specs.Data.{Data, Members, get_member, as_table}
 use Rattle.sacn_universe.specs.Results.{◌>>=◌}
 use Rattle.sacn_files.specs.declared.faults.FileFault.{FileFault}
 use Rattle.sacn_files.specs.Document.{version_in}
-use Rattle.sacn_files.specs.Keys.{has_known_keys, rows_are_known, rows_have_keys}
+use Rattle.sacn_files.specs.Keys.{KeyTable, has_known_keys, has_keys, rows_are_known, rows_have_keys}
 use Rattle.sacn_files.specs.Lines.{before}
 use Rattle.sacn_files.specs.Values.{rows_at, has_rows, number_in, members_or_none, value_or}
 use Rattle.sacn_console.specs.Shows.{ShowContent}
@@ -26,9 +26,15 @@ use Rattle.sacn_schedule.specs.Reads.{GivesAs}
 abbrev pub WorldContent : Type 0
 WorldContent = List Desk × List Setup
 
--- the keys of each table; `first` alone isn't required of a member
-abbrev pub top_keys : List (List ℕ)
-top_keys = codes "version" ∷ codes "console" ∷ codes "node" ∷ []
+-- the keys of each table: those that it must have, and those that it may have
+abbrev pub world_keys : KeyTable
+world_keys = record { required = codes "version" ∷ []; optional = codes "console" ∷ codes "node" ∷ [] }
+
+abbrev pub console_keys : KeyTable
+console_keys = record { required = codes "show" ∷ []; optional = codes "first" ∷ [] }
+
+abbrev pub node_keys : KeyTable
+node_keys = record { required = codes "setup" ∷ []; optional = [] }
 
 abbrev pub console_rows : Members → List Data
 console_rows ms = rows_at (codes "console") ms
@@ -39,12 +45,11 @@ node_rows ms = rows_at (codes "node") ms
 -- no table has another key
 abbrev pub keys_are_known : Members → Bool
 keys_are_known ms =
-    has_known_keys top_keys ms
-    && (rows_are_known (codes "first" ∷ codes "show" ∷ []) (console_rows ms) && rows_are_known (codes "setup" ∷ []) (node_rows ms))
+    has_known_keys world_keys ms && (rows_are_known console_keys (console_rows ms) && rows_are_known node_keys (node_rows ms))
 
 -- each required key is there
 abbrev pub keys_are_there : Members → Bool
-keys_are_there ms = rows_have_keys (codes "show" ∷ []) (console_rows ms) && rows_have_keys (codes "setup" ∷ []) (node_rows ms)
+keys_are_there ms = has_keys world_keys ms && (rows_have_keys console_keys (console_rows ms) && rows_have_keys node_keys (node_rows ms))
 
 -- the first number of a console; the table that has to stand at a key
 abbrev pub first_of : Data → Option ℕ

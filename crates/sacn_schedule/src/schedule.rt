@@ -73,8 +73,10 @@ fn events_of(alloc: Global, text: &str) -> Result<Vec<Event>, TextFault>
 #[tactic(auto, using(crate::proofs::FirstFaults::each_given, crate::proofs::FirstFaults::fault_given))]
 pub fn read_schedule(alloc: Global, text: &str) -> Result<Vec<Event>, TextFault>
     ensures exact { GivesEvents result (schedule_in text.now) }
-    ensures each { IfOk result (λ events. AreGiven (said_lines text.now) (map happening events.items)) }
-    ensures first { IfErr result (λ fault. (fault ≡ TextFault.OutOfMemory) ⊎ IsFirstFault fault (said_lines text.now)) }
+    ensures each { IfOk result
+        (λ events. AreGiven (said_lines text.now) (map happening events.items)) }
+    ensures first { IfErr result
+        (λ fault. (fault ≡ TextFault.OutOfMemory) ⊎ IsFirstFault fault (said_lines text.now)) }
 {
     events_of(alloc, text)
 }

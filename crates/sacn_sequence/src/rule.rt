@@ -32,7 +32,8 @@ pub fn in_sequence(held: u8, arrived: u8) -> bool
     // the standard's own words
     ensures discarded { (result ≡ false) ↔ IsOutOfSequence held arrived }
     // the same in numbers that do not go below 0
-    ensures ahead { IsTrue result ↔ (1 ≤ (arrived + 256 - held) % 256) × ((arrived + 256 - held) % 256 ≤ 236) }
+    ensures ahead { IsTrue result
+        ↔ (1 ≤ (arrived + 256 - held) % 256) × ((arrived + 256 - held) % 256 ≤ 236) }
 {
     let step = signed_step(held, arrived);
     step <= LATE_ABOVE || 0 < step

@@ -30,10 +30,10 @@ impl Block {
     /// Each slot of the block, raised to the level that stands there; the first one's is at `at`.
     pub(crate) fn raised(self, levels: &[u8; SLOTS], at: usize) -> Self
         requires { at + BLOCK ≤ SLOTS }
-        ensures low { (i : ℕ) → i < LANES →
-            slice_index result.low i ≡ max (slice_index self.low i) (slice_index levels.now (at + i)) }
-        ensures high { (i : ℕ) → i < LANES →
-            slice_index result.high i ≡ max (slice_index self.high i) (slice_index levels.now (at + LANES + i)) }
+        ensures low { (i : ℕ) → i < LANES → slice_index result.low i
+            ≡ max (slice_index self.low i) (slice_index levels.now (at + i)) }
+        ensures high { (i : ℕ) → i < LANES → slice_index result.high i
+            ≡ max (slice_index self.high i) (slice_index levels.now (at + LANES + i)) }
     {
         Block {
             low: raised_to(self.low, levels, at),

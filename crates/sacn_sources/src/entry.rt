@@ -33,7 +33,8 @@ pub(crate) fn oldest_entry(entries: &[Entry]) -> u64
 /// The place of an entry of this CID, if there is one.
 pub(crate) fn place_of(entries: &[Entry], cid: &[u8; 16]) -> Option<usize>
     ensures within { IfSome result (λ at. at < length entries.now) }
-    ensures here { IfSome result (λ at. (d : Stored) → (slice_index_or entries.now at d).cid ≡ cid.now) }
+    ensures here { IfSome result
+        (λ at. (d : Stored) → (slice_index_or entries.now at d).cid ≡ cid.now) }
 {
     for at in 0..entries.len() {
         if is_of(&entries[at], cid) {
@@ -61,7 +62,8 @@ pub(crate) fn entry_at(entries: &ArrayVec<Entry, MAX_SOURCES>, at: usize) -> &En
 /// Writes the number of the entry at this place, and nothing else.
 pub(crate) fn renumber(entries: &mut ArrayVec<Entry, MAX_SOURCES>, at: usize, sequence_number: u8)
     requires { at < array_vec_len entries.old }
-    ensures { (d : Stored) → entries.new.items ≡ slice_set entries.old.items at (record (slice_index_or entries.old.items at d) { sequence_number = sequence_number }) }
+    ensures { (d : Stored) → entries.new.items ≡ slice_set entries.old.items at
+        (record (slice_index_or entries.old.items at d) { sequence_number = sequence_number }) }
 {
     entries[at].sequence_number = sequence_number;
 }
@@ -76,7 +78,12 @@ pub(crate) fn renew(
 ) -> usize
     requires { at < array_vec_len entries.old }
     ensures key { (d : Stored) → result ≡ (slice_index_or entries.old.items at d).key }
-    ensures entries { (d : Stored) → entries.new.items ≡ slice_set entries.old.items at (record (slice_index_or entries.old.items at d) { sequence_number = sequence_number; priority = priority; moment = moment }) }
+    ensures entries { (d : Stored) → entries.new.items ≡ slice_set entries.old.items at
+        (record (slice_index_or entries.old.items at d) {
+          sequence_number = sequence_number;
+          priority = priority;
+          moment = moment;
+        }) }
 {
     let entry = &mut entries[at];
     entry.sequence_number = sequence_number;

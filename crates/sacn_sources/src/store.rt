@@ -97,7 +97,9 @@ impl Store {
     /// Takes a packet, at the table's moment. One that renews nothing leaves what is shown.
     pub(crate) fn take(&mut self, packet: &DataView<'_>) -> Taken
         ensures answer { result ≡ taken (packet_of packet.now) self.old.rows }
-        ensures table { self.new ≡ record self.old { rows = take_row (packet_of packet.now) self.old.moment self.old.rows } }
+        ensures table { self.new ≡ record self.old {
+          rows = take_row (packet_of packet.now) self.old.moment self.old.rows;
+        } }
         ensures quiet { renews result ≡ false → layers self.new.rows ≡ layers self.old.rows }
     {
         match self.search(&packet.cid()) {
@@ -177,7 +179,9 @@ impl Store {
     fn take_known(&mut self, at: usize, packet: &DataView<'_>) -> Taken
         requires { IsAt self.old.rows packet.now.cid at }
         ensures answer { result ≡ taken (packet_of packet.now) self.old.rows }
-        ensures table { self.new ≡ record self.old { rows = take_row (packet_of packet.now) self.old.moment self.old.rows } }
+        ensures table { self.new ≡ record self.old {
+          rows = take_row (packet_of packet.now) self.old.moment self.old.rows;
+        } }
         ensures quiet { renews result ≡ false → layers self.new.rows ≡ layers self.old.rows }
     {
         if !self.in_sequence_at(at, packet) {
@@ -207,7 +211,9 @@ impl Store {
     fn take_unknown(&mut self, at: usize, packet: &DataView<'_>) -> Taken
         requires { IsGap self.old.rows packet.now.cid at }
         ensures answer { result ≡ taken (packet_of packet.now) self.old.rows }
-        ensures table { self.new ≡ record self.old { rows = take_row (packet_of packet.now) self.old.moment self.old.rows } }
+        ensures table { self.new ≡ record self.old {
+          rows = take_row (packet_of packet.now) self.old.moment self.old.rows;
+        } }
         ensures quiet { renews result ≡ false → layers self.new.rows ≡ layers self.old.rows }
     {
         match kind_of(packet) {
@@ -240,7 +246,8 @@ impl Store {
     // Drops the sources that are lost at the table's moment, in one scan. Returns whether one of them was live.
     fn sweep(&mut self) -> bool
         ensures live { result ≡ loses_live self.old.moment self.old.rows }
-        ensures table { self.new ≡ record self.old { rows = rows_kept self.old.moment self.old.rows } }
+        ensures table { self.new
+            ≡ record self.old { rows = rows_kept self.old.moment self.old.rows } }
     {
         let mut live = false;
         let mut at = self.count();
@@ -256,7 +263,8 @@ impl Store {
     // Whether the source at this place is lost.
     fn is_lost(&self, at: usize) -> bool
         requires { at < length self.now.rows }
-        ensures { (d : Row) → result ≡ not (row_renewed self.now.moment (slice_index_or self.now.rows at d)) }
+        ensures { (d : Row)
+            → result ≡ not (row_renewed self.now.moment (slice_index_or self.now.rows at d)) }
     {
         let entry = entry_at(&self.entries, at);
         self.moment.saturating_sub(entry.moment) >= NETWORK_DATA_LOSS
@@ -300,7 +308,8 @@ impl Store {
     // Whether the packet is in sequence after the latest accepted one of the source at this place.
     fn in_sequence_at(&self, at: usize, packet: &DataView<'_>) -> bool
         requires { at < length self.now.rows }
-        ensures { (d : Row) → result ≡ not (is_late (slice_index_or self.now.rows at d).sequence_number packet.now.number) }
+        ensures { (d : Row) → result
+            ≡ not (is_late (slice_index_or self.now.rows at d).sequence_number packet.now.number) }
     {
         let entry = entry_at(&self.entries, at);
         in_sequence(entry.sequence_number, packet.number())
@@ -309,7 +318,10 @@ impl Store {
     // A source that keeps what it shows.
     fn observe(&mut self, at: usize, packet: &DataView<'_>)
         requires { IsAt self.old.rows packet.now.cid at }
-        ensures { (d : Row) → self.new ≡ record self.old { rows = slice_set self.old.rows at (row_observed (packet_of packet.now) (slice_index_or self.old.rows at d)) } }
+        ensures { (d : Row) → self.new ≡ record self.old {
+          rows = slice_set self.old.rows at
+              (row_observed (packet_of packet.now) (slice_index_or self.old.rows at d));
+        } }
     {
         let sequence_number = packet.number();
         renumber(&mut self.entries, at, sequence_number);
@@ -318,7 +330,9 @@ impl Store {
     // A source that has ended. It keeps its key, and shows no levels.
     fn end(&mut self, at: usize, packet: &DataView<'_>)
         requires { IsAt self.old.rows packet.now.cid at }
-        ensures { self.new ≡ record self.old { rows = slice_set self.old.rows at (row_ended (packet_of packet.now) self.old.moment) } }
+        ensures { self.new ≡ record self.old {
+          rows = slice_set self.old.rows at (row_ended (packet_of packet.now) self.old.moment);
+        } }
     {
         let sequence_number = packet.number();
         renew(&mut self.entries, at, sequence_number, None, self.moment);
@@ -327,7 +341,9 @@ impl Store {
     // A source that shows new levels, in the place of the old ones.
     fn show(&mut self, at: usize, packet: &DataView<'_>)
         requires { IsAt self.old.rows packet.now.cid at }
-        ensures { self.new ≡ record self.old { rows = slice_set self.old.rows at (row_live (packet_of packet.now) self.old.moment) } }
+        ensures { self.new ≡ record self.old {
+          rows = slice_set self.old.rows at (row_live (packet_of packet.now) self.old.moment);
+        } }
     {
         let sequence_number = packet.number();
         let priority = packet.priority();
@@ -345,7 +361,9 @@ impl Store {
     fn admit(&mut self, at: usize, packet: &DataView<'_>)
         requires gap { IsGap self.old.rows packet.now.cid at }
         requires room { length self.old.rows < MAX_SOURCES }
-        ensures { self.new ≡ record self.old { rows = put_row (row_live (packet_of packet.now) self.old.moment) self.old.rows } }
+        ensures { self.new ≡ record self.old {
+          rows = put_row (row_live (packet_of packet.now) self.old.moment) self.old.rows;
+        } }
     {
         let key = self.frames.insert_reserved(Levels::of(packet.slots()));
         self.entries.insert(

@@ -104,7 +104,8 @@ impl SourceTable {
     /// many as there is room for.
     pub fn merged_part(&mut self, now: u64, from: usize, part: &mut [u8])
         requires within { from + length part.old ≤ 512 }
-        ensures part { part.new ≡ take (length part.old) (drop from (slots_of (after_expire now self.old.table).rows)) }
+        ensures part { part.new
+            ≡ take (length part.old) (drop from (slots_of (after_expire now self.old.table).rows)) }
         ensures table { self.new ≡ kept_after_merged now self.old }
     {
         self.renew(now);
@@ -128,9 +129,12 @@ impl SourceTable {
     /// The first moment at which a source that is held is lost, ended ones too, if no packet comes: `expire` at any earlier
     /// moment drops nothing, and at it drops some. `None` where none is held, or none is lost at a moment of a `u64`.
     pub fn wakes(&self) -> Option<u64>
-        ensures never { IfNone result ((t : ℕ) → t < 2 ^ 64 → rows_lost (max self.now.table.moment t) self.now.table.rows ≡ 0) }
-        ensures asleep { IfSome result (λ w. (t : ℕ) → t < w → rows_lost (max self.now.table.moment t) self.now.table.rows ≡ 0) }
-        ensures awake { IfSome result (λ w. 1 ≤ rows_lost (max self.now.table.moment w) self.now.table.rows) }
+        ensures never { IfNone result ((t : ℕ) → t < 2 ^ 64
+            → rows_lost (max self.now.table.moment t) self.now.table.rows ≡ 0) }
+        ensures asleep { IfSome result (λ w. (t : ℕ) → t < w
+            → rows_lost (max self.now.table.moment t) self.now.table.rows ≡ 0) }
+        ensures awake { IfSome result
+            (λ w. 1 ≤ rows_lost (max self.now.table.moment w) self.now.table.rows) }
     {
         self.store.oldest().checked_add(NETWORK_DATA_LOSS)
     }

@@ -146,7 +146,8 @@ fn page_rest(
     page: &PageView<'_>,
     known: Option<Vec<u16>>,
 ) -> Result<Vec<u8>, AllocError>
-    ensures { IfOk result (λ text. text.items ≡ page_rest page.now (option_map (λ v. v.items) known)) }
+    ensures { IfOk result
+        (λ text. text.items ≡ page_rest page.now (option_map (λ v. v.items) known)) }
 {
     let top = page_top(alloc, page)?;
     let numbers = numbers_of(alloc, page)?;
@@ -162,7 +163,8 @@ pub fn page_block(
     page: &PageView<'_>,
     known: Option<Vec<u16>>,
 ) -> Result<Vec<u8>, AllocError>
-    ensures { IfOk result (λ text. text.items ≡ page_block page.now (option_map (λ v. v.items) known)) }
+    ensures { IfOk result
+        (λ text. text.items ≡ page_block page.now (option_map (λ v. v.items) known)) }
 {
     let top = top(alloc, "page", page.cid())?;
     let name = escaped(alloc, page.name())?;

@@ -21,7 +21,8 @@ fn page_text(
     collector: &mut Collector,
     page: &PageView<'_>,
 ) -> Result<Vec<u8>, AllocError>
-    ensures { IfOk result (λ text. (text.items ≡ block (PagePacket page.now) collector.old) × (collector.new ≡ state_after (PagePacket page.now) collector.old)) }
+    ensures { IfOk result (λ text. (text.items ≡ block (PagePacket page.now) collector.old)
+        × (collector.new ≡ state_after (PagePacket page.now) collector.old)) }
 {
     let Ok(_) = collector.take(0, page) else {
         return Err(AllocError);
@@ -38,7 +39,8 @@ fn block_of(
     collector: &mut Collector,
     packet: &Packet<'_>,
 ) -> Result<Vec<u8>, AllocError>
-    ensures { IfOk result (λ text. (text.items ≡ block packet.now collector.old) × (collector.new ≡ state_after packet.now collector.old)) }
+    ensures { IfOk result (λ text. (text.items ≡ block packet.now collector.old)
+        × (collector.new ≡ state_after packet.now collector.old)) }
 {
     match packet {
         Packet::DataPacket(data) => data_block(alloc, data),
@@ -55,9 +57,10 @@ pub fn decode_text<O: Out>(
 ) -> Result<(), DecodeFault>
     requires { O.failed out.old ≡ false }
     ensures ok { OnOk result ((O.failed out.new ≡ false)
-        × ((decoded nothing_known 0 (octets_of datagrams.now)).refused ≡ None)
-        × Adds (O.Tells out.old) (O.Tells out.new) (decoded nothing_known 0 (octets_of datagrams.now)).text) }
-    ensures err { IfErr result (λ fault. Stops fault (O.failed out.new) (Adds (O.Tells out.old) (O.Tells out.new)) (decoded nothing_known 0 (octets_of datagrams.now))) }
+        × ((decoded nothing_known 0 (octets_of datagrams.now)).refused ≡ None) × Adds (O.Tells
+        out.old) (O.Tells out.new) (decoded nothing_known 0 (octets_of datagrams.now)).text) }
+    ensures err { IfErr result (λ fault. Stops fault (O.failed out.new) (Adds (O.Tells out.old)
+        (O.Tells out.new)) (decoded nothing_known 0 (octets_of datagrams.now))) }
 {
     let mut collector = Collector::new(alloc);
     for i in 0..datagrams.len() {

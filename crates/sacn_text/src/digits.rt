@@ -18,7 +18,8 @@ fn is_skipped(octet: u8) -> bool
 /// ends anywhere between them; or the first fault of that spelling, `OutOfMemory` apart.
 pub fn octets_of_digits(alloc: Global, text: &[u8]) -> Result<Vec<u8>, FromHexError>
     ensures spelled { IfOk result (λ octets. decode_of (digits_of text.now) ≡ Ok octets.items) }
-    ensures refused { IfErr result (λ fault. (fault ≡ OutOfMemory) ⊎ (decode_of (digits_of text.now) ≡ Err fault)) }
+    ensures refused { IfErr result
+        (λ fault. (fault ≡ OutOfMemory) ⊎ (decode_of (digits_of text.now) ≡ Err fault)) }
 {
     let mut digits = Vec::with_capacity(alloc, text.len())?;
     for octet in text.iter() {

@@ -33,7 +33,8 @@ pub fn read_limited<A: Allocator + Clone + Drop, R: Read + Drop>(
     requires { limit < 2 ^ 32 }
     ensures small { IfOk result (λ v. length v.items ≤ limit) }
     ensures whole { IfOk result (λ v. IfSome (R.remaining reader) (λ xs. v.items ≡ xs)) }
-    ensures large { IfErr result (λ fault. fault ≡ TooLarge → IfSome (R.remaining reader) (λ xs. limit < length xs)) }
+    ensures large { IfErr result
+        (λ fault. fault ≡ TooLarge → IfSome (R.remaining reader) (λ xs. limit < length xs)) }
 {
     let mut octets = Vec::new(alloc);
     let mut reader = reader.take(limit + 1);

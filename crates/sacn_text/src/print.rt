@@ -29,9 +29,12 @@ pub fn print_packets<W: Write + Drop>(
     datagrams: &[Vec<u8>],
     writer: W,
 ) -> Printed<W, DecodeFault>
-    ensures ok { OnOk result.ended (((decoded nothing_known 0 (octets_of datagrams.now)).refused ≡ None)
-        × Has W.contents writer result.out.writer (decoded nothing_known 0 (octets_of datagrams.now)).text) }
-    ensures err { IfErr result.ended (λ fault. StopsDecoding fault (Has W.contents writer result.out.writer) (decoded nothing_known 0 (octets_of datagrams.now))) }
+    ensures ok { OnOk result.ended
+        (((decoded nothing_known 0 (octets_of datagrams.now)).refused ≡ None) × Has W.contents
+        writer result.out.writer (decoded nothing_known 0 (octets_of datagrams.now)).text) }
+    ensures err { IfErr result.ended
+        (λ fault. StopsDecoding fault (Has W.contents writer result.out.writer)
+        (decoded nothing_known 0 (octets_of datagrams.now))) }
 {
     let mut out = WriterOut::new(MarkedWriter::new(writer));
     let ended = decode_text(alloc, datagrams, &mut out);
@@ -49,8 +52,10 @@ pub fn print_looks<W: Write + Drop>(
     schedule: &str,
     writer: W,
 ) -> Printed<W, SimFault>
-    ensures ok { OnOk result.ended (Ends false (Has W.contents writer result.out.writer) world.now schedule.now) }
-    ensures err { IfErr result.ended (λ fault. StopsSimulating fault (Has W.contents writer result.out.writer) world.now schedule.now) }
+    ensures ok { OnOk result.ended
+        (Ends false (Has W.contents writer result.out.writer) world.now schedule.now) }
+    ensures err { IfErr result.ended (λ fault.
+        StopsSimulating fault (Has W.contents writer result.out.writer) world.now schedule.now) }
 {
     let mut out = WriterOut::new(MarkedWriter::new(writer));
     let ended = sim_text(alloc, world, schedule, &mut out);

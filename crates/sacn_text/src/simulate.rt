@@ -53,7 +53,8 @@ fn simulate<O: Out>(
     ensures ok { OnOk result ((O.failed out.new ≡ false)
         × ((simulated world.old 0 events.now).refused ≡ None)
         × Adds (O.Tells out.old) (O.Tells out.new) (simulated world.old 0 events.now).text) }
-    ensures err { IfErr result (λ fault. Breaks fault (O.failed out.new) (Adds (O.Tells out.old) (O.Tells out.new)) (simulated world.old 0 events.now)) }
+    ensures err { IfErr result (λ fault. Breaks fault (O.failed out.new)
+        (Adds (O.Tells out.old) (O.Tells out.new)) (simulated world.old 0 events.now)) }
 {
     for i in 0..events.len() {
         let event = &events[i];
@@ -82,8 +83,10 @@ pub fn sim_text<O: Out>(
     out: &mut O,
 ) -> Result<(), SimFault>
     requires { O.failed out.old ≡ false }
-    ensures ok { OnOk result (Ends (O.failed out.new) (Adds (O.Tells out.old) (O.Tells out.new)) world.now schedule.now) }
-    ensures err { IfErr result (λ fault. Stops fault (O.failed out.new) (Adds (O.Tells out.old) (O.Tells out.new)) world.now schedule.now) }
+    ensures ok { OnOk result (Ends (O.failed out.new)
+        (Adds (O.Tells out.old) (O.Tells out.new)) world.now schedule.now) }
+    ensures err { IfErr result (λ fault. Stops fault (O.failed out.new)
+        (Adds (O.Tells out.old) (O.Tells out.new)) world.now schedule.now) }
 {
     let (shows, setups) = match read_world(alloc, world) {
         Ok(content) => content,

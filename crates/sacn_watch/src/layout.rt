@@ -49,7 +49,8 @@ fn letter_of(place: usize) -> u32 {
 
 fn push_counts(alloc: Global, page: &mut Page, view: &View) -> Result<(), AllocError>
     ensures size { page.new.size ≡ page.old.size }
-    ensures fits { FitsOn page.old.size page.old.rows.items → FitsOn page.new.size page.new.rows.items }
+    ensures fits { FitsOn page.old.size page.old.rows.items
+        → FitsOn page.new.size page.new.rows.items }
 {
     let mut text = String::new(alloc);
     let streams = view.monitor.streams().len();
@@ -63,7 +64,8 @@ fn push_counts(alloc: Global, page: &mut Page, view: &View) -> Result<(), AllocE
 
 fn push_alarms(alloc: Global, page: &mut Page, view: &View) -> Result<(), AllocError>
     ensures size { page.new.size ≡ page.old.size }
-    ensures fits { FitsOn page.old.size page.old.rows.items → FitsOn page.new.size page.new.rows.items }
+    ensures fits { FitsOn page.old.size page.old.rows.items
+        → FitsOn page.new.size page.new.rows.items }
 {
     let mut text = String::new(alloc);
     let refused = refused_in(view);
@@ -121,7 +123,8 @@ fn refused_in(view: &View) -> u64 {
 
 fn push_sources(alloc: Global, page: &mut Page, view: &View) -> Result<(), AllocError>
     ensures size { page.new.size ≡ page.old.size }
-    ensures fits { FitsOn page.old.size page.old.rows.items → FitsOn page.new.size page.new.rows.items }
+    ensures fits { FitsOn page.old.size page.old.rows.items
+        → FitsOn page.new.size page.new.rows.items }
 {
     page.push_text(alloc, "", Ink::Plain)?;
     page.push_text(alloc, SOURCE_HEAD, Ink::Heading)?;
@@ -202,7 +205,8 @@ fn levels_in(width: usize) -> usize {
 
 fn push_levels(alloc: Global, page: &mut Page, view: &View) -> Result<(), AllocError>
     ensures size { page.new.size ≡ page.old.size }
-    ensures fits { FitsOn page.old.size page.old.rows.items → FitsOn page.new.size page.new.rows.items }
+    ensures fits { FitsOn page.old.size page.old.rows.items
+        → FitsOn page.new.size page.new.rows.items }
 {
     let Some(universe) = view.universe else {
         return Ok(());

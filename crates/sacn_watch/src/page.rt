@@ -95,7 +95,8 @@ impl Row {
     /// A letter more, where there is room for it.
     pub fn put(&mut self, code: u32, ink: Ink) -> Result<(), AllocError>
         ensures width { self.new.width ≡ self.old.width }
-        ensures kept { OnOk result (self.new ≡ with_cell (record { code = shown_as code; ink = ink }) self.old) }
+        ensures kept { OnOk result
+            (self.new ≡ with_cell (record { code = shown_as code; ink = ink }) self.old) }
     {
         if self.cells.len() < self.width {
             self.cells.push(Cell {
@@ -141,8 +142,10 @@ impl Page {
     /// A row more, where there is room for it.
     pub fn push(&mut self, row: Row) -> Result<(), AllocError>
         ensures size { self.new.size ≡ self.old.size }
-        ensures kept { OnOk result (self.new.rows.items ≡ with_row self.old.size.height row self.old.rows.items) }
-        ensures fits { row.width ≡ self.old.size.width → FitsOn self.old.size self.old.rows.items → FitsOn self.new.size self.new.rows.items }
+        ensures kept { OnOk result
+            (self.new.rows.items ≡ with_row self.old.size.height row self.old.rows.items) }
+        ensures fits { row.width ≡ self.old.size.width → FitsOn self.old.size self.old.rows.items
+            → FitsOn self.new.size self.new.rows.items }
     {
         if self.rows.len() < self.size.height {
             self.rows.push(row)?;
@@ -153,9 +156,10 @@ impl Page {
     /// A row of one ink more, where there is room for it.
     pub fn push_text(&mut self, alloc: Global, text: &str, ink: Ink) -> Result<(), AllocError>
         ensures size { self.new.size ≡ self.old.size }
-        ensures kept { OnOk result (self.new.rows.items
-            ≡ with_row self.old.size.height (row_of self.old.size.width ink text.now) self.old.rows.items) }
-        ensures fits { FitsOn self.old.size self.old.rows.items → FitsOn self.new.size self.new.rows.items }
+        ensures kept { OnOk result (self.new.rows.items ≡ with_row self.old.size.height
+            (row_of self.old.size.width ink text.now) self.old.rows.items) }
+        ensures fits { FitsOn self.old.size self.old.rows.items
+            → FitsOn self.new.size self.new.rows.items }
     {
         let mut row = Row::new(alloc, self.size.width);
         row.put_text(text, ink)?;
@@ -164,7 +168,8 @@ impl Page {
 
     /// The text that draws the page over whatever a terminal shows, in colours or without them.
     pub fn text(&self, alloc: Global, has_colours: bool) -> Result<String, AllocError>
-        ensures { IfOk result (λ text. string_bytes text ≡ page_text has_colours self.now.size.height self.now.rows.items) }
+        ensures { IfOk result (λ text. string_bytes text
+            ≡ page_text has_colours self.now.size.height self.now.rows.items) }
     {
         let mut text = String::new(alloc);
         let mut number = 1_usize;
@@ -179,7 +184,8 @@ impl Page {
 
 // The letters of a row, each after the code of its ink where the letter before has another one.
 fn push_row(text: &mut String, row: &Row, has_colours: bool) -> Result<(), AllocError>
-    ensures { OnOk result (string_bytes text.new ≡ string_bytes text.old ++ inked has_colours Plain row.now.cells) }
+    ensures { OnOk result
+        (string_bytes text.new ≡ string_bytes text.old ++ inked has_colours Plain row.now.cells) }
 {
     let mut ink = Ink::Plain;
     for cell in row.cells() {
@@ -198,7 +204,8 @@ fn is_same(before: Ink, after: Ink) -> bool
 }
 
 fn push_change(text: &mut String, before: Ink, after: Ink) -> Result<(), AllocError>
-    ensures { OnOk result (string_bytes text.new ≡ string_bytes text.old ++ change_code before after) }
+    ensures { OnOk result
+        (string_bytes text.new ≡ string_bytes text.old ++ change_code before after) }
 {
     if is_same(before, after) {
         Ok(())
@@ -237,7 +244,8 @@ fn push_placed(
     number: usize,
     has_colours: bool,
 ) -> Result<(), AllocError>
-    ensures { OnOk result (string_bytes text.new ≡ string_bytes text.old ++ placed_row has_colours number row.now) }
+    ensures { OnOk result
+        (string_bytes text.new ≡ string_bytes text.old ++ placed_row has_colours number row.now) }
 {
     write!(text, "\u{1b}[{number};1H")?;
     push_row(text, row, has_colours)?;
@@ -246,7 +254,8 @@ fn push_placed(
 
 // The lines below the rows, where there are any.
 fn push_rest(text: &mut String, number: usize, height: usize) -> Result<(), AllocError>
-    ensures { OnOk result (string_bytes text.new ≡ string_bytes text.old ++ cleared_from height number) }
+    ensures { OnOk result
+        (string_bytes text.new ≡ string_bytes text.old ++ cleared_from height number) }
 {
     if number <= height {
         write!(text, "\u{1b}[{number};1H\u{1b}[J")

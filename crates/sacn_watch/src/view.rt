@@ -53,7 +53,8 @@ impl View {
     pub fn take(&mut self, now: u64, sender: Sender, octets: &[u8])
         ensures taken { IsTaken now sender octets.now self.old.monitor self.new.monitor }
         ensures shown { record { universe = self.new.universe; sources = self.new.table }
-            ≡ after_reading now (reading_packet octets.now) (record { universe = self.old.universe; sources = self.old.table }) }
+            ≡ after_reading now (reading_packet octets.now)
+            (record { universe = self.old.universe; sources = self.old.table }) }
     {
         self.tick(now);
         let _ = self.monitor.take(now, sender, octets);
@@ -67,7 +68,8 @@ impl View {
 
     /// Moves the clock. Returns whether a source was lost.
     pub fn tick(&mut self, now: u64) -> bool
-        ensures lost { result ≡ is_some (silent_place (max self.old.monitor.moment now) self.old.monitor.streams) }
+        ensures lost { result
+            ≡ is_some (silent_place (max self.old.monitor.moment now) self.old.monitor.streams) }
         ensures ticked { IsTicked now self.old.monitor self.new.monitor }
         ensures clock { self.new.monitor.moment ≡ max self.old.monitor.moment now }
         ensures universe { self.new.universe ≡ self.old.universe }
@@ -109,7 +111,8 @@ impl View {
     fn take_levels(&mut self, now: u64, packet: &DataView<'_>)
         ensures monitor { self.new.monitor ≡ self.old.monitor }
         ensures shown { record { universe = self.new.universe; sources = self.new.table }
-            ≡ after_packet now packet.now (record { universe = self.old.universe; sources = self.old.table }) }
+            ≡ after_packet now packet.now
+            (record { universe = self.old.universe; sources = self.old.table }) }
     {
         let universe = match self.universe {
             Some(universe) => universe,

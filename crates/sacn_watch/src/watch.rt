@@ -21,18 +21,21 @@ pub trait Watcher {
 
     /// Takes a datagram that came at a moment from a sender.
     fn take(&mut self, now: u64, sender: Sender, octets: &[u8]) -> Result<(), WatchFault>
-        ensures handed { OnOk result ((calls : List Call) → Handed self.old calls → Handed self.new (Take now sender octets.now ∷ calls)) };
+        ensures handed { OnOk result ((calls : List Call) → Handed self.old calls
+            → Handed self.new (Take now sender octets.now ∷ calls)) };
 
     /// Shows what is to be shown, after all that had come by a moment was taken.
     fn show(&mut self, now: u64) -> Result<(), WatchFault>
-        ensures handed { OnOk result ((calls : List Call) → Handed self.old calls → Handed self.new (Tick now ∷ calls)) };
+        ensures handed { OnOk result
+            ((calls : List Call) → Handed self.old calls → Handed self.new (Tick now ∷ calls)) };
 
     /// The moment at which there is something to show, where nothing comes; `u64::MAX` where there never is.
     fn wakes(&self) -> u64;
 
     /// Ends.
     fn end(&mut self, now: u64) -> Result<(), WatchFault>
-        ensures handed { OnOk result ((calls : List Call) → Handed self.old calls → Handed self.new (Tick now ∷ calls)) };
+        ensures handed { OnOk result
+            ((calls : List Call) → Handed self.old calls → Handed self.new (Tick now ∷ calls)) };
 }
 
 /// Hears until a moment, or until the listener has ended, and hands each datagram to a watcher, at the reading of the listener's
@@ -44,10 +47,10 @@ pub fn run_watch<L: Listener, W: Watcher>(
     watcher: &mut W,
     until: u64,
 ) -> Result<(), WatchFault>
-    ensures { (turns : List (List Receive))
-        × Extends (L.Receiver.told listener.old) (L.Receiver.told listener.new) (heard_by turns)
-        × OnOk result (IsWatch until (L.Ended listener.new) turns
-        × ((calls : List Call) → W.Handed watcher.old calls → W.Handed watcher.new (Tick (reading_by turns) ∷ (calls_by turns ++ calls)))) }
+    ensures { (turns : List (List Receive)) × Extends (L.Receiver.told listener.old)
+        (L.Receiver.told listener.new) (heard_by turns) × OnOk result (IsWatch until
+        (L.Ended listener.new) turns × ((calls : List Call) → W.Handed watcher.old calls
+        → W.Handed watcher.new (Tick (reading_by turns) ∷ (calls_by turns ++ calls)))) }
 {
     let mut heard = Heard { now: 0 };
     let watched = watch(listener, watcher, until, &mut heard);
@@ -71,11 +74,10 @@ fn watch<L: Listener, W: Watcher>(
     heard: &mut Heard,
 ) -> Result<(), WatchFault>
     requires { heard.old.now ≡ 0 }
-    ensures { (turns : List (List Receive))
-        × Extends (L.Receiver.told listener.old) (L.Receiver.told listener.new) (heard_by turns)
-        × (heard.new.now ≡ reading_by turns)
-        × OnOk result (IsWatch until (L.Ended listener.new) turns
-        × ((calls : List Call) → W.Handed watcher.old calls → W.Handed watcher.new (calls_by turns ++ calls))) }
+    ensures { (turns : List (List Receive)) × Extends (L.Receiver.told listener.old)
+        (L.Receiver.told listener.new) (heard_by turns) × (heard.new.now ≡ reading_by turns)
+        × OnOk result (IsWatch until (L.Ended listener.new) turns × ((calls : List Call)
+        → W.Handed watcher.old calls → W.Handed watcher.new (calls_by turns ++ calls))) }
 {
     let mut buffer = [0; BUFFER_OCTETS];
     let mut wake = 0;
@@ -102,10 +104,10 @@ fn drain<L: Listener, W: Watcher>(
     buffer: &mut [u8; BUFFER_OCTETS],
 ) -> Result<(), WatchFault>
     ensures { (rs : List Receive)
-        × Extends (L.Receiver.told listener.old) (L.Receiver.told listener.new) (in_order (heard_in rs))
-        × (heard.new.now ≡ reading_after heard.old.now rs)
-        × OnOk result (IsWhole (heard_in rs)
-        × ((calls : List Call) → W.Handed watcher.old calls → W.Handed watcher.new (calls_in rs ++ calls))) }
+        × Extends (L.Receiver.told listener.old) (L.Receiver.told listener.new)
+        (in_order (heard_in rs)) × (heard.new.now ≡ reading_after heard.old.now rs)
+        × OnOk result (IsWhole (heard_in rs) × ((calls : List Call) → W.Handed watcher.old calls
+        → W.Handed watcher.new (calls_in rs ++ calls))) }
 {
     for _count in 0..MAX_BURST {
         let is_more = hear(listener, watcher, heard, buffer)?;
@@ -123,11 +125,10 @@ fn hear<L: Listener, W: Watcher>(
     heard: &mut Heard,
     buffer: &mut [u8; BUFFER_OCTETS],
 ) -> Result<bool, WatchFault>
-    ensures { (r : Receive)
-        × Extends (L.Receiver.told listener.old) (L.Receiver.told listener.new) (r.hearing ∷ [])
-        × (heard.new.now ≡ r.hearing.now)
-        × IfOk result (λ is_more. (is_more ≡ is_datagram r.hearing.came)
-        × ((calls : List Call) → W.Handed watcher.old calls → W.Handed watcher.new (calls_for r.hearing.now r.port r.hearing.came ++ calls))) }
+    ensures { (r : Receive) × Extends (L.Receiver.told listener.old) (L.Receiver.told listener.new)
+        (r.hearing ∷ []) × (heard.new.now ≡ r.hearing.now) × IfOk result (λ is_more.
+        (is_more ≡ is_datagram r.hearing.came) × ((calls : List Call) → W.Handed watcher.old calls
+        → W.Handed watcher.new (calls_for r.hearing.now r.port r.hearing.came ++ calls))) }
 {
     let receipt = listener.receive(buffer);
     heard.now = receipt.now;

@@ -3,7 +3,6 @@ use crate::command::{Asked, SETUP_HELP, file, refused_words, subcommand, text};
 use crate::live::{flag, seconds, seconds_in, word, words};
 use crate::page::page_at;
 use clap::{ArgMatches, Command, Error};
-use sacn_explain::Form;
 use sacn_files::words::short_in;
 use sacn_universe::{MAX_UNIVERSE, MIN_UNIVERSE};
 use std::alloc::Global;
@@ -23,7 +22,8 @@ pub struct ExplainAsked<'a> {
     pub port: Option<u16>,
     /// Empty for all.
     pub universes: Vec<u16>,
-    pub form: Form,
+    /// Whether what is told is objects of JSON, one a line, and not text.
+    pub is_json: bool,
     /// Where a page is served in place of what is printed.
     pub page: Option<SocketAddrV4>,
     /// How long it is served.
@@ -124,11 +124,7 @@ pub fn asked_of<'a>(alloc: Global, matches: &ArgMatches<'a>) -> Result<Asked<'a>
         setup: matches.get_str("setup"),
         port,
         universes,
-        form: if matches.get_flag("json") {
-            Form::Json
-        } else {
-            Form::Text
-        },
+        is_json: matches.get_flag("json"),
         page,
         seconds,
     }))

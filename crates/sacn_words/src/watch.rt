@@ -4,7 +4,6 @@ use crate::explain::{port_in, universes_in};
 use crate::live::{flag, host, seconds, seconds_in, word, words};
 use crate::page::page_in;
 use clap::{ArgMatches, Command, Error};
-use sacn_explain::Form;
 use sacn_live::SACN_PORT;
 use std::alloc::Global;
 use std::net::{Ipv4Addr, SocketAddrV4};
@@ -19,7 +18,8 @@ pub struct WatchAsked {
     pub port: u16,
     pub universes: Vec<u16>,
     pub seconds: Option<u64>,
-    pub form: Form,
+    /// Whether what is told is objects of JSON, one a line, and not text.
+    pub is_json: bool,
     pub is_plain: bool,
     /// Where a page is served in place of what is printed.
     pub page: Option<SocketAddrV4>,
@@ -64,11 +64,7 @@ pub fn asked_of<'a>(alloc: Global, matches: &ArgMatches<'a>) -> Result<Asked<'a>
         port: port.unwrap_or(SACN_PORT),
         universes,
         seconds,
-        form: if matches.get_flag("json") {
-            Form::Json
-        } else {
-            Form::Text
-        },
+        is_json: matches.get_flag("json"),
         is_plain: matches.get_flag("plain"),
         page,
     }))

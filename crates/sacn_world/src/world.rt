@@ -61,9 +61,12 @@ impl World {
         consoles: Vec<(Show, u8)>,
         nodes: Vec<NodeSetup>,
     ) -> Result<Self, NewFault>
-        ensures made { IfOk result (λ world. (world ≡ new_world consoles.items (map (λ n. n.ports) nodes.items)) × (has_same_cid consoles.items ≡ false)) }
+        ensures made { IfOk result (λ world. (world ≡ new_world consoles.items
+            (map (λ n. n.ports) nodes.items)) × (has_same_cid consoles.items ≡ false)) }
         ensures apart { OnOk result (Apart (map new_console consoles.items)) }
-        ensures refused { IfErr result (λ fault. ((fault ≡ SameCid) × (has_same_cid consoles.items ≡ true)) ⊎ ((fault ≡ OutOfMemory) × (has_same_cid consoles.items ≡ false))) }
+        ensures refused { IfErr result
+            (λ fault. ((fault ≡ SameCid) × (has_same_cid consoles.items ≡ true))
+            ⊎ ((fault ≡ OutOfMemory) × (has_same_cid consoles.items ≡ false))) }
     {
         universes_are_those_of_ranges();
         if has_same_cid(consoles.as_slice()) {
@@ -104,7 +107,8 @@ impl World {
 
     /// Takes a list of events, up to the first that is refused. Room for all answers is taken first.
     pub fn run(&mut self, events: &[Event]) -> Result<Vec<Answer>, RunFault>
-        ensures answers { IfOk result (λ answers. ran self.old events.now ≡ Some (record { answers = answers.items; world = self.new })) }
+        ensures answers { IfOk result (λ answers. ran self.old events.now
+            ≡ Some (record { answers = answers.items; world = self.new })) }
         ensures stopped { IfErr result (λ fault. Stopped self.old events.now fault self.new) }
     {
         let Ok(mut answers) = Vec::with_capacity(self.alloc, events.len()) else {
@@ -146,7 +150,8 @@ impl World {
     }
 
     fn order(&mut self, console: usize, now: u64, command: Command) -> Result<Answer, WorldFault>
-        ensures { Stepped (step self.old (Event.Order console now command)) result self.old self.new }
+        ensures { Stepped
+            (step self.old (Event.Order console now command)) result self.old self.new }
     {
         if console >= self.consoles.len() {
             return Err(WorldFault::NoConsole);
@@ -156,7 +161,8 @@ impl World {
     }
 
     fn poll(&mut self, console: usize, now: u64) -> Result<Answer, WorldFault>
-        ensures { SteppedWithRoom (step self.old (Event.Poll console now)) result self.old self.new }
+        ensures { SteppedWithRoom
+            (step self.old (Event.Poll console now)) result self.old self.new }
     {
         written_is_read();
         written_page_is_read();
@@ -174,14 +180,15 @@ impl World {
             return Ok(Answer::Idle);
         };
         let octets = in_own_length(self.alloc, room, &out, len);
-        let number = self.sent.len();
+        let place = self.sent.len();
         let datagram = self.consoles[console].sent_datagram(self.sent.as_slice(), octets);
         self.sent.push_reserved(datagram);
-        Ok(Answer::Sent(number))
+        Ok(Answer::Sent(place))
     }
 
     fn restart_console(&mut self, console: usize, first: u8) -> Result<Answer, WorldFault>
-        ensures { SteppedWithRoom (step self.old (Event.RestartConsole console first)) result self.old self.new }
+        ensures { SteppedWithRoom
+            (step self.old (Event.RestartConsole console first)) result self.old self.new }
     {
         if console >= self.consoles.len() {
             return Err(WorldFault::NoConsole);
@@ -194,7 +201,8 @@ impl World {
     }
 
     fn restart_node(&mut self, node: usize) -> Result<Answer, WorldFault>
-        ensures { SteppedWithRoom (step self.old (Event.RestartNode node)) result self.old self.new }
+        ensures { SteppedWithRoom
+            (step self.old (Event.RestartNode node)) result self.old self.new }
     {
         universes_are_those_of_ranges();
         if node >= self.nodes.len() {
@@ -208,7 +216,8 @@ impl World {
     }
 
     fn deliver(&mut self, datagram: usize, node: usize, now: u64) -> Result<Answer, WorldFault>
-        ensures { SteppedWithRoom (step self.old (Event.Deliver datagram node now)) result self.old self.new }
+        ensures { SteppedWithRoom
+            (step self.old (Event.Deliver datagram node now)) result self.old self.new }
     {
         if node >= self.nodes.len() {
             return Err(WorldFault::NoNode);
@@ -237,7 +246,8 @@ impl World {
     }
 
     fn noise(&mut self, node: usize, now: u64, octets: &Vec<u8>) -> Result<Answer, WorldFault>
-        ensures { Stepped (step self.old (Event.Noise node now octets.now)) result self.old self.new }
+        ensures { Stepped
+            (step self.old (Event.Noise node now octets.now)) result self.old self.new }
     {
         if node >= self.nodes.len() {
             return Err(WorldFault::NoNode);

@@ -84,8 +84,10 @@ impl WorldNode {
         octets: &[u8],
         came: Option<Mark>,
     ) -> Result<NodeTaken, AllocError>
-        ensures reply { IfOk result (λ reply. reply ≡ reply_to (reading_packet octets.now) now self.old.node.core) }
-        ensures taken { OnOk result (self.new ≡ taken_by (reading_packet octets.now) now came self.old) }
+        ensures reply { IfOk result
+            (λ reply. reply ≡ reply_to (reading_packet octets.now) now self.old.node.core) }
+        ensures taken { OnOk result
+            (self.new ≡ taken_by (reading_packet octets.now) now came self.old) }
         ensures unchanged { OnErr result (self.new ≡ self.old) }
     {
         self.marks.reserve(1)?;

@@ -31,7 +31,8 @@ impl ConsoleCore {
         ensures core { self.new ≡ self.old }
         ensures quiet { (t : ℕ) → t < result → due (at t self.old) ≡ None }
         ensures ahead { 0 < result → min (self.old.moment + 1) last_moment ≤ result }
-        ensures exact { is_still self.old.lights.player ≡ true → result < last_moment → is_some (due (at result self.old)) ≡ true }
+        ensures exact { is_still self.old.lights.player ≡ true → result < last_moment
+            → is_some (due (at result self.old)) ≡ true }
     {
         let line = self.line_wake();
         line.min(self.page_wake())
@@ -42,7 +43,8 @@ impl ConsoleCore {
         ensures core { self.new ≡ self.old }
         ensures quiet { (t : ℕ) → t < result → line_found (at t self.old) ≡ None }
         ensures ahead { 0 < result → min (self.old.moment + 1) last_moment ≤ result }
-        ensures exact { is_still self.old.lights.player ≡ true → result < last_moment → is_some (line_found (at result self.old)) ≡ true }
+        ensures exact { is_still self.old.lights.player ≡ true → result < last_moment
+            → is_some (line_found (at result self.old)) ≡ true }
     {
         let mut slots = [0; SLOTS];
         let moment = self.moment;
@@ -102,7 +104,9 @@ impl ConsoleCore {
     // Where the first due universe stands; its frame is then in `slots`.
     fn due_place(&mut self, slots: &mut [u8; SLOTS]) -> Option<usize>
         ensures core { self.new ≡ self.old }
-        ensures found { MatchOption result (line_found self.old ≡ None) (λ i. (i < length self.old.lines) × (line_found self.old ≡ Some (line_at self.old i)) × (slots.new ≡ frame self.old.lights (line_at self.old i).universe self.old.moment)) }
+        ensures found { MatchOption result (line_found self.old ≡ None)
+            (λ i. (i < length self.old.lines) × (line_found self.old ≡ Some (line_at self.old i))
+            × (slots.new ≡ frame self.old.lights (line_at self.old i).universe self.old.moment)) }
     {
         let moment = self.moment;
         let is_still = self.player.is_still();
@@ -127,10 +131,13 @@ impl ConsoleCore {
         out: &mut [u8; MAX_DATAGRAM],
     ) -> usize
         requires there { place < length self.old.lines }
-        requires frame { slots.now ≡ frame self.old.lights (line_at self.old place).universe self.old.moment }
+        requires frame { slots.now
+            ≡ frame self.old.lights (line_at self.old place).universe self.old.moment }
         ensures answer { result ≡ size (Packet (packet_at self.old place)) }
-        ensures octets { out.new ≡ over self.old.sender (Some (Packet (packet_at self.old place))) out.old }
-        ensures core { self.new ≡ after (Gave self.old.moment (Packet (packet_at self.old place))) self.old }
+        ensures octets { out.new
+            ≡ over self.old.sender (Some (Packet (packet_at self.old place))) out.old }
+        ensures core { self.new
+            ≡ after (Gave self.old.moment (Packet (packet_at self.old place))) self.old }
     {
         let moment = self.moment;
         let line = &mut self.lines[place];
@@ -145,7 +152,8 @@ impl ConsoleCore {
     // The next page of the cycle, or the first of a new one.
     fn give_page(&mut self, out: &mut [u8; MAX_DATAGRAM]) -> Option<usize>
         ensures answer { result ≡ option_map size (option_map Paged (page_due self.old)) }
-        ensures octets { out.new ≡ over self.old.sender (option_map Paged (page_due self.old)) out.old }
+        ensures octets { out.new
+            ≡ over self.old.sender (option_map Paged (page_due self.old)) out.old }
         ensures core { self.new ≡ given (option_map Paged (page_due self.old)) self.old }
     {
         match self.cycle {
@@ -157,7 +165,8 @@ impl ConsoleCore {
     fn give_later_page(&mut self, begun: Begun, out: &mut [u8; MAX_DATAGRAM]) -> Option<usize>
         requires { self.old.cycle ≡ Some begun }
         ensures answer { result ≡ option_map size (option_map Paged (page_due self.old)) }
-        ensures octets { out.new ≡ over self.old.sender (option_map Paged (page_due self.old)) out.old }
+        ensures octets { out.new
+            ≡ over self.old.sender (option_map Paged (page_due self.old)) out.old }
         ensures core { self.new ≡ given (option_map Paged (page_due self.old)) self.old }
     {
         if begun.next < page_count(self.listed.len()) {
@@ -171,9 +180,12 @@ impl ConsoleCore {
 
     // The first page of a new cycle.
     fn write_first(&mut self, out: &mut [u8; MAX_DATAGRAM]) -> usize
-        ensures answer { result ≡ size (Paged (record { list = standing self.old.lines; page = 0 })) }
-        ensures octets { out.new ≡ over self.old.sender (Some (Paged (record { list = standing self.old.lines; page = 0 }))) out.old }
-        ensures core { self.new ≡ after (Gave self.old.moment (Paged (record { list = standing self.old.lines; page = 0 }))) self.old }
+        ensures answer { result
+            ≡ size (Paged (record { list = standing self.old.lines; page = 0 })) }
+        ensures octets { out.new ≡ over self.old.sender
+            (Some (Paged (record { list = standing self.old.lines; page = 0 }))) out.old }
+        ensures core { self.new ≡ after (Gave self.old.moment
+            (Paged (record { list = standing self.old.lines; page = 0 }))) self.old }
     {
         list_standing(&self.lines, &mut self.listed);
         self.cycle = Some(Begun {
@@ -194,9 +206,12 @@ impl ConsoleCore {
         requires begun { self.old.cycle ≡ Some begun }
         requires page { begun.next < pages_of (length self.old.listed) }
         requires fits { begun.next < usize.MAX }
-        ensures answer { result ≡ size (Paged (record { list = self.old.listed; page = begun.next })) }
-        ensures octets { out.new ≡ over self.old.sender (Some (Paged (record { list = self.old.listed; page = begun.next }))) out.old }
-        ensures core { self.new ≡ after (Gave self.old.moment (Paged (record { list = self.old.listed; page = begun.next }))) self.old }
+        ensures answer { result
+            ≡ size (Paged (record { list = self.old.listed; page = begun.next })) }
+        ensures octets { out.new ≡ over self.old.sender
+            (Some (Paged (record { list = self.old.listed; page = begun.next }))) out.old }
+        ensures core { self.new ≡ after (Gave self.old.moment
+            (Paged (record { list = self.old.listed; page = begun.next }))) self.old }
     {
         self.cycle = Some(Begun {
             moment: begun.moment,
@@ -231,7 +246,8 @@ fn write_packet(
     requires least { 1 ≤ line.now.universe }
     requires most { line.now.universe ≤ 63999 }
     ensures len { result ≡ 638 }
-    ensures octets { out.new ≡ packet_text (packet_with sender.now line.now slots.now) ++ drop 638 out.old }
+    ensures octets { out.new
+        ≡ packet_text (packet_with sender.now line.now slots.now) ++ drop 638 out.old }
 {
     let cid = sender.cid;
     let name = sender.name;

@@ -54,14 +54,16 @@ fn cid_at(table: &Table) -> Option<[u8; 16]>
 }
 
 fn text_at(table: &Table) -> Option<&str>
-    ensures { option_map (λ s. s.now) result ≡ option_and_then as_str (get_member (codes "name") (table_view table.now)) }
+    ensures { option_map (λ s. s.now) result
+        ≡ option_and_then as_str (get_member (codes "name") (table_view table.now)) }
 {
     value_at(table, "name")?.as_str()
 }
 
 /// The name, and its octets padded to the field of a packet.
 fn name_at(table: &Table) -> Option<(&str, [u8; 64])>
-    ensures name { option_map (λ n. n.0.now) result ≡ option_and_then name_in (get_member (codes "name") (table_view table.now)) }
+    ensures name { option_map (λ n. n.0.now) result
+        ≡ option_and_then name_in (get_member (codes "name") (table_view table.now)) }
     ensures padded { IfSome result (λ n. n.1 ≡ padded n.0.now) }
     ensures nameable { IfSome result (λ n. is_nameable n.0.now ≡ true) }
 {

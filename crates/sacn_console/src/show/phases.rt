@@ -3,7 +3,8 @@ ghost use Rattle.std.specs.Prelude.{◌≡◌, Ok, map};
 ghost use Rattle.toml.specs.Parse.{parse_document};
 ghost use Rattle.toml.specs.View.{view, table_view};
 ghost use Rattle.sacn_files.specs.Document.{Gives};
-ghost use Rattle.sacn_console.specs.ShowReading.{cue_rows, patch_rows, cue_keys, keys_are_known, keys_are_there, draft_in, last_phase, after_version, show_in, show_or_toml};
+ghost use Rattle.sacn_files.specs.Keys.{key_table};
+ghost use Rattle.sacn_console.specs.ShowReading.{cue_rows, patch_rows, cue_keys, keys_are_known, rows_are_whole, keys_are_there, draft_in, last_phase, after_version, show_in, show_or_toml};
 
 use super::cues::{cues_added, cues_in};
 use super::draft::Draft;
@@ -14,7 +15,7 @@ use super::universes::universes_of;
 use super::{Show, ShowFault};
 use crate::limits::NEWEST_SHOW;
 use sacn_files::document::{read_table, version_in};
-use sacn_files::keys::{has_keys, has_known_keys, rows_are_known, rows_have_keys};
+use sacn_files::keys::{Keys, has_keys, has_known_keys, rows_are_known, rows_have_keys};
 use sacn_files::values::{has_rows, rows_at, value_at};
 use std::alloc::Global;
 use toml::{Table, Value};
@@ -33,14 +34,30 @@ fn patch_rows(table: &Table) -> &[Value]
     rows_at(table, "patch")
 }
 
-/// The keys of a cue; each is required.
-fn cue_keys(version: u8) -> &'static [&'static str]
-    ensures { map (λ key. key.now) result.now ≡ cue_keys version }
+/// The keys of the show's own table.
+const SHOW_KEYS: Keys = Keys {
+    required: &["version", "cid", "name", "universes"],
+    optional: &["priority", "send_to", "cue", "patch"],
+};
+
+/// The keys of an entry of the patch.
+const PATCH_KEYS: Keys = Keys {
+    required: &["channel", "universe", "slot"],
+    optional: &["wide"],
+};
+
+/// The keys of a cue.
+fn cue_keys(version: u8) -> Keys
+    ensures { key_table result ≡ cue_keys version }
 {
-    if version == 1 {
+    let required: &'static [&'static str] = if version == 1 {
         &["number", "fade", "levels"]
     } else {
         &["number", "up", "down", "levels"]
+    };
+    Keys {
+        required,
+        optional: &[],
     }
 }
 
@@ -48,29 +65,25 @@ fn cue_keys(version: u8) -> &'static [&'static str]
 fn keys_are_known(version: u8, table: &Table) -> bool
     ensures { result ≡ keys_are_known version (table_view table.now) }
 {
-    has_known_keys(
-        table,
-        &[
-            "version",
-            "cid",
-            "name",
-            "priority",
-            "universes",
-            "send_to",
-            "cue",
-            "patch",
-        ],
-    ) && (rows_are_known(cue_rows(table), cue_keys(version))
-        && rows_are_known(patch_rows(table), &["channel", "universe", "slot", "wide"]))
+    has_known_keys(table, SHOW_KEYS)
+        && (rows_are_known(cue_rows(table), cue_keys(version))
+            && rows_are_known(patch_rows(table), PATCH_KEYS))
+}
+
+/// Whether each cue, and each entry of the patch, has its required keys.
+#[tactic(auto, unfolding(crate::specs::ShowReading::rows_are_whole))]
+fn rows_are_whole(version: u8, table: &Table) -> bool
+    ensures { result ≡ rows_are_whole version (table_view table.now) }
+{
+    rows_have_keys(cue_rows(table), cue_keys(version))
+        && rows_have_keys(patch_rows(table), PATCH_KEYS)
 }
 
 /// Whether each table has its required keys.
 fn keys_are_there(version: u8, table: &Table) -> bool
     ensures { result ≡ keys_are_there version (table_view table.now) }
 {
-    has_keys(table, &["cid", "name", "universes"])
-        && (rows_have_keys(cue_rows(table), cue_keys(version))
-            && rows_have_keys(patch_rows(table), &["channel", "universe", "slot"]))
+    has_keys(table, SHOW_KEYS) && rows_are_whole(version, table)
 }
 
 /// What a table says, value by value.
@@ -109,7 +122,8 @@ fn last_phase(alloc: Global, draft: Draft) -> Result<Show, ShowFault>
 
 /// The phases after the version.
 fn after_version(alloc: Global, version: u8, table: &Table) -> Result<Show, ShowFault>
-    ensures { Gives ShowFault.OutOfMemory result (after_version (Ok version) (table_view table.now)) }
+    ensures { Gives ShowFault.OutOfMemory result
+        (after_version (Ok version) (table_view table.now)) }
 {
     if !keys_are_known(version, table) {
         return Err(ShowFault::UnknownKey);

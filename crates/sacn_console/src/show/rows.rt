@@ -15,7 +15,8 @@ pub(super) fn rows_in<R: ReadRow>(
     reader: &R,
     rows: &[Value],
 ) -> Result<Vec<R::Item>, ShowFault>
-    ensures { GivesAs (λ v. v.items) result (required (each (R.reads reader.now) (map view rows.now))) }
+    ensures { GivesAs (λ v. v.items) result
+        (required (each (R.reads reader.now) (map view rows.now))) }
 {
     read_rows(alloc, reader, rows)?.ok_or(ShowFault::KeyValue)
 }

@@ -116,7 +116,8 @@ pub fn universes_of(alloc: Global, ports: &[PortSetup]) -> Result<Vec<u16>, Allo
 
 /// Checks ports in order of number, whose numbers differ and are not too many.
 pub fn check_order(alloc: Global, ports: &[PortSetup]) -> Result<(), SetupFault>
-    ensures { MatchResult result (λ _. order_fault ports.now ≡ None) (λ fault. (fault ≡ SetupFault.OutOfMemory) ⊎ (order_fault ports.now ≡ Some fault)) }
+    ensures { MatchResult result (λ _. order_fault ports.now ≡ None)
+        (λ fault. (fault ≡ SetupFault.OutOfMemory) ⊎ (order_fault ports.now ≡ Some fault)) }
 {
     let universes = universes_of(alloc, ports)?;
     if MAX_UNIVERSES < universes.len() {

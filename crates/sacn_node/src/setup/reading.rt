@@ -4,6 +4,7 @@ ghost use Rattle.std.specs.List.Sorted.{IsStrictlyIncreasing};
 ghost use Rattle.toml.specs.Parse.{parse_document};
 ghost use Rattle.toml.specs.View.{view, table_view};
 ghost use Rattle.sacn_files.specs.Document.{Gives};
+ghost use Rattle.sacn_files.specs.Keys.{key_table};
 ghost use Rattle.sacn_node.specs.Setup.{IsPort, port_numbers};
 ghost use Rattle.sacn_node.specs.SetupReading.{port_rows, port_keys, keys_are_known, keys_are_there, udp_port_of, order_fault, unless, last_phase, value_phase, after_version, setup_in, setup_or_toml};
 
@@ -13,7 +14,8 @@ use super::{NodeSetup, PortSetup, SetupFault};
 use crate::limits::{MAX_PORTS, NEWEST_SETUP};
 use sacn_files::document::{read_table, version_in};
 use sacn_files::keys::{
-    has_known_keys, inner_rows_are_known, inner_rows_have_keys, rows_are_known, rows_have_keys,
+    Keys, has_keys, has_known_keys, inner_rows_are_known, inner_rows_have_keys, rows_are_known,
+    rows_have_keys,
 };
 use sacn_files::limits::{DEFAULT_UDP_PORT, MAX_UDP_PORT, MIN_UDP_PORT};
 use sacn_files::numbers::{has_repeat, in_order};
@@ -28,26 +30,39 @@ fn port_rows(table: &Table) -> &[Value]
     rows_at(table, "port")
 }
 
-/// The keys of a port; each is required.
-fn port_keys(version: u8) -> &'static [&'static str]
-    ensures { map (λ key. key.now) result.now ≡ port_keys version }
+/// The keys of the setup's own table.
+const SETUP_KEYS: Keys = Keys {
+    required: &["version"],
+    optional: &["udp_port", "port"],
+};
+
+/// The keys of a range.
+const RANGE_KEYS: Keys = Keys {
+    required: &["universe", "slot", "count", "port_slot"],
+    optional: &[],
+};
+
+/// The keys of a port.
+fn port_keys(version: u8) -> Keys
+    ensures { key_table result ≡ port_keys version }
 {
-    if version == 1 {
+    let required: &'static [&'static str] = if version == 1 {
         &["number", "universe"]
     } else {
         &["number", "range"]
+    };
+    Keys {
+        required,
+        optional: &[],
     }
 }
-
-/// The keys of a range; each is required.
-const RANGE_KEYS: &[&str] = &["universe", "slot", "count", "port_slot"];
 
 /// Whether no table has a key that isn't listed for it.
 fn keys_are_known(version: u8, table: &Table) -> bool
     ensures { result ≡ keys_are_known version (table_view table.now) }
 {
     let rows = port_rows(table);
-    has_known_keys(table, &["version", "udp_port", "port"])
+    has_known_keys(table, SETUP_KEYS)
         && rows_are_known(rows, port_keys(version))
         && (version == 1 || inner_rows_are_known(rows, "range", RANGE_KEYS))
 }
@@ -57,7 +72,8 @@ fn keys_are_there(version: u8, table: &Table) -> bool
     ensures { result ≡ keys_are_there version (table_view table.now) }
 {
     let rows = port_rows(table);
-    rows_have_keys(rows, port_keys(version))
+    has_keys(table, SETUP_KEYS)
+        && rows_have_keys(rows, port_keys(version))
         && (version == 1 || inner_rows_have_keys(rows, "range", RANGE_KEYS))
 }
 
@@ -77,7 +93,8 @@ fn order_phase(alloc: Global, udp_port: u16, ports: Vec<PortSetup>) -> Result<No
     requires rising { IsStrictlyIncreasing (port_numbers ports.items) }
     requires few { length ports.items ≤ MAX_PORTS }
     requires ports { All IsPort ports.items }
-    ensures { Gives SetupFault.OutOfMemory result (unless (order_fault ports.items) (record { udp_port = udp_port; ports = ports.items })) }
+    ensures { Gives SetupFault.OutOfMemory result
+        (unless (order_fault ports.items) (record { udp_port = udp_port; ports = ports.items })) }
 {
     check_order(alloc, ports.as_slice())?;
     Ok(NodeSetup::new(udp_port, ports))
@@ -113,7 +130,8 @@ fn value_phase(alloc: Global, version: u8, table: &Table) -> Result<NodeSetup, S
 
 /// The phases after the version.
 fn after_version(alloc: Global, version: u8, table: &Table) -> Result<NodeSetup, SetupFault>
-    ensures { Gives SetupFault.OutOfMemory result (after_version (Ok version) (table_view table.now)) }
+    ensures { Gives SetupFault.OutOfMemory result
+        (after_version (Ok version) (table_view table.now)) }
 {
     if !keys_are_known(version, table) {
         return Err(SetupFault::UnknownKey);

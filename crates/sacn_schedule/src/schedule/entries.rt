@@ -120,7 +120,8 @@ pub(super) fn restart_node_in(line: usize, words: &[&str]) -> Result<Event, Text
 /// The octets of a word in hexadecimal digits of either case, of which `-` has none.
 #[tactic(auto, unfolding(crate::specs::Schedules::octets_of))]
 fn octets_of(alloc: Global, line: usize, word: &str) -> Result<Vec<u8>, TextFault>
-    ensures { GivesAs (λ octets. octets.items) TextFault.OutOfMemory result (octets_of line word.now) }
+    ensures { GivesAs (λ octets. octets.items) TextFault.OutOfMemory result
+        (octets_of line word.now) }
 {
     if word == "-" {
         return Ok(Vec::new(alloc));

@@ -75,7 +75,7 @@ pub(super) fn are_nodes(rows: &[Value]) -> bool
     each_is_node(rows)
 }
 
-/// A way to read one member of a world, from its row and its number.
+/// A way to read one member of a world, from its row and its index.
 pub(super) trait ReadMember {
     ghost use Rattle.std.specs.Prelude.{ℕ, Result};
     ghost use Rattle.toml.specs.Data.{Data};
@@ -88,9 +88,9 @@ pub(super) trait ReadMember {
 
     ghost reads: { Self → ℕ → Data → Result Self.Item Fault };
 
-    /// The member of this number.
-    fn read(&self, alloc: Global, number: usize, row: &Value) -> Result<Self::Item, WorldTextFault>
-        ensures { Gives WorldTextFault.OutOfMemory result (reads self.now number (view row.now)) };
+    /// The member at this index, from 0.
+    fn read(&self, alloc: Global, index: usize, row: &Value) -> Result<Self::Item, WorldTextFault>
+        ensures { Gives WorldTextFault.OutOfMemory result (reads self.now index (view row.now)) };
 }
 
 /// Reads a console: its show, and its first number.
@@ -102,19 +102,14 @@ impl ReadMember for Desks {
 
     type Item = (Show, u8);
 
-    ghost reads = { λ _ number d. desk_in number d };
+    ghost reads = { λ _ index d. desk_in index d };
 
-    fn read(
-        &self,
-        alloc: Global,
-        number: usize,
-        row: &Value,
-    ) -> Result<(Show, u8), WorldTextFault> {
+    fn read(&self, alloc: Global, index: usize, row: &Value) -> Result<(Show, u8), WorldTextFault> {
         let (table, first) = console_in(row).ok_or(WorldTextFault::KeyValue)?;
         match show_of(alloc, table) {
             Ok(show) => Ok((show, first)),
             Err(ShowFault::OutOfMemory) => Err(WorldTextFault::OutOfMemory),
-            Err(fault) => Err(WorldTextFault::Console(number, fault)),
+            Err(fault) => Err(WorldTextFault::Console(index, fault)),
         }
     }
 }
@@ -128,14 +123,14 @@ impl ReadMember for Setups {
 
     type Item = NodeSetup;
 
-    ghost reads = { λ _ number d. setup_at number d };
+    ghost reads = { λ _ index d. setup_at index d };
 
-    fn read(&self, alloc: Global, number: usize, row: &Value) -> Result<NodeSetup, WorldTextFault> {
+    fn read(&self, alloc: Global, index: usize, row: &Value) -> Result<NodeSetup, WorldTextFault> {
         let table = table_at(row, "setup").ok_or(WorldTextFault::KeyValue)?;
         match setup_of(alloc, table) {
             Ok(setup) => Ok(setup),
             Err(SetupFault::OutOfMemory) => Err(WorldTextFault::OutOfMemory),
-            Err(fault) => Err(WorldTextFault::Node(number, fault)),
+            Err(fault) => Err(WorldTextFault::Node(index, fault)),
         }
     }
 }
@@ -146,7 +141,8 @@ pub(super) fn read_members<R: ReadMember>(
     reader: &R,
     rows: &[Value],
 ) -> Result<Vec<R::Item>, WorldTextFault>
-    ensures { GivesAs (λ found. found.items) WorldTextFault.OutOfMemory result (each_from (R.reads reader.now) 0 (map view rows.now)) }
+    ensures { GivesAs (λ found. found.items) WorldTextFault.OutOfMemory result
+        (each_from (R.reads reader.now) 0 (map view rows.now)) }
 {
     let mut found = Vec::new(alloc);
     for i in 0..rows.len() {

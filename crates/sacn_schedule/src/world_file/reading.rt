@@ -10,7 +10,7 @@ use super::{NEWEST_WORLD, WorldTextFault};
 use crate::cids::has_same_cid;
 use sacn_console::Show;
 use sacn_files::document::{read_table, version_in};
-use sacn_files::keys::{has_known_keys, rows_are_known, rows_have_keys};
+use sacn_files::keys::{Keys, has_keys, has_known_keys, rows_are_known, rows_have_keys};
 use sacn_files::values::{has_rows, rows_at, value_at};
 use sacn_node::NodeSetup;
 use std::alloc::Global;
@@ -33,20 +33,40 @@ fn node_rows(table: &Table) -> &[Value]
     rows_at(table, "node")
 }
 
+/// The keys of the world's own table.
+const WORLD_KEYS: Keys = Keys {
+    required: &["version"],
+    optional: &["console", "node"],
+};
+
+/// The keys of a console.
+const CONSOLE_KEYS: Keys = Keys {
+    required: &["show"],
+    optional: &["first"],
+};
+
+/// The keys of a node.
+const NODE_KEYS: Keys = Keys {
+    required: &["setup"],
+    optional: &[],
+};
+
 /// Whether no table has a key that isn't listed for it.
 fn keys_are_known(table: &Table) -> bool
     ensures { result ≡ keys_are_known (table_view table.now) }
 {
-    has_known_keys(table, &["version", "console", "node"])
-        && (rows_are_known(console_rows(table), &["first", "show"])
-            && rows_are_known(node_rows(table), &["setup"]))
+    has_known_keys(table, WORLD_KEYS)
+        && (rows_are_known(console_rows(table), CONSOLE_KEYS)
+            && rows_are_known(node_rows(table), NODE_KEYS))
 }
 
 /// Whether each table has its required keys.
 fn keys_are_there(table: &Table) -> bool
     ensures { result ≡ keys_are_there (table_view table.now) }
 {
-    rows_have_keys(console_rows(table), &["show"]) && rows_have_keys(node_rows(table), &["setup"])
+    has_keys(table, WORLD_KEYS)
+        && (rows_have_keys(console_rows(table), CONSOLE_KEYS)
+            && rows_have_keys(node_rows(table), NODE_KEYS))
 }
 
 /// Whether each value of the world itself has its kind and range.

@@ -107,7 +107,9 @@ impl Entries {
     /// Takes a packet, at the table's moment.
     pub(crate) fn take(&mut self, packet: &DataView<'_>) -> Taken
         ensures answer { result ≡ taken (packet_of packet.now) self.old.rows }
-        ensures table { self.new ≡ record self.old { rows = take_row (packet_of packet.now) self.old.moment self.old.rows } }
+        ensures table { self.new ≡ record self.old {
+          rows = take_row (packet_of packet.now) self.old.moment self.old.rows;
+        } }
     {
         match self.search(&packet.cid()) {
             Ok(at) => self.take_known(at, packet),
@@ -168,7 +170,9 @@ impl Entries {
     fn take_known(&mut self, at: usize, packet: &DataView<'_>) -> Taken
         requires { IsAt self.old.rows packet.now.cid at }
         ensures answer { result ≡ taken (packet_of packet.now) self.old.rows }
-        ensures table { self.new ≡ record self.old { rows = take_row (packet_of packet.now) self.old.moment self.old.rows } }
+        ensures table { self.new ≡ record self.old {
+          rows = take_row (packet_of packet.now) self.old.moment self.old.rows;
+        } }
     {
         if !self.in_sequence_at(at, packet) {
             return Taken::OutOfSequence;
@@ -197,7 +201,9 @@ impl Entries {
     fn take_unknown(&mut self, at: usize, packet: &DataView<'_>) -> Taken
         requires { IsGap self.old.rows packet.now.cid at }
         ensures answer { result ≡ taken (packet_of packet.now) self.old.rows }
-        ensures table { self.new ≡ record self.old { rows = take_row (packet_of packet.now) self.old.moment self.old.rows } }
+        ensures table { self.new ≡ record self.old {
+          rows = take_row (packet_of packet.now) self.old.moment self.old.rows;
+        } }
     {
         match kind_of(packet) {
             Kind::Termination => Taken::UnknownIgnored,
@@ -235,7 +241,8 @@ impl Entries {
     // Whether the source at this place is lost.
     fn is_lost(&self, at: usize) -> bool
         requires { at < length self.now.rows }
-        ensures { (d : Row) → result ≡ not (row_renewed self.now.moment (slice_index_or self.now.rows at d)) }
+        ensures { (d : Row)
+            → result ≡ not (row_renewed self.now.moment (slice_index_or self.now.rows at d)) }
     {
         let entry = plain_entry_at(&self.items, at);
         self.moment.saturating_sub(entry.moment) >= NETWORK_DATA_LOSS
@@ -269,7 +276,8 @@ impl Entries {
     // Whether the packet is in sequence after the latest accepted one of the source at this place.
     fn in_sequence_at(&self, at: usize, packet: &DataView<'_>) -> bool
         requires { at < length self.now.rows }
-        ensures { (d : Row) → result ≡ not (is_late (slice_index_or self.now.rows at d).sequence_number packet.now.number) }
+        ensures { (d : Row) → result
+            ≡ not (is_late (slice_index_or self.now.rows at d).sequence_number packet.now.number) }
     {
         let entry = plain_entry_at(&self.items, at);
         in_sequence(entry.sequence_number, packet.number())
@@ -278,7 +286,10 @@ impl Entries {
     // A source that keeps what it shows.
     fn observe(&mut self, at: usize, packet: &DataView<'_>)
         requires { IsAt self.old.rows packet.now.cid at }
-        ensures { (d : Row) → self.new ≡ record self.old { rows = slice_set self.old.rows at (row_observed (packet_of packet.now) (slice_index_or self.old.rows at d)) } }
+        ensures { (d : Row) → self.new ≡ record self.old {
+          rows = slice_set self.old.rows at
+              (row_observed (packet_of packet.now) (slice_index_or self.old.rows at d));
+        } }
     {
         let sequence_number = packet.number();
         plain_renumber(&mut self.items, at, sequence_number);
@@ -287,7 +298,9 @@ impl Entries {
     // A source that has ended.
     fn end(&mut self, at: usize, packet: &DataView<'_>)
         requires { IsAt self.old.rows packet.now.cid at }
-        ensures { self.new ≡ record self.old { rows = slice_set self.old.rows at (row_ended (packet_of packet.now) self.old.moment) } }
+        ensures { self.new ≡ record self.old {
+          rows = slice_set self.old.rows at (row_ended (packet_of packet.now) self.old.moment);
+        } }
     {
         let entry = PlainEntry {
             cid: packet.cid(),
@@ -302,7 +315,9 @@ impl Entries {
     // A source that shows new levels.
     fn show(&mut self, at: usize, packet: &DataView<'_>)
         requires { IsAt self.old.rows packet.now.cid at }
-        ensures { self.new ≡ record self.old { rows = slice_set self.old.rows at (row_live (packet_of packet.now) self.old.moment) } }
+        ensures { self.new ≡ record self.old {
+          rows = slice_set self.old.rows at (row_live (packet_of packet.now) self.old.moment);
+        } }
     {
         let entry = live_entry(packet, self.moment);
         plain_put(&mut self.items, at, entry);
@@ -312,7 +327,9 @@ impl Entries {
     fn admit(&mut self, at: usize, packet: &DataView<'_>)
         requires gap { IsGap self.old.rows packet.now.cid at }
         requires room { length self.old.rows < MAX_SOURCES }
-        ensures { self.new ≡ record self.old { rows = put_row (row_live (packet_of packet.now) self.old.moment) self.old.rows } }
+        ensures { self.new ≡ record self.old {
+          rows = put_row (row_live (packet_of packet.now) self.old.moment) self.old.rows;
+        } }
     {
         let entry = live_entry(packet, self.moment);
         self.items.insert(at, entry);
@@ -343,7 +360,8 @@ fn plain_entry_at(entries: &ArrayVec<PlainEntry, MAX_SOURCES>, at: usize) -> &Pl
 // Writes the number of the entry at this place, and nothing else.
 fn plain_renumber(entries: &mut ArrayVec<PlainEntry, MAX_SOURCES>, at: usize, sequence_number: u8)
     requires { at < array_vec_len entries.old }
-    ensures { (d : Stored) → entries.new.items ≡ slice_set entries.old.items at (record (slice_index_or entries.old.items at d) { sequence_number = sequence_number }) }
+    ensures { (d : Stored) → entries.new.items ≡ slice_set entries.old.items at
+        (record (slice_index_or entries.old.items at d) { sequence_number = sequence_number }) }
 {
     entries[at].sequence_number = sequence_number;
 }

@@ -18,7 +18,8 @@ fn outputs(
     setups: Vec<NodeSetup>,
     events: &[Event],
 ) -> Result<Vec<Answer>, WorldFault>
-    ensures { IfOk result (λ answers. EveryFrameIsTheMergeOfWhatWasSent shows.items (map (λ n. n.ports) setups.items) events.now answers.items) }
+    ensures { IfOk result (λ answers. EveryFrameIsTheMergeOfWhatWasSent shows.items
+        (map (λ n. n.ports) setups.items) events.now answers.items) }
 {
     headline();
     match World::new(alloc, shows, setups) {

@@ -3,4 +3,4 @@ use Rattle.sacn_files.proofs.TableLemmas.{list_all-map}
 use Rattle.sacn_files.proofs.keys.row_has_keys.Goals as goal
 
 pub returns : goal.returns
-returns c = c.row_has_each.ensures ∙ sym (list_all-map _ _ c.args.required.now)
+returns c = c.row_has_each.ensures ∙ sym (list_all-map _ _ c.args.wanted.required.now)

@@ -70,7 +70,7 @@ returns c =
     let f : SentDatagram = c.sent_datagram-datagram.result in
     let ef = c.sent_datagram-datagram.ensures ∙ ap (λ fs. Rattle.sacn_world.specs.Wire.sent_datagram z fs c.in_own_length-octets.result) (c.as_slice.ensures.value ∙ c.in-Ok-reserve.ensures.items) in
     let d = posted_done c.written_is_read.ensures c.written_page_is_read.ensures s.consoles.items s.sent.items s.nodes.items c.self.invariant c.args.self.now c.self.view_is c.args.console c.args.now y ey c.in-Some.len c.poll.new.out _ c.poll.new.self z c.in_own_length-octets.result f (sym c.in-Some.ensures.answer) c.in-Some.ensures.octets c.in-Some.ensures.lawful (omega arith) refl c.in-Some.ensures.core c.in_own_length-octets.ensures ez ef in
-    (done_as d (sym (c.push_reserved.ensures.items ∙ ap (λ fs. fs ++ f ∷ []) c.in-Ok-reserve.ensures.items)) (omega (arith, c.len-number.ensures, c.in-Ok-reserve.ensures.len))).step
+    (done_as d (sym (c.push_reserved.ensures.items ∙ ap (λ fs. fs ++ f ∷ []) c.in-Ok-reserve.ensures.items)) (omega (arith, c.len-place.ensures, c.in-Ok-reserve.ensures.len))).step
 
 pub sent_datagram-datagram-requires : goal.sent_datagram-datagram-requires
 sent_datagram-datagram-requires c =

@@ -1,4 +1,8 @@
 //! Why a run ends before its work is done, and how it says so.
+ghost use Rattle.std.specs.Prelude.{◌≡◌, ◌↔◌, IsOk, IfErr};
+ghost use Rattle.sacn_commands.specs.Endings.{status_of};
+ghost use Rattle.sacn_commands.specs.declared.ending.Ending.TheVariants.{DeviceWrite};
+
 use clap::error::ErrorKind;
 use hex::FromHexError;
 use sacn_check::ReportFault;
@@ -8,7 +12,6 @@ use sacn_node::SetupFault;
 use sacn_root::PacketFault;
 use sacn_sources::TableFault;
 use sacn_text::{DecodeFault, ReadFault, SimFault};
-use sacn_watch::WatchFault;
 use sacn_world::{WorldFault, WorldTextFault};
 use std::alloc::{AllocError, AllocFailed, Global};
 use std::io::{self, Write};
@@ -18,8 +21,10 @@ pub const DONE: u8 = 0;
 
 const BAD_WORDS: u8 = 2;
 
+/// Input is refused.
 pub const REFUSED: u8 = 3;
 
+/// A device failed.
 pub const DEVICE_FAILED: u8 = 4;
 
 /// Why a run ends before its work is done.
@@ -59,6 +64,10 @@ impl<T: Drop> From<AllocFailed<T>> for Ending {
 }
 
 impl From<ReadFault> for Ending {
+    ghost use Rattle.sacn_commands.specs.Endings.{ending_of_read};
+
+    ghost from_gives = { λ fault ending. ending ≡ ending_of_read fault };
+
     fn from(fault: ReadFault) -> Ending {
         match fault {
             ReadFault::OutOfMemory => Ending::OutOfMemory,
@@ -78,6 +87,10 @@ impl From<FromHexError> for Ending {
 }
 
 impl From<DecodeFault> for Ending {
+    ghost use Rattle.sacn_commands.specs.Endings.{ending_of_decode};
+
+    ghost from_gives = { λ fault ending. ending ≡ ending_of_decode fault };
+
     fn from(fault: DecodeFault) -> Ending {
         match fault {
             DecodeFault::OutOfMemory => Ending::OutOfMemory,
@@ -88,6 +101,10 @@ impl From<DecodeFault> for Ending {
 }
 
 impl From<SimFault> for Ending {
+    ghost use Rattle.sacn_commands.specs.Endings.{ending_of_simulation};
+
+    ghost from_gives = { λ fault ending. ending ≡ ending_of_simulation fault };
+
     fn from(fault: SimFault) -> Ending {
         match fault {
             SimFault::OutOfMemory => Ending::OutOfMemory,
@@ -129,15 +146,6 @@ impl From<SocketFailed> for Ending {
     }
 }
 
-impl From<WatchFault> for Ending {
-    fn from(fault: WatchFault) -> Ending {
-        match fault {
-            WatchFault::OutOfMemory => Ending::OutOfMemory,
-            WatchFault::Device => Ending::DeviceWrite,
-        }
-    }
-}
-
 impl From<WriteFailed> for Ending {
     fn from(_fault: WriteFailed) -> Ending {
         Ending::DeviceWrite
@@ -154,7 +162,10 @@ impl From<ReportFault> for Ending {
 }
 
 /// What came of a write, where a failure ends the run.
-pub fn of_write(outcome: io::Result<()>) -> Result<(), Ending> {
+pub fn of_write(outcome: io::Result<()>) -> Result<(), Ending>
+    ensures done { IsOk result ↔ IsOk outcome }
+    ensures failed { IfErr result (λ ending. ending ≡ DeviceWrite) }
+{
     match outcome {
         Ok(()) => Ok(()),
         Err(_) => Err(Ending::DeviceWrite),
@@ -162,7 +173,9 @@ pub fn of_write(outcome: io::Result<()>) -> Result<(), Ending> {
 }
 
 /// Says how a run ended, and returns its status.
-pub fn tell_ending<E: Write>(ending: Ending, err: &mut E) -> u8 {
+pub fn tell_ending<E: Write>(ending: Ending, err: &mut E) -> u8
+    ensures { result ≡ status_of ending }
+{
     match ending {
         Ending::OutOfMemory => tell_refusal(err, "OutOfMemory"),
         Ending::TooLarge => tell_refusal(err, "TooLarge"),
@@ -216,12 +229,16 @@ pub fn tell_words<O: Write, E: Write>(
     DONE
 }
 
-fn tell_refusal<E: Write>(err: &mut E, cause: &str) -> u8 {
+fn tell_refusal<E: Write>(err: &mut E, cause: &str) -> u8
+    ensures { result ≡ 3 }
+{
     let _ = writeln!(err, "refused {cause}");
     REFUSED
 }
 
-fn tell_line_fault<E: Write>(err: &mut E, fault: TextFault) -> u8 {
+fn tell_line_fault<E: Write>(err: &mut E, fault: TextFault) -> u8
+    ensures { result ≡ 3 }
+{
     let (line, name) = match fault {
         TextFault::OutOfMemory => return tell_refusal(err, "OutOfMemory"),
         TextFault::UnknownWord(line) => (line, "UnknownWord"),
@@ -234,7 +251,9 @@ fn tell_line_fault<E: Write>(err: &mut E, fault: TextFault) -> u8 {
 }
 
 // A world's own fault, or that of one of its consoles or nodes.
-fn tell_world_fault<E: Write>(err: &mut E, fault: WorldTextFault) -> u8 {
+fn tell_world_fault<E: Write>(err: &mut E, fault: WorldTextFault) -> u8
+    ensures { result ≡ 3 }
+{
     let _ = match fault {
         WorldTextFault::Console(index, fault) => {
             writeln!(err, "refused Console {index} {fault:?}")
@@ -245,7 +264,9 @@ fn tell_world_fault<E: Write>(err: &mut E, fault: WorldTextFault) -> u8 {
     REFUSED
 }
 
-fn tell_failure<E: Write>(err: &mut E, what: &str) -> u8 {
+fn tell_failure<E: Write>(err: &mut E, what: &str) -> u8
+    ensures { result ≡ 4 }
+{
     let _ = writeln!(err, "device {what}");
     DEVICE_FAILED
 }

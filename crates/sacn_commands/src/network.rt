@@ -1,5 +1,6 @@
 //! A console and a node on 127.0.0.1.
 use crate::ending::{Ending, of_write};
+use crate::files::text_of_file;
 use sacn_console::{Command, ConsoleCore, Show, read_script, read_show};
 use sacn_edge::{
     ConsoleReport, SystemClock, UdpLink, WriterOut, print_report, run_console, run_node,
@@ -7,10 +8,23 @@ use sacn_edge::{
 use sacn_node::{NodeCore, read_node};
 use std::io::Write;
 use std::net::Net;
-use std::rt::Clock;
+use std::rt::{Clock, Files};
 
-/// Runs a console of a show for so many turns, gives it the orders of a script, and prints what came of it.
-pub fn console<R: AllocGlobal + Net + Clock, O: Write>(
+/// Runs a console of a show's file, as a script's file orders.
+pub fn console_of_files<R: AllocGlobal + Files + Net + Clock, O: Write>(
+    rt: &R,
+    (show, script): (&str, &str),
+    first: u8,
+    turns: u64,
+    out: &mut O,
+) -> Result<(), Ending> {
+    let show = text_of_file(rt, show)?;
+    let script = text_of_file(rt, script)?;
+    console(rt, (show.as_str(), script.as_str()), first, turns, out)
+}
+
+// Runs a console of a show for so many turns, gives it the orders of a script, and prints what came of it.
+fn console<R: AllocGlobal + Net + Clock, O: Write>(
     rt: &R,
     texts: (&str, &str),
     first: u8,
@@ -53,8 +67,19 @@ pub fn tell<O: Write>(report: &ConsoleReport, out: &mut O) -> Result<(), Ending>
     of_write(print_report(out, report))
 }
 
-/// Runs a node of a setup for so many turns, which prints its frames as they change.
-pub fn node<R: AllocGlobal + Net + Clock, O: Write>(
+/// Runs a node of a setup's file.
+pub fn node_of_file<R: AllocGlobal + Files + Net + Clock, O: Write>(
+    rt: &R,
+    setup: &str,
+    turns: u64,
+    out: &mut O,
+) -> Result<(), Ending> {
+    let setup = text_of_file(rt, setup)?;
+    node(rt, setup.as_str(), turns, out)
+}
+
+// Runs a node of a setup for so many turns, which prints its frames as they change.
+fn node<R: AllocGlobal + Net + Clock, O: Write>(
     rt: &R,
     text: &str,
     turns: u64,

@@ -1,0 +1,11 @@
+//! The commands over the lower crates, and how any command ends: datagrams decoded and worlds simulated
+//! (`printing`), a console and a node on 127.0.0.1 (`network`), gateways and desks (`live`).
+//!
+//! What watches a network or tells a recording stands in the program, over crates that are proved later.
+#![tactic(auto)]
+
+pub mod ending;
+pub mod files;
+pub mod live;
+pub mod network;
+pub mod printing;
