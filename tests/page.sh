@@ -163,7 +163,9 @@ nothing='{"ms":0,"universe":null,"heard":[],"sources":[],"levels":"'$(printf '0%
 nothing+='","alarms":[],"counts":{"datagrams":0,"refused":0,"pages":0,"untracked":0}}'
 [ "$(sed 's/"ms":[0-9]*/"ms":0/' body)" = "$nothing" ]
 verdict "nothing heard" $? "$(cat body)"
+# (its port is free for the next one once it has ended)
 kill "$watch"
+wait "$watch" 2>/dev/null
 
 # A desk of two universes, whose name is no plain text.
 cat >show.toml <<T
