@@ -1,34 +1,33 @@
 //! What happens, told as it happens.
 
+mod datagrams;
+
 ghost use Rattle.std.specs.Prelude.{◌≡◌, ◌==◌, ◌<◌, ◌≤◌, ◌⊎◌, ◌-◌, ◌^◌, ℕ, IfErr, IfNone, IfOk, IfSome, OnOk, is_some, max, min, slice_get, if◌then◌else◌};
 ghost use Rattle.sacn_framing.specs.PacketReading.{reading_packet};
 ghost use Rattle.sacn_monitor.specs.Books.{new_book, after_tick};
 ghost use Rattle.sacn_explain.specs.Causes.{cause_among};
 ghost use Rattle.sacn_explain.specs.Contests.{is_noted};
-ghost use Rattle.sacn_explain.specs.Datagrams.{TellsTurn, datagram_told, lists_after};
+ghost use Rattle.sacn_explain.specs.Datagrams.{TellsTurn};
 ghost use Rattle.sacn_explain.specs.Faults.{IsOfTelling};
 ghost use Rattle.sacn_explain.specs.Following.{IsTicked, IsTaken};
-ghost use Rattle.sacn_explain.specs.Occurrences.{is_contested, loss_told, lost_stream, noted_told, packet_told, rivals_told, stirred_told};
-ghost use Rattle.sacn_explain.specs.ListBooks as books;
-ghost use Rattle.sacn_explain.specs.ListBooks.{list_book, page_told};
-ghost use Rattle.sacn_explain.specs.KeptLists.{after_noted, after_reading, listed_in, none_listed};
+ghost use Rattle.sacn_explain.specs.Occurrences.{loss_told, lost_stream};
+ghost use Rattle.sacn_explain.specs.KeptLists.{after_reading, listed_in, none_listed};
 ghost use Rattle.sacn_explain.specs.Shows.{after_loss, after_turn, loss_shown, staged, turn_shown};
 ghost use Rattle.sacn_explain.specs.Silences.{EndsNothingBefore, IsQuiet, Leaves, TellsSilence, WakesInTime, end_told, noted_lost, scene_of};
 ghost use Rattle.sacn_explain.specs.Tables.{tables_told};
 ghost use Rattle.sacn_explain.specs.Tellings.{Tells};
 
 use crate::cause::{Cause, cause_of};
-use crate::contests::{Contests, stirs};
+use crate::contests::Contests;
 use crate::fault::{ExplainFault, TellFault};
-use crate::listings::{Listings, PageNews};
+use crate::listings::Listings;
 use crate::options::Options;
 use crate::report::Report;
 use crate::silence::{end_by, next_dark};
 use crate::stage::{Stage, start};
 use crate::tables;
 use crate::teller::Teller;
-use sacn_framing::{Packet, read_packet};
-use sacn_monitor::{Monitor, News, Noted, Sender, Stream, Tally};
+use sacn_monitor::{Monitor, Noted, Sender, Stream, Tally};
 use sacn_node::NodeSetup;
 use sacn_sources::NETWORK_DATA_LOSS;
 use std::alloc::Global;
@@ -227,140 +226,6 @@ impl<'a, O: Write> Follower<'a, O> {
         ensures { result ≡ (listed_in self.now.listings).passed }
     {
         self.listings.pages_passed()
-    }
-
-    // What a datagram tells.
-    fn tell(&mut self, sender: &Sender, octets: &[u8], noted: Noted) -> Result<(), TellFault>
-        ensures told { OnOk result (Tells O.contents self.old.teller self.new.teller (datagram_told
-            self.old.teller.form self.old.options.universes.now self.old.contests self.old.monitor
-            sender.now (list_book self.old.listings) (reading_packet octets.now) noted)) }
-        ensures lists { OnOk result
-            (list_book self.new.listings ≡ lists_after self.old.monitor.moment
-            (reading_packet octets.now) noted (list_book self.old.listings)) }
-        ensures stage { self.new.stage ≡ self.old.stage }
-        ensures monitor { self.new.monitor ≡ self.old.monitor }
-        ensures moment { self.new.moment ≡ self.old.moment }
-        ensures wake { self.new.wake ≡ self.old.wake }
-        ensures listed { OnOk result (listed_in self.new.listings
-            ≡ after_noted noted (reading_packet octets.now) (listed_in self.old.listings)) }
-    {
-        match noted {
-            Noted::Page => self.tell_page(octets),
-            _ => self.tell_noted(sender, noted),
-        }
-    }
-
-    // What a datagram that is no page tells.
-    fn tell_noted(&mut self, sender: &Sender, noted: Noted) -> Result<(), TellFault>
-        ensures stage { self.new.stage ≡ self.old.stage }
-        ensures told { OnOk result
-            (Tells O.contents self.old.teller self.new.teller (noted_told self.old.teller.form
-            self.old.options.universes.now self.old.contests self.old.monitor sender.now noted)) }
-        ensures monitor { self.new.monitor ≡ self.old.monitor }
-        ensures moment { self.new.moment ≡ self.old.moment }
-        ensures wake { self.new.wake ≡ self.old.wake }
-        ensures listings { self.new.listings ≡ self.old.listings }
-    {
-        let now = self.monitor.moment();
-        match noted {
-            Noted::Refused(fault) => self.teller.tell_refusal(now, sender, fault),
-            Noted::Page | Noted::Sync => Ok(()),
-            Noted::Untracked => self.teller.tell_untracked(now, sender),
-            Noted::Heard(place, news) => self.tell_news(place, &news),
-        }
-    }
-
-    // What a data packet tells of its source on its universe.
-    fn tell_news(&mut self, place: usize, news: &News) -> Result<(), TellFault>
-        ensures told { OnOk result (Tells O.contents self.old.teller self.new.teller
-            (packet_told self.old.teller.form self.old.options.universes.now self.old.contests
-            self.old.monitor news.now (slice_get self.old.monitor.streams place))) }
-        ensures monitor { self.new.monitor ≡ self.old.monitor }
-        ensures options { self.new.options ≡ self.old.options }
-        ensures stage { self.new.stage ≡ self.old.stage }
-        ensures moment { self.new.moment ≡ self.old.moment }
-        ensures wake { self.new.wake ≡ self.old.wake }
-        ensures listings { self.new.listings ≡ self.old.listings }
-    {
-        let now = self.monitor.moment();
-        let Some(stream) = self.monitor.streams().get(place) else {
-            return Ok(());
-        };
-        let universe = stream.universe;
-        if !self.options.is_wanted(universe) {
-            return Ok(());
-        }
-        self.teller.tell_news(now, stream, news)?;
-        let is_stirred = stirs(stream, news);
-        self.tell_stirred(universe, is_stirred)
-    }
-
-    // Whether two sources begin or cease to send at the same top priority on a universe, where a packet may have changed that.
-    fn tell_stirred(&mut self, universe: u16, is_stirred: bool) -> Result<(), TellFault>
-        ensures told { OnOk result (Tells O.contents self.old.teller self.new.teller (stirred_told
-            is_stirred self.old.teller.form universe self.old.contests self.old.monitor)) }
-        ensures monitor { self.new.monitor ≡ self.old.monitor }
-        ensures options { self.new.options ≡ self.old.options }
-        ensures stage { self.new.stage ≡ self.old.stage }
-        ensures moment { self.new.moment ≡ self.old.moment }
-        ensures wake { self.new.wake ≡ self.old.wake }
-        ensures listings { self.new.listings ≡ self.old.listings }
-    {
-        if !is_stirred {
-            return Ok(());
-        }
-        self.tell_rivals(universe)
-    }
-
-    // Whether two sources begin or cease to send at the same top priority on a universe.
-    fn tell_rivals(&mut self, universe: u16) -> Result<(), TellFault>
-        ensures told { OnOk result (Tells O.contents self.old.teller self.new.teller
-            (rivals_told self.old.teller.form universe self.old.contests self.old.monitor)) }
-        ensures noted { OnOk result ((u : ℕ) → is_noted u self.new.contests ≡ (if u == universe
-            then is_contested universe self.old.monitor else is_noted u self.old.contests)) }
-        ensures monitor { self.new.monitor ≡ self.old.monitor }
-        ensures options { self.new.options ≡ self.old.options }
-        ensures stage { self.new.stage ≡ self.old.stage }
-        ensures moment { self.new.moment ≡ self.old.moment }
-        ensures wake { self.new.wake ≡ self.old.wake }
-        ensures listings { self.new.listings ≡ self.old.listings }
-    {
-        let sources = self.monitor.rivals(universe);
-        if !self.contests.note(universe, sources >= 2)? {
-            return Ok(());
-        }
-        let priority = self.monitor.top_priority(universe);
-        let now = self.monitor.moment();
-        self.teller.tell_rivals(now, universe, sources, priority)
-    }
-
-    // The list of a source, where it is another one than before.
-    fn tell_page(&mut self, octets: &[u8]) -> Result<(), TellFault>
-        ensures told { OnOk result (Tells O.contents self.old.teller self.new.teller
-            (page_told self.old.teller.form self.old.monitor.moment (reading_packet octets.now)
-            (list_book self.old.listings))) }
-        ensures lists { OnOk result (list_book self.new.listings ≡ books.after_read
-            self.old.monitor.moment (reading_packet octets.now) (list_book self.old.listings)) }
-        ensures stage { self.new.stage ≡ self.old.stage }
-        ensures monitor { self.new.monitor ≡ self.old.monitor }
-        ensures moment { self.new.moment ≡ self.old.moment }
-        ensures wake { self.new.wake ≡ self.old.wake }
-        ensures listed { OnOk result (listed_in self.new.listings
-            ≡ after_reading (reading_packet octets.now) (listed_in self.old.listings)) }
-    {
-        let Ok(Packet::PagePacket(page)) = read_packet(octets) else {
-            return Ok(());
-        };
-        let now = self.monitor.moment();
-        let event = match self.listings.take(now, &page)? {
-            PageNews::Nothing => return Ok(()),
-            PageNews::Appears => "lists",
-            PageNews::Changes => "relists",
-        };
-        match self.listings.of(&page.cid()) {
-            Some(listing) => self.teller.tell_listing(now, event, listing),
-            None => Ok(()),
-        }
     }
 
     // A stream that is lost at a moment.
