@@ -20,7 +20,12 @@ use std::io::Write;
 
 impl<'a, O: Write> Follower<'a, O> {
     // What a datagram tells.
-    pub(super) fn tell(&mut self, sender: &Sender, octets: &[u8], noted: Noted) -> Result<(), TellFault>
+    pub(super) fn tell(
+        &mut self,
+        sender: &Sender,
+        octets: &[u8],
+        noted: Noted,
+    ) -> Result<(), TellFault>
         ensures told { OnOk result (Tells O.contents self.old.teller self.new.teller (datagram_told
             self.old.teller.form self.old.options.universes.now self.old.contests self.old.monitor
             sender.now (list_book self.old.listings) (reading_packet octets.now) noted)) }
