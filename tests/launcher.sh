@@ -12,8 +12,8 @@ cp "$top/tools/prove.py" "$top/tools/kit" "$tree/tools/"
 printf '#!/bin/sh\necho installed in "$1"\n' >"$tree/tools/library.sh"
 chmod +x "$tree/tools/library.sh"
 echo "Handles allowed: Net." >"$tree/HANDLES"
-printf '%s\n' "low:" "left: low" "right: low" "sacn: left right" "apart: low" "sacn_c staticlib: right" >"$tree/crates.txt"
-for name in low left right sacn apart sacn_c; do
+printf '%s\n' "low:" "left: low" "right: low" "sacn: left right" "sacn_preview: left" "apart: low" "sacn_c staticlib: right" >"$tree/crates.txt"
+for name in low left right sacn sacn_preview apart sacn_c; do
   mkdir -p "$tree/crates/$name/src"
   echo "//! $name" >"$tree/crates/$name/src/lib.rt"
 done
@@ -31,7 +31,7 @@ case $1 in
     mkdir -p out/rlib && echo built >out/rlib/stamp
     if [ "$1" = run ]; then printf '#!/bin/sh\necho proved "$@"\n' >out/sacn; chmod +x out/sacn; fi
     ;;
-  try) cat >/dev/null; echo tried "$@"; echo "checked: ended status=3" >&2; echo "run=ended status=3 runners=1 proved=no" >&2; echo "refused TooShort" >&2; exit 3 ;;
+  try) cat >/dev/null; echo tried "$name" "$@"; echo "checked: ended status=3" >&2; echo "run=ended status=3 runners=1 proved=no" >&2; echo "refused TooShort" >&2; exit 3 ;;
 esac
 KIT
 chmod +x "$room/bin/rt"
@@ -74,6 +74,12 @@ check "each kit of the tree's proves it, and the version tells which did" each_k
 
 runs_unproved() { anew; launch; [ "$status" = 3 ] && prints "tried" && says "isn't proved on this machine yet: ./sacn prove" && says "refused TooShort" && ! says "run=ended"; }
 check "what lights no stage runs unproved at once, and says so" runs_unproved
+
+tries_with() { local crate=$1; shift; launch "$@"; [ "$status" = 3 ] && grep -qxF "tried $crate try${1+ -- $*}" "$room/out"; }
+printing_is_small() { tries_with sacn_preview && tries_with sacn_preview decode a && tries_with sacn_preview decode a b && tries_with sacn_preview sim a b; }
+check "what prints a datagram or a world runs as the small program" printing_is_small
+other_is_whole() { tries_with sacn decode && tries_with sacn decode --help && tries_with sacn decode a -- && tries_with sacn decode "" && tries_with sacn sim a && tries_with sacn sim a b c && tries_with sacn --help && tries_with sacn check a; }
+check "all else, and what a small one has no words for, runs as the whole" other_is_whole
 
 stage_is_proved() { anew; launch node x; [ "$status" = 0 ] && prints "proved node x" && ! prints tried; }
 check "what lights a stage is proved first" stage_is_proved
