@@ -51,6 +51,8 @@ refused 4 "device socket 192.0.2.1:$tcp AddrNotAvailable" --page 192.0.2.1:$tcp 
 
 # serves WORD..: a watch whose page is served, until the script ends it
 serves() {
+  # (before the start, so that the line of an earlier one isn't taken for this one's)
+  : >watch.err
   "$sacn" watch --listen 127.0.0.1 --port $udp --page "$@" </dev/null >watch.out 2>watch.err &
   watch=$!
   started+=("$watch")

@@ -51,6 +51,8 @@ refused 4 "device read pipe" pipe --page $tcp
 
 # serves WORD..: a recording whose page is served, until the script ends it
 serves() {
+  # (before the start, so that the line of an earlier one isn't taken for this one's)
+  : >page.err
   "$sacn" explain "$@" --page $tcp </dev/null >page.out 2>page.err &
   page=$!
   started+=("$page")

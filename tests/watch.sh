@@ -73,6 +73,8 @@ C=000102030405060708090a0b0c0d0e0f
 tells() {
   local name=$1 form=$2 place=0 at line watch
   shift 2
+  # (before the start, so that the line of an earlier one isn't taken for this one's)
+  : >err
   timeout 20 "$sacn" watch --port 25831 --seconds 4 $form </dev/null >out 2>err &
   watch=$!
   started+=("$watch")
