@@ -1,5 +1,9 @@
 -- How a run ends: its exit status, and which ending a fault of the crates below is (profile).
 use Rattle.std.specs.Prelude.{ℕ}
+use Rattle.hex.specs.declared.error.FromHexError.{FromHexError}
+use Rattle.hex.specs.declared.error.FromHexError.TheVariants as hex
+use Rattle.sacn_check.specs.declared.report.ReportFault.{ReportFault}
+use Rattle.sacn_check.specs.declared.report.ReportFault.TheVariants as report
 use Rattle.sacn_text.specs.declared.fault.DecodeFault.{DecodeFault}
 use Rattle.sacn_text.specs.declared.fault.DecodeFault.TheVariants as decode
 use Rattle.sacn_text.specs.declared.fault.SimFault.{SimFault}
@@ -45,3 +49,15 @@ ending_of_simulation (sim.World fault) = World fault
 ending_of_simulation (sim.Schedule fault) = Line fault
 ending_of_simulation (sim.Event step fault) = Event step fault
 ending_of_simulation sim.WriteFailed = DeviceWrite
+
+-- what a text isn't an even number of digits for
+abbrev pub ending_of_digits : FromHexError → Ending
+ending_of_digits (hex.InvalidHexCharacter c index) = Hex
+ending_of_digits hex.OddLength = Hex
+ending_of_digits hex.InvalidStringLength = Hex
+ending_of_digits hex.OutOfMemory = OutOfMemory
+
+-- what was wrong with a file couldn't be printed for
+abbrev pub ending_of_report : ReportFault → Ending
+ending_of_report report.OutOfMemory = OutOfMemory
+ending_of_report report.WriteFailed = DeviceWrite

@@ -1,7 +1,7 @@
 //! Why a run ends before its work is done, and how it says so.
 ghost use Rattle.std.specs.Prelude.{◌≡◌, ◌↔◌, IsOk, IfErr};
 ghost use Rattle.sacn_commands.specs.Endings.{status_of};
-ghost use Rattle.sacn_commands.specs.declared.ending.Ending.TheVariants.{DeviceWrite};
+ghost use Rattle.sacn_commands.specs.declared.ending.Ending.TheVariants.{OutOfMemory, Show, Setup, Line, DeviceWrite, DeviceSocket};
 
 use clap::error::ErrorKind;
 use hex::FromHexError;
@@ -52,12 +52,16 @@ pub enum Ending {
 }
 
 impl From<AllocError> for Ending {
+    ghost from_gives = { λ _ ending. ending ≡ OutOfMemory };
+
     fn from(_error: AllocError) -> Ending {
         Ending::OutOfMemory
     }
 }
 
 impl<T: Drop> From<AllocFailed<T>> for Ending {
+    ghost from_gives = { λ _ ending. ending ≡ OutOfMemory };
+
     fn from(_error: AllocFailed<T>) -> Ending {
         Ending::OutOfMemory
     }
@@ -78,6 +82,10 @@ impl From<ReadFault> for Ending {
 }
 
 impl From<FromHexError> for Ending {
+    ghost use Rattle.sacn_commands.specs.Endings.{ending_of_digits};
+
+    ghost from_gives = { λ fault ending. ending ≡ ending_of_digits fault };
+
     fn from(error: FromHexError) -> Ending {
         match error {
             FromHexError::OutOfMemory => Ending::OutOfMemory,
@@ -117,42 +125,58 @@ impl From<SimFault> for Ending {
 }
 
 impl From<ShowFault> for Ending {
+    ghost from_gives = { λ fault ending. ending ≡ Show fault };
+
     fn from(fault: ShowFault) -> Ending {
         Ending::Show(fault)
     }
 }
 
 impl From<SetupFault> for Ending {
+    ghost from_gives = { λ fault ending. ending ≡ Setup fault };
+
     fn from(fault: SetupFault) -> Ending {
         Ending::Setup(fault)
     }
 }
 
 impl From<TextFault> for Ending {
+    ghost from_gives = { λ fault ending. ending ≡ Line fault };
+
     fn from(fault: TextFault) -> Ending {
         Ending::Line(fault)
     }
 }
 
 impl From<TableFault> for Ending {
+    ghost from_gives = { λ _ ending. ending ≡ OutOfMemory };
+
     fn from(_fault: TableFault) -> Ending {
         Ending::OutOfMemory
     }
 }
 
 impl From<SocketFailed> for Ending {
+    ghost from_gives = { λ _ ending. ending ≡ DeviceSocket };
+
     fn from(_fault: SocketFailed) -> Ending {
         Ending::DeviceSocket
     }
 }
 
 impl From<WriteFailed> for Ending {
+    ghost from_gives = { λ _ ending. ending ≡ DeviceWrite };
+
     fn from(_fault: WriteFailed) -> Ending {
         Ending::DeviceWrite
     }
 }
 
 impl From<ReportFault> for Ending {
+    ghost use Rattle.sacn_commands.specs.Endings.{ending_of_report};
+
+    ghost from_gives = { λ fault ending. ending ≡ ending_of_report fault };
+
     fn from(fault: ReportFault) -> Ending {
         match fault {
             ReportFault::OutOfMemory => Ending::OutOfMemory,
