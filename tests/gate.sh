@@ -1,12 +1,12 @@
 #!/usr/bin/env bash
-# The gate's way with must-fail edits, several to a check, over a small crate that the kit itself proves: what is refused for a goal of its own is,
-# and what would only fall with a function that it calls isn't. Prints 'ok NAME' or 'not ok NAME: why' for each, as ./test counts them.
+# The gate's way with must-fail edits, many to a check, over a small crate that the kit itself proves: what is refused for a goal of its own is, also where
+# it is a function's second edit, and what would only fall with a function that it calls isn't. Prints 'ok NAME' or 'not ok NAME: why' for each, as ./test counts them.
 set -u
 top=$(cd "$(dirname "$(readlink -f "$0")")/.." && pwd)
 room=$(mktemp -d)
 trap 'rm -rf "$room"' EXIT
 crate=$room/crates/sums
-mkdir -p "$crate/src" "$crate/must-fail"
+mkdir -p "$crate/src" "$crate/specs" "$crate/must-fail"
 cp "$top/HANDLES" "$room/"
 echo "sums:" >"$room/crates.txt"
 cat >"$crate/src/lib.rt" <<'RATTLE'
@@ -16,6 +16,15 @@ pub mod add;
 pub mod laws;
 pub mod limits;
 RATTLE
+echo "pub mod Sums" >"$crate/specs/Lib.antt"
+cat >"$crate/specs/Sums.antt" <<'ANTT'
+-- What the sums are.
+use Rattle.std.specs.Prelude.{ℕ, ◌+◌}
+
+-- the sum of three
+abbrev pub of_three : ℕ → ℕ → ℕ → ℕ
+of_three a b c = a + b + c
+ANTT
 cat >"$crate/src/limits.rt" <<'RATTLE'
 //! A number.
 
@@ -33,8 +42,9 @@ pub fn numbers()
 {}
 RATTLE
 cat >"$crate/src/add.rt" <<'RATTLE'
-//! Two sums.
+//! Three sums.
 ghost use Rattle.std.specs.Prelude.{◌≡◌, ◌+◌, ◌≤◌};
+ghost use Rattle.sums.specs.Sums.{of_three};
 
 /// One more.
 pub fn next(n: u8) -> u8
@@ -51,10 +61,25 @@ pub fn after_next(n: u8) -> u8
 {
     next(next(n))
 }
+
+/// The sum of three.
+pub fn all(a: u8, b: u8, c: u8) -> u8
+    requires first { a ≤ 80 }
+    requires second { b ≤ 80 }
+    requires third { c ≤ 80 }
+    ensures { result ≡ of_three a b c }
+{
+    let two = a + b;
+    two + c
+}
 RATTLE
 edit() { printf 'file: src/%s.rt\nold: %s\nnew: %s\n' "$2" "$3" "$4" >"$crate/must-fail/$1.edit"; }
-edit two_more add "    n + 1" "    n + 2"
+edit adds_two add "    n + 1" "    n + 2"
+edit adds_three add "    n + 1" "    n + 3"
+edit turned_round add "    n + 1" "    1 + n"
 edit as_before add "    next(next(n))" "    next(n) + 1"
+edit in_the_head add "    ensures { result ≡ n + 2 }" "    ensures { result ≡ n + 2 } { n } fn other(n: u8) -> u8 requires { n ≤ 100 } ensures { result ≡ n + 2 }"
+printf '# falls in add::all\nfile: specs/Sums.antt\nold: of_three a b c = a + b + c\nnew: of_three a b c = a + b\n' >"$crate/must-fail/sum_of_two.edit"
 edit another_most limits "pub const MOST: u8 = 100;" "pub const MOST: u8 = 99;"
 
 # (from nothing, also where an earlier run on this machine has tried the same)
@@ -64,11 +89,15 @@ count() {
   if grep -qE "$2" <<<"$said"; then echo "ok gate: $1"; else echo "not ok gate: $1: $(tail -n 4 <<<"$said" | tr '\n' ';')"; fi
 }
 # What the kit calls the functions of an impl of a trait whose own type is a path: by all its words.
-named=$(cd "$top/tools" && python3 -B -c 'import gate; print(*gate.impl_of(["impl From<io::Error> for Fault {", "    fn from(error: io::Error) -> Fault {"], 1, "    ")[1])')
+named=$(cd "$top/tools" && python3 -B -c 'import texts; print(*texts.impl_of(["impl From<io::Error> for Fault {", "    fn from(error: io::Error) -> Fault {"], 1, "    ")[1])')
 if [ "$named" = "FaultFrom FaultFromIoError" ]; then echo "ok gate: an impl is found by the kit's name"; else echo "not ok gate: an impl is found by the kit's name: $named"; fi
 
-count "a sum that is wrong is refused for its own goal" '^rt: must-fail sums/two_more\.edit: refused, as it must be: add::next: '
+count "a sum that is wrong is refused for its own goal" '^rt: must-fail sums/adds_three\.edit: refused, as it must be: add::next: '
+count "and one more of that function in a copy of it" '^rt: must-fail sums/adds_two\.edit: refused, as it must be: add::next_edit[0-9]*: '
+count "a body behind a head is its function's" '^rt: must-fail sums/in_the_head\.edit: refused, as it must be: add::after_next: '
 count "a number falls by the law that states it" '^rt: must-fail sums/another_most\.edit: refused, as it must be: laws::numbers: '
-count "what falls only with what it calls is tried alone" '^rt: sums: 2 of 3 edits refused together; one by one: as_before\.edit$'
-count "what means the same is told" '^rt: must-fail sums/as_before\.edit: NOT REFUSED'
-count "the last line counts them, and the status says so (status $status)" "^3 passed, $status failed\$"
+count "another definition falls in the function that its edit names" '^rt: must-fail sums/sum_of_two\.edit: refused, as it must be: add::all: '
+count "what falls only with what it calls, and what means the same, is tried alone" '^rt: sums: 5 of 7 edits refused together; one by one: as_before\.edit turned_round\.edit$'
+count "what means the same with a function that it calls is told" '^rt: must-fail sums/as_before\.edit: NOT REFUSED'
+count "what means the same is told" '^rt: must-fail sums/turned_round\.edit: NOT REFUSED'
+count "the last line counts them, and the status says so (status $status)" "^6 passed, $((2 * status)) failed\$"

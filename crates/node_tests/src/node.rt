@@ -1,5 +1,5 @@
 //! The worked rows of the node.
-mod compared;
+mod comparison;
 mod octets;
 mod plain_node;
 mod stories;

@@ -1,5 +1,5 @@
 //! The worked rows of the source table.
-mod compared;
+mod comparison;
 mod stories;
 
 use crate::sent::{FIRST, Sent, cid_of, live, write_sent};

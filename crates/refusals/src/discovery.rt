@@ -15,7 +15,7 @@ fn page(source: u8, universe: u8) -> [u8; 122] {
     octets
 }
 
-fn kept(
+fn take_page(
     collector: &mut Collector,
     now: u64,
     source: u8,
@@ -47,13 +47,13 @@ fn is_left(collector: &mut Collector, source: u8, wanted: &[u16]) -> bool {
 }
 
 // Takes a page, again where memory was refused: all that was known before is known till then, and no more.
-fn taken(collector: &mut Collector, source: u8, universe: u8, before: &[u16]) -> Outcome {
-    match kept(collector, 0, source, universe) {
+fn take_again(collector: &mut Collector, source: u8, universe: u8, before: &[u16]) -> Outcome {
+    match take_page(collector, 0, source, universe) {
         Ok(()) => Outcome::Done,
         Err(DiscoveryFault::OutOfMemory) => {
             if !is_left(collector, source, before) {
                 Outcome::Wrong("a refused page changed what is known")
-            } else if kept(collector, 0, source, universe).is_ok() {
+            } else if take_page(collector, 0, source, universe).is_ok() {
                 Outcome::Refused
             } else {
                 Outcome::Wrong("a refused page can't be taken again")
@@ -75,8 +75,8 @@ pub fn calls_made(alloc: Global) -> Outcome {
     let mut collector = Collector::new(alloc);
     let mut outcome = Outcome::Done;
     for source in 0..20u8 {
-        outcome = outcome.then(taken(&mut collector, source, 5, &[]));
-        outcome = outcome.then(taken(&mut collector, source, 6, &[5]));
+        outcome = outcome.then(take_again(&mut collector, source, 5, &[]));
+        outcome = outcome.then(take_again(&mut collector, source, 6, &[5]));
         outcome = outcome.then(listed(&mut collector, source, &[6]));
     }
     if collector.expire(25_000) == 20 {

@@ -34,7 +34,7 @@ impl Write for Page {
     }
 }
 
-fn printed(alloc: Global) -> (Result<(), SimFault>, ArrayVec<u8, 128>) {
+fn simulate(alloc: Global) -> (Result<(), SimFault>, ArrayVec<u8, 128>) {
     let mut out = WriterOut::new(Page {
         octets: ArrayVec::new(),
     });
@@ -44,13 +44,13 @@ fn printed(alloc: Global) -> (Result<(), SimFault>, ArrayVec<u8, 128>) {
 
 /// `sim_text`: where memory is refused, what is written is a prefix of the lines.
 pub fn calls_made(alloc: Global) -> Outcome {
-    let (answer, text) = printed(alloc);
+    let (answer, text) = simulate(alloc);
     match answer {
         Ok(()) if text.as_slice() == LINES => Outcome::Done,
         Err(SimFault::OutOfMemory) if !LINES.starts_with(text.as_slice()) => Outcome::Wrong(
             "what a refused simulation wrote",
         ),
-        Err(SimFault::OutOfMemory) => match printed(alloc) {
+        Err(SimFault::OutOfMemory) => match simulate(alloc) {
             (Ok(()), again) if again.as_slice() == LINES => Outcome::Refused,
             _ => Outcome::Wrong("a simulation that can't be run again"),
         },

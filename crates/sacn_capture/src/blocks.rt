@@ -166,14 +166,14 @@ impl<R: BufRead> Pieces<R> {
         ensures { ReadsPiece R.Read.remaining (packet_behind link captured moment rest order size
             (state_of self.old)) self.old self.new result }
     {
-        let frame = self.taken(link, captured)?;
+        let frame = self.take_frame(link, captured)?;
         skip_to_end(&mut self.input, rest, order, size)?;
         self.moment = moment;
         Ok(Some(frame))
     }
 
     // A frame of so many octets, read into the buffer where it is kept.
-    pub fn taken(&mut self, link: Option<LinkType>, captured: u32) -> Result<Frame, FaultKind>
+    pub fn take_frame(&mut self, link: Option<LinkType>, captured: u32) -> Result<Frame, FaultKind>
         ensures frame { IfOk result
             (λ frame. TakesFrame link captured frame (R.Read.remaining self.old.input.reader)
             (R.Read.remaining self.new.input.reader) self.new.buffer.octets.items) }
@@ -183,18 +183,18 @@ impl<R: BufRead> Pieces<R> {
             (map_ok (λ frame. content_in frame self.new.buffer.octets.items) result) }
     {
         let Some(link) = link else {
-            return self.left_out(captured, Passed::OtherLink);
+            return self.leave_out(captured, Passed::OtherLink);
         };
         let len = captured as usize;
         if len > LONGEST_KEPT {
-            return self.left_out(captured, Passed::TooLong);
+            return self.leave_out(captured, Passed::TooLong);
         }
         self.buffer.fill(&mut self.input, len)?;
         Ok(Frame::Kept(link, len))
     }
 
     // A frame that isn't kept.
-    fn left_out(&mut self, captured: u32, passed: Passed) -> Result<Frame, FaultKind>
+    fn leave_out(&mut self, captured: u32, passed: Passed) -> Result<Frame, FaultKind>
         ensures frame { IfOk result (λ frame. frame ≡ LeftOut passed) }
         ensures octets { OnOk result (LeavesOut (R.Read.remaining self.old.input.reader)
             (R.Read.remaining self.new.input.reader) captured) }

@@ -229,7 +229,7 @@ pub fn simple_in(
     if octets.len() < SIMPLE_HEAD {
         return Err(FaultKind::CutShort);
     }
-    let captured = kept(longest, order.u32_at(octets, 0));
+    let captured = captured_length(longest, order.u32_at(octets, 0));
     if captured > length - 16 {
         return Err(FaultKind::Length);
     }
@@ -237,7 +237,7 @@ pub fn simple_in(
 }
 
 // What is kept of a frame.
-fn kept(longest: u32, original: u32) -> u32
+fn captured_length(longest: u32, original: u32) -> u32
     ensures { result ≡ kept_of longest original }
 {
     if longest == 0 {

@@ -113,7 +113,7 @@ impl<R: BufRead> Pieces<R> {
             (record_behind header (state_of self.old) octets.now) self.old self.new result }
     {
         let head = pcap_record_head(header.stamp, octets)?;
-        let frame = self.taken(Some(header.link), head.captured)?;
+        let frame = self.take_frame(Some(header.link), head.captured)?;
         self.moment = head.moment;
         Ok(Some(frame))
     }

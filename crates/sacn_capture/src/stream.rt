@@ -97,7 +97,7 @@ impl<R: BufRead> Capture<R> {
         match self.advance()? {
             Some(frame) => {
                 self.count(frame);
-                Ok(Some(self.shown(frame)))
+                Ok(Some(self.record_of(frame)))
             }
             None => Ok(None),
         }
@@ -192,7 +192,7 @@ impl<R: BufRead> Capture<R> {
     }
 
     // The frame that was read last, with what stands in it.
-    fn shown(&self, frame: Frame) -> Record<'_>
+    fn record_of(&self, frame: Frame) -> Record<'_>
         ensures content { map_ok sent_of result.content
             ≡ content_in frame self.now.pieces.buffer.octets.items }
         ensures moment { result.moment ≡ self.now.pieces.moment }

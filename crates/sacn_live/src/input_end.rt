@@ -22,7 +22,7 @@ impl InputEnd {
     /// It is waited for, unless standard input has ended already.
     pub fn awaited() -> InputEnd {
         let input = InputEnd { descriptor: STDIN };
-        if input.came() {
+        if input.has_come() {
             InputEnd::ignored()
         } else {
             input
@@ -35,7 +35,7 @@ impl InputEnd {
     }
 
     /// Whether it is waited for and came, or standard input failed. What else is there of it is passed over.
-    pub fn came(&self) -> bool {
+    pub fn has_come(&self) -> bool {
         if self.descriptor == NO_DESCRIPTOR || !is_readable(self.descriptor) {
             return false;
         }

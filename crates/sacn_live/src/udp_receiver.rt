@@ -61,7 +61,7 @@ impl<'a, R: Net + MachineClock> UdpReceiver<'a, R> {
 
     /// Whether standard input is waited for and has ended or failed. What is there of it is passed over.
     pub fn input_ended(&mut self) -> bool {
-        self.input.came()
+        self.input.has_come()
     }
 
     /// The room for datagrams that wait, in octets, as the machine tells it; None where it doesn't.

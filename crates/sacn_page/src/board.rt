@@ -118,7 +118,7 @@ impl Board {
     }
 
     /// The universes heard, ascending.
-    pub fn heard(&self) -> &[u16] {
+    pub fn universes_heard(&self) -> &[u16] {
         self.heard.as_slice()
     }
 

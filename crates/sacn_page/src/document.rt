@@ -133,7 +133,7 @@ pub fn push_document(
     }
     let start = text.len();
     push_universe(text, board.chosen(named), given, extent)?;
-    push_heard(text, board.heard(), given, extent)?;
+    push_heard(text, board.universes_heard(), given, extent)?;
     push_rows(text, board.monitor().streams(), moment, given, extent)?;
     push_lit(text, board, given, extent)?;
     push_alarms(text, board, given, extent)?;

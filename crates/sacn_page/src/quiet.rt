@@ -52,6 +52,6 @@ impl<'a, R: MachineClock> Listener for Quiet<'a, R> {
     }
 
     fn has_ended(&mut self) -> bool {
-        self.input.came()
+        self.input.has_come()
     }
 }

@@ -75,7 +75,7 @@ impl<T: Tape + Drop> Recording<T> {
         if !self.replay.advance(u64::MAX, steps)? {
             return Ok(false);
         }
-        self.facts.length = self.replay.shown();
+        self.facts.length = self.replay.moment_shown();
         self.facts.fault = self.replay.fault();
         Ok(true)
     }
@@ -91,7 +91,7 @@ impl<T: Tape + Drop> Recording<T> {
             Some(universe) => self.replay.board().lit(universe).is_some(),
             None => true,
         };
-        !self.is_broken & is_merged & (self.replay.shown() <= moment)
+        !self.is_broken & is_merged & (self.replay.moment_shown() <= moment)
     }
 }
 

@@ -89,7 +89,7 @@ impl<R: BufRead + Drop> Replay<R> {
     }
 
     /// The moment that is shown.
-    pub fn shown(&self) -> u64
+    pub fn moment_shown(&self) -> u64
         ensures { result ≡ self.now.shown }
     {
         self.shown

@@ -14,7 +14,7 @@ mod watch;
 pub use fault::WatchFault;
 pub use layout::screen;
 pub use listener::Listener;
-pub use page::{Cell, Ink, Page, Row, Size, is_shown, shown};
+pub use page::{Cell, Ink, Page, Row, Size, is_shown, printable};
 pub use run::{watch_lines, watch_terminal};
 pub use terminal::{MIN_WAIT, Terminal};
 pub use view::View;

@@ -48,7 +48,7 @@ pub fn is_shown(code: u32) -> bool
 }
 
 /// The letter, or a question mark where it can't be shown.
-pub fn shown(code: u32) -> u32
+pub fn printable(code: u32) -> u32
     ensures letter { result ≡ shown_as code }
     ensures shown { is_shown result ≡ true }
 {
@@ -100,7 +100,7 @@ impl Row {
     {
         if self.cells.len() < self.width {
             self.cells.push(Cell {
-                code: shown(code),
+                code: printable(code),
                 ink,
             })?;
         }

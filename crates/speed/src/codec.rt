@@ -15,7 +15,7 @@ pub const REFUSE: &str = "refuse a data packet of priority 201";
 pub const WRITE: &str = "write a data packet of 512 slots";
 
 /// Writes a full data packet of a source of a universe, and returns its length.
-pub fn written(
+pub fn write_full(
     source: u8,
     universe: u16,
     number: u8,
@@ -82,7 +82,7 @@ impl Turn for Writing {
     // (A place that isn't known before the run: else the compiler leaves out what nothing reads.)
     fn turn(&mut self, number: u64) -> u64 {
         self.slots[0] = (number % 256) as u8;
-        let length = written(1, 1, 0, &self.slots, &mut self.out);
+        let length = write_full(1, 1, 0, &self.slots, &mut self.out);
         u64::from(self.out[(number % 638) as usize]).wrapping_add(length as u64)
     }
 }
@@ -104,7 +104,7 @@ impl Turn for PlainWriting {
 /// A full packet of this priority.
 fn packet(priority: u8) -> [u8; 638] {
     let mut octets = [0; 638];
-    written(1, 1, 0, &[7; 512], &mut octets);
+    write_full(1, 1, 0, &[7; 512], &mut octets);
     octets[108] = priority;
     octets
 }

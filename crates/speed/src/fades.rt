@@ -194,7 +194,12 @@ impl Turn for Sleeping {
 }
 
 // A console of such a show, whose cue began at 0.
-fn begun(alloc: Global, universes: u16, slots: u16, channels: u16) -> Result<Fading, SpeedFault> {
+fn begin_fading(
+    alloc: Global,
+    universes: u16,
+    slots: u16,
+    channels: u16,
+) -> Result<Fading, SpeedFault> {
     let text = show_text(alloc, universes, slots, channels)?;
     let show = read_show(alloc, text.as_str())?;
     let mut core = ConsoleCore::new(alloc, &show, 0)?;
@@ -217,7 +222,7 @@ fn faded<R: AllocGlobal + Clock, O: Write>(
     calls: u64,
     size: (u16, u16),
 ) -> Result<Fading, SpeedFault> {
-    let mut fading = begun(rt.alloc(), size.0, size.1, CHANNELS)?;
+    let mut fading = begin_fading(rt.alloc(), size.0, size.1, CHANNELS)?;
     let mut plain = plain(rt.alloc(), size.0, size.1)?;
     turn::compared(rt, out, name, calls, (&mut fading, &mut plain))?;
     Ok(fading)
@@ -229,7 +234,7 @@ pub fn measured<R: AllocGlobal + Clock, O: Write>(rt: &R, out: &mut O) -> Result
     turn::measured(rt, out, IDLE, 10_000, &mut idling)?;
     faded(rt, out, MANY, 30_000, (64, 512))?;
     faded(rt, out, MOST, 100_000, (1024, 27))?;
-    let half = begun(rt.alloc(), 1024, 27, CHANNELS / 2)?;
+    let half = begin_fading(rt.alloc(), 1024, 27, CHANNELS / 2)?;
     let mut passing = Passing { fading: half };
     turn::measured(rt, out, HALF, 5000, &mut passing)?;
     let mut sleeping = Sleeping {

@@ -1,7 +1,7 @@
 //! A node of one port that shows one universe, and one of 16 ports that show 16 universes of 16 sources each.
 ghost use Rattle.std.specs.Prelude.{◌≤◌};
 
-use crate::codec::written;
+use crate::codec::write_full;
 use crate::fault::SpeedFault;
 use crate::plain_table::PlainNode;
 use crate::turn::{self, Turn};
@@ -87,7 +87,7 @@ fn fed(rt: &impl AllocGlobal, universe: u16) -> Result<Hearing, SpeedFault>
 {
     let setup = read_node(rt.alloc(), SETUP)?;
     let mut octets = [0; 638];
-    written(1, universe, 0, &[7; 512], &mut octets);
+    write_full(1, universe, 0, &[7; 512], &mut octets);
     Ok(Hearing {
         node: NodeCore::new(rt.alloc(), &setup)?,
         octets,
@@ -194,7 +194,7 @@ fn packets() -> [[u8; 638]; 16] {
     let mut source = 0u8;
     for packet in octets.iter_mut() {
         source = source.wrapping_add(1);
-        written(source, 1, 0, &[source; 512], packet);
+        write_full(source, 1, 0, &[source; 512], packet);
     }
     octets
 }

@@ -1,5 +1,5 @@
 //! The source table of one universe, with one, four and sixteen sources.
-use crate::codec::written;
+use crate::codec::write_full;
 use crate::fault::SpeedFault;
 use crate::plain_codec::plain_read;
 use crate::plain_table::PlainTable;
@@ -109,7 +109,7 @@ fn packets_of(sources: u64) -> Sending {
     let mut source = 0u8;
     for packet in octets.iter_mut() {
         source = source.wrapping_add(1);
-        written(source, 1, 0, &[source; 512], packet);
+        write_full(source, 1, 0, &[source; 512], packet);
     }
     Sending { sources, octets }
 }

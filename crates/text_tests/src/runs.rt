@@ -28,7 +28,7 @@ fn link(alloc: Global, desks: &[(Show, u8)]) -> Option<MemoryLink> {
 }
 
 /// What a node writes in three turns: the link brings something at 0, and nothing at 100 and 2500.
-fn written(alloc: Global, core: &mut NodeCore, link: &mut MemoryLink) -> Option<Vec<u8>> {
+fn node_text(alloc: Global, core: &mut NodeCore, link: &mut MemoryLink) -> Option<Vec<u8>> {
     let mut clock = ListClock::new(Vec::from_slice(alloc, &[0, 100, 2500]).ok()?);
     let mut out = WriterOut::new(Vec::new(alloc));
     match run_node(link, &mut clock, &mut out, core, 3) {
@@ -42,7 +42,7 @@ fn loop_text(alloc: Global) -> Option<Vec<u8>> {
     let (desks, setups) = read_world(alloc, WORLD).ok()?;
     let mut link = link(alloc, desks.as_slice())?;
     let mut core = NodeCore::new(alloc, setups.first()?).ok()?;
-    written(alloc, &mut core, &mut link)
+    node_text(alloc, &mut core, &mut link)
 }
 
 /// The same as a schedule: the console sends, the datagram comes, and where nothing comes there is noise.

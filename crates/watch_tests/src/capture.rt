@@ -77,7 +77,7 @@ fn told_frame(alloc: Global, link: LinkType, parts: &[&[u8]]) -> Result<String, 
 }
 
 /// A line for each frame, its moment first, and at last the end or the fault.
-fn told(alloc: Global, parts: &[&[u8]]) -> Result<String, AllocError> {
+fn capture_text(alloc: Global, parts: &[&[u8]]) -> Result<String, AllocError> {
     let file = joined(alloc, parts)?;
     let mut text = String::new(alloc);
     match Capture::open(alloc, file.as_slice()) {
@@ -185,13 +185,13 @@ fn frames_are_passed_over(rt: HostRuntime) -> Result<(), Fail> {
 fn pcap_is_read(rt: HostRuntime) -> Result<(), Fail> {
     let a = rt.alloc();
     let wanted = "1000500 10.0.0.1:1000 > 239.255.0.1:5568, 4; end";
-    let text = told(a, &[&LITTLE, &RECORD, &ETHERNET, &PACKET])?;
+    let text = capture_text(a, &[&LITTLE, &RECORD, &ETHERNET, &PACKET])?;
     assert_eq!(rt; text.as_str(), wanted);
-    let text = told(a, &[&BIG_NANO, &RECORD_BIG, &ETHERNET, &PACKET])?;
+    let text = capture_text(a, &[&BIG_NANO, &RECORD_BIG, &ETHERNET, &PACKET])?;
     assert_eq!(rt; text.as_str(), wanted);
-    let text = told(a, &[&LITTLE, &RECORD, &ETHERNET, &PACKET[..31]])?;
+    let text = capture_text(a, &[&LITTLE, &RECORD, &ETHERNET, &PACKET[..31]])?;
     assert_eq!(rt; text.as_str(), "at octet 24: the file ends too early");
-    let text = told(a, &[&LITTLE, &RECORD, &ETHERNET, &PACKET, &RECORD[..7]])?;
+    let text = capture_text(a, &[&LITTLE, &RECORD, &ETHERNET, &PACKET, &RECORD[..7]])?;
     assert_eq!(rt;
         text.as_str(),
         "1000500 10.0.0.1:1000 > 239.255.0.1:5568, 4; at octet 86: the file ends too early"
@@ -202,7 +202,7 @@ fn pcap_is_read(rt: HostRuntime) -> Result<(), Fail> {
 #[test]
 fn pcapng_is_read(rt: HostRuntime) -> Result<(), Fail> {
     let a = rt.alloc();
-    let text = told(
+    let text = capture_text(
         a,
         &[
             &SECTION,
@@ -217,7 +217,7 @@ fn pcapng_is_read(rt: HostRuntime) -> Result<(), Fail> {
         text.as_str(),
         "1000500 10.0.0.1:1000 > 239.255.0.1:5568, 4; end"
     );
-    let text = told(
+    let text = capture_text(
         a,
         &[
             &SECTION,
@@ -255,7 +255,7 @@ fn two_sections_have_two_orders(rt: HostRuntime) -> Result<(), Fail> {
         b"\0\0\0\x40",
         simple,
     ];
-    let text = told(
+    let text = capture_text(
         rt.alloc(),
         &[&joined(rt.alloc(), &parts)?, &PACKET, b"\0\0\0\x30"],
     )?;
@@ -271,18 +271,21 @@ fn two_sections_have_two_orders(rt: HostRuntime) -> Result<(), Fail> {
 fn other_files_are_refused(rt: HostRuntime) -> Result<(), Fail> {
     let a = rt.alloc();
     let none = "at octet 0: this is no pcap or pcapng file";
-    assert_eq!(rt; told(a, &[])?.as_str(), none);
-    assert_eq!(rt; told(a, &[b"a text that is no recording"])?.as_str(), none);
+    assert_eq!(rt; capture_text(a, &[])?.as_str(), none);
     assert_eq!(rt;
-        told(a, &[&LITTLE[..20]])?.as_str(),
+        capture_text(a, &[b"a text that is no recording"])?.as_str(),
+        none
+    );
+    assert_eq!(rt;
+        capture_text(a, &[&LITTLE[..20]])?.as_str(),
         "at octet 0: the file ends too early"
     );
-    let usb = told(a, &[&LITTLE[..20], b"\xbd\0\0\0"])?;
+    let usb = capture_text(a, &[&LITTLE[..20], b"\xbd\0\0\0"])?;
     assert_eq!(rt;
         usb.as_str(),
         "at octet 0: the link type isn't one that is read here"
     );
-    let old = told(a, &[&LITTLE[..4], b"\x01\0", &LITTLE[6..]])?;
+    let old = capture_text(a, &[&LITTLE[..4], b"\x01\0", &LITTLE[6..]])?;
     assert_eq!(rt; old.as_str(), "at octet 0: the format's version is unknown");
     Ok(())
 }
@@ -290,7 +293,7 @@ fn other_files_are_refused(rt: HostRuntime) -> Result<(), Fail> {
 #[test]
 fn lying_lengths_are_refused(rt: HostRuntime) -> Result<(), Fail> {
     let a = rt.alloc();
-    let huge = told(
+    let huge = capture_text(
         a,
         &[
             &LITTLE,
@@ -300,9 +303,9 @@ fn lying_lengths_are_refused(rt: HostRuntime) -> Result<(), Fail> {
         ],
     )?;
     assert_eq!(rt; huge.as_str(), "at octet 24: a length is wrong");
-    let block = told(a, &[&SECTION, b"\x05\0\0\0\xfc\xff\xff\xff", &PACKET])?;
+    let block = capture_text(a, &[&SECTION, b"\x05\0\0\0\xfc\xff\xff\xff", &PACKET])?;
     assert_eq!(rt; block.as_str(), "at octet 28: the file ends too early");
-    let frame = told(
+    let frame = capture_text(
         a,
         &[
             &SECTION,
@@ -313,7 +316,7 @@ fn lying_lengths_are_refused(rt: HostRuntime) -> Result<(), Fail> {
         ],
     )?;
     assert_eq!(rt; frame.as_str(), "at octet 48: a length is wrong");
-    let unknown = told(a, &[&SECTION, &ENHANCED, &ETHERNET, &PACKET, &ENHANCED_END])?;
+    let unknown = capture_text(a, &[&SECTION, &ENHANCED, &ETHERNET, &PACKET, &ENHANCED_END])?;
     assert_eq!(rt;
         unknown.as_str(),
         "at octet 28: an interface is unknown, or there are too many"

@@ -122,7 +122,7 @@ fn recording(alloc: Global) -> Result<Vec<u8>, AllocError> {
 }
 
 /// What is told of a recording.
-fn told(alloc: Global, file: &[u8], options: &Options<'_>) -> Result<String, Fail> {
+fn explanation(alloc: Global, file: &[u8], options: &Options<'_>) -> Result<String, Fail> {
     let mut text = Vec::new(alloc);
     let answer = explain(alloc, file, options, None, &mut text);
     if let Err(fault) = answer {
@@ -175,7 +175,7 @@ frames with an earlier moment  1
 fn each_thing_is_told(rt: HostRuntime) -> Result<(), Fail> {
     let a = rt.alloc();
     let file = recording(a)?;
-    assert_eq!(rt; told(a, &file, &TEXT)?.as_str(), LINES);
+    assert_eq!(rt; explanation(a, &file, &TEXT)?.as_str(), LINES);
     Ok(())
 }
 
@@ -192,7 +192,7 @@ fn other_universes_are_left_out(rt: HostRuntime) -> Result<(), Fail> {
 {"row":"refused","fault":1,"name":"TooShort","count":1}
 {"row":"counts","datagrams":12,"refused":1,"pages":0,"pages_untracked":0,"synchronization":0,"untracked":0,"other_ports":1,"other_frames":1,"went_back":1,"ms":4000}
 "#;
-    assert_eq!(rt; told(a, &file, &options)?.as_str(), wanted);
+    assert_eq!(rt; explanation(a, &file, &options)?.as_str(), wanted);
     Ok(())
 }
 
@@ -221,7 +221,7 @@ fn objects_are_told(rt: HostRuntime) -> Result<(), Fail> {
     let file = recording(a)?;
     let mut options = TEXT;
     options.form = Form::Json;
-    assert_eq!(rt; told(a, &file, &options)?.as_str(), OBJECTS);
+    assert_eq!(rt; explanation(a, &file, &options)?.as_str(), OBJECTS);
     Ok(())
 }
 
@@ -232,7 +232,7 @@ fn a_cut_file_is_told_as_far_as_it_goes(rt: HostRuntime) -> Result<(), Fail> {
     push_said(a, &mut file, 0, 1, &numbered(10))?;
     push_said(a, &mut file, 100, 1, &numbered(11))?;
     let len = file.len().saturating_sub(1);
-    let text = told(a, &file[..len], &TEXT)?;
+    let text = explanation(a, &file[..len], &TEXT)?;
     let first =
         r#"     0.000 s  universe     1  0102030405060708090a0b0c0d0e0f10 "Desk"  appears at 10.0.0.1:5000, priority 100
 "#;
@@ -248,7 +248,10 @@ fn a_cut_file_is_told_as_far_as_it_goes(rt: HostRuntime) -> Result<(), Fail> {
 fn other_files_are_refused(rt: HostRuntime) -> Result<(), Fail> {
     let a = rt.alloc();
     let none = "at octet 0: this is no pcap or pcapng file\n";
-    assert_eq!(rt; told(a, b"", &TEXT)?.as_str(), none);
-    assert_eq!(rt; told(a, b"a text, not a recording", &TEXT)?.as_str(), none);
+    assert_eq!(rt; explanation(a, b"", &TEXT)?.as_str(), none);
+    assert_eq!(rt;
+        explanation(a, b"a text, not a recording", &TEXT)?.as_str(),
+        none
+    );
     Ok(())
 }

@@ -21,7 +21,7 @@ fn packet(alloc: Global, universe: u8, number: u8, options: u8) -> Result<Vec<u8
     Ok(octets)
 }
 
-fn heard(
+fn hear(
     alloc: Global,
     monitor: &mut Monitor,
     row: &Row,
@@ -50,7 +50,7 @@ const STORY: [Row; 8] = [
 
 fn tell_story(alloc: Global, monitor: &mut Monitor, story: &[Row]) -> Result<bool, AllocError> {
     for row in story {
-        if heard(alloc, monitor, row)? != Some((row.4, row.5, row.6)) {
+        if hear(alloc, monitor, row)? != Some((row.4, row.5, row.6)) {
             return Ok(false);
         }
     }

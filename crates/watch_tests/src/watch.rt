@@ -44,7 +44,7 @@ fn incoming(alloc: Global) -> Result<Vec<Incoming>, AllocError> {
 }
 
 /// What a watch of 3 s tells.
-fn told(alloc: Global, form: Form) -> Result<String, Fail> {
+fn watch_text(alloc: Global, form: Form) -> Result<String, Fail> {
     let mut listener = MemoryReceiver::new(incoming(alloc)?, 3000);
     let mut text = Vec::new(alloc);
     let options = Options {
@@ -69,7 +69,7 @@ const OBJECTS: &str =
 #[test]
 fn lines_are_told(rt: HostRuntime) -> Result<(), Fail> {
     let a = rt.alloc();
-    assert_eq!(rt; told(a, Form::Json)?.as_str(), OBJECTS);
+    assert_eq!(rt; watch_text(a, Form::Json)?.as_str(), OBJECTS);
     Ok(())
 }
 

@@ -1,5 +1,5 @@
 //! The core beside the plain program, over the calls of a fixed generator.
-use super::plain::{Deed, current_cue, is_cue, is_due, latest_page, next_cue, slot_at, told};
+use super::plain::{Deed, current_cue, history_of, is_cue, is_due, latest_page, next_cue, slot_at};
 use super::{Given, NOTHING, PACKET, core, polled};
 use sacn_console::{Command, ConsoleCore, ConsoleFault};
 use std::alloc::{AllocError, Global};
@@ -27,12 +27,12 @@ const FIRST: u64 = 250;
 /// The packet that is due first, and how the list has it.
 fn due_packet(deeds: &[Deed], now: u64) -> Option<(Given, Deed)> {
     for universe in [1, 2, 3] {
-        let told = told(deeds, universe);
+        let history = history_of(deeds, universe);
         let slot = slot_at(deeds, universe, now);
-        if is_due(told, slot, now) {
-            let number = (FIRST.wrapping_add(told.sent) % 256) as u8;
-            let options = if told.is_ended { 64 } else { 0 };
-            let deed = Deed::Packet(now, universe, told.is_ended, slot);
+        if is_due(history, slot, now) {
+            let number = (FIRST.wrapping_add(history.sent) % 256) as u8;
+            let options = if history.is_ended { 64 } else { 0 };
+            let deed = Deed::Packet(now, universe, history.is_ended, slot);
             return Some(((PACKET, number, options, universe, slot), deed));
         }
     }
@@ -42,8 +42,8 @@ fn due_packet(deeds: &[Deed], now: u64) -> Option<(Given, Deed)> {
 fn standing(deeds: &[Deed]) -> usize {
     let mut count = 0usize;
     for universe in [1, 2, 3] {
-        let told = told(deeds, universe);
-        if !(told.is_ended && told.terminations >= 3) {
+        let history = history_of(deeds, universe);
+        if !(history.is_ended && history.terminations >= 3) {
             count = count.saturating_add(1);
         }
     }
@@ -71,11 +71,11 @@ fn universe_answer(deeds: &[Deed], universe: u16, ends: bool) -> Result<(), Cons
     if universe < 1 || universe > 3 {
         return Err(ConsoleFault::NoUniverse);
     }
-    let told = told(deeds, universe);
-    if told.is_ended && told.terminations < 3 {
+    let history = history_of(deeds, universe);
+    if history.is_ended && history.terminations < 3 {
         return Err(ConsoleFault::Ending);
     }
-    if told.is_ended == ends {
+    if history.is_ended == ends {
         return Err(if ends {
             ConsoleFault::Stopped
         } else {

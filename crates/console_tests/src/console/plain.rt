@@ -115,7 +115,7 @@ fn faded(fade: Fade, now: u64) -> u64 {
     fade.from.saturating_sub(part)
 }
 
-fn begun(fade: Fade, level: u64, times: (u64, u64), now: u64) -> Fade {
+fn begin_fade(fade: Fade, level: u64, times: (u64, u64), now: u64) -> Fade {
     let from = faded(fade, now);
     Fade {
         from,
@@ -144,7 +144,7 @@ fn after_order(fade: Fade, now: u64, command: Command, current: u16, channel: u1
         _ => (None, (0, 0)),
     };
     match level {
-        Some(level) => begun(fade, level, times, now),
+        Some(level) => begin_fade(fade, level, times, now),
         None => fade,
     }
 }
@@ -187,30 +187,30 @@ pub(super) fn slot_at(deeds: &[Deed], universe: u16, now: u64) -> u8 {
     (level / 256 % 256) as u8
 }
 
-fn after_packet(told: History, moment: u64, terminated: bool, slot: u8) -> History {
-    let repeats = told.shown == Some(slot);
+fn after_packet(history: History, moment: u64, terminated: bool, slot: u8) -> History {
+    let repeats = history.shown == Some(slot);
     History {
-        sent: told.sent.wrapping_add(1),
+        sent: history.sent.wrapping_add(1),
         last: Some(moment),
-        is_ended: told.is_ended,
+        is_ended: history.is_ended,
         terminations: if terminated {
-            told.terminations.wrapping_add(1)
+            history.terminations.wrapping_add(1)
         } else {
-            told.terminations
+            history.terminations
         },
         shown: Some(slot),
         follow: if repeats {
-            told.follow.wrapping_add(1)
+            history.follow.wrapping_add(1)
         } else {
             0
         },
     }
 }
 
-fn after_turn(told: History, is_ended: bool) -> History {
+fn after_turn(history: History, is_ended: bool) -> History {
     History {
-        sent: told.sent,
-        last: told.last,
+        sent: history.sent,
+        last: history.last,
         is_ended,
         terminations: 0,
         shown: None,
@@ -218,55 +218,55 @@ fn after_turn(told: History, is_ended: bool) -> History {
     }
 }
 
-fn after_deed(told: History, deed: Deed, universe: u16) -> History {
+fn after_deed(history: History, deed: Deed, universe: u16) -> History {
     match deed {
         Deed::Packet(moment, on, terminated, slot) => {
             if on == universe {
-                after_packet(told, moment, terminated, slot)
+                after_packet(history, moment, terminated, slot)
             } else {
-                told
+                history
             }
         }
         Deed::Order(_, Command::EndUniverse(on)) => {
             if on == universe {
-                after_turn(told, true)
+                after_turn(history, true)
             } else {
-                told
+                history
             }
         }
         Deed::Order(_, Command::StartUniverse(on)) => {
             if on == universe {
-                after_turn(told, false)
+                after_turn(history, false)
             } else {
-                told
+                history
             }
         }
-        _ => told,
+        _ => history,
     }
 }
 
-pub(super) fn told(deeds: &[Deed], universe: u16) -> History {
-    let mut told = NO_HISTORY;
+pub(super) fn history_of(deeds: &[Deed], universe: u16) -> History {
+    let mut history = NO_HISTORY;
     for deed in deeds {
-        told = after_deed(told, *deed, universe);
+        history = after_deed(history, *deed, universe);
     }
-    told
+    history
 }
 
-fn passed(told: History, wait: u64, now: u64) -> bool {
-    match told.last {
+fn passed(history: History, wait: u64, now: u64) -> bool {
+    match history.last {
         Some(last) => now.saturating_sub(last) >= wait,
         None => true,
     }
 }
 
 /// Whether a universe of which the list says this is due, where its slot 1 would be `slot`.
-pub(super) fn is_due(told: History, slot: u8, now: u64) -> bool {
-    if told.is_ended {
-        return told.terminations < 3 && passed(told, 25, now);
+pub(super) fn is_due(history: History, slot: u8, now: u64) -> bool {
+    if history.is_ended {
+        return history.terminations < 3 && passed(history, 25, now);
     }
-    let is_new = told.shown != Some(slot);
-    passed(told, 25, now) && (is_new || told.follow < 3) || passed(told, 900, now)
+    let is_new = history.shown != Some(slot);
+    passed(history, 25, now) && (is_new || history.follow < 3) || passed(history, 900, now)
 }
 
 /// The moment of the latest page.

@@ -32,7 +32,7 @@ const RUNS: [Run; 5] = [
     ),
 ];
 
-fn seen(datagram: &[u8]) -> Seen {
+fn look_at(datagram: &[u8]) -> Seen {
     match datagram.len() {
         638 => (638, datagram[111], datagram[114], datagram[126]),
         len => (len, 0, 0, 0),
@@ -42,10 +42,8 @@ fn seen(datagram: &[u8]) -> Seen {
 fn is_handed(link: &MemoryLink, wanted: &[Seen]) -> bool {
     let handed = link.handed();
     handed.len() == wanted.len()
-        && handed
-            .iter()
-            .zip(wanted)
-            .all(|(datagram, wanted)| seen(datagram.as_slice()) == *wanted)
+        && handed.iter().zip(wanted).all(|(datagram, wanted)| look_at(datagram.as_slice())
+            == *wanted)
 }
 
 /// Whether a console does so in four turns at 0, 10, 25 and 25.

@@ -67,7 +67,7 @@ fn is_run_so(alloc: Global, is_heard: bool, counts: (u64, u64), lines: Lines) ->
                 received: counts.0,
                 failed: counts.1,
             };
-            told(alloc, &mut link, &mut out) == Some(Ok(report))
+            run_three_turns(alloc, &mut link, &mut out) == Some(Ok(report))
                 && is_text(alloc, out.writer.as_slice(), lines)
         }
         Err(_) => false,
@@ -123,7 +123,7 @@ fn fails_so(alloc: Global, bad: usize, len: usize, next: Received) -> bool {
     match link(alloc, true) {
         Ok(mut link) => {
             let mut out = WriterOut::new(Stopping::new(alloc, 900, bad));
-            let told = told(alloc, &mut link, &mut out);
+            let told = run_three_turns(alloc, &mut link, &mut out);
             let mut buffer = [0; 2048];
             told == Some(Err(WriteFailed))
                 && out.has_failed()

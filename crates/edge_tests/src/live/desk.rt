@@ -69,7 +69,7 @@ impl Orders for ListOrders {
     }
 }
 
-fn seen(datagram: &[u8]) -> (u8, u8, bool) {
+fn look_at(datagram: &[u8]) -> (u8, u8, bool) {
     match datagram.len() {
         638 => (datagram[114], datagram[126], datagram[112] >= 64),
         _ => (0, 0, false),
@@ -79,10 +79,8 @@ fn seen(datagram: &[u8]) -> (u8, u8, bool) {
 fn is_handed(link: &MemoryLink) -> bool {
     let handed = link.handed();
     handed.len() == SEEN.len()
-        && handed
-            .iter()
-            .zip(&SEEN)
-            .all(|(datagram, wanted)| seen(datagram.as_slice()) == *wanted)
+        && handed.iter().zip(&SEEN).all(|(datagram, wanted)| look_at(datagram.as_slice())
+            == *wanted)
 }
 
 /// Whether the orders are answered, and the datagrams handed over, as their tables say.

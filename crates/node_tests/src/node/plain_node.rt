@@ -179,7 +179,7 @@ impl PlainNode {
     }
 
     /// What a port shows in one of its slots, from 1 to 512.
-    pub(super) fn shown(&self, ranges: &[SlotRange], port_slot: usize) -> u8 {
+    pub(super) fn level_at(&self, ranges: &[SlotRange], port_slot: usize) -> u8 {
         for range in ranges {
             if let Some(level) = self.range_level(range, port_slot) {
                 return level;

@@ -38,7 +38,7 @@ fn list_of(alloc: Global, listed: Listed) -> Result<Vec<u16>, AllocError> {
 }
 
 /// The octets of a page of a list. None where there is no such page.
-fn written(
+fn page_octets(
     alloc: Global,
     list: &[u16],
     k: usize,
@@ -95,7 +95,7 @@ fn is_laid_out(alloc: Global, row: &LaidRow) -> Result<bool, AllocError> {
     let wanted = page(alloc, row.2, row.1, numbers.as_slice())?;
     let list = list_of(alloc, row.0)?;
     let k = row.1[0] as usize;
-    match written(alloc, list.as_slice(), k, &CID)? {
+    match page_octets(alloc, list.as_slice(), k, &CID)? {
         Some(octets) => Ok(octets == wanted && pages_of(octets.as_slice()) == Some(row.1)),
         None => Ok(false),
     }
@@ -169,7 +169,7 @@ fn is_so(alloc: Global, collector: &mut Collector, step: &Step) -> Result<bool, 
     match step {
         Step::Comes(now, listed, k) => {
             let list = list_of(alloc, *listed)?;
-            match written(alloc, list.as_slice(), *k, &CID)? {
+            match page_octets(alloc, list.as_slice(), *k, &CID)? {
                 Some(octets) => Ok(keeps(collector, *now, octets.as_slice())),
                 None => Ok(false),
             }
@@ -270,7 +270,7 @@ fn of_many(alloc: Global) -> Result<(usize, bool), AllocError> {
     let mut collector = Collector::new(alloc);
     let mut kept = 0usize;
     for number in 0..=255u8 {
-        if let Some(octets) = written(alloc, &[7], 0, &[number; 16])? {
+        if let Some(octets) = page_octets(alloc, &[7], 0, &[number; 16])? {
             let is_kept = keeps(&mut collector, number as u64, octets.as_slice());
             kept = kept.saturating_add(is_kept as usize);
         }

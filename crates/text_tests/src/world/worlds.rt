@@ -147,14 +147,14 @@ fn setups(alloc: Global) -> Option<Vec<NodeSetup>> {
 }
 
 /// A world of so many consoles of the desk. None where there is no memory.
-fn made(alloc: Global, count: u8, first: u8) -> Option<Result<World, NewFault>> {
+fn world_of(alloc: Global, count: u8, first: u8) -> Option<Result<World, NewFault>> {
     let shows = shows(alloc, count, first)?;
     let setups = setups(alloc)?;
     Some(World::new(alloc, shows, setups))
 }
 
 fn world(alloc: Global, first: u8) -> Option<World> {
-    made(alloc, 1, first)?.ok()
+    world_of(alloc, 1, first)?.ok()
 }
 
 fn polls(world: &mut World, count: u64) -> bool {
@@ -302,7 +302,7 @@ fn is_run_stopped(alloc: Global) -> Option<bool> {
 
 /// Whether two shows of one CID make no world.
 fn is_same_refused(alloc: Global) -> bool {
-    match made(alloc, 2, 0) {
+    match world_of(alloc, 2, 0) {
         Some(Err(fault)) => fault == NewFault::SameCid,
         _ => false,
     }

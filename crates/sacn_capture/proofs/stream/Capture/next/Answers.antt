@@ -23,15 +23,15 @@ returns-in-Some g c =
     let told = c.count.new.self in
     let new = remaining read.pieces.input.reader in
     let frame = c.in-Some.frame in
-    let moment = c.shown.ensures.moment ∙ ap (λ (p : Pieces _). p.moment) c.count.ensures.pieces in
-    let content = c.shown.ensures.content ∙ ap (λ (p : Pieces _). content_in frame p.buffer.octets.items) c.count.ensures.pieces in
-    let given = subst (λ (s : Shown). Gives (Ok (Some s)) (to_come remaining c.args.self.now) (to_come remaining read)) (shown_is read.pieces frame (shown_of c.shown.result) (sym moment) (sym content))
+    let moment = c.record_of.ensures.moment ∙ ap (λ (p : Pieces _). p.moment) c.count.ensures.pieces in
+    let content = c.record_of.ensures.content ∙ ap (λ (p : Pieces _). content_in frame p.buffer.octets.items) c.count.ensures.pieces in
+    let given = subst (λ (s : Shown). Gives (Ok (Some s)) (to_come remaining c.args.self.now) (to_come remaining read)) (shown_is read.pieces frame (shown_of c.record_of.result) (sym moment) (sym content))
     (rw c.in-Some.is at c.in_ok-frame.ensures.told) in (
       (
         refl,
         λ _. tt,
         (
-          subst (λ t. Gives (Ok (Some (shown_of c.shown.result))) (to_come remaining c.args.self.now) t) (sym (same_to_come remaining told read c.count.ensures.pieces c.count.ensures.stopped)) given,
+          subst (λ t. Gives (Ok (Some (shown_of c.record_of.result))) (to_come remaining c.args.self.now) t) (sym (same_to_come remaining told read c.count.ensures.pieces c.count.ensures.stopped)) given,
           c.count.ensures.counts ∙ (λ i. counted (passed_by (sym content i)) (c.in_ok-frame.ensures.counts i)),
         ),
       ),

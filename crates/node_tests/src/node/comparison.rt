@@ -31,7 +31,7 @@ fn any_packet(numbers: &mut Numbers, turn: u64) -> Said {
 }
 
 /// What the node answers to the packet.
-fn taken(node: &mut NodeCore, now: u64, said: &Said) -> NodeTaken {
+fn take_said(node: &mut NodeCore, now: u64, said: &Said) -> NodeTaken {
     let sent = Sent {
         cid: said.cid,
         universe: said.universe,
@@ -66,7 +66,7 @@ fn port_alike(node: &mut NodeCore, plain: &PlainNode, port: &PortSetup, now: u64
         return false;
     }
     for at in 1..513 {
-        if frame[at] != plain.shown(port.ranges(), at) {
+        if frame[at] != plain.level_at(port.ranges(), at) {
             return false;
         }
     }
@@ -96,7 +96,7 @@ impl Both {
     /// A packet comes to both: whether they answer it and hold its source alike.
     fn take_alike(&mut self, setup: &NodeSetup, now: u64, said: &Said) -> Result<bool, AllocError> {
         let wanted = self.plain.take(setup, now, said)?;
-        let found = taken(&mut self.node, now, said);
+        let found = take_said(&mut self.node, now, said);
         if !self.answers.as_slice().contains(&found) {
             self.answers.push(found)?;
         }
