@@ -11,8 +11,8 @@ contracts alone, so what falls, and for which goals, is the same, and of the cra
 proved is what the gate's own check of the crate says.)
 
 Edits of constants are applied together too, and each must fall by the clause of a law that states its constant. An edit of anything else says by a line
-`# falls in FUNCTION` which function must fall, and is tried by itself; without such a line it is tried on its file's module. What isn't refused so is tried
-by the kit's own way.
+`# falls in FUNCTION` which function must fall, and is tried by itself: where no goal of the function's own falls, its proof must, which as it stands holds.
+Without such a line it is tried on its file's module. What isn't refused so is tried by the kit's own way.
 """
 import copy
 import os
@@ -124,7 +124,7 @@ class Crate:
 
     def __init__(self, rt, crate, files, flags, kept):
         self.rt, self.crate, self.flags, self.kept, self.links = rt, crate, flags, kept, links_of(crate)
-        self.files, self.texts, self.told, self.why = files, Texts(crate.folder), {}, ""
+        self.files, self.texts, self.told, self.why, self.standing = files, Texts(crate.folder), {}, "", None
         self.edits = [self.texts.edit(it) for it in files if not rt.read_edit(it, crate.folder)[1]]
 
     def only(self, edits, paths, keeps=None):
@@ -155,9 +155,8 @@ class Crate:
         if found is None:
             found, said = self.only(edits, sorted({min(it.names) if is_of_constants or not it.module else it.module for it in targets}))
         # A function that falls though no edit touched it: this check isn't trusted with any of them. (What a law calls may fall with a constant. The
-        # law's own clause is an equation of the constant and a number. And what an edit says of itself is of its own function alone.)
-        takes_more = is_of_constants or edits[0].is_alone
-        odd = [name for name in found or {} if not takes_more and not any(is_of(name, it) for it in targets)]
+        # law's own clause is an equation of the constant and a number.)
+        odd = [name for name in found or {} if not is_of_constants and not any(is_of(name, it) for it in targets)]
         if found is None or odd:
             self.why = f"; a check of {len(edits)} edits wasn't used: {', '.join(odd) or said[-300:]}"
         return {} if found is None or odd else found
@@ -189,6 +188,25 @@ class Crate:
         fell = [f"{name}: {words_of(why)}" for name, why in (found or {}).items() if why and any(name.startswith(f"{it}::") for it in modules)]
         if fell and re.search(r"^only=\d+ proved=[1-9]", said, re.M):
             self.tell(edit, fell[0])
+
+    def proved(self):
+        """The functions that edits tried by themselves name, and that are proved as they stand, by one check."""
+        if self.standing is None:
+            targets = {it for edit in self.edits if edit.is_alone for it in edit.targets}
+            said = self.only([], sorted(min(it.names) for it in targets), lambda it: any(it.names & target.names for target in targets))[1]
+            self.standing = {min(it.names) for it in targets if f"fn {self.crate.name}::{min(it.names)}: proved" in said.split("\n")}
+        return self.standing
+
+    def by_name(self, edit):
+        """Tries an edit that says which function must fall: by a goal of its own, or (as a law does, whose proof is a lemma of another file) since its proof
+        is refused, which as it stands isn't."""
+        if self.texts.with_edits([edit]) is None:
+            return
+        names = sorted(min(it.names) for it in edit.targets)
+        found, said = self.only([edit], names, lambda it: any(it.names & target.names for target in edit.targets))
+        errors = re.findall(r"(?m)^(?:\./)?(proofs/\S+?:\d+:\d+: error: .*)", said)
+        if found and not self.note([edit], found) and errors and all(it in found and it in self.proved() for it in names):
+            self.tell(edit, f"{names[0]}: {words_of(errors[0])}")
 
     def together(self, edits, has_copies):
         """Tries edits that have targets, as many in a check as touch different functions, copies or constants, for as long as that refuses some."""
@@ -222,7 +240,7 @@ class Crate:
             self.together(self.left(lambda it: it.targets and not it.clause and not it.is_alone), has_copies)
         self.together(self.left(lambda it: it.clause), False)
         for edit in self.left(lambda it: it.is_alone):
-            self.note([edit], self.check([edit]))
+            self.by_name(edit)
         for edit in self.left(lambda it: not it.is_alone):
             self.by_module(edit)
         rest = [it for it in self.files if it not in self.told]
