@@ -10,9 +10,8 @@ use Rattle.sacn_patch.specs.Patch.{Patched, with_slot, refusal}
 use Rattle.sacn_patch.specs.declared.fault.PatchFault.{PatchFault}
 use Rattle.sacn_patch.specs.declared.fault.PatchFault.TheVariants as patch
 use Rattle.sacn_universe.specs.declared.limits.TheConstants.{MAX_UNIVERSE}
-use Rattle.sacn_cues.specs.Adding.{refusal_at, kept_of}
+use Rattle.sacn_cues.specs.Adding.{cue_refusal, with_cue}
 use Rattle.sacn_cues.specs.Cues.{Cues, KeptCue}
-use Rattle.sacn_cues.specs.declared.cue.Cue.{Cue as CueValue}
 use Rattle.sacn_cues.specs.declared.fault.CueFault.{CueFault}
 use Rattle.sacn_cues.specs.declared.fault.CueFault.TheVariants as cue
 use Rattle.sacn_universe.specs.Results.{◌>>=◌}
@@ -39,13 +38,6 @@ required o = ok_or o KeyValue
 abbrev pub GivesAs : {X Y : Type 0} → (X → Y) → Result X ShowFault → Result Y ShowFault → Type 0
 GivesAs value (Ok x) wanted = wanted ≡ Ok (value x)
 GivesAs value (Err fault) wanted = (fault ≡ OutOfMemory) ⊎ (wanted ≡ Err fault)
-
--- a cue: its number, and its times and levels
-abbrev pub NumberedCue : Type 0
-NumberedCue = ℕ × KeptCue
-
-abbrev pub numbered : CueValue → NumberedCue
-numbered cue = (cue.number, kept_of cue)
 
 -- who sends: the values that stand alone
 pub record Identity : Type 0 where
@@ -141,14 +133,14 @@ times_in version d =
     if version == 1 then option_and_then (λ t. Some (t, t)) (number_at 0 4294967295 (codes "fade") d)
     else option_and_then (λ up. option_and_then (λ down. Some (up, down)) (number_at 0 4294967295 (codes "down") d)) (number_at 0 4294967295 (codes "up") d)
 
-abbrev pub cue_in : ℕ → Data → Result NumberedCue ShowFault
+abbrev pub cue_in : ℕ → Data → Result KeptCue ShowFault
 cue_in version d = do
   number ← required (number_at 0 65535 (codes "number") d)
   times ← required (times_in version d)
   levels ← required (levels_at d)
-  Ok (number, record { up = times.0; down = times.1; levels = levels })
+  Ok (record { number = number; up = times.0; down = times.1; levels = levels })
 
-abbrev pub cues_in : ℕ → List Data → Result (List NumberedCue) ShowFault
+abbrev pub cues_in : ℕ → List Data → Result (List KeptCue) ShowFault
 cues_in version [] = Ok []
 cues_in version (d ∷ ds) = before (cue_in version d) (cues_in version ds)
 
@@ -169,7 +161,7 @@ pub record Draft : Type 0 where
   pub identity : Identity
   pub universes : List ℕ
   pub send_to : List ℕ
-  pub cues : List NumberedCue
+  pub cues : List KeptCue
   pub patch : List PatchRow
 
 abbrev pub draft_in : ℕ → Members → Result Draft ShowFault
@@ -186,9 +178,9 @@ abbrev pub unless_cue : Option CueFault → Result Cues ShowFault → Result Cue
 unless_cue None later = later
 unless_cue (Some fault) later = Err Cue
 
-abbrev pub cues_added : Cues → List NumberedCue → Result Cues ShowFault
+abbrev pub cues_added : Cues → List KeptCue → Result Cues ShowFault
 cues_added done [] = Ok done
-cues_added done (c ∷ cs) = unless_cue (refusal_at done c.0 c.1) (cues_added (insert done c.0 c.1) cs)
+cues_added done (c ∷ cs) = unless_cue (cue_refusal done c) (cues_added (with_cue done c) cs)
 
 -- each row of the patch, whose universe is one of the show's, added to those before it
 abbrev pub unless_patch : Option PatchFault → Result Patched ShowFault → Result Patched ShowFault

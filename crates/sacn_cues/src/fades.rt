@@ -8,8 +8,8 @@ ghost use Rattle.sacn_cues.specs.Playing.{longer};
 ghost use Rattle.sacn_cues.specs.Tracks.{AreTargets};
 
 use crate::channel::is_channel;
+use crate::cue::Cue;
 use crate::fade::{Fade, begin_all, fill_octets, set_one};
-use crate::scene::Scene;
 use crate::track::Track;
 use sacn_patch::MAX_CHANNELS;
 use std::alloc::{AllocError, Global};
@@ -65,15 +65,15 @@ impl Fades {
     }
 
     /// Begins the fades of the channels that a cue names.
-    pub(crate) fn play(&mut self, scene: &Scene, now: u64)
+    pub(crate) fn play(&mut self, cue: &Cue, now: u64)
         ensures { self.new ≡ record {
-          rest = max self.old.rest (end_of now (longer scene.now));
-          fades = all_begun (λ channel. given_to scene.now.up scene.now.down
-              (level_of_channel scene.now.levels channel)) now 1 self.old.fades;
+          rest = max self.old.rest (end_of now (longer cue.now));
+          fades = all_begun (λ channel. given_to cue.now.up cue.now.down
+              (level_of_channel cue.now.levels channel)) now 1 self.old.fades;
         } }
     {
-        play_scene(scene, &mut self.targets, &mut self.fades, now);
-        self.rest = rest_after(self.rest, now, scene.longer());
+        play_cue(cue, &mut self.targets, &mut self.fades, now);
+        self.rest = rest_after(self.rest, now, cue.longer());
     }
 
     /// Begins the fades of the channels to which going to a cue gives a level.
@@ -146,15 +146,15 @@ impl Fades {
 }
 
 // Begins the fades of the channels that a cue names. The targets are room, and left empty.
-fn play_scene(scene: &Scene, targets: &mut [Option<u16>], fades: &mut [Fade], now: u64)
+fn play_cue(cue: &Cue, targets: &mut [Option<u16>], fades: &mut [Fade], now: u64)
     requires { targets.old ≡ replicate (length fades.old) None }
     ensures targets { targets.new ≡ targets.old }
-    ensures fades { fades.new ≡ all_begun (λ channel. given_to scene.now.up scene.now.down
-        (level_of_channel scene.now.levels channel)) now 1 fades.old }
+    ensures fades { fades.new ≡ all_begun (λ channel. given_to cue.now.up cue.now.down
+        (level_of_channel cue.now.levels channel)) now 1 fades.old }
 {
-    let times = scene.times();
-    scene.aim(targets);
-    scene.begin(targets, fades, times, now);
+    let times = cue.times();
+    cue.aim(targets);
+    cue.begin(targets, fades, times, now);
 }
 
 // The moment from which the fades rest, once one of this time begins.

@@ -3,8 +3,8 @@ ghost use Rattle.std.specs.Prelude.{◌≡◌, ◌==◌, max, IfOk};
 ghost use Rattle.std.specs.Option.{option_map};
 ghost use Rattle.sacn_cues.specs.Tracks.{tracked, track_at};
 
+use crate::cue::Cue;
 use crate::fade::Times;
-use crate::scene::Scene;
 use std::alloc::{AllocError, Global};
 use std::marker::Model;
 
@@ -32,15 +32,15 @@ impl Track {
     pub(crate) fn new(
         alloc: Global,
         number: u16,
-        scene: &Scene,
+        cue: &Cue,
         targets: &[Option<u16>],
     ) -> Result<Track, AllocError>
-        ensures { IfOk result (λ track. track ≡ tracked (number, scene.now) targets.now) }
+        ensures { IfOk result (λ track. track ≡ tracked (number, cue.now) targets.now) }
     {
         Ok(Track {
             number,
-            up: scene.up,
-            down: scene.down,
+            up: cue.up,
+            down: cue.down,
             targets: Vec::from_slice(alloc, targets)?,
         })
     }

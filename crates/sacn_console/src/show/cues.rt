@@ -3,7 +3,7 @@ ghost use Rattle.std.specs.Prelude.{◌≡◌, map};
 ghost use Rattle.std.specs.FinMap.{empty};
 ghost use Rattle.toml.specs.View.{view};
 ghost use Rattle.sacn_files.specs.Document.{Gives};
-ghost use Rattle.sacn_console.specs.ShowReading.{pair_in, level_in, levels_at, times_in, cue_in, cues_in, cues_added, numbered, required, GivesAs};
+ghost use Rattle.sacn_console.specs.ShowReading.{pair_in, level_in, levels_at, times_in, cue_in, cues_in, cues_added, required, GivesAs};
 
 use super::ShowFault;
 use super::rows::rows_in;
@@ -83,7 +83,7 @@ fn times_in(version: u8, row: &Value) -> Option<(u32, u32)>
 }
 
 fn cue_in(alloc: Global, version: u8, row: &Value) -> Result<Cue, ShowFault>
-    ensures { GivesAs numbered result (cue_in version (view row.now)) }
+    ensures { Gives ShowFault.OutOfMemory result (cue_in version (view row.now)) }
 {
     let number = short_at(row, "number", 0, 65535).ok_or(ShowFault::KeyValue)?;
     let (up, down) = times_in(version, row).ok_or(ShowFault::KeyValue)?;
@@ -98,7 +98,7 @@ fn cue_in(alloc: Global, version: u8, row: &Value) -> Result<Cue, ShowFault>
 
 /// Each row's cue, in the file's order.
 pub(super) fn cues_in(alloc: Global, version: u8, rows: &[Value]) -> Result<Vec<Cue>, ShowFault>
-    ensures { GivesAs (λ v. map numbered v.items) result (cues_in version (map view rows.now)) }
+    ensures { GivesAs (λ v. v.items) result (cues_in version (map view rows.now)) }
 {
     let mut cues = Vec::new(alloc);
     for row in rows {
@@ -109,7 +109,7 @@ pub(super) fn cues_in(alloc: Global, version: u8, rows: &[Value]) -> Result<Vec<
 
 /// The cues, each added to those before it.
 pub(super) fn cues_added(alloc: Global, cues: Vec<Cue>) -> Result<CueList, ShowFault>
-    ensures { Gives ShowFault.OutOfMemory result (cues_added empty (map numbered cues.items)) }
+    ensures { Gives ShowFault.OutOfMemory result (cues_added empty cues.items) }
 {
     let mut list = CueList::new(alloc);
     let mut rest = cues.into_iter();

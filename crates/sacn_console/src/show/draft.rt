@@ -18,10 +18,9 @@ pub(super) struct Draft {
 }
 
 impl Model for Draft {
-    ghost use Rattle.std.specs.Prelude.{map};
-    ghost use Rattle.sacn_console.specs.ShowReading.{Draft as Value_of, numbered};
+    ghost use Rattle.sacn_console.specs.ShowReading.{Draft as Value_of};
 
     ghost Value = { Value_of };
 
-    ghost view = { λ d. record { identity = d.identity; universes = d.universes; send_to = d.send_to; cues = map numbered d.cues.items; patch = d.patch.items } };
+    ghost view = { λ d. record { identity = d.identity; universes = d.universes; send_to = d.send_to; cues = d.cues.items; patch = d.patch.items } };
 }

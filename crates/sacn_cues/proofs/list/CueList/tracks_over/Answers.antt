@@ -12,5 +12,5 @@ returns c = are_tracks c.args.self.now c.loop-number.tracks.items
     (sym (append-nil c.loop-number.tracks.items)
     ∙ ap (λ (es : List (ℕ × KeptCue)). c.loop-number.tracks.items ++ tracks_from c.loop-number.targets es) (sym c.in-None.ensures.steps.0)
     ∙ c.loop-number.invariant.told
-    ∙ ap (λ (es : List (ℕ × KeptCue)). tracks_from c.args.targets.now es) (c.into_iter-number-iterator.ensures.into_iter_gives ∙ c.iter-number-items.ensures.rest ∙ sym (entries_are c.self.inside.scenes c.iter-number-items.ensures.ordered) ∙ ap (λ (m : Cues). entries m) c.self.view_is)
+    ∙ ap (λ (es : List (ℕ × KeptCue)). tracks_from c.args.targets.now es) (c.into_iter-number-iterator.ensures.into_iter_gives ∙ c.iter-number-items.ensures.rest ∙ sym (entries_are c.self.inside.cues c.iter-number-items.ensures.ordered) ∙ ap (λ (m : Cues). entries m) c.self.view_is)
     ∙ ap (λ (ts : Targets). tracks_from ts (entries c.args.self.now)) c.requires)
