@@ -1,5 +1,5 @@
 -- A console core: what the next datagram is, and what a deed makes of the core.
-use Rattle.std.specs.Prelude.{◌≡◌, ℕ, ◌+◌, ◌-◌, ◌*◌, max, Bool, false, not, ◌==◌, nat_lt, nat_le, if◌then◌else◌, List, [], ◌∷◌, ◌++◌, map, filter, find, length, drop, Option, Some, None, Result, Ok, Err, ◌<◌, ◌≤◌, slice_index_or}
+use Rattle.std.specs.Prelude.{◌≡◌, ℕ, ◌+◌, ◌-◌, ◌*◌, max, Bool, false, not, ◌==◌, nat_lt, nat_le, if◌then◌else◌, List, ◌++◌, map, filter, find, length, drop, Option, Some, None, Result, Ok, Err, ◌<◌, ◌≤◌, slice_index_or}
 use Rattle.std.specs.Option.{option_map}
 use Rattle.std.specs.List.{AllByRecursion}
 use Rattle.sacn_framing.specs.Data.{Data, IsData}

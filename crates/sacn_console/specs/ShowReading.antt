@@ -1,7 +1,7 @@
 -- A show file: its faults by phases, and its value (profile).
 use Rattle.std.specs.Prelude.{◌≡◌, ◌⊎◌, ◌&&◌, ◌==◌, ℕ, nat_le, Bool, not, false, List, [], ◌∷◌, length, Option, None, Some, if◌then◌else◌, codes, option_and_then, ok_or, Result, Ok, Err}
 use Rattle.std.specs.List.{list_any}
-use Rattle.std.specs.FinMap.{insert, empty}
+use Rattle.std.specs.FinMap.{empty}
 use Rattle.toml.specs.Data.{Data, Members, get_member, as_str, as_bool}
 use Rattle.uuid.specs.Text.{parsed}
 use Rattle.sacn_framing.specs.Naming.{is_nameable}
