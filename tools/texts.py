@@ -11,9 +11,9 @@ LAW = re.compile(r" *ensures (\w+) \{ (\w+) ≡ ")
 IMPL = re.compile(r"impl(?:<[^{]*?>)? (?:(\w+)(?:<(.*?)>)? for )?&?(?:'\w+ )?(\w+)")
 FALLS = re.compile(r"(?m)^# falls in (\S+)$")
 # A function: its module, and the paths that it may have in what a check says. One of a source file: its name, the lines of its head, of its body's first
-# and of its body's last brace, whether its body has to stay, and whether it is a trait's.
+# and of its body's last brace, whether it is computed with, whether C calls it, and whether it is a trait's.
 Target = namedtuple("Target", "module names")
-Function = namedtuple("Function", "name head first last target is_fixed of_trait")
+Function = namedtuple("Function", "name head first last target is_const is_extern of_trait")
 # One edit: its file, the pairs of texts by file, the functions that must fall, for a constant the goal of its law's clause, for one that is made in a copy the
 # function's file, the function and the copy's name, and whether it is tried by itself. Where what must fall can't be told there are no targets.
 Edit = namedtuple("Edit", "file pairs targets clause copied is_alone")
@@ -58,7 +58,7 @@ def functions_of(path, text, homes):
         module = "::".join(module_of(path))
         modules = {module, *homes.get(of_type, ())} if module not in homes.get(of_type, ()) else {module}
         names = frozenset("::".join(filter(None, [home, it, head[4]])) for it in around for home in modules)
-        found.append(Function(head[4], at, first, last, Target(module, names), "const " in head[2] or bool(head[3]), of_trait))
+        found.append(Function(head[4], at, first, last, Target(module, names), "const " in head[2], bool(head[3]), of_trait))
     return found
 
 
@@ -76,6 +76,11 @@ def read_edit(file):
         elif line.startswith("new:"):
             pairs.append((path, old, line[len("new:") :].removeprefix(" ")))
     return pairs, {Target(it.rpartition("::")[0], frozenset([it])) for it in FALLS.findall(text)}
+
+
+def begins_body(before, after):
+    """Whether a line of a function's head is followed by the beginning of a body, on that line."""
+    return after.startswith(before.rstrip("{")) and "{ " in after[len(before) - 1 :]
 
 
 class Texts:
@@ -129,27 +134,35 @@ class Texts:
         head = lines[found.head].replace(f"fn {function.name}", f"fn {name}", 1)
         return "\n".join([*below[:place], "", head, *lines[found.head + 1 : found.last + 1], *below[place:]])
 
+    def is_plain(self, function, text):
+        """Whether a copy of a function can stand for it: one of no trait, with one name, that isn't computed with, that C doesn't call, that doesn't call
+        itself, and that has no closures with proofs of their own."""
+        if function.of_trait or function.is_const or function.is_extern or len(function.target.names) != 1:
+            return False
+        body = "\n".join(text.split("\n")[function.head + 1 : function.last + 1])
+        parts, module = min(function.target.names).split("::"), [it for it in function.target.module.split("::") if it]
+        closures = "/".join([*module, "fn", *parts[len(module) :]])
+        cycle = "/".join([*parts[:-1], f"+{function.name}"])
+        calls_itself = re.search(rf"(?<![\w.:]){function.name}\(|\b(?:self\.|Self::){function.name}\(", body)
+        return not calls_itself and not any(os.path.isdir(f"{self.folder}/proofs/{it}") for it in (closures, cycle))
+
     def copied(self, edit, name_of):
-        """The edit as made in a copy of its function, or None: where it isn't of one plain function's body, or of one that calls itself or has closures with
-        proofs of their own."""
+        """The edit as made in a copy of its function, or None where it isn't of the body of one plain function."""
         paths = {path for path, _, _ in edit.pairs}
         if len(paths) != 1 or len(edit.targets) != 1 or edit.clause or edit.is_alone:
             return None
         (path,), (target,) = paths, edit.targets
         text = self.with_edits([edit])[path]
-        found = [it for it in functions_of(path, text, self.homes) if it.target == target]
+        now = [it for it in functions_of(path, text, self.homes) if it.target == target]
         was = [it for it in functions_of(path, self.of(path), self.homes) if it.target == target]
-        if len(found) != 1 or len(was) != 1 or found[0].of_trait or found[0].is_fixed or len(target.names) != 1:
+        if len(now) != 1 or len(was) != 1 or not self.is_plain(now[0], text):
             return None
-        function, lines = found[0], text.split("\n")
-        body = "\n".join(lines[function.head + 1 : function.last + 1])
-        heads = lines[function.head : function.first] != self.of(path).split("\n")[was[0].head : was[0].first]
-        parts = min(target.names).split("::")
-        inner = [*filter(None, target.module.split("::")), "fn", *parts[len([*filter(None, target.module.split("::"))]) :]]
-        if heads or re.search(rf"\b{function.name}\(", body) or os.path.isdir(f"{self.folder}/proofs/{'/'.join(inner)}") or os.path.isdir(f"{self.folder}/proofs/{'/'.join([*parts[:-1], '+' + parts[-1]])}"):
+        heads = [source.split("\n")[it.head : it.first] for source, it in ((text, now[0]), (self.of(path), was[0]))]
+        if heads[0] != heads[1]:
             return None
-        name = name_of(function.name)
-        return edit._replace(copied=(path, was[0], name), targets={Target(target.module, frozenset(["::".join([*parts[:-1], name])]))})
+        name = name_of(was[0].name)
+        made = min(target.names).removesuffix(was[0].name) + name
+        return edit._replace(copied=(path, was[0], name), targets={Target(target.module, frozenset([made]))})
 
     def hollow(self, texts, keeps, links):
         """These texts with the functions hollow that nothing keeps, and the paths of these functions in what a check says. Links has those that one has."""
@@ -161,9 +174,10 @@ class Texts:
             kept = [it for it in functions if keeps(it.target)]
             for function in reversed(functions):
                 known = function.target.names & links
-                inner = any(it.first < function.head < it.last for it in functions)
-                stays = inner or function.is_fixed or function.first == function.last or any(function.first <= it.head <= function.last for it in kept)
-                if len(known) == 1 and not stays and function not in kept:
+                has_kept = any(function.first <= it.head <= function.last for it in kept)
+                is_inner = any(it.first < function.head < it.last for it in functions)
+                is_fixed = function.is_const or function.is_extern or function.first == function.last
+                if len(known) == 1 and not (has_kept or is_inner or is_fixed or function in kept):
                     indent = lines[function.last][: -len("}")]
                     lines[function.first + 1 : function.last] = [f"{indent}    {HOLLOW}"]
                     hollow += known
@@ -187,9 +201,10 @@ class Texts:
             for what, first, end, start, stop in difflib.SequenceMatcher(None, before, after, autojunk=False).get_opcodes():
                 if what == "equal":
                     continue
-                inside = [it for it in functions if it.first < first and end <= it.last and not it.is_fixed]
+                inside = [it for it in functions if it.first < first and end <= it.last and not it.is_const]
                 # (a body may begin behind the last line of its function's head, too)
-                begun = [it for it in functions if it.head <= first < end == first + 1 <= it.first + 1 and stop == start + 1 and after[start].startswith(before[first].rstrip("{")) and "{ " in after[start][len(before[first]) - 1 :]]
+                begins = (end, stop) == (first + 1, start + 1) and begins_body(before[first], after[start])
+                begun = [it for it in functions if begins and it.head <= first <= it.first]
                 constant = CONSTANT.fullmatch("\n".join(after[start:stop]))
                 if inside or begun:
                     targets.add([*begun, *inside][-1].target)
