@@ -41,8 +41,8 @@ def impl_of(lines, at, indent):
 
 
 def functions_of(path, text, homes):
-    """The functions of a source file as the kit's formatter lays them out: each ends at a brace under its first letter. A method is named by the module of
-    its type, of which homes has the crate's."""
+    """The functions of a source file that have a body, as the kit's formatter lays them out: each ends at a brace under its first letter. A method is named by
+    the module of its type, of which homes has the crate's."""
     lines, found = text.split("\n"), []
     for at, line in enumerate(lines):
         head = FUNCTION.match(line)
@@ -52,7 +52,7 @@ def functions_of(path, text, homes):
         # (a body stands between a line that is an opening brace or ends the head by one, and the brace that closes it)
         opens = (it for it in range(at, len(lines)) if lines[it].startswith(head[1] + "{") or lines[it].startswith((line, head[1] + ")")) and lines[it].endswith((" {", "}")))
         first = next(opens, None)
-        if first is None:
+        if first is None or any(it.endswith(";") for it in lines[at:first]):
             continue
         last = first if lines[first].endswith("}") else next((it for it in range(first, len(lines)) if lines[it] == head[1] + "}"), first)
         module = "::".join(module_of(path))
