@@ -40,6 +40,16 @@ def impl_of(lines, at, indent):
     return found[3], [name, name + "".join(it[0].upper() + it[1:] for path in given for it in path.split("::"))], bool(found[1])
 
 
+def is_declared(lines):
+    """Whether a head's lines end as a declaration does that has no body: by a semicolon outside of all braces."""
+    depth = 0
+    for line in lines:
+        depth += line.count("{") - line.count("}")
+        if depth == 0 and line.endswith(";"):
+            return True
+    return False
+
+
 def functions_of(path, text, homes):
     """The functions of a source file that have a body, as the kit's formatter lays them out: each ends at a brace under its first letter. A method is named by
     the module of its type, of which homes has the crate's."""
@@ -52,7 +62,7 @@ def functions_of(path, text, homes):
         # (a body stands between a line that is an opening brace or ends the head by one, and the brace that closes it)
         opens = (it for it in range(at, len(lines)) if lines[it].startswith(head[1] + "{") or lines[it].startswith((line, head[1] + ")")) and lines[it].endswith((" {", "}")))
         first = next(opens, None)
-        if first is None or any(it.endswith(";") for it in lines[at:first]):
+        if first is None or is_declared(lines[at:first]):
             continue
         last = first if lines[first].endswith("}") else next((it for it in range(first, len(lines)) if lines[it] == head[1] + "}"), first)
         module = "::".join(module_of(path))
