@@ -33,6 +33,13 @@ def links_of(crate):
     return {it.replace(".", "::") for it in parts if re.fullmatch(r"[\w.]+", it) and ".fn." not in f".{it}."}
 
 
+def errors_in(lines):
+    """The errors in proof files that a check told, but those of a name that an edit took away or a hollow function's proof hasn't."""
+    named = re.compile(r".*(has no field|is not in scope|has no `|was not admitted)")
+    found = [it.removeprefix("./") for it in lines if re.match(r"(\./)?proofs/\S+:\d+:\d+: error", it)]
+    return [it for it in found if not named.match(it)]
+
+
 def fallen(rt, crate, texts, homes, said):
     """The functions that a check refused for their own sake, each with the line that says which goal fell, or none where only a proof file names what an
     edit took away; None where the check says nothing of contracts."""
@@ -43,8 +50,7 @@ def fallen(rt, crate, texts, homes, said):
         return None
     if any(rt.unread(it, texts) for it in lines):
         return None
-    named = re.compile(r"(\./)?proofs/.*(has no field|is not in scope|has no `|was not admitted)")
-    errors = [it.removeprefix("./") for it in lines if re.match(r"(\./)?proofs/\S+:\d+:\d+: error", it) and not named.match(it)]
+    errors = errors_in(lines)
     functions = {path: functions_of(path, text, homes) for path, text in texts.items()}
     goals = {}
     for path, line, goal in re.findall(r"^note: (src/\S+?):(\d+):\d+: (it is not proved .*)", said.stdout, re.M):
@@ -204,7 +210,7 @@ class Crate:
             return
         names = sorted(min(it.names) for it in edit.targets)
         found, said = self.only([edit], names, lambda it: any(it.names & target.names for target in edit.targets))
-        errors = re.findall(r"(?m)^(?:\./)?(proofs/\S+?:\d+:\d+: error: .*)", said)
+        errors = errors_in(said.split("\n"))
         if found and not self.note([edit], found) and errors and all(it in found and it in self.proved() for it in names):
             self.tell(edit, f"{names[0]}: {words_of(errors[0])}")
 
