@@ -47,7 +47,7 @@ fn is_text(alloc: Global, found: &[u8], lines: Lines) -> bool {
 }
 
 /// What three turns at 0, 100 and 2500 give. None where there is no memory.
-fn told<O: Out>(
+fn run_three_turns<O: Out>(
     alloc: Global,
     link: &mut MemoryLink,
     out: &mut O,
