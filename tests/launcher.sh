@@ -9,6 +9,9 @@ tree=$room/tree
 mkdir -p "$tree/tools" "$room/bin" "$room/rooms"
 cp "$top/sacn" "$tree/"
 cp "$top/tools/prove.py" "$top/tools/kit" "$tree/tools/"
+mkdir -p "$tree/docs/help"
+echo "help that was kept" >"$tree/docs/help.txt"
+echo "help of node that was kept" >"$tree/docs/help/node.txt"
 printf '#!/bin/sh\necho installed in "$1"\n' >"$tree/tools/library.sh"
 chmod +x "$tree/tools/library.sh"
 echo "Handles allowed: Net." >"$tree/HANDLES"
@@ -78,8 +81,15 @@ check "what lights no stage runs unproved at once, and says so" runs_unproved
 tries_with() { local crate=$1; shift; launch "$@"; [ "$status" = 3 ] && grep -qxF "tried $crate try${1+ -- $*}" "$room/out"; }
 printing_is_small() { tries_with sacn_preview && tries_with sacn_preview decode a && tries_with sacn_preview decode a b && tries_with sacn_preview sim a b; }
 check "what prints a datagram or a world runs as the small program" printing_is_small
-other_is_whole() { tries_with sacn decode && tries_with sacn decode --help && tries_with sacn decode a -- && tries_with sacn decode "" && tries_with sacn sim a && tries_with sacn sim a b c && tries_with sacn --help && tries_with sacn check a; }
+other_is_whole() { tries_with sacn decode && tries_with sacn decode --help && tries_with sacn decode a -- && tries_with sacn decode "" && tries_with sacn sim a && tries_with sacn sim a b c && tries_with sacn --help a && tries_with sacn ../node --help && tries_with sacn check a; }
 check "all else, and what a small one has no words for, runs as the whole" other_is_whole
+
+kept_help() { local text=$1; shift; launch "$@"; [ "$status" = 0 ] && [ "$(cat "$room/out")" = "$text" ] && says "isn't proved on this machine yet" && [ ! -s "$KIT_LOG" ]; }
+help_is_kept() { anew; for word in -h --help; do kept_help "help that was kept" $word && kept_help "help of node that was kept" node $word || return 1; done; }
+check "help is there at once, also of what lights a stage" help_is_kept
+
+help_wants_no_kit() { PATH=$room/none:/usr/bin:/bin "$tree/sacn" node --help >"$room/out" 2>"$room/err" </dev/null && prints "help of node"; }
+check "help wants no kit" help_wants_no_kit
 
 stage_is_proved() { anew; launch node x; [ "$status" = 0 ] && prints "proved node x" && ! prints tried; }
 check "what lights a stage is proved first" stage_is_proved
@@ -89,6 +99,9 @@ check "what the program doesn't stand on isn't proved, and what it stands on com
 
 built_is_used() { launch decode; [ "$status" = 0 ] && prints "proved decode" && [ ! -s "$KIT_LOG" ]; }
 check "a build of this very tree is used" built_is_used
+
+built_helps() { launch node --help; [ "$status" = 0 ] && prints "proved node --help" && [ ! -s "$room/err" ]; }
+check "its own help too" built_helps
 
 changed_is_not_used() { echo "//! more" >>"$tree/crates/left/src/lib.rt"; launch decode; [ "$status" = 3 ] && prints tried; }
 check "a build of another tree isn't" changed_is_not_used

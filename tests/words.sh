@@ -142,3 +142,21 @@ helps desk "A show: a TOML file"
 helps desk "A script: a text file"
 helps groups "A setup or a show"
 helps explain "Serves a page for browsers"
+
+# What the launcher prints before the program is built is the program's own help, of itself and of each command that it lists.
+help_is_kept() {
+  local kept=$1 word
+  shift
+  for word in -h --help; do
+    if "$sacn" "$@" $word 2>err </dev/null | cmp -s - "$kept" && [ ! -s err ]; then
+      echo "ok words: $* $word, as it is kept"
+    else
+      echo "not ok words: $* $word is not what $kept has: tools/help.sh writes it anew"
+    fi
+  done
+}
+help_is_kept "$top/docs/help.txt"
+commands=$("$sacn" --help </dev/null | sed -n '/^Commands:/,/^$/s/^  \([a-z]*\) .*/\1/p')
+for command in $commands; do help_is_kept "$top/docs/help/$command.txt" "$command"; done
+kept=$(cd "$top/docs/help" && printf '%s\n' *.txt | sed 's/\.txt$//' | sort)
+if [ "$kept" = "$(sort <<<"$commands")" ]; then echo "ok words: help is kept of each command, and of no other"; else echo "not ok words: help is kept of $kept, and the commands are $commands"; fi
