@@ -4,9 +4,9 @@
 #[cfg(test)]
 mod node;
 #[cfg(test)]
-mod packets;
+mod packet_rows;
 #[cfg(test)]
-mod sent;
+mod packets;
 #[cfg(test)]
 mod setups;
 #[cfg(test)]

@@ -4,7 +4,7 @@ mod octets;
 mod plain_node;
 mod stories;
 
-use crate::sent::{Numbers, Sent, cid_of, live, write_sent};
+use crate::packet_rows::{Numbers, Sent, cid_of, live, write_sent};
 use sacn_node::*;
 use sacn_sources::{HeldView, Kind, Taken};
 use sacn_universe::SLOTS;

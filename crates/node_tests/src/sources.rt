@@ -2,7 +2,7 @@
 mod comparison;
 mod stories;
 
-use crate::sent::{FIRST, Sent, cid_of, live, write_sent};
+use crate::packet_rows::{FIRST, Sent, cid_of, live, write_sent};
 use sacn_framing::{Packet, read_packet};
 use sacn_sources::{HeldView, Kind, SourceTable, TableFault, Taken};
 use sacn_universe::SLOTS;

@@ -62,7 +62,7 @@ fn take_again(collector: &mut Collector, source: u8, universe: u8, before: &[u16
     }
 }
 
-fn listed(collector: &mut Collector, source: u8, wanted: &[u16]) -> Outcome {
+fn list_outcome(collector: &mut Collector, source: u8, wanted: &[u16]) -> Outcome {
     match has_list(collector, source, wanted) {
         Ok(true) => Outcome::Done,
         Err(DiscoveryFault::OutOfMemory) if is_left(collector, source, wanted) => Outcome::Refused,
@@ -77,7 +77,7 @@ pub fn calls_made(alloc: Global) -> Outcome {
     for source in 0..20u8 {
         outcome = outcome.then(take_again(&mut collector, source, 5, &[]));
         outcome = outcome.then(take_again(&mut collector, source, 6, &[5]));
-        outcome = outcome.then(listed(&mut collector, source, &[6]));
+        outcome = outcome.then(list_outcome(&mut collector, source, &[6]));
     }
     if collector.expire(25_000) == 20 {
         outcome

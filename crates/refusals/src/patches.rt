@@ -16,7 +16,7 @@ impl LevelOf for Even {
 }
 
 /// The level of a slot, counted from 0, where the first so many pairs of slots are patched.
-fn wanted(place: usize, pairs: usize) -> u8 {
+fn level_at(place: usize, pairs: usize) -> u8 {
     if place / 2 >= pairs {
         0
     } else if place % 2 == 0 {
@@ -28,7 +28,7 @@ fn wanted(place: usize, pairs: usize) -> u8 {
 
 fn are_pairs(slots: &[u8; SLOTS], pairs: usize) -> bool {
     for place in 0..SLOTS {
-        if slots[place] != wanted(place, pairs) {
+        if slots[place] != level_at(place, pairs) {
             return false;
         }
     }

@@ -80,7 +80,7 @@ const PLACES_OF_LIVES: [Option<usize>; 9] = [
     Some(1),
 ];
 
-fn lit(frame: &[u8; 513]) -> Said {
+fn first_lit(frame: &[u8; 513]) -> Said {
     if frame[0] == 0 && frame[2..].iter().all(|level| *level == 0) {
         Said::Lit(frame[1])
     } else {
@@ -93,7 +93,7 @@ fn word_of(answer: &Answer) -> Said {
         Answer::Ordered(Ok(())) => Said::Ordered,
         Answer::Sent(number) => Said::Sent(*number),
         Answer::Taken(NodeTaken::FromTable(Taken::Held)) => Said::Held,
-        Answer::Shown(frame) => lit(frame),
+        Answer::Shown(frame) => first_lit(frame),
         Answer::NoSuchPort => Said::NoPort,
         Answer::Restarted => Said::Restarted,
         _ => Said::Other,

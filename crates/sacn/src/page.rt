@@ -1,5 +1,5 @@
 //! A watch that browsers see.
-use crate::watch::ended;
+use crate::watch::watch_end;
 use sacn_commands::ending::Ending;
 use sacn_commands::live::{clock_of, of_socket, said_of_socket, say_hearing};
 use sacn_live::UdpReceiver;
@@ -46,5 +46,5 @@ pub fn serve<R: AllocGlobal + Net + Clock, E: Write>(
     receiver.wait_beside(pages.descriptor());
     say_hearing(address, receiver.room(), err);
     say_page(place, err);
-    ended(run_watch(&mut receiver, &mut pages, until))
+    watch_end(run_watch(&mut receiver, &mut pages, until))
 }

@@ -1,7 +1,7 @@
 //! A recording that browsers see.
 use crate::explain::{ROOM, said_of_capture, say_unread};
 use crate::page::{of_pages, say_page};
-use crate::watch::ended;
+use crate::watch::watch_end;
 use sacn_commands::ending::{Ending, REFUSED};
 use sacn_commands::live::clock_of;
 use sacn_live::{SACN_PORT, guard_standard_descriptors};
@@ -137,5 +137,5 @@ fn show<R: AllocGlobal + Files + Net + Clock, E: Write>(
 ) -> Result<(), Ending> {
     quiet.wait_beside(pages.descriptor());
     say_page(place, err);
-    ended(run_watch(quiet, &mut pages, until))
+    watch_end(run_watch(quiet, &mut pages, until))
 }

@@ -17,7 +17,7 @@ use std::rt::Clock;
 const MAX_EXTENT: u16 = 1000;
 
 /// What came of a watch, where its fault ends the run.
-pub fn ended(told: Result<(), WatchFault>) -> Result<(), Ending> {
+pub fn watch_end(told: Result<(), WatchFault>) -> Result<(), Ending> {
     match told {
         Ok(()) => Ok(()),
         Err(WatchFault::OutOfMemory) => Err(Ending::OutOfMemory),
@@ -46,7 +46,7 @@ pub fn watch<R: AllocGlobal + Env + Net + Clock, O: Write, E: Write>(
     let mut receiver = of_socket(UdpReceiver::bind(rt, address, clock), address, err)?;
     receiver.wait_for_input();
     say_hearing(address, receiver.room(), err);
-    ended(tell(rt, &mut receiver, asked, until, out))
+    watch_end(tell(rt, &mut receiver, asked, until, out))
 }
 
 // Tells what a receiver hears, line by line, or shows it on a terminal.

@@ -6,7 +6,7 @@ use Rattle.sacn_framing.specs.declared.packet.Packet.{Packet}
 use Rattle.sacn_framing.specs.declared.packet.Packet.TheVariants.{DataPacket, PagePacket, SyncPacket}
 use Rattle.sacn_border.specs.Rooms.{room_status, room_with}
 use Rattle.sacn_border.specs.declared.status.TheConstants.{DONE, RANGE, OUT_OF_MEMORY}
-use Rattle.sacn_discovery.specs.Known.{State, after_take, after_expire}
+use Rattle.sacn_discovery.specs.Collection.{State, after_take, after_expire}
 
 -- all but a page leaves it as it is
 abbrev pub after_reading : ℕ → Result Packet PacketFault → State → State

@@ -1,10 +1,10 @@
 -- What a call does by the kind of what a handle stands for.
-use Rattle.sacn_border.specs.declared.held.Held.{Held}
-use Rattle.sacn_border.specs.declared.held.Held.TheVariants as held
+use Rattle.sacn_border.specs.declared.held_value.Held.{Held}
+use Rattle.sacn_border.specs.declared.held_value.Held.TheVariants as held
 use Rattle.sacn_node.specs.Cores as node
 use Rattle.sacn_console.specs.Core as console
-use Rattle.sacn_sources.specs.Kept as sources
-use Rattle.sacn_discovery.specs.Known as discovery
+use Rattle.sacn_sources.specs.LatestMerge as sources
+use Rattle.sacn_discovery.specs.Collection as discovery
 use Rattle.sacn_monitor.specs.Books as monitor
 
 module _ {X : Type 0} (other : X) where

@@ -15,8 +15,8 @@ use Rattle.sacn_console.specs.Due.{life_of}
 use Rattle.sacn_console.specs.Runs.{core_by}
 use Rattle.sacn_console.specs.declared.show.fault.ShowFault.{ShowFault}
 use Rattle.sacn_console.specs.declared.show.fault.ShowFault.TheVariants as show
-use Rattle.sacn_border.specs.declared.held.Held.{Held}
-use Rattle.sacn_border.specs.declared.held.Held.TheVariants as held
+use Rattle.sacn_border.specs.declared.held_value.Held.{Held}
+use Rattle.sacn_border.specs.declared.held_value.Held.TheVariants as held
 use Rattle.sacn_border.specs.declared.status.TheConstants.{DONE}
 
 -- there is a setup: this is the new node of its ports, and this its UDP port

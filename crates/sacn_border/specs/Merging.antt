@@ -5,9 +5,9 @@ use Rattle.sacn_framing.specs.declared.packet.Packet.{Packet}
 use Rattle.sacn_framing.specs.declared.packet.Packet.TheVariants.{DataPacket, PagePacket, SyncPacket}
 use Rattle.sacn_sources.specs.Packets.{packet_of}
 use Rattle.sacn_sources.specs.Rows.{Row, answer}
-use Rattle.sacn_sources.specs.Held.{priority_shown}
+use Rattle.sacn_sources.specs.HeldViews.{priority_shown}
 use Rattle.sacn_slots.specs.Merge.{Shown}
-use Rattle.sacn_sources.specs.Kept.{Kept, kept_after_take}
+use Rattle.sacn_sources.specs.LatestMerge.{Kept, kept_after_take}
 use Rattle.sacn_border.specs.Numbers.{taken_number}
 use Rattle.sacn_border.specs.Packets.{bit_of}
 use Rattle.sacn_border.specs.declared.sources.SourceFields.{SourceFields}

@@ -3,12 +3,12 @@ ghost use Rattle.std.specs.Prelude.{◌≡◌, ◌+◌, true, false, None, IfOk,
 ghost use Rattle.std.specs.FinMap as map;
 ghost use Rattle.sacn_framing.specs.PacketReading.{reading_packet};
 ghost use Rattle.sacn_discovery.specs.Lists.{forgotten as gone};
-ghost use Rattle.sacn_discovery.specs.Known.{State, nothing_known, after_expire, known_list};
+ghost use Rattle.sacn_discovery.specs.Collection.{State, nothing_known, after_expire, known_list};
 ghost use Rattle.sacn_border.specs.Collecting.{after_reading, collect_status, collected, list_status, list_count, list_room, ShowsList};
 ghost use Rattle.sacn_border.specs.Kinds.{of_collector};
 ghost use Rattle.sacn_border.specs.declared.status.TheConstants.{DONE, OUT_OF_MEMORY, WRONG_HANDLE};
 
-use crate::held::Held;
+use crate::held_value::Held;
 use crate::rooms::put_list;
 use crate::status::{DONE, OUT_OF_MEMORY, RANGE, WRONG_HANDLE};
 use sacn_discovery::Collector;

@@ -14,7 +14,7 @@ ghost use Rattle.sacn_border.specs.Making.{ConsoleOf, ShowStatus};
 ghost use Rattle.sacn_border.specs.Sending.{answer_status, command_of, due_size};
 ghost use Rattle.sacn_border.specs.declared.status.TheConstants.{DONE, RANGE, WRONG_HANDLE};
 
-use crate::held::Held;
+use crate::held_value::Held;
 use crate::status::{DONE, RANGE, WRONG_HANDLE};
 use sacn_console::limits::MAX_DATAGRAM;
 use sacn_console::{Command, ConsoleCore, ConsoleFault, Show, ShowFault, read_show};

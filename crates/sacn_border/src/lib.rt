@@ -6,7 +6,7 @@
 
 pub mod collector;
 pub mod console;
-mod held;
+mod held_value;
 pub mod monitor;
 mod news;
 pub mod node;
@@ -18,7 +18,7 @@ pub mod sources;
 pub mod state;
 mod status;
 
-pub use held::Held;
+pub use held_value::Held;
 pub use news::{NewsFields, SenderFields, StreamFields};
 pub use packets::PacketFields;
 pub use sources::SourceFields;

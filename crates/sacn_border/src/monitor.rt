@@ -1,14 +1,14 @@
 //! Monitors.
 ghost use Rattle.std.specs.Prelude.{◌≡◌, max, length, slice_get, IfOk, IfErr};
 ghost use Rattle.std.specs.Option.{option_map};
-ghost use Rattle.sacn_monitor.specs.Books.{new_book, noted, after_take, after_tick, next_loss, silent_place};
+ghost use Rattle.sacn_monitor.specs.Books.{new_book, note_of, after_take, after_tick, next_loss, silent_place};
 ghost use Rattle.sacn_monitor.specs.Rivals.{rivals, top_priority};
 ghost use Rattle.sacn_border.specs.Hearing.{sender_of, news_told, noted_status, stream_told};
 ghost use Rattle.sacn_border.specs.Kinds.{of_monitor};
 ghost use Rattle.sacn_border.specs.Numbers.{found_status, found_or};
 ghost use Rattle.sacn_border.specs.declared.status.TheConstants.{DONE, OUT_OF_MEMORY, WRONG_HANDLE};
 
-use crate::held::Held;
+use crate::held_value::Held;
 use crate::news::{NewsFields, SenderFields, StreamFields, sender_of, stream_told, tell};
 use crate::status::{DONE, OUT_OF_MEMORY, RANGE, WRONG_HANDLE};
 use sacn_monitor::Monitor;
@@ -39,9 +39,9 @@ pub fn take(
     news: &mut NewsFields,
 ) -> u32
     ensures status { result ≡ of_monitor WRONG_HANDLE
-        (λ b. noted_status (noted now (sender_of sender.now) octets.now b)) held.old }
+        (λ b. noted_status (note_of now (sender_of sender.now) octets.now b)) held.old }
     ensures news { news.new ≡ of_monitor news.old
-        (λ b. news_told (noted now (sender_of sender.now) octets.now b)) held.old }
+        (λ b. news_told (note_of now (sender_of sender.now) octets.now b)) held.old }
     ensures held { held.new ≡ of_monitor held.old
         (λ b. Held.Monitor (after_take now (sender_of sender.now) octets.now b)) held.old }
 {

@@ -19,7 +19,7 @@ ghost use Rattle.sacn_border.specs.Numbers.{node_taken_number, node_taken_status
 ghost use Rattle.sacn_border.specs.Rooms.{room_status, room_with};
 ghost use Rattle.sacn_border.specs.declared.status.TheConstants.{DONE, RANGE, WRONG_HANDLE};
 
-use crate::held::Held;
+use crate::held_value::Held;
 use crate::numbers::{node_taken_number, node_taken_status};
 use crate::rooms::put_list;
 use crate::sources::{SourceFields, put_source};

@@ -2,7 +2,7 @@
 ghost use Rattle.std.specs.Prelude.{◌≡◌, ◌==◌, ◌<◌, ◌≤◌, ◌^◌, ◌-◌, ℕ, max, None, slice_index, IfOk, IfErr, IfSome, if◌then◌else◌};
 ghost use Rattle.std.specs.Option.{option_map};
 ghost use Rattle.sacn_framing.specs.PacketReading.{reading_packet};
-ghost use Rattle.sacn_sources.specs.Kept.{new_kept, kept_after_expire, kept_after_merged};
+ghost use Rattle.sacn_sources.specs.LatestMerge.{new_kept, kept_after_expire, kept_after_merged};
 ghost use Rattle.sacn_sources.specs.Rows.{after_expire, row_of, rows_lost, slots_of};
 ghost use Rattle.sacn_sources.specs.declared.limits.TheConstants.{MAX_SOURCES};
 ghost use Rattle.sacn_border.specs.Kinds.{of_sources};
@@ -11,7 +11,7 @@ ghost use Rattle.sacn_border.specs.Numbers.{found_status, found_or};
 ghost use Rattle.sacn_border.specs.Packets.{packet_status};
 ghost use Rattle.sacn_border.specs.declared.status.TheConstants.{DONE, RANGE, WRONG_HANDLE};
 
-use crate::held::Held;
+use crate::held_value::Held;
 use crate::numbers::taken_number;
 use crate::status::{DONE, RANGE, WRONG_HANDLE};
 use sacn_framing::{Packet, read_packet};

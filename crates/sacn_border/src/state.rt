@@ -8,7 +8,7 @@ ghost use Rattle.sacn_border.specs.Numbers.{found_status, found_or};
 ghost use Rattle.sacn_border.specs.Sending.{state_number, line_told};
 ghost use Rattle.sacn_border.specs.declared.status.TheConstants.{WRONG_HANDLE};
 
-use crate::held::Held;
+use crate::held_value::Held;
 use crate::status::{DONE, RANGE, WRONG_HANDLE};
 use sacn_console::{State, UniverseLine};
 

@@ -21,9 +21,9 @@ use Rattle.std_alloc.specs.Box.Ownership.{box_owns}
 use Rattle.std_heap.specs.contracts.Global as Heap
 use Rattle.std_heap.specs.contracts.GlobalAllocator.TheImpl.{ghosts}
 use Rattle.std_heap.proofs.Global.TheLaws as heap
-use Rattle.sacn_border.specs.contracts.held.Held as Held
+use Rattle.sacn_border.specs.contracts.held_value.Held as Held
 use Rattle.sacn_c.specs.contracts.handle.Handle as Handle
-use Rattle.sacn_c.specs.Owned.{owned}
+use Rattle.sacn_c.specs.Ownership.{owned}
 use Rattle.sacn_c.proofs.Values.{both}
 
 abbrev pub al : Al

@@ -4,7 +4,7 @@ ghost use Rattle.std.specs.FinMap as map;
 ghost use Rattle.std.specs.Option.{option_map};
 ghost use Rattle.sacn_framing.specs.PacketReading.{reading_packet};
 ghost use Rattle.sacn_discovery.specs.Lists.{forgotten as gone};
-ghost use Rattle.sacn_discovery.specs.Known.{State, nothing_known, after_expire, known_list};
+ghost use Rattle.sacn_discovery.specs.Collection.{State, nothing_known, after_expire, known_list};
 ghost use Rattle.sacn_border.specs.Collecting.{after_reading, collect_status, collected, list_status, list_count, list_room, ShowsList};
 ghost use Rattle.sacn_border.specs.Kinds.{of_collector};
 ghost use Rattle.sacn_border.specs.declared.status.TheConstants.{DONE, OUT_OF_MEMORY, WRONG_HANDLE};

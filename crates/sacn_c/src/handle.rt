@@ -1,8 +1,8 @@
 //! Handles, as C keeps them.
 ghost use Rattle.std.specs.Prelude.{◌≡◌, Option, Some, None, is_some, true};
 ghost use Rattle.std.specs.Coded.{coded_option};
-ghost use Rattle.sacn_border.specs.declared.held.Held.{Held};
-ghost use Rattle.sacn_border.specs.contracts.held.Held.{the_row};
+ghost use Rattle.sacn_border.specs.declared.held_value.Held.{Held};
+ghost use Rattle.sacn_border.specs.contracts.held_value.Held.{the_row};
 
 use crate::loose::Loose;
 use sacn_border::Held;
@@ -22,7 +22,7 @@ pub struct Handle {
 }
 
 impl Model for Handle {
-    ghost use Rattle.sacn_c.specs.Owned.{owned};
+    ghost use Rattle.sacn_c.specs.Ownership.{owned};
 
     ghost also_owns = { λ h. owned h.alloc h.at h.value };
 }

@@ -1,7 +1,7 @@
 //! Monitors, for C.
 ghost use Rattle.std.specs.Prelude.{◌≡◌, max, length, slice_get, is_some, true, Some, IfSome};
 ghost use Rattle.std.specs.Option.{option_map};
-ghost use Rattle.sacn_monitor.specs.Books.{new_book, noted, after_take, after_tick, next_loss, silent_place};
+ghost use Rattle.sacn_monitor.specs.Books.{new_book, note_of, after_take, after_tick, next_loss, silent_place};
 ghost use Rattle.sacn_monitor.specs.Rivals.{rivals, top_priority};
 ghost use Rattle.sacn_border.specs.Hearing.{sender_of, news_told, noted_status, stream_told};
 ghost use Rattle.sacn_border.specs.Kinds.{of_monitor};
@@ -40,9 +40,9 @@ pub extern "C" fn sacn_proved_monitor_take(
 ) -> u32
     requires { is_some handle.old.value ≡ true }
     ensures status { IfSome handle.old.value (λ held. result ≡ of_monitor WRONG_HANDLE
-        (λ b. noted_status (noted now (sender_of sender.now) octets.now b)) held) }
+        (λ b. noted_status (note_of now (sender_of sender.now) octets.now b)) held) }
     ensures news { IfSome handle.old.value (λ held. news.new ≡ of_monitor news.old
-        (λ b. news_told (noted now (sender_of sender.now) octets.now b)) held) }
+        (λ b. news_told (note_of now (sender_of sender.now) octets.now b)) held) }
     ensures after { handle.new.value ≡ option_map (λ held. of_monitor held (λ b.
         Held.Monitor (after_take now (sender_of sender.now) octets.now b)) held) handle.old.value }
 {

@@ -24,12 +24,12 @@ abbrev pub more : ℕ → ℕ
 more n = min (n + 1) (2 ^ 64 - 1)
 
 -- the counts with one more frame
-abbrev pub counted : Option Passed → Counts → Counts
-counted None counts = record counts { datagrams = more counts.datagrams }
-counted (Some NotIp) counts = record counts { not_ip = more counts.not_ip }
-counted (Some NotIpv4) counts = record counts { not_ipv4 = more counts.not_ipv4 }
-counted (Some NotUdp) counts = record counts { not_udp = more counts.not_udp }
-counted (Some Fragment) counts = record counts { fragments = more counts.fragments }
-counted (Some Cut) counts = record counts { cut = more counts.cut }
-counted (Some OtherLink) counts = record counts { other_links = more counts.other_links }
-counted (Some TooLong) counts = record counts { too_long = more counts.too_long }
+abbrev pub count_frame : Option Passed → Counts → Counts
+count_frame None counts = record counts { datagrams = more counts.datagrams }
+count_frame (Some NotIp) counts = record counts { not_ip = more counts.not_ip }
+count_frame (Some NotIpv4) counts = record counts { not_ipv4 = more counts.not_ipv4 }
+count_frame (Some NotUdp) counts = record counts { not_udp = more counts.not_udp }
+count_frame (Some Fragment) counts = record counts { fragments = more counts.fragments }
+count_frame (Some Cut) counts = record counts { cut = more counts.cut }
+count_frame (Some OtherLink) counts = record counts { other_links = more counts.other_links }
+count_frame (Some TooLong) counts = record counts { too_long = more counts.too_long }

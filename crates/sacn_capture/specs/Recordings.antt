@@ -172,8 +172,8 @@ pieces (suc most) state place = unless_ended place.left (told_by place.at (piece
 abbrev pub rest_of : State → Place → Told
 rest_of state place = pieces (length place.left) state place
 
-abbrev pub begun : Format → State
-begun format = record { format = format; interfaces = []; moment = 0 }
+abbrev pub start_of : Format → State
+start_of format = record { format = format; interfaces = []; moment = 0 }
 
 -- a file's first octets: without eight of them it is no recording
 abbrev pub first_octets : Reading (List ℕ)
@@ -195,7 +195,7 @@ opening = first_octets ▷ opening_behind
 
 abbrev pub told_of : Result (Format × Place) FaultKind → Told
 told_of (Err kind) = faulted (record { at = 0; kind = kind })
-told_of (Ok opened) = rest_of (begun opened.0) opened.1
+told_of (Ok opened) = rest_of (start_of opened.0) opened.1
 
 -- what a file of these octets gives, from its first to its last
 abbrev pub recording : List ℕ → Told

@@ -17,14 +17,14 @@ use Rattle.sacn_capture.specs.declared.pieces.Pieces.{Pieces}
 use Rattle.sacn_capture.specs.declared.buffer.Frame.{Frame}
 use Rattle.sacn_capture.specs.declared.buffer.Frame.TheVariants.{Kept, LeftOut}
 use Rattle.sacn_capture.specs.Pcap.{reading_record}
-use Rattle.sacn_capture.specs.Kept.{content_in}
+use Rattle.sacn_capture.specs.Placement.{content_in}
 use Rattle.sacn_capture.specs.Frames.{Sent, sent_of}
 use Rattle.sacn_capture.specs.Check.{map_ok}
-use Rattle.sacn_capture.specs.Counting.{counted, passed_by}
+use Rattle.sacn_capture.specs.Counting.{count_frame, passed_by}
 use Rattle.sacn_capture.specs.Pcapng.{interface_of}
 use Rattle.sacn_capture.specs.Files.{Place, Reading, Does, IsOutside}
 use Rattle.sacn_capture.specs.Inputs.{place_of}
-use Rattle.sacn_capture.specs.Recordings.{Shown, State, Piece, Told, begun, ends, faulted, recording, rest_of, with_frame}
+use Rattle.sacn_capture.specs.Recordings.{Shown, State, Piece, Told, start_of, ends, faulted, recording, rest_of, with_frame}
 
 -- what the frames so far were
 abbrev pub counts_of : {R : Type 0} → Capture R → Counts
@@ -100,7 +100,7 @@ ReadsPiece remaining reading old new result = Reads remaining reading old new (m
 
 -- nothing but the first header was read
 abbrev pub IsBegun : {R : Type 0} → Pieces R → Type 0
-IsBegun pieces = state_of pieces ≡ begun pieces.format
+IsBegun pieces = state_of pieces ≡ start_of pieces.format
 
 abbrev pub opened_place : {R : Type 0} → (R → Option (List ℕ)) → Result (Pieces R) FaultKind → Option Place
 opened_place remaining (Ok pieces) = file_place remaining pieces
@@ -161,7 +161,7 @@ passed_in frame pieces = passed_by (content_in frame pieces.buffer.octets.items)
 -- a call counts the frame that it gives
 abbrev pub counted_with : Result (Option Shown) CaptureFault → Counts → Counts
 counted_with (Ok None) counts = counts
-counted_with (Ok (Some frame)) counts = counted (passed_by frame.content) counts
+counted_with (Ok (Some frame)) counts = count_frame (passed_by frame.content) counts
 counted_with (Err fault) counts = counts
 
 -- what a call gave came first of what was to come, what was behind it is still to come, and the frame is counted

@@ -7,7 +7,7 @@ ghost use Rattle.sacn_capture.specs.Files.{octets as so_many, gives, ◌▷◌};
 ghost use Rattle.sacn_capture.specs.Inputs.{LeavesOut, Passes};
 ghost use Rattle.sacn_capture.specs.Pcapng.{interface_of};
 ghost use Rattle.sacn_capture.specs.Recordings.{described_by, enhanced_behind, enhanced_piece, frame_content, interface_at, interface_body, interface_end, interface_piece, interface_size, packet_behind, simple_behind, simple_piece};
-ghost use Rattle.sacn_capture.specs.Kept.{content_in};
+ghost use Rattle.sacn_capture.specs.Placement.{content_in};
 ghost use Rattle.sacn_capture.specs.Streams.{TakesFrame, Reads, ReadsPiece, file_place, state_of};
 
 use crate::buffer::{Frame, LONGEST_KEPT};

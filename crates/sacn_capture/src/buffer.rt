@@ -7,7 +7,7 @@ ghost use Rattle.sacn_capture.specs.Check.{map_ok};
 ghost use Rattle.sacn_capture.specs.Files.{octets as so_many};
 ghost use Rattle.sacn_capture.specs.Frames.{sent_of};
 ghost use Rattle.sacn_capture.specs.Inputs.{ReadsInput};
-ghost use Rattle.sacn_capture.specs.Kept.{content_in};
+ghost use Rattle.sacn_capture.specs.Placement.{content_in};
 
 use crate::faults::FaultKind;
 use crate::frame::{Datagram, datagram_in};

@@ -1,7 +1,7 @@
 //! What the frames of a recording were.
 
 ghost use Rattle.std.specs.Prelude.{◌≡◌};
-ghost use Rattle.sacn_capture.specs.Counting.{counted, none_counted, passed_of};
+ghost use Rattle.sacn_capture.specs.Counting.{count_frame, none_counted, passed_of};
 
 use crate::frame::Datagram;
 use crate::links::Passed;
@@ -41,7 +41,7 @@ impl Counts {
 
     /// One more frame.
     pub fn add(&mut self, content: &Result<Datagram<'_>, Passed>)
-        ensures { self.new ≡ counted (passed_of content.now) self.old }
+        ensures { self.new ≡ count_frame (passed_of content.now) self.old }
     {
         match content {
             Ok(_) => self.datagrams = self.datagrams.saturating_add(1),

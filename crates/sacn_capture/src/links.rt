@@ -112,7 +112,7 @@ fn ethernet_place(frame: &[u8]) -> Result<usize, Passed>
     if frame.len() < at + 2 {
         return Err(Passed::Cut);
     }
-    placed(network_of_type(ByteOrder::Big.u16_at(frame, at)), at + 2)
+    ipv4_at(network_of_type(ByteOrder::Big.u16_at(frame, at)), at + 2)
 }
 
 // At the front, where the version says IPv4.
@@ -123,7 +123,7 @@ fn raw_place(frame: &[u8]) -> Result<usize, Passed>
     if frame.is_empty() {
         return Err(Passed::Cut);
     }
-    placed(network_of_version(frame[0] >> 4), 0)
+    ipv4_at(network_of_version(frame[0] >> 4), 0)
 }
 
 // After a header of `head` octets, which has its type at a place.
@@ -136,7 +136,7 @@ fn cooked_place(frame: &[u8], at: usize, head: usize) -> Result<usize, Passed>
     if frame.len() < head {
         return Err(Passed::Cut);
     }
-    placed(network_of_type(ByteOrder::Big.u16_at(frame, at)), head)
+    ipv4_at(network_of_type(ByteOrder::Big.u16_at(frame, at)), head)
 }
 
 // After a family in either order.
@@ -147,7 +147,7 @@ fn null_place(frame: &[u8]) -> Result<usize, Passed>
     if frame.len() < 4 {
         return Err(Passed::Cut);
     }
-    placed(network_of_family(family_in(frame)), 4)
+    ipv4_at(network_of_family(family_in(frame)), 4)
 }
 
 // After a family, the high octet first.
@@ -158,10 +158,10 @@ fn loop_place(frame: &[u8]) -> Result<usize, Passed>
     if frame.len() < 4 {
         return Err(Passed::Cut);
     }
-    placed(network_of_family(ByteOrder::Big.u32_at(frame, 0)), 4)
+    ipv4_at(network_of_family(ByteOrder::Big.u32_at(frame, 0)), 4)
 }
 
-fn placed(network: Network, place: usize) -> Result<usize, Passed>
+fn ipv4_at(network: Network, place: usize) -> Result<usize, Passed>
     ensures { result ≡ placed_at network place }
 {
     match network {

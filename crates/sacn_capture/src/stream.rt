@@ -5,9 +5,9 @@ ghost use types.Logic.{sem};
 ghost use Rattle.std.specs.Io.BufRead.{Rests};
 ghost use Rattle.sacn_capture.specs.contracts.stream.Capture.{the_row};
 ghost use Rattle.sacn_capture.specs.Check.{map_ok};
-ghost use Rattle.sacn_capture.specs.Counting.{none_counted, counted};
+ghost use Rattle.sacn_capture.specs.Counting.{none_counted, count_frame};
 ghost use Rattle.sacn_capture.specs.Frames.{sent_of};
-ghost use Rattle.sacn_capture.specs.Kept.{content_in};
+ghost use Rattle.sacn_capture.specs.Placement.{content_in};
 ghost use Rattle.sacn_capture.specs.Streams.{passed_in, Gives, GivesFirst, GivesNext, GivesRecord, IsPcap, Opens, ReadsRecord, StepReads, Steps, counts_of, frame_shown, left_in, place_of_reading, shown_of, stopped_by, to_come};
 
 use crate::buffer::Frame;
@@ -185,7 +185,7 @@ impl<R: BufRead> Capture<R> {
         ensures pieces { self.new.pieces ≡ self.old.pieces }
         ensures stopped { self.new.stopped ≡ self.old.stopped }
         ensures counts { self.new.counts
-            ≡ counted (passed_in frame self.old.pieces) self.old.counts }
+            ≡ count_frame (passed_in frame self.old.pieces) self.old.counts }
     {
         let content = self.pieces.buffer.content(frame);
         self.counts.add(&content);

@@ -13,17 +13,17 @@ use Rattle.sacn_check.specs.declared.refusal.Refusal.TheVariants.{Show, Setup, W
 use Rattle.sacn_check.specs.declared.finding.Finding.{Finding}
 
 -- the fault that a reading ends with, if it does
-abbrev pub refused : {X F : Type 0} → (F → Refusal) → Result X F → Option Refusal
-refused name (Ok x) = None
-refused name (Err fault) = Some (name fault)
+abbrev pub refusal_by : {X F : Type 0} → (F → Refusal) → Result X F → Option Refusal
+refusal_by name (Ok x) = None
+refusal_by name (Err fault) = Some (name fault)
 
 -- why a text isn't a file of this kind, by the definition of the kind's reader
 abbrev pub refusal : FileKind → List ℕ → Option Refusal
-refusal kind.Show text = refused Show (show_or_toml (parse_document text))
-refusal kind.Setup text = refused Setup (setup_or_toml (parse_document text))
-refusal kind.World text = refused World (world_or_toml (parse_document text))
-refusal kind.Script text = refused Text (script_in text)
-refusal kind.Schedule text = refused Text (schedule_in text)
+refusal kind.Show text = refusal_by Show (show_or_toml (parse_document text))
+refusal kind.Setup text = refusal_by Setup (setup_or_toml (parse_document text))
+refusal kind.World text = refusal_by World (world_or_toml (parse_document text))
+refusal kind.Script text = refusal_by Text (script_in text)
+refusal kind.Schedule text = refusal_by Text (schedule_in text)
 
 -- what is told first, if anything is
 abbrev pub first_refusal : List Finding → Option Refusal

@@ -6,7 +6,7 @@ use Rattle.sacn_patch.specs.Patch.{Patched, universe_frame}
 use Rattle.sacn_cues.specs.Cues.{Cues}
 use Rattle.sacn_cues.specs.Playing.{refusal}
 use Rattle.sacn_cues.specs.Playing as play
-use Rattle.sacn_cues.specs.History.{History, Order, accepted, current_cue, master_in_force, level_read}
+use Rattle.sacn_cues.specs.History.{History, Order, accepted_commands, current_cue, master_in_force, level_read}
 use Rattle.sacn_cues.specs.declared.limits.TheConstants.{FULL}
 use Rattle.sacn_console.specs.Lights.{player_command, play_answer}
 use Rattle.sacn_console.specs.Shows.{ShowContent}
@@ -130,7 +130,7 @@ player_calls (Gave t d ∷ ds) = player_calls ds
 
 -- the level of a channel at t, after the master in force
 abbrev pub level_by : Life → ℕ → List Deed → ℕ → ℕ
-level_by life t ds channel = level_read life.cues (player_calls ds) t channel * master_in_force (accepted life.cues (player_calls ds)) / FULL
+level_by life t ds channel = level_read life.cues (player_calls ds) t channel * master_in_force (accepted_commands life.cues (player_calls ds)) / FULL
 
 -- the frame of a universe at t
 unfoldable pub frame_by : Life → ℕ → ℕ → List Deed → List ℕ
@@ -211,7 +211,7 @@ if_there (Some u) r = r
 
 abbrev pub answer_of : Option play.Command → Life → List Deed → Result (Unit {0}) ConsoleFault → Result (Unit {0}) ConsoleFault
 answer_of None life ds otherwise = otherwise
-answer_of (Some k) life ds otherwise = play_answer (refusal life.cues (current_cue life.cues (accepted life.cues (player_calls ds))) k)
+answer_of (Some k) life ds otherwise = play_answer (refusal life.cues (current_cue life.cues (accepted_commands life.cues (player_calls ds))) k)
 
 abbrev pub universe_answer : Command → Life → List Deed → Result (Unit {0}) ConsoleFault
 universe_answer (EndUniverse u) life ds = if_there (find (λ v. v == u) life.universes) (end_in (mode u ds))

@@ -11,7 +11,7 @@ use Rattle.std.specs.FinMap.{find, get, len, entries, entries_sorted, get-entrie
 use Rattle.std.specs.FinMap.Entries.{below_all}
 use Rattle.std.proofs.lemmas.List.Filters.{length-filter_both}
 use Rattle.std.proofs.lemmas.List.Sums.{length-filter, sum_by-cons}
-use Rattle.sacn_discovery.specs.Known.{Known, Sources, State, is_fresh, fresh, nothing_known}
+use Rattle.sacn_discovery.specs.Collection.{Known, Sources, State, is_fresh, fresh, nothing_known}
 use Rattle.sacn_discovery.specs.Lists.{Copy, latest_moment, fresh_moment, Call, Accepted, Refused, Expire, ListOf, after_all, copies_in, copy_in, moment_of, moment_after, has_cid, with_sender, senders, is_there, gets_old, ExpiryCountsThoseThatGetOld}
 use Rattle.sacn_discovery.proofs.Stores.{cid_cmp}
 use Rattle.sacn_discovery.proofs.FreshSources.{none_above, sorted_filter}

@@ -7,7 +7,7 @@ use Rattle.std.specs.Cmp.Lexicographic.{slice_cmp}
 use Rattle.std.specs.FinMap.{get, len}
 use Rattle.sacn_framing.specs.Page.{Page}
 use Rattle.sacn_discovery.specs.declared.limits.TheConstants.{FORGOTTEN_AFTER}
-use Rattle.sacn_discovery.specs.Known.{State, nothing_known, after_expire, after_take, ascending, joined, known_list}
+use Rattle.sacn_discovery.specs.Collection.{State, nothing_known, after_expire, after_take, ascending, joined, known_list}
 
 -- an accepted page, with its moment in use
 pub record Copy : Type 0 where

@@ -24,7 +24,7 @@ pub struct Collector {
 }
 
 impl Model for Collector {
-    ghost use Rattle.sacn_discovery.specs.Known.{State, state_code};
+    ghost use Rattle.sacn_discovery.specs.Collection.{State, state_code};
 
     ghost Value = { State };
 
@@ -39,7 +39,7 @@ impl Model for Collector {
 
 impl Collector {
     ghost use Rattle.sacn_discovery.specs.Lists.{forgotten};
-    ghost use Rattle.sacn_discovery.specs.Known.{nothing_known, is_fresh, after_expire, after_take, accepted, goes_on, known_list, with_source, with_page};
+    ghost use Rattle.sacn_discovery.specs.Collection.{nothing_known, is_fresh, after_expire, after_take, after_acceptance, goes_on, known_list, with_source, with_page};
 
     /// A collector that knows nothing.
     pub fn new(alloc: Global) -> Self
@@ -113,7 +113,7 @@ impl Collector {
     // Keeps the numbers of a page.
     fn keep(&mut self, page: &PageView<'_>, numbers: Vec<u16>) -> Result<(), DiscoveryFault>
         requires { numbers.items ≡ page.now.numbers }
-        ensures ok { OnOk result (self.new ≡ accepted page.now self.old) }
+        ensures ok { OnOk result (self.new ≡ after_acceptance page.now self.old) }
         ensures err { OnErr result (self.new ≡ self.old) }
     {
         let cid = page.cid();

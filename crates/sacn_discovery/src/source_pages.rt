@@ -2,8 +2,8 @@
 
 ghost use Rattle.std.specs.Prelude.{◌≡◌, ◌≤◌, ◌+◌, ◌<◌, ◌==◌, length, replicate, IfOk, None};
 ghost use Rattle.std.specs.Option.{option_map};
-ghost use Rattle.sacn_discovery.specs.Shown.{pages_of};
-ghost use Rattle.sacn_discovery.specs.Known.{first_page, one_more, is_fresh, ascending, joined, list_in};
+ghost use Rattle.sacn_discovery.specs.SourceViews.{pages_of};
+ghost use Rattle.sacn_discovery.specs.Collection.{first_page, one_more, is_fresh, ascending, joined, list_in};
 
 use crate::limits::FORGOTTEN_AFTER;
 use std::alloc::{AllocError, Global};
@@ -19,8 +19,8 @@ pub struct SourcePages {
 
 impl Model for SourcePages {
     ghost use Rattle.std.specs.Prelude.{◌≡◌, ◌+◌, length};
-    ghost use Rattle.sacn_discovery.specs.Known.{Known, known_code};
-    ghost use Rattle.sacn_discovery.specs.Shown.{pages_of};
+    ghost use Rattle.sacn_discovery.specs.Collection.{Known, known_code};
+    ghost use Rattle.sacn_discovery.specs.SourceViews.{pages_of};
 
     ghost Value = { Known };
 

@@ -8,12 +8,12 @@ use Rattle.sacn_node.specs.Ports.{port_of}
 use Rattle.sacn_node.specs.Cores.{Table, Core, Node, core_at, core_lost, core_slots, node_frame, slots_on, table_of}
 use Rattle.sacn_node.specs.Readings.{after_reading}
 use Rattle.sacn_node.specs.Changes.{universe_changed, shows_on, node_shows}
-use Rattle.sacn_node.proofs.Changed.{slots_are_kept, frames_are_kept, neither}
+use Rattle.sacn_node.proofs.StableFrames.{slots_are_kept, frames_are_kept, neither}
 use Rattle.sacn_edge.specs.declared.changes.Changes.{Changes}
 use Rattle.sacn_edge.specs.declared.port_lines.PortShown.{PortShown}
 use Rattle.sacn_edge.specs.PortLines.{later, port_after, AreCurrent}
 use Rattle.sacn_edge.specs.PortChanges.{changes_universe, concerns, Grows, IsTold, IsCurrentBut, AreCurrentBut}
-use Rattle.sacn_edge.proofs.Settled.{none_lost}
+use Rattle.sacn_edge.proofs.Settling.{none_lost}
 
 -- ---- one call
 

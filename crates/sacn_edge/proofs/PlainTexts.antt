@@ -8,7 +8,7 @@ use Rattle.sacn_node.specs.Laws.{AnswersByThePlainRule, KeepsItsPorts, UsesTheGr
 use Rattle.sacn_edge.specs.NodeText.{Turn, FrameLine, call_at, node_after, with_frame, with_ports, line_text, lines_after, text_of}
 use Rattle.sacn_edge.specs.Additions.{Adds}
 use Rattle.sacn_edge.specs.PlainText.{asked, calls_of, frame_told, plain_ports, plain_lines, LinesAreByThePlainRule, StopsByThePlainRule, TextIsByThePlainRule}
-use Rattle.sacn_edge.proofs.Settled.{turn_settled}
+use Rattle.sacn_edge.proofs.Settling.{turn_settled}
 
 -- asking for a frame leaves a node as it is, where all that is lost is dropped
 frame_stays : (now p : ℕ) (n : Node) → core_at now n.core ≡ n.core → step (Frame now p) n ≡ n

@@ -29,7 +29,7 @@ pub struct ListClock {
 }
 
 impl ListClock {
-    ghost use Rattle.sacn_edge.specs.MemoryTold.{clock_told, reads};
+    ghost use Rattle.sacn_edge.specs.MemoryDevices.{clock_told, reads};
 
     /// A clock that was not read yet.
     pub fn new(list: Vec<u64>) -> Self
@@ -50,7 +50,7 @@ impl ListClock {
 }
 
 impl Clock for ListClock {
-    ghost use Rattle.sacn_edge.specs.MemoryTold.{clock_told};
+    ghost use Rattle.sacn_edge.specs.MemoryDevices.{clock_told};
 
     ghost readings = { clock_told };
 
@@ -76,7 +76,7 @@ pub struct MemoryLink {
 }
 
 impl MemoryLink {
-    ghost use Rattle.sacn_edge.specs.MemoryTold.{link_told, brings, fails};
+    ghost use Rattle.sacn_edge.specs.MemoryDevices.{link_told, brings, fails};
 
     /// A link of which nothing was asked yet. The send at the place `failing`, from 0, will fail.
     pub fn new(alloc: Global, incoming: Vec<Incoming>, failing: Option<u64>) -> Self
@@ -140,7 +140,7 @@ fn fails_at(failing: Option<u64>, place: usize) -> bool
 }
 
 impl Link for MemoryLink {
-    ghost use Rattle.sacn_edge.specs.MemoryTold.{link_told};
+    ghost use Rattle.sacn_edge.specs.MemoryDevices.{link_told};
 
     ghost told = { link_told };
 

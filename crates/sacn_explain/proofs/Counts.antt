@@ -14,7 +14,7 @@ use Rattle.sacn_monitor.specs.declared.tally.Tally.{Tally}
 use Rattle.sacn_monitor.specs.Kinds.{more}
 use Rattle.sacn_monitor.specs.Tallies.{refused_more}
 use Rattle.sacn_monitor.specs.Streams.{is_of, first_stream, stream_after}
-use Rattle.sacn_monitor.specs.Books.{Book, new_book, told, told_at, silent_place, changed, change_at, after_data, after_read, after_take, after_tick, handed}
+use Rattle.sacn_monitor.specs.Books.{Book, new_book, with_told, told_at, silent_place, changed, change_at, after_data, after_read, after_take, after_tick, with_datagram}
 use Rattle.sacn_monitor.specs.Histories.{Call, Take, Tick, moment_in_use, after_calls}
 use Rattle.sacn_explain.specs.Following.{after_ticks, IsTicked, Follows, CountsAreOfWhatWasHanded}
 
@@ -89,7 +89,7 @@ SameCounts b c = (b.tally ≡ c.tally) × Alike b.streams c.streams
 
 told_alike : (o : Option ℕ) (ss ts : List Stream) → Alike ss ts → Alike (told_at o ss) ts
 told_alike None ss ts h = h
-told_alike (Some i) ss ts h = alike_changed told (λ s. (refl, refl)) i ss ts h
+told_alike (Some i) ss ts h = alike_changed with_told (λ s. (refl, refl)) i ss ts h
 
 tick_left : (m : ℕ) (b c : Book) → SameCounts b c → SameCounts (after_tick m b) c
 tick_left m b c h = (h.0, told_alike (silent_place (max b.moment m) b.streams) b.streams c.streams h.1)
@@ -130,7 +130,7 @@ read_counts sender b c (Err fault) h = (ap (refused_more fault) h.0, h.1)
 
 take_counts : (t now : ℕ) (sender : Sender) (octets : List ℕ) (b c : Book) → SameCounts b c → SameCounts (after_take t sender octets b) (after_take now sender octets c)
 take_counts t now sender octets b c h =
-    read_counts sender (handed t b) (handed now c) (reading_packet octets) (ap (λ (x : Tally). record x { datagrams = more 1 x.datagrams }) h.0, h.1)
+    read_counts sender (with_datagram t b) (with_datagram now c) (reading_packet octets) (ap (λ (x : Tally). record x { datagrams = more 1 x.datagrams }) h.0, h.1)
 
 ticked_counts : (t : ℕ) (old new c : Book) → SameCounts old c → IsTicked t old new → SameCounts new c
 ticked_counts t old new c h ticked = subst (λ (x : Book). SameCounts x c) (sym ticked.2) (ticks_left ticked.0 old c h)

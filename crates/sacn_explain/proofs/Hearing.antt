@@ -10,7 +10,7 @@ use Rattle.sacn_explain.specs.declared.options.Form.{Form}
 use Rattle.sacn_explain.specs.declared.teller.Teller.{Teller}
 use Rattle.sacn_explain.specs.Occurrences.{is_contested, lost_stream, loss_told, packet_told, rivals_told, stirred_told, stirs}
 use Rattle.sacn_explain.specs.PacketLines.{loss_line}
-use Rattle.sacn_explain.specs.Tellings.{Tells, ended, news_told}
+use Rattle.sacn_explain.specs.Tellings.{Tells, with_line_end, news_told}
 use Rattle.sacn_explain.specs.Choice.{is_wanted}
 use Rattle.sacn_explain.specs.Contests.{is_noted}
 use Rattle.sacn_explain.specs.Silences.{noted_lost}
@@ -34,11 +34,11 @@ lost_is at book place s silent there = ap (option_and_then (λ (p : ℕ). slice_
 
 -- its loss, and then of the rivals
 pub loss_heard : {O : Type 0} (contents : O → Option (List ℕ)) {T E : Type 0} (r : Result T E) (a b c : Teller O) (wanted : List ℕ) (at : ℕ) (contests : Contests) (book : Book) (s : Stream)
-    → lost_stream at book ≡ Some s → is_wanted wanted s.universe ≡ true → Tells contents a b (ended (loss_line a.form at s))
+    → lost_stream at book ≡ Some s → is_wanted wanted s.universe ≡ true → Tells contents a b (with_line_end (loss_line a.form at s))
     → OnOk r (Tells contents b c (rivals_told b.form s.universe contests (after_tick at book)))
     → OnOk r (Tells contents a c (loss_told a.form wanted at contests book))
 loss_heard {O = O} contents r a b c wanted at contests book s found asked told rest =
-    rw (found, asked) (then {O = O} contents r a b c (ended (loss_line a.form at s)) (λ (form : Form). rivals_told form s.universe contests (after_tick at book)) told rest)
+    rw (found, asked) (then {O = O} contents r a b c (with_line_end (loss_line a.form at s)) (λ (form : Form). rivals_told form s.universe contests (after_tick at book)) told rest)
 
 -- and what is said of its universe from then on
 pub loss_noted : {T E : Type 0} (r : Result T E) (old new : Contests) (wanted : List ℕ) (book : Book) (o : Option Stream) (s : Stream) → o ≡ Some s → is_wanted wanted s.universe ≡ true

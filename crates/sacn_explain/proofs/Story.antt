@@ -6,7 +6,7 @@ use Rattle.sacn_capture.specs.declared.faults.CaptureFault.{CaptureFault}
 use Rattle.sacn_capture.specs.declared.links.Passed.{Passed}
 use Rattle.sacn_capture.specs.declared.stream.Record.{Record}
 use Rattle.sacn_capture.specs.Check.{map_ok}
-use Rattle.sacn_capture.specs.Counting.{counted, passed_by}
+use Rattle.sacn_capture.specs.Counting.{count_frame, passed_by}
 use Rattle.sacn_capture.specs.Frames.{Sent}
 use Rattle.sacn_capture.specs.Recordings.{Shown, Told}
 use Rattle.sacn_capture.specs.Streams.{Gives, GivesFirst, counted_with, shown_of}
@@ -41,7 +41,7 @@ pub nothing_given : (result : Result (Option Record) CaptureFault) (found : Opti
 nothing_given result found before is none gives = subst (λ (r : Result (Option Record) CaptureFault). GivesFirst (map_ok (λ x. option_map shown_of x) r) before) (is ∙ ap Ok none) gives
 
 pub frame_counted : (result : Result (Option Record) CaptureFault) (found : Option Record) (given : Record) (before after : Counts) → result ≡ Ok found → found ≡ Some given
-    → after ≡ counted_with (map_ok (λ x. option_map shown_of x) result) before → after ≡ counted (passed_by (shown_of given).content) before
+    → after ≡ counted_with (map_ok (λ x. option_map shown_of x) result) before → after ≡ count_frame (passed_by (shown_of given).content) before
 frame_counted result found given before after is some counts =
     subst (λ (r : Result (Option Record) CaptureFault). after ≡ counted_with (map_ok (λ x. option_map shown_of x) r) before) (is ∙ ap Ok some) counts
 
@@ -68,11 +68,11 @@ follows_on (Take now sender octets) earlier old new follows hears = (old, follow
 follows_on (Tick now) earlier old new follows hears = (old, follows, hears)
 
 module _ (port : ℕ) (frame : Shown) (old new : Progress) (clock : new.timeline ≡ at_moment frame.moment old.timeline) (others : new.other_ports ≡ elsewhere port frame.content old.other_ports) where
-  heard_on : (c d : Counts) (calls : List Call) → d ≡ counted (passed_by frame.content) c
+  heard_on : (c d : Counts) (calls : List Call) → d ≡ count_frame (passed_by frame.content) c
       → after_frame port frame (heard_by old c calls) ≡ heard_by new d (call_of port new.timeline.now frame.content ∷ calls)
   heard_on c d calls more =
-      ap (λ (t : Timeline). record { frames = counted (passed_by frame.content) c; clock = t; other_ports = elsewhere port frame.content old.other_ports; calls = call_of port t.now frame.content ∷ calls }) (sym clock)
-      ∙ ap (λ (n : ℕ). record { frames = counted (passed_by frame.content) c; clock = new.timeline; other_ports = n; calls = call_of port new.timeline.now frame.content ∷ calls }) (sym others)
+      ap (λ (t : Timeline). record { frames = count_frame (passed_by frame.content) c; clock = t; other_ports = elsewhere port frame.content old.other_ports; calls = call_of port t.now frame.content ∷ calls }) (sym clock)
+      ∙ ap (λ (n : ℕ). record { frames = count_frame (passed_by frame.content) c; clock = new.timeline; other_ports = n; calls = call_of port new.timeline.now frame.content ∷ calls }) (sym others)
       ∙ ap (λ (x : Counts). heard_by new x (call_of port new.timeline.now frame.content ∷ calls)) (sym more)
 
   now_on : (calls : List Call) → old.timeline.now ≡ moment_in_use calls → new.timeline.now ≡ moment_in_use (call_of port new.timeline.now frame.content ∷ calls)
@@ -88,7 +88,7 @@ module _ (port : ℕ) (frame : Shown) (old new : Progress) (clock : new.timeline
 
   -- a frame more was heard
   pub frame_heard : (all before after : Option Told) (t : ℕ) (k0 k1 : Kept) → IsUpTo port all before old k0 → Gives (Ok (Some frame)) before after → t ≡ old.timeline.now
-      → Hears t (call_of port new.timeline.now frame.content) k0.book k1.book → k1.frames ≡ counted (passed_by frame.content) k0.frames
+      → Hears t (call_of port new.timeline.now frame.content) k0.book k1.book → k1.frames ≡ count_frame (passed_by frame.content) k0.frames
       → k1.listed ≡ listed_with (call_of port new.timeline.now frame.content) k0.listed → IsUpTo port all after new k1
   frame_heard None before after t k0 k1 upto gives moment hears more lists = tt
   frame_heard (Some all) before after t k0 k1 (left, left_is, fault, calls, heard, now, follows, listed) gives moment hears more lists =

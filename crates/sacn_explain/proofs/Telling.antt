@@ -5,7 +5,7 @@ use Rattle.std.proofs.KnownBytes.{Appends-nil, Appends-trans}
 use Rattle.std.specs.Borrow.{MutBor}
 use Rattle.sacn_explain.specs.declared.options.Form.{Form}
 use Rattle.sacn_explain.specs.declared.teller.Teller.{Teller}
-use Rattle.sacn_explain.specs.Tellings.{Tells, ended, told}
+use Rattle.sacn_explain.specs.Tellings.{Tells, with_line_end, told_octets}
 
 -- a line grows
 pub pushed : (known : Option (List ℕ)) (old new more : List ℕ) → new ≡ old ++ more → Appends (append_known known old) (append_known known new) more
@@ -21,11 +21,11 @@ written (Some xs) (Some ys) line whole new all is none =
 
 module _ {O : Type 0} (contents : O → Option (List ℕ)) where
   pub nothing : (teller : Teller O) → Tells contents teller teller []
-  nothing teller = record { text = Appends-nil (told contents teller); form = refl; out = refl; line = λ none. none }
+  nothing teller = record { text = Appends-nil (told_octets contents teller); form = refl; out = refl; line = λ none. none }
 
   pub both : (a b c : Teller O) (first next : List ℕ) → Tells contents a b first → Tells contents b c next → Tells contents a c (first ++ next)
   both a b c first next p q = record {
-    text = Appends-trans (told contents a) (told contents b) (told contents c) first next p.text q.text;
+    text = Appends-trans (told_octets contents a) (told_octets contents b) (told_octets contents c) first next p.text q.text;
     form = q.form ∙ p.form;
     out = q.out ∙ p.out;
     line = λ none. q.line (p.line none);
@@ -33,12 +33,12 @@ module _ {O : Type 0} (contents : O → Option (List ℕ)) where
 
   -- a line is made, and then it is written
   pub line_told : {T E : Type 0} (r : Result T E) (a m b : Teller O) (text : List ℕ) → string_bytes m.line ≡ string_bytes a.line ++ text → m.out ≡ a.out → m.form ≡ a.form
-      → OnOk r (Tells contents m b (codes "\n")) → OnOk r (string_bytes b.line ≡ []) → OnOk r (Tells contents a b (ended text))
+      → OnOk r (Tells contents m b (codes "\n")) → OnOk r (string_bytes b.line ≡ []) → OnOk r (Tells contents a b (with_line_end text))
   line_told (Err fault) a m b text line out form wrote none = tt
   line_told (Ok x) a m b text line out form wrote none =
       record {
-        text = Appends-trans (told contents a) (told contents m) (told contents b) text (codes "\n")
-            (subst (λ (o : MutBor O). Appends (told contents a) (append_known (contents o.now) (string_bytes m.line)) text) (sym out) (pushed (contents a.out.now) (string_bytes a.line) (string_bytes m.line) text line))
+        text = Appends-trans (told_octets contents a) (told_octets contents m) (told_octets contents b) text (codes "\n")
+            (subst (λ (o : MutBor O). Appends (told_octets contents a) (append_known (contents o.now) (string_bytes m.line)) text) (sym out) (pushed (contents a.out.now) (string_bytes a.line) (string_bytes m.line) text line))
             wrote.text;
         form = wrote.form ∙ form;
         out = wrote.out ∙ ap (λ (o : MutBor O). o.ghost_name) out;

@@ -7,7 +7,7 @@ use Rattle.sacn_framing.specs.declared.packet.Packet.{Packet}
 use Rattle.sacn_framing.specs.PacketReading.{reading_packet}
 use Rattle.sacn_monitor.specs.declared.account.Sender.{Sender}
 use Rattle.sacn_monitor.specs.declared.news.Noted.{Noted}
-use Rattle.sacn_monitor.specs.Books.{Book, after_take, next_loss, noted}
+use Rattle.sacn_monitor.specs.Books.{Book, after_take, next_loss, note_of}
 use Rattle.sacn_explain.specs.declared.contests.Contests.{Contests}
 use Rattle.sacn_explain.specs.declared.follower.Follower.{Follower}
 use Rattle.sacn_explain.specs.declared.options.Form.{Form}
@@ -72,18 +72,18 @@ module _ {O : Type 0} (contents : O → Option (List ℕ)) where
 
   -- a datagram, once what ended by then was told
   pub turn_told : (t m : ℕ) (sender : Sender) (octets : List ℕ) (old ticked said new : Follower O) (n : Noted) (book : Book) → m ≡ t → TellsSilence contents t old ticked → (old.wake ≤ t → IsQuiet t ticked) → (WakesInTime old → IsQuiet t ticked) → ticked.options ≡ old.options → ticked.listings ≡ old.listings
-      → n ≡ noted m sender octets ticked.monitor → book ≡ after_take m sender octets ticked.monitor
+      → n ≡ note_of m sender octets ticked.monitor → book ≡ after_take m sender octets ticked.monitor
       → Tells contents ticked.teller said.teller (datagram_told ticked.teller.form ticked.options.universes.now ticked.contests book sender (list_book ticked.listings) (reading_packet octets) n)
       → said.stage ≡ ticked.stage → said.monitor ≡ book
       → Tells contents said.teller new.teller (turn_shown said.teller.form said.monitor.moment octets (cause_among said.monitor.streams n) (staged said.stage))
       → staged new.stage ≡ after_turn said.monitor.moment octets (staged said.stage) → TellsTurn contents t sender octets old new
   turn_told t m sender octets old ticked said new n book moment some quiet all options listings noted_is book_is tells stage monitor shows after =
-      let noted_as = noted_is ∙ ap (λ (k : ℕ). noted k sender octets ticked.monitor) moment in
+      let noted_as = noted_is ∙ ap (λ (k : ℕ). note_of k sender octets ticked.monitor) moment in
       let book_as = book_is ∙ ap (λ (k : ℕ). after_take k sender octets ticked.monitor) moment in
       let first = same_datagram sender (reading_packet octets) ticked.contests ticked.teller.form old.teller.form ticked.options.universes.now old.options.universes.now
-      book (after_take t sender octets ticked.monitor) (list_book ticked.listings) (list_book old.listings) n (noted t sender octets ticked.monitor)
+      book (after_take t sender octets ticked.monitor) (list_book ticked.listings) (list_book old.listings) n (note_of t sender octets ticked.monitor)
       some.told.form (ap (λ o. o.universes.now) options) book_as (ap list_book listings) noted_as in
-      let then = same_shown octets said.teller.form old.teller.form said.monitor (after_take t sender octets ticked.monitor) n (noted t sender octets ticked.monitor) (staged said.stage) (staged ticked.stage)
+      let then = same_shown octets said.teller.form old.teller.form said.monitor (after_take t sender octets ticked.monitor) n (note_of t sender octets ticked.monitor) (staged said.stage) (staged ticked.stage)
       (tells.form ∙ some.told.form) (monitor ∙ book_as) noted_as (ap staged stage) in
       record {
         ends = some.ends;

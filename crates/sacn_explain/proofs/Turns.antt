@@ -5,7 +5,7 @@ use Rattle.sacn_node.specs.Cores.{Core, Node}
 use Rattle.sacn_edge.specs.declared.port_lines.PortShown.{PortShown}
 use Rattle.sacn_edge.specs.Hearings.{Octets}
 use Rattle.sacn_edge.specs.PortLines.{port_after}
-use Rattle.sacn_edge.proofs.Settled.{take_later, turn_settled}
+use Rattle.sacn_edge.proofs.Settling.{take_later, turn_settled}
 use Rattle.sacn_explain.specs.declared.stage.Stage.{Stage}
 use Rattle.sacn_explain.specs.declared.teller.Teller.{Teller}
 use Rattle.sacn_explain.specs.Causes.{Reason}

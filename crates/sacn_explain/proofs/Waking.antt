@@ -12,8 +12,8 @@ use Rattle.sacn_framing.specs.Data.{Data}
 use Rattle.sacn_framing.specs.declared.packet.Packet.{Packet}
 use Rattle.sacn_framing.specs.declared.packet.Packet.TheVariants.{DataPacket, PagePacket, SyncPacket}
 use Rattle.sacn_framing.specs.PacketReading.{reading_packet}
-use Rattle.sacn_sources.specs.declared.taken.Taken.{Taken}
-use Rattle.sacn_sources.specs.declared.taken.Taken.TheVariants.{Held, Observed, EndedNow, OutOfSequence, SourcesExceeded, UnknownIgnored}
+use Rattle.sacn_sources.specs.declared.answer.Taken.{Taken}
+use Rattle.sacn_sources.specs.declared.answer.Taken.TheVariants.{Held, Observed, EndedNow, OutOfSequence, SourcesExceeded, UnknownIgnored}
 use Rattle.sacn_sources.specs.Order.{order, same, by_order}
 use Rattle.sacn_sources.specs.Packets.{packet_of}
 use Rattle.sacn_sources.specs.Rows.{Row, Packet as RowPacket, row_renewed, rows_kept, rows_lost, row_of, put_row, row_live, row_ended, row_observed, rows_after, observed, take_row, taken}
@@ -23,7 +23,7 @@ use Rattle.sacn_monitor.specs.declared.stream.Stream.{Stream}
 use Rattle.sacn_monitor.specs.Accounts.{is_discarded, after_discarded, after_taken, first_account}
 use Rattle.sacn_monitor.specs.Kinds.{more}
 use Rattle.sacn_monitor.specs.Streams.{falls_silent, first_stream, loss_of, stream_after}
-use Rattle.sacn_monitor.specs.Books.{Book, after_data, after_read, after_take, after_tick, changed, handed, next_loss, silent_place, told, told_at, untracked}
+use Rattle.sacn_monitor.specs.Books.{Book, after_data, after_read, after_take, after_tick, changed, with_datagram, next_loss, silent_place, with_told, told_at, untracked}
 use Rattle.sacn_node.specs.Calls.{step, Take}
 use Rattle.sacn_node.specs.Cores.{Core, Node, Table, change_rows, core_lost, rows_kept_all, rows_lost_all}
 use Rattle.sacn_node.specs.Readings.{Reading, after_reading}
@@ -96,7 +96,7 @@ stale true b e = absurd cc
 stale false true e = absurd cc
 stale false false e = refl
 
-told_then : (t : ℕ) (ss : List Stream) (i : ℕ) (s : Stream) → position (falls_silent t) ss ≡ Some i → slice_get ss i ≡ Some s → Lasts 0 t (told s)
+told_then : (t : ℕ) (ss : List Stream) (i : ℕ) (s : Stream) → position (falls_silent t) ss ≡ Some i → slice_get ss i ≡ Some s → Lasts 0 t (with_told s)
 told_then t ss i s place there =
     let silent : falls_silent t s ≡ true = subst (λ (x : Stream). falls_silent t x ≡ true) (get_or_from_slice_get ss i s s there) (position-Some (falls_silent t) ss i s place).1 in
     let old = ltb-false (t - s.account.latest) 2500 (stale _ _ silent) in
@@ -104,7 +104,7 @@ told_then t ss i s place there =
 
 told_last : (t : ℕ) (ss : List Stream) (o : Option ℕ) → silent_place t ss ≡ o → Each (Lasts 0 t) ss → Each (Lasts 0 t) (told_at o ss)
 told_last t ss None place all = all
-told_last t ss (Some i) place all = each_changed (Lasts 0 t) told ss i all (λ s there. told_then t ss i s place there) (slice_get ss i) refl
+told_last t ss (Some i) place all = each_changed (Lasts 0 t) with_told ss i all (λ s there. told_then t ss i s place there) (slice_get ss i) refl
 
 tick_lost : (m : ℕ) (b : Book) → AreToldLost b.moment b.streams → AreToldLost (after_tick m b).moment (after_tick m b).streams
 tick_lost m b lost =
@@ -132,7 +132,7 @@ soon_lost w t true soon most = most
 soon_lost w t false soon most = omega (arith, soon, most)
 
 -- where the loss wasn't told, that it is still to be told changes nothing
-untold : (w t latest : ℕ) (told ended : Bool) → (told ≡ true → latest + 2500 ≤ t) → t - latest < 2500 → w ≤ cond (told || ended) (2 ^ 64 - 1) (min (latest + 2500) (2 ^ 64 - 1)) → w ≤ loss_by ended latest
+untold : (w t latest : ℕ) (with_told ended : Bool) → (with_told ≡ true → latest + 2500 ≤ t) → t - latest < 2500 → w ≤ cond (with_told || ended) (2 ^ 64 - 1) (min (latest + 2500) (2 ^ 64 - 1)) → w ≤ loss_by ended latest
 untold w t latest true ended lost young before = let by = lost refl in absurd (omega (arith, by, young))
 untold w t latest false ended lost young before = before
 
@@ -200,7 +200,7 @@ read_moment sender b (Err fault) = refl
 
 taken_last : (w t : ℕ) (sender : Sender) (octets : List ℕ) (b : Book) → w ≤ t + 2500 → w ≤ 2 ^ 64 - 1 → AllLast w b → AllLast w (after_take t sender octets b)
 taken_last w t sender octets b soon most all =
-    read_lasts w sender (handed t b) (reading_packet octets) (omega (arith, soon)) most
+    read_lasts w sender (with_datagram t b) (reading_packet octets) (omega (arith, soon)) most
     (each_all (Lasts w b.moment) (Lasts w (max b.moment t)) (later w b.moment (max b.moment t) (omega arith)) b.streams all)
 
 -- ---- the rows of a node
@@ -354,7 +354,7 @@ module _ (sender : Sender) (octets : List ℕ) (w t : ℕ) (book after : Book) (
   all_after = subst (AllLast w) (sym taken_is) (taken_last w t sender octets book (let soon = before.soon in omega (arith, soon)) most (all_last w book.moment book.streams before.losses lost))
 
   moment_after : t ≤ after.moment
-  moment_after = let is : after.moment ≡ max book.moment t = ap (λ (b : Book). b.moment) taken_is ∙ read_moment sender (handed t book) (reading_packet octets) in omega (arith, is)
+  moment_after = let is : after.moment ≡ max book.moment t = ap (λ (b : Book). b.moment) taken_is ∙ read_moment sender (with_datagram t book) (reading_packet octets) in omega (arith, is)
 
   ends_nothing : EndsNothingBefore w t after n
   ends_nothing = record {

@@ -6,7 +6,7 @@ use Rattle.sacn_framing.specs.PacketReading.{reading_packet}
 use Rattle.sacn_monitor.specs.declared.account.Sender.{Sender}
 use Rattle.sacn_monitor.specs.declared.news.Noted.{Noted}
 use Rattle.sacn_monitor.specs.declared.news.Noted.TheVariants.{Refused, Page, Sync, Untracked, Heard}
-use Rattle.sacn_monitor.specs.Books.{Book, after_take, noted}
+use Rattle.sacn_monitor.specs.Books.{Book, after_take, note_of}
 use Rattle.sacn_explain.specs.declared.contests.Contests.{Contests}
 use Rattle.sacn_explain.specs.declared.follower.Follower.{Follower}
 use Rattle.sacn_explain.specs.declared.options.Form.{Form}
@@ -48,5 +48,5 @@ pub record TellsTurn {O : Type 0} (contents : O → Option (List ℕ)) (t : ℕ)
   pub are : AreEnds old.teller.form old.options.universes.now t ends (scene_of old) scene ended
   pub told : Tells contents old.teller new.teller
       (ended ++ told_then old.teller.form old.options.universes.now sender octets (list_book old.listings)
-      (noted t sender octets scene.book) scene.contests (after_take t sender octets scene.book) scene.stage)
+      (note_of t sender octets scene.book) scene.contests (after_take t sender octets scene.book) scene.stage)
   pub staged_after : staged new.stage ≡ after_turn (after_take t sender octets scene.book).moment octets scene.stage

@@ -11,7 +11,7 @@ use Rattle.sacn_monitor.specs.declared.news.Noted.{Noted}
 use Rattle.sacn_monitor.specs.declared.news.Noted.TheVariants.{Refused, Page, Sync, Untracked, Heard}
 use Rattle.sacn_monitor.specs.Kinds.{more}
 use Rattle.sacn_monitor.specs.Histories.{Call, Take, Tick}
-use Rattle.sacn_discovery.specs.Known.{State, after_expire, after_take}
+use Rattle.sacn_discovery.specs.Collection.{State, after_expire, after_take}
 use Rattle.sacn_framing.specs.Page.{Page as PageFields}
 use Rattle.sacn_explain.specs.declared.listings.Listing.{Listing}
 use Rattle.sacn_explain.specs.declared.listings.Listings.{Listings}

@@ -7,7 +7,7 @@ use Rattle.sacn_root.specs.declared.fault.PacketFault.{PacketFault}
 use Rattle.sacn_framing.specs.declared.packet.Packet.{Packet}
 use Rattle.sacn_framing.specs.declared.packet.Packet.TheVariants.{DataPacket, PagePacket, SyncPacket}
 use Rattle.sacn_framing.specs.Page.{Page as PageFields}
-use Rattle.sacn_discovery.specs.Known.{State, known_list}
+use Rattle.sacn_discovery.specs.Collection.{State, known_list}
 use Rattle.sacn_monitor.specs.Kinds.{more}
 use Rattle.sacn_explain.specs.declared.listings.Listings.{Listings}
 use Rattle.sacn_explain.specs.declared.listings.PageNews.{PageNews}
@@ -15,7 +15,7 @@ use Rattle.sacn_explain.specs.declared.listings.PageNews.TheVariants.{Nothing, A
 use Rattle.sacn_explain.specs.declared.options.Form.{Form}
 use Rattle.sacn_explain.specs.KeptLists.{Listed, collected, is_read}
 use Rattle.sacn_explain.specs.Lines.{KeptList, kept_list, listing_line}
-use Rattle.sacn_explain.specs.Tellings.{ended}
+use Rattle.sacn_explain.specs.Tellings.{with_line_end}
 
 -- the sources in the order of their first pages, their lists in the same order, how many pages came of others, and the pages of which lists are made
 pub record ListBook : Type 0 where
@@ -116,7 +116,7 @@ page_news now p b = if is_read p.cid (listed_of b) then heard_news now p (opened
 
 abbrev pub list_told : Form → ℕ → List ℕ → Option KeptList → List ℕ
 list_told form now event None = []
-list_told form now event (Some l) = ended (listing_line form now event l)
+list_told form now event (Some l) = with_line_end (listing_line form now event l)
 
 abbrev pub listed_told : Form → ℕ → PageNews → Option KeptList → List ℕ
 listed_told form now Nothing l = []

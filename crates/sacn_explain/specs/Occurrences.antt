@@ -15,7 +15,7 @@ use Rattle.sacn_explain.specs.declared.options.Form.{Form}
 use Rattle.sacn_explain.specs.Contests.{is_noted}
 use Rattle.sacn_explain.specs.Lines.{rivals_line}
 use Rattle.sacn_explain.specs.PacketLines.{loss_line, refused_line, untracked_line}
-use Rattle.sacn_explain.specs.Tellings.{ended, news_told, where_so}
+use Rattle.sacn_explain.specs.Tellings.{with_line_end, news_told, where_so}
 use Rattle.sacn_explain.specs.Choice.{is_wanted}
 
 -- two sources or more send at the top priority of a universe
@@ -53,7 +53,7 @@ packet_told form wanted c b news (Some s) = if is_wanted wanted s.universe then 
 -- that a stream is lost, and then of the rivals that are left, where its universe is asked for
 abbrev pub lost_told : Form → List ℕ → ℕ → Contests → Book → Option Stream → List ℕ
 lost_told form wanted at c b None = []
-lost_told form wanted at c b (Some s) = if is_wanted wanted s.universe then ended (loss_line form at s) ++ rivals_told form s.universe c b else []
+lost_told form wanted at c b (Some s) = if is_wanted wanted s.universe then with_line_end (loss_line form at s) ++ rivals_told form s.universe c b else []
 
 -- the stream whose loss is to be told first, if there is one
 abbrev pub lost_stream : ℕ → Book → Option Stream
@@ -64,8 +64,8 @@ loss_told form wanted at c b = lost_told form wanted at c (after_tick at b) (los
 
 -- what a datagram tells that is no page of universe discovery
 abbrev pub noted_told : Form → List ℕ → Contests → Book → Sender → Noted → List ℕ
-noted_told form wanted c b sender (Refused fault) = ended (refused_line form b.moment sender fault)
+noted_told form wanted c b sender (Refused fault) = with_line_end (refused_line form b.moment sender fault)
 noted_told form wanted c b sender Page = []
 noted_told form wanted c b sender Sync = []
-noted_told form wanted c b sender Untracked = ended (untracked_line form b.moment sender)
+noted_told form wanted c b sender Untracked = with_line_end (untracked_line form b.moment sender)
 noted_told form wanted c b sender (Heard place news) = packet_told form wanted c b news (slice_get b.streams place)

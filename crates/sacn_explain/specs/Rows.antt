@@ -6,7 +6,7 @@ use Rattle.sacn_explain.specs.declared.count.UniverseCounts.{UniverseCounts}
 use Rattle.sacn_explain.specs.declared.listings.Listing.{Listing}
 use Rattle.sacn_explain.specs.declared.options.Form.{Form}
 use Rattle.sacn_explain.specs.declared.options.Form.TheVariants.{Text, Json}
-use Rattle.sacn_explain.specs.Spelling.{left, right}
+use Rattle.sacn_explain.specs.Spelling.{flush_left, right}
 use Rattle.sacn_explain.specs.Members.{number_member, row_front, source_members, word_member}
 use Rattle.sacn_explain.specs.Sentences.{source_text}
 use Rattle.sacn_explain.specs.Numbers.{numbers_member, ranges_text}
@@ -52,7 +52,7 @@ list_row Json l listed silent unlisted =
 
 -- how many datagrams were refused for a fault
 abbrev pub refused_row : Form → PacketFault → ℕ → List ℕ
-refused_row Text fault count = left 30 (fault_name fault) ++ (codes " " ++ decimal count)
+refused_row Text fault count = flush_left 30 (fault_name fault) ++ (codes " " ++ decimal count)
 refused_row Json fault count =
     row_front (codes "refused") ++ (number_member (codes "fault") (fault_number fault)
     ++ (word_member (codes "name") (fault_name fault) ++ (number_member (codes "count") count ++ codes "}")))

@@ -11,11 +11,11 @@ use Rattle.sacn_explain.specs.declared.stage.Stage.{Stage}
 use Rattle.sacn_explain.specs.Causes.{Reason, AtStart, OfLoss}
 use Rattle.sacn_explain.specs.Lines.{frame_line}
 use Rattle.sacn_explain.specs.Staging.{may_change_frames}
-use Rattle.sacn_explain.specs.Tellings.{ended, shown_in}
+use Rattle.sacn_explain.specs.Tellings.{with_line_end, shown_in}
 
 -- the frame of a port with its cause, and its line as a node writes it; nothing where there is no such line
 abbrev pub frame_told : Form → ℕ → Reason → PortShown → List ℕ → List ℕ
-frame_told form now reason shown line = if length line == 0 then [] else ended (frame_line form now shown reason) ++ shown_in form line
+frame_told form now reason shown line = if length line == 0 then [] else with_line_end (frame_line form now shown reason) ++ shown_in form line
 
 -- that of a port of a node: it has a line where its frame isn't that of its latest line
 abbrev pub port_told : Form → ℕ → Reason → Node → PortShown → List ℕ

@@ -12,8 +12,8 @@ right width text = replicate (width - length text) 32 ++ text
 abbrev pub zeros : ℕ → List ℕ → List ℕ
 zeros width text = replicate (width - length text) 48 ++ text
 
-abbrev pub left : ℕ → List ℕ → List ℕ
-left width text = text ++ replicate (width - length text) 32
+abbrev pub flush_left : ℕ → List ℕ → List ℕ
+flush_left width text = text ++ replicate (width - length text) 32
 
 -- two hexadecimal digits
 unfoldable pub octet_text : ℕ → List ℕ

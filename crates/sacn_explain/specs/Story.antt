@@ -3,7 +3,7 @@ use Rattle.std.specs.Prelude.{◌≡◌, ◌⊎◌, ℕ, ◌-◌, ◌==◌, max,
 use Rattle.sacn_capture.specs.declared.links.Passed.{Passed}
 use Rattle.sacn_capture.specs.declared.faults.CaptureFault.{CaptureFault}
 use Rattle.sacn_capture.specs.declared.counts.Counts.{Counts}
-use Rattle.sacn_capture.specs.Counting.{counted, none_counted, passed_by}
+use Rattle.sacn_capture.specs.Counting.{count_frame, none_counted, passed_by}
 use Rattle.sacn_capture.specs.Files.{IsOutside}
 use Rattle.sacn_capture.specs.Frames.{Sent}
 use Rattle.sacn_capture.specs.Recordings.{Shown, Told}
@@ -51,7 +51,7 @@ pub record Heard : Type 0 where
 
 abbrev pub after_frame : ℕ → Shown → Heard → Heard
 after_frame port frame h = record {
-  frames = counted (passed_by frame.content) h.frames;
+  frames = count_frame (passed_by frame.content) h.frames;
   clock = at_moment frame.moment h.clock;
   other_ports = elsewhere port frame.content h.other_ports;
   calls = call_of port (at_moment frame.moment h.clock).now frame.content ∷ h.calls;
@@ -86,8 +86,8 @@ abbrev pub Hears : ℕ → Call → Book → Book → Type 0
 Hears t (Take now sender octets) old new = IsTaken (max t now) sender octets old new
 Hears t (Tick now) old new = IsTicked (max t now) old new
 
-abbrev pub begun : Progress
-begun = record { timeline = no_clock; other_ports = 0; stopped = None }
+abbrev pub progress_at_start : Progress
+progress_at_start = record { timeline = no_clock; other_ports = 0; stopped = None }
 
 -- what is kept of a recording that is followed: what its frames were, what it told, and the lists
 pub record Kept : Type 0 where

@@ -8,7 +8,7 @@ use Rattle.sacn_monitor.specs.Rates.{last_second}
 use Rattle.sacn_monitor.specs.Streams.{state_of}
 use Rattle.sacn_explain.specs.declared.options.Form.{Form}
 use Rattle.sacn_explain.specs.declared.options.Form.TheVariants.{Text, Json}
-use Rattle.sacn_explain.specs.Spelling.{left, moment_text, right, sender_text}
+use Rattle.sacn_explain.specs.Spelling.{flush_left, moment_text, right, sender_text}
 use Rattle.sacn_explain.specs.Members.{name_of, number_member, row_front, sender_members, stream_members, word_member}
 use Rattle.sacn_explain.specs.Sentences.{source_text}
 use Rattle.sacn_explain.specs.Rows.{column}
@@ -26,7 +26,7 @@ priority_column priority = codes " " ++ (right 8 (decimal priority) ++ codes " "
 
 -- the universe, the state at a moment and the priority
 unfoldable pub state_text : ℕ → Stream → List ℕ
-state_text moment s = universe_column s.universe ++ (left 8 (state_word (state_of moment s)) ++ priority_column s.account.priority)
+state_text moment s = universe_column s.universe ++ (flush_left 8 (state_word (state_of moment s)) ++ priority_column s.account.priority)
 
 -- when it was heard first and last
 unfoldable pub moments_text : Stream → List ℕ

@@ -15,13 +15,13 @@ use Rattle.sacn_explain.specs.Amounts.{counts_of}
 use Rattle.sacn_explain.specs.Lists.{silent, unlisted}
 use Rattle.sacn_explain.specs.Rows.{list_row, refused_row, universe_row}
 use Rattle.sacn_explain.specs.StreamRows.{stream_row}
-use Rattle.sacn_explain.specs.Tellings.{ended, where_so}
+use Rattle.sacn_explain.specs.Tellings.{with_line_end, where_so}
 use Rattle.sacn_explain.specs.Totals.{counts_row}
 use Rattle.sacn_explain.specs.Choice.{is_wanted}
 
 -- a table's head, for people
 abbrev pub head_told : Form → List ℕ → List ℕ
-head_told Text head = ended head
+head_told Text head = with_line_end head
 head_told Json head = []
 
 abbrev pub head_where : Bool → Form → List ℕ → List ℕ
@@ -59,7 +59,7 @@ universes_told form wanted moment streams = head_told form UNIVERSE_HEAD.now ++ 
 -- a row for each source of which a list came whole
 abbrev pub row_of : Form → List Stream → Listing → Option (Vec ℕ Global) → List ℕ
 row_of form streams l None = []
-row_of form streams l (Some universes) = ended (list_row form l universes.items (silent streams l.cid universes.items) (unlisted streams l.cid universes.items))
+row_of form streams l (Some universes) = with_line_end (list_row form l universes.items (silent streams l.cid universes.items) (unlisted streams l.cid universes.items))
 
 abbrev pub list_told : Form → List Stream → Listing → List ℕ
 list_told form streams l = row_of form streams l l.universes
@@ -87,4 +87,4 @@ refusals_told form tally = faults_told form tally FAULTS
 abbrev pub tables_told : Form → List ℕ → List Stream → List Listing → Report → List ℕ
 tables_told form wanted streams listings report =
     streams_told form wanted report.length streams ++ (universes_told form wanted report.length streams
-    ++ (lists_told form streams listings ++ (refusals_told form report.tally ++ ended (counts_row form report))))
+    ++ (lists_told form streams listings ++ (refusals_told form report.tally ++ with_line_end (counts_row form report))))

@@ -12,36 +12,36 @@ use Rattle.sacn_explain.specs.declared.teller.Teller.{Teller}
 use Rattle.sacn_explain.specs.PacketLines.{anew_line, event_line, moved_line, priority_line, renamed_line, skipped_line}
 
 -- the octets of its writer, where these are known, and of its line
-abbrev pub told : {O : Type 0} → (O → Option (List ℕ)) → Teller O → Option (List ℕ)
-told contents teller = append_known (contents teller.out.now) (string_bytes teller.line)
+abbrev pub told_octets : {O : Type 0} → (O → Option (List ℕ)) → Teller O → Option (List ℕ)
+told_octets contents teller = append_known (contents teller.out.now) (string_bytes teller.line)
 
 -- a call told these octets behind all before them, to the same writer; where no line was begun, none is
 pub record Tells {O : Type 0} (contents : O → Option (List ℕ)) (old new : Teller O) (more : List ℕ) : Type 0 where
-  pub text : Appends (told contents old) (told contents new) more
+  pub text : Appends (told_octets contents old) (told_octets contents new) more
   pub form : new.form ≡ old.form
   pub out : new.out.ghost_name ≡ old.out.ghost_name
   pub line : string_bytes old.line ≡ [] → string_bytes new.line ≡ []
 
 -- a line and its end
-abbrev pub ended : List ℕ → List ℕ
-ended line = line ++ codes "\n"
+abbrev pub with_line_end : List ℕ → List ℕ
+with_line_end line = line ++ codes "\n"
 
 -- a line where something happened
 abbrev pub where_so : Bool → List ℕ → List ℕ
-where_so happened line = if happened then ended line else []
+where_so happened line = if happened then with_line_end line else []
 
 -- the line of an event; none where the source goes on
 abbrev pub event_told : Form → ℕ → Stream → Event → List ℕ
 event_told form now s GoesOn = []
-event_told form now s Appeared = ended (event_line form now s Appeared)
-event_told form now s CameBack = ended (event_line form now s CameBack)
-event_told form now s Ended = ended (event_line form now s Ended)
-event_told form now s OutOfSequence = ended (event_line form now s OutOfSequence)
-event_told form now s Repeated = ended (event_line form now s Repeated)
+event_told form now s Appeared = with_line_end (event_line form now s Appeared)
+event_told form now s CameBack = with_line_end (event_line form now s CameBack)
+event_told form now s Ended = with_line_end (event_line form now s Ended)
+event_told form now s OutOfSequence = with_line_end (event_line form now s OutOfSequence)
+event_told form now s Repeated = with_line_end (event_line form now s Repeated)
 
 abbrev pub priority_told : Form → ℕ → Stream → Option Change → List ℕ
 priority_told form now s None = []
-priority_told form now s (Some change) = ended (priority_line form now s change)
+priority_told form now s (Some change) = with_line_end (priority_line form now s change)
 
 -- all that a packet told, a line for each thing that happened
 abbrev pub news_told : Form → ℕ → Stream → News → List ℕ

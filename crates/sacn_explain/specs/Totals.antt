@@ -3,7 +3,7 @@ use Rattle.std.specs.Prelude.{ℕ, ◌-◌, ◌^◌, min, sum, List, [], ◌∷�
 use Rattle.sacn_explain.specs.declared.options.Form.{Form}
 use Rattle.sacn_explain.specs.declared.options.Form.TheVariants.{Text, Json}
 use Rattle.sacn_explain.specs.declared.report.Report.{Report}
-use Rattle.sacn_explain.specs.Spelling.{left}
+use Rattle.sacn_explain.specs.Spelling.{flush_left}
 use Rattle.sacn_explain.specs.Members.{number_member, row_front}
 
 -- all datagrams that are no packets, at most what 64 bits hold
@@ -16,7 +16,7 @@ passed_in r = min (sum (r.frames.not_ip ∷ r.frames.not_ipv4 ∷ r.frames.not_u
 
 -- a count behind its name, on a line of its own
 unfoldable pub named_count : List ℕ → ℕ → List ℕ
-named_count name count = codes "\n" ++ (left 30 name ++ (codes " " ++ decimal count))
+named_count name count = codes "\n" ++ (flush_left 30 name ++ (codes " " ++ decimal count))
 
 -- what the datagrams to the port were
 unfoldable pub tally_text : Report → List ℕ

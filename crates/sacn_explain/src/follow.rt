@@ -10,7 +10,7 @@ ghost use Rattle.sacn_monitor.specs.Books.{new_book};
 ghost use Rattle.sacn_explain.specs.Faults.{IsFaultOf, IsOfTelling};
 ghost use Rattle.sacn_explain.specs.Following.{IsTaken};
 ghost use Rattle.sacn_explain.specs.KeptLists.{after_reading, listed_in, listed_with, none_listed};
-ghost use Rattle.sacn_explain.specs.Story.{Hears, IsAccountOf, IsHeard, at_moment, begun, call_of, elsewhere, no_clock, sender_of};
+ghost use Rattle.sacn_explain.specs.Story.{Hears, IsAccountOf, IsHeard, at_moment, progress_at_start, call_of, elsewhere, no_clock, sender_of};
 
 use crate::fault::ExplainFault;
 use crate::follower::Follower;
@@ -116,7 +116,7 @@ fn follow<R: BufRead + Drop, O: Write>(
 impl Progress {
     // Nothing was followed yet.
     fn begin() -> Self
-        ensures { result ≡ begun }
+        ensures { result ≡ progress_at_start }
     {
         Progress {
             timeline: Timeline::begin(),

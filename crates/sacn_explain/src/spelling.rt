@@ -2,7 +2,7 @@
 
 ghost use Rattle.std.specs.Prelude.{◌≡◌, ◌++◌, OnOk, string_bytes, chars, replicate};
 ghost use Rattle.std.specs.List.{flat_map};
-ghost use Rattle.sacn_explain.specs.Spelling.{left, octet_text, octets_text, address_text, sender_text, moment_text, escape_text, letter_text, letters_of, name_text};
+ghost use Rattle.sacn_explain.specs.Spelling.{flush_left, octet_text, octets_text, address_text, sender_text, moment_text, escape_text, letter_text, letters_of, name_text};
 
 use sacn_monitor::Sender;
 use std::alloc::AllocError;
@@ -19,7 +19,7 @@ fn push_octet(text: &mut String, octet: u8) -> Result<(), AllocError>
 
 /// A word of ASCII, left-aligned in so many places.
 pub fn push_left(text: &mut String, word: &str, width: usize) -> Result<(), AllocError>
-    ensures { OnOk result (string_bytes text.new ≡ string_bytes text.old ++ left width word.now) }
+    ensures { OnOk result (string_bytes text.new ≡ string_bytes text.old ++ flush_left width word.now) }
 {
     text.push_str(word)?;
     push_spaces(text, width.saturating_sub(word.len()))

@@ -4,7 +4,7 @@ ghost use Rattle.std.specs.Prelude.{◌≡◌, ◌<◌, ◌==◌, OnOk, IfOk, is
 ghost use Rattle.std.specs.List.{list_any};
 ghost use Rattle.sacn_explain.specs.Lists.{silent, unlisted};
 ghost use Rattle.sacn_explain.specs.Totals.{counts_row};
-ghost use Rattle.sacn_explain.specs.Tellings.{Tells, ended};
+ghost use Rattle.sacn_explain.specs.Tellings.{Tells, with_line_end};
 ghost use Rattle.sacn_explain.specs.Tables.{faults_told, has_refusals, head_told, head_where, is_told, list_told, lists_told, place_told, refused_for, refused_told, refusals_told, stream_told, streams_told, tables_told, universe_at, universe_told, universes_told};
 
 use crate::count::UniverseCounts;
@@ -352,7 +352,7 @@ fn tell_fault<O: Write>(
 
 fn tell_counts<O: Write>(teller: &mut Teller<'_, O>, report: &Report) -> Result<(), TellFault>
     ensures { OnOk result
-        (Tells O.contents teller.old teller.new (ended (counts_row teller.old.form report.now))) }
+        (Tells O.contents teller.old teller.new (with_line_end (counts_row teller.old.form report.now))) }
 {
     counts_row(&mut teller.line, teller.form, report)?;
     teller.write()

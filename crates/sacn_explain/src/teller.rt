@@ -29,7 +29,7 @@ pub struct Teller<'o, O> {
 }
 
 impl<'o, O: Write> Teller<'o, O> {
-    ghost use Rattle.sacn_explain.specs.Tellings.{Tells, ended, event_told, news_told, priority_told, shown_in, where_so};
+    ghost use Rattle.sacn_explain.specs.Tellings.{Tells, with_line_end, event_told, news_told, priority_told, shown_in, where_so};
 
     /// A teller that has told nothing.
     pub fn new(alloc: Global, form: Form, out: &'o mut O) -> Self
@@ -144,7 +144,7 @@ impl<'o, O: Write> Teller<'o, O> {
     /// A stream that is lost.
     pub fn tell_loss(&mut self, now: u64, stream: &Stream) -> Result<(), TellFault>
         ensures { OnOk result
-            (Tells O.contents self.old self.new (ended (loss_line self.old.form now stream.now))) }
+            (Tells O.contents self.old self.new (with_line_end (loss_line self.old.form now stream.now))) }
     {
         loss_line(&mut self.line, self.form, now, stream)?;
         self.write()
@@ -158,7 +158,7 @@ impl<'o, O: Write> Teller<'o, O> {
         fault: PacketFault,
     ) -> Result<(), TellFault>
         ensures { OnOk result (Tells O.contents self.old self.new
-            (ended (refused_line self.old.form now sender.now fault))) }
+            (with_line_end (refused_line self.old.form now sender.now fault))) }
     {
         refused_line(&mut self.line, self.form, now, sender, fault)?;
         self.write()
@@ -167,7 +167,7 @@ impl<'o, O: Write> Teller<'o, O> {
     /// A data packet of a stream for which there is no room.
     pub fn tell_untracked(&mut self, now: u64, sender: &Sender) -> Result<(), TellFault>
         ensures { OnOk result (Tells O.contents self.old self.new
-            (ended (untracked_line self.old.form now sender.now))) }
+            (with_line_end (untracked_line self.old.form now sender.now))) }
     {
         untracked_line(&mut self.line, self.form, now, sender)?;
         self.write()
@@ -182,7 +182,7 @@ impl<'o, O: Write> Teller<'o, O> {
         priority: u8,
     ) -> Result<(), TellFault>
         ensures { OnOk result (Tells O.contents self.old self.new
-            (ended (rivals_line self.old.form now universe sources priority))) }
+            (with_line_end (rivals_line self.old.form now universe sources priority))) }
     {
         rivals_line(&mut self.line, self.form, now, universe, sources, priority)?;
         self.write()
@@ -196,7 +196,7 @@ impl<'o, O: Write> Teller<'o, O> {
         listing: &Listing,
     ) -> Result<(), TellFault>
         ensures { OnOk result (Tells O.contents self.old self.new
-            (ended (listing_line self.old.form now event.now (kept_list listing.now)))) }
+            (with_line_end (listing_line self.old.form now event.now (kept_list listing.now)))) }
     {
         listing_line(&mut self.line, self.form, now, event, listing)?;
         self.write()
@@ -210,7 +210,7 @@ impl<'o, O: Write> Teller<'o, O> {
         cause: &Cause<'_>,
         line: &[u8],
     ) -> Result<(), TellFault>
-        ensures { OnOk result (Tells O.contents self.old self.new (ended (frame_line self.old.form
+        ensures { OnOk result (Tells O.contents self.old self.new (with_line_end (frame_line self.old.form
             now shown.now (reason_of cause.now)) ++ shown_in self.old.form line.now)) }
     {
         frame_line(&mut self.line, self.form, now, shown, cause)?;

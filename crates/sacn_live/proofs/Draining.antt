@@ -4,7 +4,7 @@ use Rattle.sacn_node.specs.Cores.{Node, core_at}
 use Rattle.sacn_node.specs.Calls.{step}
 use Rattle.sacn_edge.specs.Hearings.{Heard}
 use Rattle.sacn_edge.specs.NodeText.{call_at, node_after}
-use Rattle.sacn_edge.proofs.Settled.{turn_settled}
+use Rattle.sacn_edge.proofs.Settling.{turn_settled}
 use Rattle.sacn_live.specs.Hearings.{Hearing, Came, turns_of, heard_of, emptied_after, emptied_with}
 
 -- after a call at a moment nothing more is lost at it

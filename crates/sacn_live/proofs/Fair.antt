@@ -10,7 +10,7 @@ use Rattle.sacn_console.specs.Lines.{Page, Datagram, Packet, Paged, Gave, line_d
 use Rattle.sacn_console.specs.Core.{Core, at, due, due_by, given, after, line_found, page_due, packet_of, packet_with}
 use Rattle.sacn_console.proofs.Frames.{later}
 use Rattle.sacn_live.specs.DeskSends.{polled}
-use Rattle.sacn_live.specs.Fairness.{has_due, is_due, listed, gives, is_packet_on, packets_on}
+use Rattle.sacn_live.specs.Fairness.{has_due, is_due, as_list, gives, is_packet_on, packets_on}
 
 abbrev pub one_if : Bool → ℕ
 one_if b = if b then 1 else 0
@@ -114,7 +114,7 @@ module _ (u m : ℕ) (p : Lights) (d : Data) (l : UniverseLine) where
 
 -- ---- one poll
 
-paged : (u : ℕ) (c : Core) (q : Option Page) → packets_on u (listed (option_map Paged q)) + one_if (has_due u (given (option_map Paged q) c)) ≡ one_if (has_due u c)
+paged : (u : ℕ) (c : Core) (q : Option Page) → packets_on u (as_list (option_map Paged q)) + one_if (has_due u (given (option_map Paged q) c)) ≡ one_if (has_due u c)
 unfolding after line_after
 paged u c None = zero-add (one_if (has_due u c))
 paged u c (Some q) =
@@ -125,7 +125,7 @@ sent_universe : (c : Core) (l : UniverseLine) → (packet_of c.sender c.lights c
 unfolding packet_with
 sent_universe c l = refl
 
-packed : (u : ℕ) (c : Core) (l : UniverseLine) → line_found c ≡ Some l → packets_on u (listed (due_by c (Some l))) + one_if (has_due u (given (due_by c (Some l)) c)) ≡ one_if (has_due u c)
+packed : (u : ℕ) (c : Core) (l : UniverseLine) → line_found c ≡ Some l → packets_on u (as_list (due_by c (Some l))) + one_if (has_due u (given (due_by c (Some l)) c)) ≡ one_if (has_due u c)
 unfolding line_found after
 packed u c l found = by_universe (d.universe == u) refl
   where
@@ -147,11 +147,11 @@ packed u c l found = by_universe (d.universe == u) refl
         ∙ ap one_if (any_map (due_on u c.lights c.moment) (line_after (Gave c.moment (Packet d))) c.lines (λ x. stays u c.moment c.lights d x e))
 
 -- a poll gives a universe its packet and it is due no more, or gives it none and leaves it as due as it was
-pub one_poll : (u : ℕ) (c : Core) → packets_on u (listed (due c)) + one_if (has_due u (given (due c) c)) ≡ one_if (has_due u c)
+pub one_poll : (u : ℕ) (c : Core) → packets_on u (as_list (due c)) + one_if (has_due u (given (due c) c)) ≡ one_if (has_due u c)
 unfolding due
 one_poll u c = by_line (line_found c) refl
   where
-    by_line : (o : Option UniverseLine) → line_found c ≡ o → packets_on u (listed (due_by c o)) + one_if (has_due u (given (due_by c o) c)) ≡ one_if (has_due u c)
+    by_line : (o : Option UniverseLine) → line_found c ≡ o → packets_on u (as_list (due_by c o)) + one_if (has_due u (given (due_by c o) c)) ≡ one_if (has_due u c)
     by_line None e = paged u c (page_due c)
     by_line (Some l) e = packed u c l e
 
@@ -172,6 +172,6 @@ kept now zero u c = zero-add (one_if (is_due now u c))
 kept now (suc n) u c =
     let old = at now (polled now n c) in
     let new = at now (polled now (suc n) c) in
-    let step : packets_on u (listed (due old)) + one_if (has_due u new) ≡ one_if (has_due u old) =
-    ap (λ (x : Core). packets_on u (listed (due old)) + one_if (has_due u x)) (at_given now (due old) (polled now n c)) ∙ one_poll u old in
-    omega (arith, kept now n u c, step, sum_by-append (λ x. cond (is_packet_on u x) 1 0) (gives now n c) (listed (due old)))
+    let step : packets_on u (as_list (due old)) + one_if (has_due u new) ≡ one_if (has_due u old) =
+    ap (λ (x : Core). packets_on u (as_list (due old)) + one_if (has_due u x)) (at_given now (due old) (polled now n c)) ∙ one_poll u old in
+    omega (arith, kept now n u c, step, sum_by-append (λ x. cond (is_packet_on u x) 1 0) (gives now n c) (as_list (due old)))

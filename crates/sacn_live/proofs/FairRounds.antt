@@ -10,7 +10,7 @@ use Rattle.sacn_console.specs.Lines.{Datagram, Packet, Paged}
 use Rattle.sacn_console.specs.Core.{Core, at, due, given, after, taken, answer, text}
 use Rattle.sacn_edge.specs.ConsoleSends.{octets_of}
 use Rattle.sacn_live.specs.DeskSends.{Round, ordered, polled, sends, desk_after}
-use Rattle.sacn_live.specs.Fairness.{has_due, listed, gives, desk_gives, is_packet_on, packets_on, SendsAreGiven, EachAtMostOnce, EachOnce, EachDueIsGiven, DeskSendsAreGiven}
+use Rattle.sacn_live.specs.Fairness.{has_due, as_list, gives, desk_gives, is_packet_on, packets_on, SendsAreGiven, EachAtMostOnce, EachOnce, EachDueIsGiven, DeskSendsAreGiven}
 use Rattle.sacn_live.proofs.Fair.{one_if, at_given, equal, quiet, kept}
 
 -- ---- how often
@@ -37,7 +37,7 @@ module _ (now n u : ℕ) (c : Core) (earlier : 0 < packets_on u (gives now n c) 
   by_universe d true e same some = (n, d, omega arith, e, equal d.universe u same)
   by_universe d false e same some = earlier (omega (arith, some))
 
-  by_due : (o : Option Datagram) → due (at now (polled now n c)) ≡ o → 0 < packets_on u (gives now n c) + packets_on u (listed o) → IsGivenBelow now (suc n) u c
+  by_due : (o : Option Datagram) → due (at now (polled now n c)) ≡ o → 0 < packets_on u (gives now n c) + packets_on u (as_list o) → IsGivenBelow now (suc n) u c
   by_due None e some = earlier (omega (arith, some))
   by_due (Some (Paged p)) e some = earlier (omega (arith, some))
   by_due (Some (Packet d)) e some = by_universe d (d.universe == u) e refl some
@@ -47,7 +47,7 @@ given_below now zero u c some = absurd (omega (arith, some))
 given_below now (suc n) u c some =
     let d = due (at now (polled now n c)) in
     by_due now n u c (λ some. later now n u c (given_below now n u c some)) d refl
-    (omega (arith, some, sum_by-append (λ x. cond (is_packet_on u x) 1 0) (gives now n c) (listed d)))
+    (omega (arith, some, sum_by-append (λ x. cond (is_packet_on u x) 1 0) (gives now n c) (as_list d)))
 
 pub each_due : EachDueIsGiven
 each_due c now n u is none =
@@ -81,7 +81,7 @@ sender_after first (r ∷ rs) =
     ∙ sender_ordered r.now r.orders (desk_after first rs)
     ∙ sender_after first rs
 
-octets_listed : (s : Sender) (d : Option Datagram) → octets_of s d ≡ map (text s) (listed d)
+octets_listed : (s : Sender) (d : Option Datagram) → octets_of s d ≡ map (text s) (as_list d)
 octets_listed s None = refl
 octets_listed s (Some d) = refl
 
@@ -92,7 +92,7 @@ sends_given c now (suc n) =
     ap (λ os. os ++ octets_of (polled now n c).sender d) (sends_given c now n)
     ∙ ap (λ s. map (text c.sender) (gives now n c) ++ octets_of s d) (sender_polled now n c)
     ∙ ap (λ os. map (text c.sender) (gives now n c) ++ os) (octets_listed c.sender d)
-    ∙ sym (map-append (text c.sender) (gives now n c) (listed d))
+    ∙ sym (map-append (text c.sender) (gives now n c) (as_list d))
 
 pub desk_sends_given : DeskSendsAreGiven
 desk_sends_given first [] = refl

@@ -6,7 +6,7 @@ use Rattle.sacn_node.specs.Calls.{Call, step, after_calls}
 use Rattle.sacn_node.specs.Laws.{AnswersByThePlainRule, KeepsItsPorts, UsesTheGreatestMoment}
 use Rattle.sacn_edge.specs.Additions.{Adds}
 use Rattle.sacn_edge.specs.NodeText.{Turn, FrameLine, call_at, node_after, with_ports, line_text, text_of}
-use Rattle.sacn_edge.proofs.Settled.{turn_settled}
+use Rattle.sacn_edge.proofs.Settling.{turn_settled}
 use Rattle.sacn_edge.proofs.PlainTexts.{asked_stays, ports_same}
 use Rattle.sacn_live.specs.Hearings.{Hearing, turns_of, heard_of, emptied_after}
 use Rattle.sacn_live.specs.GatewayText.{gateway_after, gateway_lines}

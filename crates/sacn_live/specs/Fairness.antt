@@ -24,14 +24,14 @@ is_due now u c = has_due u (at now c)
 
 -- ---- what is given
 
-abbrev pub listed : Option Datagram → List Datagram
-listed None = []
-listed (Some d) = d ∷ []
+abbrev pub as_list : Option Datagram → List Datagram
+as_list None = []
+as_list (Some d) = d ∷ []
 
 -- the datagrams that so many polls at a reading give, in their order
 abbrev pub gives : ℕ → ℕ → Core → List Datagram
 gives now zero c = []
-gives now (suc n) c = gives now n c ++ listed (due (at now (polled now n c)))
+gives now (suc n) c = gives now n c ++ as_list (due (at now (polled now n c)))
 
 abbrev pub desk_gives : Core → List Round → List Datagram
 desk_gives first [] = []

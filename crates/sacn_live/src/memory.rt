@@ -29,7 +29,7 @@ pub struct MemoryReceiver {
 }
 
 impl MemoryReceiver {
-    ghost use Rattle.sacn_live.specs.MemoryTold.{receiver_told, brings, ends_at};
+    ghost use Rattle.sacn_live.specs.MemoryReceiver.{receiver_told, brings, ends_at};
 
     /// A receiver of which nothing was asked yet.
     pub fn new(incoming: Vec<Incoming>, last: u64) -> MemoryReceiver
@@ -98,7 +98,7 @@ fn bring(item: Option<&Incoming>, last: u64, buffer: &mut [u8; BUFFER_OCTETS]) -
 }
 
 impl Receiver for MemoryReceiver {
-    ghost use Rattle.sacn_live.specs.MemoryTold.{receiver_told};
+    ghost use Rattle.sacn_live.specs.MemoryReceiver.{receiver_told};
 
     ghost told = { receiver_told };
 

@@ -13,7 +13,7 @@ use Rattle.sacn_monitor.specs.declared.news.Event.{Event}
 use Rattle.sacn_monitor.specs.declared.news.Event.TheVariants.{GoesOn, CameBack, Ended, OutOfSequence, Repeated}
 use Rattle.sacn_monitor.specs.declared.news.Change.{Change}
 use Rattle.sacn_monitor.specs.declared.news.News.{News}
-use Rattle.sacn_monitor.specs.Kinds.{more, no_packets, counted}
+use Rattle.sacn_monitor.specs.Kinds.{more, no_packets, with_one_more}
 use Rattle.sacn_monitor.specs.Rates.{first_rate, rate_after}
 
 -- a name's octets, and NUL to the end of its field
@@ -60,7 +60,7 @@ after_taken t sender d a = record {
   latest = t;
   sequence_number = d.number;
   ended = d.terminated;
-  kinds = counted (kind_of d) a.kinds;
+  kinds = with_one_more (kind_of d) a.kinds;
   skipped = more (skipped_at t d.number a) a.skipped;
   late = a.late;
   repeats = a.repeats;
@@ -80,7 +80,7 @@ first_account t sender d = record {
   latest = t;
   sequence_number = d.number;
   ended = d.terminated;
-  kinds = counted (kind_of d) no_packets;
+  kinds = with_one_more (kind_of d) no_packets;
   skipped = 0;
   late = 0;
   repeats = 0;

@@ -72,14 +72,14 @@ after_read sender b (Ok SyncPacket) = record b { tally = record b.tally { syncs 
 after_read sender b (Err fault) = record b { tally = refused_more fault b.tally }
 
 -- the clock at the greater moment, and one datagram more
-abbrev pub handed : ℕ → Book → Book
-handed now b = record b { moment = max b.moment now; tally = record b.tally { datagrams = more 1 b.tally.datagrams } }
+abbrev pub with_datagram : ℕ → Book → Book
+with_datagram now b = record b { moment = max b.moment now; tally = record b.tally { datagrams = more 1 b.tally.datagrams } }
 
-abbrev pub noted : ℕ → Sender → List ℕ → Book → Noted
-noted now sender octets b = noted_packet sender (handed now b) (reading_packet octets)
+abbrev pub note_of : ℕ → Sender → List ℕ → Book → Noted
+note_of now sender octets b = noted_packet sender (with_datagram now b) (reading_packet octets)
 
 abbrev pub after_take : ℕ → Sender → List ℕ → Book → Book
-after_take now sender octets b = after_read sender (handed now b) (reading_packet octets)
+after_take now sender octets b = after_read sender (with_datagram now b) (reading_packet octets)
 
 -- ---- silence
 
@@ -92,12 +92,12 @@ next_loss (s ∷ ss) = min (loss_of s) (next_loss ss)
 abbrev pub silent_place : ℕ → List Stream → Option ℕ
 silent_place t ss = position (falls_silent t) ss
 
-abbrev pub told : Stream → Stream
-told s = record s { told = true }
+abbrev pub with_told : Stream → Stream
+with_told s = record s { told = true }
 
 abbrev pub told_at : Option ℕ → List Stream → List Stream
 told_at None ss = ss
-told_at (Some i) ss = change_at told i ss
+told_at (Some i) ss = change_at with_told i ss
 
 abbrev pub after_tick : ℕ → Book → Book
 after_tick now b = let t = max b.moment now in record b { streams = told_at (silent_place t b.streams) b.streams; moment = t }

@@ -12,11 +12,11 @@ abbrev pub no_packets : Kinds
 no_packets = record { live = 0; previews = 0; terminations = 0; others = 0 }
 
 -- one packet more of a kind
-abbrev pub counted : Kind → Kinds → Kinds
-counted Live kinds = record kinds { live = more 1 kinds.live }
-counted Preview kinds = record kinds { previews = more 1 kinds.previews }
-counted Termination kinds = record kinds { terminations = more 1 kinds.terminations }
-counted Other kinds = record kinds { others = more 1 kinds.others }
+abbrev pub with_one_more : Kind → Kinds → Kinds
+with_one_more Live kinds = record kinds { live = more 1 kinds.live }
+with_one_more Preview kinds = record kinds { previews = more 1 kinds.previews }
+with_one_more Termination kinds = record kinds { terminations = more 1 kinds.terminations }
+with_one_more Other kinds = record kinds { others = more 1 kinds.others }
 
 -- all of them, at most what 64 bits hold
 abbrev pub total : Kinds → ℕ

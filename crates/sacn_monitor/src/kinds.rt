@@ -2,7 +2,7 @@
 
 ghost use Rattle.std.specs.Prelude.{◌≡◌};
 ghost use Rattle.sacn_sources.specs.Packets.{kind_of};
-ghost use Rattle.sacn_monitor.specs.Kinds.{no_packets, counted, total};
+ghost use Rattle.sacn_monitor.specs.Kinds.{no_packets, with_one_more, total};
 
 use sacn_framing::DataView;
 use sacn_sources::Kind;
@@ -45,7 +45,7 @@ impl Kinds {
 
     /// One packet more.
     pub(crate) fn count(&mut self, packet: &DataView<'_>)
-        ensures { self.new ≡ counted (kind_of packet.now) self.old }
+        ensures { self.new ≡ with_one_more (kind_of packet.now) self.old }
     {
         match kind_of(packet) {
             Kind::Termination => self.terminations = self.terminations.saturating_add(1),

@@ -42,7 +42,7 @@ impl Model for Monitor {
 }
 
 impl Monitor {
-    ghost use Rattle.sacn_monitor.specs.Books.{new_book, noted, after_take, noted_data, after_data, place_of, silent_place, after_tick, told, change_at};
+    ghost use Rattle.sacn_monitor.specs.Books.{new_book, note_of, after_take, noted_data, after_data, place_of, silent_place, after_tick, with_told, change_at};
 
     /// A monitor that has heard nothing, with the room for `MAX_STREAMS` streams taken in one request.
     ///
@@ -59,7 +59,7 @@ impl Monitor {
 
     /// Takes a datagram that came at a moment, in milliseconds, and returns what it told that is new.
     pub fn take(&mut self, now: u64, sender: Sender, octets: &[u8]) -> Noted
-        ensures noted { result ≡ noted now sender octets.now self.old }
+        ensures noted { result ≡ note_of now sender octets.now self.old }
         ensures book { self.new ≡ after_take now sender octets.now self.old }
     {
         self.moment = self.moment.max(now);
@@ -186,7 +186,7 @@ impl Monitor {
         requires { at < length self.old.streams }
         ensures { (s : Stream)
             → self.new ≡ record self.old {
-              streams = slice_set self.old.streams at (told (slice_index_or self.old.streams at s));
+              streams = slice_set self.old.streams at (with_told (slice_index_or self.old.streams at s));
             } }
     {
         self.streams[at].told = true;

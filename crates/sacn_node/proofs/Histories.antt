@@ -16,7 +16,7 @@ use Rattle.sacn_node.specs.Cores.{Table, Core, new_table, rows_kept_all, table_o
 use Rattle.sacn_node.specs.Readings.{Reading, after_reading}
 use Rattle.sacn_node.specs.Calls.{Call, Take, Tick, Frame, moment_of, core_step, after_calls, moment_in_use}
 use Rattle.sacn_node.specs.PlainRule.{packet_on, brought, change, held_after}
-use Rattle.sacn_node.proofs.Prepared.{universes_rise}
+use Rattle.sacn_node.proofs.Guarantees.{universes_rise}
 
 -- ---- the calls on the table of one universe
 

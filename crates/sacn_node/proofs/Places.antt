@@ -11,7 +11,7 @@ use Rattle.sacn_sources.specs.Rows.{Row, Packet, take_row}
 use Rattle.sacn_node.specs.declared.tables.OneUniverse.{OneUniverse}
 use Rattle.sacn_node.specs.Cores.{Table, Core, table_of, change_rows, with_taken, core_at, core_after}
 use Rattle.sacn_node.specs.Storage.{seen}
-use Rattle.sacn_node.proofs.Expired.{kept_in}
+use Rattle.sacn_node.proofs.Expiry.{kept_in}
 
 other : (a b : ℕ) → a < b → (a == b) ≡ false
 other a b lt = grind (arith, nat_tests)

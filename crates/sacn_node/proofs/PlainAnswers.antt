@@ -8,15 +8,15 @@ use Rattle.std.proofs.lemmas.List.Elements.{All-cons}
 use Rattle.std.proofs.lemmas.List.Sums.{sum_by-cons}
 use Rattle.sacn_framing.specs.PacketReading.{reading_packet}
 use Rattle.sacn_framing.specs.declared.packet.Packet.TheVariants.{DataPacket, PagePacket, SyncPacket}
-use Rattle.sacn_sources.specs.declared.taken.Taken.{Taken}
-use Rattle.sacn_sources.specs.declared.taken.Taken.TheVariants.{Held}
+use Rattle.sacn_sources.specs.declared.answer.Taken.{Taken}
+use Rattle.sacn_sources.specs.declared.answer.Taken.TheVariants.{Held}
 use Rattle.sacn_sources.specs.Rows.{Row, Packet, rows_kept, rows_lost, taken, slots_of}
 use Rattle.sacn_sources.specs.Packets.{packet_of}
 use Rattle.sacn_sources.specs.PlainRule.{Sources, unexpired, source_row, shown_by}
 use Rattle.sacn_sources.specs.Calls as one
 use Rattle.sacn_sources.specs.PlainRule as plain
 use Rattle.sacn_sources.specs.Laws as law
-use Rattle.sacn_node.specs.declared.taken.NodeTaken.TheVariants.{FromTable, OtherUniverse}
+use Rattle.sacn_node.specs.declared.answer.NodeTaken.TheVariants.{FromTable, OtherUniverse}
 use Rattle.sacn_node.specs.Setup.{Port, universes}
 use Rattle.sacn_node.specs.Ports.{port_of, frame_on}
 use Rattle.sacn_node.specs.Cores.{Table, Core, rows_kept_all, rows_lost_all, table_of, core_reply_on, core_at, core_row, core_slots, row_on, slots_on}

@@ -3,8 +3,8 @@ use Rattle.std.specs.Prelude.{ℕ, max, ◌==◌, refl, if◌then◌else◌, Lis
 use Rattle.std.specs.List.{sum_by}
 use Rattle.std.specs.Coded.{Coded, code_by, coded×, coded_ℕ, coded_list}
 use Rattle.sacn_sources.specs.Rows.{Row, Packet, row_code, rows_kept, rows_lost, taken, take_row, row_of, slots_of}
-use Rattle.sacn_node.specs.declared.taken.NodeTaken.{NodeTaken}
-use Rattle.sacn_node.specs.declared.taken.NodeTaken.TheVariants.{FromTable, OtherUniverse}
+use Rattle.sacn_node.specs.declared.answer.NodeTaken.{NodeTaken}
+use Rattle.sacn_node.specs.declared.answer.NodeTaken.TheVariants.{FromTable, OtherUniverse}
 use Rattle.sacn_node.specs.Setup.{Port, universes}
 use Rattle.sacn_node.specs.Ports.{port_of, frame_on}
 

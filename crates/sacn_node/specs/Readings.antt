@@ -4,8 +4,8 @@ use Rattle.sacn_root.specs.declared.fault.PacketFault.{PacketFault}
 use Rattle.sacn_framing.specs.declared.packet.Packet.{Packet}
 use Rattle.sacn_framing.specs.declared.packet.Packet.TheVariants.{DataPacket, PagePacket, SyncPacket}
 use Rattle.sacn_sources.specs.Packets.{packet_of}
-use Rattle.sacn_node.specs.declared.taken.NodeTaken.{NodeTaken}
-use Rattle.sacn_node.specs.declared.taken.NodeTaken.TheVariants.{Discovery, Sync, Refused}
+use Rattle.sacn_node.specs.declared.answer.NodeTaken.{NodeTaken}
+use Rattle.sacn_node.specs.declared.answer.NodeTaken.TheVariants.{Discovery, Sync, Refused}
 use Rattle.sacn_node.specs.Cores.{Core, core_reply, core_after, core_at}
 
 abbrev pub Reading : Type 0

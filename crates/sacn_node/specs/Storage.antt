@@ -3,7 +3,7 @@ use Rattle.std.specs.Prelude.{ℕ, ◌-◌, ◌<◌, ◌≤◌, max, List, lengt
 use Rattle.std.specs.List.{sum_by, AllByRecursion}
 use Rattle.std.specs.List.Sorted.{IsStrictlyIncreasing}
 use Rattle.sacn_sources.specs.Rows.{rows_lost}
-use Rattle.sacn_sources.specs.Kept.{new_kept, kept_after_expire}
+use Rattle.sacn_sources.specs.LatestMerge.{new_kept, kept_after_expire}
 use Rattle.sacn_node.specs.declared.tables.OneUniverse.{OneUniverse}
 use Rattle.sacn_node.specs.declared.limits.TheConstants.{MAX_PORTS, MAX_UNIVERSES}
 use Rattle.sacn_node.specs.Setup.{Port, port_numbers}

@@ -3,11 +3,11 @@
 ghost use Rattle.std.specs.Prelude.{◌≡◌, ◌<◌, ◌≤◌, ◌^◌, ℕ, Some, None, length, is_ok, IfOk, IfSome, IfNone, OnErr, if◌then◌else◌};
 ghost use Rattle.std.specs.List.Sorted.{IsStrictlyIncreasing};
 
+use crate::answer::{NoPort, NodeChange, NodeTaken};
 use crate::limits::MAX_PORTS;
 use crate::ports::{NodePort, copy_numbers, copy_ports, fill_frame, find_port, show_one_of};
 use crate::setup::{NodeSetup, universes_of};
 use crate::tables::Tables;
-use crate::taken::{NoPort, NodeChange, NodeTaken};
 use arrayvec::ArrayVec;
 use sacn_framing::{Packet, read_packet};
 use sacn_sources::{HeldView, TableFault};

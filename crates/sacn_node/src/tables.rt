@@ -8,8 +8,8 @@ ghost use Rattle.sacn_node.specs.declared.limits.TheConstants.{MAX_UNIVERSES};
 ghost use Rattle.sacn_node.specs.Storage.{one_expired, lost_in, new_one};
 ghost use Rattle.sacn_sources.specs.Wakes.{oldest_by, oldest_of};
 
+use crate::answer::{NodeChange, NodeTaken, change_by};
 use crate::limits::MAX_UNIVERSES;
-use crate::taken::{NodeChange, NodeTaken, change_by};
 use sacn_framing::DataView;
 use sacn_slots::merge_into;
 use sacn_sources::{HeldView, NETWORK_DATA_LOSS, SourceTable, TableFault, Taken};

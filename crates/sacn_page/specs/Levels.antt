@@ -1,6 +1,6 @@
 -- A universe that is merged for viewers.
 use Rattle.std.specs.Prelude.{ℕ, List, replicate}
-use Rattle.sacn_sources.specs.Kept.{Kept, new_kept}
+use Rattle.sacn_sources.specs.LatestMerge.{Kept, new_kept}
 
 -- which it is, its sources as a node holds them, and the levels that are shown
 pub record Lit : Type 0 where

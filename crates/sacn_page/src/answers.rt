@@ -4,7 +4,7 @@ use crate::board::Board;
 use crate::document::{Extent, Given, push_document, push_facts};
 use crate::markup::{Subject, page};
 use crate::request::{Asked, Refusal};
-use crate::response::{Kind, event_stream_head, push_event, refused, whole};
+use crate::response::{Kind, event_stream_head, push_event, refusal_response, whole};
 use crate::scene::Scene;
 use crate::viewer::{Connection, Goal, Phase, Viewer};
 use std::alloc::{AllocError, Global};
@@ -27,7 +27,7 @@ pub fn refuse<C: Connection + Drop>(
     refusal: Refusal,
     now: u64,
 ) -> Result<(), AllocError> {
-    let text = refused(alloc, refusal)?;
+    let text = refusal_response(alloc, refusal)?;
     viewer.give(text.as_str(), Phase::Answered, now)
 }
 
@@ -175,7 +175,7 @@ fn prepare<S: Scene + Drop>(
     watched: &[u16],
     now: u64,
 ) -> Result<bool, AllocError> {
-    let Some(universe) = scene.board().chosen(named) else {
+    let Some(universe) = scene.board().chosen_universe(named) else {
         return Ok(true);
     };
     if !scene.open(universe, watched)? {

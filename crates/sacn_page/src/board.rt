@@ -123,7 +123,7 @@ impl Board {
     }
 
     /// The universe that is shown to a viewer that names this one, or none.
-    pub fn chosen(&self, named: Option<u16>) -> Option<u16> {
+    pub fn chosen_universe(&self, named: Option<u16>) -> Option<u16> {
         if named.is_some() {
             return named;
         }
@@ -137,7 +137,7 @@ impl Board {
     }
 
     /// A universe as it is merged, where it is.
-    pub fn lit(&self, universe: u16) -> Option<&LitUniverse> {
+    pub fn find_lit(&self, universe: u16) -> Option<&LitUniverse> {
         self.lit.iter().find(|lit| lit.universe() == universe)
     }
 
@@ -148,7 +148,7 @@ impl Board {
     pub fn open(&mut self, universe: u16, watched: &[u16]) -> Result<bool, AllocError>
         ensures monitor { self.new.monitor ≡ self.old.monitor }
     {
-        if self.lit(universe).is_some() {
+        if self.find_lit(universe).is_some() {
             return Ok(true);
         }
         if self.lit.len() < MAX_LIT {
@@ -239,7 +239,7 @@ impl Board {
         ensures monitor { self.new.monitor ≡ self.old.monitor }
     {
         let universe = packet.universe();
-        if self.lit(universe).is_none() && self.lit.len() < MAX_LIT {
+        if self.find_lit(universe).is_none() && self.lit.len() < MAX_LIT {
             self.lit.push(unlit_universe(self.alloc, universe)?)?;
         }
         for lit in self.lit.iter_mut() {

@@ -132,7 +132,7 @@ pub fn push_document(
         push_facts(text, facts)?;
     }
     let start = text.len();
-    push_universe(text, board.chosen(named), given, extent)?;
+    push_universe(text, board.chosen_universe(named), given, extent)?;
     push_heard(text, board.universes_heard(), given, extent)?;
     push_rows(text, board.monitor().streams(), moment, given, extent)?;
     push_lit(text, board, given, extent)?;
@@ -260,7 +260,7 @@ fn push_lit(
     let mut levels = [0; SLOTS];
     let mut winners = [0; SLOTS];
     if let Some(universe) = given.universe {
-        if let Some(lit) = board.lit(universe) {
+        if let Some(lit) = board.find_lit(universe) {
             levels = *lit.levels();
             winners = *lit.winners();
         }

@@ -3,7 +3,7 @@
 ghost use Rattle.std.specs.Prelude.{◌≡◌};
 ghost use Rattle.sacn_sources.specs.Packets.{packet_of};
 ghost use Rattle.sacn_sources.specs.Rows.{after_expire, slots_of};
-ghost use Rattle.sacn_sources.specs.Kept.{kept_after_take, kept_after_merged};
+ghost use Rattle.sacn_sources.specs.LatestMerge.{kept_after_take, kept_after_merged};
 
 use sacn_framing::DataView;
 use sacn_monitor::Stream;

@@ -88,7 +88,7 @@ impl<T: Tape + Drop> Recording<T> {
     // Whether it can be read on to this moment with this universe merged.
     fn reaches(&self, universe: Option<u16>, moment: u64) -> bool {
         let is_merged = match universe {
-            Some(universe) => self.replay.board().lit(universe).is_some(),
+            Some(universe) => self.replay.board().find_lit(universe).is_some(),
             None => true,
         };
         !self.is_broken & is_merged & (self.replay.moment_shown() <= moment)
@@ -185,7 +185,7 @@ impl<T: Tape + Drop> Scene for Recording<T> {
         let is_there = self.replay.advance(until, steps)?;
         self.is_broken = false;
         if is_there {
-            if let Some(universe) = self.replay.board().chosen(universe) {
+            if let Some(universe) = self.replay.board().chosen_universe(universe) {
                 self.replay.refresh(universe);
             }
         }

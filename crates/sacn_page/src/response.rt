@@ -85,7 +85,7 @@ pub fn event_stream_head(alloc: Global) -> Result<String, AllocError> {
 /// The answer to a request that is refused.
 ///
 /// Errors: a growth was refused.
-pub fn refused(alloc: Global, refusal: Refusal) -> Result<String, AllocError> {
+pub fn refusal_response(alloc: Global, refusal: Refusal) -> Result<String, AllocError> {
     let mut text = head_of(alloc, refusal.status(), refusal.reason(), Kind::Text)?;
     match refusal {
         Refusal::Method => text.push_str("Allow: GET\r\n")?,

@@ -152,7 +152,7 @@ impl<C: Connection + Drop, S: Scene + Drop> Room<C, S> {
         for key in 0..MAX_CONNECTIONS {
             if let Some(viewer) = self.viewers.get(key) {
                 if let Phase::Watching(named) = viewer.phase() {
-                    if let Some(universe) = self.scene.board().chosen(named) {
+                    if let Some(universe) = self.scene.board().chosen_universe(named) {
                         universes.push(universe)?;
                     }
                 }

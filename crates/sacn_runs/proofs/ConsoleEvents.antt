@@ -22,7 +22,7 @@ use Rattle.sacn_world.specs.declared.console.Console.{Console}
 use Rattle.sacn_world.specs.declared.fault.WorldFault.{WorldFault}
 use Rattle.sacn_world.specs.Streams.{Sent}
 use Rattle.sacn_world.specs.Nodes.{Node}
-use Rattle.sacn_world.specs.Worlds.{World, Outcome, Step, with_core, polled, order_step, said_by, sent_by, poll_by, poll_step, restart_console, come, arrive, deliver_step, look_step, heard, noise_step, restart_node, step, left_by, Apart}
+use Rattle.sacn_world.specs.Worlds.{World, Outcome, Step, with_core, polled, order_step, said_by, sent_by, poll_by, poll_step, restart_console, come, arrive, deliver_step, look_step, hear_noise, noise_step, restart_node, step, left_by, Apart}
 use Rattle.sacn_world.proofs.Changes.{set_other, set_there}
 use Rattle.sacn_world.proofs.Sources.{same_source, same-itself}
 use Rattle.sacn_runs.specs.ConsoleRuns.{requests_by, octets_of_packet, octets_from, refused_in, refused_with}
@@ -84,7 +84,7 @@ module _ (w : World) (apart : Apart w.consoles) (i : ℕ) (c : Console) (here : 
   looked j port m None = rests
   looked j port m (Some n) = rests
 
-  heard_so : (j m : ℕ) (n : Node) (r : Reading) → Rests (left_by w (heard w j m n r))
+  heard_so : (j m : ℕ) (n : Node) (r : Reading) → Rests (left_by w (hear_noise w j m n r))
   heard_so j m n (Ok p) = rests
   heard_so j m n (Err f) = rests
 

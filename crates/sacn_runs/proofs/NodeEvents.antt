@@ -22,7 +22,7 @@ use Rattle.sacn_world.specs.declared.fault.WorldFault.{WorldFault}
 use Rattle.sacn_world.specs.declared.console.Console.{Console}
 use Rattle.sacn_world.specs.Streams.{Sent}
 use Rattle.sacn_world.specs.Nodes.{Node, node_of, node_at, frame_of, seen_core}
-use Rattle.sacn_world.specs.Worlds.{World, Outcome, Step, with_console, with_node, order_step, poll_by, poll_step, sent_by, restart_console, come, arrive, deliver_step, shown, look_step, heard, noise_step, restart_node, step, left_by, NodeOk, WorldOk}
+use Rattle.sacn_world.specs.Worlds.{World, Outcome, Step, with_console, with_node, order_step, poll_by, poll_step, sent_by, restart_console, come, arrive, deliver_step, answer_to_look, look_step, hear_noise, noise_step, restart_node, step, left_by, NodeOk, WorldOk}
 use Rattle.sacn_world.proofs.All.{all_get}
 use Rattle.sacn_world.proofs.Changes.{set_same, set_other}
 use Rattle.sacn_world.proofs.Growth.{node_kept}
@@ -32,13 +32,13 @@ use Rattle.sacn_world.proofs.Origin.{Origin}
 use Rattle.sacn_world.proofs.Replies.{numbers_agree}
 use Rattle.sacn_runs.specs.NodeVisits.{Visit, Came, Asked, Began, packet_sent, visits_by}
 use Rattle.sacn_runs.specs.NodeRuns.{moment_with, frame_told, line_with}
-use Rattle.sacn_runs.proofs.Shown.{Showing, node_with, came, asked, shown_by, show_all, came_moment}
+use Rattle.sacn_runs.proofs.Visits.{Showing, node_with, came, asked, shown_by, show_all, came_moment}
 
 abbrev answer_of : Step → Answer
 answer_of (Ok o) = o.answer
 answer_of (Err fault) = answered.Idle
 
-told_so : (o : Option (List ℕ)) → frame_told (shown o) ≡ o
+told_so : (o : Option (List ℕ)) → frame_told (answer_to_look o) ≡ o
 told_so None = refl
 told_so (Some frame) = refl
 
@@ -94,7 +94,7 @@ module _ (w : World) (ok : WorldOk w) (i : ℕ) (ports : List Port) (own : (n : 
   look_there j port m None ne = sees
   look_there j port m (Some n) ne = other j _ ne
 
-  heard_there : (j m : ℕ) (n : Node) (r : Reading) → (j ≡ i → ⊥) → Sees (left_by w (heard w j m n r)) i s.core
+  heard_there : (j m : ℕ) (n : Node) (r : Reading) → (j ≡ i → ⊥) → Sees (left_by w (hear_noise w j m n r)) i s.core
   heard_there j m n (Ok p) ne = sees
   heard_there j m n (Err f) ne = other j _ ne
 
@@ -135,7 +135,7 @@ module _ (w : World) (ok : WorldOk w) (i : ℕ) (ports : List Port) (own : (n : 
     ap (λ t. frame_told (answer_of t)) (sym h) ∙ told_so (frame_of w.sent port (node_at m n)) ∙ frame_so port m n en,
   )
 
-  heard_here : (m : ℕ) (o : Outcome) (n : Node) (r : Reading) → slice_get w.nodes i ≡ Some n → heard w i m n r ≡ Ok o → Sees o.world i (core_at m s.core)
+  heard_here : (m : ℕ) (o : Outcome) (n : Node) (r : Reading) → slice_get w.nodes i ≡ Some n → hear_noise w i m n r ≡ Ok o → Sees o.world i (core_at m s.core)
   heard_here m o n (Ok p) en h = absurd (cc)
   heard_here m o n (Err fault) en h = subst (λ (v : World). Sees v i (core_at m s.core)) (ap (left_by w) h) (written (node_at m n) (core_at m s.core) (moved_at m n en))
 

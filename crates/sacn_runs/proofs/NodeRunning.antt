@@ -21,7 +21,7 @@ use Rattle.sacn_world.proofs.Reaching.{reached_ok, joined, first_of_run}
 use Rattle.sacn_world.proofs.Runs.{step_ok}
 use Rattle.sacn_runs.specs.NodeVisits.{visits_by, visits, loop_visits}
 use Rattle.sacn_runs.specs.NodeRuns.{moment_with, line_with, lines_shown, seen_node, RunsAs, NodesRunAsInAWorld}
-use Rattle.sacn_runs.proofs.Shown.{Showing, node_with, show_all, show_all-append}
+use Rattle.sacn_runs.proofs.Visits.{Showing, node_with, show_all, show_all-append}
 use Rattle.sacn_runs.proofs.Turns.{node_kept, loop_so}
 use Rattle.sacn_runs.proofs.NodeEvents.{Sees, event_made}
 

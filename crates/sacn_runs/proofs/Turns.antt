@@ -8,9 +8,9 @@ use Rattle.sacn_node.specs.Readings.{Reading, after_reading}
 use Rattle.sacn_node.specs.Calls.{core_step, step}
 use Rattle.sacn_edge.specs.Hearings.{Heard, Silence, Octets, Fault}
 use Rattle.sacn_edge.specs.NodeText.{Turn, FrameLine, call_at, node_after, with_frame, with_ports, lines_after}
-use Rattle.sacn_edge.proofs.Settled.{turn_settled}
+use Rattle.sacn_edge.proofs.Settling.{turn_settled}
 use Rattle.sacn_runs.specs.NodeVisits.{Visit, Came, Asked, packet_read, packet_heard, turn_visits, loop_visits}
-use Rattle.sacn_runs.proofs.Shown.{Showing, node_with, came, asked, shown_by, show_all, show_all-append}
+use Rattle.sacn_runs.proofs.Visits.{Showing, node_with, came, asked, shown_by, show_all, show_all-append}
 
 read_so : (now : ℕ) (r : Reading) (c : Core) → came now (packet_read r) c ≡ after_reading r now c
 read_so now (Ok p) c = refl

@@ -14,7 +14,7 @@ use Rattle.sacn_sources.specs.Order.{order}
 use Rattle.sacn_sources.specs.declared.entry.Entry.{Entry}
 use Rattle.sacn_sources.specs.declared.limits.TheConstants.{MAX_SOURCES}
 use Rattle.sacn_sources.specs.Rows.{Row, Table, put_row}
-use Rattle.sacn_sources.specs.Stored.{Frames, row_in, rows_in, Apart, AreStored}
+use Rattle.sacn_sources.specs.Storage.{Frames, row_in, rows_in, Apart, AreStored}
 use Rattle.sacn_sources.specs.Places.{IsAt, IsGap}
 use Rattle.sacn_sources.proofs.Lists.{map_set, map_insert, map_remove, all_set, all_insert, all_remove, pairs_set, pairs_insert}
 use Rattle.sacn_sources.proofs.Places.{put_gap, flipped}

@@ -6,9 +6,9 @@ use Rattle.sacn_slots.specs.Merge.{merge}
 use Rattle.sacn_sources.specs.Order.{order}
 use Rattle.sacn_sources.specs.declared.limits.TheConstants.{MAX_SOURCES}
 use Rattle.sacn_sources.specs.Rows.{Row, Packet, Taken, Held, Observed, EndedNow, OutOfSequence, SourcesExceeded, UnknownIgnored, rows_kept, row_of, take_by, taken, observed, rows_after, take_row, layers}
-use Rattle.sacn_sources.specs.Kept.{Kept, due_at, loses_live}
+use Rattle.sacn_sources.specs.LatestMerge.{Kept, due_at, loses_live}
 use Rattle.sacn_sources.specs.Calls.{Call, Take, Expire, Merge, Took, Expired, Slots, moment_of, step, answer_to, after_calls, moment_in_use}
-use Rattle.sacn_sources.specs.PlainRule.{Entry, Sources, unexpired, live, ended, renumbered, held_by, answer_for, source_row, change, held_after, answer_at, plain_rule, expires_live, renews_source, is_news, is_due, renewal_count}
+use Rattle.sacn_sources.specs.PlainRule.{Entry, Sources, unexpired, live, ended_entry, renumbered, held_by, answer_for, source_row, change, held_after, answer_at, plain_rule, expires_live, renews_source, is_news, is_due, renewal_count}
 use Rattle.sacn_sources.specs.Laws.{row_with, AnswersByThePlainRule, HoldsByThePlainRule, CountsRenewals}
 use Rattle.sacn_sources.proofs.Mirrors.{Mirrors, row_found, put_mirrors, kept_mirrors, same_length, same_shown, same_losses}
 
@@ -21,7 +21,7 @@ module _ (t : ℕ) (x : Packet) (rs : List Row) (held : Sources) (mirrors : Mirr
 
   packet_rows : (a : Taken) (o : Option Entry) → row_of x.source rs ≡ option_map (row_with x.source) o → Mirrors (rows_after a x t rs) (held_by a t x o held)
   packet_rows Held o there = put_mirrors rs held mirrors x.source (live x t)
-  packet_rows EndedNow o there = put_mirrors rs held mirrors x.source (ended x t)
+  packet_rows EndedNow o there = put_mirrors rs held mirrors x.source (ended_entry x t)
   packet_rows Observed None there = subst (λ r. Mirrors (observed x r rs) held) (sym there) mirrors
   packet_rows Observed (Some e) there = subst (λ r. Mirrors (observed x r rs) (Rattle.std.specs.FinMap.insert held x.source (renumbered x e))) (sym there) (put_mirrors rs held mirrors x.source (renumbered x e))
   packet_rows OutOfSequence o there = mirrors

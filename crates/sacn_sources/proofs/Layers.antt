@@ -9,7 +9,7 @@ use Rattle.sacn_slots.specs.declared.merge.Layer.{Layer}
 use Rattle.sacn_slots.specs.Layers.{shown_of}
 use Rattle.sacn_sources.specs.declared.entry.Entry.{Entry}
 use Rattle.sacn_sources.specs.Rows.{layers}
-use Rattle.sacn_sources.specs.Stored.{Frames, row_in, rows_in}
+use Rattle.sacn_sources.specs.Storage.{Frames, row_in, rows_in}
 
 abbrev pub shows : Frames → Entry → Option Shown
 shows fr e = (row_in fr e).shown

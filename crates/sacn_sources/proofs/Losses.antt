@@ -2,7 +2,7 @@
 use Rattle.std.proofs.Common.{◌≡◌, ℕ, ◌+◌, ◌<◌, Bool, true, false, not, ◌&&◌, ◌||◌, List, length, drop, get_or, is_some, refl, sym, ap, ◌∙◌}
 use Rattle.std.proofs.lemmas.List.{drop_more}
 use Rattle.sacn_sources.specs.Rows.{Row, row_renewed}
-use Rattle.sacn_sources.specs.Kept.{loses_live}
+use Rattle.sacn_sources.specs.LatestMerge.{loses_live}
 use Rattle.sacn_sources.proofs.Sweeps.{swept, get_or-swept}
 
 swapped : (a b : Bool) → (a || b) ≡ (b || a)

@@ -10,7 +10,7 @@ use Rattle.std.specs.FinMap.Entries.{below_all}
 use Rattle.std.proofs.lemmas.List.{length-map}
 use Rattle.sacn_sources.specs.Order.{order, by_order}
 use Rattle.sacn_sources.specs.Rows.{Row, row_renewed, rows_kept, row_of, put_row, layers}
-use Rattle.sacn_sources.specs.Kept.{loses_live}
+use Rattle.sacn_sources.specs.LatestMerge.{loses_live}
 use Rattle.sacn_sources.specs.PlainRule.{Entry, Sources, is_unexpired, unexpired, unless_expired, shown_by, expires_live}
 use Rattle.sacn_sources.specs.Laws.{row_with, ExpiresAlone}
 use Rattle.sacn_sources.proofs.Places.{order_total, same_source}

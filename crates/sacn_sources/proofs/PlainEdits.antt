@@ -9,7 +9,7 @@ use Rattle.sacn_sources.specs.Order.{order}
 use Rattle.sacn_sources.specs.declared.plain.entries.PlainEntry.{PlainEntry}
 use Rattle.sacn_sources.specs.declared.limits.TheConstants.{MAX_SOURCES}
 use Rattle.sacn_sources.specs.Rows.{Row, put_row}
-use Rattle.sacn_sources.specs.PlainStored.{plain_row, plain_rows, PrecedesByCid, AreOrdered}
+use Rattle.sacn_sources.specs.PlainStorage.{plain_row, plain_rows, PrecedesByCid, AreOrdered}
 use Rattle.sacn_sources.specs.Places.{IsAt, IsGap}
 use Rattle.sacn_sources.proofs.Lists.{map_set, map_insert, map_remove, pairs_set, pairs_insert}
 use Rattle.sacn_sources.proofs.Places.{put_gap, flipped, order_total, same_source}

@@ -5,8 +5,8 @@ use Rattle.std.proofs.lemmas.Bool.Decides.{nat_tests}
 use Rattle.sacn_slots.specs.Merge.{Shown}
 use Rattle.sacn_sources.specs.declared.plain.entries.PlainEntry.{PlainEntry}
 use Rattle.sacn_sources.specs.Rows.{layers}
-use Rattle.sacn_sources.specs.Kept.{loses_live}
-use Rattle.sacn_sources.specs.PlainStored.{plain_row, plain_rows}
+use Rattle.sacn_sources.specs.LatestMerge.{loses_live}
+use Rattle.sacn_sources.specs.PlainStorage.{plain_row, plain_rows}
 
 abbrev pub plain_shows : PlainEntry → Option Shown
 plain_shows e = (plain_row e).shown

@@ -7,8 +7,8 @@ use Rattle.std.proofs.lemmas.Option.{same_Some}
 use Rattle.sacn_sources.specs.declared.entry.Entry.{Entry}
 use Rattle.sacn_sources.specs.Order.{order, same, by_order}
 use Rattle.sacn_sources.specs.Rows.{Row, Table, Packet, Held, Observed, EndedNow, OutOfSequence, SourcesExceeded, UnknownIgnored, row_renewed, rows_kept, rows_lost, row_of, put_row, row_live, row_ended, row_observed, observed, rows_after, taken, take_row, after_expire}
-use Rattle.sacn_sources.specs.Kept.{loses_live}
-use Rattle.sacn_sources.specs.Stored.{Frames, rows_in}
+use Rattle.sacn_sources.specs.LatestMerge.{loses_live}
+use Rattle.sacn_sources.specs.Storage.{Frames, rows_in}
 use Rattle.sacn_sources.specs.Wakes.{oldest_by, oldest_of, IsFresh}
 
 pub oldest_most : {X : Type 0} (moment : X → ℕ) (xs : List X) → oldest_by moment xs ≤ 2 ^ 64 - 1

@@ -1,7 +1,7 @@
 -- Calls on one table, and the steps that they make of its value. A history is the list of the calls so far, the latest first.
 use Rattle.std.specs.Prelude.{◌≡◌, ℕ, ◌≤◌, ◌⊎◌, max, List, [], ◌∷◌, All, Any}
 use Rattle.sacn_sources.specs.Rows.{Packet, Taken, answer, after_expire, rows_lost, slots_of}
-use Rattle.sacn_sources.specs.Kept.{Kept, new_kept, kept_after_expire, kept_after_take, kept_after_merged}
+use Rattle.sacn_sources.specs.LatestMerge.{Kept, new_kept, kept_after_expire, kept_after_take, kept_after_merged}
 
 -- a call, with the moment that it hands in
 pub data Call : Type 0 where

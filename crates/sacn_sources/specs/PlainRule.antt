@@ -41,8 +41,8 @@ pub record Outcome : Type 0 where
 abbrev pub live : Packet → ℕ → Entry
 live x t = record { sequence_number = x.sequence_number; shown = Some (record { priority = x.priority; levels = x.levels }); moment = t }
 
-abbrev pub ended : Packet → ℕ → Entry
-ended x t = record { sequence_number = x.sequence_number; shown = None; moment = t }
+abbrev pub ended_entry : Packet → ℕ → Entry
+ended_entry x t = record { sequence_number = x.sequence_number; shown = None; moment = t }
 
 -- the number alone
 abbrev pub renumbered : Packet → Entry → Entry
@@ -51,7 +51,7 @@ renumbered x e = record { sequence_number = x.sequence_number; shown = e.shown; 
 -- what is held after this answer, where o is what is held of the source
 abbrev pub held_by : Taken → ℕ → Packet → Option Entry → Sources → Sources
 held_by Held t x o held = insert held x.source (live x t)
-held_by EndedNow t x o held = insert held x.source (ended x t)
+held_by EndedNow t x o held = insert held x.source (ended_entry x t)
 held_by Observed t x None held = held
 held_by Observed t x (Some e) held = insert held x.source (renumbered x e)
 held_by OutOfSequence t x o held = held

@@ -8,8 +8,8 @@ use Rattle.sacn_sources.specs.Order.{order, same, by_order}
 use Rattle.sacn_sources.specs.declared.limits.TheConstants.{MAX_SOURCES, NETWORK_DATA_LOSS}
 pub use Rattle.sacn_sources.specs.declared.kind.Kind.{Kind}
 pub use Rattle.sacn_sources.specs.declared.kind.Kind.TheVariants.{Termination, Preview, Live, Other}
-pub use Rattle.sacn_sources.specs.declared.taken.Taken.{Taken}
-pub use Rattle.sacn_sources.specs.declared.taken.Taken.TheVariants.{Held, Observed, EndedNow, OutOfSequence, SourcesExceeded, UnknownIgnored}
+pub use Rattle.sacn_sources.specs.declared.answer.Taken.{Taken}
+pub use Rattle.sacn_sources.specs.declared.answer.Taken.TheVariants.{Held, Observed, EndedNow, OutOfSequence, SourcesExceeded, UnknownIgnored}
 
 -- a source: the number of its latest accepted packet, what it shows (nothing once it has ended), and when it was renewed
 pub record Row : Type 0 where

@@ -4,20 +4,20 @@
 //! [`SourceTable`] is the table that a receiver runs. [`plain`] has the same table as a plain program.
 #![tactic(auto)]
 
+mod answer;
 mod entry;
 mod fault;
-mod held;
+mod held_view;
 mod kind;
 pub mod laws;
 mod limits;
 pub mod plain;
 mod store;
 mod table;
-mod taken;
 
+pub use answer::Taken;
 pub use fault::TableFault;
-pub use held::HeldView;
+pub use held_view::HeldView;
 pub use kind::Kind;
 pub use limits::{MAX_SOURCES, NETWORK_DATA_LOSS};
 pub use table::SourceTable;
-pub use taken::Taken;

@@ -4,9 +4,9 @@
 
 ghost use Rattle.std.specs.Prelude.{◌≡◌, ◌≤◌, max};
 
-use crate::held::HeldView;
+use crate::answer::Taken;
+use crate::held_view::HeldView;
 use crate::limits::MAX_SOURCES;
-use crate::taken::Taken;
 use sacn_framing::DataView;
 use std::marker::Model;
 
@@ -23,7 +23,7 @@ pub struct PlainTable {
 }
 
 impl Model for PlainTable {
-    ghost use Rattle.sacn_sources.specs.Kept.{Kept, kept_code};
+    ghost use Rattle.sacn_sources.specs.LatestMerge.{Kept, kept_code};
 
     ghost Value = { Kept };
 
@@ -35,7 +35,7 @@ impl Model for PlainTable {
 impl PlainTable {
     ghost use Rattle.sacn_sources.specs.Packets.{packet_of};
     ghost use Rattle.sacn_sources.specs.Rows.{answer, after_expire, slots_of, rows_lost, row_of};
-    ghost use Rattle.sacn_sources.specs.Kept.{new_kept, kept_after_expire, kept_after_take, kept_after_merged};
+    ghost use Rattle.sacn_sources.specs.LatestMerge.{new_kept, kept_after_expire, kept_after_take, kept_after_merged};
 
     /// An empty table at moment 0. It takes no memory.
     pub fn new() -> Self

@@ -2,12 +2,12 @@
 
 ghost use Rattle.std.specs.Prelude.{◌≡◌, ◌↔◌, ◌<◌, ◌≤◌, IsTrue, false, not, remove, ℕ, [], length, is_some, slice_index_or, slice_set, max, IfOk, IfErr};
 
+use crate::answer::Taken;
 use crate::entry::{Entry, entry_at, oldest_entry, place_of, renew, renumber};
 use crate::fault::TableFault;
-use crate::held::HeldView;
+use crate::held_view::HeldView;
 use crate::kind::{Kind, kind_of};
 use crate::limits::{MAX_SOURCES, NETWORK_DATA_LOSS};
-use crate::taken::Taken;
 use arrayvec::ArrayVec;
 use sacn_framing::DataView;
 use sacn_sequence::in_sequence;
@@ -34,7 +34,7 @@ pub(crate) struct Lost {
 
 impl Model for Store {
     ghost use Rattle.sacn_sources.specs.Rows.{Table, table_code};
-    ghost use Rattle.sacn_sources.specs.Stored.{rows_in, AreStored};
+    ghost use Rattle.sacn_sources.specs.Storage.{rows_in, AreStored};
 
     ghost Value = { Table };
 
@@ -49,7 +49,7 @@ impl Store {
     ghost use Rattle.sacn_sequence.specs.Sequence.{is_late};
     ghost use Rattle.sacn_sources.specs.Rows.{Row, new_table, row_renewed, rows_kept, rows_lost, row_of, put_row, row_live, row_ended, row_observed, taken, take_row, after_expire, layers, slots_of};
     ghost use Rattle.sacn_sources.specs.Packets.{packet_of};
-    ghost use Rattle.sacn_sources.specs.Kept.{loses_live};
+    ghost use Rattle.sacn_sources.specs.LatestMerge.{loses_live};
     ghost use Rattle.sacn_sources.specs.Rows.{renews};
     ghost use Rattle.sacn_sources.specs.Places.{IsAt, IsGap};
     ghost use Rattle.sacn_sources.specs.Wakes.{oldest_of};

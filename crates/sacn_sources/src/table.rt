@@ -2,11 +2,11 @@
 
 ghost use Rattle.std.specs.Prelude.{◌≡◌, ◌+◌, ◌<◌, ◌≤◌, ◌^◌, ℕ, length, take, drop, max, IfOk, IfSome, IfNone};
 
+use crate::answer::Taken;
 use crate::fault::TableFault;
-use crate::held::HeldView;
+use crate::held_view::HeldView;
 use crate::limits::{MAX_SOURCES, NETWORK_DATA_LOSS};
 use crate::store::Store;
-use crate::taken::Taken;
 use sacn_framing::DataView;
 use std::alloc::Global;
 use std::marker::Model;
@@ -33,7 +33,7 @@ pub struct SourceTable {
 }
 
 impl Model for SourceTable {
-    ghost use Rattle.sacn_sources.specs.Kept.{Kept, kept_code, KeepsMerge};
+    ghost use Rattle.sacn_sources.specs.LatestMerge.{Kept, kept_code, KeepsMerge};
     ghost use Rattle.sacn_sources.specs.Wakes.{IsFresh};
 
     ghost Value = { Kept };
@@ -49,7 +49,7 @@ impl SourceTable {
     ghost use Rattle.sacn_sources.specs.Packets.{packet_of};
     ghost use Rattle.sacn_sources.specs.Rows.{answer, after_expire, slots_of, rows_lost, row_of};
     ghost use Rattle.sacn_sources.specs.Wakes.{oldest_of};
-    ghost use Rattle.sacn_sources.specs.Kept.{new_kept, kept_after_expire, kept_after_take, kept_after_merged};
+    ghost use Rattle.sacn_sources.specs.LatestMerge.{new_kept, kept_after_expire, kept_after_take, kept_after_merged};
 
     /// An empty table at moment 0. All its room is taken here, in one request, and a refusal is `OutOfMemory`.
     pub fn new(alloc: Global) -> Result<Self, TableFault>

@@ -5,7 +5,7 @@ use Rattle.std.specs.Fmt.{decimal}
 use Rattle.sacn_root.specs.declared.fault.PacketFault.{PacketFault}
 use Rattle.sacn_framing.specs.declared.packet.Packet.{Packet}
 use Rattle.sacn_framing.specs.PacketReading.{reading_packet}
-use Rattle.sacn_discovery.specs.Known.{State}
+use Rattle.sacn_discovery.specs.Collection.{State}
 use Rattle.sacn_text.specs.Words.{spaced}
 use Rattle.sacn_text.specs.Decoding.{Decoded, decoded, decoded_by, then_text, block, state_after, octets_of}
 

@@ -12,7 +12,7 @@ use Rattle.sacn_world.specs.Worlds.{World, Step, step}
 use Rattle.sacn_schedule.specs.WorldFile.{WorldContent}
 use Rattle.sacn_text.specs.declared.fault.SimFault.{SimFault}
 use Rattle.sacn_text.specs.declared.fault.SimFault.TheVariants as sim
-use Rattle.sacn_text.specs.Simulating.{Simulated, simulated, simulated_by, then_line, line_of, begun, Reads, Breaks, Stops}
+use Rattle.sacn_text.specs.Simulating.{Simulated, simulated, simulated_by, then_line, line_of, world_at_start, Reads, Breaks, Stops}
 use Rattle.sacn_text.proofs.Decodes.{drop_first, take_past}
 
 module _ (total : Simulated) (told : List ℕ) (w : World) (es : List Event) (i : ℕ) (so_far : total ≡ then_line told (simulated w i (drop i es))) where
@@ -57,7 +57,7 @@ module _ (total : Simulated) (told : List ℕ) (w : World) (es : List Event) (i 
       (ap (λ (x : Simulated). x.refused) all, ap (λ (x : Simulated). x.text) all ∙ append-nil told)
 
 -- what breaks a run off stops the texts' run
-pub stops_of : (fault : SimFault) (failed : Bool) (Written : List ℕ → Type 0) (world schedule : List ℕ) (content : WorldContent) (events : List Event) → Reads world schedule content events → Breaks fault failed Written (simulated (begun content) 0 events) → Stops fault failed Written world schedule
+pub stops_of : (fault : SimFault) (failed : Bool) (Written : List ℕ → Type 0) (world schedule : List ℕ) (content : WorldContent) (events : List Event) → Reads world schedule content events → Breaks fault failed Written (simulated (world_at_start content) 0 events) → Stops fault failed Written world schedule
 stops_of sim.OutOfMemory failed Written world schedule content events reads b = inr (content, events, reads, b)
 stops_of (sim.Event i f) failed Written world schedule content events reads b = (content, events, reads, b)
 stops_of sim.WriteFailed failed Written world schedule content events reads b = (content, events, reads, b)
@@ -65,10 +65,10 @@ stops_of (sim.World f) failed Written world schedule content events reads b = ab
 stops_of (sim.Schedule f) failed Written world schedule content events reads b = absurd b
 
 pub stops_at : (r : Result Unit SimFault) (failed : Bool) (Written : List ℕ → Type 0) (world schedule : List ℕ) (content : WorldContent) (events : List Event) (w : World) (es : List Event) → Reads world schedule content events →
-    w ≡ begun content → es ≡ events → IfErr r (λ fault. Breaks fault failed Written (simulated w 0 es)) → IfErr r (λ fault. Stops fault failed Written world schedule)
+    w ≡ world_at_start content → es ≡ events → IfErr r (λ fault. Breaks fault failed Written (simulated w 0 es)) → IfErr r (λ fault. Stops fault failed Written world schedule)
 stops_at (Ok x) failed Written world schedule content events w es reads same_world same_events b = tt
 stops_at (Err fault) failed Written world schedule content events w es reads same_world same_events b =
-    stops_of fault failed Written world schedule content events reads (subst (λ (s : Simulated). Breaks fault failed Written s) (ap (λ (v : World). simulated v 0 es) same_world ∙ ap (simulated (begun content) 0) same_events) b)
+    stops_of fault failed Written world schedule content events reads (subst (λ (s : Simulated). Breaks fault failed Written s) (ap (λ (v : World). simulated v 0 es) same_world ∙ ap (simulated (world_at_start content) 0) same_events) b)
 
 -- of a world that was read no two consoles have one CID
 pub never_twins : (desks : List Desk) (fault : NewFault) → HaveOwnCids desks → fault ≡ new.SameCid → ((fault ≡ new.SameCid) × (has_same_cid desks ≡ true)) ⊎ ((fault ≡ new.OutOfMemory) × (has_same_cid desks ≡ false)) → ⊥

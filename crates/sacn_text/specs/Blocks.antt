@@ -5,7 +5,7 @@ use Rattle.std.specs.Fmt.{decimal}
 use Rattle.hex.specs.Hex.{encode_lower}
 use Rattle.sacn_framing.specs.Data.{Data, frame_of}
 use Rattle.sacn_framing.specs.Page.{Page}
-use Rattle.sacn_text.specs.Words.{escaped, listed, yes_or_no}
+use Rattle.sacn_text.specs.Words.{escaped, list_text, yes_or_no}
 use Rattle.uuid.specs.Text.{hyphenated_text, lower}
 
 abbrev pub name_text : List ℕ → List ℕ
@@ -45,13 +45,13 @@ data_block d = top_text (codes "data") d.cid ++ name_text d.name ++ data_rest d
 
 abbrev pub known_words : Option (List ℕ) → List ℕ
 known_words None = codes " incomplete"
-known_words (Some list) = listed list
+known_words (Some list) = list_text list
 
 abbrev pub page_places : Page → List ℕ
 page_places p = codes "\npage " ++ (decimal p.page ++ (codes "\nlast " ++ (decimal p.last ++ codes "\nuniverses")))
 
 abbrev pub page_rest : Page → Option (List ℕ) → List ℕ
-page_rest p known = page_places p ++ listed p.numbers ++ codes "\nknown" ++ known_words known ++ codes "\n"
+page_rest p known = page_places p ++ list_text p.numbers ++ codes "\nknown" ++ known_words known ++ codes "\n"
 
 abbrev pub page_block : Page → Option (List ℕ) → List ℕ
 page_block p known = top_text (codes "page") p.cid ++ name_text p.name ++ page_rest p known

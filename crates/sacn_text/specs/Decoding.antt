@@ -6,7 +6,7 @@ use Rattle.sacn_root.specs.declared.fault.PacketFault.{PacketFault}
 use Rattle.sacn_framing.specs.declared.packet.Packet.{Packet}
 use Rattle.sacn_framing.specs.declared.packet.Packet.TheVariants.{DataPacket, PagePacket, SyncPacket}
 use Rattle.sacn_framing.specs.PacketReading.{reading_packet}
-use Rattle.sacn_discovery.specs.Known.{State, after_take, after_expire, known_list}
+use Rattle.sacn_discovery.specs.Collection.{State, after_take, after_expire, known_list}
 use Rattle.sacn_text.specs.Blocks.{data_block, page_block}
 use Rattle.sacn_text.specs.declared.fault.DecodeFault.{DecodeFault}
 use Rattle.sacn_text.specs.declared.fault.DecodeFault.TheVariants.{OutOfMemory, Refused, WriteFailed}

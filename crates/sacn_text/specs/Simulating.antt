@@ -52,8 +52,8 @@ simulated w i [] = record { text = []; refused = None }
 simulated w i (e ∷ es) = simulated_by e (step w e) i (λ v. simulated v (i + 1) es)
 
 -- the world that a file describes, as it begins
-abbrev pub begun : WorldContent → World
-begun content = new_world content.0 (map (λ s. s.ports) content.1)
+abbrev pub world_at_start : WorldContent → World
+world_at_start content = new_world content.0 (map (λ s. s.ports) content.1)
 
 -- both texts are read: the world, and the events
 pub record Reads (world schedule : List ℕ) (content : WorldContent) (events : List Event) : Type 0 where
@@ -72,12 +72,12 @@ Breaks (sim.Schedule fault) failed Written s = ⊥
 abbrev pub Ends : Bool → (List ℕ → Type 0) → List ℕ → List ℕ → Type 0
 Ends failed Written world schedule =
     (failed ≡ false) × ((content : WorldContent) × (events : List Event) × Reads world schedule content events
-    × ((simulated (begun content) 0 events).refused ≡ None) × Written (simulated (begun content) 0 events).text)
+    × ((simulated (world_at_start content) 0 events).refused ≡ None) × Written (simulated (world_at_start content) 0 events).text)
 
 -- a run of the events of both texts that breaks off
 abbrev pub BreaksOff : SimFault → Bool → (List ℕ → Type 0) → List ℕ → List ℕ → Type 0
 BreaksOff fault failed Written world schedule =
-    (content : WorldContent) × (events : List Event) × Reads world schedule content events × Breaks fault failed Written (simulated (begun content) 0 events)
+    (content : WorldContent) × (events : List Event) × Reads world schedule content events × Breaks fault failed Written (simulated (world_at_start content) 0 events)
 
 -- a run of texts up to a fault: nothing is written where one of them is refused
 abbrev pub Stops : SimFault → Bool → (List ℕ → Type 0) → List ℕ → List ℕ → Type 0

@@ -4,7 +4,7 @@ ghost use Rattle.std.specs.Prelude.{◌≡◌, ◌/◌, ◌%◌, IfOk, string_by
 ghost use Rattle.std.specs.Option.{option_map};
 ghost use Rattle.sacn_text.specs.Blocks.{top_text, data_rest, counts_words, options_words, place_words, values_words, data_values, data_place, data_options, data_block, page_block, page_rest, page_places, known_words, name_text};
 
-use crate::words::{escaped, joined, listed, yes_or_no};
+use crate::words::{escaped, join, list_text, yes_or_no};
 use sacn_framing::{DataView, PageView, multicast_group};
 use std::alloc::{AllocError, Global};
 use uuid::Uuid;
@@ -92,13 +92,13 @@ fn data_rest(alloc: Global, packet: &DataView<'_>) -> Result<Vec<u8>, AllocError
     let options = data_options(alloc, packet)?;
     let place = data_place(alloc, packet)?;
     let values = data_values(alloc, packet)?;
-    let front = joined(
+    let front = join(
         alloc,
         counts.as_bytes(),
         options.as_bytes(),
         place.as_bytes(),
     )?;
-    joined(alloc, front.as_slice(), values.as_bytes(), b"")
+    join(alloc, front.as_slice(), values.as_bytes(), b"")
 }
 
 /// The lines of a data packet.
@@ -108,7 +108,7 @@ pub fn data_block(alloc: Global, packet: &DataView<'_>) -> Result<Vec<u8>, Alloc
     let top = top(alloc, "data", packet.cid())?;
     let name = escaped(alloc, packet.name())?;
     let rest = data_rest(alloc, packet)?;
-    joined(alloc, top.as_bytes(), name.as_slice(), rest.as_slice())
+    join(alloc, top.as_bytes(), name.as_slice(), rest.as_slice())
 }
 
 fn page_top(alloc: Global, page: &PageView<'_>) -> Result<String, AllocError>
@@ -135,7 +135,7 @@ fn known_words(alloc: Global, known: Option<Vec<u16>>) -> Result<Vec<u8>, AllocE
     ensures { IfOk result (λ text. text.items ≡ known_words (option_map (λ v. v.items) known)) }
 {
     match known {
-        Some(list) => listed(alloc, list.as_slice()),
+        Some(list) => list_text(alloc, list.as_slice()),
         None => Vec::from_slice(alloc, b" incomplete"),
     }
 }
@@ -151,10 +151,10 @@ fn page_rest(
 {
     let top = page_top(alloc, page)?;
     let numbers = numbers_of(alloc, page)?;
-    let universes = listed(alloc, numbers.as_slice())?;
+    let universes = list_text(alloc, numbers.as_slice())?;
     let words = known_words(alloc, known)?;
-    let front = joined(alloc, top.as_bytes(), universes.as_slice(), b"\nknown")?;
-    joined(alloc, front.as_slice(), words.as_slice(), b"\n")
+    let front = join(alloc, top.as_bytes(), universes.as_slice(), b"\nknown")?;
+    join(alloc, front.as_slice(), words.as_slice(), b"\n")
 }
 
 /// The lines of a page, with the list that is known.
@@ -169,5 +169,5 @@ pub fn page_block(
     let top = top(alloc, "page", page.cid())?;
     let name = escaped(alloc, page.name())?;
     let rest = page_rest(alloc, page, known)?;
-    joined(alloc, top.as_bytes(), name.as_slice(), rest.as_slice())
+    join(alloc, top.as_bytes(), name.as_slice(), rest.as_slice())
 }

@@ -3,7 +3,7 @@
 ghost use Rattle.std.specs.Prelude.{◌≡◌, ◌+◌, ◌<◌, false, IfOk, IfErr, OnOk, Ok, Err, Some, None, List, ℕ, length, take, map};
 ghost use Rattle.std.specs.Option.{option_map};
 ghost use Rattle.sacn_framing.specs.PacketReading.{reading_packet};
-ghost use Rattle.sacn_discovery.specs.Known.{nothing_known};
+ghost use Rattle.sacn_discovery.specs.Collection.{nothing_known};
 ghost use Rattle.sacn_framing.specs.declared.packet.Packet.TheVariants.{PagePacket};
 ghost use Rattle.sacn_edge.specs.Additions.{Adds};
 ghost use Rattle.sacn_text.specs.Decoding.{block, state_after, decoded, octets_of, Stops};

@@ -2,7 +2,7 @@
 ghost use Rattle.std.specs.Prelude.{◌≡◌, drop, string_bytes, IfOk};
 ghost use Rattle.sacn_text.specs.Looks.{slot_words, slots_words, frame_words, look_top, look_line};
 
-use crate::words::joined;
+use crate::words::join;
 use std::alloc::{AllocError, Global};
 
 // A slot with its level after a space, nothing where it is dark.
@@ -56,5 +56,5 @@ pub fn look_line(
     ensures { IfOk result (λ text. text.items ≡ look_line node port moment words.now) }
 {
     let top = look_top(alloc, node, port, moment)?;
-    joined(alloc, top.as_bytes(), words, b"\n")
+    join(alloc, top.as_bytes(), words, b"\n")
 }

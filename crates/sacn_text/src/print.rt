@@ -1,7 +1,7 @@
 //! Texts printed to a writer.
 
 ghost use Rattle.std.specs.Prelude.{◌≡◌, IfErr, OnOk, None, false};
-ghost use Rattle.sacn_discovery.specs.Known.{nothing_known};
+ghost use Rattle.sacn_discovery.specs.Collection.{nothing_known};
 ghost use Rattle.sacn_text.specs.Decoding.{decoded, octets_of};
 ghost use Rattle.sacn_text.specs.Simulating.{Ends};
 ghost use Rattle.sacn_text.specs.Printing.{Has, StopsDecoding, StopsSimulating};

@@ -1,7 +1,7 @@
 //! A world, run by a schedule.
 ghost use Rattle.std.specs.Prelude.{◌≡◌, false, None, IfOk, IfErr, OnOk, List, [], ℕ};
 ghost use Rattle.sacn_edge.specs.Additions.{Adds};
-ghost use Rattle.sacn_text.specs.Simulating.{line_of, shown_line, simulated, begun, Breaks, Ends, Stops};
+ghost use Rattle.sacn_text.specs.Simulating.{line_of, shown_line, simulated, world_at_start, Breaks, Ends, Stops};
 
 use crate::fault::SimFault;
 use crate::look::{frame_words, look_line};

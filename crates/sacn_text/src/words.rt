@@ -1,7 +1,7 @@
 //! Names and numbers in a printed text.
 
 ghost use Rattle.std.specs.Prelude.{◌≡◌, ◌++◌, IfOk};
-ghost use Rattle.sacn_text.specs.Words.{is_plain, escape, escaped, spaced, listed, yes_or_no};
+ghost use Rattle.sacn_text.specs.Words.{is_plain, escape, escaped, spaced, list_text, yes_or_no};
 
 use std::alloc::{AllocError, Global};
 
@@ -55,8 +55,8 @@ pub fn escaped(alloc: Global, name: &[u8]) -> Result<Vec<u8>, AllocError>
 }
 
 /// Each number after a space, or none.
-pub fn listed(alloc: Global, numbers: &[u16]) -> Result<Vec<u8>, AllocError>
-    ensures { IfOk result (λ text. text.items ≡ listed numbers.now) }
+pub fn list_text(alloc: Global, numbers: &[u16]) -> Result<Vec<u8>, AllocError>
+    ensures { IfOk result (λ text. text.items ≡ list_text numbers.now) }
 {
     if numbers.is_empty() {
         return Vec::from_slice(alloc, b" none");
@@ -78,12 +78,7 @@ fn spaced(alloc: Global, numbers: &[u16]) -> Result<Vec<u8>, AllocError>
 }
 
 /// Three texts, joined.
-pub fn joined(
-    alloc: Global,
-    first: &[u8],
-    second: &[u8],
-    third: &[u8],
-) -> Result<Vec<u8>, AllocError>
+pub fn join(alloc: Global, first: &[u8], second: &[u8], third: &[u8]) -> Result<Vec<u8>, AllocError>
     ensures { IfOk result (λ text. text.items ≡ first.now ++ second.now ++ third.now) }
 {
     let mut text = Vec::from_slice(alloc, first)?;

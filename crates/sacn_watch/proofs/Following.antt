@@ -10,7 +10,7 @@ use Rattle.sacn_framing.specs.declared.packet.Packet.TheVariants.{DataPacket, Pa
 use Rattle.sacn_monitor.specs.Kinds.{more}
 use Rattle.sacn_monitor.specs.declared.account.Sender.{Sender}
 use Rattle.sacn_monitor.specs.Streams.{is_of, first_stream}
-use Rattle.sacn_monitor.specs.Books.{Book, after_take, after_tick, after_data, after_read, handed}
+use Rattle.sacn_monitor.specs.Books.{Book, after_take, after_tick, after_data, after_read, with_datagram}
 use Rattle.sacn_monitor.specs.Histories.{Call, Take, Tick, moment_in_use}
 use Rattle.sacn_explain.specs.Following.{AreBy, after_ticks, IsTicked, IsTaken, Follows, IsFollowing}
 use Rattle.sacn_explain.specs.KeptLists.{after_reading, listed_in}
@@ -72,7 +72,7 @@ ticks_by t [] b by = refl
 ticks_by t (m ∷ ms) b by = let before : max (after_ticks ms b).moment t ≡ max b.moment t = ticks_by t ms b by.1 in omega (arith, before, by.0)
 
 take_moment : (now : ℕ) (sender : Sender) (octets : List ℕ) (b : Book) → (after_take now sender octets b).moment ≡ max b.moment now
-take_moment now sender octets b = read_moment sender (handed now b) (reading_packet octets)
+take_moment now sender octets b = read_moment sender (with_datagram now b) (reading_packet octets)
 
 same_take : (now t : ℕ) (sender : Sender) (octets : List ℕ) (b : Book) → max b.moment now ≡ max b.moment t → after_take now sender octets b ≡ after_take t sender octets b
 same_take now t sender octets b same =

@@ -5,7 +5,7 @@ use Rattle.sacn_framing.specs.Data.{Data}
 use Rattle.sacn_framing.specs.declared.packet.Packet.{Packet}
 use Rattle.sacn_framing.specs.declared.packet.Packet.TheVariants.{DataPacket, PagePacket, SyncPacket}
 use Rattle.sacn_sources.specs.Packets.{packet_of}
-use Rattle.sacn_sources.specs.Kept.{Kept, kept_after_take}
+use Rattle.sacn_sources.specs.LatestMerge.{Kept, kept_after_take}
 
 -- the universe whose levels are shown, and what is held of its sources
 pub record Shown : Type 0 where

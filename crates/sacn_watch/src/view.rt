@@ -3,7 +3,7 @@
 ghost use Rattle.std.specs.Prelude.{◌≡◌, ◌≤◌, IfOk, is_some, max};
 ghost use Rattle.sacn_framing.specs.PacketReading.{reading_packet};
 ghost use Rattle.sacn_monitor.specs.Books.{new_book, silent_place};
-ghost use Rattle.sacn_sources.specs.Kept.{new_kept, kept_after_merged};
+ghost use Rattle.sacn_sources.specs.LatestMerge.{new_kept, kept_after_merged};
 ghost use Rattle.sacn_sources.specs.Rows.{after_expire, slots_of};
 ghost use Rattle.sacn_explain.specs.Following.{IsTaken, IsTicked};
 ghost use Rattle.sacn_watch.specs.Views.{after_packet, after_reading};

@@ -9,9 +9,9 @@ use Rattle.std.proofs.lemmas.Bool.{eqb-true}
 use Rattle.std.proofs.lemmas.Option.{same_Some}
 use Rattle.sacn_world.proofs.Maps.{hold_of-put}
 use Rattle.sacn_world.specs.Streams.{Sent, at, life_at, rank, number_at, is_live, follows, Ordered, late}
-use Rattle.sacn_world.specs.Holdings.{Hold, hold_of, put, answer_unknown, answer_known, answer_by, answer, holding_after, delivered}
-use Rattle.sacn_sources.specs.declared.taken.Taken.{Taken}
-use Rattle.sacn_world.specs.CatchUp.{comes_next, counted, count_after, Streak, CountOk}
+use Rattle.sacn_world.specs.Holdings.{Hold, hold_of, put, answer_unknown, answer_known, answer_by, answer, holding_after, after_delivery}
+use Rattle.sacn_sources.specs.declared.answer.Taken.{Taken}
+use Rattle.sacn_world.specs.CatchUp.{comes_next, count_by_answer, count_after, Streak, CountOk}
 
 -- the discarded residues are 0 and 237 to 255: twenty in a row
 late_ahead : (a b : ℕ) → late a b ≡ true → (ahead a b ≡ 0) ⊎ (236 < ahead a b)
@@ -143,12 +143,12 @@ module _ (st : List Sent) (s : List ℕ) (c q t : ℕ) (last : Option ℕ) (hs :
   unfolding new
   put_shown h e = sym (ap (λ (x : Hold). x.place) (same_Some _ _ (sym (hold_of-put new hs) ∙ e)))
 
-  unknown_count : (live room : Bool) → CountOk st s (Some q) (counted live (comes_next st last q) (answer_unknown live room) c) (holding_after (answer_unknown live room) new hs)
+  unknown_count : (live room : Bool) → CountOk st s (Some q) (count_by_answer live (comes_next st last q) (answer_unknown live room) c) (holding_after (answer_unknown live room) new hs)
   unknown_count false room = inl refl
   unknown_count true true = go_on_shown st s c q within last hs (put new hs) before put_shown (comes_next st last q) refl
   unknown_count true false = inl refl
 
-  known_count : (h : Hold) → hold_of s hs ≡ Some h → not (late (number_at st h.place) (number_at st q)) ≡ follows st h.place q → (live f : Bool) → follows st h.place q ≡ f → CountOk st s (Some q) (counted live (comes_next st last q) (answer_known live f) c) (holding_after (answer_known live f) new hs)
+  known_count : (h : Hold) → hold_of s hs ≡ Some h → not (late (number_at st h.place) (number_at st q)) ≡ follows st h.place q → (live f : Bool) → follows st h.place q ≡ f → CountOk st s (Some q) (count_by_answer live (comes_next st last q) (answer_known live f) c) (holding_after (answer_known live f) new hs)
   known_count h e rule false f g = inl refl
   known_count h e rule true true g = go_on_shown st s c q within last hs (put new hs) before put_shown (comes_next st last q) refl
   known_count h e rule true false g = go_on_late st s c q within last hs h before e g (not_flip _ _ rule g) (comes_next st last q) refl
@@ -157,18 +157,18 @@ module _ (st : List Sent) (s : List ℕ) (c q t : ℕ) (last : Option ℕ) (hs :
   by_hold room None e rule = unknown_count _ room
   by_hold room (Some h) e rule = known_count h e (rule h refl) _ _ refl
 
-  pub delivered_count : ((h : Hold) → hold_of s hs ≡ Some h → not (late (number_at st h.place) (number_at st q)) ≡ follows st h.place q) → CountOk st s (Some q) (count_after st last q (answer st s q hs) c) (delivered st s q t hs)
+  pub delivered_count : ((h : Hold) → hold_of s hs ≡ Some h → not (late (number_at st h.place) (number_at st q)) ≡ follows st h.place q) → CountOk st s (Some q) (count_after st last q (answer st s q hs) c) (after_delivery st s q t hs)
   unfolding new
   delivered_count rule = by_hold _ (hold_of s hs) refl rule
 
   -- ---- and at twenty-one the packet is shown
-  unknown_shows : (live room : Bool) → 1 ≤ counted live (comes_next st last q) (answer_unknown live room) c → hold_of s (holding_after (answer_unknown live room) new hs) ≡ Some new
+  unknown_shows : (live room : Bool) → 1 ≤ count_by_answer live (comes_next st last q) (answer_unknown live room) c → hold_of s (holding_after (answer_unknown live room) new hs) ≡ Some new
   unfolding new
   unknown_shows false room h = absurd (omega arith)
   unknown_shows true true h = hold_of-put new hs
   unknown_shows true false h = absurd (omega arith)
 
-  known_shows : (h : Hold) → hold_of s hs ≡ Some h → (live f : Bool) → 1 ≤ counted live (comes_next st last q) (answer_known live f) c → (g : Hold) × (hold_of s (holding_after (answer_known live f) new hs) ≡ Some g)
+  known_shows : (h : Hold) → hold_of s hs ≡ Some h → (live f : Bool) → 1 ≤ count_by_answer live (comes_next st last q) (answer_known live f) c → (g : Hold) × (hold_of s (holding_after (answer_known live f) new hs) ≡ Some g)
   unfolding new
   known_shows h e false f k = absurd (omega arith)
   known_shows h e true true k = (new, hold_of-put new hs)
@@ -179,7 +179,7 @@ module _ (st : List Sent) (s : List ℕ) (c q t : ℕ) (last : Option ℕ) (hs :
   some_held room (Some h) e k = known_shows h e _ _ k
 
 -- a count that is not 0 is of a live packet
-counted_live : (live next : Bool) (a : Taken) (c : ℕ) → 1 ≤ counted live next a c → live ≡ true
+counted_live : (live next : Bool) (a : Taken) (c : ℕ) → 1 ≤ count_by_answer live next a c → live ≡ true
 counted_live true next a c h = refl
 counted_live false next a c h = absurd (omega arith)
 
@@ -205,7 +205,7 @@ never_all st s c q hs p ord k big all =
     ap (late (number_at st p)) (sym is) ∙ ap (λ n. late (number_at st p) (number_at st n)) (sym back) ∙ all (20 - j) (omega arith) in
     not_all_late (number_at st p) m (number_less st p) one
 
-pub catches_up : (st : List Sent) (s : List ℕ) (c q t : ℕ) (last : Option ℕ) (hs : List Hold) → Ordered st → q < length st → CountOk st s last c hs → ((h : Hold) → hold_of s hs ≡ Some h → not (late (number_at st h.place) (number_at st q)) ≡ follows st h.place q) → 21 ≤ count_after st last q (answer st s q hs) c → (g : Hold) × (hold_of s (delivered st s q t hs) ≡ Some g) × (g.place ≡ q) × ((is_live (at st q)) ≡ true)
+pub catches_up : (st : List Sent) (s : List ℕ) (c q t : ℕ) (last : Option ℕ) (hs : List Hold) → Ordered st → q < length st → CountOk st s last c hs → ((h : Hold) → hold_of s hs ≡ Some h → not (late (number_at st h.place) (number_at st q)) ≡ follows st h.place q) → 21 ≤ count_after st last q (answer st s q hs) c → (g : Hold) × (hold_of s (after_delivery st s q t hs) ≡ Some g) × (g.place ≡ q) × ((is_live (at st q)) ≡ true)
 unfolding new
 catches_up st s c q t last hs ord within before rule big =
     let one : 1 ≤ count_after st last q (answer st s q hs) c = omega (arith, big) in

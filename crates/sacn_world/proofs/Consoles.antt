@@ -17,7 +17,7 @@ use Rattle.sacn_console.specs.Lines as line
 use Rattle.sacn_console.specs.Core as console
 use Rattle.sacn_world.specs.Streams.{Sent, is_of, stream_of, life_at}
 use Rattle.sacn_world.specs.declared.console.Console.{Console}
-use Rattle.sacn_world.specs.Worlds.{sent_by, with_core, polled, begun, new_console, is_of_life, LineOk, ConsoleOk}
+use Rattle.sacn_world.specs.Worlds.{sent_by, with_core, polled, new_life, new_console, is_of_life, LineOk, ConsoleOk}
 use Rattle.sacn_world.proofs.All.{all_weaker, all_map}
 use Rattle.sacn_world.proofs.Sources.{same_source, same-itself}
 use Rattle.sacn_world.proofs.Sending.{count_here, latest_push, begun_push}
@@ -158,13 +158,13 @@ new_lines : (sent : List Sent) (c : Console) (us : List ℕ) → ((u : ℕ) → 
 new_lines sent c [] none = tt
 new_lines sent c (u ∷ us) none = (ap (λ n. (c.first + n) % 256) (sym (none u)), new_lines sent c us none)
 
-pub restarted_ok : (sent : List Sent) (c : Console) (first : ℕ) → ConsoleOk sent c → ConsoleOk sent (begun c.show (c.life + 1) first)
+pub restarted_ok : (sent : List Sent) (c : Console) (first : ℕ) → ConsoleOk sent c → ConsoleOk sent (new_life c.show (c.life + 1) first)
 unfolding core_by
 restarted_ok sent c first ok = record {
   latest = λ u p lt. let o = ok.latest u p lt in omega (arith, o);
   begun = λ u p lt e. absurd (let o = ok.latest u p lt in omega (arith, o, e));
   sender = refl;
-  lines = new_lines sent (begun c.show (c.life + 1) first) c.show.universes (λ u. none_yet sent c.show.cid u c.life (ok.latest u));
+  lines = new_lines sent (new_life c.show (c.life + 1) first) c.show.universes (λ u. none_yet sent c.show.cid u c.life (ok.latest u));
 }
 
 none_below : (st : List Sent) (p : ℕ) → st ≡ [] → p < length st → ⊥

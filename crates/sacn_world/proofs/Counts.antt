@@ -17,14 +17,14 @@ use Rattle.sacn_world.proofs.Growth.{at_kept, number_kept, longer, holds_within}
 use Rattle.sacn_world.proofs.Sending.{place_within}
 use Rattle.sacn_world.proofs.Runs.{step_ok, after_ok, start_ok, mapped}
 use Rattle.sacn_world.specs.Streams.{is_on, is_of, Sent, at, number_at, is_live, stream_of, follows, Ordered, late, place_of}
-use Rattle.sacn_world.specs.Holdings.{Hold, is_renewed, unexpired, hold_of, answer, holding_after, delivered, newest, refusal}
+use Rattle.sacn_world.specs.Holdings.{Hold, is_renewed, unexpired, hold_of, answer, holding_after, after_delivery, newest, refusal}
 use Rattle.sacn_world.specs.Nodes.{Holding, Node, nothing_held, node_of, unexpired_all, reply_on, change, node_reply, node_after, node_at, HoldOk}
 use Rattle.sacn_sources.specs.Order.{same}
-use Rattle.sacn_sources.specs.declared.taken.Taken.{Taken}
-use Rattle.sacn_sources.specs.declared.taken.Taken.TheVariants.{SourcesExceeded, EndedNow, UnknownIgnored, OutOfSequence, Observed, Held}
+use Rattle.sacn_sources.specs.declared.answer.Taken.{Taken}
+use Rattle.sacn_sources.specs.declared.answer.Taken.TheVariants.{SourcesExceeded, EndedNow, UnknownIgnored, OutOfSequence, Observed, Held}
 use Rattle.sacn_world.specs.CatchUp.{count_after, CountOk}
 use Rattle.sacn_world.specs.declared.console.Console.{Console}
-use Rattle.sacn_world.specs.Worlds.{NodeOk, WorldOk, World, Outcome, step, sent_by, with_node, order_step, poll_by, poll_step, restart_console, come, arrive, deliver_step, look_step, heard, noise_step, restart_node, left_by, after, new_console, new_world, Apart}
+use Rattle.sacn_world.specs.Worlds.{NodeOk, WorldOk, World, Outcome, step, sent_by, with_node, order_step, poll_by, poll_step, restart_console, come, arrive, deliver_step, look_step, hear_noise, noise_step, restart_node, left_by, after, new_console, new_world, Apart}
 use Rattle.sacn_world.specs.Counts.{Count, no_count, count_reply, count_come, count_deliver, count_step, count_run, Shows, count_arrive}
 use Rattle.std.specs.Prelude.{Ok, Err}
 use Rattle.sacn_framing.specs.Data.{Data}
@@ -74,7 +74,7 @@ other_count : (sent : List Sent) (s : List ℕ) (u : ℕ) (c : Count) (r : List 
 other_count sent s u c r v q m n ne k g e =
     let t = max n.moment m in
     let before = at_count sent s u c m n k in
-    let f = delivered (stream_of r v sent) r q t in
+    let f = after_delivery (stream_of r v sent) r q t in
     elim (cases_eq v u) [
       | inr apart ↦ before g (sym (find_change_other u v f (unexpired_all t n.holdings) apart) ∙ e)
       | inl vu ↦
@@ -117,7 +117,7 @@ module _ (sent : List Sent) (s : List ℕ) (u : ℕ) (c : Count) (q m : ℕ) (n 
   own_count : CountNode sent s u own_c (node_after sent s u q m n)
   own_count g e =
       let t = max n.moment m in
-      let f = delivered (stream_of s u sent) s q t in
+      let f = after_delivery (stream_of s u sent) s q t in
       let a = mapped _ (find (on u) (unexpired_all t n.holdings)) g (sym (find_change u f (unexpired_all t n.holdings)) ∙ e) in
       let b = own_held a.0 a.1 in
       let d = delivered_count (stream_of s u sent) s c.count q t c.last a.0.held there b.0.count b.1 in
@@ -127,7 +127,7 @@ module _ (sent : List Sent) (s : List ℕ) (u : ℕ) (c : Count) (q m : ℕ) (n 
       } in
       subst (λ (z : Count). Counted (stream_of s u sent) s z.last z.count g.held) (sym (own_reply a.0 a.1)) (subst (λ (y : Holding). Counted (stream_of s u sent) s (Some q) (count_after (stream_of s u sent) c.last q (answer (stream_of s u sent) s q a.0.held) c.count) y.held) a.2 k')
 
-  own_shows : (g : Holding) → find (on u) (unexpired_all (max n.moment m) n.holdings) ≡ Some g → 21 ≤ own_c.count → (h : Hold) × (hold_of s (delivered (stream_of s u sent) s q (max n.moment m) g.held) ≡ Some h) × (h.place ≡ q) × ((is_live (at (stream_of s u sent) q)) ≡ true)
+  own_shows : (g : Holding) → find (on u) (unexpired_all (max n.moment m) n.holdings) ≡ Some g → 21 ≤ own_c.count → (h : Hold) × (hold_of s (after_delivery (stream_of s u sent) s q (max n.moment m) g.held) ≡ Some h) × (h.place ≡ q) × ((is_live (at (stream_of s u sent) q)) ≡ true)
   own_shows g e big =
       let b = own_held g e in
       let r = ap (λ (z : Count). z.count) (own_reply g e) in
@@ -240,7 +240,7 @@ module _ (w : World) (ok : WorldOk w) (i : ℕ) (s : List ℕ) (u : ℕ) (c : Co
   look_count j port m None en = k
   look_count j port m (Some n) en = at_world j m n en
 
-  heard_count : (j m : ℕ) (n : Node) → slice_get w.nodes j ≡ Some n → (r : Reading) → CountWorld (left_by w (heard w j m n r)) i s u c
+  heard_count : (j m : ℕ) (n : Node) → slice_get w.nodes j ≡ Some n → (r : Reading) → CountWorld (left_by w (hear_noise w j m n r)) i s u c
   heard_count j m n en (Ok p) = k
   heard_count j m n en (Err f) = at_world j m n en
 
@@ -346,8 +346,8 @@ at_twenty_one w ok i d m c n g x y o k en ex ey eg eo big =
     subst (λ (v : World). Shows v i s u q) (sym may.1) (record {
       node = new;
       is_node = set_there w.nodes i n new en;
-      holding = record { universe = g.universe; held = delivered (stream_of s u w.sent) s q t (unexpired t g.held) };
-      is_holding = find_change u (delivered (stream_of s u w.sent) s q t) (unexpired_all t n.holdings) ∙ ap (option_map (λ (z : Holding). record { universe = z.universe; held = delivered (stream_of s u w.sent) s q t z.held })) eg';
+      holding = record { universe = g.universe; held = after_delivery (stream_of s u w.sent) s q t (unexpired t g.held) };
+      is_holding = find_change u (after_delivery (stream_of s u w.sent) s q t) (unexpired_all t n.holdings) ∙ ap (option_map (λ (z : Holding). record { universe = z.universe; held = after_delivery (stream_of s u w.sent) s q t z.held })) eg';
       hold = r.0;
       is_hold = r.1;
       place = r.2;

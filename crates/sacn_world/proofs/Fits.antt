@@ -7,13 +7,13 @@ use Rattle.std.specs.declared.cmp.Ordering.TheVariants.{Less, Equal, Greater}
 use Rattle.std.proofs.lemmas.Bool.{cases_Bool, and_parts, and_from, eqb-true, eq-eqb, ne_eqb}
 use Rattle.sacn_sources.specs.Order.{order, same, by_order}
 use Rattle.sacn_sources.specs.Rows.{Row}
-use Rattle.sacn_sources.specs.declared.taken.Taken.{Taken}
-use Rattle.sacn_sources.specs.declared.taken.Taken.TheVariants.{Held, Observed, EndedNow, OutOfSequence, SourcesExceeded, UnknownIgnored}
-use Rattle.sacn_node.specs.declared.taken.NodeTaken.TheVariants.{FromTable}
+use Rattle.sacn_sources.specs.declared.answer.Taken.{Taken}
+use Rattle.sacn_sources.specs.declared.answer.Taken.TheVariants.{Held, Observed, EndedNow, OutOfSequence, SourcesExceeded, UnknownIgnored}
+use Rattle.sacn_node.specs.declared.answer.NodeTaken.TheVariants.{FromTable}
 use Rattle.sacn_node.specs.Cores.{Table}
 use Rattle.sacn_universe.specs.Universe.{Rising}
 use Rattle.sacn_world.specs.Streams.{Sent}
-use Rattle.sacn_world.specs.Holdings.{Hold, RisingByCid, is_renewed, put, answer, holding_after, delivered}
+use Rattle.sacn_world.specs.Holdings.{Hold, RisingByCid, is_renewed, put, answer, holding_after, after_delivery}
 use Rattle.sacn_world.specs.Nodes.{Holding, unexpired_all, holding_of, reply_on, change, seen_table}
 use Rattle.sacn_world.specs.Watches.{Mark, is_mark_of, mark_of, moves, first_mark, mark_after, marked, held_place, hold_from, holding_from}
 use Rattle.sacn_world.proofs.All.{all_weaker, all_filter}
@@ -152,16 +152,16 @@ after_fits OutOfSequence d ms n hs es ep so fit = unmoved d ms d.universe hs fit
 after_fits SourcesExceeded d ms n hs es ep so fit = unmoved d ms d.universe hs fit
 after_fits UnknownIgnored d ms n hs es ep so fit = unmoved d ms d.universe hs fit
 
-pub fits_change : (st : List Sent) (t : ℕ) (d : Mark) (ms : List Mark) (gs : List Holding) → Rising (map (λ (g : Holding). g.universe) gs) → AllByRecursion (λ (g : Holding). RisingByCid g.held) gs → Fits ms gs → Fits (marked (moves (reply_on st d.source d.held (holding_of d.universe gs))) d ms) (change d.universe (delivered st d.source d.held t) gs)
+pub fits_change : (st : List Sent) (t : ℕ) (d : Mark) (ms : List Mark) (gs : List Holding) → Rising (map (λ (g : Holding). g.universe) gs) → AllByRecursion (λ (g : Holding). RisingByCid g.held) gs → Fits ms gs → Fits (marked (moves (reply_on st d.source d.held (holding_of d.universe gs))) d ms) (change d.universe (after_delivery st d.source d.held t) gs)
 fits_change st t d ms [] rise sorted fit = tt
 fits_change st t d ms (g ∷ gs) rise sorted fit =
-    elim (g.universe == d.universe) as (λ b. (g.universe == d.universe) ≡ b → Fits (marked (moves (reply_on st d.source d.held (cond b (Some g) (holding_of d.universe gs)))) d ms) (if b then record { universe = g.universe; held = delivered st d.source d.held t g.held } ∷ gs else g ∷ change d.universe (delivered st d.source d.held t) gs)) [
+    elim (g.universe == d.universe) as (λ b. (g.universe == d.universe) ≡ b → Fits (marked (moves (reply_on st d.source d.held (cond b (Some g) (holding_of d.universe gs)))) d ms) (if b then record { universe = g.universe; held = after_delivery st d.source d.held t g.held } ∷ gs else g ∷ change d.universe (after_delivery st d.source d.held t) gs)) [
       | true ↦ λ e.
           let eu = eqb-true g.universe d.universe e in
           let a = answer st d.source d.held g.held in
           let here : AllByRecursion (Fit ms d.universe) g.held = subst (λ v. AllByRecursion (Fit ms v) g.held) eu fit.0 in
           let f = after_fits a d ms (record { source = d.source; place = d.held; moment = t }) g.held refl refl sorted.0 here in (
-            subst (λ v. AllByRecursion (Fit (marked (moves (FromTable a)) d ms) v) (delivered st d.source d.held t g.held)) (sym eu) f,
+            subst (λ v. AllByRecursion (Fit (marked (moves (FromTable a)) d ms) v) (after_delivery st d.source d.held t g.held)) (sym eu) f,
             above_all (moves (FromTable a)) d ms g.universe gs rise.0 (omega (arith, eu)) fit.1,
           )
       | false ↦ λ e. (

@@ -6,11 +6,11 @@ use Rattle.sacn_sources.specs.declared.limits.TheConstants.{MAX_SOURCES}
 use Rattle.sacn_world.proofs.Sources.{same_source}
 use Rattle.sacn_world.proofs.Maps.{hold_of-put, hold_of_other-put}
 use Rattle.sacn_world.specs.Streams.{Sent, at, is_live, follows}
-use Rattle.sacn_world.specs.Holdings.{Hold, hold_of, answer_known, answer_by, answer, holding_after, delivered}
+use Rattle.sacn_world.specs.Holdings.{Hold, hold_of, answer_known, answer_by, answer, holding_after, after_delivery}
 use Rattle.sacn_sources.specs.Order.{same}
 use Rattle.sacn_sources.specs.Rows.{renews}
-use Rattle.sacn_sources.specs.declared.taken.Taken.{Taken}
-use Rattle.sacn_sources.specs.declared.taken.Taken.TheVariants.{UnknownIgnored, Held, EndedNow, Observed, OutOfSequence, SourcesExceeded}
+use Rattle.sacn_sources.specs.declared.answer.Taken.{Taken}
+use Rattle.sacn_sources.specs.declared.answer.Taken.TheVariants.{UnknownIgnored, Held, EndedNow, Observed, OutOfSequence, SourcesExceeded}
 
 pub follows_later : (st : List Sent) (p q : ℕ) → follows st p q ≡ true → p < q
 unfolding follows
@@ -49,7 +49,7 @@ own_kept SourcesExceeded n hs h e m = (h, e, omega arith)
 own_kept UnknownIgnored n hs h e m = (h, e, omega arith)
 
 -- no place that is held is given up for an earlier one
-pub never_back : (st : List Sent) (s : List ℕ) (q t : ℕ) (hs : List Hold) (r : List ℕ) (h : Hold) → hold_of r hs ≡ Some h → (g : Hold) × (hold_of r (delivered st s q t hs) ≡ Some g) × (h.place ≤ g.place)
+pub never_back : (st : List Sent) (s : List ℕ) (q t : ℕ) (hs : List Hold) (r : List ℕ) (h : Hold) → hold_of r hs ≡ Some h → (g : Hold) × (hold_of r (after_delivery st s q t hs) ≡ Some g) × (h.place ≤ g.place)
 never_back st s q t hs r h e =
     let n : Hold = record { source = s; place = q; moment = t } in
     elim (cases_Bool (same r s)) [
@@ -57,6 +57,6 @@ never_back st s q t hs r h e =
           let rs = same_source r s pass in
           let e' : hold_of s hs ≡ Some h = ap (λ (z : List ℕ). hold_of z hs) (sym rs) ∙ e in
           let k = own_kept (answer st s q hs) n hs h e' (later_than_held st s q hs h e') in
-          (k.0, ap (λ (z : List ℕ). hold_of z (delivered st s q t hs)) rs ∙ k.1, k.2)
+          (k.0, ap (λ (z : List ℕ). hold_of z (after_delivery st s q t hs)) rs ∙ k.1, k.2)
       | inr fail ↦ (h, other_kept r (answer st s q hs) n hs fail ∙ e, omega arith)
     ]

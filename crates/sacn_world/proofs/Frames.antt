@@ -19,7 +19,7 @@ use Rattle.sacn_world.specs.Holdings.{Hold}
 use Rattle.sacn_world.specs.Nodes.{Holding, Node, node_at, holding_of, unexpired_all, slots, slots_on, node_slots, frame_of, HoldOk}
 use Rattle.sacn_world.specs.Members.{IsShown}
 use Rattle.sacn_schedule.specs.Cids.{Desk}
-use Rattle.sacn_world.specs.Worlds.{World, Step, step, after, look_step, shown, new_console, new_world, Apart, NodeOk, WorldOk}
+use Rattle.sacn_world.specs.Worlds.{World, Step, step, after, look_step, answer_to_look, new_console, new_world, Apart, NodeOk, WorldOk}
 use Rattle.sacn_world.specs.Runs.{Ran, ran}
 use Rattle.sacn_world.specs.Laws.{reached}
 use Rattle.sacn_world.specs.Origins.{IsMergeOfHeld, held_in, held_after_expiry, slot_by, IsMergedFrame, Looked}
@@ -39,7 +39,7 @@ record LookedAt (w : World) (i port m : ℕ) (frame : List ℕ) : Type 0 where
   is_port : port_of port node.ports ≡ Some port_there
   is_frame : port_frame (node_slots w.sent (node_at m node)) port_there.ranges ≡ frame
 
-shown_frame : (slots : ℕ → List ℕ) (o : Option Port) (frame : List ℕ) → shown (frame_on slots o) ≡ answered.Shown frame → (p : Port) × (o ≡ Some p) × (port_frame slots p.ranges ≡ frame)
+shown_frame : (slots : ℕ → List ℕ) (o : Option Port) (frame : List ℕ) → answer_to_look (frame_on slots o) ≡ answered.Shown frame → (p : Port) × (o ≡ Some p) × (port_frame slots p.ranges ≡ frame)
 shown_frame slots None frame e = absurd (cc)
 shown_frame slots (Some p) frame e = (p, refl, cc)
 
@@ -50,7 +50,7 @@ answer_in w (Err f) = answered.Idle
 look_by : (w : World) (i port m : ℕ) (frame : List ℕ) (on : Option Node) (v : World) → slice_get w.nodes i ≡ on → look_step w i port m on ≡ Ok (record { answer = answered.Shown frame; world = v }) → LookedAt w i port m frame
 look_by w i port m frame None v en e = absurd (cc)
 look_by w i port m frame (Some n) v en e =
-    let a : shown (frame_of w.sent port (node_at m n)) ≡ answered.Shown frame = ap (answer_in w) e in
+    let a : answer_to_look (frame_of w.sent port (node_at m n)) ≡ answered.Shown frame = ap (answer_in w) e in
     let f = shown_frame (node_slots w.sent (node_at m n)) (port_of port n.ports) frame a in
     record { node = n; is_node = en; port_there = f.0; is_port = f.1; is_frame = f.2 }
 

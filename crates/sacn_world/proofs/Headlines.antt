@@ -17,7 +17,7 @@ use Rattle.sacn_world.specs.RunLaws.{HoldsLive}
 use Rattle.sacn_world.specs.Headline.{NoneGivesWayToAnEarlierOne, ALaterOneTakesOver, TheTwentyFirstInARowIsHeld, Headline}
 use Rattle.sacn_world.proofs.Reaching.{each_answered, joined, held_at_twenty_one}
 use Rattle.sacn_world.proofs.Lasting.{no_way_given}
-use Rattle.sacn_world.proofs.Admitted.{admissible_runs}
+use Rattle.sacn_world.proofs.Admission.{admissible_runs}
 use Rattle.sacn_world.proofs.Frames.{frames_merge, equal_slots}
 
 take_since : {X : Type 0} (j c : ℕ) (xs : List X) → take (j + c) xs ≡ take j xs ++ take c (drop j xs)

@@ -15,8 +15,8 @@ use Rattle.sacn_node.specs.Readings.{Reading, reply_to}
 use Rattle.sacn_framing.specs.declared.packet.Packet.{Packet}
 use Rattle.std.specs.Prelude.{Vec}
 use Rattle.std.specs.declared.alloc.Global.{Global}
-use Rattle.sacn_node.specs.declared.taken.NodeTaken.{NodeTaken}
-use Rattle.sacn_node.specs.declared.taken.NodeTaken.TheVariants.{Refused}
+use Rattle.sacn_node.specs.declared.answer.NodeTaken.{NodeTaken}
+use Rattle.sacn_node.specs.declared.answer.NodeTaken.TheVariants.{Refused}
 use Rattle.sacn_node.specs.Setup.{Port, universes}
 use Rattle.sacn_universe.specs.Universe.{Rising}
 use Rattle.sacn_node.specs.Laws.{HasTheUniversesOfItsRanges}
@@ -33,7 +33,7 @@ use Rattle.sacn_world.specs.declared.fault.WorldFault.{WorldFault}
 use Rattle.sacn_world.specs.declared.fault.WorldFault.TheVariants.{NoConsole, NoNode, NoDatagram, NoiseIsPacket}
 use Rattle.sacn_world.specs.Streams.{Sent}
 use Rattle.sacn_world.specs.Nodes.{Node, node_at, node_of, frame_of, seen_core}
-use Rattle.sacn_world.specs.Worlds.{World, Outcome, Step, with_console, with_node, with_core, order_step, poll_step, begun, restart_console, deliver_step, shown, look_step, heard, noise_step, restart_node, step, left_by, WorldOk}
+use Rattle.sacn_world.specs.Worlds.{World, Outcome, Step, with_console, with_node, with_core, order_step, poll_step, new_life, restart_console, deliver_step, answer_to_look, look_step, hear_noise, noise_step, restart_node, step, left_by, WorldOk}
 use Rattle.sacn_world.specs.Arrivals.{refused_for, replied, moved, arrival}
 use Rattle.sacn_world.specs.Watches.{Watch, holding_from, node_by_places, by_places, with_core as with_node_core, taken_by, new_watch, WatchOk}
 use Rattle.sacn_world.specs.Wire.{SentDatagram, seen_sent, stream_in, came_by, came_of, refusal_in, refusal_by}
@@ -119,12 +119,12 @@ module _ (cs : List Console) (fs : List SentDatagram) (ws : List Watch) (keeps :
   order_done i m k c ec core e =
       console_done (Order i m k) _ i (with_core c core) (ap (order_step w i m k) ec ∙ (λ j. Ok (record { answer = answered.Ordered (console.answer k (console.at m c.core)); world = with_console w i (with_core c (sym e j)) })))
 
-  pub restart_console_done : (i first : ℕ) (c : Console) → slice_get cs i ≡ Some c → (y : Console) → y ≡ begun c.show (c.life + 1) first → Done v (RestartConsole i first) answered.Restarted (slice_set cs i y) fs ws
+  pub restart_console_done : (i first : ℕ) (c : Console) → slice_get cs i ≡ Some c → (y : Console) → y ≡ new_life c.show (c.life + 1) first → Done v (RestartConsole i first) answered.Restarted (slice_set cs i y) fs ws
   unfolding step
   restart_console_done i first c ec y e =
       console_done (RestartConsole i first) _ i y (ap (restart_console w i first) ec ∙ (λ j. Ok (record { answer = answered.Restarted; world = with_console w i (sym e j) })))
 
-  pub restart_console_is : (i first : ℕ) (c : Console) → slice_get cs i ≡ Some c → step v (RestartConsole i first) ≡ Ok (record { answer = answered.Restarted; world = with_console w i (begun c.show (c.life + 1) first) })
+  pub restart_console_is : (i first : ℕ) (c : Console) → slice_get cs i ≡ Some c → step v (RestartConsole i first) ≡ Ok (record { answer = answered.Restarted; world = with_console w i (new_life c.show (c.life + 1) first) })
   unfolding step
   restart_console_is i first c ec = turned (RestartConsole i first) _ (ap (restart_console w i first) ec)
 
@@ -172,13 +172,13 @@ module _ (cs : List Console) (fs : List SentDatagram) (ws : List Watch) (keeps :
       ap (λ c. frame_on (core_slots c) (port_of port z.node.ports)) zok.core
       ∙ (λ j. frame_on (λ u. slots_seen (map seen_sent fs) (node_by_places z) u j) (port_of port z.node.ports))
 
-  pub look_done : (i port m : ℕ) (y : Watch) → slice_get ws i ≡ Some y → (z : Watch) → z ≡ with_node_core (core_at m y.node.core) y → (f : Option (List ℕ)) → f ≡ node_frame port z.node → Done v (Look i port m) (shown f) cs fs (slice_set ws i z)
+  pub look_done : (i port m : ℕ) (y : Watch) → slice_get ws i ≡ Some y → (z : Watch) → z ≡ with_node_core (core_at m y.node.core) y → (f : Option (List ℕ)) → f ≡ node_frame port z.node → Done v (Look i port m) (answer_to_look f) cs fs (slice_set ws i z)
   unfolding step
   look_done i port m y ey z ez f ef =
       let moves : Moved (map seen_sent fs) y z (node_at m (node_by_places y)) = subst (λ x. Moved (map seen_sent fs) y x (node_at m (node_by_places y))) (sym ez) (at_moved (map seen_sent fs) m y (watch_ok i y ey)) in
       let frame : frame_of (map seen_sent fs) port (node_at m (node_by_places y)) ≡ f = ap (frame_of (map seen_sent fs) port) (sym moves.places) ∙ sym (frame_seen port z moves.ok) ∙ sym ef in
-      node_done (Look i port m) (shown f) i y z (node_at m (node_by_places y)) moves
-      (ap (look_step w i port m) (node_there i y ey) ∙ (λ j. Ok (record { answer = shown (frame j); world = with_node w i (node_at m (node_by_places y)) })))
+      node_done (Look i port m) (answer_to_look f) i y z (node_at m (node_by_places y)) moves
+      (ap (look_step w i port m) (node_there i y ey) ∙ (λ j. Ok (record { answer = answer_to_look (frame j); world = with_node w i (node_at m (node_by_places y)) })))
 
   -- noise
   pub no_node_noise : (i m : ℕ) (octets : Vec ℕ Global) → length ws ≤ i → step v (Noise i m octets) ≡ Err NoNode
@@ -188,7 +188,7 @@ module _ (cs : List Console) (fs : List SentDatagram) (ws : List Watch) (keeps :
   pub noise_refused : (i m : ℕ) (octets : Vec ℕ Global) (y : Watch) → slice_get ws i ≡ Some y → (p : Packet) → reading_packet octets.items ≡ Ok p → step v (Noise i m octets) ≡ Err NoiseIsPacket
   unfolding step
   noise_refused i m octets y ey p er =
-      turned (Noise i m octets) _ (ap (noise_step w i m (reading_packet octets.items)) (node_there i y ey) ∙ ap (heard w i m (node_by_places y)) er)
+      turned (Noise i m octets) _ (ap (noise_step w i m (reading_packet octets.items)) (node_there i y ey) ∙ ap (hear_noise w i m (node_by_places y)) er)
 
   pub noise_done : (i m : ℕ) (octets : Vec ℕ Global) (y : Watch) → slice_get ws i ≡ Some y → (fault : PacketFault) → reading_packet octets.items ≡ Err fault → (z : Watch) → z ≡ taken_by (reading_packet octets.items) m None y → (reply : NodeTaken) → reply ≡ reply_to (reading_packet octets.items) m y.node.core → Done v (Noise i m octets) (answered.Taken reply) cs fs (slice_set ws i z)
   unfolding step
@@ -197,7 +197,7 @@ module _ (cs : List Console) (fs : List SentDatagram) (ws : List Watch) (keeps :
       let moves : Moved (map seen_sent fs) y z (node_at m (node_by_places y)) = subst (λ x. Moved (map seen_sent fs) y x (node_at m (node_by_places y))) (sym is) (at_moved (map seen_sent fs) m y (watch_ok i y ey)) in
       let said : Refused fault ≡ reply = sym (e ∙ ap (λ r. reply_to r m y.node.core) er) in
       node_done (Noise i m octets) (answered.Taken reply) i y z (node_at m (node_by_places y)) moves
-      (ap (noise_step w i m (reading_packet octets.items)) (node_there i y ey) ∙ ap (heard w i m (node_by_places y)) er ∙ (λ j. Ok (record { answer = answered.Taken (said j); world = with_node w i (node_at m (node_by_places y)) })))
+      (ap (noise_step w i m (reading_packet octets.items)) (node_there i y ey) ∙ ap (hear_noise w i m (node_by_places y)) er ∙ (λ j. Ok (record { answer = answered.Taken (said j); world = with_node w i (node_at m (node_by_places y)) })))
 
   -- a node starts anew
   pub restart_node_done : HasTheUniversesOfItsRanges → (i : ℕ) (y : Watch) → slice_get ws i ≡ Some y → (z : Watch) → z ≡ new_watch y.node.ports → Done v (RestartNode i) answered.Restarted cs fs (slice_set ws i z)

@@ -10,10 +10,10 @@ use Rattle.sacn_framing.specs.PacketReading.{reading_packet}
 use Rattle.sacn_console.specs.Lines as line
 use Rattle.sacn_console.specs.declared.command.Command.{Command}
 use Rattle.sacn_node.specs.Readings.{Reading}
-use Rattle.sacn_node.specs.declared.taken.NodeTaken.{NodeTaken}
-use Rattle.sacn_node.specs.declared.taken.NodeTaken.TheVariants.{FromTable}
+use Rattle.sacn_node.specs.declared.answer.NodeTaken.{NodeTaken}
+use Rattle.sacn_node.specs.declared.answer.NodeTaken.TheVariants.{FromTable}
 use Rattle.sacn_sources.specs.Order.{same}
-use Rattle.sacn_sources.specs.declared.taken.Taken.{Taken}
+use Rattle.sacn_sources.specs.declared.answer.Taken.{Taken}
 use Rattle.sacn_sources.specs.Rows.{renews}
 use Rattle.sacn_world.specs.declared.answer.Answer.{Answer}
 use Rattle.sacn_world.specs.declared.answer.Answer.TheVariants as answered
@@ -22,9 +22,9 @@ use Rattle.sacn_schedule.specs.declared.event.Event.{Event}
 use Rattle.sacn_schedule.specs.declared.event.Event.TheVariants.{Order, Poll, Deliver, Look, RestartConsole, RestartNode, Noise}
 use Rattle.sacn_world.specs.declared.fault.WorldFault.{WorldFault}
 use Rattle.sacn_world.specs.Streams.{Sent, stream_of, place_of}
-use Rattle.sacn_world.specs.Holdings.{Hold, is_renewed, unexpired, hold_of, put, answer, holding_after, delivered}
+use Rattle.sacn_world.specs.Holdings.{Hold, is_renewed, unexpired, hold_of, put, answer, holding_after, after_delivery}
 use Rattle.sacn_world.specs.Nodes.{Holding, Node, node_of, unexpired_all, holding_of, reply_on, change, node_reply, node_after, node_at}
-use Rattle.sacn_world.specs.Worlds.{World, Outcome, Step, with_node, order_step, poll_by, poll_step, restart_console, come, arrive, deliver_step, look_step, heard, noise_step, restart_node, step, left_by, after, place_on, hold_in, held_at, place_at}
+use Rattle.sacn_world.specs.Worlds.{World, Outcome, Step, with_node, order_step, poll_by, poll_step, restart_console, come, arrive, deliver_step, look_step, hear_noise, noise_step, restart_node, step, left_by, after, place_on, hold_in, held_at, place_at}
 use Rattle.sacn_world.specs.Entries.{LastsThrough, Lasts, HoldsFrom, TakesItsPlace, MovesForward, NoHeldPacketGivesWay}
 use Rattle.sacn_world.proofs.Forward.{never_back, later_than_held}
 use Rattle.sacn_world.proofs.Maps.{hold_of-put}
@@ -63,15 +63,15 @@ record Onward (s : List ℕ) (h : Hold) (o : Option Holding) : Type 0 where
   held : place_on s o ≡ Some hold
   no_earlier : h.place ≤ hold.place
 
-changed_holding : (st : List Sent) (r s : List ℕ) (q t : ℕ) (h : Hold) (o : Option Holding) → place_on s o ≡ Some h → Onward s h (option_map (λ (g : Holding). record { universe = g.universe; held = delivered st r q t g.held }) o)
+changed_holding : (st : List Sent) (r s : List ℕ) (q t : ℕ) (h : Hold) (o : Option Holding) → place_on s o ≡ Some h → Onward s h (option_map (λ (g : Holding). record { universe = g.universe; held = after_delivery st r q t g.held }) o)
 changed_holding st r s q t h None e = absurd (none_some h e)
 changed_holding st r s q t h (Some g) e = let k = never_back st r q t g.held s h e in record { hold = k.0; held = k.1; no_earlier = k.2 }
 
-delivery_keeps : (st : List Sent) (r s : List ℕ) (v u q t : ℕ) (h : Hold) (gs : List Holding) → place_on s (holding_of u gs) ≡ Some h → Onward s h (holding_of u (change v (delivered st r q t) gs))
+delivery_keeps : (st : List Sent) (r s : List ℕ) (v u q t : ℕ) (h : Hold) (gs : List Holding) → place_on s (holding_of u gs) ≡ Some h → Onward s h (holding_of u (change v (after_delivery st r q t) gs))
 delivery_keeps st r s v u q t h gs e =
     elim (cases_eq v u) [
-      | inl same' ↦ subst (λ (z : ℕ). Onward s h (holding_of u (change z (delivered st r q t) gs))) (sym same') (subst (Onward s h) (sym (find_change u (delivered st r q t) gs)) (changed_holding st r s q t h (holding_of u gs) e))
-      | inr apart ↦ record { hold = h; held = ap (place_on s) (find_change_other u v (delivered st r q t) gs apart) ∙ e; no_earlier = omega arith }
+      | inl same' ↦ subst (λ (z : ℕ). Onward s h (holding_of u (change z (after_delivery st r q t) gs))) (sym same') (subst (Onward s h) (sym (find_change u (after_delivery st r q t) gs)) (changed_holding st r s q t h (holding_of u gs) e))
+      | inr apart ↦ record { hold = h; held = ap (place_on s) (find_change_other u v (after_delivery st r q t) gs apart) ∙ e; no_earlier = omega arith }
     ]
 
 -- ---- a world
@@ -144,7 +144,7 @@ module _ (w : World) (i : ℕ) (s : List ℕ) (u : ℕ) (h : Hold) (is : held_at
     look_keeps port None e = same_world
     look_keeps port (Some n) e = at_node n e
 
-    heard_keeps : (n : Node) (r : Reading) → slice_get w.nodes j ≡ Some n → StillHeld (left_by w (heard w j m n r)) i s u h
+    heard_keeps : (n : Node) (r : Reading) → slice_get w.nodes j ≡ Some n → StillHeld (left_by w (hear_noise w j m n r)) i s u h
     heard_keeps n (Ok p) e = same_world
     heard_keeps n (Err f) e = at_node n e
 
@@ -220,8 +220,8 @@ moved_node w i m n s u q en takes =
     let t = max n.moment m in
     let new : Hold = record { source = s; place = q; moment = t } in
     let r = reply_taken st s q (holding_of u (unexpired_all t n.holdings)) takes in
-    let put_there : place_on s (holding_of u (change u (delivered st s q t) (unexpired_all t n.holdings))) ≡ Some new =
-    ap (place_on s) (find_change u (delivered st s q t) (unexpired_all t n.holdings)) ∙ ap (λ o. place_on s (option_map (λ (g : Holding). record { universe = g.universe; held = delivered st s q t g.held }) o)) r.1 ∙ put_by (answer st s q r.0.held) new r.0.held r.2 in
+    let put_there : place_on s (holding_of u (change u (after_delivery st s q t) (unexpired_all t n.holdings))) ≡ Some new =
+    ap (place_on s) (find_change u (after_delivery st s q t) (unexpired_all t n.holdings)) ∙ ap (λ o. place_on s (option_map (λ (g : Holding). record { universe = g.universe; held = after_delivery st s q t g.held }) o)) r.1 ∙ put_by (answer st s q r.0.held) new r.0.held r.2 in
     record {
       held = ap (option_map (λ (h : Hold). h.place)) (ap (hold_in s u) (set_there w.nodes i n (node_after w.sent s u q m n) en) ∙ put_there);
       later = λ l h el is renewed.

@@ -27,7 +27,7 @@ use Rattle.sacn_world.specs.Holdings.{Hold}
 use Rattle.sacn_world.specs.RowsOfPlaces.{shown_by}
 use Rattle.sacn_world.specs.Nodes.{Holding, Node, shown_of, slots, HoldOk}
 use Rattle.sacn_world.specs.declared.console.Console.{Console}
-use Rattle.sacn_world.specs.Worlds.{World, sent_by, poll_by, poll_step, order_step, restart_console, come, arrive, deliver_step, look_step, heard, noise_step, restart_node, step, left_by, after, new_console, new_world, Apart, WorldOk, NodeOk}
+use Rattle.sacn_world.specs.Worlds.{World, sent_by, poll_by, poll_step, order_step, restart_console, come, arrive, deliver_step, look_step, hear_noise, noise_step, restart_node, step, left_by, after, new_console, new_world, Apart, WorldOk, NodeOk}
 use Rattle.sacn_world.specs.Members.{IsShown, SameShown, HeldOn}
 use Rattle.sacn_world.proofs.All.{all_get}
 use Rattle.sacn_world.proofs.Lists.{found}
@@ -157,7 +157,7 @@ look_longer : (w : World) (i port m : ℕ) (on : Option Node) → Longer w.sent 
 look_longer w i port m None = itself w.sent
 look_longer w i port m (Some n) = itself w.sent
 
-heard_longer : (w : World) (i m : ℕ) (n : Node) (r : Reading) → Longer w.sent (left_by w (heard w i m n r)).sent
+heard_longer : (w : World) (i m : ℕ) (n : Node) (r : Reading) → Longer w.sent (left_by w (hear_noise w i m n r)).sent
 heard_longer w i m n (Ok p) = itself w.sent
 heard_longer w i m n (Err f) = itself w.sent
 

@@ -18,7 +18,7 @@ use Rattle.sacn_world.specs.declared.fault.WorldFault.{WorldFault}
 use Rattle.sacn_world.specs.Streams.{Sent}
 use Rattle.sacn_world.specs.Holdings.{Delivery, newest, add_delivery}
 use Rattle.sacn_world.specs.Nodes.{Node, node_of, node_after, node_at}
-use Rattle.sacn_world.specs.Worlds.{World, with_node, order_step, poll_by, poll_step, restart_console, come, arrive, deliver_step, look_step, heard, noise_step, restart_node, step, left_by, after, new_world}
+use Rattle.sacn_world.specs.Worlds.{World, with_node, order_step, poll_by, poll_step, restart_console, come, arrive, deliver_step, look_step, hear_noise, noise_step, restart_node, step, left_by, after, new_world}
 use Rattle.sacn_world.specs.Newest.{greater, greatest, with_place, with_packet, with_delivery, delivered_by, delivered_in, NewestIsTheGreatestDelivered}
 use Rattle.sacn_schedule.specs.Cids.{Desk}
 use Rattle.sacn_world.proofs.Sources.{same_source}
@@ -107,7 +107,7 @@ module _ (w : World) (i : ℕ) (s : List ℕ) (u : ℕ) (ps : List ℕ) (k : New
   look_newest j port m None e = k
   look_newest j port m (Some n) e = same_deliveries j n (node_at m n) e refl
 
-  heard_newest : (j m : ℕ) (n : Node) (r : Reading) → slice_get w.nodes j ≡ Some n → NewestAt (left_by w (heard w j m n r)) i s u ps
+  heard_newest : (j m : ℕ) (n : Node) (r : Reading) → slice_get w.nodes j ≡ Some n → NewestAt (left_by w (hear_noise w j m n r)) i s u ps
   heard_newest j m n (Ok p) e = k
   heard_newest j m n (Err f) e = same_deliveries j n (node_at m n) e refl
 

@@ -13,23 +13,23 @@ use Rattle.std.specs.declared.cmp.Ordering.TheVariants.{Less, Equal, Greater}
 use Rattle.sacn_world.proofs.Lists.{found, find-map, kept_seen}
 use Rattle.sacn_world.proofs.Steps.{taken_seen, rows_seen, held_live, ended_not, never_observed}
 use Rattle.sacn_world.specs.Streams.{Sent, number_at, stream_of, follows, Ordered, late}
-use Rattle.sacn_world.specs.Holdings.{Hold, is_renewed, hold_of, put, answer, holding_after, delivered, Delivery, newest, add_delivery, refusal_at, refusal}
+use Rattle.sacn_world.specs.Holdings.{Hold, is_renewed, hold_of, put, answer, holding_after, after_delivery, Delivery, newest, add_delivery, refusal_at, refusal}
 use Rattle.sacn_world.specs.RowsOfPlaces.{packet_at, rows_of}
 use Rattle.sacn_world.specs.Nodes.{Holding, Node, unexpired_all, reply_on, change, node_reply, node_after, node_at, shown_of, slots_on, node_slots, seen_table, seen_core, HoldOk}
 use Rattle.sacn_sources.specs.Order.{order, same, by_order}
 use Rattle.sacn_sources.specs.Rows.{Row, taken, rows_after, take_row, layers}
 use Rattle.sacn_node.specs.Cores.{slots_on as slots_on_table, core_slots, rows_kept_all, core_reply_on, change_rows, core_reply, core_after, core_at, core_slots}
 use Rattle.sacn_slots.specs.Merge.{merge}
-use Rattle.sacn_sources.specs.declared.taken.Taken.{Taken}
-use Rattle.sacn_sources.specs.declared.taken.Taken.TheVariants.{UnknownIgnored, Held, EndedNow, Observed, OutOfSequence, SourcesExceeded}
-use Rattle.sacn_node.specs.declared.taken.NodeTaken.TheVariants.{FromTable}
+use Rattle.sacn_sources.specs.declared.answer.Taken.{Taken}
+use Rattle.sacn_sources.specs.declared.answer.Taken.TheVariants.{UnknownIgnored, Held, EndedNow, Observed, OutOfSequence, SourcesExceeded}
+use Rattle.sacn_node.specs.declared.answer.NodeTaken.TheVariants.{FromTable}
 use Rattle.sacn_world.specs.Worlds.{step}
 
 -- at one table, under the rule that the numbers decide as the places do
 abbrev Rule : ℕ → List Sent → List ℕ → ℕ → List Hold → Type 0
 Rule u sent s q hs = (h : Hold) → hold_of s hs ≡ Some h → not (late (number_at (stream_of h.source u sent) h.place) (number_at (stream_of s u sent) q)) ≡ follows (stream_of s u sent) h.place q
 
-pub take_seen : (u : ℕ) (sent : List Sent) (s : List ℕ) (q t : ℕ) (hs : List Hold) → Rule u sent s q hs → take_row (packet_at s (stream_of s u sent) q) t (rows_of u sent hs) ≡ rows_of u sent (delivered (stream_of s u sent) s q t hs)
+pub take_seen : (u : ℕ) (sent : List Sent) (s : List ℕ) (q t : ℕ) (hs : List Hold) → Rule u sent s q hs → take_row (packet_at s (stream_of s u sent) q) t (rows_of u sent hs) ≡ rows_of u sent (after_delivery (stream_of s u sent) s q t hs)
 take_seen u sent s q t hs rule =
     let st = stream_of s u sent in
     let room = nat_lt (length hs) MAX_SOURCES in
@@ -188,24 +188,24 @@ module _ (sent : List Sent) (s : List ℕ) (u q m : ℕ) (n : Node) (ord : Order
       ∙ ap (core_reply_on (packet_at s (stream_of s u sent) q)) (find-map (seen_table sent) (λ g. g.universe == u) _ (λ x. refl) now)
       ∙ reply_by (find (λ g. g.universe == u) now) (λ g e. let f = found (λ y. AllByRecursion (HoldOk y.universe n.delivered) y.held) (λ y. y.universe == u) now g now_below e in (eqb-true _ _ f.1, f.0))
 
-  each : (gs : List Holding) → AllByRecursion (λ g. AllByRecursion (HoldOk g.universe n.delivered) g.held) gs → AllByRecursion (λ g. (g.universe ≡ u) → take_row (packet_at s (stream_of s u sent) q) (max n.moment m) (rows_of g.universe sent g.held) ≡ rows_of g.universe sent (delivered (stream_of s u sent) s q (max n.moment m) g.held)) gs
+  each : (gs : List Holding) → AllByRecursion (λ g. AllByRecursion (HoldOk g.universe n.delivered) g.held) gs → AllByRecursion (λ g. (g.universe ≡ u) → take_row (packet_at s (stream_of s u sent) q) (max n.moment m) (rows_of g.universe sent g.held) ≡ rows_of g.universe sent (after_delivery (stream_of s u sent) s q (max n.moment m) g.held)) gs
   each [] all = tt
   each (g ∷ gs) all = (
     λ eu.
         let mine : AllByRecursion (HoldOk u n.delivered) g.held = subst (λ v. AllByRecursion (HoldOk v n.delivered) g.held) eu all.0 in
-        subst (λ v. take_row (packet_at s (stream_of s u sent) q) (max n.moment m) (rows_of v sent g.held) ≡ rows_of v sent (delivered (stream_of s u sent) s q (max n.moment m) g.held)) (sym eu) (take_seen u sent s q (max n.moment m) g.held (rule_from u sent s q n.delivered g.held ord within there may mine)),
+        subst (λ v. take_row (packet_at s (stream_of s u sent) q) (max n.moment m) (rows_of v sent g.held) ≡ rows_of v sent (after_delivery (stream_of s u sent) s q (max n.moment m) g.held)) (sym eu) (take_seen u sent s q (max n.moment m) g.held (rule_from u sent s q n.delivered g.held ord within there may mine)),
     each gs all.1,
   )
 
   pub after_seen : core_after u (packet_at s (stream_of s u sent) q) m (seen_core sent n) ≡ seen_core sent (node_after sent s u q m n)
   unfolding seen_core now
   after_seen =
-      let f = delivered (stream_of s u sent) s q (max n.moment m) in
+      let f = after_delivery (stream_of s u sent) s q (max n.moment m) in
       let r = take_row (packet_at s (stream_of s u sent) q) (max n.moment m) in
       let e = ap (change_rows u r) (kept_all_seen sent (max n.moment m) n.holdings) ∙ change_seen sent u f r now (each now now_below) in
       λ i. record { moment = max n.moment m; tables = e i }
 
-  pub below_after : AllByRecursion (λ g. AllByRecursion (HoldOk g.universe (add_delivery (record { source = s; universe = u; place = q }) n.delivered)) g.held) (change u (delivered (stream_of s u sent) s q (max n.moment m)) (unexpired_all (max n.moment m) n.holdings))
+  pub below_after : AllByRecursion (λ g. AllByRecursion (HoldOk g.universe (add_delivery (record { source = s; universe = u; place = q }) n.delivered)) g.held) (change u (after_delivery (stream_of s u sent) s q (max n.moment m)) (unexpired_all (max n.moment m) n.holdings))
   unfolding now
   below_after =
       let d : Delivery = record { source = s; universe = u; place = q } in

@@ -23,7 +23,7 @@ use Rattle.sacn_world.specs.Holdings.{Hold}
 use Rattle.sacn_world.specs.RowsOfPlaces.{shown_by}
 use Rattle.sacn_world.specs.Nodes.{Holding, Node, node_of, holding_of, shown_of, HoldOk}
 use Rattle.sacn_schedule.specs.Cids.{Desk}
-use Rattle.sacn_world.specs.Worlds.{World, with_console, with_node, sent_by, with_sent, polled, order_step, poll_by, poll_step, restart_console, come, arrive, deliver_step, look_step, heard, noise_step, restart_node, step, left_by, after, new_console, new_world, NodeOk, WorldOk}
+use Rattle.sacn_world.specs.Worlds.{World, with_console, with_node, sent_by, with_sent, polled, order_step, poll_by, poll_step, restart_console, come, arrive, deliver_step, look_step, hear_noise, noise_step, restart_node, step, left_by, after, new_console, new_world, NodeOk, WorldOk}
 use Rattle.sacn_world.specs.Laws.{reached}
 use Rattle.sacn_world.specs.Origins.{ReallySent, IsHeldLayer, IsMergeOfHeld, HeldPlacesWereSent, NodesKeepTheirPorts}
 use Rattle.sacn_world.proofs.All.{all_get}
@@ -106,7 +106,7 @@ module _ (shows : List ShowContent) (setups : List (List Port)) (w : World) (o :
   look_kept i port m None e = o
   look_kept i port m (Some n) e = node_kept i n _ e refl
 
-  heard_kept : (i m : ℕ) (n : Node) (r : Reading) → slice_get w.nodes i ≡ Some n → Origin shows setups (left_by w (heard w i m n r))
+  heard_kept : (i m : ℕ) (n : Node) (r : Reading) → slice_get w.nodes i ≡ Some n → Origin shows setups (left_by w (hear_noise w i m n r))
   heard_kept i m n (Ok p) e = o
   heard_kept i m n (Err f) e = node_kept i n _ e refl
 

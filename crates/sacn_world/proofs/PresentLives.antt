@@ -23,7 +23,7 @@ use Rattle.sacn_world.specs.declared.fault.WorldFault.{WorldFault}
 use Rattle.sacn_world.specs.Streams.{Sent}
 use Rattle.sacn_world.specs.Nodes.{Node}
 use Rattle.sacn_schedule.specs.Cids.{Desk}
-use Rattle.sacn_world.specs.Worlds.{World, Console, Outcome, with_core, polled, order_step, poll_by, poll_step, begun, restart_console, come, arrive, deliver_step, look_step, heard, noise_step, restart_node, step, left_by, after, new_console, new_world}
+use Rattle.sacn_world.specs.Worlds.{World, Console, Outcome, with_core, polled, order_step, poll_by, poll_step, new_life, restart_console, come, arrive, deliver_step, look_step, hear_noise, noise_step, restart_node, step, left_by, after, new_console, new_world}
 use Rattle.sacn_world.specs.Laws.{reached}
 use Rattle.sacn_world.specs.Lives.{calls_with, calls_in, first_with, first_in, moment_of, ConsolesDoWhatIsDue}
 use Rattle.sacn_world.proofs.Runs.{mapped}
@@ -150,7 +150,7 @@ module _ (w : World) (i : ℕ) (show : ShowContent) (first : ℕ) (calls : List 
   begun_here : (f : ℕ) (o : Option Console) → slice_get w.consoles i ≡ o → LivesAt (left_by w (restart_console w i f o)) i show f []
   unfolding core_run
   begun_here f None e = λ c ec. absurd (none_some c (sym e ∙ ec))
-  begun_here f (Some d) e = let h = l d e in written (begun d.show _ f) f [] (record { same_show = h.same_show; core = ap (λ s. core_by (life_of s f) 0 []) h.same_show })
+  begun_here f (Some d) e = let h = l d e in written (new_life d.show _ f) f [] (record { same_show = h.same_show; core = ap (λ s. core_by (life_of s f) 0 []) h.same_show })
 
   begun_there : (j f : ℕ) (o : Option Console) → (j ≡ i → ⊥) → LivesAt (left_by w (restart_console w j f o)) i show first calls
   begun_there j f None ne = l
@@ -174,7 +174,7 @@ module _ (w : World) (i : ℕ) (show : ShowContent) (first : ℕ) (calls : List 
   look_lives j port m None = l
   look_lives j port m (Some n) = l
 
-  heard_lives : (j m : ℕ) (n : Node) (r : Reading) → LivesAt (left_by w (heard w j m n r)) i show first calls
+  heard_lives : (j m : ℕ) (n : Node) (r : Reading) → LivesAt (left_by w (hear_noise w j m n r)) i show first calls
   heard_lives j m n (Ok p) = l
   heard_lives j m n (Err f) = l
 

@@ -5,7 +5,7 @@ use Rattle.std.proofs.lemmas.Bool.{and_from, eq-eqb}
 use Rattle.sacn_framing.specs.declared.packet.Packet.{Packet}
 use Rattle.sacn_framing.specs.declared.packet.Packet.TheVariants.{DataPacket, PagePacket, SyncPacket}
 use Rattle.sacn_console.specs.Shows.{ShowContent}
-use Rattle.sacn_node.specs.declared.taken.NodeTaken.{NodeTaken}
+use Rattle.sacn_node.specs.declared.answer.NodeTaken.{NodeTaken}
 use Rattle.sacn_node.specs.Setup.{Port}
 use Rattle.sacn_node.specs.Cores.{core_reply, core_after}
 use Rattle.sacn_node.specs.Readings.{reply_to, after_reading}

@@ -24,7 +24,7 @@ use Rattle.sacn_world.specs.RowsOfPlaces.{packet_at}
 use Rattle.sacn_world.specs.Streams.{kind_by}
 use Rattle.sacn_world.specs.Nodes.{Holding, Node, node_of, nothing_held, node_at, HoldOk}
 use Rattle.sacn_world.specs.declared.console.Console.{Console}
-use Rattle.sacn_world.specs.Worlds.{World, with_console, with_node, order_step, sent_by, with_sent, polled, poll_by, poll_step, restart_console, come, arrive, deliver_step, look_step, heard, noise_step, restart_node, step, left_by, after, new_console, new_world, Apart, NodeOk, ConsoleOk, IsNumbered, Numbered, WorldOk}
+use Rattle.sacn_world.specs.Worlds.{World, with_console, with_node, order_step, sent_by, with_sent, polled, poll_by, poll_step, restart_console, come, arrive, deliver_step, look_step, hear_noise, noise_step, restart_node, step, left_by, after, new_console, new_world, Apart, NodeOk, ConsoleOk, IsNumbered, Numbered, WorldOk}
 use Rattle.sacn_world.proofs.All.{all_weaker, all_get, all_set}
 use Rattle.sacn_world.proofs.Sources.{same-itself}
 use Rattle.sacn_world.proofs.NodeSteps.{below_after, all_kept, all_noted}
@@ -177,7 +177,7 @@ look_ok : (w : World) → WorldOk w → (i port m : ℕ) (on : Option Node) → 
 look_ok w ok i port m None e = ok
 look_ok w ok i port m (Some n) e = at_ok w ok i m n e
 
-heard_ok : (w : World) → WorldOk w → (i m : ℕ) (n : Node) → slice_get w.nodes i ≡ Some n → (r : Reading) → WorldOk (left_by w (heard w i m n r))
+heard_ok : (w : World) → WorldOk w → (i m : ℕ) (n : Node) → slice_get w.nodes i ≡ Some n → (r : Reading) → WorldOk (left_by w (hear_noise w i m n r))
 heard_ok w ok i m n e (Ok p) = ok
 heard_ok w ok i m n e (Err fault) = at_ok w ok i m n e
 

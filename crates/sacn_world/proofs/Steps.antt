@@ -9,8 +9,8 @@ use Rattle.sacn_world.specs.Holdings.{Hold, hold_of, answer_unknown, answer_know
 use Rattle.sacn_world.specs.RowsOfPlaces.{shown_by, packet_at, seen, rows_of}
 use Rattle.sacn_world.specs.Streams.{kind_by}
 use Rattle.sacn_sources.specs.Rows.{row_of, put_row, take_known, take_by, taken, rows_after}
-use Rattle.sacn_sources.specs.declared.taken.Taken.{Taken}
-use Rattle.sacn_sources.specs.declared.taken.Taken.TheVariants.{UnknownIgnored, Held, EndedNow, Observed, OutOfSequence, SourcesExceeded}
+use Rattle.sacn_sources.specs.declared.answer.Taken.{Taken}
+use Rattle.sacn_sources.specs.declared.answer.Taken.TheVariants.{UnknownIgnored, Held, EndedNow, Observed, OutOfSequence, SourcesExceeded}
 
 known_same : (live late follows : Bool) → not late ≡ follows → take_known (kind_by live) late ≡ answer_known live follows
 known_same live true true e = cc

@@ -2,8 +2,8 @@
 use Rattle.std.specs.Prelude.{ℕ, List, Option, Some, None, Ok, Err}
 use Rattle.sacn_framing.specs.declared.packet.Packet.{Packet}
 use Rattle.sacn_framing.specs.declared.packet.Packet.TheVariants.{DataPacket, PagePacket, SyncPacket}
-use Rattle.sacn_node.specs.declared.taken.NodeTaken.{NodeTaken}
-use Rattle.sacn_node.specs.declared.taken.NodeTaken.TheVariants.{Discovery, Sync}
+use Rattle.sacn_node.specs.declared.answer.NodeTaken.{NodeTaken}
+use Rattle.sacn_node.specs.declared.answer.NodeTaken.TheVariants.{Discovery, Sync}
 use Rattle.sacn_world.specs.declared.answer.Answer.TheVariants as answered
 use Rattle.sacn_world.specs.declared.fault.WorldFault.{WorldFault}
 use Rattle.sacn_world.specs.Streams.{Sent, stream_of, place_of}

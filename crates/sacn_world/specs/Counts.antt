@@ -3,8 +3,8 @@ use Rattle.std.specs.Prelude.{◌≡◌, ℕ, ◌==◌, ◌&&◌, if◌then◌el
 use Rattle.sacn_framing.specs.declared.packet.Packet.{Packet}
 use Rattle.sacn_framing.specs.declared.packet.Packet.TheVariants.{DataPacket, PagePacket, SyncPacket}
 use Rattle.sacn_sources.specs.Order.{same}
-use Rattle.sacn_node.specs.declared.taken.NodeTaken.{NodeTaken}
-use Rattle.sacn_node.specs.declared.taken.NodeTaken.TheVariants.{FromTable, OtherUniverse, Discovery, Sync, Refused}
+use Rattle.sacn_node.specs.declared.answer.NodeTaken.{NodeTaken}
+use Rattle.sacn_node.specs.declared.answer.NodeTaken.TheVariants.{FromTable, OtherUniverse, Discovery, Sync, Refused}
 use Rattle.sacn_schedule.specs.declared.event.Event.{Event}
 use Rattle.sacn_schedule.specs.declared.event.Event.TheVariants.{Order, Poll, Deliver, Look, RestartConsole, RestartNode, Noise}
 use Rattle.sacn_world.specs.declared.fault.WorldFault.{WorldFault}

@@ -3,8 +3,8 @@ use Rattle.std.specs.Prelude.{◌≡◌, ◌≢◌, ⊤, ℕ, ◌<◌, ◌≤◌
 use Rattle.sacn_framing.specs.Data.{Data}
 use Rattle.sacn_framing.specs.declared.packet.Packet.TheVariants.{DataPacket}
 use Rattle.sacn_sources.specs.Rows.{renews}
-use Rattle.sacn_sources.specs.declared.taken.Taken.{Taken as TableTaken}
-use Rattle.sacn_node.specs.declared.taken.NodeTaken.TheVariants.{FromTable}
+use Rattle.sacn_sources.specs.declared.answer.Taken.{Taken as TableTaken}
+use Rattle.sacn_node.specs.declared.answer.NodeTaken.TheVariants.{FromTable}
 use Rattle.sacn_world.specs.declared.answer.Answer.{Answer}
 use Rattle.sacn_world.specs.declared.answer.Answer.TheVariants.{Taken}
 use Rattle.sacn_schedule.specs.declared.event.Event.{Event}

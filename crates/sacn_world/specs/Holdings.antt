@@ -5,7 +5,7 @@ use Rattle.std.specs.declared.cmp.Ordering.TheVariants.{Less}
 use Rattle.sacn_sources.specs.Order.{order, same, by_order}
 use Rattle.sacn_sources.specs.declared.limits.TheConstants.{MAX_SOURCES, NETWORK_DATA_LOSS}
 use Rattle.sacn_sources.specs.Rows.{take_unknown, take_known, renews}
-use Rattle.sacn_sources.specs.declared.taken.Taken.{Taken}
+use Rattle.sacn_sources.specs.declared.answer.Taken.{Taken}
 use Rattle.sacn_world.specs.declared.limits.TheConstants.{TOO_FAR_BEHIND}
 use Rattle.sacn_world.specs.declared.fault.WorldFault.{WorldFault}
 use Rattle.sacn_world.specs.declared.fault.WorldFault.TheVariants.{TooFarBehind, OldLife}
@@ -59,8 +59,8 @@ answer st s q hs = answer_by st q (nat_lt (length hs) MAX_SOURCES) (hold_of s hs
 abbrev pub holding_after : Taken → Hold → List Hold → List Hold
 holding_after a n hs = if renews a then put n hs else hs
 
-abbrev pub delivered : List Sent → List ℕ → ℕ → ℕ → List Hold → List Hold
-delivered st s q t hs = holding_after (answer st s q hs) (record { source = s; place = q; moment = t }) hs
+abbrev pub after_delivery : List Sent → List ℕ → ℕ → ℕ → List Hold → List Hold
+after_delivery st s q t hs = holding_after (answer st s q hs) (record { source = s; place = q; moment = t }) hs
 
 -- ---- which deliveries are admissible
 

@@ -13,7 +13,7 @@ use Rattle.sacn_schedule.specs.declared.event.Event.{Event}
 use Rattle.sacn_schedule.specs.declared.event.Event.TheVariants.{Deliver}
 use Rattle.sacn_world.specs.declared.answer.Answer.TheVariants as answered
 use Rattle.sacn_world.specs.Streams.{Sent, place_of}
-use Rattle.sacn_world.specs.Holdings.{Hold, hold_of, answer, delivered}
+use Rattle.sacn_world.specs.Holdings.{Hold, hold_of, answer, after_delivery}
 use Rattle.sacn_world.specs.RowsOfPlaces.{seen, rows_of}
 use Rattle.sacn_world.specs.Nodes.{Holding, Node, holding_of, slots, node_slots, seen_core}
 use Rattle.sacn_world.specs.Worlds.{World, Outcome, step, after, new_console, new_world, Apart}
@@ -42,7 +42,7 @@ HeldPlacesAreLater =
 -- No delivery drops an entry that has not expired, or gives its place up for an earlier one
 abbrev pub PlacesNeverGoBack : Type 0
 PlacesNeverGoBack =
-    (st : List Sent) (s : List ℕ) (q t : ℕ) (hs : List Hold) (r : List ℕ) (h : Hold) → hold_of r hs ≡ Some h → (g : Hold) × (hold_of r (delivered st s q t hs) ≡ Some g) × (h.place ≤ g.place)
+    (st : List Sent) (s : List ℕ) (q t : ℕ) (hs : List Hold) (r : List ℕ) (h : Hold) → hold_of r hs ≡ Some h → (g : Hold) × (hold_of r (after_delivery st s q t hs) ≡ Some g) × (h.place ≤ g.place)
 
 -- What a table has of a source is what the place held says
 abbrev pub RowsAreOfPlaces : Type 0

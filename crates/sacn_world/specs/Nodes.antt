@@ -2,13 +2,13 @@
 use Rattle.std.specs.Prelude.{◌≡◌, ℕ, max, ◌≤◌, ◌==◌, if◌then◌else◌, List, [], ◌∷◌, map, find, Option, Some, None}
 use Rattle.std.specs.List.{filter_map}
 use Rattle.sacn_slots.specs.Merge.{Shown, merge}
-use Rattle.sacn_node.specs.declared.taken.NodeTaken.{NodeTaken}
-use Rattle.sacn_node.specs.declared.taken.NodeTaken.TheVariants.{FromTable, OtherUniverse}
+use Rattle.sacn_node.specs.declared.answer.NodeTaken.{NodeTaken}
+use Rattle.sacn_node.specs.declared.answer.NodeTaken.TheVariants.{FromTable, OtherUniverse}
 use Rattle.sacn_node.specs.Setup.{Port, universes}
 use Rattle.sacn_node.specs.Ports.{port_of, frame_on}
 use Rattle.sacn_node.specs.Cores.{Table, Core}
 use Rattle.sacn_world.specs.Streams.{Sent, at, stream_of, is_live, priority, levels}
-use Rattle.sacn_world.specs.Holdings.{Hold, Delivery, unexpired, answer, delivered, add_delivery, newest}
+use Rattle.sacn_world.specs.Holdings.{Hold, Delivery, unexpired, answer, after_delivery, add_delivery, newest}
 use Rattle.sacn_world.specs.RowsOfPlaces.{rows_of, shown_by}
 
 -- the holding of one universe
@@ -59,7 +59,7 @@ node_after sent s u q m n =
     record {
       ports = n.ports;
       moment = max n.moment m;
-      holdings = change u (delivered (stream_of s u sent) s q (max n.moment m)) (unexpired_all (max n.moment m) n.holdings);
+      holdings = change u (after_delivery (stream_of s u sent) s q (max n.moment m)) (unexpired_all (max n.moment m) n.holdings);
       delivered = add_delivery (record { source = s; universe = u; place = q }) n.delivered;
     }
 

@@ -4,8 +4,8 @@ use Rattle.std.specs.List.{AllByRecursion}
 use Rattle.std.specs.Option.{option_map}
 use Rattle.sacn_sources.specs.Order.{same}
 use Rattle.sacn_sources.specs.Rows.{Row, renews}
-use Rattle.sacn_node.specs.declared.taken.NodeTaken.{NodeTaken}
-use Rattle.sacn_node.specs.declared.taken.NodeTaken.TheVariants.{FromTable, OtherUniverse, Discovery, Sync, Refused}
+use Rattle.sacn_node.specs.declared.answer.NodeTaken.{NodeTaken}
+use Rattle.sacn_node.specs.declared.answer.NodeTaken.TheVariants.{FromTable, OtherUniverse, Discovery, Sync, Refused}
 use Rattle.sacn_node.specs.Setup.{Port}
 use Rattle.sacn_node.specs.Readings.{Reading, reply_to, after_reading}
 use Rattle.sacn_node.specs.Cores.{Core, Table}

@@ -14,7 +14,7 @@ use Rattle.sacn_console.specs.Due.{life_of}
 use Rattle.sacn_console.specs.Runs.{core_by}
 use Rattle.sacn_console.specs.Core as console
 use Rattle.sacn_console.specs.Lines as line
-use Rattle.sacn_node.specs.declared.taken.NodeTaken.TheVariants.{Discovery, Sync, Refused}
+use Rattle.sacn_node.specs.declared.answer.NodeTaken.TheVariants.{Discovery, Sync, Refused}
 use Rattle.sacn_node.specs.Setup.{Port}
 use Rattle.sacn_node.specs.Readings.{Reading}
 -- a console: its show, the index of its life and that life's first number, and what its rule asks of this life
@@ -85,12 +85,12 @@ poll_step w i m None = Err NoConsole
 poll_step w i m (Some c) = Ok (poll_by w i m c (console.due (console.at m c.core)))
 
 -- a life begins: nothing was done in it yet, and its moment is 0
-abbrev pub begun : ShowContent → ℕ → ℕ → Console
-begun show life first = record { show = show; life = life; first = first; core = core_by (life_of show first) 0 [] }
+abbrev pub new_life : ShowContent → ℕ → ℕ → Console
+new_life show life first = record { show = show; life = life; first = first; core = core_by (life_of show first) 0 [] }
 
 abbrev pub restart_console : World → ℕ → ℕ → Option Console → Step
 restart_console w i first None = Err NoConsole
-restart_console w i first (Some c) = Ok (record { answer = answered.Restarted; world = with_console w i (begun c.show (c.life + 1) first) })
+restart_console w i first (Some c) = Ok (record { answer = answered.Restarted; world = with_console w i (new_life c.show (c.life + 1) first) })
 
 -- ---- nodes
 
@@ -112,22 +112,22 @@ deliver_step w k i m (Some n) None = Err NoDatagram
 deliver_step w k i m (Some n) (Some x) = arrive w k i m n x.source x.packet
 
 -- the answer to a look: a frame, where the node has the port
-abbrev pub shown : Option (List ℕ) → Answer
-shown None = answered.NoSuchPort
-shown (Some frame) = answered.Shown frame
+abbrev pub answer_to_look : Option (List ℕ) → Answer
+answer_to_look None = answered.NoSuchPort
+answer_to_look (Some frame) = answered.Shown frame
 
 abbrev pub look_step : World → ℕ → ℕ → ℕ → Option Node → Step
 look_step w i port m None = Err NoNode
-look_step w i port m (Some n) = Ok (record { answer = shown (frame_of w.sent port (node_at m n)); world = with_node w i (node_at m n) })
+look_step w i port m (Some n) = Ok (record { answer = answer_to_look (frame_of w.sent port (node_at m n)); world = with_node w i (node_at m n) })
 
 -- octets that are no packet
-abbrev pub heard : World → ℕ → ℕ → Node → Reading → Step
-heard w i m n (Ok packet) = Err NoiseIsPacket
-heard w i m n (Err fault) = Ok (record { answer = answered.Taken (Refused fault); world = with_node w i (node_at m n) })
+abbrev pub hear_noise : World → ℕ → ℕ → Node → Reading → Step
+hear_noise w i m n (Ok packet) = Err NoiseIsPacket
+hear_noise w i m n (Err fault) = Ok (record { answer = answered.Taken (Refused fault); world = with_node w i (node_at m n) })
 
 abbrev pub noise_step : World → ℕ → ℕ → Reading → Option Node → Step
 noise_step w i m reading None = Err NoNode
-noise_step w i m reading (Some n) = heard w i m n reading
+noise_step w i m reading (Some n) = hear_noise w i m n reading
 
 abbrev pub restart_node : World → ℕ → Option Node → Step
 restart_node w i None = Err NoNode
@@ -157,7 +157,7 @@ after w (e ∷ es) = after (left_by w (step w e)) es
 -- ---- a new world: of shows with first numbers, and of nodes with ports
 
 abbrev pub new_console : ShowContent × ℕ → Console
-new_console s = begun s.0 0 s.1
+new_console s = new_life s.0 0 s.1
 
 abbrev pub new_world : List (ShowContent × ℕ) → List (List Port) → World
 new_world shows setups = record { consoles = map new_console shows; sent = []; nodes = map node_of setups }

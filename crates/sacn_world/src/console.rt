@@ -2,7 +2,7 @@
 
 ghost use Rattle.std.specs.Prelude.{◌≡◌, ◌+◌, OnOk, OnErr, IfOk};
 ghost use Rattle.sacn_world.specs.Wire.{AreFiled, sent_datagram};
-ghost use Rattle.sacn_world.specs.Worlds.{begun};
+ghost use Rattle.sacn_world.specs.Worlds.{new_life};
 
 use crate::datagram::{SentDatagram, stream_next};
 use sacn_console::{ConsoleCore, Show};
@@ -20,7 +20,7 @@ pub struct Console {
 impl Console {
     /// A console in its life 0.
     pub(crate) fn new(alloc: Global, show: Show, first: u8) -> Result<Self, AllocError>
-        ensures { IfOk result (λ c. c ≡ begun show 0 first) }
+        ensures { IfOk result (λ c. c ≡ new_life show 0 first) }
     {
         match ConsoleCore::new(alloc, &show, first) {
             Ok(core) => Ok(Console {
@@ -35,7 +35,7 @@ impl Console {
 
     /// Begins a new life. Nothing changes where there is no room for its core, or no number for it.
     pub(crate) fn restart(&mut self, alloc: Global, first: u8) -> Result<(), AllocError>
-        ensures begun { OnOk result (self.new ≡ begun self.old.show (self.old.life + 1) first) }
+        ensures begun { OnOk result (self.new ≡ new_life self.old.show (self.old.life + 1) first) }
         ensures unchanged { OnErr result (self.new ≡ self.old) }
     {
         let Some(life) = self.life.checked_add(1) else {

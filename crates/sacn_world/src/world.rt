@@ -6,7 +6,7 @@ ghost use Rattle.sacn_world.specs.Watches.{new_watch};
 ghost use Rattle.sacn_world.specs.declared.fault.NewFault.TheVariants.{SameCid, OutOfMemory};
 ghost use Rattle.sacn_world.specs.Runs.{ran, Stopped};
 ghost use Rattle.sacn_schedule.specs.Cids.{has_same_cid};
-ghost use Rattle.sacn_world.specs.Worlds.{step, new_world, new_console, Apart, shown, place_at, row_at};
+ghost use Rattle.sacn_world.specs.Worlds.{step, new_world, new_console, Apart, answer_to_look, place_at, row_at};
 
 use crate::answer::Answer;
 use crate::console::Console;
@@ -278,7 +278,7 @@ fn in_own_length(alloc: Global, room: Vec<u8>, out: &[u8; MAX_DATAGRAM], len: us
 
 /// The answer to a look: a frame, where the node has the port.
 fn look_answer(frame: Option<[u8; 513]>) -> Answer
-    ensures { result ≡ shown frame }
+    ensures { result ≡ answer_to_look frame }
 {
     match frame {
         Some(frame) => Answer::Shown(frame),

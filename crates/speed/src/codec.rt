@@ -136,7 +136,7 @@ fn write<C: Clock, O: Write>(clock: &C, out: &mut O, calls: u64) -> Result<(), S
     turn::compared(clock, out, WRITE, calls, (&mut work, &mut plain))
 }
 
-pub fn measured<C: Clock, O: Write>(clock: &C, out: &mut O, calls: u64) -> Result<(), SpeedFault> {
+pub fn measure<C: Clock, O: Write>(clock: &C, out: &mut O, calls: u64) -> Result<(), SpeedFault> {
     read(clock, out, calls, READ, 100)?;
     read(clock, out, calls, REFUSE, 201)?;
     write(clock, out, calls)

@@ -85,16 +85,16 @@ fn settled(alloc: Global, show: &Show) -> Result<Polling, SpeedFault> {
     Ok(polling)
 }
 
-pub fn measured<R: AllocGlobal + Clock, O: Write>(rt: &R, out: &mut O) -> Result<(), SpeedFault> {
+pub fn measure<R: AllocGlobal + Clock, O: Write>(rt: &R, out: &mut O) -> Result<(), SpeedFault> {
     let text = show_text(rt.alloc())?;
     let show = read_show(rt.alloc(), text.as_str())?;
     let mut loading = Loading {
         alloc: rt.alloc(),
         text,
     };
-    turn::measured(rt, out, LOAD, 1, &mut loading)?;
+    turn::measure(rt, out, LOAD, 1, &mut loading)?;
     let mut polling = settled(rt.alloc(), &show)?;
-    turn::measured(rt, out, IDLE, 10_000, &mut polling)?;
+    turn::measure(rt, out, IDLE, 10_000, &mut polling)?;
     polling.now = polling.now.saturating_add(25);
     let now = polling.now;
     // Channel 1 is on every universe.
@@ -102,5 +102,5 @@ pub fn measured<R: AllocGlobal + Clock, O: Write>(rt: &R, out: &mut O) -> Result
         Ok(()) => {}
         Err(_) => return Err(SpeedFault::Command),
     }
-    turn::measured(rt, out, CHANGE, 1024, &mut polling)
+    turn::measure(rt, out, CHANGE, 1024, &mut polling)
 }

@@ -228,17 +228,17 @@ fn faded<R: AllocGlobal + Clock, O: Write>(
     Ok(fading)
 }
 
-pub fn measured<R: AllocGlobal + Clock, O: Write>(rt: &R, out: &mut O) -> Result<(), SpeedFault> {
+pub fn measure<R: AllocGlobal + Clock, O: Write>(rt: &R, out: &mut O) -> Result<(), SpeedFault> {
     let fading = faded(rt, out, FOUR, 3000, (4, 512))?;
     let mut idling = Idling { fading };
-    turn::measured(rt, out, IDLE, 10_000, &mut idling)?;
+    turn::measure(rt, out, IDLE, 10_000, &mut idling)?;
     faded(rt, out, MANY, 30_000, (64, 512))?;
     faded(rt, out, MOST, 100_000, (1024, 27))?;
     let half = begin_fading(rt.alloc(), 1024, 27, CHANNELS / 2)?;
     let mut passing = Passing { fading: half };
-    turn::measured(rt, out, HALF, 5000, &mut passing)?;
+    turn::measure(rt, out, HALF, 5000, &mut passing)?;
     let mut sleeping = Sleeping {
         core: passing.fading.core,
     };
-    turn::measured(rt, out, SLEEP, 10_000, &mut sleeping)
+    turn::measure(rt, out, SLEEP, 10_000, &mut sleeping)
 }

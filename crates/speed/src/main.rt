@@ -61,32 +61,32 @@ fn first_word<R: AllocGlobal + Env>(rt: &R) -> io::Result<Option<String>> {
     Ok(words.next())
 }
 
-fn all_named<O: Write>(out: &mut O) -> Result<(), SpeedFault> {
+fn name_all<O: Write>(out: &mut O) -> Result<(), SpeedFault> {
     for name in MEASURES {
         writeln!(out, "{name}")?;
     }
     Ok(())
 }
 
-fn all_measured<R: AllocGlobal + Clock, O: Write>(
+fn measure_all<R: AllocGlobal + Clock, O: Write>(
     rt: &R,
     out: &mut O,
     thousands: u64,
 ) -> Result<(), SpeedFault> {
     let calls = thousands.saturating_mul(1000);
-    codec::measured(rt, out, calls)?;
-    sources::measured(rt, out, calls)?;
-    nodes::measured(rt, out, calls)?;
-    consoles::measured(rt, out)?;
-    fades::measured(rt, out)?;
-    players::measured(rt, out)
+    codec::measure(rt, out, calls)?;
+    sources::measure(rt, out, calls)?;
+    nodes::measure(rt, out, calls)?;
+    consoles::measure(rt, out)?;
+    fades::measure(rt, out)?;
+    players::measure(rt, out)
 }
 
 fn run<R: AllocGlobal + Clock + Env, O: Write>(rt: &R, out: &mut O) -> Result<(), SpeedFault> {
     match first_word(rt)? {
-        None => all_named(out),
+        None => name_all(out),
         Some(word) => match word.as_str().parse::<u64>() {
-            Ok(thousands) => all_measured(rt, out, thousands),
+            Ok(thousands) => measure_all(rt, out, thousands),
             Err(_) => Err(SpeedFault::Word),
         },
     }

@@ -256,17 +256,17 @@ fn pass<R: AllocGlobal + Clock, O: Write>(
 ) -> Result<(), SpeedFault> {
     let mut other = Other { full: filled(rt)? };
     other.full.octets[0][114] = 17;
-    turn::measured(rt, out, OTHER, calls, &mut other)
+    turn::measure(rt, out, OTHER, calls, &mut other)
 }
 
-pub fn measured<R: AllocGlobal + Clock, O: Write>(
+pub fn measure<R: AllocGlobal + Clock, O: Write>(
     rt: &R,
     out: &mut O,
     calls: u64,
 ) -> Result<(), SpeedFault> {
-    turn::measured(rt, out, IGNORE, calls, &mut fed(rt, 8)?)?;
+    turn::measure(rt, out, IGNORE, calls, &mut fed(rt, 8)?)?;
     show(rt, out, calls)?;
     show_full(rt, out, calls)?;
     pass(rt, out, calls)?;
-    turn::measured(rt, out, TICK, calls, &mut Ticking { full: filled(rt)? })
+    turn::measure(rt, out, TICK, calls, &mut Ticking { full: filled(rt)? })
 }

@@ -156,7 +156,7 @@ fn compared<R: AllocGlobal + Clock, O: Write>(
     turn::compared(rt, out, name, 3500, (&mut ours, &mut plain))
 }
 
-pub fn measured<R: AllocGlobal + Clock, O: Write>(rt: &R, out: &mut O) -> Result<(), SpeedFault> {
+pub fn measure<R: AllocGlobal + Clock, O: Write>(rt: &R, out: &mut O) -> Result<(), SpeedFault> {
     compared(rt, out, HUNDRED, 100, Way::To(100))?;
     compared(rt, out, THOUSAND, 1000, Way::To(1000))?;
     compared(rt, out, EACH, 1000, Way::Through(1000))

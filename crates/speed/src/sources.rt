@@ -159,7 +159,7 @@ fn merge<R: AllocGlobal + Clock, O: Write>(
     turn::compared(rt, out, name, calls, (&mut work, &mut plain))
 }
 
-pub fn measured<R: AllocGlobal + Clock, O: Write>(
+pub fn measure<R: AllocGlobal + Clock, O: Write>(
     rt: &R,
     out: &mut O,
     calls: u64,

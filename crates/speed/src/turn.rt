@@ -57,7 +57,7 @@ fn percent(ours: [u64; ROUNDS], plain: [u64; ROUNDS]) -> u64 {
 }
 
 /// Makes the calls in rounds, and prints what one of them took.
-pub fn measured<C: Clock, O: Write, T: Turn>(
+pub fn measure<C: Clock, O: Write, T: Turn>(
     clock: &C,
     out: &mut O,
     name: &str,

@@ -44,7 +44,7 @@ const ENHANCED: [u8; 28] =
 
 const ENHANCED_END: [u8; 6] = *b"\0\0\x50\0\0\0";
 
-fn joined(alloc: Global, parts: &[&[u8]]) -> Result<Vec<u8>, AllocError> {
+fn join(alloc: Global, parts: &[&[u8]]) -> Result<Vec<u8>, AllocError> {
     let mut text = Vec::new(alloc);
     for part in parts {
         text.extend_from_slice(part)?;
@@ -70,7 +70,7 @@ fn tell(text: &mut String, content: &Result<Datagram<'_>, Passed>) -> Result<(),
 }
 
 fn told_frame(alloc: Global, link: LinkType, parts: &[&[u8]]) -> Result<String, AllocError> {
-    let frame = joined(alloc, parts)?;
+    let frame = join(alloc, parts)?;
     let mut text = String::new(alloc);
     tell(&mut text, &datagram_in(link, &frame))?;
     Ok(text)
@@ -78,7 +78,7 @@ fn told_frame(alloc: Global, link: LinkType, parts: &[&[u8]]) -> Result<String, 
 
 /// A line for each frame, its moment first, and at last the end or the fault.
 fn capture_text(alloc: Global, parts: &[&[u8]]) -> Result<String, AllocError> {
-    let file = joined(alloc, parts)?;
+    let file = join(alloc, parts)?;
     let mut text = String::new(alloc);
     match Capture::open(alloc, file.as_slice()) {
         Ok(mut capture) => tell_all(&mut text, &mut capture)?,
@@ -257,7 +257,7 @@ fn two_sections_have_two_orders(rt: HostRuntime) -> Result<(), Fail> {
     ];
     let text = capture_text(
         rt.alloc(),
-        &[&joined(rt.alloc(), &parts)?, &PACKET, b"\0\0\0\x30"],
+        &[&join(rt.alloc(), &parts)?, &PACKET, b"\0\0\0\x30"],
     )?;
     let first = "1000500 10.0.0.1:1000 > 239.255.0.1:5568, 4; ";
     assert!(rt; text.as_str().starts_with(first));

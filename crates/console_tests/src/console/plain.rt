@@ -253,7 +253,7 @@ pub(super) fn history_of(deeds: &[Deed], universe: u16) -> History {
     history
 }
 
-fn passed(history: History, wait: u64, now: u64) -> bool {
+fn has_passed(history: History, wait: u64, now: u64) -> bool {
     match history.last {
         Some(last) => now.saturating_sub(last) >= wait,
         None => true,
@@ -263,10 +263,10 @@ fn passed(history: History, wait: u64, now: u64) -> bool {
 /// Whether a universe of which the list says this is due, where its slot 1 would be `slot`.
 pub(super) fn is_due(history: History, slot: u8, now: u64) -> bool {
     if history.is_ended {
-        return history.terminations < 3 && passed(history, 25, now);
+        return history.terminations < 3 && has_passed(history, 25, now);
     }
     let is_new = history.shown != Some(slot);
-    passed(history, 25, now) && (is_new || history.follow < 3) || passed(history, 900, now)
+    has_passed(history, 25, now) && (is_new || history.follow < 3) || has_passed(history, 900, now)
 }
 
 /// The moment of the latest page.

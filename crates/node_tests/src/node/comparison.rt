@@ -1,7 +1,7 @@
 //! The node beside a plain program.
 use super::plain_node::{PlainNode, Said};
 use super::{THREE_PORTS, give, has_slots};
-use crate::sent::{Numbers, Sent, cid_of};
+use crate::packet_rows::{Numbers, Sent, cid_of};
 use sacn_node::{NodeCore, NodeSetup, NodeTaken, PortSetup, read_node};
 use sacn_sources::Kind;
 use std::alloc::AllocError;

@@ -1,6 +1,6 @@
 //! Octets that are no data packet of the node.
 use super::{Step, is_so, node_of};
-use crate::sent::Numbers;
+use crate::packet_rows::Numbers;
 use fixtures::packets::{empty_page, sync};
 use fixtures::texts::ONE_PORT;
 use sacn_framing::read_packet;

@@ -42,7 +42,7 @@ fn packets_are_written(rt: HostRuntime) -> Result<(), Fail> {
 }
 
 /// What a packet says, to be written anew.
-fn said<'a>(view: &DataView<'a>) -> DataFields<'a>
+fn fields_of<'a>(view: &DataView<'a>) -> DataFields<'a>
     ensures priority { result.priority ≡ view.now.priority }
     ensures universe { result.universe ≡ view.now.universe }
     ensures slots { result.slots.now ≡ view.now.slots }
@@ -73,7 +73,7 @@ fn rewritten(octets: &[u8]) -> Option<[u8; 638]> {
     let _universe = view.universe();
     let _slots = view.slots();
     let mut out = [0xaa; 638];
-    write_data(&said(&view), &mut out);
+    write_data(&fields_of(&view), &mut out);
     Some(out)
 }
 

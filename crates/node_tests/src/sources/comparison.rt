@@ -1,7 +1,7 @@
 //! The table beside the plain program, call by call.
 ghost use Rattle.std.specs.Prelude.{◌<◌};
 
-use crate::sent::{Numbers, Sent, cid_of, write_sent};
+use crate::packet_rows::{Numbers, Sent, cid_of, write_sent};
 use sacn_framing::{Packet, read_packet};
 use sacn_slots::Levels;
 use sacn_sources::plain::PlainTable;

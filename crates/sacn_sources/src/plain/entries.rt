@@ -5,12 +5,12 @@ ghost use Rattle.arrayvec.specs.ArrayVec.{array_vec_len};
 ghost use Rattle.sacn_sources.specs.declared.plain.entries.PlainEntry.{PlainEntry as Stored};
 ghost use Rattle.sacn_sources.specs.Rows.{row_live};
 ghost use Rattle.sacn_sources.specs.Packets.{packet_of};
-ghost use Rattle.sacn_sources.specs.PlainStored.{plain_row};
+ghost use Rattle.sacn_sources.specs.PlainStorage.{plain_row};
 
-use crate::held::HeldView;
+use crate::answer::Taken;
+use crate::held_view::HeldView;
 use crate::kind::{Kind, kind_of};
 use crate::limits::{MAX_SOURCES, NETWORK_DATA_LOSS};
-use crate::taken::Taken;
 use arrayvec::ArrayVec;
 use sacn_framing::DataView;
 use sacn_sequence::in_sequence;
@@ -50,7 +50,7 @@ pub(crate) struct Entries {
 
 impl Model for Entries {
     ghost use Rattle.sacn_sources.specs.Rows.{Table, table_code};
-    ghost use Rattle.sacn_sources.specs.PlainStored.{plain_rows, AreOrdered};
+    ghost use Rattle.sacn_sources.specs.PlainStorage.{plain_rows, AreOrdered};
 
     ghost Value = { Table };
 
@@ -64,7 +64,7 @@ impl Model for Entries {
 impl Entries {
     ghost use Rattle.sacn_sequence.specs.Sequence.{is_late};
     ghost use Rattle.sacn_sources.specs.Rows.{Row, new_table, row_renewed, rows_kept, rows_lost, row_of, put_row, row_ended, row_observed, taken, take_row, after_expire, slots_of};
-    ghost use Rattle.sacn_sources.specs.Kept.{loses_live};
+    ghost use Rattle.sacn_sources.specs.LatestMerge.{loses_live};
     ghost use Rattle.sacn_sources.specs.Places.{IsAt, IsGap};
 
     /// No sources.

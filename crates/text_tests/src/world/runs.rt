@@ -57,7 +57,7 @@ fn said_of_table(taken: Taken) -> Said {
 }
 
 /// Slots 1, 9 and 10 of a frame whose other octets are 0.
-fn lit(frame: &[u8; 513]) -> Said {
+fn first_lit(frame: &[u8; 513]) -> Said {
     let rest = frame[2..9].iter().all(|level| *level == 0);
     if rest && frame[0] == 0 && frame[11..].iter().all(|level| *level == 0) {
         Said::Lit(frame[1], frame[9], frame[10])
@@ -71,7 +71,7 @@ fn word_of(answer: &Answer) -> Said {
         Answer::Ordered(Ok(())) => Said::Ordered,
         Answer::Sent(number) => Said::Sent(*number),
         Answer::Taken(NodeTaken::FromTable(taken)) => said_of_table(*taken),
-        Answer::Shown(frame) => lit(frame),
+        Answer::Shown(frame) => first_lit(frame),
         Answer::NoSuchPort => Said::NoPort,
         _ => Said::Other,
     }

@@ -1,5 +1,5 @@
 use Rattle.std.proofs.Common.{rules, ◌-◌, length}
-use Rattle.sacn_capture.proofs.Filled.{filled_more}
+use Rattle.sacn_capture.proofs.Filling.{filled_more}
 use Rattle.sacn_capture.proofs.input.read_full.Goals as goal
 
 pub loop-preserved : goal.loop-preserved

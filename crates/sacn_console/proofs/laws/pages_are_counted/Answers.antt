@@ -1,4 +1,4 @@
-use Rattle.sacn_console.proofs.Counted.{pages_are_counted}
+use Rattle.sacn_console.proofs.PageCounting.{pages_are_counted}
 use Rattle.sacn_console.proofs.laws.pages_are_counted.Goals as goal
 
 pub returns : goal.returns

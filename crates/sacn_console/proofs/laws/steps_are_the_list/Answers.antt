@@ -1,4 +1,4 @@
-use Rattle.sacn_console.proofs.Kept.{steps_are_the_list}
+use Rattle.sacn_console.proofs.CoreInvariant.{steps_are_the_list}
 use Rattle.sacn_console.proofs.laws.steps_are_the_list.Goals as goal
 
 pub returns : goal.returns

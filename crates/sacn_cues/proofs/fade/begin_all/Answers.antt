@@ -1,7 +1,7 @@
 use Rattle.std.proofs.Common.{rules, ◌<◌, length, sym, ap, ◌∙◌, arith}
 use Rattle.std.proofs.lemmas.List.{length-set}
 use Rattle.sacn_cues.specs.Levels.{still}
-use Rattle.sacn_cues.proofs.Begun.{one_more_given, all_given}
+use Rattle.sacn_cues.proofs.FadeStarts.{one_more_given, all_given}
 use Rattle.sacn_cues.proofs.fade.begin_all.Goals as goal
 
 pub loop-at-preserved : goal.loop-at-preserved

@@ -1,6 +1,6 @@
 use Rattle.std.proofs.Common.{◌≡◌, length}
 use Rattle.sacn_cues.specs.Levels.{begun_to}
-use Rattle.sacn_cues.proofs.Begun.{blanked}
+use Rattle.sacn_cues.proofs.FadeStarts.{blanked}
 use Rattle.sacn_cues.proofs.fade.begin_all.Given as goal
 
 abbrev pub invariant-loop-at : goal.invariant-loop-at

@@ -1,7 +1,7 @@
 use Rattle.std.proofs.Common.{ap, ◌∙◌, get_or, None}
 use Rattle.std.proofs.lemmas.List.{get_or_default}
 use Rattle.sacn_cues.specs.Levels.{begun_if_given, given_to}
-use Rattle.sacn_cues.proofs.Begun.{one_begun}
+use Rattle.sacn_cues.proofs.FadeStarts.{one_begun}
 use Rattle.sacn_cues.proofs.fade.begin_at.Goals as goal
 
 pub returns-clause-fades : goal.returns-clause-fades

@@ -1,7 +1,7 @@
 use Rattle.std.proofs.Common.{◌-◌, Some, ap, ◌∙◌, arith}
 use Rattle.std.proofs.lemmas.List.{get_or_default}
 use Rattle.sacn_cues.specs.Levels.{begun_if_given}
-use Rattle.sacn_cues.proofs.Begun.{one_set}
+use Rattle.sacn_cues.proofs.FadeStarts.{one_set}
 use Rattle.sacn_cues.proofs.fade.set_one.Goals as goal
 
 pub returns : goal.returns

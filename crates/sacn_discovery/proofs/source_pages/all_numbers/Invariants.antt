@@ -1,6 +1,6 @@
 use Rattle.std.proofs.Common.{◌≡◌, drop}
-use Rattle.sacn_discovery.specs.Known.{joined}
-use Rattle.sacn_discovery.specs.Shown.{pages_of}
+use Rattle.sacn_discovery.specs.Collection.{joined}
+use Rattle.sacn_discovery.specs.SourceViews.{pages_of}
 use Rattle.sacn_discovery.proofs.Loops.{with_rest}
 use Rattle.sacn_discovery.proofs.source_pages.all_numbers.Given as goal
 

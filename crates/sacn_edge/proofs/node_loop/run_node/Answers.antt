@@ -11,7 +11,7 @@ use Rattle.sacn_edge.specs.PortLines.{port_after}
 use Rattle.sacn_edge.specs.PortChanges.{AreCurrentBut}
 use Rattle.sacn_edge.proofs.Changing.{all_but, still_but, current_but}
 use Rattle.sacn_edge.proofs.PortLineLemmas.{Adds-nil}
-use Rattle.sacn_edge.proofs.Settled.{turn_settled}
+use Rattle.sacn_edge.proofs.Settling.{turn_settled}
 use Rattle.sacn_edge.proofs.NodeLemmas.{rising_distinct, numbers, numbers_unshown, nothing_shown, Remembers, more_text, more_remembered, more_numbers, stops_in, turned_more, counted, put_back, nothing_told}
 use Rattle.sacn_edge.proofs.node_loop.run_node.Goals as goal
 

@@ -1,7 +1,7 @@
 use Rattle.std.proofs.Common.{◌++◌}
 use Rattle.sacn_explain.specs.declared.options.Form.{Form}
 use Rattle.sacn_explain.specs.Tables.{lists_told, refusals_told, universes_told}
-use Rattle.sacn_explain.specs.Tellings.{ended}
+use Rattle.sacn_explain.specs.Tellings.{with_line_end}
 use Rattle.sacn_explain.specs.Totals.{counts_row}
 use Rattle.sacn_explain.proofs.Telling.{then}
 use Rattle.sacn_explain.proofs.tables.tell_tables.Goals as goal
@@ -16,7 +16,7 @@ returns g c =
     let streams = c.args.streams.now in
     let listings = c.args.listings.now in
     let report = c.args.report.now in
-    let counts = λ (form : Form). ended (counts_row form report) in
+    let counts = λ (form : Form). with_line_end (counts_row form report) in
     let refusals = λ (form : Form). refusals_told form report.tally ++ counts form in
     let lists = λ (form : Form). lists_told form streams listings ++ refusals form in
     let universes = λ (form : Form). universes_told form wanted report.length streams ++ lists form in

@@ -4,7 +4,7 @@ use Rattle.sacn_dmp.specs.DmpText.{dmp_of}
 use Rattle.sacn_framing.specs.Data.{Data, IsData}
 use Rattle.sacn_framing.specs.FramingText.{framing_of}
 use Rattle.sacn_framing.proofs.Packets.{joined}
-use Rattle.sacn_framing.proofs.Shown.{data_shown, data_laid_out, data_is}
+use Rattle.sacn_framing.proofs.ViewOctets.{data_shown, data_laid_out, data_is}
 use Rattle.sacn_framing.proofs.packet.data_packet.Goals as goal
 
 pub invariant_of-result : goal.invariant_of-result

@@ -4,7 +4,7 @@ use Rattle.sacn_root.specs.RootText.{root_of}
 use Rattle.sacn_framing.specs.Page.{Page, IsPage}
 use Rattle.sacn_framing.specs.PageText.{page_layer_of}
 use Rattle.sacn_framing.specs.PageLayers.{page_of}
-use Rattle.sacn_framing.proofs.Shown.{page_shown, page_laid_out, page_is}
+use Rattle.sacn_framing.proofs.ViewOctets.{page_shown, page_laid_out, page_is}
 use Rattle.sacn_framing.proofs.packet.extended_packet.Goals as goal
 
 pub invariant_of-result : goal.invariant_of-result

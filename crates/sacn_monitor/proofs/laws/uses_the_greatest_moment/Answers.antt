@@ -1,4 +1,4 @@
-use Rattle.sacn_monitor.proofs.Tracked.{moments}
+use Rattle.sacn_monitor.proofs.Tracking.{moments}
 use Rattle.sacn_monitor.proofs.laws.uses_the_greatest_moment.Goals as goal
 
 pub returns : goal.returns

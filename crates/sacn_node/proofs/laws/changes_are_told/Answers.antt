@@ -1,4 +1,4 @@
-use Rattle.sacn_node.proofs.Changed.{slots_are_kept, frames_are_kept}
+use Rattle.sacn_node.proofs.StableFrames.{slots_are_kept, frames_are_kept}
 use Rattle.sacn_node.proofs.laws.changes_are_told.Goals as goal
 
 pub returns-clause-slots : goal.returns-clause-slots

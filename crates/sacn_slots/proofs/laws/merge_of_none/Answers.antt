@@ -1,4 +1,4 @@
-use Rattle.sacn_slots.proofs.Merged.{merges_nothing_to_zeros}
+use Rattle.sacn_slots.proofs.Merging.{merges_nothing_to_zeros}
 use Rattle.sacn_slots.proofs.laws.merge_of_none.Goals as goal
 
 pub returns : goal.returns

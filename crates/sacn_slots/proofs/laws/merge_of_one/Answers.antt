@@ -1,4 +1,4 @@
-use Rattle.sacn_slots.proofs.Merged.{merges_one_to_itself}
+use Rattle.sacn_slots.proofs.Merging.{merges_one_to_itself}
 use Rattle.sacn_slots.proofs.laws.merge_of_one.Goals as goal
 
 pub returns : goal.returns

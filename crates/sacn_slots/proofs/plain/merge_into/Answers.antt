@@ -1,7 +1,7 @@
 use Rattle.std.proofs.Common.{◌≡◌, ℕ, ◌<◌, get_or, map, arith}
 use Rattle.sacn_slots.specs.Layers.{shown_of}
 use Rattle.sacn_slots.specs.Merge.{merged_level}
-use Rattle.sacn_slots.proofs.Merged.{merge_is, merged_levels_are}
+use Rattle.sacn_slots.proofs.Merging.{merge_is, merged_levels_are}
 use Rattle.sacn_slots.proofs.plain.merge_into.Goals as goal
 
 pub returns-clause-merged : goal.returns-clause-merged

@@ -1,5 +1,5 @@
 use Rattle.std.proofs.Common.{◌∙◌, ap}
-use Rattle.sacn_discovery.specs.Known.{nothing_known}
+use Rattle.sacn_discovery.specs.Collection.{nothing_known}
 use Rattle.sacn_edge.specs.Additions.{Adds}
 use Rattle.sacn_text.specs.Decoding.{decoded, octets_of}
 use Rattle.sacn_text.specs.declared.marked_writer.MarkedWriter.{MarkedWriter}

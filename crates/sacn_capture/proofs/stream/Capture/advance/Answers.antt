@@ -1,5 +1,5 @@
 use Rattle.std.proofs.Common.{sym, subst, ◌∙◌}
-use Rattle.sacn_capture.proofs.Told.{stays_on}
+use Rattle.sacn_capture.proofs.StepAnswers.{stays_on}
 use Rattle.sacn_capture.specs.declared.stream.Capture.{Capture}
 use Rattle.sacn_capture.specs.declared.stream.Step.TheVariants.{Ended, Found}
 use Rattle.sacn_capture.specs.Streams.{IsPcap, StepReads, left_in, to_come}

@@ -1,11 +1,11 @@
 use Rattle.std.proofs.Common.{rules, ℕ, Ok, Some, refl, sym, subst, ap, ◌∙◌}
 use Rattle.std.proofs.lemmas.Result.{err_from_is_err_and}
 use Rattle.sacn_capture.specs.declared.pieces.Pieces.{Pieces}
-use Rattle.sacn_capture.specs.Counting.{counted, passed_by}
-use Rattle.sacn_capture.specs.Kept.{content_in}
+use Rattle.sacn_capture.specs.Counting.{count_frame, passed_by}
+use Rattle.sacn_capture.specs.Placement.{content_in}
 use Rattle.sacn_capture.specs.Recordings.{Shown}
 use Rattle.sacn_capture.specs.Streams.{Gives, ReadsRecord, shown_of, to_come}
-use Rattle.sacn_capture.proofs.Told.{shown_is, same_to_come}
+use Rattle.sacn_capture.proofs.StepAnswers.{shown_is, same_to_come}
 use Rattle.sacn_capture.proofs.stream.Capture.next.Goals as goal
 
 pub returns-in-None : goal.returns-in-None
@@ -32,7 +32,7 @@ returns-in-Some g c =
         λ _. tt,
         (
           subst (λ t. Gives (Ok (Some (shown_of c.record_of.result))) (to_come remaining c.args.self.now) t) (sym (same_to_come remaining told read c.count.ensures.pieces c.count.ensures.stopped)) given,
-          c.count.ensures.counts ∙ (λ i. counted (passed_by (sym content i)) (c.in_ok-frame.ensures.counts i)),
+          c.count.ensures.counts ∙ (λ i. count_frame (passed_by (sym content i)) (c.in_ok-frame.ensures.counts i)),
         ),
       ),
       record {

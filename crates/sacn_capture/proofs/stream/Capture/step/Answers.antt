@@ -1,6 +1,6 @@
 use Rattle.std.proofs.Common.{None, Ok, Err, Option, ap, sym, subst, ◌∙◌}
 use Rattle.std.proofs.lemmas.Result.{err_from_is_err_and}
-use Rattle.sacn_capture.proofs.Told.{record_kept, step_found, step_nothing, step_failed}
+use Rattle.sacn_capture.proofs.StepAnswers.{record_kept, step_found, step_nothing, step_failed}
 use Rattle.sacn_capture.specs.declared.faults.CaptureFault.{CaptureFault}
 use Rattle.sacn_capture.specs.declared.stream.Step.TheVariants.{Found, Nothing}
 use Rattle.sacn_capture.specs.Recordings.{State}

@@ -6,7 +6,7 @@ use Rattle.sacn_cues.specs.Levels.{Ramp, Running, Given, given_to, all_begun, is
 use Rattle.sacn_cues.specs.Cues.{level_of_channel}
 use Rattle.sacn_cues.specs.Targets.{Targets}
 use Rattle.sacn_cues.specs.Playing.{longer}
-use Rattle.sacn_cues.proofs.Begun.{length-all_begun}
+use Rattle.sacn_cues.proofs.FadeStarts.{length-all_begun}
 use Rattle.sacn_cues.proofs.Stillness.{cue_over}
 use Rattle.sacn_cues.proofs.fades.Fades.play.Goals as goal
 

@@ -3,7 +3,7 @@ use Rattle.std.proofs.lemmas.List.{with_items_is}
 use Rattle.std.specs.List.{list_all}
 use Rattle.sacn_cues.specs.Levels.{Ramp, Running, Given, given_to, all_begun, is_over_by, end_of}
 use Rattle.sacn_cues.specs.Tracks.{AreTargets}
-use Rattle.sacn_cues.proofs.Begun.{begun_there, length-all_begun}
+use Rattle.sacn_cues.proofs.FadeStarts.{begun_there, length-all_begun}
 use Rattle.sacn_cues.proofs.Stillness.{cue_over}
 use Rattle.sacn_cues.proofs.fades.Fades.play_to.Goals as goal
 

@@ -2,7 +2,7 @@ use Rattle.std.proofs.Common.{◌≡◌, ℕ, List, length, ap, ◌∙◌, arith
 use Rattle.std.proofs.lemmas.List.{with_items_is}
 use Rattle.std.specs.List.{list_all}
 use Rattle.sacn_cues.specs.Levels.{Ramp, set_to, all_begun, is_over_by}
-use Rattle.sacn_cues.proofs.Begun.{length-all_begun}
+use Rattle.sacn_cues.proofs.FadeStarts.{length-all_begun}
 use Rattle.sacn_cues.proofs.Stillness.{set_over}
 use Rattle.sacn_cues.proofs.fades.Fades.set.Goals as goal
 

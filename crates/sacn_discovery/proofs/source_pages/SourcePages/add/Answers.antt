@@ -1,4 +1,4 @@
-use Rattle.sacn_discovery.proofs.Kept.{added}
+use Rattle.sacn_discovery.proofs.MorePages.{added}
 use Rattle.sacn_discovery.proofs.source_pages.SourcePages.add.Goals as goal
 
 pub returns : goal.returns

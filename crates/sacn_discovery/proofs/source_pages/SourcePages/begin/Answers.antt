@@ -1,4 +1,4 @@
-use Rattle.sacn_discovery.proofs.Kept.{begun}
+use Rattle.sacn_discovery.proofs.MorePages.{begun}
 use Rattle.sacn_discovery.proofs.source_pages.SourcePages.begin.Goals as goal
 
 pub returns : goal.returns

@@ -1,7 +1,7 @@
 use Rattle.std.proofs.Common.{◌==◌, ap, ◌∙◌}
 use Rattle.std.specs.List.{list_any}
 use Rattle.sacn_node.specs.Cores.{Node, core_slots}
-use Rattle.sacn_node.proofs.Changed.{neither}
+use Rattle.sacn_node.proofs.StableFrames.{neither}
 use Rattle.sacn_edge.proofs.Changing.{take_told}
 use Rattle.sacn_edge.proofs.changes.Changes.take.Goals as goal
 

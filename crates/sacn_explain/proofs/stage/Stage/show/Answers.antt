@@ -1,7 +1,7 @@
 use Rattle.std.proofs.Common.{◌≡◌, sym, subst}
 use Rattle.sacn_node.specs.Cores.{Node, core_at}
 use Rattle.sacn_edge.specs.Hearings.{Silence}
-use Rattle.sacn_edge.proofs.Settled.{turn_settled}
+use Rattle.sacn_edge.proofs.Settling.{turn_settled}
 use Rattle.sacn_explain.proofs.stage.Stage.show.Goals as goal
 
 pub show_ports-requires : goal.show_ports-requires

@@ -2,8 +2,8 @@ use Rattle.std.proofs.Common.{List, All, sym, subst, ap, ◌∙◌}
 use Rattle.sacn_node.specs.declared.setup.SlotRange.{SlotRange}
 use Rattle.sacn_node.specs.Setup.{Port}
 use Rattle.sacn_node.specs.Ports.{IsShown, port_of}
-use Rattle.sacn_node.proofs.Expired.{core_twice}
-use Rattle.sacn_node.proofs.Prepared.{found_has}
+use Rattle.sacn_node.proofs.Expiry.{core_twice}
+use Rattle.sacn_node.proofs.Guarantees.{found_has}
 use Rattle.sacn_node.proofs.node.NodeCore.frame.Goals as goal
 
 pub fill_frame-requires-clause-expired : goal.fill_frame-requires-clause-expired

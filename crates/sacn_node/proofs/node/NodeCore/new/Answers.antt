@@ -1,7 +1,7 @@
 use Rattle.std.proofs.Common.{sym, subst, ◌∙◌, ap}
 use Rattle.sacn_node.specs.Setup.{universes}
 use Rattle.sacn_universe.specs.Universe.{Rising}
-use Rattle.sacn_node.proofs.Prepared.{universes_rise}
+use Rattle.sacn_node.proofs.Guarantees.{universes_rise}
 use Rattle.sacn_node.proofs.node.NodeCore.new.Goals as goal
 
 pub new-requires-clause-rising : goal.new-requires-clause-rising

@@ -1,10 +1,10 @@
 use Rattle.std.proofs.Common.{[], length, get_or, ap, sym, ◌∙◌, arith}
 use Rattle.std.proofs.lemmas.List.{length-map}
 use Rattle.sacn_sources.specs.Rows.{rows_kept, row_of}
-use Rattle.sacn_sources.specs.Kept.{new_kept}
+use Rattle.sacn_sources.specs.LatestMerge.{new_kept}
 use Rattle.sacn_node.specs.Cores.{Table, Core, row_on}
 use Rattle.sacn_node.specs.Storage.{seen}
-use Rattle.sacn_node.proofs.Expired.{seen_there}
+use Rattle.sacn_node.proofs.Expiry.{seen_there}
 use Rattle.sacn_node.proofs.Places.{table_at, table_absent}
 use Rattle.sacn_node.proofs.tables.Tables.held.Goals as goal
 

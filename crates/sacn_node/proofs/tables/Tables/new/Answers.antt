@@ -1,7 +1,7 @@
 use Rattle.std.proofs.Common.{ap, sym, subst, ◌∙◌}
 use Rattle.sacn_node.specs.Cores.{Core}
 use Rattle.sacn_node.specs.Storage.{AreTables, core_of}
-use Rattle.sacn_node.proofs.Prepared.{tables_new, seen_new}
+use Rattle.sacn_node.proofs.Guarantees.{tables_new, seen_new}
 use Rattle.sacn_node.proofs.tables.Tables.new.Goals as goal
 
 pub invariant_of-result : goal.invariant_of-result

@@ -1,6 +1,6 @@
 use Rattle.std.proofs.Common.{◌≡◌, ◌<◌, ◌≤◌, ℕ, IfOk, IfErr, length, get_or, subst, rules}
 use Rattle.std.proofs.lemmas.List.Sorted.{answers_always}
-use Rattle.sacn_sources.specs.Kept.{new_kept}
+use Rattle.sacn_sources.specs.LatestMerge.{new_kept}
 use Rattle.sacn_node.specs.declared.tables.OneUniverse.{OneUniverse}
 use Rattle.sacn_node.specs.Cores.{Table, Core}
 use Rattle.sacn_node.proofs.Places.{found, absent, in_bounds}

@@ -1,7 +1,7 @@
 use Rattle.std.proofs.Common.{ℕ, List, [], length, take, drop, get_or, set, ap, sym, ◌∙◌}
 use Rattle.sacn_sources.specs.Rows.{Row, slots_of}
 use Rattle.sacn_node.specs.Cores.{Table, Core, slots_on}
-use Rattle.sacn_node.proofs.Expired.{kept_in, set_itself}
+use Rattle.sacn_node.proofs.Expiry.{kept_in, set_itself}
 use Rattle.sacn_node.proofs.Places.{table_at, table_absent}
 use Rattle.sacn_node.proofs.tables.Tables.slots.Goals as goal
 

@@ -4,7 +4,7 @@ use Rattle.sacn_sources.specs.Wakes.{oldest_by, oldest_of}
 use Rattle.sacn_node.specs.declared.tables.OneUniverse.{OneUniverse}
 use Rattle.sacn_node.specs.Cores.{Core, core_at, core_lost}
 use Rattle.sacn_node.specs.Storage.{seen, core_of, one_expired, lost_in, AreTables}
-use Rattle.sacn_node.proofs.Expired.{seen_expired, lost_expired, tables_expired}
+use Rattle.sacn_node.proofs.Expiry.{seen_expired, lost_expired, tables_expired}
 use Rattle.sacn_node.proofs.Wakes.{oldest_seen}
 use Rattle.sacn_node.proofs.tables.Tables.sweep.Goals as goal
 

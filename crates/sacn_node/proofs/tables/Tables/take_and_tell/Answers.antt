@@ -1,11 +1,11 @@
 use Rattle.std.proofs.Common.{[], ap, sym, ◌∙◌}
 use Rattle.sacn_sources.specs.Rows.{taken}
-use Rattle.sacn_node.specs.declared.taken.NodeTaken.TheVariants.{FromTable}
-use Rattle.sacn_node.specs.declared.taken.NodeChange.{NodeChange}
+use Rattle.sacn_node.specs.declared.answer.NodeTaken.TheVariants.{FromTable}
+use Rattle.sacn_node.specs.declared.answer.NodeChange.{NodeChange}
 use Rattle.sacn_node.specs.Changes.{universe_by}
 use Rattle.sacn_node.specs.Cores.{Table, Core, table_of, core_reply, core_reply_on, core_after}
 use Rattle.sacn_sources.specs.Packets.{packet_of}
-use Rattle.sacn_node.proofs.Expired.{kept_in}
+use Rattle.sacn_node.proofs.Expiry.{kept_in}
 use Rattle.sacn_node.proofs.Places.{table_at, table_absent, core_taken, core_other}
 use Rattle.sacn_node.proofs.tables.Tables.take_and_tell.Goals as goal
 

@@ -1,12 +1,12 @@
 use Rattle.std.proofs.Common.{◌<◌, length, get_or, set, ap, ◌∙◌, arith}
 use Rattle.std.proofs.lemmas.List.{length-map}
 use Rattle.sacn_sources.specs.Rows.{rows_kept, take_row}
-use Rattle.sacn_sources.specs.Kept.{Kept}
+use Rattle.sacn_sources.specs.LatestMerge.{Kept}
 use Rattle.sacn_node.specs.Cores.{Core, with_taken}
 use Rattle.sacn_sources.specs.Packets.{packet_of}
 use Rattle.sacn_node.specs.Storage.{seen}
 use Rattle.sacn_sources.proofs.Wakes.{taken_oldest, kept_oldest}
-use Rattle.sacn_node.proofs.Expired.{one_written, one_stays}
+use Rattle.sacn_node.proofs.Expiry.{one_written, one_stays}
 use Rattle.sacn_node.proofs.tables.Tables.take_at.Goals as goal
 
 pub returns-clause-core : goal.returns-clause-core

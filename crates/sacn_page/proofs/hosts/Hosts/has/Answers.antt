@@ -1,6 +1,6 @@
 -- The names are the texts of what is kept.
 use Rattle.std.proofs.Common.{map, string_bytes, sym, ap, ◌∙◌}
-use Rattle.sacn_page.proofs.Mapped.{among_is}
+use Rattle.sacn_page.proofs.Mapping.{among_is}
 use Rattle.sacn_page.proofs.hosts.Hosts.has.Goals as goal
 
 pub returns : goal.returns

@@ -3,7 +3,7 @@ use Rattle.std.specs.FinMap.{from_entries}
 use Rattle.sacn_patch.specs.Patch.{Patched}
 use Rattle.sacn_patch.specs.Flat.{Row}
 use Rattle.sacn_patch.proofs.Rows.{none_above, none_after}
-use Rattle.sacn_patch.proofs.Shown.{each_below, each_shown, none_each}
+use Rattle.sacn_patch.proofs.ShownChannels.{each_below, each_shown, none_each}
 use Rattle.sacn_patch.proofs.flat.FlatPatch.rests.Goals as goal
 
 pub loop-place-init : goal.loop-place-init

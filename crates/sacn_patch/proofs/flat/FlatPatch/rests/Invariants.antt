@@ -1,6 +1,6 @@
 use Rattle.std.proofs.Common.{drop}
 use Rattle.sacn_patch.proofs.Fills.{of_universe}
-use Rattle.sacn_patch.proofs.Shown.{EachOf}
+use Rattle.sacn_patch.proofs.ShownChannels.{EachOf}
 use Rattle.sacn_patch.proofs.flat.FlatPatch.rests.Given as goal
 
 abbrev pub invariant-loop-place : goal.invariant-loop-place

@@ -1,6 +1,6 @@
 use Rattle.std.proofs.Common.{◌≡◌, ℕ, List, [], Some, refl, ap, sym, subst, ◌∙◌, arith}
 use Rattle.sacn_sources.specs.Rows.{Row, Table, row_live}
-use Rattle.sacn_sources.specs.Stored.{rows_in}
+use Rattle.sacn_sources.specs.Storage.{rows_in}
 use Rattle.sacn_sources.specs.Packets.{packet_of}
 use Rattle.sacn_sources.specs.Rows.{put_row}
 use Rattle.sacn_sources.specs.Places.{IsGap}

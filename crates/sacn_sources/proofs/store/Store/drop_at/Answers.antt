@@ -1,7 +1,7 @@
 use Rattle.std.proofs.Common.{◌≡◌, ◌<◌, ℕ, List, IsSome, length, get_or, is_some, refl, ap, sym, subst, ◌∙◌, arith}
 use Rattle.sacn_sources.specs.Rows.{Row, Table}
 use Rattle.sacn_sources.specs.declared.entry.Entry.{Entry}
-use Rattle.sacn_sources.specs.Stored.{rows_in}
+use Rattle.sacn_sources.specs.Storage.{rows_in}
 use Rattle.std.specs.List.{remove}
 use Rattle.slab.specs.Slab.{get}
 use Rattle.sacn_sources.proofs.Edits.{within_entries, rows_removed, removed_stored, row_there, with_rows}

@@ -2,7 +2,7 @@ use Rattle.std.proofs.Common.{None, get_or, set, refl, ap, sym, subst, ◌∙◌
 use Rattle.sacn_sources.specs.declared.entry.Entry.{Entry}
 use Rattle.sacn_sources.specs.Rows.{Table, row_ended}
 use Rattle.sacn_sources.specs.Places.{IsAt}
-use Rattle.sacn_sources.specs.Stored.{rows_in}
+use Rattle.sacn_sources.specs.Storage.{rows_in}
 use Rattle.sacn_sources.specs.Packets.{packet_of}
 use Rattle.sacn_sources.proofs.Searches.{blank}
 use Rattle.sacn_sources.proofs.Edits.{within_entries, cid_there, entry_stored, entry_set, with_rows, read_at}

@@ -1,6 +1,6 @@
 use Rattle.std.proofs.Common.{length, ap, arith}
 use Rattle.sacn_sources.specs.Rows.{Table, row_renewed}
-use Rattle.sacn_sources.specs.Stored.{row_in, rows_in}
+use Rattle.sacn_sources.specs.Storage.{row_in, rows_in}
 use Rattle.std.proofs.lemmas.List.{length-map}
 use Rattle.sacn_sources.proofs.Sweeps.{length_left}
 use Rattle.sacn_sources.proofs.store.Store.expire.Goals as goal

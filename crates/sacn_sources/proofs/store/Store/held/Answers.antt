@@ -1,6 +1,6 @@
 use Rattle.std.proofs.Common.{Option, Some, ap, sym, ◌∙◌}
 use Rattle.sacn_sources.specs.Rows.{Row, Table}
-use Rattle.sacn_sources.specs.Stored.{row_in}
+use Rattle.sacn_sources.specs.Storage.{row_in}
 use Rattle.std.specs.Option.{option_map}
 use Rattle.sacn_slots.specs.Layers.{shown_of}
 use Rattle.sacn_slots.specs.Merge.{Shown}

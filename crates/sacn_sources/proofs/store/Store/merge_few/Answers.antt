@@ -6,7 +6,7 @@ use Rattle.sacn_slots.specs.Merge.{merge}
 use Rattle.sacn_slots.specs.declared.merge.Layer.{Layer}
 use Rattle.sacn_sources.specs.declared.entry.Entry.{Entry}
 use Rattle.sacn_sources.specs.Rows.{Table, slots_of}
-use Rattle.sacn_sources.specs.Stored.{row_in}
+use Rattle.sacn_sources.specs.Storage.{row_in}
 use Rattle.sacn_sources.proofs.Layers.{shows, shown_is, more_none, more_some, shows_live, shows_ended}
 use Rattle.sacn_sources.proofs.store.Store.merge_few.Goals as goal
 use Rattle.sacn_sources.proofs.store.Store.merge_few.Goals.{in-Some, in_default}

@@ -1,7 +1,7 @@
 use Rattle.std.proofs.Common.{◌≡◌, ◌≤◌, length, map, take}
 use Rattle.std.specs.List.{filter_map}
 use Rattle.sacn_slots.specs.Layers.{shown_of}
-use Rattle.sacn_sources.specs.Stored.{row_in}
+use Rattle.sacn_sources.specs.Storage.{row_in}
 use Rattle.sacn_sources.proofs.store.Store.merge_few.Given as goal
 
 -- the layers so far are what the entries so far show

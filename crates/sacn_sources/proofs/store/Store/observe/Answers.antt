@@ -2,7 +2,7 @@ use Rattle.std.proofs.Common.{get_or, set, refl, ap, sym, subst, ◌∙◌}
 use Rattle.sacn_sources.specs.declared.entry.Entry.{Entry}
 use Rattle.sacn_sources.specs.Rows.{Table, row_observed}
 use Rattle.sacn_sources.specs.Places.{IsAt}
-use Rattle.sacn_sources.specs.Stored.{rows_in}
+use Rattle.sacn_sources.specs.Storage.{rows_in}
 use Rattle.sacn_sources.specs.Packets.{packet_of}
 use Rattle.sacn_sources.proofs.Searches.{blank}
 use Rattle.sacn_sources.proofs.Edits.{within_entries, row_there, entry_stored, entry_set, with_rows, read_at}
@@ -32,5 +32,5 @@ returns c d =
     let p = packet_of c.args.packet.now in
     with_rows _ (rows_in fr es) c.self.inside.moment (λ t. set t.rows c.args.at (row_observed p (get_or t.rows c.args.at d))) c.args.self.now c.self.view_is
     (ap (rows_in fr) (c.renumber.ensures blank) ∙ entry_set es fr c.self.invariant (rows_in fr es) refl c.args.at old read c.args.packet.now.cid is_at _ refl refl
-    ∙ ap (λ (n : _). set (rows_in fr es) c.args.at (row_observed (record p { sequence_number = n }) (Rattle.sacn_sources.specs.Stored.row_in fr old))) c.number-sequence_number.ensures
+    ∙ ap (λ (n : _). set (rows_in fr es) c.args.at (row_observed (record p { sequence_number = n }) (Rattle.sacn_sources.specs.Storage.row_in fr old))) c.number-sequence_number.ensures
     ∙ ap (λ r. set (rows_in fr es) c.args.at (row_observed p r)) (sym (row_there es fr c.self.invariant (rows_in fr es) refl c.args.at old read d is_at.within)))

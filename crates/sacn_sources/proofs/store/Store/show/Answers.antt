@@ -3,7 +3,7 @@ use Rattle.slab.specs.Slab.{get, with_value}
 use Rattle.sacn_sources.specs.declared.entry.Entry.{Entry}
 use Rattle.sacn_sources.specs.Rows.{Row, Table, row_live}
 use Rattle.sacn_sources.specs.Places.{IsAt}
-use Rattle.sacn_sources.specs.Stored.{rows_in}
+use Rattle.sacn_sources.specs.Storage.{rows_in}
 use Rattle.sacn_sources.specs.Packets.{packet_of}
 use Rattle.sacn_sources.proofs.Searches.{blank}
 use Rattle.sacn_sources.proofs.Edits.{within_entries, has_levels, levels_stored, levels_set, with_rows, read_at}

@@ -1,7 +1,7 @@
 use Rattle.std.proofs.Common.{◌≡◌, ◌<◌, ◌+◌, ◌-◌, ℕ, [], not, None, length, drop, get_or, refl, ap, sym, ◌∙◌, arith}
 use Rattle.std.proofs.lemmas.List.{drop_all}
 use Rattle.sacn_sources.specs.Rows.{Row, Table, row_renewed}
-use Rattle.sacn_sources.specs.Kept.{loses_live}
+use Rattle.sacn_sources.specs.LatestMerge.{loses_live}
 use Rattle.sacn_sources.proofs.Losses.{loses_dropped, loses_kept}
 use Rattle.sacn_sources.proofs.Sweeps.{swept, swept_none_yet, sweep_drops, sweep_keeps}
 use Rattle.sacn_sources.proofs.store.Store.sweep.Goals as goal

@@ -1,6 +1,6 @@
 use Rattle.std.proofs.Common.{◌≡◌, ◌≤◌, length, drop}
 use Rattle.sacn_sources.specs.Rows.{row_renewed}
-use Rattle.sacn_sources.specs.Kept.{loses_live}
+use Rattle.sacn_sources.specs.LatestMerge.{loses_live}
 use Rattle.sacn_sources.proofs.Sweeps.{swept}
 use Rattle.sacn_sources.proofs.store.Store.sweep.Given as goal
 

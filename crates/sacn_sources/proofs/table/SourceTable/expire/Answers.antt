@@ -1,6 +1,6 @@
 use Rattle.std.proofs.Common.{◌≡◌, ◌-◌, ◌<◌, ◌||◌, Bool, true, false, max, refl, ap, sym, ◌∙◌, arith}
 use Rattle.sacn_sources.specs.Rows.{Table, rows_lost}
-use Rattle.sacn_sources.specs.Kept.{Kept, kept_after_expire}
+use Rattle.sacn_sources.specs.LatestMerge.{Kept, kept_after_expire}
 use Rattle.sacn_sources.proofs.Wakes.{expires_none, loses_none, loses_no_live}
 use Rattle.sacn_sources.proofs.table.SourceTable.expire.Goals as goal
 

@@ -1,6 +1,6 @@
 use Rattle.std.proofs.Common.{◌≡◌, ◌<◌, ◌≤◌, ◌^◌, ℕ, max, IfSome, IfNone, subst}
 use Rattle.sacn_sources.specs.Rows.{rows_lost}
-use Rattle.sacn_sources.specs.Kept.{Kept}
+use Rattle.sacn_sources.specs.LatestMerge.{Kept}
 use Rattle.sacn_sources.proofs.Wakes.{wakes_never, wakes_asleep, wakes_awake}
 use Rattle.sacn_sources.proofs.table.SourceTable.wakes.Goals as goal
 

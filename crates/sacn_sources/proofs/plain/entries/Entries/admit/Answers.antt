@@ -2,7 +2,7 @@ use Rattle.std.proofs.Common.{ap, sym, subst, ◌∙◌, arith}
 use Rattle.sacn_sources.specs.Rows.{Row, Table, row_live, put_row}
 use Rattle.sacn_sources.specs.Places.{IsGap}
 use Rattle.sacn_sources.specs.Packets.{packet_of}
-use Rattle.sacn_sources.specs.PlainStored.{plain_rows}
+use Rattle.sacn_sources.specs.PlainStorage.{plain_rows}
 use Rattle.sacn_sources.proofs.PlainEdits.{length_plain, plain_put, put_ordered}
 use Rattle.sacn_sources.proofs.Edits.{with_rows}
 use Rattle.sacn_sources.proofs.plain.entries.Entries.admit.Goals as goal

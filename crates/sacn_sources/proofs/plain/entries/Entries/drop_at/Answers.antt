@@ -1,7 +1,7 @@
 use Rattle.std.proofs.Common.{ap, ◌∙◌, arith}
 use Rattle.std.specs.List.{remove}
 use Rattle.sacn_sources.specs.Rows.{Table}
-use Rattle.sacn_sources.specs.PlainStored.{plain_rows}
+use Rattle.sacn_sources.specs.PlainStorage.{plain_rows}
 use Rattle.sacn_sources.proofs.PlainEdits.{within_plain, plain_removed, removed_ordered}
 use Rattle.sacn_sources.proofs.Edits.{with_rows}
 use Rattle.sacn_sources.proofs.plain.entries.Entries.drop_at.Goals as goal

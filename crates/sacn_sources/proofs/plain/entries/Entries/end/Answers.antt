@@ -1,7 +1,7 @@
 use Rattle.std.proofs.Common.{set, refl, ap, ◌∙◌}
 use Rattle.sacn_sources.specs.Rows.{Table, row_ended}
 use Rattle.sacn_sources.specs.Packets.{packet_of}
-use Rattle.sacn_sources.specs.PlainStored.{plain_rows}
+use Rattle.sacn_sources.specs.PlainStorage.{plain_rows}
 use Rattle.sacn_sources.proofs.PlainEdits.{within_plain, plain_set, set_ordered, cid_there}
 use Rattle.sacn_sources.proofs.Edits.{with_rows}
 use Rattle.sacn_sources.proofs.plain.entries.Entries.end.Goals as goal

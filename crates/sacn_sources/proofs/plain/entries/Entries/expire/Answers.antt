@@ -1,6 +1,6 @@
 use Rattle.std.proofs.Common.{length, ap, arith}
 use Rattle.sacn_sources.specs.Rows.{Table, row_renewed}
-use Rattle.sacn_sources.specs.PlainStored.{plain_row, plain_rows}
+use Rattle.sacn_sources.specs.PlainStorage.{plain_row, plain_rows}
 use Rattle.std.proofs.lemmas.List.{length-map}
 use Rattle.sacn_sources.proofs.Sweeps.{length_left}
 use Rattle.sacn_sources.proofs.plain.entries.Entries.expire.Goals as goal

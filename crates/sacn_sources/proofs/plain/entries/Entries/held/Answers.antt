@@ -3,7 +3,7 @@ use Rattle.std.specs.Option.{option_map}
 use Rattle.sacn_slots.specs.Layers.{shown_of}
 use Rattle.sacn_slots.specs.Merge.{Shown}
 use Rattle.sacn_sources.specs.Rows.{Row, Table}
-use Rattle.sacn_sources.specs.PlainStored.{plain_row}
+use Rattle.sacn_sources.specs.PlainStorage.{plain_row}
 use Rattle.sacn_sources.proofs.PlainEdits.{within_plain, plain_there}
 use Rattle.sacn_sources.proofs.PlainLayers.{plain_live, plain_ended}
 use Rattle.sacn_sources.proofs.Places.{row_at, row_absent}

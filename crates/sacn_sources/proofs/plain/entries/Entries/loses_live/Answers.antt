@@ -3,7 +3,7 @@ use Rattle.std.specs.List.{list_any}
 use Rattle.std.proofs.lemmas.List.{take_all}
 use Rattle.std.proofs.lemmas.List.Folds.{list_any_at}
 use Rattle.sacn_sources.specs.Rows.{Table}
-use Rattle.sacn_sources.specs.Kept.{loses_live}
+use Rattle.sacn_sources.specs.LatestMerge.{loses_live}
 use Rattle.sacn_sources.proofs.PlainLayers.{lost_entry, loses_is, entry_is_lost}
 use Rattle.sacn_sources.proofs.plain.entries.Entries.loses_live.Goals as goal
 

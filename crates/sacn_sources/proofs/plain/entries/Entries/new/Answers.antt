@@ -1,6 +1,6 @@
 use Rattle.std.proofs.Common.{ap}
 use Rattle.sacn_sources.specs.Rows.{Table}
-use Rattle.sacn_sources.specs.PlainStored.{plain_rows}
+use Rattle.sacn_sources.specs.PlainStorage.{plain_rows}
 use Rattle.sacn_sources.proofs.plain.entries.Entries.new.Goals as goal
 
 pub returns : goal.returns

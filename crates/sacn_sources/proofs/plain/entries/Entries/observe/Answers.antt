@@ -3,7 +3,7 @@ use Rattle.std.proofs.lemmas.List.{get_or_default}
 use Rattle.sacn_sources.specs.declared.plain.entries.PlainEntry.{PlainEntry}
 use Rattle.sacn_sources.specs.Rows.{Table, row_observed}
 use Rattle.sacn_sources.specs.Packets.{packet_of}
-use Rattle.sacn_sources.specs.PlainStored.{plain_row, plain_rows}
+use Rattle.sacn_sources.specs.PlainStorage.{plain_row, plain_rows}
 use Rattle.sacn_sources.proofs.PlainEdits.{blank, within_plain, plain_there, plain_set, set_ordered}
 use Rattle.sacn_sources.proofs.Edits.{with_rows}
 use Rattle.sacn_sources.proofs.plain.entries.Entries.observe.Goals as goal

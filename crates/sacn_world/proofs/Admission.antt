@@ -18,7 +18,7 @@ use Rattle.sacn_world.specs.Holdings.{newest, is_old_life, is_too_far_behind, re
 use Rattle.sacn_world.specs.Nodes.{Node}
 use Rattle.sacn_schedule.specs.Cids.{Desk}
 use Rattle.sacn_world.specs.Invariants.{IsAccepted}
-use Rattle.sacn_world.specs.Worlds.{World, Step, order_step, poll_step, restart_console, come, arrive, deliver_step, look_step, heard, noise_step, restart_node, step, left_by, after, new_world}
+use Rattle.sacn_world.specs.Worlds.{World, Step, order_step, poll_step, restart_console, come, arrive, deliver_step, look_step, hear_noise, noise_step, restart_node, step, left_by, after, new_world}
 use Rattle.sacn_world.specs.Runs.{Ran, answered_first, first_then, ran}
 use Rattle.sacn_world.specs.Laws.{reached}
 use Rattle.sacn_world.specs.Newest.{greatest, delivered_in}
@@ -140,11 +140,11 @@ module _ (w : World) (i k m : ℕ) (delivered : List ℕ → ℕ → List ℕ) (
 
 -- ---- noise
 
-heard_by : (w : World) (i m : ℕ) (n : Node) (r : Reading) → IsAccepted (heard w i m n r) → (p : Packet) → r ≡ Ok p → ⊥
+heard_by : (w : World) (i m : ℕ) (n : Node) (r : Reading) → IsAccepted (hear_noise w i m n r) → (p : Packet) → r ≡ Ok p → ⊥
 heard_by w i m n (Ok q) acc p e = let bad = acc.1 in cc
 heard_by w i m n (Err f) acc p e = cc
 
-hears : (w : World) (i m : ℕ) (n : Node) (r : Reading) → ((p : Packet) → r ≡ Ok p → ⊥) → IsAccepted (heard w i m n r)
+hears : (w : World) (i m : ℕ) (n : Node) (r : Reading) → ((p : Packet) → r ≡ Ok p → ⊥) → IsAccepted (hear_noise w i m n r)
 hears w i m n (Ok q) none = absurd (none q refl)
 hears w i m n (Err f) none = (_, refl)
 

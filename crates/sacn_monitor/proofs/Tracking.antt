@@ -21,7 +21,7 @@ use Rattle.sacn_monitor.specs.declared.stream.Stream.{Stream}
 use Rattle.sacn_monitor.specs.Kinds.{more}
 use Rattle.sacn_monitor.specs.Accounts.{after_packet}
 use Rattle.sacn_monitor.specs.Streams.{is_of, first_stream, stream_after, falls_silent}
-use Rattle.sacn_monitor.specs.Books.{Book, handed, after_data, after_read, changed, change_at, told, told_at, silent_place}
+use Rattle.sacn_monitor.specs.Books.{Book, with_datagram, after_data, after_read, changed, change_at, with_told, told_at, silent_place}
 use Rattle.sacn_monitor.specs.Histories.{Call, Take, Tick, Arrival, moment_of, moment_in_use, after_calls, step, arrival_of, arrivals, account_with, account_by, account_in, AccountsAreOfTheirPackets, UsesTheGreatestMoment}
 
 -- ---- places
@@ -108,7 +108,7 @@ module _ (universe : ℕ) (cid : List ℕ) where
 
   -- ---- a loss is told
 
-  account_of : (b : Bool) (s : Stream) (rest : Option Stream) → option_map (λ (x : Stream). x.account) (cond b (Some (told s)) rest) ≡ option_map (λ (x : Stream). x.account) (cond b (Some s) rest)
+  account_of : (b : Bool) (s : Stream) (rest : Option Stream) → option_map (λ (x : Stream). x.account) (cond b (Some (with_told s)) rest) ≡ option_map (λ (x : Stream). x.account) (cond b (Some s) rest)
   account_of true s rest = refl
   account_of false s rest = refl
 
@@ -116,18 +116,18 @@ module _ (universe : ℕ) (cid : List ℕ) where
   later true s r r' e = refl
   later false s r r' e = e
 
-  told_keeps : (ss : List Stream) (i : ℕ) (d : Stream) → kept (set ss i (told (get_or ss i d))) ≡ kept ss
+  told_keeps : (ss : List Stream) (i : ℕ) (d : Stream) → kept (set ss i (with_told (get_or ss i d))) ≡ kept ss
   told_keeps [] i d = refl
   told_keeps (s ∷ ss) zero d = account_of (q s) s (find q ss)
-  told_keeps (s ∷ ss) (suc i) d = later (q s) s (find q (set ss i (told (get_or ss i d)))) (find q ss) (told_keeps ss i d)
+  told_keeps (s ∷ ss) (suc i) d = later (q s) s (find q (set ss i (with_told (get_or ss i d)))) (find q ss) (told_keeps ss i d)
 
-  told_by : (ss : List Stream) (i : ℕ) (o : Option Stream) → slice_get ss i ≡ o → kept (changed told i ss o) ≡ kept ss
+  told_by : (ss : List Stream) (i : ℕ) (o : Option Stream) → slice_get ss i ≡ o → kept (changed with_told i ss o) ≡ kept ss
   told_by ss i None e = refl
-  told_by ss i (Some s) e = ap (λ (x : Stream). kept (set ss i (told x))) (sym (get_or_from_slice_get ss i s s e)) ∙ told_keeps ss i s
+  told_by ss i (Some s) e = ap (λ (x : Stream). kept (set ss i (with_told x))) (sym (get_or_from_slice_get ss i s s e)) ∙ told_keeps ss i s
 
   tick_tracks : (ss : List Stream) (o : Option ℕ) (xs : List Arrival) → Tracks ss xs → Tracks (told_at o ss) xs
   tick_tracks ss None xs tracks = tracks
-  tick_tracks ss (Some i) xs tracks = untouched ss (change_at told i ss) xs (told_by ss i (slice_get ss i) refl) (omega (arith, length_changed told i ss (slice_get ss i))) tracks
+  tick_tracks ss (Some i) xs tracks = untouched ss (change_at with_told i ss) xs (told_by ss i (slice_get ss i) refl) (omega (arith, length_changed with_told i ss (slice_get ss i))) tracks
 
   -- ---- a data packet
 
@@ -243,13 +243,13 @@ read_moment sender b (Err fault) = refl
 
 pub moments : UsesTheGreatestMoment
 moments [] = refl
-moments (Take now sender octets ∷ earlier) = read_moment sender (handed now (after_calls earlier)) (reading_packet octets) ∙ ap (λ (m : ℕ). max m now) (moments earlier)
+moments (Take now sender octets ∷ earlier) = read_moment sender (with_datagram now (after_calls earlier)) (reading_packet octets) ∙ ap (λ (m : ℕ). max m now) (moments earlier)
 moments (Tick now ∷ earlier) = ap (λ (m : ℕ). max m now) (moments earlier)
 
 pub accounts_are_of_their_packets : AccountsAreOfTheirPackets
 accounts_are_of_their_packets [] universe cid = inl refl
 accounts_are_of_their_packets (Take now sender octets ∷ earlier) universe cid =
-    let before : Book = handed now (after_calls earlier) in
+    let before : Book = with_datagram now (after_calls earlier) in
     let xs : List Arrival = arrivals universe cid earlier in
     let kept = read_tracks universe cid sender before xs (reading_packet octets) (accounts_are_of_their_packets earlier universe cid) in
     subst (λ (t : ℕ). Tracks universe cid (after_read sender before (reading_packet octets)).streams (arrival_of universe cid t sender (reading_packet octets) ++ xs)) (ap (λ (m : ℕ). max m now) (moments earlier)) kept

@@ -4,7 +4,7 @@ use Rattle.std.specs.List.{list_any}
 use Rattle.sacn_node.specs.declared.setup.SlotRange.{SlotRange}
 use Rattle.sacn_node.specs.Setup.{Port, with_universe, universes_after, universes_from}
 use Rattle.sacn_node.specs.Laws.{HasTheUniversesOfItsRanges}
-use Rattle.sacn_node.proofs.Prepared.{put_id, put_by, put_before, universes_rise}
+use Rattle.sacn_node.proofs.Guarantees.{put_id, put_by, put_before, universes_rise}
 
 or_turned : (a b : Bool) → (a || b) ≡ (b || a)
 or_turned true true = refl

@@ -3,7 +3,7 @@ use Rattle.std.specs.Prelude.{ℕ, List, Option, Some, None}
 use Rattle.std.specs.Option.{option_map}
 use Rattle.sacn_slots.specs.Merge.{Shown}
 use Rattle.sacn_slots.specs.Layers.{shown_of}
-use Rattle.sacn_sources.specs.declared.held.HeldView.TheInside.{Inside}
+use Rattle.sacn_sources.specs.declared.held_view.HeldView.TheInside.{Inside}
 use Rattle.sacn_sources.specs.Rows.{Row}
 
 abbrev pub held_row : Inside → Row

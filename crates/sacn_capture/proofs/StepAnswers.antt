@@ -11,7 +11,7 @@ use Rattle.sacn_capture.specs.declared.stream.Step.TheVariants.{Ended, Found, No
 use Rattle.sacn_capture.specs.Files.{Place, Does, IsOutside, place_at}
 use Rattle.sacn_capture.specs.Inputs.{TellsEnd}
 use Rattle.sacn_capture.specs.Recordings.{State, Piece, Shown, Told, piece, faulted, rest_of, told_by}
-use Rattle.sacn_capture.specs.Kept.{content_in}
+use Rattle.sacn_capture.specs.Placement.{content_in}
 use Rattle.sacn_capture.specs.declared.stream.Capture.{Capture}
 use Rattle.sacn_capture.specs.Streams.{Gives, ReadsRecord, Stays, Steps, file_place, frame_shown, state_of, to_come, to_come_by}
 use Rattle.sacn_capture.proofs.Enough.{told_first}

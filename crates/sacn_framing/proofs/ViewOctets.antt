@@ -7,7 +7,7 @@ use Rattle.sacn_universe.specs.Results.{◌>>=◌}
 use Rattle.sacn_root.specs.Octets.{number16_at, length_of}
 use Rattle.sacn_root.specs.RootText.{Root, ReadsRoot}
 use Rattle.sacn_root.specs.RootReading.{root_checks, root_at}
-use Rattle.sacn_root.proofs.Checked.{all_passed}
+use Rattle.sacn_root.proofs.CheckLists.{all_passed}
 use Rattle.sacn_root.proofs.Root.{root_only}
 use Rattle.sacn_dmp.specs.DmpText.{Dmp}
 use Rattle.sacn_dmp.specs.DmpReading.{reading_dmp, dmp_checks, dmp_at}

@@ -2,7 +2,7 @@
 
 ghost use Rattle.std.specs.Prelude.{◌≡◌, is_none};
 ghost use Rattle.std.specs.Option.{option_map, option_copied};
-ghost use Rattle.sacn_sources.specs.Held.{priority_shown, levels_shown};
+ghost use Rattle.sacn_sources.specs.HeldViews.{priority_shown, levels_shown};
 
 use sacn_slots::{Layer, Levels};
 use std::marker::Model;
@@ -18,7 +18,7 @@ pub struct HeldView<'a> {
 
 impl<'a> Model for HeldView<'a> {
     ghost use Rattle.sacn_sources.specs.Rows.{Row, row_code};
-    ghost use Rattle.sacn_sources.specs.Held.{held_row};
+    ghost use Rattle.sacn_sources.specs.HeldViews.{held_row};
 
     ghost Value = { Row };
 

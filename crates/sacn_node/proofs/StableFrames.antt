@@ -4,11 +4,11 @@ use Rattle.std.specs.List.{list_any, range_with_len, AllByRecursion}
 use Rattle.std.proofs.lemmas.Bool.{eqb-true}
 use Rattle.sacn_framing.specs.declared.packet.Packet.TheVariants.{DataPacket, PagePacket, SyncPacket}
 use Rattle.sacn_sources.specs.Packets.{packet_of}
-use Rattle.sacn_sources.specs.declared.taken.Taken.{Taken}
-use Rattle.sacn_sources.specs.declared.taken.Taken.TheVariants.{Held, Observed, EndedNow, OutOfSequence, SourcesExceeded, UnknownIgnored}
+use Rattle.sacn_sources.specs.declared.answer.Taken.{Taken}
+use Rattle.sacn_sources.specs.declared.answer.Taken.TheVariants.{Held, Observed, EndedNow, OutOfSequence, SourcesExceeded, UnknownIgnored}
 use Rattle.sacn_sources.specs.Rows.{Row, Packet, taken, take_row, rows_after, slots_of}
 use Rattle.sacn_node.specs.declared.setup.SlotRange.{SlotRange}
-use Rattle.sacn_node.specs.declared.taken.NodeTaken.TheVariants.{FromTable}
+use Rattle.sacn_node.specs.declared.answer.NodeTaken.TheVariants.{FromTable}
 use Rattle.sacn_node.specs.Setup.{Port}
 use Rattle.sacn_node.specs.Ports.{covers, level_in, level_by, octet_at, port_frame, port_of, frame_on}
 use Rattle.sacn_node.specs.Cores.{Table, table_of, change_rows, core_reply_on, rows_kept_all, slots_on, core_slots}

@@ -59,11 +59,11 @@ after_expire now s = let t = max s.moment now in record { sources = fresh t s.so
 abbrev pub with_source : List ℕ → Known → State → State
 with_source cid known s = record { sources = insert s.sources cid known; moment = s.moment }
 
-abbrev pub accepted : Page → State → State
-accepted p s = with_source p.cid (with_page s.moment p.page p.last p.numbers (get s.sources p.cid)) s
+abbrev pub after_acceptance : Page → State → State
+after_acceptance p s = with_source p.cid (with_page s.moment p.page p.last p.numbers (get s.sources p.cid)) s
 
 abbrev pub after_take : ℕ → Page → State → State
-after_take now p s = accepted p (after_expire now s)
+after_take now p s = after_acceptance p (after_expire now s)
 
 -- ---- the list of a CID
 
