@@ -42,8 +42,8 @@ twice p t s = ap (with_moment p) (max_twice p.moment t s)
 max_again : (m t : ℕ) → max (max m t) t ≡ max m t
 max_again m t = omega arith
 
-abbrev pub stepped : ℕ → play.Command → Played → ℕ → Played
-stepped t k p begun = record {
+abbrev pub step_player : ℕ → play.Command → Played → ℕ → Played
+step_player t k p begun = record {
   cues = p.cues;
   moment = max (max p.moment t) t;
   master = master_by p.master k;
@@ -55,7 +55,7 @@ stepped t k p begun = record {
 -- a command at a moment, after or before a reading at it
 pub after_moved : (t : ℕ) (k : play.Command) (p : Played) → after t k (moved t p) ≡ moved t (after t k p)
 unfolding after
-after_moved t k p = ap (stepped t k p) (max_again p.moment t)
+after_moved t k p = ap (step_player t k p) (max_again p.moment t)
 
 -- ---- frames
 

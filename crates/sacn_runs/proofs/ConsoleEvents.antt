@@ -26,7 +26,7 @@ use Rattle.sacn_world.specs.Worlds.{World, Outcome, Step, with_core, polled, ord
 use Rattle.sacn_world.proofs.Changes.{set_other, set_there}
 use Rattle.sacn_world.proofs.Sources.{same_source, same-itself}
 use Rattle.sacn_runs.specs.ConsoleRuns.{requests_by, octets_of_packet, octets_from, refused_in, refused_with}
-use Rattle.sacn_runs.proofs.Requests.{Requests, over, gave, refused}
+use Rattle.sacn_runs.proofs.Requests.{Requests, over, gave, refused_count}
 
 text_so : (sender : Sender) (d : line.Datagram) → octets_of_packet (said_by sender d) ≡ console.text sender d
 unfolding console.packet_text
@@ -49,7 +49,7 @@ pub record Did (w v : World) (i : ℕ) (c : Console) (rs : Requests) (count : �
   pub more : List Sent
   pub grown : v.sent ≡ w.sent ++ more
   pub octets : octets_from c.show.cid more ≡ gave rs c.core
-  pub count_is : count ≡ refused rs c.core
+  pub count_is : count ≡ refused_count rs c.core
 
 module _ (w : World) (apart : Apart w.consoles) (i : ℕ) (c : Console) (here : slice_get w.consoles i ≡ Some c) where
   abbrev Rests : World → Type 0

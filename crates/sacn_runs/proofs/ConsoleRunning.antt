@@ -17,7 +17,7 @@ use Rattle.sacn_world.specs.Laws.{reached}
 use Rattle.sacn_world.proofs.Reaching.{reached_ok, first_of_run}
 use Rattle.sacn_world.proofs.Runs.{step_ok}
 use Rattle.sacn_runs.specs.ConsoleRuns.{requests_by, requests, octets_of_packet, octets_from, refused_with, refused_over, GivesAs, ConsolesRunAsInAWorld}
-use Rattle.sacn_runs.proofs.Requests.{Requests, over, gave, refused, over-append, gave-append, refused-append, loop_over, loop_gave, loop_refused}
+use Rattle.sacn_runs.proofs.Requests.{Requests, over, gave, refused_count, over-append, gave-append, refused-append, loop_over, loop_gave, loop_refused}
 use Rattle.sacn_runs.proofs.ConsoleEvents.{Did, event_did}
 
 -- the rest of a list of calls is one
@@ -37,7 +37,7 @@ module _ (i : ℕ) where
     more : List Sent
     grown : run.world.sent ≡ w.sent ++ more
     octets : octets_from c.show.cid more ≡ gave (requests i events) c.core
-    count : refused_over i events run.answers ≡ refused (requests i events) c.core
+    count : refused_over i events run.answers ≡ refused_count (requests i events) c.core
 
   run_did : (w : World) → WorldOk w → (c : Console) → slice_get w.consoles i ≡ Some c → (events : List Event) (run : Ran) → ran w events ≡ Some run → (calls : List Call) → requests i events ≡ map Some calls → Run w c events run
   run_did w ok c here [] run h calls all =
@@ -73,7 +73,7 @@ module _ (i : ℕ) where
         count =
             ap (λ answers. refused_over i (e ∷ es) answers) (sym f.answers)
             ∙ ap (λ n. n + refused_over i es f.rest.answers) d.count_is
-            ∙ ap (λ n. refused rs c.core + n) rest.count
+            ∙ ap (λ n. refused_count rs c.core + n) rest.count
             ∙ sym (refused-append rs (requests i es) c.core);
       }
 
@@ -88,7 +88,7 @@ consoles_run shows setups earlier events run i c script readings apart h here al
           ∙ r.octets
           ∙ ap (λ rs. gave rs c.core) all
           ∙ loop_gave c.core script readings;
-      refused = r.count ∙ ap (λ rs. refused rs c.core) all ∙ loop_refused c.core script readings;
+      refused = r.count ∙ ap (λ rs. refused_count rs c.core) all ∙ loop_refused c.core script readings;
       left = λ d e.
           ap (λ (x : Console). x.core) (same_Some d _ (sym e ∙ r.there))
           ∙ ap (λ rs. over rs c.core) all

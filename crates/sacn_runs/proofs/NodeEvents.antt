@@ -32,7 +32,7 @@ use Rattle.sacn_world.proofs.Origin.{Origin}
 use Rattle.sacn_world.proofs.Replies.{numbers_agree}
 use Rattle.sacn_runs.specs.NodeVisits.{Visit, Came, Asked, Began, packet_sent, visits_by}
 use Rattle.sacn_runs.specs.NodeRuns.{moment_with, frame_told, line_with}
-use Rattle.sacn_runs.proofs.Visits.{Showing, node_with, came, asked, shown_by, show_all, came_moment}
+use Rattle.sacn_runs.proofs.Visits.{Showing, node_with, core_after_visit, asked, shown_by, show_all, came_moment}
 
 abbrev answer_of : Step → Answer
 answer_of (Ok o) = o.answer
@@ -120,13 +120,13 @@ module _ (w : World) (ok : WorldOk w) (i : ℕ) (ports : List Port) (own : (n : 
       ∙ ap (λ c. frame_on (core_slots c) (port_of port n.ports)) (moved_at m n e)
       ∙ ap (λ ps. frame_on (core_slots (core_at m s.core)) (port_of port ps)) (own n e)
 
-  delivered : (k m : ℕ) (o : Outcome) → step w (event.Deliver k i m) ≡ Ok o → (on : Option Node) (ox : Option Sent) → slice_get w.nodes i ≡ on → slice_get w.sent k ≡ ox → deliver_step w k i m on ox ≡ Ok o → Sees o.world i (came m (packet_sent w.sent k) s.core)
+  delivered : (k m : ℕ) (o : Outcome) → step w (event.Deliver k i m) ≡ Ok o → (on : Option Node) (ox : Option Sent) → slice_get w.nodes i ≡ on → slice_get w.sent k ≡ ox → deliver_step w k i m on ox ≡ Ok o → Sees o.world i (core_after_visit m (packet_sent w.sent k) s.core)
   delivered k m o is None ox en ex h = absurd (cc)
   delivered k m o is (Some n) None en ex h = absurd (cc)
   delivered k m o is (Some n) (Some x) en ex h = λ l el.
       (numbers_agree w ok k i m n l x o en ex is el).1
       ∙ ap (after_reading (Ok x.packet) m) (sees n en)
-      ∙ ap (λ p. came m (option_map (λ (y : Sent). y.packet) p) s.core) (sym ex)
+      ∙ ap (λ p. core_after_visit m (option_map (λ (y : Sent). y.packet) p) s.core) (sym ex)
 
   looked : (port m : ℕ) (o : Outcome) (on : Option Node) → slice_get w.nodes i ≡ on → look_step w i port m on ≡ Ok o → Sees o.world i (core_at m s.core) × (frame_told o.answer ≡ node_frame port (node_with ports (core_at m s.core)))
   looked port m o None en h = absurd (cc)

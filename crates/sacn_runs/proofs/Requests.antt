@@ -28,11 +28,11 @@ gave (None ∷ rs) c = gave rs c
 gave (Some (Order now k) ∷ rs) c = gave rs (after_command now k c)
 gave (Some (Poll now) ∷ rs) c = octets_of c.sender (due (at now c)) ++ gave rs (after_poll now c)
 
-abbrev pub refused : Requests → Core → ℕ
-refused [] c = 0
-refused (None ∷ rs) c = refused rs c
-refused (Some (Order now k) ∷ rs) c = (if is_ok (answer k (at now c)) then 0 else 1) + refused rs (after_command now k c)
-refused (Some (Poll now) ∷ rs) c = refused rs (after_poll now c)
+abbrev pub refused_count : Requests → Core → ℕ
+refused_count [] c = 0
+refused_count (None ∷ rs) c = refused_count rs c
+refused_count (Some (Order now k) ∷ rs) c = (if is_ok (answer k (at now c)) then 0 else 1) + refused_count rs (after_command now k c)
+refused_count (Some (Poll now) ∷ rs) c = refused_count rs (after_poll now c)
 
 pub over-append : (xs ys : Requests) (c : Core) → over (xs ++ ys) c ≡ over ys (over xs c)
 over-append [] ys c = refl
@@ -48,7 +48,7 @@ gave-append (Some (Poll now) ∷ xs) ys c =
     ap (λ os. octets_of c.sender (due (at now c)) ++ os) (gave-append xs ys (after_poll now c))
     ∙ sym (append_assoc (octets_of c.sender (due (at now c))) (gave xs (after_poll now c)) (gave ys (over xs (after_poll now c))))
 
-pub refused-append : (xs ys : Requests) (c : Core) → refused (xs ++ ys) c ≡ refused xs c + refused ys (over xs c)
+pub refused-append : (xs ys : Requests) (c : Core) → refused_count (xs ++ ys) c ≡ refused_count xs c + refused_count ys (over xs c)
 refused-append [] ys c = omega arith
 refused-append (None ∷ xs) ys c = refused-append xs ys c
 refused-append (Some (Order now k) ∷ xs) ys c = let rest = refused-append xs ys (after_command now k c) in omega (arith, rest)
@@ -64,7 +64,7 @@ turn_gave : (now : ℕ) (ls : Script) (c : Core) → gave (map Some (turn_calls 
 turn_gave now [] c = append-nil (octets_of c.sender (due (at now c)))
 turn_gave now (l ∷ ls) c = turn_gave now ls (after_command now l.1 c)
 
-turn_refused : (now : ℕ) (ls : Script) (c : Core) → refused (map Some (turn_calls now ls)) c ≡ refusals now ls c
+turn_refused : (now : ℕ) (ls : Script) (c : Core) → refused_count (map Some (turn_calls now ls)) c ≡ refusals now ls c
 turn_refused now [] c = refl
 turn_refused now (l ∷ ls) c = ap (λ n. (if is_ok (answer l.1 (at now c)) then 0 else 1) + n) (turn_refused now ls (after_command now l.1 c))
 
@@ -97,13 +97,13 @@ module _ (first : Core) (script : Script) where
       ∙ ap (λ c. console_sends first script rs ++ gave (turn now rs) c) (loop_over rs)
       ∙ ap (λ os. console_sends first script rs ++ os) (turn_gave now (lines_at now (reader_after script rs)) (core_after first script rs))
 
-  pub loop_refused : (readings : List ℕ) → refused (loop readings) first ≡ refused_by first script readings
+  pub loop_refused : (readings : List ℕ) → refused_count (loop readings) first ≡ refused_by first script readings
   loop_refused [] = refl
   loop_refused (now ∷ rs) =
-      ap (λ xs. refused xs first) (loop_more now rs)
+      ap (λ xs. refused_count xs first) (loop_more now rs)
       ∙ refused-append (loop rs) (turn now rs) first
-      ∙ ap (λ n. n + refused (turn now rs) (over (loop rs) first)) (loop_refused rs)
-      ∙ ap (λ c. refused_by first script rs + refused (turn now rs) c) (loop_over rs)
+      ∙ ap (λ n. n + refused_count (turn now rs) (over (loop rs) first)) (loop_refused rs)
+      ∙ ap (λ c. refused_by first script rs + refused_count (turn now rs) c) (loop_over rs)
       ∙ ap (λ n. refused_by first script rs + n) (turn_refused now (lines_at now (reader_after script rs)) (core_after first script rs))
 
 -- ---- a core that was used before
@@ -130,7 +130,7 @@ given_so s c (Poll now ∷ calls) is =
     ap (λ z. octets_of z (due (at now c)) ++ given_in s (answers (after_poll now c) calls)) (sym is)
     ∙ ap (λ os. octets_of c.sender (due (at now c)) ++ os) (given_so s (after_poll now c) calls (given_sender (due (at now c)) (at now c) ∙ is))
 
-refused_so : (c : Core) (calls : List Call) → refused_in (answers c calls) ≡ refused (map Some calls) c
+refused_so : (c : Core) (calls : List Call) → refused_in (answers c calls) ≡ refused_count (map Some calls) c
 refused_so c [] = refl
 refused_so c (Order now k ∷ calls) = ap (λ n. (if is_ok (answer k (at now c)) then 0 else 1) + n) (refused_so (after_command now k c) calls)
 refused_so c (Poll now ∷ calls) = refused_so (after_poll now c) calls
@@ -154,9 +154,9 @@ sends_go_on steps life before script readings =
           ∙ ap (λ os. given_in life.sender (answers_by_list life 0 [] before) ++ os) (loop_gave first script readings),
       ap refused_in (sym (steps life (before ++ calls)))
           ∙ refused_so start (before ++ calls)
-          ∙ ap (λ rs. refused rs start) both
+          ∙ ap (λ rs. refused_count rs start) both
           ∙ refused-append (map Some before) (map Some calls) start
-          ∙ ap (λ n. n + refused (map Some calls) (over (map Some before) start)) (sym (refused_so start before) ∙ ap refused_in (steps life before))
-          ∙ ap (λ c. refused_in (answers_by_list life 0 [] before) + refused (map Some calls) c) (used_is start before)
+          ∙ ap (λ n. n + refused_count (map Some calls) (over (map Some before) start)) (sym (refused_so start before) ∙ ap refused_in (steps life before))
+          ∙ ap (λ c. refused_in (answers_by_list life 0 [] before) + refused_count (map Some calls) c) (used_is start before)
           ∙ ap (λ n. refused_in (answers_by_list life 0 [] before) + n) (loop_refused first script readings),
     )

@@ -10,13 +10,13 @@ use Rattle.sacn_edge.specs.Hearings.{Heard, Silence, Octets, Fault}
 use Rattle.sacn_edge.specs.NodeText.{Turn, FrameLine, call_at, node_after, with_frame, with_ports, lines_after}
 use Rattle.sacn_edge.proofs.Settling.{turn_settled}
 use Rattle.sacn_runs.specs.NodeVisits.{Visit, Came, Asked, packet_read, packet_heard, turn_visits, loop_visits}
-use Rattle.sacn_runs.proofs.Visits.{Showing, node_with, came, asked, shown_by, show_all, show_all-append}
+use Rattle.sacn_runs.proofs.Visits.{Showing, node_with, core_after_visit, asked, shown_by, show_all, show_all-append}
 
-read_so : (now : ℕ) (r : Reading) (c : Core) → came now (packet_read r) c ≡ after_reading r now c
+read_so : (now : ℕ) (r : Reading) (c : Core) → core_after_visit now (packet_read r) c ≡ after_reading r now c
 read_so now (Ok p) c = refl
 read_so now (Err fault) c = refl
 
-heard_so : (now : ℕ) (heard : Heard) (c : Core) → came now (packet_heard heard) c ≡ core_step (call_at now heard) c
+heard_so : (now : ℕ) (heard : Heard) (c : Core) → core_after_visit now (packet_heard heard) c ≡ core_step (call_at now heard) c
 heard_so now Silence c = refl
 heard_so now (Octets octets) c = read_so now (reading_packet octets) c
 heard_so now Fault c = refl

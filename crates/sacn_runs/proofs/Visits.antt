@@ -15,15 +15,15 @@ pub record Showing : Type 0 where
 abbrev pub node_with : List Port → Core → Node
 node_with ports c = record { ports = ports; core = c }
 
-abbrev pub came : ℕ → Option Packet → Core → Core
-came m (Some p) c = after_reading (Ok p) m c
-came m None c = core_at m c
+abbrev pub core_after_visit : ℕ → Option Packet → Core → Core
+core_after_visit m (Some p) c = after_reading (Ok p) m c
+core_after_visit m None c = core_at m c
 
 abbrev pub asked : List Port → ℕ → Core → List FrameLine → Showing
 asked ports port c ls = record { core = c; lines = with_frame port c.moment (node_frame port (node_with ports c)) ls }
 
 abbrev pub shown_by : List Port → Visit → Showing → Showing
-shown_by ports (Came m o) s = record { core = came m o s.core; lines = s.lines }
+shown_by ports (Came m o) s = record { core = core_after_visit m o s.core; lines = s.lines }
 shown_by ports (Asked m port) s = asked ports port (core_at m s.core) s.lines
 shown_by ports Began s = record { core = new_core (universes ports); lines = s.lines }
 
@@ -41,6 +41,6 @@ reading_moment (Ok (PagePacket p)) m c = refl
 reading_moment (Ok SyncPacket) m c = refl
 reading_moment (Err fault) m c = refl
 
-pub came_moment : (m : ℕ) (o : Option Packet) (c : Core) → (came m o c).moment ≡ max c.moment m
+pub came_moment : (m : ℕ) (o : Option Packet) (c : Core) → (core_after_visit m o c).moment ≡ max c.moment m
 came_moment m (Some p) c = reading_moment (Ok p) m c
 came_moment m None c = refl
