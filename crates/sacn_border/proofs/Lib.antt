@@ -1,2 +1,2 @@
 mod Refusals
-mod Told
+mod StatusFields

@@ -2,8 +2,8 @@ pub mod Powers
 pub mod Options
 pub mod LeftOut
 pub mod Fronts
-pub mod Filled
+pub mod Filling
 pub mod Readings
 pub mod Enough
-pub mod Told
+pub mod StepAnswers
 pub mod Calls

@@ -8,7 +8,7 @@ pub mod Counting
 pub mod Pcap
 pub mod Pcapng
 pub mod Frames
-pub mod Kept
+pub mod Placement
 pub mod Files
 pub mod Recordings
 pub mod Calls

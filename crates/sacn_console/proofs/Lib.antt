@@ -9,9 +9,9 @@ pub mod Dues
 pub mod Changes
 pub mod Openings
 pub mod Modes
-pub mod Kept
-pub mod Numbered
+pub mod CoreInvariant
+pub mod Numbering
 pub mod ShowLemmas
 pub mod Lawful
-pub mod Counted
+pub mod PageCounting
 pub mod LeastDue

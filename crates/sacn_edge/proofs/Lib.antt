@@ -1,6 +1,6 @@
 pub mod ToldLemmas
 pub mod PortLineLemmas
-pub mod Settled
+pub mod Settling
 pub mod NodeLemmas
 pub mod ConsoleLemmas
 pub mod MemoryLemmas

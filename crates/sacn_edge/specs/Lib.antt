@@ -7,7 +7,7 @@ pub mod PortChanges
 pub mod NodeRun
 pub mod ConsoleSends
 pub mod MemoryItems
-pub mod MemoryTold
+pub mod MemoryDevices
 pub mod PlainText
 pub mod SendsByList
 pub mod Sockets

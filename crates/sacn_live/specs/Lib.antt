@@ -9,4 +9,4 @@ pub mod Gathering
 pub mod Groups
 pub mod Widgets
 pub mod MemoryHearings
-pub mod MemoryTold
+pub mod MemoryReceiver

@@ -1,2 +1,2 @@
 pub mod Losses
-pub mod Tracked
+pub mod Tracking

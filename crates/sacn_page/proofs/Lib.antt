@@ -1,3 +1,3 @@
-mod Mapped
+mod Mapping
 mod OwnGets
 mod Losses

@@ -1,4 +1,4 @@
-pub mod Shown
+pub mod Visits
 pub mod Turns
 pub mod NodeEvents
 pub mod NodeRunning

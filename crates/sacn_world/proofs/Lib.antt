@@ -30,6 +30,6 @@ pub mod Lasting
 pub mod NewestPlaces
 pub mod Frames
 pub mod Headlines
-pub mod Admitted
+pub mod Admission
 pub mod PresentLives
 pub mod Filing
