@@ -120,6 +120,11 @@ script '\xff\n' NotText
 printf 'version = 1\nudp_port = 25892\n' >setup
 refused 4 "device socket 192.0.2.1:25892 AddrNotAvailable" gateway setup --listen 192.0.2.1
 
+# An interface for a port that the setup hasn't.
+refused 2 "error: 7=/dev/null: NoPort" gateway setup --widget 7=/dev/null
+printf 'version = 1\nudp_port = 25892\n[[port]]\nnumber = 1\nuniverse = 1\n' >ported
+refused 2 "error: 2=/dev/null: NoPort" gateway ported --widget 1=/dev/null --widget 2=/dev/null
+
 # helps COMMAND TEXT: its help has the text, on standard output alone
 helps() {
   local status=0

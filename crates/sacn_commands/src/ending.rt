@@ -19,7 +19,8 @@ use std::io::{self, Write};
 /// The exit statuses.
 pub const DONE: u8 = 0;
 
-const BAD_WORDS: u8 = 2;
+/// The words, or what they ask for, can't be.
+pub const BAD_WORDS: u8 = 2;
 
 /// Input is refused.
 pub const REFUSED: u8 = 3;

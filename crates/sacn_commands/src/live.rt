@@ -1,5 +1,5 @@
 //! Gateways and desks that run a rig.
-use crate::ending::{DEVICE_FAILED, Ending, REFUSED, of_write};
+use crate::ending::{BAD_WORDS, DEVICE_FAILED, Ending, REFUSED, of_write};
 use crate::files::text_of_file;
 use crate::network::tell;
 use sacn_console::{Command, ConsoleCore, Show, TextFault, read_script, read_show};
@@ -144,6 +144,21 @@ fn widgets_of<'a, R: AllocGlobal>(
     Ok(widgets)
 }
 
+// Refuses an interface for a port that the setup hasn't.
+fn check_widgets<E: Write>(
+    asked: &[(u8, &str)],
+    setup: &NodeSetup,
+    err: &mut E,
+) -> Result<(), Ending> {
+    for (port, path) in asked {
+        if setup.ports().iter().all(|it| it.number() != *port) {
+            let _ = writeln!(err, "error: {port}={path}: NoPort");
+            return Err(Ending::Said(BAD_WORDS));
+        }
+    }
+    Ok(())
+}
+
 /// Runs a gateway, which prints its frames as they change.
 pub fn gateway<R: AllocGlobal + Files + Net + Clock, O: Write, E: Write>(
     rt: &R,
@@ -153,6 +168,7 @@ pub fn gateway<R: AllocGlobal + Files + Net + Clock, O: Write, E: Write>(
 ) -> Result<(), Ending> {
     guard_standard_descriptors();
     let setup = of_file(setup_of_file(rt, asked.setup), asked.setup, err)?;
+    check_widgets(asked.widgets.as_slice(), &setup, err)?;
     show_setup(rt, asked, &setup, out, err)
 }
 

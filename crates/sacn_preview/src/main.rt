@@ -2,16 +2,13 @@
 //! isn't built yet. Its words need no parser: none, `decode FILE..` or `sim WORLD SCHEDULE`.
 #![tactic(auto)]
 
-use sacn_commands::ending::{DONE, Ending, tell_ending, wordless};
+use sacn_commands::ending::{BAD_WORDS, DONE, Ending, tell_ending, wordless};
 use sacn_commands::printing::{decode_files, decode_input, simulate};
 use std::alloc::{AllocError, Global};
 use std::io::{Read, Write};
 use std::process::ExitCode;
 use std::rt::Files;
 use std::{env, io};
-
-// The status for words that ask for nothing that stands here.
-const BAD_WORDS: u8 = 2;
 
 fn main(rt: HostRuntime) -> ExitCode {
     let status = match words_of(&rt) {

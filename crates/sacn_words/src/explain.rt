@@ -53,7 +53,7 @@ pub fn command<'a>(alloc: Global) -> Result<Command<'a>, Error> {
         words(alloc, "universe", "U", universe),
         flag(alloc, "json", "Prints an object of JSON on each line"),
         word(alloc, "page", "[ADDRESS:]PORT", page),
-        seconds(alloc),
+        seconds(alloc).help("How many seconds the page is served, 1 to 1000000000"),
     ]?;
     subcommand(alloc, "explain", ABOUT, args)
 }

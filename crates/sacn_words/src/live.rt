@@ -69,7 +69,7 @@ pub fn seconds<'a>(alloc: Global) -> Arg<'a> {
 }
 
 fn ttl<'a>(alloc: Global) -> Arg<'a> {
-    let help = "How many routers a group's packets pass, 1 to 255";
+    let help = "The time to live of a group's packets, 1 to 255: with 1 no router passes them on";
     word(alloc, "ttl", "N", help)
         .default_value("1")
         .value_parser(value_parser!(u8).range(1..=255))
@@ -78,7 +78,7 @@ fn ttl<'a>(alloc: Global) -> Arg<'a> {
 pub fn gateway<'a>(alloc: Global) -> Result<Command<'a>, Error> {
     let listen = "The address that it hears at; else all";
     let from = "A sender that it hears; else all";
-    let widget = "An interface with the protocol of the DMX USB Pro";
+    let widget = "An interface with the protocol of the DMX USB Pro, for a port of the setup";
     let args = vec![in alloc;
         file(alloc, "SETUP", SETUP_HELP),
         word(alloc, "listen", "ADDRESS", listen),
