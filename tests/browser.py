@@ -379,7 +379,7 @@ def shown(browser, watch):
     browser.size(1400, 1000)
     browser.open(f"http://127.0.0.1:{PAGE}/")
     verdict("the page is shown", browser.until("document.querySelectorAll('#grid .slot').length == 512", 5) is not None)
-    desk = start(SACN, "desk", f"{ROOM}/show.toml", "--stay")
+    desk = start(SACN, "desk", f"{ROOM}/show.toml")
     if heard(browser, desk):
         followed(browser, desk)
         plain(browser)

@@ -59,7 +59,7 @@ check() {
     sed 's/^/# /' "$room/err"
   fi
 }
-nothing_left() { [ -z "$(ls -A "$room/rooms")" ] && ! pgrep -f "$room/bin/rt" >/dev/null; }
+nothing_left() { [ -z "$(ls -A "$room/rooms")" ] && ! grep -lsF "$room/bin/rt" /proc/[0-9]*/cmdline >/dev/null; }
 refused() { [ "$status" = 1 ] && says "$1"; }
 
 no_kit() {
@@ -123,8 +123,8 @@ interrupted() {
   anew
   : >"$KIT_LOG"
   (PATH=$room/bin:$usual KIT_SLEEPS=30 exec setsid "$tree/sacn" prove >"$room/out" 2>"$room/err" </dev/null) &
-  for _ in $(seq 100); do grep -q low "$KIT_LOG" && break; sleep 0.05; done
-  pkill -INT -f "$tree/tools/prove.py"
+  for _ in $(seq 1200); do grep -q low "$KIT_LOG" && break; sleep 0.05; done
+  kill -INT -- "-$!"
   wait $!
   status=$?
   [ "$status" = 130 ] && says "interrupted; what was proved is kept"
@@ -137,8 +137,9 @@ check "the next start goes on from what was proved" goes_on
 
 two_at_once() {
   anew
-  PATH=$room/bin:$usual KIT_SLEEPS=1 "$tree/sacn" prove >/dev/null 2>&1 </dev/null &
-  sleep 0.7
+  : >"$KIT_LOG"
+  PATH=$room/bin:$usual KIT_SLEEPS=3 "$tree/sacn" prove >/dev/null 2>&1 </dev/null &
+  for _ in $(seq 1200); do grep -q low "$KIT_LOG" && break; sleep 0.05; done
   KIT_LOG=$KIT_LOG.own launch prove
   wait
   [ "$status" = 0 ] && says "another run proves this tree; waiting for it to end" && [ ! -s "$KIT_LOG.own" ] && [ -x "$tree/crates/sacn/out/sacn" ]
@@ -149,7 +150,7 @@ desk_ends_well() {
   anew
   launch prove
   printf '#!/bin/sh\ntrap "" INT\nwhile read -r line; do echo "took $line"; done\necho "ended all"\nexit 7\n' >"$tree/crates/sacn/out/sacn"
-  (PATH=$room/bin:$usual exec setsid "$tree/sacn" desk show.toml >"$room/out" 2>"$room/err" < <(echo go; sleep 30)) &
+  (PATH=$room/bin:$usual exec setsid "$tree/sacn" desk show.toml >"$room/out" 2>"$room/err" < <(exec 2>/dev/null; echo go; sleep 30)) &
   local launcher=$!
   for _ in $(seq 100); do grep -q "took go" "$room/out" && break; sleep 0.05; done
   kill -TERM "$launcher"
@@ -158,6 +159,29 @@ desk_ends_well() {
   [ "$status" = 7 ] && prints "took go" && prints "ended all"
 }
 check "TERM ends a desk's input, and the desk ends what it has lit" desk_ends_well
+
+# Runs a desk with no input until TERM, which comes so many seconds after its start; the program that pretends tells whether its input ended before, and after how long.
+desk_without_input() {
+  local pause=$1
+  shift
+  rm -f "$room/told"
+  printf '#!/usr/bin/env bash\ntrap "" INT\necho began\nread -r line\nif [ -e "%s" ]; then echo "ended when told"; else echo "ended early"; fi\n[ $SECONDS -ge 1 ] && echo "after a second"\nexit 7\n' "$room/told" >"$tree/crates/sacn/out/sacn"
+  PATH=$room/bin:$usual setsid "$tree/sacn" desk show.toml "$@" >"$room/out" 2>"$room/err" </dev/null &
+  local launcher=$!
+  for _ in $(seq 200); do grep -q began "$room/out" && break; sleep 0.05; done
+  sleep "$pause"
+  : >"$room/told"
+  kill -TERM "$launcher" 2>/dev/null
+  wait "$launcher"
+  status=$?
+  [ "$status" = 7 ]
+}
+script_needs_no_input() { desk_without_input 1 --script s.txt --stay && prints "ended when told" && desk_without_input 1 --script=s.txt && prints "ended when told"; }
+check "a desk with a script and no input goes on until it is told to end" script_needs_no_input
+early_end_counts() { desk_without_input 0 --script s.txt && prints "ended when told" && prints "after a second"; }
+check "what ends a desk in its first second isn't lost" early_end_counts
+no_input_is_its_end() { desk_without_input 1 && prints "ended early"; }
+check "a desk without a script and without input ends at once" no_input_is_its_end
 
 full_disk() {
   anew

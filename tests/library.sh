@@ -103,12 +103,12 @@ TOML
 setup() { printf 'version = 1\nudp_port = %s\n[[port]]\nnumber = 1\nuniverse = 1\n' "$1"; }
 lit='^1 [0-9]+ 00ff00'
 
-# Waits until a UDP port of this machine is bound, at most five seconds.
+# Waits until a UDP port of this machine is bound, at most thirty seconds.
 bound() {
   local port tries
   port=$(printf ':%04X ' "$1")
   [ -r /proc/net/udp ] || { sleep 1; return; }
-  for ((tries = 0; tries < 50; tries++)); do
+  for ((tries = 0; tries < 300; tries++)); do
     if grep -q "$port" /proc/net/udp; then return; fi
     sleep 0.1
   done
@@ -142,9 +142,9 @@ else
   if built send "$top/examples/c/send.c" -std=c99 -O2; then
     setup 25973 >"$room/node25973.toml"
     show 25973 >"$room/show25973.toml"
-    timeout 20 "$sacn" gateway "$room/node25973.toml" --listen 127.0.0.1 --seconds 3 >"$room/heard" 2>"$room/said" </dev/null &
+    timeout 20 "$sacn" gateway "$room/node25973.toml" --listen 127.0.0.1 --seconds 5 >"$room/heard" 2>"$room/said" </dev/null &
     running=($!)
-    sleep 1
+    bound 25973
     "$room/send" "$room/show25973.toml" 25973 500 >"$room/sent"
     wait "${running[0]}"
     running=()

@@ -63,7 +63,7 @@ serves() {
 # ends: the program that serves is ended
 ends() {
   kill "$page"
-  wait "$page" 2>/dev/null
+  wait "$page" 2>/dev/null || true
 }
 
 # answers NAME STATUS WORD..: curl is answered so; the answer is in body
@@ -138,7 +138,7 @@ ends
 
 # A recording that is cut in its last frame: what stands before is served, and the fault is told.
 head -c 1311 "$ola" >cut.pcap
-serves cut.pcap --seconds 2
+serves cut.pcap --seconds 5
 [ "$(head -n 1 page.err)" = "refused cut.pcap octet 1137 CutShort" ]
 verdict "the fault is on standard error" $? "$(cat page.err)"
 answers "the end of a faulty recording" 200 "$at/state"

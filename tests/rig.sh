@@ -58,14 +58,19 @@ levels() { # FILE
   cut -d ' ' -f 3 "$1" | cut -c 3-4 | tr '\n' ' '
 }
 
+# Waits until a gateway has written that it is lit, at most twenty seconds.
+lit() {
+  for _ in $(seq 200); do [ "$(levels "$work/lines")" = "00 ff " ] && return; sleep 0.1; done
+}
+
 a_desk_lights_a_gateway() {
   setup 25801 1 >"$work/node.toml"
   show 25801 1 >"$work/show.toml"
   : >"$work/said"
-  "$sacn" gateway "$work/node.toml" --seconds 4 >"$work/lines" 2>"$work/said" &
+  "$sacn" gateway "$work/node.toml" --seconds 6 >"$work/lines" 2>"$work/said" &
   local pid=$!
   ready "$work/said"
-  (echo go; sleep 0.3; echo status; echo "goto 9"; echo jump; sleep 0.3) | "$sacn" desk "$work/show.toml" >"$work/answers" 2>"$work/desk" || return 1
+  (echo go; lit; echo status; echo "goto 9"; echo jump; sleep 0.3) | "$sacn" desk "$work/show.toml" >"$work/answers" 2>"$work/desk" || return 1
   wait "$pid" || return 1
   [ "$(levels "$work/lines")" = "00 ff 00 " ] || return 1
   grep -q '^source 000102030405060708090a0b0c0d0e0f universe 1 came 127.0.0.1$' "$work/said" || return 1
@@ -122,6 +127,10 @@ def packet(universe, number, level):
     return b"\0\x10\0\0ASC-E1.17\0\0\0" + root
 run = subprocess.Popen([sys.argv[1], "gateway", sys.argv[2], "--seconds", "4"], stdout=open(sys.argv[3], "w"), stderr=subprocess.PIPE)
 run.stderr.readline()
+if b"receive buffer" in run.stderr.readline():
+    open(sys.argv[3] + ".small", "w").close()
+    run.kill()
+    sys.exit(0)
 out = socket.socket(socket.AF_INET, socket.SOCK_DGRAM)
 bursts = 44 * 2
 start = time.time()
@@ -149,13 +158,13 @@ a_stop_drops_the_backlog() {
   local pid=$!
   started+=("$pid")
   ready "$work/said"
-  (echo go; sleep 1) | "$sacn" desk "$work/show.toml" >/dev/null &
+  (echo go; lit; sleep 2) | "$sacn" desk "$work/show.toml" >/dev/null &
   local desk=$!
-  sleep 0.5
+  lit
   kill -STOP "$pid"
-  sleep 4
-  kill -CONT "$pid"
   wait "$desk"
+  sleep 3
+  kill -CONT "$pid"
   wait "$pid"
   grep -q '^dropped Late [0-9]' "$work/said" || return 1
   [ "$(levels "$work/lines")" = "00 ff 00 " ]
@@ -188,9 +197,10 @@ def terminal():
     if os.path.lexists(link): os.unlink(link)
     os.symlink(os.ttyname(slave), link)
     return master, slave
-def read(master, seconds):
-    data, end = b"", time.time() + seconds
-    while time.time() < end:
+# What comes until it is whole frames, and enough.
+def read(master, is_enough):
+    data, end = b"", time.time() + 20
+    while time.time() < end and not (data and len(data) % 518 == 0 and is_enough(data)):
         ready, _, _ = select.select([master], [], [], 0.1)
         if ready:
             try: data += os.read(master, 65536)
@@ -203,17 +213,17 @@ def frames(data):
 master, slave = terminal()
 run = subprocess.Popen([sacn, "gateway", work + "/node.toml", "--widget", "1=" + link, "--seconds", "9"], stdout=subprocess.PIPE, stderr=subprocess.PIPE, text=True)
 run.stderr.readline()
-dark = frames(read(master, 2.2))
+dark = frames(read(master, lambda data: len(data) >= 3 * 518))
 assert len(dark) >= 3 and set(dark) == {0}, dark
 desk = subprocess.Popen([sacn, "desk", work + "/show.toml"], stdin=subprocess.PIPE, stdout=subprocess.DEVNULL, text=True)
 desk.stdin.write("go\n"); desk.stdin.flush()
-lit = frames(read(master, 1))
+lit = frames(read(master, lambda data: data[-513] == 255))
 assert lit and lit[-1] == 255, lit
 os.unlink(link)
 os.close(slave); os.close(master)
 time.sleep(1.2)
 master, slave = terminal()
-again = frames(read(master, 2))
+again = frames(read(master, lambda data: True))
 assert again and again[0] == 255, again
 desk.stdin.close(); desk.wait()
 said = run.communicate()[1]
@@ -226,17 +236,20 @@ Ctrl_C_ends_each_universe() {
   python3 - "$sacn" "$work/show.toml" <<'P'
 import socket, subprocess, sys, time
 heard = socket.socket(socket.AF_INET, socket.SOCK_DGRAM)
-heard.bind(("127.0.0.1", 25808)); heard.settimeout(0.5)
+heard.bind(("127.0.0.1", 25808)); heard.settimeout(0.2)
 run = subprocess.Popen([sys.argv[1], "desk", sys.argv[2]], stdin=subprocess.PIPE, stdout=subprocess.PIPE, text=True)
 time.sleep(0.5)
 run.stdin.close()
 ends = {}
-try:
-    while True:
+while True:
+    is_over = run.poll() is not None
+    try:
         octets = heard.recv(2048)
-        if len(octets) == 638 and octets[112] & 0x40:
-            ends[octets[114]] = ends.get(octets[114], 0) + 1
-except TimeoutError: pass
+    except socket.timeout:
+        if is_over: break
+        continue
+    if len(octets) == 638 and octets[112] & 0x40:
+        ends[octets[114]] = ends.get(octets[114], 0) + 1
 sys.exit(0 if ends == {1: 3, 2: 3} and run.wait() == 0 else 1)
 P
 }
@@ -279,10 +292,10 @@ multicast_between_namespaces() {
     ip -n "$a" route add 239.255.0.0/16 dev va &&
     "$sacn" groups "$work/node.toml" --device vb | while read -r line; do ip -n "$b" ${line#ip }; done && {
     : >"$work/said"
-    ip netns exec "$b" "$sacn" gateway "$work/node.toml" --seconds 4 >"$work/lines" 2>"$work/said" &
+    ip netns exec "$b" "$sacn" gateway "$work/node.toml" --seconds 6 >"$work/lines" 2>"$work/said" &
     local pid=$!
     ready "$work/said"
-    (echo go; sleep 0.7) | ip netns exec "$a" "$sacn" desk "$work/show.toml" --multicast >/dev/null 2>"$work/desk"
+    (echo go; lit; sleep 0.2) | ip netns exec "$a" "$sacn" desk "$work/show.toml" --multicast >/dev/null 2>"$work/desk"
     wait "$pid"
     [ "$(levels "$work/lines")" = "00 ff 00 " ] && grep -q 'came 10.77.0.1$' "$work/said" && status=0
   }
@@ -299,12 +312,14 @@ for test in $tests; do
   verdict "$test" $?
 done
 in_three_tries bursts_lose_nothing
-verdict bursts_lose_nothing $?
-if ip netns add "sacn-try-$$" 2>/dev/null; then
+status=$?
+if [ -e "$work/lines.small" ]; then echo "skipped bursts_lose_nothing: this machine gives a socket too little room"; else verdict bursts_lose_nothing "$status"; fi
+if ip netns add "sacn-try-$$" 2>/dev/null && ip -n "sacn-try-$$" link add va type veth peer name vb 2>/dev/null; then
   ip netns del "sacn-try-$$"
   multicast_between_namespaces
   verdict multicast_between_namespaces $?
 else
+  ip netns del "sacn-try-$$" 2>/dev/null
   echo "skipped multicast_between_namespaces: no network namespaces can be made here"
 fi
 echo "$passed passed, $failed failed"

@@ -46,7 +46,8 @@ ends "no seconds" 2 "error: *" --seconds 0
 ends "a file" 2 "error: *" file
 # (Input that ends while it runs ends it; one that had ended before doesn't.)
 status=0
-sleep 1 | timeout 20 "$sacn" watch --port 25830 >out 2>err || status=$?
+: >err
+{ for _ in $(seq 300); do grep -q '^hears' err && break; sleep 0.1; done; } | timeout 60 "$sacn" watch --port 25830 >out 2>err || status=$?
 [ "$status" = 0 ] && grep -q '^datagrams to the port          0$' out
 verdict "the end of standard input" $? "status $status"
 
@@ -71,16 +72,16 @@ C=000102030405060708090a0b0c0d0e0f
 
 # tells NAME FORM PATTERN..: a watch beside a desk tells lines of these patterns, in this order
 tells() {
-  local name=$1 form=$2 place=0 at line watch
+  local name=$1 form=$2 place=0 at line
   shift 2
   # (before the start, so that the line of an earlier one isn't taken for this one's)
   : >err
-  timeout 20 "$sacn" watch --port 25831 --seconds 4 $form </dev/null >out 2>err &
-  watch=$!
-  started+=("$watch")
-  for _ in $(seq 50); do grep -q '^hears' err && break; sleep 0.1; done
-  "$sacn" desk show.toml --script script.txt </dev/null >desk.out 2>&1
-  wait "$watch" || { echo "not ok watch: $name: it fails"; return; }
+  {
+    for _ in $(seq 300); do grep -q '^hears' err && break; sleep 0.1; done
+    "$sacn" desk show.toml --script script.txt </dev/null >desk.out 2>&1
+    sleep 1
+  } | timeout 60 "$sacn" watch --port 25831 $form >out 2>err
+  [ "${PIPESTATUS[1]}" = 0 ] || { echo "not ok watch: $name: it fails"; return; }
   for line in "$@"; do
     at=$(tail -n "+$((place + 1))" out | grep -nE -m 1 "$line" | cut -d : -f 1)
     if [ -z "$at" ]; then

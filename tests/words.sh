@@ -57,6 +57,9 @@ refused 2 "error: --first takes a number of 0 to 255, in decimal digits" desk x 
 refused 2 "error: *" desk
 refused 2 "error: *" desk x --ttl 0
 refused 2 "error: *" desk x --ttl 256
+refused 2 "error: --ttl: without --multicast" desk x --ttl 8
+refused 2 "error: --ttl: without --multicast" desk x --to 10.0.0.1 --ttl 8
+refused 2 "error: --stay: without --script" desk x --stay
 refused 2 "error: *" desk x --first 256
 refused 2 "error: *" desk x --script
 refused 2 "error: *" desk x --multicast --multicast
@@ -81,6 +84,9 @@ refused 2 "error: *" explain x --page
 # Those of groups.
 refused 2 "error: *" groups x
 refused 2 "error: *" groups --device eth0
+refused 2 "error: : Device" groups x --device ""
+refused 2 "error: eth0; true: Device" groups x --device "eth0; true"
+refused 2 "error: *: Device" groups x --device "$(printf 'e%.0s' $(seq 128))"
 
 # Files that are absent, or faulty: each is named, with its fault.
 show='version = 1
@@ -105,7 +111,7 @@ faulty 'version = ' Toml desk
 faulty 'version = 1\n' MissingKey desk
 faulty '\xff' NotText desk
 printf 'version = 1\n[[cue]]\n' >faulty
-refused 3 "refused faulty UnknownKey" groups faulty --device eth0
+refused 3 "refused faulty MissingKey" groups faulty --device eth0
 # script OCTETS CAUSE
 script() {
   printf "$1" >script
@@ -124,6 +130,7 @@ refused 4 "device socket 192.0.2.1:25892 AddrNotAvailable" gateway setup --liste
 refused 2 "error: 7=/dev/null: NoPort" gateway setup --widget 7=/dev/null
 printf 'version = 1\nudp_port = 25892\n[[port]]\nnumber = 1\nuniverse = 1\n' >ported
 refused 2 "error: 2=/dev/null: NoPort" gateway ported --widget 1=/dev/null --widget 2=/dev/null
+refused 2 "error: 1=/dev/null: DeviceTaken" gateway ported --widget 1=/dev/null --widget 1=/dev/null
 
 # helps COMMAND TEXT: its help has the text, on standard output alone
 helps() {

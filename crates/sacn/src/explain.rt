@@ -23,7 +23,7 @@ pub fn say_unread<E: Write>(path: &str, err: &mut E) -> Ending {
 }
 
 /// Says what is wrong with a recording, and where.
-pub fn said_of_capture<E: Write>(path: &str, fault: CaptureFault, err: &mut E) -> Ending {
+pub fn say_capture_fault<E: Write>(path: &str, fault: CaptureFault, err: &mut E) -> Ending {
     match fault.kind {
         FaultKind::Device => return say_unread(path, err),
         FaultKind::OutOfMemory => return Ending::OutOfMemory,
@@ -93,7 +93,7 @@ fn tell_to_lines<I: BufRead + Drop, O: Write, E: Write>(
         Ok(()) => Ok(()),
         Err(ExplainFault::OutOfMemory) => Err(Ending::OutOfMemory),
         Err(ExplainFault::Device) => Err(Ending::DeviceWrite),
-        Err(ExplainFault::Capture(fault)) => Err(said_of_capture(asked.capture, fault, err)),
+        Err(ExplainFault::Capture(fault)) => Err(say_capture_fault(asked.capture, fault, err)),
     }
 }
 

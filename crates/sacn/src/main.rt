@@ -10,7 +10,6 @@ mod recording;
 mod watch;
 
 use sacn_commands::ending;
-use std::io::{ErrorKind, Write};
 use std::process::ExitCode;
 use std::{env, io};
 

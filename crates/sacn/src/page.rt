@@ -1,11 +1,11 @@
 //! A watch that browsers see.
 use crate::watch::watch_end;
 use sacn_commands::ending::Ending;
-use sacn_commands::live::{clock_of, of_socket, said_of_socket, say_hearing};
+use sacn_commands::live::{clock_of, of_socket, say_hearing};
 use sacn_live::UdpReceiver;
 use sacn_page::{Board, MAX_ALARMS, Pages};
 use sacn_watch::run_watch;
-use std::io::{ErrorKind, Write};
+use std::io::Write;
 use std::net::{Net, SocketAddrV4};
 use std::rt::Clock;
 
@@ -13,19 +13,6 @@ use std::rt::Clock;
 pub fn say_page<E: Write>(place: SocketAddrV4, err: &mut E) {
     let [a, b, c, d] = place.ip().octets();
     let _ = writeln!(err, "page http://{a}.{b}.{c}.{d}:{}/", place.port());
-}
-
-/// The pages that have their socket at a place; where the machine refused it, that is said, unless memory was wanting.
-pub fn of_pages<T, E: Write>(
-    bound: Result<T, ErrorKind>,
-    place: SocketAddrV4,
-    err: &mut E,
-) -> Result<T, Ending> {
-    match bound {
-        Ok(pages) => Ok(pages),
-        Err(ErrorKind::OutOfMemory) => Err(Ending::OutOfMemory),
-        Err(kind) => Err(said_of_socket(place, kind, err)),
-    }
 }
 
 /// Hears at an address until a moment in milliseconds, and serves a page of it. A viewer that names no universe is shown this
@@ -39,7 +26,7 @@ pub fn serve<R: AllocGlobal + Net + Clock, E: Write>(
     err: &mut E,
 ) -> Result<(), Ending> {
     let board = Board::new(rt.alloc(), universe, MAX_ALARMS)?;
-    let mut pages = of_pages(Pages::bind(rt, rt.alloc(), place, board), place, err)?;
+    let mut pages = of_socket(Pages::bind(rt, rt.alloc(), place, board), place, err)?;
     let bound = UdpReceiver::bind(rt, address, clock_of(rt)?);
     let mut receiver = of_socket(bound, address, err)?;
     receiver.wait_for_input();

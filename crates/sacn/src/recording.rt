@@ -1,9 +1,9 @@
 //! A recording that browsers see.
-use crate::explain::{ROOM, said_of_capture, say_unread};
-use crate::page::{of_pages, say_page};
+use crate::explain::{ROOM, say_capture_fault, say_unread};
+use crate::page::say_page;
 use crate::watch::watch_end;
 use sacn_commands::ending::{Ending, REFUSED};
-use sacn_commands::live::clock_of;
+use sacn_commands::live::{clock_of, of_socket};
 use sacn_live::{SACN_PORT, guard_standard_descriptors};
 use sacn_page::{Pages, Quiet, Recording, SeekFault, Tape};
 use sacn_watch::{Listener, run_watch};
@@ -72,7 +72,7 @@ fn serve_file<R: AllocGlobal + Files + Net + Clock, E: Write>(
     let name = name_of(asked.capture);
     match Recording::open(rt.alloc(), tape, name, port, universe) {
         Ok(recording) => serve_recording(rt, asked, recording, place, err),
-        Err(fault) => Err(said_of_capture(asked.capture, fault, err)),
+        Err(fault) => Err(say_capture_fault(asked.capture, fault, err)),
     }
 }
 
@@ -93,7 +93,7 @@ fn serve_recording<R: AllocGlobal + Files + Net + Clock, E: Write>(
     let fault = recording.fault();
     let mut ending = Ok(());
     if let Some(fault) = fault {
-        ending = Err(said_of_capture(asked.capture, fault, err));
+        ending = Err(say_capture_fault(asked.capture, fault, err));
     }
     serve_pages(rt, recording, &mut quiet, place, asked.until(), err)?;
     ending
@@ -123,7 +123,7 @@ fn serve_pages<R: AllocGlobal + Files + Net + Clock, E: Write>(
     until: u64,
     err: &mut E,
 ) -> Result<(), Ending> {
-    let pages = of_pages(Pages::bind(rt, rt.alloc(), place, recording), place, err)?;
+    let pages = of_socket(Pages::bind(rt, rt.alloc(), place, recording), place, err)?;
     show(pages, quiet, place, until, err)
 }
 

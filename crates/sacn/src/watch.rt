@@ -7,7 +7,7 @@ use sacn_explain::Options;
 use sacn_files::words::short_in;
 use sacn_live::{UdpReceiver, guard_standard_descriptors, output_is_terminal};
 use sacn_watch::{Listener, Size, WatchFault, watch_lines, watch_terminal};
-use sacn_words::WatchAsked;
+use sacn_words::{WatchAsked, moment_of};
 use std::env::{self, Env};
 use std::io::Write;
 use std::net::{Net, SocketAddrV4};
@@ -34,10 +34,7 @@ pub fn watch<R: AllocGlobal + Env + Net + Clock, O: Write, E: Write>(
 ) -> Result<(), Ending> {
     guard_standard_descriptors();
     let address = SocketAddrV4::new(asked.listen, asked.port);
-    let until = match asked.seconds {
-        Some(seconds) => seconds.saturating_mul(1000),
-        None => u64::MAX,
-    };
+    let until = moment_of(asked.seconds);
     if let Some(place) = asked.page {
         let universe = asked.universes.first().copied();
         return serve(rt, address, place, universe, until, err);

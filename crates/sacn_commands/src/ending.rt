@@ -16,7 +16,7 @@ use sacn_world::{WorldFault, WorldTextFault};
 use std::alloc::{AllocError, AllocFailed, Global};
 use std::io::{self, Write};
 
-/// The exit statuses.
+/// What was asked for is done.
 pub const DONE: u8 = 0;
 
 /// The words, or what they ask for, can't be.

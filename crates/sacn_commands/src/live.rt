@@ -1,7 +1,8 @@
-//! Gateways and desks that run a rig.
+//! Gateways and desks that run a rig, and what they and the other commands say of files and sockets.
 use crate::ending::{BAD_WORDS, DEVICE_FAILED, Ending, REFUSED, of_write};
 use crate::files::text_of_file;
 use crate::network::tell;
+use sacn_check::{FileKind, kind_of};
 use sacn_console::{Command, ConsoleCore, Show, TextFault, read_script, read_show};
 use sacn_edge::{ConsoleReport, Link, WriterOut};
 use sacn_framing::multicast_group;
@@ -11,28 +12,28 @@ use sacn_live::{
     Watch, Widget, guard_standard_descriptors, run_desk, run_gateway,
 };
 use sacn_node::{NodeCore, NodeSetup, read_node};
-use sacn_words::{DeskAsked, GatewayAsked};
+use sacn_words::{DeskAsked, GatewayAsked, moment_of};
 use std::alloc::Global;
 use std::io::{ErrorKind, Write};
 use std::net::{Ipv4Addr, Net, SocketAddrV4};
 use std::rt::{Clock, Files};
 
 // Says the fault of a file with its name, and returns how the run ends.
-fn said_of_file<E: Write>(path: &str, ending: Ending, err: &mut E) -> Ending {
+fn say_file_fault<E: Write>(path: &str, ending: Ending, err: &mut E) -> Ending {
     let (line, status) = match ending {
         Ending::DeviceRead => (writeln!(err, "device read {path}"), DEVICE_FAILED),
         Ending::TooLarge => (writeln!(err, "refused {path} TooLarge"), REFUSED),
         Ending::NotText => (writeln!(err, "refused {path} NotText"), REFUSED),
         Ending::Show(fault) => (writeln!(err, "refused {path} {fault:?}"), REFUSED),
         Ending::Setup(fault) => (writeln!(err, "refused {path} {fault:?}"), REFUSED),
-        Ending::Line(fault) => (said_of_line(path, fault, err), REFUSED),
+        Ending::Line(fault) => (say_line_fault(path, fault, err), REFUSED),
         other => return other,
     };
     let _ = line;
     Ending::Said(status)
 }
 
-fn said_of_line<E: Write>(path: &str, fault: TextFault, err: &mut E) -> std::io::Result<()> {
+fn say_line_fault<E: Write>(path: &str, fault: TextFault, err: &mut E) -> std::io::Result<()> {
     match fault {
         TextFault::OutOfMemory => writeln!(err, "refused {path} OutOfMemory"),
         TextFault::UnknownWord(line) => writeln!(err, "refused {path} line {line} UnknownWord"),
@@ -46,12 +47,12 @@ fn said_of_line<E: Write>(path: &str, fault: TextFault, err: &mut E) -> std::io:
 pub fn of_file<T, E: Write>(read: Result<T, Ending>, path: &str, err: &mut E) -> Result<T, Ending> {
     match read {
         Ok(value) => Ok(value),
-        Err(ending) => Err(said_of_file(path, ending, err)),
+        Err(ending) => Err(say_file_fault(path, ending, err)),
     }
 }
 
 /// Says why the machine refused a socket, and returns how the run ends.
-pub fn said_of_socket<E: Write>(address: SocketAddrV4, kind: ErrorKind, err: &mut E) -> Ending {
+pub fn say_socket_fault<E: Write>(address: SocketAddrV4, kind: ErrorKind, err: &mut E) -> Ending {
     let [a, b, c, d] = address.ip().octets();
     let _ = writeln!(
         err,
@@ -69,7 +70,8 @@ pub fn of_socket<T, E: Write>(
 ) -> Result<T, Ending> {
     match bound {
         Ok(value) => Ok(value),
-        Err(kind) => Err(said_of_socket(address, kind, err)),
+        Err(ErrorKind::OutOfMemory) => Err(Ending::OutOfMemory),
+        Err(kind) => Err(say_socket_fault(address, kind, err)),
     }
 }
 
@@ -144,7 +146,7 @@ fn widgets_of<'a, R: AllocGlobal>(
     Ok(widgets)
 }
 
-// Refuses an interface for a port that the setup hasn't.
+// Refuses an interface for a port that the setup hasn't, and one that two ports would have.
 fn check_widgets<E: Write>(
     asked: &[(u8, &str)],
     setup: &NodeSetup,
@@ -153,6 +155,10 @@ fn check_widgets<E: Write>(
     for (port, path) in asked {
         if setup.ports().iter().all(|it| it.number() != *port) {
             let _ = writeln!(err, "error: {port}={path}: NoPort");
+            return Err(Ending::Said(BAD_WORDS));
+        }
+        if asked.iter().filter(|it| it.1 == *path).count() > 1 {
+            let _ = writeln!(err, "error: {port}={path}: DeviceTaken");
             return Err(Ending::Said(BAD_WORDS));
         }
     }
@@ -169,11 +175,11 @@ pub fn gateway<R: AllocGlobal + Files + Net + Clock, O: Write, E: Write>(
     guard_standard_descriptors();
     let setup = of_file(setup_of_file(rt, asked.setup), asked.setup, err)?;
     check_widgets(asked.widgets.as_slice(), &setup, err)?;
-    show_setup(rt, asked, &setup, out, err)
+    run_setup(rt, asked, &setup, out, err)
 }
 
 // Runs a gateway of a setup. (The check of a function takes much longer the more values it has to drop on its ways out.)
-fn show_setup<R: AllocGlobal + Net + Clock, O: Write, E: Write>(
+fn run_setup<R: AllocGlobal + Net + Clock, O: Write, E: Write>(
     rt: &R,
     asked: &GatewayAsked<'_>,
     setup: &NodeSetup,
@@ -186,10 +192,7 @@ fn show_setup<R: AllocGlobal + Net + Clock, O: Write, E: Write>(
     let mut core = NodeCore::new(rt.alloc(), setup)?;
     let span = Span {
         turns: u64::MAX,
-        until: match asked.seconds {
-            Some(seconds) => seconds.saturating_mul(1000),
-            None => u64::MAX,
-        },
+        until: moment_of(asked.seconds),
     };
     let mut lines = WriterOut::new(&mut *out);
     run_gateway(
@@ -303,7 +306,7 @@ fn send_show<R: AllocGlobal + Net + Clock, O: Write, E: Write>(
         &mut *err,
     ) {
         Ok(link) => link,
-        Err(kind) => return Err(said_of_socket(SocketAddrV4::new(asked.bind, 0), kind, err)),
+        Err(kind) => return Err(say_socket_fault(SocketAddrV4::new(asked.bind, 0), kind, err)),
     };
     run_orders(rt.alloc(), plan, clock, &mut link, core, out)
 }
@@ -328,12 +331,12 @@ fn run_orders<R: Clock, L: Link, O: Write>(
 // The universes of a setup or of a show.
 fn universes_of_file<R: AllocGlobal + Files>(rt: &R, path: &str) -> Result<Vec<u16>, Ending> {
     let text = text_of_file(rt, path)?;
-    match read_node(rt.alloc(), text.as_str()) {
-        Ok(setup) => universes_of_setup(rt, &setup),
-        Err(fault) => match read_show(rt.alloc(), text.as_str()) {
-            Ok(show) => Ok(show.universes().to_vec(rt.alloc())?),
-            Err(_) => Err(Ending::Setup(fault)),
-        },
+    match kind_of(rt.alloc(), text.as_str())? {
+        Some(FileKind::Show) => {
+            let show = read_show(rt.alloc(), text.as_str())?;
+            Ok(show.universes().to_vec(rt.alloc())?)
+        }
+        _ => universes_of_setup(rt, &read_node(rt.alloc(), text.as_str())?),
     }
 }
 

@@ -284,7 +284,7 @@ pub fn number<'a>(alloc: Global, matches: &ArgMatches<'a>, name: &str) -> Result
 }
 
 pub fn text<'a>(matches: &ArgMatches<'a>, name: &str) -> &'a str {
-    // clap saw to it that each file is named.
+    // clap saw to it that it is given.
     matches.get_str(name).unwrap_or("")
 }
 
@@ -332,7 +332,7 @@ fn asked_of<'a>(alloc: Global, matches: &ArgMatches<'a>) -> Result<Asked<'a>, Er
         Some(("node", node)) => node_asked(alloc, node),
         Some(("gateway", gateway)) => live::gateway_asked(alloc, gateway),
         Some(("desk", desk)) => live::desk_asked(alloc, desk),
-        Some(("groups", groups)) => Ok(live::groups_asked(groups)),
+        Some(("groups", groups)) => live::groups_asked(alloc, groups),
         Some(("explain", words)) => explain::asked_of(alloc, words),
         Some(("watch", words)) => watch::asked_of(alloc, words),
         Some(("check", words)) => check::asked_of(alloc, words),

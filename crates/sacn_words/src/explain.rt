@@ -1,6 +1,6 @@
 //! The words of `explain`.
 use crate::command::{Asked, SETUP_HELP, file, refused_words, subcommand, text};
-use crate::live::{flag, seconds, seconds_in, word, words};
+use crate::live::{flag, moment_of, seconds, seconds_in, word, words};
 use crate::page::page_at;
 use clap::{ArgMatches, Command, Error};
 use sacn_files::words::short_in;
@@ -33,10 +33,7 @@ pub struct ExplainAsked<'a> {
 impl<'a> ExplainAsked<'a> {
     /// The moment until which a page is served, in milliseconds.
     pub fn until(&self) -> u64 {
-        match self.seconds {
-            Some(seconds) => seconds.saturating_mul(1000),
-            None => u64::MAX,
-        }
+        moment_of(self.seconds)
     }
 }
 
@@ -53,7 +50,7 @@ pub fn command<'a>(alloc: Global) -> Result<Command<'a>, Error> {
         words(alloc, "universe", "U", universe),
         flag(alloc, "json", "Prints an object of JSON on each line"),
         word(alloc, "page", "[ADDRESS:]PORT", page),
-        seconds(alloc).help("How many seconds the page is served, 1 to 1000000000"),
+        seconds(alloc).help("How many seconds it runs with --page, 1 to 1000000000"),
     ]?;
     subcommand(alloc, "explain", ABOUT, args)
 }
@@ -97,7 +94,7 @@ fn page_in<'a>(alloc: Global, matches: &ArgMatches<'a>) -> Result<Option<SocketA
     if matches.get_str("setup").is_some() {
         return Err(refused_words(alloc, "--page", "beside --setup"));
     }
-    page_at(alloc, word)
+    Ok(Some(page_at(alloc, word)?))
 }
 
 // How long a page is served.

@@ -12,6 +12,6 @@ mod watch;
 pub use check::CheckAsked;
 pub use command::{Asked, parse};
 pub use explain::ExplainAsked;
-pub use live::{DeskAsked, GatewayAsked};
+pub use live::{DeskAsked, GatewayAsked, moment_of};
 pub use manual::manual_text;
 pub use watch::WatchAsked;

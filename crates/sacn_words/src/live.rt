@@ -20,6 +20,9 @@ const GROUPS_HELP: &str = "A setup or a show, as those of a gateway and of a des
 
 const MAX_SECONDS: i64 = 1_000_000_000;
 
+/// The letters of the longest name that Linux gives a network device.
+const MAX_DEVICE: usize = 127;
+
 /// What a gateway is asked.
 #[derive(Drop)]
 pub struct GatewayAsked<'a> {
@@ -170,6 +173,14 @@ fn widgets<'a>(alloc: Global, matches: &ArgMatches<'a>) -> Result<Vec<(u8, &'a s
     Ok(widgets)
 }
 
+/// The moment until which a run of so many seconds goes on, in milliseconds.
+pub fn moment_of(seconds: Option<u64>) -> u64 {
+    match seconds {
+        Some(seconds) => seconds.saturating_mul(1000),
+        None => u64::MAX,
+    }
+}
+
 /// How many seconds a run takes, where that is said.
 pub fn seconds_in<'a>(alloc: Global, matches: &ArgMatches<'a>) -> Result<Option<u64>, Error> {
     match matches.get_str("seconds") {
@@ -208,10 +219,35 @@ fn hosts<'a>(alloc: Global, matches: &ArgMatches<'a>) -> Result<Vec<SocketAddrV4
     Ok(hosts)
 }
 
+// Whether an address is a group's (224.0.0.0/4).
+fn is_group(host: &SocketAddrV4) -> bool {
+    let [first, _, _, _] = host.ip().octets();
+    first & 0xf0 == 0xe0
+}
+
+// The time to live of what is sent to groups; one that nothing sent would have is refused.
+fn ttl_in<'a>(alloc: Global, matches: &ArgMatches<'a>, to: &[SocketAddrV4]) -> Result<u8, Error> {
+    let ttl = number(alloc, matches, "ttl")?;
+    if ttl != 1 && !matches.get_flag("multicast") && !to.iter().any(is_group) {
+        return Err(refused_words(alloc, "--ttl", "without --multicast"));
+    }
+    Ok(u8::try_from(ttl).unwrap_or(1))
+}
+
+// Whether a desk goes on after its script.
+fn stays_in<'a>(alloc: Global, matches: &ArgMatches<'a>) -> Result<bool, Error> {
+    let stays = matches.get_flag("stay");
+    if stays && matches.get_str("script").is_none() {
+        return Err(refused_words(alloc, "--stay", "without --script"));
+    }
+    Ok(stays)
+}
+
 pub fn desk_asked<'a>(alloc: Global, matches: &ArgMatches<'a>) -> Result<Asked<'a>, Error> {
     let first = number(alloc, matches, "first")?;
-    let ttl = number(alloc, matches, "ttl")?;
     let to = hosts(alloc, matches)?;
+    let ttl = ttl_in(alloc, matches, to.as_slice())?;
+    let stays = stays_in(alloc, matches)?;
     let is_multicast = matches.get_flag("multicast");
     if is_multicast && !to.is_empty() {
         return Err(refused_words(alloc, "--to", "beside --multicast"));
@@ -220,17 +256,27 @@ pub fn desk_asked<'a>(alloc: Global, matches: &ArgMatches<'a>) -> Result<Asked<'
         show: text(matches, "SHOW"),
         to,
         is_multicast,
-        ttl: u8::try_from(ttl).unwrap_or(1),
+        ttl,
         bind: host(alloc, matches, "bind", Ipv4Addr::UNSPECIFIED)?,
         script: matches.get_str("script"),
         first: u8::try_from(first).unwrap_or(0),
-        stays: matches.get_flag("stay"),
+        stays,
     }))
 }
 
-pub fn groups_asked<'a>(matches: &ArgMatches<'a>) -> Asked<'a> {
-    Asked::Groups {
-        file: text(matches, "FILE"),
-        device: text(matches, "device"),
+// Whether a letter may stand in the name of a network device, as it is written into a command.
+fn is_of_device(letter: &u8) -> bool {
+    matches!(*letter, b'a'..=b'z' | b'A'..=b'Z' | b'0'..=b'9' | b'.' | b'_' | b'-' | b':' | b'@')
+}
+
+pub fn groups_asked<'a>(alloc: Global, matches: &ArgMatches<'a>) -> Result<Asked<'a>, Error> {
+    let device = text(matches, "device");
+    let letters = device.as_bytes();
+    if letters.is_empty() || letters.len() > MAX_DEVICE || !letters.iter().all(is_of_device) {
+        return Err(refused_words(alloc, device, "Device"));
     }
+    Ok(Asked::Groups {
+        file: text(matches, "FILE"),
+        device,
+    })
 }

@@ -8,7 +8,7 @@ use sacn_manual::{
 use std::alloc::{AllocError, Global};
 
 /// The day of the manual's latest change.
-const DATE: &str = "2026-11-23";
+const DATE: &str = "2026-11-26";
 
 const MANUAL_ABOUT: &str = "Prints this program's manual, a page in roff that `man -l` shows";
 

@@ -31,13 +31,13 @@ pub fn page_in<'a>(alloc: Global, matches: &ArgMatches<'a>) -> Result<Option<Soc
     if matches.get_flag("json") {
         return Err(refused_words(alloc, "--page", "beside --json"));
     }
-    page_at(alloc, word)
+    Ok(Some(page_at(alloc, word)?))
 }
 
 /// Where a page is served by this word.
-pub fn page_at(alloc: Global, word: &str) -> Result<Option<SocketAddrV4>, Error> {
+pub fn page_at(alloc: Global, word: &str) -> Result<SocketAddrV4, Error> {
     match place_of(word) {
-        Ok(place) => Ok(Some(place)),
+        Ok(place) => Ok(place),
         Err(fault) => Err(refused_words(alloc, word, fault_name(fault))),
     }
 }
