@@ -112,7 +112,7 @@ fn order(held: &mut Held, now: u64, command: Command) -> u32
 }
 
 /// Gives the datagram that is due, as `ConsoleCore::poll`; the count is 0 where none is.
-#[tactic(auto, using(crate::proofs::Told::none_due))]
+#[tactic(auto, using(crate::proofs::StatusFields::none_due))]
 pub fn poll(held: &mut Held, now: u64, out: &mut [u8; MAX_DATAGRAM], count: &mut usize) -> u32
     ensures status { result ≡ of_console WRONG_HANDLE (λ c. DONE) held.old }
     ensures lawful { (c : Core) (d : Datagram) → held.old ≡ Held.Console c → due (at now c) ≡ Some d

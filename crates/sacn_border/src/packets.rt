@@ -67,7 +67,7 @@ fn put_page(page: &PageView<'_>, packet: &mut PacketFields)
 }
 
 /// Reads a packet, as `read_packet`. The status is the fault's number.
-#[tactic(auto, using(crate::proofs::Told::only_told, crate::proofs::Told::asked_again))]
+#[tactic(auto, using(crate::proofs::StatusFields::only_told, crate::proofs::StatusFields::asked_again))]
 pub fn read_fields(octets: &[u8], packet: &mut PacketFields) -> u32
     // What is told stands there.
     ensures found { IfOk (reading_packet octets.now) (Reads octets.now) }
@@ -98,7 +98,7 @@ pub fn read_fields(octets: &[u8], packet: &mut PacketFields) -> u32
 }
 
 /// The same, and the frame of a data packet: its start code, and then its slots, 0 where none is given.
-#[tactic(auto, using(crate::proofs::Told::only_told, crate::proofs::Told::asked_again))]
+#[tactic(auto, using(crate::proofs::StatusFields::only_told, crate::proofs::StatusFields::asked_again))]
 pub fn read_data(octets: &[u8], packet: &mut PacketFields, frame: &mut [u8; 513]) -> u32
     // What is told stands there.
     ensures found { IfOk (reading_packet octets.now) (Reads octets.now) }
@@ -173,7 +173,7 @@ pub fn write_fields(
 }
 
 /// Whether a packet is in sequence, as `in_sequence`: 1 or 0.
-#[tactic(auto, using(crate::proofs::Told::zero_where, crate::proofs::Told::one_where))]
+#[tactic(auto, using(crate::proofs::StatusFields::zero_where, crate::proofs::StatusFields::one_where))]
 pub fn sequence_bit(held: u8, arrived: u8) -> u8
     ensures value { result ≡ bit_of (not (is_late held arrived)) }
     ensures discarded { (result ≡ 0) ↔ IsOutOfSequence held arrived }

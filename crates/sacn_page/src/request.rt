@@ -145,7 +145,7 @@ fn asked_by(request: &Request<'_, '_>, hosts: &Hosts) -> Result<Asked, Refusal>
 }
 
 // Whether there is one Host field, and it names one of these hosts.
-#[tactic(auto, using(crate::proofs::Mapped::own_is))]
+#[tactic(auto, using(crate::proofs::Mapping::own_is))]
 fn is_own(fields: &[Header<'_>], hosts: &Hosts) -> bool
     ensures { result ≡ is_own hosts.now (map header_parts fields.now) }
 {
