@@ -52,7 +52,7 @@ module _ {A B : List ℕ → Type 0} (more : (xs : List ℕ) → A xs → B xs) 
   breaks (sim.Schedule fault) failed s b = absurd b
 
   breaks_off : (fault : SimFault) (failed : Bool) (world schedule : List ℕ) → BreaksOff fault failed A world schedule → BreaksOff fault failed B world schedule
-  breaks_off fault failed world schedule b = (b.0, b.1, b.2, breaks fault failed (simulating.simulated (simulating.begun b.0) 0 b.1) b.3)
+  breaks_off fault failed world schedule b = (b.0, b.1, b.2, breaks fault failed (simulating.simulated (simulating.world_at_start b.0) 0 b.1) b.3)
 
   simulating_stops : (fault : SimFault) (failed : Bool) (world schedule : List ℕ) → simulating.Stops fault failed A world schedule → StopsSimulating fault B world schedule
   simulating_stops (sim.World fault) failed world schedule s = (failed, (s.0, s.1, more [] s.2))
@@ -67,7 +67,7 @@ module _ {A B : List ℕ → Type 0} (more : (xs : List ℕ) → A xs → B xs) 
   simulates (Err fault) failed world schedule s = simulating_stops fault failed world schedule s
 
   ends : (failed : Bool) (world schedule : List ℕ) → failed ≡ false → Ends failed A world schedule → Ends false B world schedule
-  ends failed world schedule is e = (refl, (e.1.0, e.1.1, e.1.2, e.1.3, more (simulating.simulated (simulating.begun e.1.0) 0 e.1.1).text e.1.4))
+  ends failed world schedule is e = (refl, (e.1.0, e.1.1, e.1.2, e.1.3, more (simulating.simulated (simulating.world_at_start e.1.0) 0 e.1.1).text e.1.4))
 
   pub simulated_all : {T F : Type 0} (r : Result T F) (failed : Bool) (world schedule : List ℕ) → OnOk r (Ends failed A world schedule) → OnOk r (Ends false B world schedule)
   simulated_all (Ok x) failed world schedule e = ends failed world schedule e.0 e
