@@ -129,7 +129,7 @@ refused 4 "device socket 192.0.2.1:25892 AddrNotAvailable" gateway setup --liste
 # An interface for a port that the setup hasn't.
 refused 2 "error: 7=/dev/null: NoPort" gateway setup --widget 7=/dev/null
 printf 'version = 1\nudp_port = 25892\n[[port]]\nnumber = 1\nuniverse = 1\n' >ported
-refused 2 "error: 2=/dev/null: NoPort" gateway ported --widget 1=/dev/null --widget 2=/dev/null
+refused 2 "error: 2=/dev/zero: NoPort" gateway ported --widget 1=/dev/null --widget 2=/dev/zero
 refused 2 "error: 1=/dev/null: DeviceTaken" gateway ported --widget 1=/dev/null --widget 1=/dev/null
 
 # helps COMMAND TEXT: its help has the text, on standard output alone
