@@ -20,7 +20,7 @@ use std::io::BufRead;
 pub const LONGEST_KEPT: usize = 65_535;
 
 /// Where a frame is: at the front of the room, or left out.
-#[derive(Clone, Copy, Debug)]
+#[derive(Clone, Copy)]
 pub enum Frame {
     Kept(LinkType, usize),
     LeftOut(Passed),

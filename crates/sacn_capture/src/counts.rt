@@ -7,7 +7,7 @@ use crate::frame::Datagram;
 use crate::links::Passed;
 
 /// How many frames there were of each kind. Each count stops at 2^64 - 1.
-#[derive(Clone, Copy, Debug, PartialEq, Eq)]
+#[derive(Clone, Copy, PartialEq, Eq)]
 pub struct Counts {
     /// Frames with a datagram.
     pub datagrams: u64,

@@ -8,7 +8,7 @@ use std::io;
 use thiserror::Error;
 
 /// What is wrong with a recording.
-#[derive(Clone, Copy, Debug, PartialEq, Eq, Error)]
+#[derive(Clone, Copy, Debug, Error)]
 pub enum FaultKind {
     /// A growth was refused.
     #[error("there isn't enough memory")]
@@ -64,7 +64,7 @@ impl From<io::Error> for FaultKind {
 }
 
 /// What is wrong with a recording, and where.
-#[derive(Clone, Copy, Debug, PartialEq, Eq, Error)]
+#[derive(Clone, Copy, Debug, Error)]
 #[error("at octet {at}: {kind}")]
 pub struct CaptureFault {
     /// Where the header, the block or the frame begins that is wrong, in octets from the file's first.

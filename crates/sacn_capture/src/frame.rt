@@ -22,7 +22,7 @@ const UDP: u8 = 17;
 const FRAGMENT_MASK: u16 = 0x3fff;
 
 /// A datagram of UDP over IPv4, lent out of the frame that carried it. Checksums aren't looked at.
-#[derive(Clone, Copy, Debug)]
+#[derive(Clone, Copy)]
 pub struct Datagram<'a> {
     /// The sender's address.
     pub sender: [u8; 4],

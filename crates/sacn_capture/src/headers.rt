@@ -14,7 +14,7 @@ use crate::pcapng::{BLOCK_HEAD, SECTION_HEAD, Section, is_section, section_in};
 use std::io::BufRead;
 
 /// How the file is written.
-#[derive(Clone, Copy, Debug)]
+#[derive(Clone, Copy)]
 pub enum Format {
     Pcap(PcapHeader),
     Pcapng(ByteOrder),

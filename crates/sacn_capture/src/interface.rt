@@ -5,7 +5,7 @@ ghost use Rattle.std.specs.Prelude.{◌<◌};
 use crate::links::LinkType;
 
 /// An interface that a section describes.
-#[derive(Clone, Copy, Debug, PartialEq, Eq)]
+#[derive(Clone, Copy)]
 pub struct Described {
     /// Its link; none where frames of that link aren't read here.
     pub link: Option<LinkType>,

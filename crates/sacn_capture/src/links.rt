@@ -7,7 +7,7 @@ ghost use Rattle.sacn_capture.specs.Links.{link_of, network_by_type, network_by_
 use crate::octets::ByteOrder;
 
 /// A kind of link whose frames are read, by the numbers of the registry of link types.
-#[derive(Clone, Copy, Debug, PartialEq, Eq)]
+#[derive(Clone, Copy)]
 pub enum LinkType {
     /// Ethernet (1), with up to two VLAN tags.
     Ethernet,
@@ -24,7 +24,7 @@ pub enum LinkType {
 }
 
 /// Why a frame was passed over: the first test that failed.
-#[derive(Clone, Copy, Debug, PartialEq, Eq)]
+#[derive(Clone, Copy, Debug)]
 pub enum Passed {
     /// What the link carries is neither IPv4 nor IPv6.
     NotIp,
@@ -43,7 +43,7 @@ pub enum Passed {
 }
 
 /// What a link's header names.
-#[derive(Clone, Copy, PartialEq, Eq)]
+#[derive(Clone, Copy)]
 pub enum Network {
     Ipv4,
     Ipv6,

@@ -4,7 +4,7 @@ ghost use Rattle.std.specs.Prelude.{◌≡◌, ◌+◌, ◌≤◌, length};
 ghost use Rattle.sacn_capture.specs.Octets.{number16, number32};
 
 /// Which octet of a number stands first: the order of the machine that wrote the file.
-#[derive(Clone, Copy, Debug, PartialEq, Eq)]
+#[derive(Clone, Copy)]
 pub enum ByteOrder {
     /// The high octet first, as on a network.
     Big,

@@ -24,21 +24,21 @@ const MAJOR: u16 = 2;
 pub const LONGEST: u32 = 262_144;
 
 /// What a record's moment counts beside its seconds.
-#[derive(Clone, Copy, Debug, PartialEq, Eq)]
+#[derive(Clone, Copy)]
 pub enum Fraction {
     Micro,
     Nano,
 }
 
 /// How a file's numbers are written.
-#[derive(Clone, Copy, Debug, PartialEq, Eq)]
+#[derive(Clone, Copy)]
 pub struct Stamp {
     pub order: ByteOrder,
     pub fraction: Fraction,
 }
 
 /// A file's header.
-#[derive(Clone, Copy, Debug, PartialEq, Eq)]
+#[derive(Clone, Copy)]
 pub struct PcapHeader {
     pub stamp: Stamp,
     /// The link of all its frames.
@@ -46,7 +46,7 @@ pub struct PcapHeader {
 }
 
 /// What stands before a frame.
-#[derive(Clone, Copy, Debug, PartialEq, Eq)]
+#[derive(Clone, Copy)]
 pub struct RecordHead {
     /// When the frame was taken, in milliseconds since 1970.
     pub moment: u64,

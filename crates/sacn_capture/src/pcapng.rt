@@ -54,7 +54,7 @@ const OPTION_HEAD: usize = 4;
 const MICROSECONDS: u8 = 6;
 
 /// What a block is, by its type.
-#[derive(Clone, Copy, Debug, PartialEq, Eq)]
+#[derive(Clone, Copy)]
 pub enum BlockKind {
     /// An interface description (1).
     Interface,
@@ -67,7 +67,7 @@ pub enum BlockKind {
 }
 
 /// What stands before a block's body.
-#[derive(Clone, Copy, Debug, PartialEq, Eq)]
+#[derive(Clone, Copy)]
 pub struct BlockHead {
     pub kind: BlockKind,
     /// The octets of the whole block: at least 12, in fours.
@@ -75,7 +75,7 @@ pub struct BlockHead {
 }
 
 /// The front of a section header.
-#[derive(Clone, Copy, Debug, PartialEq, Eq)]
+#[derive(Clone, Copy)]
 pub struct Section {
     /// The order of the section's numbers.
     pub order: ByteOrder,
@@ -84,7 +84,7 @@ pub struct Section {
 }
 
 /// What stands before the frame in an enhanced packet block.
-#[derive(Clone, Copy, Debug, PartialEq, Eq)]
+#[derive(Clone, Copy)]
 pub struct EnhancedHead {
     /// The interface that took the frame, counted from 0 in its section.
     pub interface: u32,

@@ -21,7 +21,7 @@ use std::alloc::Global;
 use std::io::BufRead;
 
 /// A frame of a recording.
-#[derive(Clone, Copy, Debug)]
+#[derive(Clone, Copy)]
 pub struct Record<'a> {
     /// When it was taken, in milliseconds since 1970. A simple packet has no moment: it takes that of the frame before
     /// it, 0 at first.
@@ -63,7 +63,7 @@ impl<R: BufRead + Drop> Capture<R> {
 }
 
 /// What one piece of a recording gives.
-#[derive(Clone, Copy, Debug)]
+#[derive(Clone, Copy)]
 enum Step {
     /// There is none: the file has ended.
     Ended,

@@ -11,7 +11,7 @@ use std::alloc::{AllocError, Global};
 pub const MAX_TOLD: usize = 100;
 
 /// Why a cue or an entry of the patch is refused, more closely than its reader says.
-#[derive(Clone, Copy, Debug, PartialEq, Eq)]
+#[derive(Clone, Copy, Debug)]
 pub enum Detail {
     /// The channel isn't 1 to 2048.
     ChannelRange,

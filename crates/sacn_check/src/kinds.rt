@@ -6,7 +6,7 @@ use std::alloc::{AllocError, Global};
 use toml::Table;
 
 /// The kinds of files that a reader has.
-#[derive(Clone, Copy, Debug, PartialEq, Eq)]
+#[derive(Clone, Copy)]
 pub enum FileKind {
     Show,
     Setup,

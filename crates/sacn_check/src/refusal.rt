@@ -7,7 +7,7 @@ use sacn_node::SetupFault;
 use sacn_schedule::WorldTextFault;
 
 /// Why the reader of a file refuses it, by the reader's own names.
-#[derive(Clone, Copy, Debug, PartialEq, Eq)]
+#[derive(Clone, Copy, PartialEq, Eq)]
 pub enum Refusal {
     Show(ShowFault),
     Setup(SetupFault),

@@ -9,7 +9,7 @@ use std::io::{self, Write};
 use thiserror::Error;
 
 /// Why what is wrong with a file can't be printed.
-#[derive(Clone, Copy, Debug, PartialEq, Eq, Error)]
+#[derive(Clone, Copy, Debug, Error)]
 pub enum ReportFault {
     #[error("out of memory")]
     OutOfMemory,

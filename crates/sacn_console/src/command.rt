@@ -5,7 +5,7 @@ use sacn_cues::PlayFault;
 use thiserror::Error;
 
 /// A command to a console (profile).
-#[derive(Clone, Copy, Debug, PartialEq, Eq)]
+#[derive(Clone, Copy, PartialEq, Eq)]
 pub enum Command {
     /// Goes to the next cue.
     Go,

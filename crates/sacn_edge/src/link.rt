@@ -6,7 +6,7 @@ ghost use Rattle.sacn_edge.specs.Hearings.{Transcript, heard_of, FitsBuffer, Hea
 pub const BUFFER_OCTETS: usize = 2048;
 
 /// What one receive answers.
-#[derive(Clone, Copy, Debug, PartialEq, Eq)]
+#[derive(Clone, Copy, PartialEq, Eq)]
 pub enum Received {
     /// Nothing is there.
     Nothing,

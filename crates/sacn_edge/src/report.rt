@@ -9,7 +9,7 @@ use itoa::Buffer;
 use std::io::{self, Write};
 
 /// What a node's run counts.
-#[derive(Clone, Copy, Debug, PartialEq, Eq)]
+#[derive(Clone, Copy, PartialEq, Eq)]
 pub struct NodeReport {
     /// The datagrams that were received.
     pub received: u64,
@@ -18,7 +18,7 @@ pub struct NodeReport {
 }
 
 /// What a console's run counts.
-#[derive(Clone, Copy, Debug, PartialEq, Eq)]
+#[derive(Clone, Copy)]
 pub struct ConsoleReport {
     /// The sends that succeeded.
     pub sent: u64,

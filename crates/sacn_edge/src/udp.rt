@@ -9,7 +9,7 @@ use std::net::{Ipv4Addr, Net, UdpSocket};
 use thiserror::Error;
 
 /// The machine refused the socket.
-#[derive(Clone, Copy, Debug, PartialEq, Eq, Error)]
+#[derive(Clone, Copy, Debug, Error)]
 #[error("the machine refused the socket")]
 pub struct SocketFailed;
 

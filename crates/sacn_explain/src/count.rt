@@ -7,7 +7,7 @@ ghost use Rattle.sacn_explain.specs.Amounts.{counts_of, sending_in, with_stream}
 use sacn_monitor::{State, Stream};
 
 /// What the streams of one universe amount to. Each count stops at 2^64 - 1.
-#[derive(Clone, Copy, Debug, PartialEq, Eq)]
+#[derive(Clone, Copy)]
 pub struct UniverseCounts {
     pub sources: u64,
     /// Those that send at the end.

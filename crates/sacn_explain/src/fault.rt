@@ -26,7 +26,7 @@ pub enum ExplainFault {
 }
 
 /// Why what happens can't be told. It is nothing of a recording's.
-#[derive(Clone, Copy, Debug)]
+#[derive(Clone, Copy)]
 pub enum TellFault {
     /// A growth was refused.
     OutOfMemory,

@@ -23,7 +23,7 @@ use std::alloc::Global;
 use std::io::{BufRead, Write};
 
 /// The clock of a recording, moved frame by frame.
-#[derive(Clone, Copy, Debug, PartialEq, Eq)]
+#[derive(Clone, Copy)]
 pub struct Timeline {
     /// The moment of the first frame, in milliseconds since 1970.
     pub first: Option<u64>,

@@ -5,7 +5,7 @@ ghost use Rattle.std.specs.List.{list_any};
 ghost use Rattle.sacn_explain.specs.Choice.{is_wanted};
 
 /// How things are told.
-#[derive(Clone, Copy, Debug, PartialEq, Eq)]
+#[derive(Clone, Copy)]
 pub enum Form {
     /// Aligned lines, for people.
     Text,
@@ -14,7 +14,7 @@ pub enum Form {
 }
 
 /// What is asked for.
-#[derive(Clone, Copy, Debug)]
+#[derive(Clone, Copy)]
 pub struct Options<'a> {
     /// The UDP port of streaming ACN, 5568 by the standard (E1.31, 9.1). Datagrams to other ports are counted alone.
     pub port: u16,

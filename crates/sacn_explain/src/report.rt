@@ -4,7 +4,7 @@ use sacn_capture::Counts;
 use sacn_monitor::Tally;
 
 /// What a recording had.
-#[derive(Clone, Copy, Debug, PartialEq, Eq)]
+#[derive(Clone, Copy)]
 pub struct Report {
     /// Its frames, by what they were.
     pub frames: Counts,

@@ -13,7 +13,7 @@ use toml::{Table, Value};
 
 /// The keys of a table, each in one of two lists: what a reader knows and what it wants are both said by
 /// this one value.
-#[derive(Clone, Copy, Debug)]
+#[derive(Clone, Copy)]
 pub struct Keys {
     /// The keys that the table must have.
     pub required: &'static [&'static str],

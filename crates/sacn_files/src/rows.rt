@@ -44,7 +44,7 @@ pub fn read_rows<R: ReadRow>(
 }
 
 /// Reads whole numbers of sixteen bits from `low` to `high`, both included.
-#[derive(Clone, Copy, Debug, PartialEq, Eq)]
+#[derive(Clone, Copy)]
 pub struct Numbers {
     pub low: u16,
     pub high: u16,

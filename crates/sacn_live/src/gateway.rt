@@ -16,7 +16,7 @@ use sacn_edge::{BUFFER_OCTETS, Changes, Out, WriteFailed, ports_of, show_changed
 use sacn_node::NodeCore;
 
 /// How long a gateway runs: at most so many turns, and no turn after the first that ends at the moment or later.
-#[derive(Clone, Copy, Debug, PartialEq, Eq)]
+#[derive(Clone, Copy)]
 pub struct Span {
     pub turns: u64,
     /// Milliseconds of the receiver's clock.

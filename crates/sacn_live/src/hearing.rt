@@ -13,7 +13,7 @@ use sacn_edge::{BUFFER_OCTETS, Changes, PortShown};
 use sacn_node::{NodeCore, NodeTaken};
 
 /// Why a datagram doesn't go to the node.
-#[derive(Clone, Copy, Debug, PartialEq, Eq)]
+#[derive(Clone, Copy)]
 pub enum PassedOver {
     /// It may have waited longer than the network data loss time, while the process was stopped or blocked.
     Late,

@@ -15,7 +15,7 @@ pub struct LineBuffer {
 }
 
 /// What a piece did to a line.
-#[derive(Clone, Copy, Debug, PartialEq, Eq)]
+#[derive(Clone, Copy, PartialEq, Eq)]
 pub enum Gathered {
     /// The line goes on after the piece.
     Partly,

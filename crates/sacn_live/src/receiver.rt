@@ -9,7 +9,7 @@ use sacn_edge::BUFFER_OCTETS;
 pub type Octets4 = [u8; 4];
 
 /// What one receive brought.
-#[derive(Clone, Copy, Debug, PartialEq, Eq)]
+#[derive(Clone, Copy, PartialEq, Eq)]
 pub enum Arrival {
     /// Nothing is there.
     Nothing,
@@ -20,7 +20,7 @@ pub enum Arrival {
 }
 
 /// What one receive brought, and the reading of the clock just before it.
-#[derive(Clone, Copy, Debug, PartialEq, Eq)]
+#[derive(Clone, Copy)]
 pub struct Receipt {
     /// Milliseconds.
     pub now: u64,

@@ -10,7 +10,7 @@ const FILES: [&str; 7] = [
 const DEVICE: &str = "DEV";
 
 /// What a shell offers for a value.
-#[derive(Clone, Copy, Debug)]
+#[derive(Clone, Copy)]
 pub enum Action<'a> {
     Nothing,
     Files,

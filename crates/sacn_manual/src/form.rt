@@ -10,7 +10,7 @@ use crate::tree::Spelling;
 pub const SHELLS: &[&str] = &["bash", "zsh", "fish"];
 
 /// A text that is made from a tree.
-#[derive(Clone, Copy, Debug, PartialEq, Eq)]
+#[derive(Clone, Copy)]
 pub enum Form {
     /// A page of a manual: roff with the macros of man(7).
     Manual,

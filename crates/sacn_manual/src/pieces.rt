@@ -9,7 +9,7 @@ use std::alloc::{AllocError, Global};
 const COMMA: u8 = b',';
 
 /// A piece of a text.
-#[derive(Clone, Copy, Debug)]
+#[derive(Clone, Copy)]
 pub enum Piece<'a> {
     /// Of the text's own language, as it is.
     Raw(&'a str),

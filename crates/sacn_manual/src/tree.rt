@@ -1,7 +1,7 @@
 //! The tree of a program's commands.
 
 /// How an argument is given.
-#[derive(Clone, Copy, Debug, PartialEq, Eq)]
+#[derive(Clone, Copy)]
 pub enum Spelling {
     /// By its place among the words.
     Positional,
@@ -12,7 +12,7 @@ pub enum Spelling {
 }
 
 /// An argument, or an option, of a command. One that is given by a letter and by a name is two of them.
-#[derive(Clone, Copy, Debug)]
+#[derive(Clone, Copy)]
 pub struct Argument<'a> {
     pub spelling: Spelling,
     /// Without dashes.

@@ -13,7 +13,7 @@ use sacn_sequence::{in_sequence, signed_step};
 use sacn_sources::NETWORK_DATA_LOSS;
 
 /// Where a datagram came from.
-#[derive(Clone, Copy, Debug, PartialEq, Eq)]
+#[derive(Clone, Copy, PartialEq, Eq)]
 pub struct Sender {
     /// The IPv4 address.
     pub address: [u8; 4],
@@ -25,7 +25,7 @@ pub struct Sender {
 ///
 /// A packet is taken where it is in sequence after the latest taken one (E1.31, 6.7.2), or where that was 2500 ms ago or
 /// more (E1.31, 6.7.1); the others are discarded.
-#[derive(Clone, Copy, Debug, PartialEq, Eq)]
+#[derive(Clone, Copy, PartialEq, Eq)]
 pub struct Account {
     /// The sender of the latest taken packet.
     pub sender: Sender,

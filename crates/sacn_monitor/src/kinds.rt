@@ -8,7 +8,7 @@ use sacn_framing::DataView;
 use sacn_sources::Kind;
 
 /// How many packets were taken of each kind. Each count stops at 2^64 - 1.
-#[derive(Clone, Copy, Debug, PartialEq, Eq)]
+#[derive(Clone, Copy, PartialEq, Eq)]
 pub struct Kinds {
     /// Levels for the stage: start code 0 (E1.11).
     pub live: u64,

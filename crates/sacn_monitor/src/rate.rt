@@ -7,7 +7,7 @@ ghost use Rattle.sacn_monitor.specs.Rates.{second_of, first_rate, rate_after, la
 const SECOND: u64 = 1000;
 
 /// The packets of the latest second that had one, and of the second before it. Each count stops at 2^64 - 1.
-#[derive(Clone, Copy, Debug, PartialEq, Eq)]
+#[derive(Clone, Copy, PartialEq, Eq)]
 pub struct Rate {
     /// The latest second with a packet, in whole seconds of the clock.
     pub second: u64,

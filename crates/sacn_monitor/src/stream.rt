@@ -22,7 +22,7 @@ pub enum State {
 }
 
 /// A source on a universe, and what is known of it there.
-#[derive(Clone, Copy, Debug, PartialEq, Eq)]
+#[derive(Clone, Copy, PartialEq, Eq)]
 pub struct Stream {
     /// The universe, 1 to 63999 (E1.31, 6.2.7).
     pub universe: u16,

@@ -9,7 +9,7 @@ use sacn_root::PacketFault;
 const FAULT_NUMBERS: usize = 19;
 
 /// How many datagrams there were. Each count stops at 2^64 - 1.
-#[derive(Clone, Copy, Debug, PartialEq, Eq)]
+#[derive(Clone, Copy)]
 pub struct Tally {
     /// All of them.
     pub datagrams: u64,

@@ -7,7 +7,7 @@ use sacn_root::PacketFault;
 use sacn_sources::Taken;
 
 /// What became of a datagram. Only `FromTable` may have changed more than the clock and what is lost.
-#[derive(Clone, Copy, Debug, PartialEq, Eq)]
+#[derive(Clone, Copy, PartialEq, Eq)]
 pub enum NodeTaken {
     /// A data packet of a universe of the node, with the answer of that universe's table.
     FromTable(Taken),
@@ -22,7 +22,7 @@ pub enum NodeTaken {
 }
 
 /// What a datagram did to a node. Where no source was lost, only slots of `universe` may have changed.
-#[derive(Clone, Copy, Debug, PartialEq, Eq)]
+#[derive(Clone, Copy)]
 pub struct NodeChange {
     /// What became of the datagram.
     pub taken: NodeTaken,
@@ -63,5 +63,5 @@ fn universe_by(taken: NodeTaken, universe: u16) -> Option<u16>
 }
 
 /// The node has no port of this number.
-#[derive(Clone, Copy, Debug, PartialEq, Eq)]
+#[derive(Clone, Copy, PartialEq, Eq)]
 pub struct NoPort;

@@ -11,7 +11,7 @@ use std::fmt::Write;
 pub const MAX_ALARMS: usize = 32;
 
 /// What happened. A place is that of a source on a universe.
-#[derive(Clone, Copy, Debug, PartialEq, Eq)]
+#[derive(Clone, Copy)]
 pub enum Trouble {
     /// No packet of a source was taken for 2500 ms (E1.31, 6.7.1).
     Lost(usize),
@@ -34,7 +34,7 @@ pub enum Trouble {
 }
 
 /// A thing that happened at a moment, in milliseconds.
-#[derive(Clone, Copy, Debug, PartialEq, Eq)]
+#[derive(Clone, Copy)]
 pub struct Alarm {
     pub moment: u64,
     pub trouble: Trouble,

@@ -10,7 +10,7 @@ use crate::viewer::{Connection, Goal, Phase, Viewer};
 use std::alloc::{AllocError, Global};
 
 /// When something was asked.
-#[derive(Clone, Copy, Debug)]
+#[derive(Clone, Copy)]
 pub struct Question {
     /// How many had asked before.
     pub turn: u64,

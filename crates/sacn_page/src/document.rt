@@ -12,7 +12,7 @@ use std::alloc::{AllocError, Global};
 use std::fmt::Write;
 
 /// A source on a universe, as a viewer sees it at a moment.
-#[derive(Clone, Copy, Debug, PartialEq, Eq)]
+#[derive(Clone, Copy, PartialEq, Eq)]
 struct Row {
     stream: Stream,
     state: State,
@@ -20,7 +20,7 @@ struct Row {
 }
 
 /// Counts of datagrams.
-#[derive(Clone, Copy, Debug, PartialEq, Eq)]
+#[derive(Clone, Copy, PartialEq, Eq)]
 struct Counts {
     datagrams: u64,
     refused: u64,
@@ -41,7 +41,7 @@ pub struct Given {
 }
 
 /// Which members are written.
-#[derive(Clone, Copy, Debug, PartialEq, Eq)]
+#[derive(Clone, Copy)]
 pub enum Extent {
     /// All.
     Whole,

@@ -12,7 +12,7 @@ use crate::markup::style::STYLE;
 use std::alloc::{AllocError, Global};
 
 /// What a page shows.
-#[derive(Clone, Copy, Debug, PartialEq, Eq)]
+#[derive(Clone, Copy)]
 pub enum Subject {
     /// A network, as it is heard.
     Network,

@@ -11,7 +11,7 @@ use std::alloc::{AllocError, Global};
 use std::io::BufRead;
 
 /// A frame that was read, and is still to be handed on.
-#[derive(Clone, Copy, Debug)]
+#[derive(Clone, Copy)]
 struct Pending {
     /// The clock at it.
     clock: Timeline,
@@ -20,7 +20,7 @@ struct Pending {
 }
 
 /// What comes next of a recording.
-#[derive(Clone, Copy, Debug)]
+#[derive(Clone, Copy)]
 enum Next {
     /// It isn't read yet.
     Unread,

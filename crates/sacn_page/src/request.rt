@@ -17,7 +17,7 @@ pub const MAX_HEAD: usize = 4096;
 pub const MAX_FIELDS: usize = 32;
 
 /// What a request asks for.
-#[derive(Clone, Copy, Debug, PartialEq, Eq)]
+#[derive(Clone, Copy, PartialEq, Eq)]
 pub enum Asked {
     /// The page: `/`, whatever its query says.
     Page,
@@ -31,7 +31,7 @@ pub enum Asked {
 }
 
 /// Why a request isn't answered as it asks.
-#[derive(Clone, Copy, Debug, PartialEq, Eq)]
+#[derive(Clone, Copy, PartialEq, Eq)]
 pub enum Refusal {
     /// The head isn't one of HTTP, is cut off, or names no universe where it should.
     Malformed,
@@ -56,7 +56,7 @@ pub enum Refusal {
 }
 
 /// What is known of a request, of which so much came.
-#[derive(Clone, Copy, Debug, PartialEq, Eq)]
+#[derive(Clone, Copy, PartialEq, Eq)]
 pub enum Reading {
     /// Its head isn't complete yet.
     More,
@@ -215,7 +215,7 @@ fn target_asked(target: &str) -> Result<Asked, Refusal> {
 }
 
 /// What a query names.
-#[derive(Clone, Copy, Debug, PartialEq, Eq)]
+#[derive(Clone, Copy)]
 struct Named {
     universe: Option<u16>,
     /// Milliseconds.

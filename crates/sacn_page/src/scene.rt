@@ -18,7 +18,7 @@ pub struct Facts {
 }
 
 /// Why a moment of a recording can't be shown.
-#[derive(Clone, Copy, Debug, Drop, PartialEq, Eq, Error)]
+#[derive(Clone, Copy, Debug, Drop, Error)]
 pub enum SeekFault {
     /// A growth was refused.
     #[error("there isn't enough memory")]

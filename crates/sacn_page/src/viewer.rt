@@ -31,7 +31,7 @@ pub trait Connection: Read + Write {
 }
 
 /// A moment of a recording that is waited for.
-#[derive(Clone, Copy, Debug, PartialEq, Eq)]
+#[derive(Clone, Copy, PartialEq, Eq)]
 pub struct Goal {
     /// The universe that was named, if any.
     pub universe: Option<u16>,
@@ -42,7 +42,7 @@ pub struct Goal {
 }
 
 /// How far a connection is.
-#[derive(Clone, Copy, Debug, PartialEq, Eq)]
+#[derive(Clone, Copy, PartialEq, Eq)]
 pub enum Phase {
     /// The head of its request isn't complete.
     Asking,

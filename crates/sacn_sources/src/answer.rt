@@ -4,7 +4,7 @@ ghost use Rattle.std.specs.Prelude.{◌≡◌};
 ghost use Rattle.sacn_sources.specs.Rows.{renews};
 
 /// What became of a packet (E1.31, 6.7; the rows of the profile's source table).
-#[derive(Clone, Copy, Debug, PartialEq, Eq)]
+#[derive(Clone, Copy, PartialEq, Eq)]
 pub enum Taken {
     /// A live packet of a known source, or of a new one with room for it. It is shown, and its source renewed.
     Held,

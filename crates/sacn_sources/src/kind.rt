@@ -6,7 +6,7 @@ ghost use Rattle.sacn_sources.specs.Packets.{kind_of};
 use sacn_framing::DataView;
 
 /// What a data packet says to the receiver that holds its source (profile). The first that fits counts, from the top.
-#[derive(Clone, Copy, Debug, PartialEq, Eq)]
+#[derive(Clone, Copy)]
 pub enum Kind {
     /// Stream_Terminated is set (E1.31, 6.2.6): the source ends its stream on the universe.
     Termination,

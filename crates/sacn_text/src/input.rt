@@ -10,7 +10,7 @@ use thiserror::Error;
 pub const MAX_FILE_OCTETS: u64 = 1_048_576;
 
 /// Why an input isn't read.
-#[derive(Clone, Copy, Debug, PartialEq, Eq, Error)]
+#[derive(Clone, Copy, Debug, Error)]
 pub enum ReadFault {
     /// No memory is left.
     #[error("out of memory")]

@@ -11,7 +11,7 @@ use std::io;
 use thiserror::Error;
 
 /// Why a watch ends before its time.
-#[derive(Clone, Copy, Debug, Drop, PartialEq, Eq, Error)]
+#[derive(Clone, Copy, Debug, Drop, Error)]
 pub enum WatchFault {
     /// A growth was refused.
     #[error("there isn't enough memory")]

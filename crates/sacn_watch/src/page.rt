@@ -16,14 +16,14 @@ const COLOURS: usize = 6;
 const UNKNOWN: u32 = '?' as u32;
 
 /// How many columns and rows a terminal has.
-#[derive(Clone, Copy, Debug, PartialEq, Eq)]
+#[derive(Clone, Copy)]
 pub struct Size {
     pub width: usize,
     pub height: usize,
 }
 
 /// How a letter is written.
-#[derive(Clone, Copy, Debug, PartialEq, Eq)]
+#[derive(Clone, Copy, PartialEq, Eq)]
 pub enum Ink {
     Plain,
     Heading,
@@ -33,7 +33,7 @@ pub enum Ink {
 }
 
 /// A letter of one column, and its ink.
-#[derive(Clone, Copy, Debug, PartialEq, Eq)]
+#[derive(Clone, Copy)]
 pub struct Cell {
     /// Its number in Unicode.
     pub code: u32,

@@ -44,7 +44,7 @@ impl WorldFault {
 }
 
 /// Where a run stopped, and why. The steps before have been taken, and no others.
-#[derive(Clone, Copy, Debug, PartialEq, Eq)]
+#[derive(Clone, Copy)]
 pub struct RunFault {
     /// The step, counted from 0.
     pub step: usize,
@@ -55,7 +55,7 @@ pub struct RunFault {
 /// Why a world was not made.
 ///
 /// Each fault has a number of its own, which `number` gives. `SameCid` is looked for first.
-#[derive(Clone, Copy, Debug, PartialEq, Eq, Error)]
+#[derive(Clone, Copy, Debug, Error)]
 pub enum NewFault {
     /// There was no room.
     #[error("out of memory")]

@@ -15,7 +15,7 @@ use std::alloc::{AllocError, Global};
 use toml::Value;
 
 /// A row of a show's patch: a channel, and the slot of a universe that shows it.
-#[derive(Clone, Copy, Debug, PartialEq, Eq)]
+#[derive(Clone, Copy)]
 pub struct PatchRow {
     pub channel: u16,
     pub universe: u16,

@@ -32,7 +32,7 @@ fn outputs(
 }
 
 /// What a row of a worked case says of an answer.
-#[derive(Clone, Copy, PartialEq, Eq, Debug)]
+#[derive(Clone, Copy, PartialEq, Eq)]
 enum Said {
     Ordered,
     Sent(usize),
