@@ -27,16 +27,24 @@ cat >"$room/bin/rt" <<'KIT'
 name=$(basename "$PWD")
 case $1 in
   version) echo "${KIT_SAYS-$(tail -n 1 "$KIT_FILE")}" ;;
-  lib | run)
-    echo "$name" >>"$KIT_LOG"
-    sleep "${KIT_SLEEPS:-0}"
-    [ "$name" != "${KIT_FAILS-}" ] || { echo "fn $name::wrong: not proved"; exit 1; }
-    mkdir -p out/rlib && echo built >out/rlib/stamp
-    if [ "$1" = run ]; then printf '#!/bin/sh\necho proved "$@"\n' >out/sacn; chmod +x out/sacn; fi
-    ;;
   try) cat >/dev/null; echo tried "$name" "$@"; echo "checked: ended status=3" >&2; echo "run=ended status=3 runners=1 proved=no" >&2; echo "refused TooShort" >&2; exit 3 ;;
 esac
 KIT
+# What proves one crate by it.
+cat >"$tree/tools/proof.py" <<'PROOF'
+import os, sys, time
+name = sys.argv[1]
+with open(os.environ["KIT_LOG"], "a") as log:
+    print(name, file=log)
+time.sleep(float(os.environ.get("KIT_SLEEPS", "0")))
+if os.environ.get("KIT_FAILS") == name:
+    sys.exit(f"fn {name}::wrong: not proved")
+os.makedirs(f"crates/{name}/out/rlib/{name}.rlib")
+if name == "sacn":
+    with open("crates/sacn/out/sacn", "w") as made:
+        made.write('#!/bin/sh\necho proved "$@"\n')
+    os.chmod("crates/sacn/out/sacn", 0o755)
+PROOF
 chmod +x "$room/bin/rt"
 export KIT_FILE=$tree/tools/kit KIT_LOG=$room/log TMPDIR=$room/rooms
 usual=$PATH
@@ -59,7 +67,7 @@ check() {
     sed 's/^/# /' "$room/err"
   fi
 }
-nothing_left() { [ -z "$(ls -A "$room/rooms")" ] && ! grep -lsF "$room/bin/rt" /proc/[0-9]*/cmdline >/dev/null; }
+nothing_left() { [ -z "$(ls -A "$room/rooms")" ] && ! grep -lsF "$tree/tools/proof.py" /proc/[0-9]*/cmdline >/dev/null; }
 refused() { [ "$status" = 1 ] && says "$1"; }
 
 no_kit() {
@@ -187,7 +195,7 @@ interrupted() {
 check "an interrupt ends the run" interrupted
 check "and leaves no process and no room" nothing_left
 
-goes_on() { anew; KIT_FAILS=right launch prove; [ -e "$tree/crates/low/out/rlib/stamp" ] && launch prove && [ -x "$tree/crates/sacn/out/sacn" ]; }
+goes_on() { anew; KIT_FAILS=right launch prove; [ -e "$tree/crates/low/out/proof" ] && launch prove && ! grep -qx low "$KIT_LOG" && [ -x "$tree/crates/sacn/out/sacn" ]; }
 check "the next start goes on from what was proved" goes_on
 
 two_at_once() {
