@@ -2,11 +2,22 @@
 //! on standard input, and the program's word is the name by which faulty lines are told. `docs/ROWS.md` has the form of rows.
 #![tactic(auto)]
 
+mod datagram;
+mod edges;
+mod loops;
+mod monitors;
+mod node_words;
 mod packet;
+mod recordings;
 mod run;
 mod sources;
 mod step;
 mod subject;
+mod tellers;
+mod viewers;
+mod watches;
+mod worlds;
+mod written;
 
 use run::read_rows;
 use std::process::ExitCode;

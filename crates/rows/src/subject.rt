@@ -1,12 +1,26 @@
 //! What a story is about: one of the families of calls.
+use crate::edges::Edges;
+use crate::loops::Loops;
+use crate::monitors::Monitors;
+use crate::recordings::Recordings;
 use crate::sources::Sources;
 use crate::step::{Step, StepFault};
+use crate::viewers::Viewers;
+use crate::watches::Watches;
+use crate::worlds::Worlds;
 use std::alloc::Global;
 
 /// The subject of a story, by its family.
 #[derive(Drop)]
 pub enum Subject {
     Sources(Sources),
+    Edges(Edges),
+    Loops(Loops),
+    Monitors(Monitors),
+    Recordings(Recordings),
+    Viewers(Viewers),
+    Watches(Watches),
+    Worlds(Worlds),
 }
 
 impl Subject {
@@ -18,6 +32,13 @@ impl Subject {
     pub fn new(alloc: Global, family: &str) -> Result<Self, StepFault> {
         match family {
             "sources" => Ok(Subject::Sources(Sources::new(alloc)?)),
+            "edges" => Ok(Subject::Edges(Edges::new(alloc))),
+            "loops" => Ok(Subject::Loops(Loops::new(alloc))),
+            "monitor" => Ok(Subject::Monitors(Monitors::new(alloc)?)),
+            "recordings" => Ok(Subject::Recordings(Recordings::new(alloc))),
+            "viewer" => Ok(Subject::Viewers(Viewers::new(alloc)?)),
+            "watch" => Ok(Subject::Watches(Watches::new(alloc)?)),
+            "world" => Ok(Subject::Worlds(Worlds::new(alloc))),
             _ => Err(StepFault::UnknownFamily),
         }
     }
@@ -30,6 +51,13 @@ impl Subject {
     pub fn answer(&mut self, step: &mut Step<'_>) -> Result<(), StepFault> {
         match self {
             Subject::Sources(sources) => sources.answer(step),
+            Subject::Edges(edges) => edges.answer(step),
+            Subject::Loops(loops) => loops.answer(step),
+            Subject::Monitors(monitors) => monitors.answer(step),
+            Subject::Recordings(recordings) => recordings.answer(step),
+            Subject::Viewers(viewers) => viewers.answer(step),
+            Subject::Watches(watches) => watches.answer(step),
+            Subject::Worlds(worlds) => worlds.answer(step),
         }
     }
 }
