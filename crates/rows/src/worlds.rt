@@ -1,4 +1,5 @@
 //! World files, schedules, worlds and their simulations.
+use crate::loops::push;
 use crate::node_words::say_node_taken;
 use crate::sources::say_held;
 use crate::step::{Step, StepFault};
@@ -56,6 +57,7 @@ impl Worlds {
                 let text = edited(step, self.text.as_str())?;
                 self.read(step, text.as_str());
             }
+            "also" => self.also(step)?,
             "console" => self.say_console(step),
             "node" => self.say_node(step),
             "schedule" => self.schedule(step)?,
@@ -86,6 +88,17 @@ impl Worlds {
             }
             Err(fault) => step.say_name(&fault),
         }
+    }
+
+    /// Reads a further world's file, and adds its consoles.
+    fn also(&mut self, step: &mut Step<'_>) -> Result<(), StepFault> {
+        let Ok((shows, _)) = read_world(self.alloc, step.text()) else {
+            return Err(StepFault::NotReady);
+        };
+        for show in shows {
+            push(&mut self.shows, show)?;
+        }
+        Ok(())
     }
 
     fn say_console(&self, step: &mut Step<'_>) {
