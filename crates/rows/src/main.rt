@@ -2,11 +2,19 @@
 //! on standard input, and the program's word is the name by which faulty lines are told. `docs/ROWS.md` has the form of rows.
 #![tactic(auto)]
 
+mod console;
+mod cues;
+mod layers;
+mod node;
 mod packet;
+mod packets;
+mod patch;
+mod readings;
 mod run;
 mod sources;
 mod step;
 mod subject;
+mod texts;
 
 use run::read_rows;
 use std::process::ExitCode;
