@@ -1,10 +1,9 @@
 //! Datagrams laid out octet by octet, apart from the library's own writers, and what brings them to a device in memory.
+use crate::packet::cid_in;
 use crate::step::{Step, StepFault};
-use fixtures::packets::{CID, DESK, data, page, sync};
-use sacn_files::words::short_in;
+use fixtures::packets::{DESK, data, page, sync};
 use sacn_live::memory::Incoming;
 use sacn_live::{Octets4, host_of};
-use std::alloc::AllocError;
 
 /// The datagram that the words left say: `data ..`, `page ..`, `sync`, or `octets` and hexadecimal digits.
 ///
@@ -26,24 +25,26 @@ fn length_field(len: u16) -> [u8; 2] {
     (0x7000 | (len & 0x0fff)).to_be_bytes()
 }
 
-/// A data packet: any of `cid HEX`, `name HEX`, `universe N`, `number N`, `priority N`, `options N`, and last `slots OCTET..`. What
-/// isn't said is the CID of the octets 0 to 15, the name `Desk`, universe 1, number 0, priority 100, no option and no slots.
+/// A data packet: any of `cid CID`, `name WORD`, `named HEX`, `universe N`, `number N`, `priority N`, `preview`, `terminated`, and last
+/// `slots OCTET..`. What isn't said is the CID of the octets 0 to 15, the name `Desk`, universe 1, number 0, priority 100, and no slots.
 fn data_in(step: &mut Step<'_>) -> Result<Vec<u8>, StepFault> {
     let alloc = step.alloc();
     let mut said = DESK;
     let mut name = Vec::from_slice(alloc, DESK.name)?;
     let mut slots = Vec::new(alloc);
-    for _ in 0..7 {
+    for _ in 0..8 {
         if !step.has_word() {
             break;
         }
         match step.word() {
             "cid" => said.cid = cid_in(step),
-            "name" => name = name_in(step)?,
+            "name" => name = Vec::from_slice(alloc, step.word().as_bytes())?,
+            "named" => name = hex_in(step)?,
             "universe" => said.universe = step.octet(),
             "number" => said.number = step.octet(),
             "priority" => said.priority = step.octet(),
-            "options" => said.options = step.octet(),
+            "preview" => said.options = 0x80,
+            "terminated" => said.options = 0x40,
             "slots" => slots = step.octets()?,
             _ => step.refuse(StepFault::Word),
         }
@@ -59,56 +60,33 @@ fn data_in(step: &mut Step<'_>) -> Result<Vec<u8>, StepFault> {
     Ok(data(alloc, lengths, &said, slots.as_slice())?)
 }
 
-/// The next word as a CID in hexadecimal digits.
-pub fn cid_in(step: &mut Step<'_>) -> [u8; 16] {
-    let mut cid = CID;
-    if hex::decode_to_slice(step.word(), &mut cid).is_err() {
-        step.refuse(StepFault::Word);
-    }
-    cid
-}
-
-/// The next word as a name in hexadecimal digits, or `-` for that without an octet.
-fn name_in(step: &mut Step<'_>) -> Result<Vec<u8>, StepFault> {
+/// The next word as octets in hexadecimal digits, none where it is `-`.
+fn hex_in(step: &mut Step<'_>) -> Result<Vec<u8>, StepFault> {
     let word = step.word();
     if word == "-" {
         return Ok(Vec::new(step.alloc()));
     }
     match hex::decode(step.alloc(), word) {
-        Ok(name) => Ok(name),
+        Ok(octets) => Ok(octets),
         Err(_) => Err(StepFault::Word),
     }
 }
 
-/// A page of the desk: its number, the last page's, and its universes, each a number or the first and the last of a row as `1-512`.
+/// A page of the desk: its number, the last page's, and its universes.
 fn page_in(step: &mut Step<'_>) -> Result<Vec<u8>, StepFault> {
     let pages = [step.octet(), step.octet()];
+    let universes = step.universes()?;
     let mut numbers = Vec::new(step.alloc());
-    for _ in 0..512 {
-        if !step.has_word() {
-            break;
-        }
-        let word = step.word();
-        let (first, last) = word.split_once('-').unwrap_or((word, word));
-        match (short_in(first), short_in(last)) {
-            (Some(first), Some(last)) => push_numbers(&mut numbers, first, last)?,
-            _ => step.refuse(StepFault::Word),
-        }
+    for universe in universes.iter() {
+        numbers.extend_from_slice(&universe.to_be_bytes())?;
     }
-    let count = (numbers.len() / 2).min(512) as u16;
+    let count = universes.len().min(512) as u16;
     let fields = [
         length_field(104 + 2 * count),
         length_field(82 + 2 * count),
         length_field(8 + 2 * count),
     ];
     Ok(page(step.alloc(), fields, pages, numbers.as_slice())?)
-}
-
-fn push_numbers(numbers: &mut Vec<u8>, first: u16, last: u16) -> Result<(), AllocError> {
-    for number in first..=last {
-        numbers.extend_from_slice(&number.to_be_bytes())?;
-    }
-    Ok(())
 }
 
 /// What a receive brings, and the reading of the clock before it: a moment, and then `nothing`, `failed`, or the sender's address and

@@ -2,18 +2,25 @@
 //! on standard input, and the program's word is the name by which faulty lines are told. `docs/ROWS.md` has the form of rows.
 #![tactic(auto)]
 
+mod console;
+mod cues;
 mod datagram;
 mod edges;
+mod layers;
 mod loops;
 mod monitors;
-mod node_words;
+mod node;
 mod packet;
+mod packets;
+mod patch;
+mod readings;
 mod recordings;
 mod run;
 mod sources;
 mod step;
 mod subject;
 mod tellers;
+mod texts;
 mod viewers;
 mod watches;
 mod worlds;

@@ -52,6 +52,10 @@ impl Recordings {
             "read" => self.read(step),
             "explain" => self.explain(step)?,
             "written" => compare(step, self.written.as_slice())?,
+            "begun" => {
+                let len = self.written.len().min(step.text().len());
+                compare(step, &self.written.as_slice()[..len])?;
+            }
             _ => return Err(StepFault::UnknownCall),
         }
         Ok(())
@@ -109,8 +113,9 @@ impl Recordings {
         };
         self.written.clear();
         let file = self.file.as_slice();
-        if let Err(fault) = explain(self.alloc, file, &options, None, &mut self.written) {
-            step.say(&fault);
+        match explain(self.alloc, file, &options, None, &mut self.written) {
+            Ok(_) => step.say(&"ok"),
+            Err(fault) => step.say(&fault),
         }
         Ok(())
     }

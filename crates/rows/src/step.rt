@@ -1,6 +1,6 @@
 //! One step of a story: the words of its call, which a family reads one after the other, and the answer that it gives.
 
-use sacn_files::words::number_in;
+use sacn_files::words::{number_in, short_in};
 use std::alloc::{AllocError, Global};
 use std::fmt::{Debug, Display};
 
@@ -121,6 +121,11 @@ impl<'a> Step<'a> {
         }
     }
 
+    /// The next word as a number of 32 bits.
+    pub fn long(&mut self) -> u32 {
+        (self.number_to(4_294_967_295) & 4_294_967_295) as u32
+    }
+
     /// The next word as a number of sixteen bits.
     pub fn short(&mut self) -> u16 {
         (self.number_to(65_535) & 65_535) as u16
@@ -129,6 +134,19 @@ impl<'a> Step<'a> {
     /// The next word as a number of eight bits.
     pub fn octet(&mut self) -> u8 {
         (self.number_to(255) & 255) as u8
+    }
+
+    /// The words that are left.
+    ///
+    /// # Errors
+    ///
+    /// No memory.
+    pub fn words(&mut self) -> Result<Vec<&'a str>, StepFault> {
+        let mut words = Vec::new(self.alloc);
+        for _ in self.next..self.words.len() {
+            words.push(self.word()).map_err(AllocError::from)?;
+        }
+        Ok(words)
     }
 
     /// The words that are left as octets: each is a number, or a number, `x` and how often it stands there.
@@ -171,6 +189,28 @@ impl<'a> Step<'a> {
         Ok(octets)
     }
 
+    /// The words that are left as universes: each is a number, or `A-B` for all from A to B.
+    ///
+    /// # Errors
+    ///
+    /// No memory.
+    pub fn universes(&mut self) -> Result<Vec<u16>, StepFault> {
+        let mut universes = Vec::new(self.alloc);
+        for _ in self.next..self.words.len() {
+            let word = self.word();
+            let (first, last) = word.split_once('-').unwrap_or((word, word));
+            match (short_in(first), short_in(last)) {
+                (Some(first), Some(last)) => {
+                    for universe in first..=last {
+                        universes.push(universe).map_err(AllocError::from)?;
+                    }
+                }
+                _ => self.refuse(StepFault::Word),
+            }
+        }
+        Ok(universes)
+    }
+
     /// Adds a word to the answer.
     pub fn say<T: Display>(&mut self, value: &T) {
         let answer = if self.said.is_empty() {
@@ -186,6 +226,50 @@ impl<'a> Step<'a> {
     /// Adds the name of a value, as of a fault, to the answer.
     pub fn say_name<T: Debug>(&mut self, value: &T) {
         self.say(&format_args!("{value:?}"));
+    }
+
+    /// Adds universes to the answer: `A-B` for all from A to B that ascend by one, and else a number for each.
+    pub fn say_universes(&mut self, universes: &[u16]) {
+        let mut first = 0u16;
+        let mut is_open = false;
+        for i in 0..universes.len() {
+            let last = universes[i];
+            if !is_open {
+                first = last;
+            }
+            is_open = universes.get(i.saturating_add(1)) == Some(&last.saturating_add(1));
+            if !is_open {
+                if first == last {
+                    self.say(&last);
+                } else {
+                    self.say(&format_args!("{first}-{last}"));
+                }
+            }
+        }
+    }
+
+    /// Adds octets as hexadecimal digits to the answer.
+    pub fn say_hex(&mut self, octets: &[u8]) {
+        match hex::encode(self.alloc, octets) {
+            Ok(digits) => self.say(&digits.as_str()),
+            Err(_) => self.refuse(StepFault::Memory),
+        }
+    }
+
+    /// Adds a name of a source to the answer, between quotes.
+    pub fn say_source(&mut self, name: &[u8]) {
+        match std::str::from_utf8(name) {
+            Ok(name) => self.say_name(&name),
+            Err(_) => self.say_hex(name),
+        }
+    }
+
+    /// Adds `ok` to the answer, or the name of a fault.
+    pub fn say_done<E: Debug + Drop>(&mut self, done: Result<(), E>) {
+        match done {
+            Ok(()) => self.say(&"ok"),
+            Err(fault) => self.say_name(&fault),
+        }
     }
 
     /// Adds octets to the answer: a number for each, or one for all that are alike in a row, with `x` and how many they are.

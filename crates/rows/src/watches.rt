@@ -72,9 +72,7 @@ impl Watches {
 
     fn decode(&mut self, step: &mut Step<'_>) {
         let mut out = WriterOut::new(Vec::new(self.alloc));
-        if let Err(fault) = decode_text(self.alloc, self.datagrams.as_slice(), &mut out) {
-            step.say_name(&fault);
-        }
+        step.say_done(decode_text(self.alloc, self.datagrams.as_slice(), &mut out));
         self.written = out.writer;
     }
 
@@ -88,16 +86,13 @@ impl Watches {
         let incoming = mem::replace(&mut self.incoming, Vec::new(self.alloc));
         let mut listener = MemoryReceiver::new(incoming, until);
         self.written.clear();
-        let answer = watch_lines(
+        step.say_done(watch_lines(
             self.alloc,
             &mut listener,
             &options,
             until,
             &mut self.written,
-        );
-        if let Err(fault) = answer {
-            step.say_name(&fault);
-        }
+        ));
         Ok(())
     }
 

@@ -1,6 +1,6 @@
 //! World files, schedules, worlds and their simulations.
 use crate::loops::push;
-use crate::node_words::say_node_taken;
+use crate::node::say_node_taken;
 use crate::sources::say_held;
 use crate::step::{Step, StepFault};
 use crate::written::compare;
@@ -150,7 +150,10 @@ impl Worlds {
         let shows = mem::replace(&mut self.shows, Vec::new(self.alloc));
         let setups = mem::replace(&mut self.setups, Vec::new(self.alloc));
         match World::new(self.alloc, shows, setups) {
-            Ok(world) => self.world = Some(world),
+            Ok(world) => {
+                self.world = Some(world);
+                step.say(&"ok");
+            }
             Err(fault) => step.say_name(&fault),
         }
     }
@@ -232,8 +235,9 @@ impl Worlds {
             self.schedule.as_str(),
             &mut out,
         );
-        if let Err(fault) = answer {
-            step.say(&format_args!("fault {}", fault.number()));
+        match answer {
+            Ok(()) => step.say(&"ok"),
+            Err(fault) => step.say(&format_args!("fault {}", fault.number())),
         }
         self.written = out.writer;
     }
