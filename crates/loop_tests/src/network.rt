@@ -1,8 +1,8 @@
 //! Links over loopback, and the machine's clock.
-use super::{desk, port_node};
+use crate::loops::port_node;
 use fixtures::packets::full_data;
-use fixtures::texts::frame_line;
-use sacn_console::read_script;
+use fixtures::texts::{DESK, frame_line};
+use sacn_console::{ConsoleCore, read_script, read_show};
 use sacn_edge::memory::ListClock;
 use sacn_edge::{
     Clock, Link, NodeReport, Received, SystemClock, UdpLink, WriterOut, run_console, run_node,
@@ -59,7 +59,8 @@ fn is_bound_once<R: Net>(rt: &R) -> Option<bool> {
 /// Whether a console sends one datagram over this link.
 fn sends_one(alloc: Global, link: &mut UdpLink) -> Option<bool> {
     let script = read_script(alloc, "0 go\n").ok()?;
-    let mut core = desk(alloc)?;
+    let show = read_show(alloc, DESK).ok()?;
+    let mut core = ConsoleCore::new(alloc, &show, 0).ok()?;
     let mut clock = ListClock::new(Vec::new(alloc));
     let sent = run_console(link, &mut clock, &mut core, script.as_slice(), 1);
     Some((sent.sent, sent.failed, sent.refused) == (1, 0, 0))
