@@ -61,5 +61,5 @@ told "a long line" "4: the line has more than 4000 octets" "of sources" "story o
 told "two wrong lines" "3: wanted '1', came '0'"$'\n'"bad.rows:5: wanted '2', came '0'" "of sources" "story one" "renewals = 1" "renewals = 0" "renewals = 2"
 told "no step" "1: the file has no step" "of sources" "story one"
 ends bad.rows 1 "bad.rows:1: the file has no step" "nothing at all" </dev/null
-printf 'of sources\nstory one\nrenewals = \xff\n' | ends bad.rows 2 "bad.rows: it isn't UTF-8" "octets that are no text"
+printf 'of sources\nstory one\nrenewals = \xff\n' | ends bad.rows 1 "bad.rows: the file isn't read as UTF-8 text" "octets that are no text"
 exit "$failed"
