@@ -82,7 +82,10 @@ impl<'a> Run<'a> {
     /// Makes a step, and compares its answer.
     fn step(&mut self, number: usize, line: Vec<&'a str>) -> Result<(), AllocError> {
         self.steps = self.steps.saturating_add(1);
-        let equal = line.iter().position(|word| *word == "=").unwrap_or(line.len());
+        let equal = line
+            .iter()
+            .position(|word| *word == "=")
+            .unwrap_or(line.len());
         let call = line.get(..equal).unwrap_or(&[]);
         let wanted = line.get(equal.saturating_add(1)..).unwrap_or(&[]);
         let wanted = wanted.join(self.alloc, " ")?;
