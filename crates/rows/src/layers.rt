@@ -3,8 +3,7 @@ use crate::packet::cid_in;
 use crate::step::{Step, StepFault};
 use sacn_dmp::{read_dmp, write_dmp};
 use sacn_root::{
-    DATA_VECTOR, EXTENDED_VECTOR, flags_at, length_at, pdu_field, read_root, u16_at, u32_at,
-    write_root,
+    DATA_VECTOR, flags_at, length_at, pdu_field, read_root, u16_at, u32_at, write_root,
 };
 use sacn_sequence::{in_sequence, signed_step};
 
@@ -55,18 +54,14 @@ fn say_dmp(step: &mut Step<'_>, octets: &[u8]) {
     }
 }
 
-/// Writes a root layer for a body of some octets.
+/// Writes a root layer of a data packet for a body of some octets.
 fn write_root_layer(step: &mut Step<'_>, octets: &mut Vec<u8>) {
-    let vector = match step.octet() {
-        8 => EXTENDED_VECTOR,
-        _ => DATA_VECTOR,
-    };
     let cid = cid_in(step);
     let len = step.number_to(4073) as usize;
     if octets.len() < 38 || len > 4073 {
         step.refuse(StepFault::NotReady);
     } else {
-        write_root(octets.as_mut_slice(), vector, &cid, len);
+        write_root(octets.as_mut_slice(), DATA_VECTOR, &cid, len);
     }
 }
 

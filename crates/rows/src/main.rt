@@ -45,7 +45,10 @@ fn report(rt: &HostRuntime) -> Result<bool, io::Error> {
         Some(name) => name.as_str(),
         None => "rows",
     };
-    let text = io::read_to_string(rt.alloc(), rt.reader())?;
+    let Ok(text) = io::read_to_string(rt.alloc(), rt.reader()) else {
+        println!(rt; "{name}: the file isn't read as UTF-8 text")?;
+        return Ok(false);
+    };
     let run = read_rows(rt.alloc(), name, text.as_str())?;
     print!(rt; "{}", run.report.as_str())?;
     Ok(run.is_good)

@@ -52,6 +52,7 @@ impl<'a> Run<'a> {
             ["of", ..] => self.tell(number, "the family was said before, or isn't one word"),
             _ if self.family.is_empty() => self.tell(number, "no family was said before"),
             ["story", _, ..] => self.begin(number),
+            ["story"] => self.tell(number, "a story has no name"),
             _ => self.step(number, found),
         }
     }
@@ -85,8 +86,9 @@ impl<'a> Run<'a> {
             .iter()
             .position(|word| *word == "=")
             .unwrap_or(line.len());
-        let (call, wanted) = line.as_slice().split_at(equal);
-        let wanted = wanted.get(1..).unwrap_or(&[]).join(self.alloc, " ")?;
+        let call = line.get(..equal).unwrap_or(&[]);
+        let wanted = line.get(equal.saturating_add(1)..).unwrap_or(&[]);
+        let wanted = wanted.join(self.alloc, " ")?;
         let answer = self.answer(Vec::from_slice(self.alloc, call)?);
         self.text.clear();
         match answer {
@@ -101,7 +103,7 @@ impl<'a> Run<'a> {
 
     /// What came of the whole file.
     fn ending(mut self) -> Result<Outcome, AllocError> {
-        if self.steps == 0 {
+        if self.steps == 0 && self.faults == 0 {
             self.tell(1, "the file has no step")?;
         }
         let is_good = self.faults == 0;

@@ -187,7 +187,8 @@ fn say_command(step: &mut Step<'_>) -> Result<(), StepFault> {
     Ok(())
 }
 
-fn say_one(step: &mut Step<'_>, command: Command) {
+/// Says a command.
+pub fn say_one(step: &mut Step<'_>, command: Command) {
     match command {
         Command::Go => step.say(&"go"),
         Command::GoTo(cue) => step.say(&format_args!("goto {cue}")),

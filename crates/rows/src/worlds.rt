@@ -3,9 +3,10 @@ use crate::loops::push;
 use crate::node::say_node_taken;
 use crate::sources::say_held;
 use crate::step::{Step, StepFault};
+use crate::texts::say_one;
 use crate::written::compare;
 use fixtures::packets::CID;
-use sacn_console::{Command, Show};
+use sacn_console::Show;
 use sacn_edge::WriterOut;
 use sacn_node::NodeSetup;
 use sacn_text::sim_text;
@@ -108,9 +109,7 @@ impl Worlds {
         };
         step.say(&format_args!("first {first} priority {}", show.priority()));
         step.say(&"universes");
-        for universe in show.universes() {
-            step.say(universe);
-        }
+        step.say_universes(show.universes());
         step.say(&format_args!("name {}", show.name()));
     }
 
@@ -296,7 +295,7 @@ fn say_event(step: &mut Step<'_>, event: &Event) {
     match event {
         Event::Order(console, now, command) => {
             step.say(&format_args!("order {console} {now}"));
-            say_command(step, *command);
+            say_one(step, *command);
         }
         Event::Poll(console, now) => step.say(&format_args!("poll {console} {now}")),
         Event::Deliver(at, node, now) => step.say(&format_args!("deliver {at} {node} {now}")),
@@ -309,16 +308,5 @@ fn say_event(step: &mut Step<'_>, event: &Event) {
             step.say(&format_args!("noise {node} {now}"));
             step.say_octets(octets.as_slice());
         }
-    }
-}
-
-fn say_command(step: &mut Step<'_>, command: Command) {
-    match command {
-        Command::Go => step.say(&"go"),
-        Command::GoTo(cue) => step.say(&format_args!("goto {cue}")),
-        Command::SetLevel(channel, level) => step.say(&format_args!("set {channel} {level}")),
-        Command::Master(level) => step.say(&format_args!("master {level}")),
-        Command::EndUniverse(universe) => step.say(&format_args!("end {universe}")),
-        Command::StartUniverse(universe) => step.say(&format_args!("start {universe}")),
     }
 }

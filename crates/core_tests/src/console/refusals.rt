@@ -1,5 +1,5 @@
 //! Calls that meet a refused request for memory. `rt try --test --fail-alloc N` refuses the Nth.
-use super::{NOTHING, PACKET, Step, wrong_step};
+use super::{NOTHING, PACKET, polled};
 use fixtures::texts::DESK;
 use sacn_console::{
     Command, ConsoleCore, Show, ShowFault, TextFault, read_script, read_show, show_of,
@@ -48,18 +48,17 @@ fn is_script_answered(alloc: Global) -> bool {
     }
 }
 
-/// What the desk's console gives at its first cue.
-const FIRST_CUE: &[Step] = &[
-    Step::Ordered(0, Command::Go, Ok(())),
-    Step::Polled(0, (PACKET, 9, 0, 1, 255)),
-    Step::Polled(0, (122, 0, 0, 0, 0)),
-    Step::Polled(0, NOTHING),
-];
-
+/// Whether the desk's console gives its first cue, its page, and then nothing.
 fn is_core_so(alloc: Global) -> Result<bool, ShowFault> {
     let show = show_at_last(alloc)?;
     let mut core = core_at_last(alloc, &show)?;
-    Ok(wrong_step(&mut core, FIRST_CUE).is_none())
+    let is_taken = core.command(0, Command::Go) == Ok(());
+    let found = [
+        polled(&mut core, 0),
+        polled(&mut core, 0),
+        polled(&mut core, 0),
+    ];
+    Ok(is_taken && found == [(PACKET, 9, 0, 1, 255), (122, 0, 0, 0, 0), NOTHING])
 }
 
 #[test]

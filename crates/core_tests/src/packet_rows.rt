@@ -2,7 +2,7 @@
 ghost use Rattle.std.specs.Prelude.{◌≤◌};
 
 use sacn_framing::{DataFields, write_data};
-use sacn_sources::Kind;
+use sacn_sources::{HeldView, Kind};
 use sacn_universe::SLOTS;
 
 /// A packet of a source, whose CID repeats four octets.
@@ -15,16 +15,6 @@ pub(crate) struct Sent<'a> {
     pub(crate) priority: u8,
     pub(crate) slots: &'a [u8],
 }
-
-/// Source 1's packet of number 0 and no slots on universe 1, at priority 100.
-pub(crate) const FIRST: Sent<'static> = Sent {
-    cid: 1,
-    universe: 1,
-    number: 0,
-    kind: Kind::Live,
-    priority: 100,
-    slots: &[],
-};
 
 /// A live packet of a source on universe 1, at priority 100.
 pub(crate) fn live(cid: u32, number: u8, slots: &[u8]) -> Sent<'_> {
@@ -69,6 +59,21 @@ pub(crate) fn write_sent(sent: &Sent<'_>, octets: &mut [u8; 638]) -> usize
         slots: sent.slots,
     };
     write_data(&fields, octets)
+}
+
+/// Whether a source is held with these slots.
+pub(crate) fn has_slots(held: &HeldView<'_>, slots: &[u8]) -> bool {
+    match held.levels() {
+        Some(levels) => {
+            for at in 0..slots.len().min(SLOTS) {
+                if levels.at(at) != slots[at] {
+                    return false;
+                }
+            }
+            levels.given() == slots.len()
+        }
+        None => false,
+    }
 }
 
 /// A generator of fixed numbers, by a linear congruence modulo 2^64.

@@ -1,11 +1,23 @@
-//! The node beside a plain program.
-use super::plain_node::{PlainNode, Said};
-use super::{THREE_PORTS, give, has_slots};
-use crate::packet_rows::{Numbers, Sent, cid_of};
+//! The node beside a plain program, and octets of any kind.
+mod octets;
+mod plain_node;
+
+use crate::packet_rows::{Numbers, Sent, cid_of, has_slots, write_sent};
+use plain_node::{PlainNode, Said};
 use sacn_node::{NodeCore, NodeSetup, NodeTaken, PortSetup, read_node};
 use sacn_sources::Kind;
 use std::alloc::AllocError;
 use std::test::*;
+
+/// Three ports over two universes.
+const THREE_PORTS: &str =
+    "version = 2\nport = [{number = 5, range = [{universe = 9, slot = 1, count = 512, port_slot = 1}]}, {number = 1, range = [{universe = 9, slot = 2, count = 3, port_slot = 1}, {universe = 4, slot = 1, count = 2, port_slot = 10}, {universe = 9, slot = 1, count = 2, port_slot = 511}]}, {number = 200, range = [{universe = 4, slot = 1, count = 4, port_slot = 100}]}]\n";
+
+fn give(node: &mut NodeCore, now: u64, sent: &Sent<'_>) -> NodeTaken {
+    let mut octets = [0; 638];
+    let len = write_sent(sent, &mut octets);
+    node.take(now, &octets[..len])
+}
 
 /// A packet of one of twenty sources, on one of three universes of which the node has two.
 fn any_packet(numbers: &mut Numbers, turn: u64) -> Said {

@@ -1,40 +1,37 @@
 //! Octets that are no data packet of the node.
-use super::{Step, is_so, node_of};
-use crate::packet_rows::Numbers;
-use fixtures::packets::{empty_page, sync};
+use super::give;
+use crate::packet_rows::{Numbers, cid_of, has_slots, live};
+use fixtures::packets::empty_page;
 use fixtures::texts::ONE_PORT;
 use sacn_framing::read_packet;
-use sacn_node::{NodeCore, NodeTaken};
+use sacn_node::{NodeCore, NodeTaken, read_node};
 use sacn_sources::Taken;
 use std::alloc::{AllocError, Global};
 use std::test::*;
 
 /// A node that holds source 1 with slot 1 at 3.
 fn lit_node(alloc: Global) -> Result<NodeCore, Fail> {
-    let mut node = node_of(alloc, ONE_PORT)?;
-    if is_so(&mut node, &Step::Live(0, 1, 0, &[3], Taken::Held)) {
+    let setup = read_node(alloc, ONE_PORT)?;
+    let mut node = NodeCore::new(alloc, &setup)?;
+    if give(&mut node, 0, &live(1, 0, &[3])) == NodeTaken::FromTable(Taken::Held) {
         Ok(node)
     } else {
         Err("a packet isn't held".into())
     }
 }
 
-/// Pages and synchronization packets move the clock and change nothing else.
-#[test]
-fn pages_and_synchronization(rt: HostRuntime) -> Result<(), Fail> {
-    let mut node = lit_node(rt.alloc())?;
-    let page = empty_page(rt.alloc())?;
-    let sync = sync(rt.alloc())?;
-    let found = [
-        node.take(0, page.as_slice()) == NodeTaken::Discovery,
-        is_so(&mut node, &Step::Shows(0, 1, &[3])),
-        node.take(0, sync.as_slice()) == NodeTaken::Sync,
-        is_so(&mut node, &Step::Shows(0, 1, &[3])),
-        node.take(2500, page.as_slice()) == NodeTaken::Discovery,
-        is_so(&mut node, &Step::Shows(0, 1, &[])),
-    ];
-    assert!(rt; found == [true; 6], "{found:?}");
-    Ok(())
+/// Whether the node shows slot 1 at 3 and no other slot, and holds source 1 as its packet left it.
+fn is_lit(node: &mut NodeCore) -> bool {
+    let mut frame = [7; 513];
+    let is_shown = node.frame(0, 1, &mut frame) == Ok(());
+    let dark = frame.iter().filter(|level| **level == 0).count();
+    let is_held = match node.held(1, &cid_of(1)) {
+        Some(held) => {
+            !held.ended() && (held.number(), held.moment()) == (0, 0) && has_slots(&held, &[3])
+        }
+        None => false,
+    };
+    is_held && is_shown && frame.starts_with(&[0, 3]) && dark == 512
 }
 
 /// A page with some octets changed, and cut somewhere.
@@ -72,8 +69,6 @@ fn octets_of_any_kind(rt: HostRuntime) -> Result<(), Fail> {
             refused = u32::saturating_add(refused, 1);
         }
     }
-    let is_lit = is_so(&mut node, &Step::Shows(0, 1, &[3]));
-    let is_held = is_so(&mut node, &Step::Holds(1, 0, 0, &[3]));
-    assert_eq!(rt; (refused, is_lit, is_held), (2000, true, true));
+    assert_eq!(rt; (refused, is_lit(&mut node)), (2000, true));
     Ok(())
 }
