@@ -43,7 +43,7 @@ impl Monitors {
                 Some(place) => step.say(&place),
                 None => step.say(&"none"),
             },
-            "next_loss" => step.say(&self.monitor.next_loss()),
+            "next-loss" => step.say(&self.monitor.next_loss()),
             "moment" => step.say(&self.monitor.moment()),
             "streams" => step.say(&self.monitor.streams().len()),
             "state" => self.say_state(step),

@@ -63,12 +63,12 @@ impl Worlds {
             "node" => self.say_node(step),
             "schedule" => self.schedule(step)?,
             "event" => self.say_event(step),
-            "made" => self.make(step),
+            "make" => self.make(step),
             "run" => self.run(step)?,
             "polls" => self.polls(step)?,
             "place" => self.say_place(step)?,
             "held" => self.say_held(step)?,
-            "simulated" => self.simulate(step),
+            "simulate" => self.simulate(step),
             "written" => compare(step, self.written.as_slice())?,
             word => {
                 let event = event_in(step, word)?;
@@ -110,7 +110,8 @@ impl Worlds {
         step.say(&format_args!("first {first} priority {}", show.priority()));
         step.say(&"universes");
         step.say_universes(show.universes());
-        step.say(&format_args!("name {}", show.name()));
+        step.say(&"name");
+        step.say_name(&show.name());
     }
 
     fn say_node(&self, step: &mut Step<'_>) {
