@@ -1,0 +1,18 @@
+//! Tests of the source table, the node, the cue player, the patch and the console that no rows say: beside plain programs over
+//! generators, and where requests for memory are refused.
+#![tactic(auto)]
+
+#[cfg(test)]
+mod console;
+#[cfg(test)]
+mod cues;
+#[cfg(test)]
+mod faults;
+#[cfg(test)]
+mod node;
+#[cfg(test)]
+mod packet_rows;
+#[cfg(test)]
+mod patch;
+#[cfg(test)]
+mod sources;

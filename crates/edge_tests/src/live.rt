@@ -1,4 +1,0 @@
-//! The worked rows of the loops, over memory, and of the values at the edge.
-mod desk;
-mod gateway;
-mod values;

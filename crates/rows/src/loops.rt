@@ -1,0 +1,250 @@
+//! The loops of a node, a gateway, a console and a desk, over devices in memory.
+use crate::datagram::{incoming_in, sender_of};
+use crate::step::{Step, StepFault};
+use crate::tellers::{ListOrders, Tally};
+use crate::written::compare;
+use sacn_console::{Command, ConsoleCore, read_script, read_show};
+use sacn_edge::memory::{Incoming as Bringing, ListClock, MemoryLink};
+use sacn_edge::{ConsoleReport, WriterOut, run_console, run_node};
+use sacn_live::memory::{Incoming, MemoryReceiver};
+use sacn_live::{Octets4, Span, run_desk, run_gateway};
+use sacn_node::{NodeCore, read_node};
+use std::alloc::Global;
+use std::mem;
+
+/// What comes to a loop, the orders that it is given, and what it wrote and handed over.
+#[derive(Drop)]
+pub struct Loops {
+    incoming: Vec<Incoming>,
+    senders: Vec<Octets4>,
+    orders: Vec<(u64, Command)>,
+    written: Vec<u8>,
+    handed: Vec<Vec<u8>>,
+}
+
+impl Loops {
+    /// Nothing comes, and nothing is ordered.
+    pub fn new(alloc: Global) -> Self {
+        Loops {
+            incoming: Vec::new(alloc),
+            senders: Vec::new(alloc),
+            orders: Vec::new(alloc),
+            written: Vec::new(alloc),
+            handed: Vec::new(alloc),
+        }
+    }
+
+    /// Makes the step's call.
+    ///
+    /// # Errors
+    ///
+    /// There is no such call, its text isn't read, or no memory.
+    pub fn answer(&mut self, step: &mut Step<'_>) -> Result<(), StepFault> {
+        match step.word() {
+            "comes" => {
+                let incoming = incoming_in(step)?;
+                push(&mut self.incoming, incoming)
+            }
+            "carry" => self.carry(step),
+            "sender" => {
+                let sender = sender_of(step.word())?;
+                push(&mut self.senders, sender)
+            }
+            "script" => self.script(step),
+            "node" => self.node(step),
+            "gateway" => self.gateway(step),
+            "console" => self.console(step),
+            "desk" => self.desk(step),
+            "datagram" => self.say_datagram(step),
+            "written" => compare(step, self.written.as_slice()),
+            _ => Err(StepFault::UnknownCall),
+        }
+    }
+
+    /// A datagram that was handed over comes.
+    fn carry(&mut self, step: &mut Step<'_>) -> Result<(), StepFault> {
+        let now = step.number();
+        let sender = sender_of(step.word())?;
+        let Some(octets) = self.handed.get(step.number_to(1000) as usize) else {
+            return Err(StepFault::NotReady);
+        };
+        let octets = Vec::from_slice(step.alloc(), octets.as_slice())?;
+        push(&mut self.incoming, Incoming::Datagram(now, sender, octets))
+    }
+
+    fn script(&mut self, step: &mut Step<'_>) -> Result<(), StepFault> {
+        match read_script(step.alloc(), step.text()) {
+            Ok(orders) => {
+                self.orders = orders;
+                Ok(())
+            }
+            Err(_) => Err(StepFault::NotReady),
+        }
+    }
+
+    /// What comes, as a link brings it.
+    fn link(&mut self, alloc: Global, failing: Option<u64>) -> Result<MemoryLink, StepFault> {
+        let mut list = Vec::new(alloc);
+        for incoming in mem::replace(&mut self.incoming, Vec::new(alloc)) {
+            let bringing = match incoming {
+                Incoming::Nothing(_) => Bringing::Nothing,
+                Incoming::Failed(_) => Bringing::Failed,
+                Incoming::Datagram(_, _, octets) => Bringing::Datagram(octets),
+            };
+            push(&mut list, bringing)?;
+        }
+        Ok(MemoryLink::new(alloc, list, failing))
+    }
+
+    fn node(&mut self, step: &mut Step<'_>) -> Result<(), StepFault> {
+        let mut core = node_of(step)?;
+        let mut link = self.link(step.alloc(), None)?;
+        let readings = readings_in(step)?;
+        let turns = readings.len() as u64;
+        let mut clock = ListClock::new(readings);
+        let mut out = WriterOut::new(Vec::new(step.alloc()));
+        if let Ok(report) = run_node(&mut link, &mut clock, &mut out, &mut core, turns) {
+            step.say(&format_args!("received {}", report.received));
+            step.say(&format_args!("failed {}", report.failed));
+        }
+        self.written = out.writer;
+        Ok(())
+    }
+
+    fn gateway(&mut self, step: &mut Step<'_>) -> Result<(), StepFault> {
+        let mut core = node_of(step)?;
+        let incoming = mem::replace(&mut self.incoming, Vec::new(step.alloc()));
+        let span = Span {
+            turns: step.number(),
+            until: u64::MAX,
+        };
+        let mut receiver = MemoryReceiver::new(incoming, step.number());
+        let mut tally = Tally::none();
+        let mut out = WriterOut::new(Vec::new(step.alloc()));
+        let senders = self.senders.as_slice();
+        if run_gateway(
+            &mut receiver,
+            &mut tally,
+            &mut out,
+            &mut core,
+            senders,
+            span,
+        )
+        .is_ok()
+        {
+            tally.say(step);
+        }
+        self.written = out.writer;
+        Ok(())
+    }
+
+    fn console(&mut self, step: &mut Step<'_>) -> Result<(), StepFault> {
+        let mut core = console_of(step)?;
+        let failing = match step.word() {
+            "works" => None,
+            "fails" => Some(step.number()),
+            _ => return Err(StepFault::Word),
+        };
+        let mut link = self.link(step.alloc(), failing)?;
+        let readings = readings_in(step)?;
+        let turns = readings.len() as u64;
+        let mut clock = ListClock::new(readings);
+        let orders = self.orders.as_slice();
+        let report = run_console(&mut link, &mut clock, &mut core, orders, turns);
+        say_report(step, &report);
+        self.keep(step, &link)
+    }
+
+    fn desk(&mut self, step: &mut Step<'_>) -> Result<(), StepFault> {
+        let mut core = console_of(step)?;
+        let mut link = self.link(step.alloc(), None)?;
+        let readings = readings_in(step)?;
+        let list = mem::replace(&mut self.orders, Vec::new(step.alloc()));
+        let mut orders = ListOrders::new(list, readings.len());
+        let mut clock = ListClock::new(readings);
+        let report = run_desk(&mut link, &mut clock, &mut orders, &mut core, 1000);
+        step.say(&format_args!("accepted {}", orders.accepted));
+        say_report(step, &report);
+        self.keep(step, &link)
+    }
+
+    /// Keeps what was handed over.
+    fn keep(&mut self, step: &Step<'_>, link: &MemoryLink) -> Result<(), StepFault> {
+        self.handed.clear();
+        for octets in link.handed() {
+            let octets = Vec::from_slice(step.alloc(), octets.as_slice())?;
+            push(&mut self.handed, octets)?;
+        }
+        Ok(())
+    }
+
+    /// Says of a datagram that was handed over, counted from 0, its length, and of one of 512 slots the number, the options, the
+    /// universe and the slots; `none` where there is no such datagram.
+    fn say_datagram(&self, step: &mut Step<'_>) -> Result<(), StepFault> {
+        let Some(octets) = self.handed.get(step.number_to(1000) as usize) else {
+            step.say(&"none");
+            return Ok(());
+        };
+        step.say(&octets.len());
+        if octets.len() == 638 {
+            step.say(&format_args!("number {}", octets[111]));
+            step.say(&format_args!("options {}", octets[112]));
+            step.say(&format_args!("universe {}", octets[114]));
+            step.say(&"slots");
+            step.say_octets(&octets.as_slice()[126..]);
+        }
+        Ok(())
+    }
+}
+
+/// Adds an item to a list.
+///
+/// # Errors
+///
+/// No memory.
+pub fn push<T: Drop>(list: &mut Vec<T>, item: T) -> Result<(), StepFault> {
+    match list.push(item) {
+        Ok(()) => Ok(()),
+        Err(_) => Err(StepFault::Memory),
+    }
+}
+
+/// The words left as the readings of a clock.
+fn readings_in(step: &mut Step<'_>) -> Result<Vec<u64>, StepFault> {
+    let mut readings = Vec::new(step.alloc());
+    for _ in 0..100 {
+        if !step.has_word() {
+            break;
+        }
+        push(&mut readings, step.number())?;
+    }
+    Ok(readings)
+}
+
+/// A node of the setup that stands before the step.
+fn node_of(step: &Step<'_>) -> Result<NodeCore, StepFault> {
+    let Ok(setup) = read_node(step.alloc(), step.text()) else {
+        return Err(StepFault::NotReady);
+    };
+    match NodeCore::new(step.alloc(), &setup) {
+        Ok(core) => Ok(core),
+        Err(_) => Err(StepFault::Memory),
+    }
+}
+
+/// A console of the show that stands before the step, whose first number is 0.
+fn console_of(step: &Step<'_>) -> Result<ConsoleCore, StepFault> {
+    let Ok(show) = read_show(step.alloc(), step.text()) else {
+        return Err(StepFault::NotReady);
+    };
+    match ConsoleCore::new(step.alloc(), &show, 0) {
+        Ok(core) => Ok(core),
+        Err(_) => Err(StepFault::Memory),
+    }
+}
+
+fn say_report(step: &mut Step<'_>, report: &ConsoleReport) {
+    step.say(&format_args!("sent {}", report.sent));
+    step.say(&format_args!("failed {}", report.failed));
+    step.say(&format_args!("refused {}", report.refused));
+}

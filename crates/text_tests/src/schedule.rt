@@ -1,4 +1,0 @@
-//! Worked rows of world files and schedules.
-mod refusals;
-mod schedules;
-mod world_files;

@@ -1,3 +1,0 @@
-//! Worked rows of worlds and their runs.
-mod runs;
-mod worlds;

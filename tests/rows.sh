@@ -1,0 +1,65 @@
+#!/usr/bin/env bash
+# Runs the rows of tests/rows, and rows that are wrong, each of which has to be told by file and line. Prints 'ok NAME' or 'not ok NAME: why' for each
+# run, as ./test counts them. The program is crates/rows/out/rows, or what ROWS names.
+set -u
+top=$(cd "$(dirname "$(readlink -f "$0")")/.." && pwd)
+rows=${ROWS:-$top/crates/rows/out/rows}
+if [ ! -x "$rows" ]; then
+  echo "not ok rows: the program isn't built"
+  exit 1
+fi
+failed=0
+
+# ends NAME STATUS WANTED: reads a file of rows, which ends with the status, and prints this and nothing else
+ends() {
+  local status=0 said
+  said=$(timeout 60 "$rows" "$1" 2>&1) || status=$?
+  if [ "$status" = "$2" ] && [ "$said" = "$3" ]; then
+    echo "ok rows: $4"
+  else
+    echo "not ok rows: $4: status $status, '$(head -c 300 <<<"$said")'"
+    failed=1
+  fi
+}
+
+# told WHAT WANTED LINE..: a file of these lines is told so, and nothing else of it
+told() {
+  local what=$1 wanted=$2
+  shift 2
+  printf '%s\n' "$@" | ends bad.rows 1 "bad.rows:$wanted" "$what"
+}
+
+files=0
+for file in "$top"/tests/rows/*.rows; do
+  [ -f "$file" ] || continue
+  files=$((files + 1))
+  name=$(basename "$file")
+  stories=$(grep -c '^story ' "$file")
+  steps=$(grep -cvE '^(#|\||of |story |[[:space:]]*$)' "$file")
+  ends "$name" 0 "$name: $steps steps of $stories stories" "$name: $steps steps of $stories stories" <"$file"
+done
+if [ "$files" = 0 ]; then
+  echo "not ok rows: there are no files"
+  failed=1
+fi
+
+long=$(printf 'x%.0s' $(seq 4001))
+told "a wrong answer" "3: wanted '2', came '0'" "of sources" "story one" "expire 5 = 2"
+told "an answer without what is wanted" "3: wanted '', came '0'" "of sources" "story one" "expire 5"
+told "an unknown family" "1: unknown family" "of colours" 
+told "no family" "1: no family was said before" "story one"
+told "a second family" "2: the family was said before, or isn't one word" "of sources" "of node" "story one" "renewals = 0"
+told "an unknown call" "3: unknown call" "of sources" "story one" "shine 1 = 2" "renewals = 0"
+told "a step before a story" "2: no story began before" "of sources" "renewals = 0" "story one" "renewals = 0"
+told "a story without a name" "2: a story has no name" "of sources" "story" "story one" "renewals = 0"
+told "too few words" "3: too few words, or too many" "of sources" "story one" "expire = 0"
+told "too many words" "3: too few words, or too many" "of sources" "story one" "expire 5 6 = 0"
+told "a word that is no number" "3: a word isn't what stands there" "of sources" "story one" "expire +5 = 0"
+told "a number that is too great" "3: a word isn't what stands there" "of sources" "story one" "take 0 number 256 = Held"
+told "a call that another has to come before" "3: what the call needs isn't there" "of node" "story one" "tick 0 = 0"
+told "a long line" "4: the line has more than 4000 octets" "of sources" "story one" "renewals = 0" "# $long"
+told "two wrong lines" "3: wanted '1', came '0'"$'\n'"bad.rows:5: wanted '2', came '0'" "of sources" "story one" "renewals = 1" "renewals = 0" "renewals = 2"
+told "no step" "1: the file has no step" "of sources" "story one"
+ends bad.rows 1 "bad.rows:1: the file has no step" "nothing at all" </dev/null
+printf 'of sources\nstory one\nrenewals = \xff\n' | ends bad.rows 1 "bad.rows: the file isn't read as UTF-8 text" "octets that are no text"
+exit "$failed"
