@@ -7,7 +7,7 @@ use sacn_console::Command;
 /// Consoles, nodes and datagrams are numbered from 0; a datagram's number is its place among all that were sent.
 /// Moments are milliseconds of the clock of the console or node that the event is for; clocks need not agree, and may
 /// go back.
-#[derive(Debug, PartialEq, Eq, Drop)]
+#[derive(PartialEq, Eq, Drop)]
 pub enum Event {
     /// A console, the moment, and the order that it is given then.
     Order(usize, u64, Command),
