@@ -116,6 +116,40 @@ class TogetherAtOnce:
 SHARE_OF_NEED = 0.6
 
 
+# A check keeps to its end the jobs that it begins with, which are few where much else is under way. So crates on which nearly the longest chain of lines hangs, such as the one for recordings,
+# were each alone for minutes in the end: these get as many jobs as half of the processors, from their beginning on.
+NEARLY = 0.8
+
+
+def hurry(rt):
+    """Has the crates of the longest chains checked by more than one job."""
+    crates_of, ci, hurried = rt.crates_of, rt.Crate.ci, set()
+
+    def chains_of(crates):
+        """For each crate the lines of the longest chain through it."""
+        own = {it.name: it.count(rb"\n") for it in crates}
+        under, over = {}, {}
+        for it in crates:
+            under[it.name] = own[it.name] + max((under[dep.name] for dep in it.deps), default=0)
+        for it in reversed(crates):
+            over[it.name] = own[it.name] + max((over[up.name] for up in crates if it.name in {dep.name for dep in up.deps} and up.name in over), default=0)
+        return {name: under[name] + over[name] - own[name] for name in own}
+
+    def with_chains(root):
+        crates = crates_of(root)
+        chains = chains_of(crates)
+        hurried.update(name for name, lines in chains.items() if lines >= NEARLY * max(chains.values()))
+        return crates
+
+    def with_jobs(crate, flags, tests):
+        jobs = rt.processors() // 2 if crate.name in hurried and not tests else 1
+        if flags[:1] == ["--jobs"]:
+            flags = ["--jobs", str(max(jobs, int(flags[1]))), *flags[2:]]
+        return ci(crate, flags, tests)
+
+    rt.crates_of, rt.Crate.ci = with_chains, with_jobs
+
+
 class Spent:
     """The processor seconds of the kit's checks, by crate and by what they were for, and their memory. It stands where the kit looks for Python's `subprocess`."""
 
@@ -172,6 +206,8 @@ def gate():
     else:
         TogetherAtOnce(rt)
     Spent(rt)
+    if hasattr(rt, "crates_of"):
+        hurry(rt)
     if hasattr(rt, "need"):
         need = rt.need
         rt.need = lambda crate: int(SHARE_OF_NEED * need(crate))
