@@ -10,5 +10,5 @@ room=$(mktemp -d)
 trap 'rm -rf "$room"' EXIT
 prefix=${1-$room/prefix}
 if [ ! -f "$prefix/lib/libsacn.a" ]; then "$top/sacn" library "$prefix"; fi
-"${CC:-cc}" -std=c11 -O2 -falign-functions=32 -Wall -Wextra -Werror -I"$prefix/include" -o "$room/speed" "$top"/tools/speed/*.c "$prefix/lib/libsacn.a"
+"${CC:-cc}" -std=c11 -O3 -falign-functions=32 -Wall -Wextra -Werror -I"$prefix/include" -o "$room/speed" "$top"/tools/speed/*.c "$prefix/lib/libsacn.a"
 "$room/speed" ${words[@]+"${words[@]}"}

@@ -34,10 +34,12 @@ static double timed(turn *work, uint64_t from, uint64_t calls, uint64_t *sum) {
     return (now() - start) / (double)calls;
 }
 
+/* (so many calls in all rounds together) */
 static void measure(const char *name, uint64_t calls, turn *ours, turn *plain) {
     double each[ROUNDS], beside[ROUNDS];
     uint64_t sum = 0, other = 0;
-    calls = calls / divisor ? calls / divisor : 1;
+    calls /= ROUNDS * divisor;
+    if (!calls) calls = 1;
     for (int round = 0; round < ROUNDS; round++) {
         each[round] = timed(ours, (uint64_t)round * calls, calls, &sum);
         if (plain) beside[round] = timed(plain, (uint64_t)round * calls, calls, &other);
@@ -124,7 +126,7 @@ static void measure_sources(void) {
             sacn_sources_free(&sources), memset(&table, 0, sizeof table);
             if (sacn_sources_new(&sources)) stop("no table");
             snprintf(name, sizeof name, has_merge ? "the same, and all %u are merged" : "a packet is read and taken, from %u in turn", (unsigned)sending);
-            measure(name, 1000000, has_merge ? merge : take, has_merge ? plain_merge : plain_take_one);
+            measure(name, 5000000, has_merge ? merge : take, has_merge ? plain_merge : plain_take_one);
         }
     sacn_sources_free(&sources);
 }
@@ -140,8 +142,8 @@ static uint64_t plain_show(uint64_t i) {
     wire[0][111] = (uint8_t)i;
     return plain_node_take(&plain_node, i / 1000, wire[0], DATA_OCTETS), plain_node_frame(&plain_node, i / 1000, 1, frame), frame[512];
 }
-static uint64_t pass(uint64_t i) { return passed[111] = (uint8_t)i, sacn_node_take(&node, i / 1000000, passed, DATA_OCTETS, &taken), taken == SACN_TAKEN_OTHER_UNIVERSE; }
-static uint64_t tick(uint64_t i) { return sacn_node_tick(&node, i / 1000000, &length), length; }
+static uint64_t pass(uint64_t i) { return passed[111] = (uint8_t)i, sacn_node_take(&node, i / 5000000, passed, DATA_OCTETS, &taken), taken == SACN_TAKEN_OTHER_UNIVERSE; }
+static uint64_t tick(uint64_t i) { return sacn_node_tick(&node, i / 5000000, &length), length; }
 static uint8_t *of_full(uint64_t i) {
     uint8_t *octets = wire[i / 16 % 16];
     octets[111] = (uint8_t)(i / 256), octets[114] = (uint8_t)(i % 16 + 1);
@@ -166,15 +168,15 @@ static void make_node(int ports) {
 static void measure_nodes(void) {
     memcpy(passed, wire[0], DATA_OCTETS), passed[114] = 17;
     make_node(1);
-    measure("a node takes a packet of another universe", 1000000, pass, NULL);
+    measure("a node takes a packet of another universe", 5000000, pass, NULL);
     make_node(1);
-    measure("a node takes a packet and makes the frame of its port", 1000000, show, plain_show);
+    measure("a node takes a packet and makes the frame of its port", 5000000, show, plain_show);
     make_node(16);
-    measure("the same at 16 ports and 16 universes of 16 sources", 1000000, show_full, plain_show_full);
+    measure("the same at 16 ports and 16 universes of 16 sources", 5000000, show_full, plain_show_full);
     make_node(16);
     for (uint64_t i = 0; i < 256; i++) show_full(i);
-    measure("such a node takes a packet of another universe", 1000000, pass, NULL);
-    measure("such a node is ticked", 1000000, tick, NULL);
+    measure("such a node takes a packet of another universe", 5000000, pass, NULL);
+    measure("such a node is ticked", 5000000, tick, NULL);
     sacn_node_free(&node);
     memcpy(wire, own, sizeof wire);
 }
@@ -262,7 +264,7 @@ static void measure_wide(void) {
         for (int polls = 0; polls < 1100; polls++) idle(0);
     measure("a console of that show is polled, nothing being due", 100000, idle, NULL);
     sacn_console_command(&console, moment += 25, SACN_SET_LEVEL, 1, 65535);
-    measure("the same, all 1024 universes having changed", 1024 / ROUNDS * divisor, idle, NULL);
+    measure("the same, all 1024 universes having changed", 1024 * divisor, idle, NULL);
 }
 
 static struct plain_player player;
@@ -306,14 +308,14 @@ static uint64_t hear(uint64_t i) {
 int main(int count, char **words) {
     if (count > 1 && !strcmp(words[1], "fast")) divisor = 100;
     write_packets();
-    measure("a data packet of 512 slots is read", 2000000, read_one, plain_read_one);
-    measure("one of priority 201 is refused", 2000000, refuse, plain_refuse);
+    measure("a data packet of 512 slots is read", 9000000, read_one, plain_read_one);
+    measure("one of priority 201 is refused", 9000000, refuse, plain_refuse);
     write_packets();
-    measure("one is written", 2000000, write_one, plain_write_one);
+    measure("one is written", 9000000, write_one, plain_write_one);
     measure_sources();
     measure_nodes();
     if (sacn_monitor_new(&monitor)) stop("no monitor");
-    measure("a monitor takes from 4 sources", 1000000, hear, NULL);
+    measure("a monitor takes from 4 sources", 5000000, hear, NULL);
     sacn_monitor_free(&monitor);
     measure_wide();
     fade("a datagram of 4 universes of 512 slots that all fade", 3000, 4, 512);
