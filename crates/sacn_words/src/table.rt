@@ -11,17 +11,19 @@ pub const VERSION: &str = "1, streaming ACN by ANSI E1.31-2018
 kit rattle-kit-13b logic dac8208d650f15bf
 kit rattle-kit-13f logic dac8208d650f15bf";
 
-/// The program, as it is called without a command, and with each of them.
-pub const PROGRAM: Program<'static> = Program {
-    // The day of the manual's latest change.
-    date: "2026-11-26",
-    usage: "sacn [COMMAND]",
-    about: "Streaming ACN (ANSI E1.31-2018): datagrams read and checked, consoles and nodes run.
+/// The day of the manual's latest change.
+const DATE: &str = "2026-11-26";
+
+const USAGE: &str = "sacn [COMMAND]";
+
+pub const ABOUT: &str =
+    "Streaming ACN (ANSI E1.31-2018): datagrams read and checked, consoles and nodes run.
 
 Without a command it reads one datagram from standard input, as hexadecimal digits with
 spaces and line ends anywhere between them, and prints its fields and its frame, or
-refuses it with the first check of the standard's layouts that fails.",
-    notes: "Examples, in a clone of the repository:
+refuses it with the first check of the standard's layouts that fails.";
+
+pub const NOTES: &str = "Examples, in a clone of the repository:
   ./sacn < examples/desk.hex
   ./sacn decode examples/levels.sacn examples/universes.sacn
   ./sacn sim examples/world.toml examples/schedule.txt
@@ -36,13 +38,9 @@ refuses it with the first check of the standard's layouts that fails.",
 
 docs/FILES.md tells what stands in the files, and what is printed.
 
-Exit status: 0; 2 bad words; 3 refused input; 4 a device failed.",
-    arguments: &[HELP_LETTER, HELP, VERSION_LETTER, VERSION_NAME],
-    commands: &[
-        DECODE, SIM, CONSOLE, NODE, GATEWAY, DESK, GROUPS, EXPLAIN, WATCH, CHECK, MANUAL,
-        COMPLETION,
-    ],
-};
+Exit status: 0; 2 bad words; 3 refused input; 4 a device failed.";
+
+const ARGUMENTS: &[Argument<'static>] = &[HELP_LETTER, HELP, VERSION_LETTER, VERSION_NAME];
 
 const DECODE: Command<'static> = Command {
     name: "decode",
@@ -329,7 +327,85 @@ const COMPLETION: Command<'static> = Command {
     ],
 };
 
+// Each in a function of its own: all the rows at once are too many for the borrow checker's part of a proof.
+
+fn decode() -> Command<'static> {
+    DECODE
+}
+
+fn sim() -> Command<'static> {
+    SIM
+}
+
+fn console() -> Command<'static> {
+    CONSOLE
+}
+
+fn node() -> Command<'static> {
+    NODE
+}
+
+fn gateway() -> Command<'static> {
+    GATEWAY
+}
+
+fn desk() -> Command<'static> {
+    DESK
+}
+
+fn groups() -> Command<'static> {
+    GROUPS
+}
+
+fn explain() -> Command<'static> {
+    EXPLAIN
+}
+
+fn watch() -> Command<'static> {
+    WATCH
+}
+
+fn check() -> Command<'static> {
+    CHECK
+}
+
+fn manual() -> Command<'static> {
+    MANUAL
+}
+
+fn completion() -> Command<'static> {
+    COMPLETION
+}
+
+/// The commands, in the order of help.
+pub fn commands(alloc: Global) -> Result<Vec<Command<'static>>, AllocError> {
+    let commands = vec![in alloc;
+        decode(),
+        sim(),
+        console(),
+        node(),
+        gateway(),
+        desk(),
+        groups(),
+        explain(),
+        watch(),
+        check(),
+        manual(),
+        completion(),
+    ]?;
+    Ok(commands)
+}
+
 /// A text that is made from the table.
 pub fn manual_text(alloc: Global, form: Form) -> Result<Vec<u8>, AllocError> {
-    render(alloc, form, &PROGRAM)
+    let commands = commands(alloc)?;
+    let program = Program {
+        date: DATE,
+        usage: USAGE,
+        about: ABOUT,
+        notes: NOTES,
+        arguments: ARGUMENTS,
+        commands: commands.as_slice(),
+    };
+    render(alloc, form, &program)
 }
