@@ -1,5 +1,6 @@
 //! clap's tree, made from the table.
-use crate::table::{ABOUT, NOTES, VERSION, commands};
+use crate::program::{ABOUT, NOTES, VERSION};
+use crate::table::commands;
 use clap::builder::ValueParser;
 use clap::error::ErrorKind;
 use clap::{Arg, ArgAction, ArgMatches, Command, Error};
