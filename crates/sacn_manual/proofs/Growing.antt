@@ -61,10 +61,9 @@ command_kept form old new c t g = record { told = kept_told form _ _ _ old new t
 pub commands_kept : (form : Form) (old new : List ℕ) (xs : List Command) → All (TellsCommand form old) xs → Grows old new → All (TellsCommand form new) xs
 commands_kept form old new xs a g = λ k d l. command_kept form old new _ (a k d l) g
 
--- `x` is the command at `i`
-pub more_commands : (form : Form) (old new : List ℕ) (xs : List Command) (i : ℕ) (x : Command) → i < length xs → x ≡ get_or xs i x → Grows old new
-    → All (TellsCommand form old) (take i xs) → TellsCommand form new x → All (TellsCommand form new) (take (i + 1) xs)
-more_commands form old new xs i x l e g a t = All-more (TellsCommand form new) xs i x l (commands_kept form old new (take i xs) a g) (subst (TellsCommand form new) e t)
+pub more_commands : (form : Form) (old new : List ℕ) (xs : List Command) (i : ℕ) (d : Command) → i < length xs → Grows old new
+    → All (TellsCommand form old) (take i xs) → TellsCommand form new (get_or xs i d) → All (TellsCommand form new) (take (i + 1) xs)
+more_commands form old new xs i d l g a t = All-more (TellsCommand form new) xs i d l (commands_kept form old new (take i xs) a g) t
 
 -- what holds of as many as there are holds of all
 pub all_taken : {X : Type 0} (P : X → Type 0) (xs : List X) (i : ℕ) → length xs ≤ i → All P (take i xs) → All P xs

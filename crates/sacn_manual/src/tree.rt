@@ -50,7 +50,7 @@ pub struct Argument<'a> {
 }
 
 /// A command of a program.
-#[derive(Clone, Copy)]
+#[derive(Drop)]
 pub struct Command<'a> {
     pub name: &'a str,
     /// What help says of it, in a line.
@@ -61,7 +61,7 @@ pub struct Command<'a> {
 }
 
 /// A program of commands.
-#[derive(Clone, Copy)]
+#[derive(Drop)]
 pub struct Program<'a> {
     /// The day of its manual, as `2026-11-23`; it stands in a page as it is.
     pub date: &'a str,

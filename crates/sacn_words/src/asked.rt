@@ -1,6 +1,6 @@
 //! What the words of a command line ask for.
 use crate::reading::{Fault, Words, refusal};
-use crate::spelled::{destination, device, host, kind, page, path, port, sender, universe, widget};
+use crate::spelled::{destination, host, kind, page, port, sender, universe};
 use crate::tree::matches;
 use clap::{ArgMatches, Error};
 use sacn_check::FileKind;
@@ -142,7 +142,7 @@ fn gateway<'a>(words: &mut Words<'_, 'a>) -> Asked<'a> {
         seconds: words.seconds(),
         listen: words.value("listen", host).unwrap_or(Ipv4Addr::UNSPECIFIED),
         from: words.values("from", sender),
-        widgets: words.values("widget", widget),
+        widgets: words.widgets(),
         setup: words.text("SETUP"),
     })
 }
@@ -157,7 +157,7 @@ fn is_group(host: &SocketAddrV4) -> bool {
 fn destinations<'a>(words: &mut Words<'_, 'a>) -> Vec<SocketAddrV4> {
     let hosts = words.values("to", destination);
     if hosts.len() > MAX_DESTINATIONS {
-        words.refuse(Fault::Word("--to", "TooManyDestinations"));
+        words.refuse(Fault::TooManyDestinations);
     }
     hosts
 }
@@ -240,18 +240,18 @@ fn asked_of<'a>(command: &str, words: &mut Words<'_, 'a>) -> Asked<'a> {
         "gateway" => gateway(words),
         "desk" => desk(words),
         "groups" => Asked::Groups {
-            device: words.value("device", device).unwrap_or(""),
+            device: words.device(),
             file: words.text("FILE"),
         },
         "explain" => explain(words),
         "watch" => watch(words),
         "check" => Asked::Check(CheckAsked {
             kind: words.value("as", kind),
-            files: words.values("FILE", path),
+            files: words.paths(),
         }),
         "manual" => Asked::Manual(Form::Manual),
         "completion" => Asked::Manual(shell_of(words.text("SHELL")).unwrap_or(Form::Bash)),
-        _ => Asked::Decode(words.values("FILE", path)),
+        _ => Asked::Decode(words.paths()),
     }
 }
 

@@ -3,6 +3,7 @@
 
 mod arguments;
 mod asked;
+mod program;
 mod reading;
 mod spelled;
 mod table;
@@ -11,4 +12,4 @@ mod tree;
 pub use asked::{
     Asked, CheckAsked, DeskAsked, ExplainAsked, GatewayAsked, WatchAsked, moment_of, parse,
 };
-pub use table::manual_text;
+pub use program::manual_text;

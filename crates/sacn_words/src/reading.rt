@@ -1,9 +1,10 @@
 //! What clap matched, read: what a word spells, or else the first of the faults.
-use crate::table::PROGRAM;
+use crate::spelled::{Cause, is_device, widget};
+use crate::table::commands;
 use crate::tree::error_of;
 use clap::parser::ValueSource;
 use clap::{ArgMatches, Error};
-use sacn_manual::Kind;
+use sacn_manual::{Command, Kind};
 use std::alloc::{AllocError, Global};
 
 /// What is wrong with words that clap lets pass.
@@ -11,7 +12,8 @@ use std::alloc::{AllocError, Global};
 pub enum Fault<'a> {
     OutOfMemory,
     /// A word, and what it isn't.
-    Word(&'a str, &'static str),
+    Word(&'a str, Cause),
+    TooManyDestinations,
     /// A number that isn't spelled by digits alone: clap takes a sign before them.
     Number(&'static str),
     /// An option that may not be given with another.
@@ -106,7 +108,7 @@ impl<'m, 'a> Words<'m, 'a> {
     }
 
     /// What the word of an option spells, where it is given.
-    pub fn value<T: Drop, F: Fn(&'a str) -> Result<T, &'static str> + Drop>(
+    pub fn value<T: Drop, F: Fn(&str) -> Result<T, Cause> + Drop>(
         &mut self,
         name: &str,
         read: F,
@@ -116,15 +118,15 @@ impl<'m, 'a> Words<'m, 'a> {
         let word = self.word(name)?;
         match read(word) {
             Ok(value) => Some(value),
-            Err(fault) => {
-                self.refuse(Fault::Word(word, fault));
+            Err(cause) => {
+                self.refuse(Fault::Word(word, cause));
                 None
             }
         }
     }
 
-    /// What the words of an argument spell, one after another.
-    pub fn values<T: Drop, F: Fn(&'a str) -> Result<T, &'static str> + Drop>(
+    /// What the words of an option spell, one after another.
+    pub fn values<T: Drop, F: Fn(&str) -> Result<T, Cause> + Drop>(
         &mut self,
         name: &str,
         read: F,
@@ -132,24 +134,65 @@ impl<'m, 'a> Words<'m, 'a> {
         requires { F.IsAlwaysCallable read }
     {
         let mut values = Vec::new(self.alloc);
-        let words = self.matches.get_strs(name).unwrap_or(&[]);
-        for word in words {
-            match read(*word) {
-                Ok(value) => {
-                    if values.push(value).is_err() {
-                        self.refuse(Fault::OutOfMemory);
-                    }
+        let matches = self.matches;
+        if let Some(words) = matches.get_strs(name) {
+            for word in words {
+                match read(word) {
+                    Ok(value) => self.push(&mut values, value),
+                    Err(cause) => self.refuse(Fault::Word(word, cause)),
                 }
-                Err(fault) => self.refuse(Fault::Word(*word, fault)),
             }
         }
         values
     }
+
+    /// Adds to a list.
+    pub fn push<T: Drop>(&mut self, list: &mut Vec<T>, value: T) {
+        if list.push(value).is_err() {
+            self.refuse(Fault::OutOfMemory);
+        }
+    }
+
+    /// Files.
+    pub fn paths(&mut self) -> Vec<&'a str> {
+        let mut paths = Vec::new(self.alloc);
+        let matches = self.matches;
+        if let Some(words) = matches.get_strs("FILE") {
+            for word in words {
+                self.push(&mut paths, *word);
+            }
+        }
+        paths
+    }
+
+    /// The interfaces of ports.
+    pub fn widgets(&mut self) -> Vec<(u8, &'a str)> {
+        let mut widgets = Vec::new(self.alloc);
+        let matches = self.matches;
+        if let Some(words) = matches.get_strs("widget") {
+            for word in words {
+                match widget(word) {
+                    Ok(widget) => self.push(&mut widgets, widget),
+                    Err(cause) => self.refuse(Fault::Word(word, cause)),
+                }
+            }
+        }
+        widgets
+    }
+
+    /// A network device.
+    pub fn device(&mut self) -> &'a str {
+        let word = self.text("device");
+        if !is_device(word) {
+            self.refuse(Fault::Word(word, Cause::Device));
+        }
+        word
+    }
 }
 
 // What a number has to be.
-fn range_of(name: &str) -> (u64, u64) {
-    for command in PROGRAM.commands {
+fn range_of(commands: &[Command<'_>], name: &str) -> (u64, u64) {
+    for command in commands {
         for row in command.arguments {
             match row.kind {
                 Kind::Number(least, most) if row.name == name => return (least, most),
@@ -166,11 +209,16 @@ fn range_of(name: &str) -> (u64, u64) {
 fn message_of(alloc: Global, fault: Fault<'_>) -> Result<String, AllocError> {
     match fault {
         Fault::OutOfMemory => Err(AllocError),
-        Fault::Word(word, fault) => format!(in alloc; "{word}: {fault}"),
+        Fault::Word(word, cause) => {
+            let cause = cause.name();
+            format!(in alloc; "{word}: {cause}")
+        }
+        Fault::TooManyDestinations => String::from_str(alloc, "--to: TooManyDestinations"),
         Fault::Beside(name, other) => format!(in alloc; "--{name}: beside --{other}"),
         Fault::Without(name, other) => format!(in alloc; "--{name}: without --{other}"),
         Fault::Number(name) => {
-            let (least, most) = range_of(name);
+            let rows = commands(alloc)?;
+            let (least, most) = range_of(rows.as_slice(), name);
             format!(in alloc; "--{name} takes a number of {least} to {most}, in decimal digits")
         }
     }

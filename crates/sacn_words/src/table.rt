@@ -1,48 +1,10 @@
-//! The table of the program's commands and their arguments. Its help, manual and completions are made from it, and what reads its words.
+//! The table of the commands and their arguments. Help, manual and completions are made from it.
 use crate::arguments::{
     FIRST, FLAG, HELP, HELP_LETTER, JSON, LISTEN, OPERAND, OPTION, PAGE, SCRIPT_HELP, SECONDS,
-    SETUP, SETUP_HELP, SHOW, TURNS, VERSION_LETTER, VERSION_NAME,
+    SETUP, SETUP_HELP, SHOW, TURNS,
 };
-use sacn_manual::{Argument, Command, Form, Kind, Program, SHELL_WORDS, SHELLS, render};
+use sacn_manual::{Argument, Command, Kind, SHELL_WORDS, SHELLS};
 use std::alloc::{AllocError, Global};
-
-/// The version, and the kits that may prove it.
-pub const VERSION: &str = "1, streaming ACN by ANSI E1.31-2018
-kit rattle-kit-13b logic dac8208d650f15bf
-kit rattle-kit-13f logic dac8208d650f15bf";
-
-/// The program, as it is called without a command, and with each of them.
-pub const PROGRAM: Program<'static> = Program {
-    // The day of the manual's latest change.
-    date: "2026-11-26",
-    usage: "sacn [COMMAND]",
-    about: "Streaming ACN (ANSI E1.31-2018): datagrams read and checked, consoles and nodes run.
-
-Without a command it reads one datagram from standard input, as hexadecimal digits with
-spaces and line ends anywhere between them, and prints its fields and its frame, or
-refuses it with the first check of the standard's layouts that fails.",
-    notes: "Examples, in a clone of the repository:
-  ./sacn < examples/desk.hex
-  ./sacn decode examples/levels.sacn examples/universes.sacn
-  ./sacn sim examples/world.toml examples/schedule.txt
-  ./sacn node examples/node.toml --turns 40000000 &
-  ./sacn console examples/show.toml examples/script.txt --turns 10000000
-  ./sacn gateway examples/node.toml --seconds 60 &
-  ./sacn desk examples/show.toml --to 127.0.0.1
-  ./sacn groups examples/node.toml --device eth0
-  ./sacn explain examples/ola.pcap
-  ./sacn watch --seconds 60
-  ./sacn check examples/show.toml
-
-docs/FILES.md tells what stands in the files, and what is printed.
-
-Exit status: 0; 2 bad words; 3 refused input; 4 a device failed.",
-    arguments: &[HELP_LETTER, HELP, VERSION_LETTER, VERSION_NAME],
-    commands: &[
-        DECODE, SIM, CONSOLE, NODE, GATEWAY, DESK, GROUPS, EXPLAIN, WATCH, CHECK, MANUAL,
-        COMPLETION,
-    ],
-};
 
 const DECODE: Command<'static> = Command {
     name: "decode",
@@ -329,7 +291,71 @@ const COMPLETION: Command<'static> = Command {
     ],
 };
 
-/// A text that is made from the table.
-pub fn manual_text(alloc: Global, form: Form) -> Result<Vec<u8>, AllocError> {
-    render(alloc, form, &PROGRAM)
+// Each in a function of its own: all the rows at once are too many for the borrow checker's part of a proof.
+
+fn decode() -> Command<'static> {
+    DECODE
+}
+
+fn sim() -> Command<'static> {
+    SIM
+}
+
+fn console() -> Command<'static> {
+    CONSOLE
+}
+
+fn node() -> Command<'static> {
+    NODE
+}
+
+fn gateway() -> Command<'static> {
+    GATEWAY
+}
+
+fn desk() -> Command<'static> {
+    DESK
+}
+
+fn groups() -> Command<'static> {
+    GROUPS
+}
+
+fn explain() -> Command<'static> {
+    EXPLAIN
+}
+
+fn watch() -> Command<'static> {
+    WATCH
+}
+
+fn check() -> Command<'static> {
+    CHECK
+}
+
+fn manual() -> Command<'static> {
+    MANUAL
+}
+
+fn completion() -> Command<'static> {
+    COMPLETION
+}
+
+/// The commands, in the order of help.
+pub fn commands(alloc: Global) -> Result<Vec<Command<'static>>, AllocError> {
+    let commands = vec![in alloc;
+        decode(),
+        sim(),
+        console(),
+        node(),
+        gateway(),
+        desk(),
+        groups(),
+        explain(),
+        watch(),
+        check(),
+        manual(),
+        completion(),
+    ]?;
+    Ok(commands)
 }

@@ -1,9 +1,10 @@
 //! clap's tree, made from the table.
-use crate::table::{PROGRAM, VERSION};
+use crate::program::{ABOUT, NOTES, VERSION};
+use crate::table::commands;
 use clap::builder::ValueParser;
 use clap::error::ErrorKind;
 use clap::{Arg, ArgAction, ArgMatches, Command, Error};
-use sacn_manual::{Argument, Kind, Spelling};
+use sacn_manual::{Argument, Command as Row, Kind, Spelling};
 use std::alloc::{AllocError, Global};
 
 fn parser_of<'a>(kind: Kind<'a>) -> ValueParser<'a> {
@@ -56,23 +57,29 @@ fn arguments_of<'a>(alloc: Global, rows: &[Argument<'a>]) -> Result<Vec<Arg<'a>>
     Ok(arguments)
 }
 
-fn commands<'a>(alloc: Global) -> Result<Vec<Command<'a>>, AllocError> {
-    let mut commands = Vec::new(alloc);
-    for row in PROGRAM.commands {
-        let arguments = arguments_of(alloc, row.arguments)?;
-        let command = Command::new(alloc, row.name).about(row.about);
-        commands.push(command.args(arguments)?)?;
+fn subcommands<'a>(alloc: Global) -> Result<Vec<Command<'a>>, AllocError> {
+    let rows = commands(alloc)?;
+    let mut subcommands = Vec::new(alloc);
+    for row in rows.as_slice() {
+        subcommands.push(subcommand(alloc, row)?)?;
     }
-    Ok(commands)
+    Ok(subcommands)
+}
+
+fn subcommand<'a>(alloc: Global, row: &Row<'a>) -> Result<Command<'a>, AllocError> {
+    let arguments = arguments_of(alloc, row.arguments)?;
+    Command::new(alloc, row.name)
+        .about(row.about)
+        .args(arguments)
 }
 
 fn tree<'a>(alloc: Global) -> Result<Command<'a>, AllocError> {
     Command::new(alloc, "sacn")
-        .about(PROGRAM.about)
+        .about(ABOUT)
         .version(VERSION)
-        .after_help(PROGRAM.notes)
+        .after_help(NOTES)
         .disable_help_subcommand(true)
-        .subcommands(commands(alloc)?)
+        .subcommands(subcommands(alloc)?)
 }
 
 /// What clap finds in the words.

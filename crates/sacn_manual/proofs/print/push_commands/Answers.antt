@@ -6,7 +6,7 @@ use Rattle.sacn_manual.proofs.print.push_commands.Goals as goal
 pub loop-i-preserved : goal.loop-i-preserved
 loop-i-preserved c = record {
   grown = chain _ _ _ c.loop-i.invariant.grown c.in_ok-push_command.ensures.grows;
-  told = more_commands _ _ _ _ _ c.index-commands-i.result (search rules) c.index-commands-i.is c.in_ok-push_command.ensures.grows c.loop-i.invariant.told c.in_ok-push_command.ensures.told;
+  told = more_commands _ _ _ _ _ _ (search rules) c.in_ok-push_command.ensures.grows c.loop-i.invariant.told c.in_ok-push_command.ensures.told;
 }
 
 pub returns-clause-told : goal.returns-clause-told
