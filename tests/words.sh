@@ -32,6 +32,8 @@ refused 2 "error: 10.0.0.1:5568: Address" gateway x --listen 10.0.0.1:5568
 refused 2 "error: localhost: Address" gateway x --listen localhost
 refused 2 "error: 10.0.0: Address" gateway x --from 10.0.0
 refused 2 "error: ::1: Address" gateway x --from ::1
+refused 2 "error: --join: start this as sacn or ./sacn, which does it" gateway x --join eth0
+refused 2 "error: --join: start this as sacn or ./sacn, which does it" watch --join eth0
 refused 2 "error: x: Widget" gateway x --widget x
 refused 2 "error: 0=/dev/x: Widget" gateway x --widget 0=/dev/x
 refused 2 "error: 256=/dev/x: Widget" gateway x --widget 256=/dev/x

@@ -46,6 +46,13 @@ pub const LISTEN: Argument<'static> = Argument {
     ..OPTION
 };
 
+pub const JOIN: Argument<'static> = Argument {
+    name: "join",
+    help: "Joins the multicast groups on this network device; without one on that of the default route",
+    value: Some("DEVICE"),
+    ..OPTION
+};
+
 pub const SECONDS: Argument<'static> = Argument {
     name: "seconds",
     help: "How many seconds it runs, 1 to 1000000000",

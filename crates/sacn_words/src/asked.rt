@@ -138,6 +138,7 @@ fn console<'a>(words: &mut Words<'_, 'a>) -> Asked<'a> {
 }
 
 fn gateway<'a>(words: &mut Words<'_, 'a>) -> Asked<'a> {
+    words.leave("join");
     Asked::Gateway(GatewayAsked {
         seconds: words.seconds(),
         listen: words.value("listen", host).unwrap_or(Ipv4Addr::UNSPECIFIED),
@@ -209,6 +210,7 @@ fn explain<'a>(words: &mut Words<'_, 'a>) -> Asked<'a> {
 }
 
 fn watch<'a>(words: &mut Words<'_, 'a>) -> Asked<'a> {
+    words.leave("join");
     let listen = words.value("listen", host).unwrap_or(Ipv4Addr::UNSPECIFIED);
     let seconds = words.seconds();
     let port = words.value("port", port).unwrap_or(SACN_PORT);

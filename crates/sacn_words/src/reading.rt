@@ -20,6 +20,8 @@ pub enum Fault<'a> {
     Beside(&'static str, &'static str),
     /// An option that is given only with another.
     Without(&'static str, &'static str),
+    /// An option that the launcher takes out of the words, and follows itself.
+    OfLauncher(&'static str),
 }
 
 /// The words of a command. What is wrong with them is noted, and what is read instead is of no use then.
@@ -63,6 +65,13 @@ impl<'m, 'a> Words<'m, 'a> {
     pub fn beside(&mut self, name: &'static str, other: &'static str) {
         if self.is_given(name) & self.is_given(other) {
             self.refuse(Fault::Beside(name, other));
+        }
+    }
+
+    /// An option is the launcher's.
+    pub fn leave(&mut self, name: &'static str) {
+        if self.is_given(name) {
+            self.refuse(Fault::OfLauncher(name));
         }
     }
 
@@ -216,6 +225,9 @@ fn message_of(alloc: Global, fault: Fault<'_>) -> Result<String, AllocError> {
         Fault::TooManyDestinations => String::from_str(alloc, "--to: TooManyDestinations"),
         Fault::Beside(name, other) => format!(in alloc; "--{name}: beside --{other}"),
         Fault::Without(name, other) => format!(in alloc; "--{name}: without --{other}"),
+        Fault::OfLauncher(name) => {
+            format!(in alloc; "--{name}: start this as sacn or ./sacn, which does it")
+        }
         Fault::Number(name) => {
             let rows = commands(alloc)?;
             let (least, most) = range_of(rows.as_slice(), name);

@@ -1,7 +1,7 @@
 //! The table of the commands and their arguments. Help, manual and completions are made from it.
 use crate::arguments::{
-    FIRST, FLAG, HELP, HELP_LETTER, JSON, LISTEN, OPERAND, OPTION, PAGE, SCRIPT_HELP, SECONDS,
-    SETUP, SETUP_HELP, SHOW, TURNS,
+    FIRST, FLAG, HELP, HELP_LETTER, JOIN, JSON, LISTEN, OPERAND, OPTION, PAGE, SCRIPT_HELP,
+    SECONDS, SETUP, SETUP_HELP, SHOW, TURNS,
 };
 use sacn_manual::{Argument, Command, Kind, SHELL_WORDS, SHELLS};
 use std::alloc::{AllocError, Global};
@@ -78,6 +78,7 @@ const GATEWAY: Command<'static> = Command {
     arguments: &[
         SETUP,
         LISTEN,
+        JOIN,
         Argument {
             name: "from",
             help: "A sender that it hears; else all",
@@ -217,6 +218,7 @@ const WATCH: Command<'static> = Command {
     usage: "sacn watch [OPTIONS]",
     arguments: &[
         LISTEN,
+        JOIN,
         Argument {
             name: "port",
             help: "The UDP port that it hears at; else 5568",
