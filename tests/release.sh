@@ -33,7 +33,7 @@ else
   is_current=1
   strip -s -o "$room/stripped" "$built" 2>/dev/null || : >"$room/stripped"
   if cmp "$room/stripped" "$release/x86_64-linux/sacn" >"$room/said" 2>&1; then ok "what the gate built is the released program, octet by octet"; else fails "the octets" "$(head -n 1 "$room/said")"; fi
-  for name in x86_64-linux/sacn x86_64-linux/sacn-join aarch64-linux/sacn aarch64-linux/sacn-join; do
+  for name in x86_64-linux/{sacn,sacn-join,libsacn.a,libsacn.so} aarch64-linux/{sacn,sacn-join}; do
     if [ "$(sha256sum <"$release/$name" | cut -d ' ' -f 1)" = "$(of_release "$name")" ]; then ok "$name is what RELEASE says"; else fails "$name" "it isn't what RELEASE says"; fi
   done
 fi

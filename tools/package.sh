@@ -30,7 +30,7 @@ program=$release/$(uname -m)-linux/sacn
 moment=$(git -C "$top" log -1 --format=%ct 2>/dev/null || date +%s)
 export SOURCE_DATE_EPOCH=$moment
 
-for name in x86_64-linux/sacn x86_64-linux/sacn-join aarch64-linux/sacn aarch64-linux/sacn-join; do
+for name in x86_64-linux/{sacn,sacn-join,libsacn.a,libsacn.so} aarch64-linux/{sacn,sacn-join}; do
   sum=$(sha256sum <"$release/$name")
   if [ "${sum%% *}" != "$(of_release "$name")" ]; then say "$release/$name is not the released one: its SHA-256 is ${sum%% *}"; exit 4; fi
 done
@@ -94,3 +94,22 @@ Description: streaming ACN for stage lighting: gateway, desk, watch
 TEXT
   debian "sacn_${version}_$architecture.deb"
 done
+
+root=$room/libsacn-dev_${version}_amd64
+install -d "$root/DEBIAN" "$root/usr/include" "$root/usr/lib/x86_64-linux-gnu/pkgconfig" "$root/usr/share/doc/libsacn-dev/examples"
+install -m 644 "$top/include/sacn.h" "$root/usr/include/"
+install -m 644 "$release/x86_64-linux/libsacn.a" "$release/x86_64-linux/libsacn.so" "$root/usr/lib/x86_64-linux-gnu/"
+printf 'Name: sacn\nDescription: Streaming ACN (ANSI E1.31-2018) over proved cores\nVersion: %s\nLibs: -lsacn\n' "$version" >"$root/usr/lib/x86_64-linux-gnu/pkgconfig/sacn.pc"
+install -m 644 "$top/docs/LIBRARY.md" "$root/usr/share/doc/libsacn-dev/"
+install -m 644 "$top"/examples/c/*.c "$root/usr/share/doc/libsacn-dev/examples/"
+packed "$root/usr/share/doc/libsacn-dev/changelog.gz" <"$top/CHANGELOG.md"
+copyright >"$root/usr/share/doc/libsacn-dev/copyright"
+install -d "$root/usr/share/lintian/overrides"
+install -m 644 "$top/packaging/libsacn-dev.lintian-overrides" "$root/usr/share/lintian/overrides/libsacn-dev"
+control amd64 libsacn-dev "libc6-dev | libc-dev" libdevel >"$root/DEBIAN/control" <<'TEXT'
+Description: streaming ACN for stage lighting: library for C
+ The proved cores of the node, the console, the merge of sources, universe
+ discovery and the monitor of streaming ACN (ANSI E1.31-2018), with a header,
+ an archive, a shared library and examples.
+TEXT
+debian "libsacn-dev_${version}_amd64.deb"

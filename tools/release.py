@@ -5,7 +5,7 @@ usage: release.py VERSION
 
 The program for x86-64 is the one that the gate built, stripped. For aarch64 the program's own crate is checked once more for that processor, over the libraries that
 the gate has left, and linked by Debian's cross compiler with runtime/runtime.c in place of the kit's archives, which are x86's. Packages:
-gcc-aarch64-linux-gnu, libc6-dev-arm64-cross. `sacn-join`, the helper that joins groups, is C alone, and is built for both.
+gcc-aarch64-linux-gnu, libc6-dev-arm64-cross. `sacn-join`, the helper that joins groups, is C alone, and is built for both. Beside x86's program stands the library for C, as tools/library.sh installs it.
 
 Status 0: made; 1: not, and why.
 """
@@ -74,6 +74,7 @@ def built_for_arm(room):
 
 
 def make(version):
+    os.chdir(TOP)
     kit, gate = stamped()
     if not shutil.which(f"{CROSS}gcc"):
         raise Stopped("there is no aarch64-linux-gnu-gcc: apt install gcc-aarch64-linux-gnu libc6-dev-arm64-cross")
@@ -87,10 +88,16 @@ def make(version):
         for prefix, name in (("", "x86_64-linux"), (CROSS, "aarch64-linux")):
             subprocess.run([f"{prefix}gcc", *C, "-o", f"{room}/join", f"{TOP}/runtime/join.c"], check=True)
             strip([f"{prefix}strip"], f"{room}/join", f"{room}/release/{name}/sacn-join")
+        if archive.build(archive.kit_folder(), "sacn_c"):
+            raise Stopped("the library for C isn't proved and built")
+        subprocess.run([f"{TOP}/tools/library.sh", f"{room}/prefix"], check=True)
+        for name in ("libsacn.a", "libsacn.so"):
+            shutil.copy2(f"{room}/prefix/lib/{name}", f"{room}/release/x86_64-linux/{name}")
         lines = [f"version {version}", f"code {output('./sacn', '--code')}", f"kit {kit}", f"gate {gate}", f"aarch64 {verdict}"]
-        for name in ("x86_64-linux/sacn", "x86_64-linux/sacn-join", "aarch64-linux/sacn", "aarch64-linux/sacn-join"):
-            with open(f"{room}/release/{name}", "rb") as it:
-                lines.append(f"{name} {hashlib.sha256(it.read()).hexdigest()}")
+        for folder in ("x86_64-linux", "aarch64-linux"):
+            for name in sorted(os.listdir(f"{room}/release/{folder}")):
+                with open(f"{room}/release/{folder}/{name}", "rb") as it:
+                    lines.append(f"{folder}/{name} {hashlib.sha256(it.read()).hexdigest()}")
         with open(f"{room}/release/RELEASE", "w", encoding="utf-8") as it:
             it.write("".join(f"{line}\n" for line in lines))
         shutil.rmtree(RELEASE, ignore_errors=True)
