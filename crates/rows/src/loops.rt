@@ -55,7 +55,10 @@ impl Loops {
             "gateway" => self.gateway(step),
             "console" => self.console(step),
             "desk" => self.desk(step),
-            "datagram" => self.say_datagram(step),
+            "datagram" => {
+                self.say_datagram(step);
+                Ok(())
+            }
             "written" => compare(step, self.written.as_slice()),
             _ => Err(StepFault::UnknownCall),
         }
@@ -97,11 +100,11 @@ impl Loops {
     }
 
     fn node(&mut self, step: &mut Step<'_>) -> Result<(), StepFault> {
-        let mut core = node_of(step)?;
-        let mut link = self.link(step.alloc(), None)?;
         let readings = readings_in(step)?;
         let turns = readings.len() as u64;
         let mut clock = ListClock::new(readings);
+        let mut link = self.link(step.alloc(), None)?;
+        let mut core = node_of(step)?;
         let mut out = WriterOut::new(Vec::new(step.alloc()));
         if let Ok(report) = run_node(&mut link, &mut clock, &mut out, &mut core, turns) {
             step.say(&format_args!("received {}", report.received));
@@ -139,16 +142,16 @@ impl Loops {
     }
 
     fn console(&mut self, step: &mut Step<'_>) -> Result<(), StepFault> {
-        let mut core = console_of(step)?;
         let failing = match step.word() {
             "works" => None,
             "fails" => Some(step.number()),
             _ => return Err(StepFault::Word),
         };
-        let mut link = self.link(step.alloc(), failing)?;
         let readings = readings_in(step)?;
         let turns = readings.len() as u64;
         let mut clock = ListClock::new(readings);
+        let mut link = self.link(step.alloc(), failing)?;
+        let mut core = console_of(step)?;
         let orders = self.orders.as_slice();
         let report = run_console(&mut link, &mut clock, &mut core, orders, turns);
         say_report(step, &report);
@@ -156,9 +159,9 @@ impl Loops {
     }
 
     fn desk(&mut self, step: &mut Step<'_>) -> Result<(), StepFault> {
-        let mut core = console_of(step)?;
-        let mut link = self.link(step.alloc(), None)?;
         let readings = readings_in(step)?;
+        let mut link = self.link(step.alloc(), None)?;
+        let mut core = console_of(step)?;
         let list = mem::replace(&mut self.orders, Vec::new(step.alloc()));
         let mut orders = ListOrders::new(list, readings.len());
         let mut clock = ListClock::new(readings);
@@ -180,10 +183,10 @@ impl Loops {
 
     /// Says of a datagram that was handed over, counted from 0, its length, and of one of 512 slots the number, the options, the
     /// universe and the slots; `none` where there is no such datagram.
-    fn say_datagram(&self, step: &mut Step<'_>) -> Result<(), StepFault> {
+    fn say_datagram(&self, step: &mut Step<'_>) {
         let Some(octets) = self.handed.get(step.number_to(1000) as usize) else {
             step.say(&"none");
-            return Ok(());
+            return;
         };
         step.say(&octets.len());
         if octets.len() == 638 {
@@ -193,7 +196,6 @@ impl Loops {
             step.say(&"slots");
             step.say_octets(&octets.as_slice()[126..]);
         }
-        Ok(())
     }
 }
 

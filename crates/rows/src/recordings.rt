@@ -69,17 +69,15 @@ impl Recordings {
         let port = step.short();
         let payload = datagram_in(step)?;
         let len = payload.len().min(1000) as u16;
+        let [total_high, total_low] = (28 + len).to_be_bytes();
+        let [port_high, port_low] = port.to_be_bytes();
+        let [len_high, len_low] = (8 + len).to_be_bytes();
         self.add_record(moment, 42 + len)?;
         self.file.extend_from_slice(ETHERNET)?;
-        self.file.extend_from_slice(b"\x45\0")?;
-        self.file.extend_from_slice(&(28 + len).to_be_bytes())?;
-        self.file
-            .extend_from_slice(b"\0\0\0\0\x40\x11\0\0\x0a\0\0")?;
-        self.file
-            .extend_from_slice(&[host, 0xef, 0xff, 0, 1, 0x13, 0x88])?;
-        self.file.extend_from_slice(&port.to_be_bytes())?;
-        self.file.extend_from_slice(&(8 + len).to_be_bytes())?;
-        self.file.extend_from_slice(b"\0\0")?;
+        self.file.extend_from_slice(&[
+            0x45, 0, total_high, total_low, 0, 0, 0, 0, 0x40, 0x11, 0, 0, 10, 0, 0, host, 239, 255,
+            0, 1, 0x13, 0x88, port_high, port_low, len_high, len_low, 0, 0,
+        ])?;
         self.file.extend_from_slice(payload.as_slice())?;
         Ok(())
     }
