@@ -4,8 +4,6 @@
 set -u
 top=$(cd "$(dirname "$(readlink -f "$0")")/.." && pwd)
 sacn=${SACN:-$top/crates/sacn/out/sacn}
-# The small program of what prints, which the launcher runs where the whole one isn't built: it must end as that does.
-preview=${SACN_PREVIEW:-$top/crates/sacn_preview/out/sacn_preview}
 if [ ! -x "$sacn" ]; then
   echo "skipped commands: sacn isn't built"
   exit 0
@@ -43,22 +41,6 @@ run() {
   shift
   ran=0
   "$sacn" "$@" <"$input" >out 2>err || ran=$?
-  case ${1-}:$# in :0 | decode:[2-9] | sim:3) same "$input" "$@" ;; esac
-}
-
-# same INPUT [WORD..]: the small program ends as the whole one just did
-alike=0 unlike=0
-same() {
-  local input=$1 status=0
-  shift
-  [ -x "$preview" ] || return 0
-  "$preview" "$@" <"$input" >small.out 2>small.err || status=$?
-  if [ "$status" = "$ran" ] && cmp -s out small.out && cmp -s err small.err; then
-    alike=$((alike + 1))
-  else
-    unlike=$((unlike + 1))
-    echo "# the small program ends otherwise, with status $status and not $ran: $*"
-  fi
 }
 
 # explains NAME [WORD..]: bad words have status 2, an explanation, and no output
@@ -348,16 +330,3 @@ explains "a first number for a node" node x --turns 5 --first 5
 explains "a console without a script" console x --turns 5
 explains "a first number over 255" console x y --turns 5 --first 256
 explains "a first number with a sign" console x y --turns 5 --first +6
-
-# ---- The small program, on all runs above that it has words for.
-if [ ! -x "$preview" ]; then
-  echo "skipped commands: the small program: it isn't built"
-else
-  if [ "$unlike" = 0 ] && [ "$alike" -gt 20 ]; then echo "ok commands: the small program ends as the whole one does, $alike times"; else echo "not ok commands: the small program: $unlike of $((alike + unlike)) runs end otherwise"; fi
-  for words in "decode" "sim world" "sim a b c" "read" "--help"; do
-    ran=0
-    # shellcheck disable=SC2086
-    "$preview" $words </dev/null >out 2>err || ran=$?
-    said 2 "" "error: these words aren't read here: none, decode FILE.., or sim WORLD SCHEDULE are"$'\n' "the small program has no words: $words"
-  done
-fi

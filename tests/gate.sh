@@ -8,6 +8,7 @@ trap 'rm -rf "$room"' EXIT
 crate=$room/crates/sums
 mkdir -p "$crate/src" "$crate/specs" "$crate/must-fail"
 cp "$top/HANDLES" "$room/"
+mkdir -p "$crate/further-edits"
 echo "sums:" >"$room/crates.txt"
 cat >"$crate/src/lib.rt" <<'RATTLE'
 #![tactic(auto)]
@@ -73,7 +74,7 @@ pub fn all(a: u8, b: u8, c: u8) -> u8
     two + c
 }
 RATTLE
-edit() { printf 'file: src/%s.rt\nold: %s\nnew: %s\n' "$2" "$3" "$4" >"$crate/must-fail/$1.edit"; }
+edit() { printf 'file: src/%s.rt\nold: %s\nnew: %s\n' "$2" "$3" "$4" >"$crate/${5:-must-fail}/$1.edit"; }
 edit adds_two add "    n + 1" "    n + 2"
 edit adds_three add "    n + 1" "    n + 3"
 edit turned_round add "    n + 1" "    1 + n"
@@ -81,6 +82,7 @@ edit as_before add "    next(next(n))" "    next(n) + 1"
 edit in_the_head add "    ensures { result ≡ n + 2 }" "    ensures { result ≡ n + 2 } { n } fn other(n: u8) -> u8 requires { n ≤ 100 } ensures { result ≡ n + 2 }"
 printf '# falls in add::all\nfile: specs/Sums.antt\nold: of_three a b c = a + b + c\nnew: of_three a b c = a + b\n' >"$crate/must-fail/sum_of_two.edit"
 edit another_most limits "pub const MOST: u8 = 100;" "pub const MOST: u8 = 99;"
+edit adds_four add "    n + 1" "    n + 4" further-edits
 
 # (from nothing, also where an earlier run on this machine has tried the same)
 said=$(cd "$room" && python3 "$top/tools/gate.py" --anew 2>&1)
@@ -101,3 +103,8 @@ count "what falls only with what it calls, and what means the same, is tried alo
 count "what means the same with a function that it calls is told" '^rt: must-fail sums/as_before\.edit: NOT REFUSED'
 count "what means the same is told" '^rt: must-fail sums/turned_round\.edit: NOT REFUSED'
 count "the last line counts them, and the status says so (status $status)" "^6 passed, $((2 * status)) failed\$"
+
+said=$(cd "$room" && env -u CI python3 "$top/tools/gate.py" further 2>&1)
+status=$?
+count "further edits are tried in the same way" '^rt: must-fail sums/adds_four\.edit: refused, as it must be: add::next: '
+count "and those of must-fail are not (status $status)" "^2 passed, $status failed"

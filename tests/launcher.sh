@@ -8,15 +8,15 @@ trap 'rm -rf "$room"' EXIT
 tree=$room/tree
 mkdir -p "$tree/tools" "$room/bin" "$room/rooms"
 cp "$top/sacn" "$tree/"
-cp "$top/tools/prove.py" "$top/tools/kit" "$tree/tools/"
+cp "$top/tools/prove.py" "$top/tools/run.sh" "$top/tools/kit" "$tree/tools/"
 mkdir -p "$tree/docs/help"
 echo "help that was kept" >"$tree/docs/help.txt"
 echo "help of node that was kept" >"$tree/docs/help/node.txt"
 printf '#!/bin/sh\necho installed in "$1"\n' >"$tree/tools/library.sh"
 chmod +x "$tree/tools/library.sh"
 echo "Handles allowed: Net." >"$tree/HANDLES"
-printf '%s\n' "low:" "left: low" "right: low" "sacn: left right" "sacn_preview: left" "apart: low" "sacn_c staticlib: right" >"$tree/crates.txt"
-for name in low left right sacn sacn_preview apart sacn_c; do
+printf '%s\n' "low:" "left: low" "right: low" "sacn: left right" "apart: low" "sacn_c staticlib: right" >"$tree/crates.txt"
+for name in low left right sacn apart sacn_c; do
   mkdir -p "$tree/crates/$name/src"
   echo "//! $name" >"$tree/crates/$name/src/lib.rt"
 done
@@ -27,16 +27,24 @@ cat >"$room/bin/rt" <<'KIT'
 name=$(basename "$PWD")
 case $1 in
   version) echo "${KIT_SAYS-$(tail -n 1 "$KIT_FILE")}" ;;
-  lib | run)
-    echo "$name" >>"$KIT_LOG"
-    sleep "${KIT_SLEEPS:-0}"
-    [ "$name" != "${KIT_FAILS-}" ] || { echo "fn $name::wrong: not proved"; exit 1; }
-    mkdir -p out/rlib && echo built >out/rlib/stamp
-    if [ "$1" = run ]; then printf '#!/bin/sh\necho proved "$@"\n' >out/sacn; chmod +x out/sacn; fi
-    ;;
   try) cat >/dev/null; echo tried "$name" "$@"; echo "checked: ended status=3" >&2; echo "run=ended status=3 runners=1 proved=no" >&2; echo "refused TooShort" >&2; exit 3 ;;
 esac
 KIT
+# What proves one crate by it.
+cat >"$tree/tools/proof.py" <<'PROOF'
+import os, sys, time
+name = sys.argv[1]
+with open(os.environ["KIT_LOG"], "a") as log:
+    print(name, file=log)
+time.sleep(float(os.environ.get("KIT_SLEEPS", "0")))
+if os.environ.get("KIT_FAILS") == name:
+    sys.exit(f"fn {name}::wrong: not proved")
+os.makedirs(f"crates/{name}/out/rlib/{name}.rlib")
+if name == "sacn":
+    with open("crates/sacn/out/sacn", "w") as made:
+        made.write('#!/bin/sh\necho proved "$@"\n')
+    os.chmod("crates/sacn/out/sacn", 0o755)
+PROOF
 chmod +x "$room/bin/rt"
 export KIT_FILE=$tree/tools/kit KIT_LOG=$room/log TMPDIR=$room/rooms
 usual=$PATH
@@ -59,7 +67,7 @@ check() {
     sed 's/^/# /' "$room/err"
   fi
 }
-nothing_left() { [ -z "$(ls -A "$room/rooms")" ] && ! grep -lsF "$room/bin/rt" /proc/[0-9]*/cmdline >/dev/null; }
+nothing_left() { [ -z "$(ls -A "$room/rooms")" ] && ! grep -lsF "$tree/tools/proof.py" /proc/[0-9]*/cmdline >/dev/null; }
 refused() { [ "$status" = 1 ] && says "$1"; }
 
 no_kit() {
@@ -77,12 +85,6 @@ check "each kit of the tree's proves it, and the version tells which did" each_k
 
 runs_unproved() { anew; launch; [ "$status" = 3 ] && prints "tried" && says "isn't proved on this machine yet: ./sacn prove" && says "refused TooShort" && ! says "run=ended"; }
 check "what lights no stage runs unproved at once, and says so" runs_unproved
-
-tries_with() { local crate=$1; shift; launch "$@"; [ "$status" = 3 ] && grep -qxF "tried $crate try${1+ -- $*}" "$room/out"; }
-printing_is_small() { tries_with sacn_preview && tries_with sacn_preview decode a && tries_with sacn_preview decode a b && tries_with sacn_preview sim a b; }
-check "what prints a datagram or a world runs as the small program" printing_is_small
-other_is_whole() { tries_with sacn decode && tries_with sacn decode --help && tries_with sacn decode a -- && tries_with sacn decode "" && tries_with sacn sim a && tries_with sacn sim a b c && tries_with sacn --help a && tries_with sacn ../node --help && tries_with sacn check a; }
-check "all else, and what a small one has no words for, runs as the whole" other_is_whole
 
 kept_help() { local text=$1; shift; launch "$@"; [ "$status" = 0 ] && [ "$(cat "$room/out")" = "$text" ] && says "isn't proved on this machine yet" && [ ! -s "$KIT_LOG" ]; }
 help_is_kept() { anew; for word in -h --help; do kept_help "help that was kept" $word && kept_help "help of node that was kept" node $word || return 1; done; }
@@ -105,6 +107,67 @@ check "its own help too" built_helps
 
 changed_is_not_used() { echo "//! more" >>"$tree/crates/left/src/lib.rt"; launch decode; [ "$status" = 3 ] && prints tried; }
 check "a build of another tree isn't" changed_is_not_used
+
+# A released program that pretends, of this very tree, with the text that says so.
+arch=$(uname -m)
+make_release() {
+  local file
+  mkdir -p "$tree/release/$arch-linux"
+  printf '#!/bin/sh\n[ "$1" = --help ] || echo released "$@"\n' >"$tree/release/$arch-linux/sacn"
+  printf '#!/bin/sh\necho joined "$@" >&2\n' >"$tree/release/$arch-linux/sacn-join"
+  chmod +x "$tree/release/$arch-linux"/*
+  {
+    printf 'version 9.8.7\ncode %s\nkit rattle-kit-9\n' "$("$tree/sacn" --code)"
+    for file in sacn sacn-join; do echo "$arch-linux/$file $(sha256sum <"$tree/release/$arch-linux/$file" | cut -d ' ' -f 1)"; done
+  } >"$tree/release/RELEASE"
+}
+# (no kit and no Python are there, nor anything beside bash and coreutils)
+mkdir "$room/core"
+for tool in bash env readlink dirname basename uname sha256sum sort paste cut head tail cat mktemp sleep stty; do ln -s "$(command -v "$tool")" "$room/core/$tool"; done
+bare() { PATH=$room/core "$tree/sacn" "$@" >"$room/out" 2>"$room/err" </dev/null; status=$?; }
+released_runs() { anew; make_release; bare gateway x && prints "released gateway x" && says "proved and built elsewhere, from this very tree; ./sacn prove proves" && [ "$(wc -l <"$room/err")" = 1 ]; }
+check "the released program of this very tree runs at once, without a kit, and says so" released_runs
+released_version() { bare --version && prints "release 9.8.7" && prints "kit rattle-kit-9" && prints "proved and built elsewhere"; }
+check "the version tells that it is the released one" released_version
+proved_goes_first() { launch prove; launch node x; [ "$status" = 0 ] && prints "proved node x" && [ ! -s "$room/err" ] && launch --version && prints "proved and built on this machine"; }
+check "a program proved here goes before it" proved_goes_first
+proof_changes_nothing() { anew; mkdir -p "$tree/crates/left/proofs" && echo "-- a lemma" >"$tree/crates/left/proofs/L.antt"; echo "//! a test" >"$tree/crates/apart/src/more.rt"; bare decode x && prints "released decode x"; }
+check "a proof, or code that it doesn't stand on, makes it no other tree's" proof_changes_nothing
+changed_code_is_another() { echo "//! more" >>"$tree/crates/left/src/lib.rt"; launch decode x; [ "$status" = 3 ] && prints tried; }
+check "other code does" changed_code_is_another
+changed_line_is_another() { make_release; sed -i 's/^sacn: left right/sacn: left  right/' "$tree/crates.txt"; launch decode x; [ "$status" = 3 ] && prints tried; }
+check "another line of crates.txt does" changed_line_is_another
+damaged() { make_release; echo "#" >>"$tree/release/$arch-linux/$1"; bare gateway x; [ "$status" = 4 ] && says "$arch-linux/$1 is not the released one: its SHA-256 is" && says "./sacn prove" && [ ! -s "$room/out" ]; }
+check "a released program with other octets is named and never run" damaged sacn
+check "nor is its helper" damaged sacn-join
+unfit() {
+  make_release
+  printf '#!/bin/sh\necho "libc.so.6: version GLIBC_9 not found" >&2\nexit 1\n' >"$tree/release/$arch-linux/sacn"
+  sed -i "s#^$arch-linux/sacn .*#$arch-linux/sacn $(sha256sum <"$tree/release/$arch-linux/sacn" | cut -d ' ' -f 1)#" "$tree/release/RELEASE"
+  bare gateway x
+  [ "$status" = 4 ] && says "GLIBC_9 not found" && says "./sacn prove"
+}
+check "a machine on which it can't run is told why, and what to do" unfit
+other_processor() {
+  make_release
+  rm "$room/core/uname"
+  printf '#!/bin/sh\necho riscv64\n' >"$room/core/uname" && chmod +x "$room/core/uname"
+  bare gateway x
+  [ "$status" != 0 ] && says "no released program for riscv64"
+}
+check "another processor is named" other_processor
+ln -sf "$(command -v uname)" "$room/core/uname"
+
+joins() { local wanted=$1; shift; bare "$@"; [ "$status" = 0 ] && [[ "$(grep '^joined' "$room/err")" =~ ^joined\ $wanted$ ]]; }
+make_release
+join_words() {
+  joins '[0-9]+ lo 239.255.250.214 239.255.0.7 239.255.1.0' watch --universe 7 --join lo --universe=256 && prints "released watch --universe 7 --universe=256" &&
+    joins '--lists 5568 [0-9]+ lo 239.255.250.214' watch --join=lo && joins '--lists 5570 [0-9]+ lo 239.255.250.214' watch --port 5570 --join lo --plain && prints "released watch --port 5570 --plain"
+}
+check "a watch joins the universes that are named, or the lists" join_words
+join_alone() { bare gateway --join "$tree/crates.txt" --listen 10.0.0.1; [ "$status" = 2 ] && says "hears no group"; }
+check "--join with an address of its own is refused" join_alone
+rm -rf "$tree/release" "$tree/crates/left/proofs" "$tree/crates/apart/src/more.rt"
 
 library_is_proved() { anew; launch library /x && prints "installed in /x" && [ "$(tail -n 1 "$KIT_LOG")" = sacn_c ] && ! grep -qx -e left -e sacn "$KIT_LOG" && [ ! -e "$tree/crates/sacn_c/out/sacn" ]; }
 check "the library is proved with what it stands on, and installed" library_is_proved
@@ -132,7 +195,7 @@ interrupted() {
 check "an interrupt ends the run" interrupted
 check "and leaves no process and no room" nothing_left
 
-goes_on() { anew; KIT_FAILS=right launch prove; [ -e "$tree/crates/low/out/rlib/stamp" ] && launch prove && [ -x "$tree/crates/sacn/out/sacn" ]; }
+goes_on() { anew; KIT_FAILS=right launch prove; [ -e "$tree/crates/low/out/proof" ] && launch prove && ! grep -qx low "$KIT_LOG" && [ -x "$tree/crates/sacn/out/sacn" ]; }
 check "the next start goes on from what was proved" goes_on
 
 two_at_once() {

@@ -151,6 +151,5 @@ else
     if grep -qE "$lit" "$room/heard" && grep -q 'ended' "$room/said"; then ok "a gateway hears send.c: $(cat "$room/sent")"; else fails "a gateway hears send.c" "$(head -n 1 "$room/said")"; fi
   fi
 fi
-if built bench "$top/examples/c/bench.c" -std=c99 -O2; then
-  if "$room/bench" 2000 >"$room/said"; then ok "bench.c: $(tr '\n' ';' <"$room/said")"; else fails "bench.c" "$(head -n 1 "$room/said")"; fi
-fi
+# What is timed gives the same answers as hand-written C: a hundredth of the calls tells.
+if "$top/tools/speed.sh" fast "$prefix" >"$room/said" 2>&1; then ok "$(wc -l <"$room/said") measures, with the answers of hand-written C"; else fails "measures" "$(grep -m 1 -E 'DIFFER|error|speed' "$room/said")"; fi

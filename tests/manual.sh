@@ -46,6 +46,8 @@ for command in $commands; do
     case $option in --*) wanted=" -l ${option#--} " ;; *) wanted=" -s ${option#-} " ;; esac
     grep -qF -- "$wanted" of_fish || missing+=" $option of fish"
   done
+  usage=$("$sacn" "$command" --help | sed -n 's/^Usage: //p')
+  grep -qxF -- ".B $usage" of_page && grep -qxF -- "$usage" plain || missing+=" usage"
   for value in $("$sacn" "$command" --help | grep -oE '^ +--[a-z]+ <[^>]+>' | sed 's/^ *//;s/ <.*//'); do
     name=$("$sacn" "$command" --help | sed -n "s/^ *$value <\([^>]*\)>.*/\1/p")
     grep -qF -- "$value $name" of_page || missing+=" value of $value"
@@ -57,6 +59,9 @@ for command in $commands; do
   missing+=$(awk 'name != "" && ($0 == "" || index($0, ".") == 1) {printf " words on %s", name} {name = last == ".TP" ? $1 : ""; last = $0}' of_page)
   if [ -z "$missing" ]; then echo "ok manual: $command and its options stand in all"; else echo "not ok manual: $command lacks$missing"; fi
 done
+
+usage=$("$sacn" --help | sed -n 's/^Usage: //p')
+if grep -qxF -- "$usage" plain; then echo "ok manual: how the program is called"; else echo "not ok manual: '$usage' isn't in the page"; fi
 
 # What reads them takes them.
 # takes NAME TOOL WORD..: the tool, where it is there, ends well and says nothing

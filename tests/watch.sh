@@ -184,8 +184,7 @@ problem=$(draws plain 80 24 NO_COLOR=1 2>&1) && ! grep -q $'\x1b\[0;3[0-9]m' dra
 verdict "NO_COLOR" $? "$(tail -n 1 <<<"$problem")"
 
 # Ctrl-C under the launcher: the terminal is left as it was, and the status is 0.
-sed -n '/^is_ordered()/,/^}/p; /^stop_feed()/,/^}/p; /^feed()/,/^}/p' "$top/sacn" >launcher
-printf 'feed "%s" watch --port 25833\n' "$sacn" >>launcher
+printf '. "%s/tools/run.sh"\nrun "%s" watch --port 25833\n' "$top" "$sacn" >launcher
 status=0
 problem=$(COLUMNS=80 ROWS=24 timeout 20 python3 terminal.py drawn 25833 stop bash launcher 2>&1) || status=$?
 [ "$status" = 0 ] && grep -q 'Aff' drawn && [ "$(tail -c 8 drawn)" = $'\x1b[?1049l' ]

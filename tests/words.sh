@@ -88,6 +88,16 @@ refused 2 "error: : Device" groups x --device ""
 refused 2 "error: eth0; true: Device" groups x --device "eth0; true"
 refused 2 "error: *: Device" groups x --device "$(printf 'e%.0s' $(seq 128))"
 
+# Of several faults one is told, the same always.
+refused 2 "error: --seconds takes a number of 1 to 1000000000, in decimal digits" gateway x --listen 300.1.1.1 --seconds +5
+refused 2 "error: 300.1.1.1: Address" gateway x --widget x --from ::1 --listen 300.1.1.1
+refused 2 "error: --first takes a number of 0 to 255, in decimal digits" desk x --ttl +5 --to stage --first +5
+refused 2 "error: stage: Address" desk x --ttl +5 --to stage --bind x
+refused 2 "error: --stay: without --script" desk x --bind x --stay
+refused 2 "error: 0: Port" explain x --port 0 --universe 0 --page 0 --json
+refused 2 "error: --page: beside --json" explain x --page 0 --json --seconds +5
+refused 2 "error: --page: beside --plain" watch --universe 0 --json --plain --page 0
+
 # Files that are absent, or faulty: each is named, with its fault.
 show='version = 1
 cid = "00010203-0405-0607-0809-0a0b0c0d0e0f"

@@ -25,10 +25,22 @@ def is_of_the_gate(crate):
     return os.path.isdir(crate.rlib) and not os.path.exists(f"{os.path.dirname(crate.rlib)}/stamp")
 
 
-def build(kit, name):
-    sys.path.insert(0, f"{kit}/bin")
-    import rtlib  # (the kit's own words for each crate)
+def kit_folder():
+    """Where the kit is, whose command is on the PATH; nothing where there is none."""
+    rt = shutil.which("rt")
+    return os.path.dirname(os.path.dirname(os.path.realpath(rt))) if rt else None
 
+
+def kit_library():
+    """The kit's own words for each crate."""
+    sys.path.insert(0, f"{kit_folder()}/bin")
+    import rtlib
+
+    return rtlib
+
+
+def build(kit, name):
+    rtlib = kit_library()
     crates = rtlib.crates_below(TOP)
     crate = next((it for it in crates if it.name == name and it.is_static), None)
     if crate is None:
@@ -46,12 +58,12 @@ def build(kit, name):
 
 
 def main(name="sacn_c"):
-    rt = shutil.which("rt")
-    if not rt:
+    kit = kit_folder()
+    if not kit:
         say("the kit's command rt isn't on the PATH")
         return 1
     os.chdir(TOP)
-    return build(os.path.dirname(os.path.dirname(os.path.realpath(rt))), name)
+    return build(kit, name)
 
 
 if __name__ == "__main__":

@@ -1,8 +1,10 @@
 #!/usr/bin/env python3
 """The kit's gate, `rt ci`, with its must-fail edits tried many to a check, as edits.py says.
 
-usage: gate.py [--anew] [NAME..]      as `rt ci`, at the top of the repository: the gate, or (kit 13f) some crates and those below them
-       gate.py edits [--anew] NAME..  as `rt must-fail`: the edits of these crates alone, begun with what `rt check` kept
+usage: gate.py [--anew] [NAME..]         as `rt ci`, at the top of the repository: the gate, or (kit 13f) some crates and those below them
+       gate.py edits [--anew] NAME..     as `rt must-fail`: the edits of these crates alone, begun with what `rt check` kept
+       gate.py further [--anew] [NAME..] (kit 13f) as the first for these crates, or all that have some, but with their edits of further-edits/, which
+                                         the gate leaves out, in place of those of must-fail/
 
 All else is the kit's: every proof from nothing (or, by a kit that keeps them, kept of an earlier run on this machine of the same files), each edit's text,
 what is printed, and the last line.
@@ -10,6 +12,7 @@ what is printed, and the last line.
 There are two ways in, by what the kit has: kit 13f checks a crate as it stands before its edits (here only where some are left), and takes names and
 --anew; kit 13b has one function that tries a crate's edits, and proves all anew.
 """
+import glob
 import hashlib
 import importlib.machinery
 import importlib.util
@@ -20,6 +23,7 @@ import subprocess
 import sys
 import tempfile
 import time
+import types
 from collections import Counter
 
 sys.dont_write_bytecode = True
@@ -112,6 +116,40 @@ class TogetherAtOnce:
 SHARE_OF_NEED = 0.6
 
 
+# A check keeps to its end the jobs that it begins with, which are few where much else is under way. So crates on which nearly the longest chain of lines hangs, such as the one for recordings,
+# were each alone for minutes in the end: these get as many jobs as half of the processors, from their beginning on.
+NEARLY = 0.8
+
+
+def hurry(rt):
+    """Has the crates of the longest chains checked by more than one job."""
+    crates_of, ci, hurried = rt.crates_of, rt.Crate.ci, set()
+
+    def chains_of(crates):
+        """For each crate the lines of the longest chain through it."""
+        own = {it.name: it.count(rb"\n") for it in crates}
+        under, over = {}, {}
+        for it in crates:
+            under[it.name] = own[it.name] + max((under[dep.name] for dep in it.deps), default=0)
+        for it in reversed(crates):
+            over[it.name] = own[it.name] + max((over[up.name] for up in crates if it.name in {dep.name for dep in up.deps} and up.name in over), default=0)
+        return {name: under[name] + over[name] - own[name] for name in own}
+
+    def with_chains(root):
+        crates = crates_of(root)
+        chains = chains_of(crates)
+        hurried.update(name for name, lines in chains.items() if lines >= NEARLY * max(chains.values()))
+        return crates
+
+    def with_jobs(crate, flags, tests):
+        jobs = rt.processors() // 2 if crate.name in hurried and not tests else 1
+        if flags[:1] == ["--jobs"]:
+            flags = ["--jobs", str(max(jobs, int(flags[1]))), *flags[2:]]
+        return ci(crate, flags, tests)
+
+    rt.crates_of, rt.Crate.ci = with_chains, with_jobs
+
+
 class Spent:
     """The processor seconds of the kit's checks, by crate and by what they were for, and their memory. It stands where the kit looks for Python's `subprocess`."""
 
@@ -168,14 +206,41 @@ def gate():
     else:
         TogetherAtOnce(rt)
     Spent(rt)
+    if hasattr(rt, "crates_of"):
+        hurry(rt)
     if hasattr(rt, "need"):
         need = rt.need
         rt.need = lambda crate: int(SHARE_OF_NEED * need(crate))
     return rt
 
 
+# The folder beside must-fail/ with the edits that tell less: each is refused too, and only `further` tries them.
+FURTHER = "further-edits"
+
+
+def further(rt, names):
+    """Has the gate's way try the edits of the other folder, and returns the crates that it is to be called for: these, or all that have some."""
+    of_folder = rt.edits_of
+
+    def edits_of(crate):
+        with tempfile.TemporaryDirectory(prefix="rt-further-") as room:
+            os.symlink(f"{crate.folder}/{FURTHER}", f"{room}/must-fail")
+            given = of_folder(types.SimpleNamespace(folder=room))
+        return tuple([it.replace(f"{room}/must-fail", f"{crate.folder}/{FURTHER}") for it in some] for some in given)
+
+    rt.edits_of = edits_of
+    return names or sorted(os.path.basename(os.path.dirname(it)) for it in glob.glob(f"crates/*/{FURTHER}"))
+
+
 def main(words):
     rt = gate()
+    if words[:1] == ["further"]:
+        if not hasattr(rt, "where_disk_lasts"):
+            sys.exit("gate: this kit proves all crates or none: only `edits` takes names")
+        names = further(rt, [it for it in words[1:] if it != "--anew"])
+        if not names:
+            sys.exit(f"gate: no crate has a folder {FURTHER}")
+        return rt.where_disk_lasts(rt.ci, "--anew" in words, names)
     call, given = (rt.edits_alone, [words[1:]]) if words[:1] == ["edits"] else (rt.ci, ["--anew" in words, [it for it in words if it != "--anew"]])
     if hasattr(rt, "where_disk_lasts"):
         return rt.where_disk_lasts(call, *given)

@@ -5,11 +5,12 @@ usage: prove.py PROGRAM SUM [--cpu NAME]
 
 SUM stands for all that the program is made from; it is written beside the program, with the processor that it is built for and the kit that proved it.
 
-Each crate is proved in a room of its own, a folder with the crate and what is built of the crates below it, so that no check
-waits for another that it has nothing to do with. What a crate's check keeps goes back into the crate's out/, also where the
-run is ended: the next run goes on from there. Status 0: built; 1: not; 130: interrupted.
+Each crate is proved in a room of its own (tools/proof.py), a folder with the crate and what is built of the crates below it, so that no check waits for
+another that it has nothing to do with. What is proved goes back into the crate's out/ at once, with the sum of all that it was made from: a later run, also after
+one that was ended, proves what has changed and what stands above it. Status 0: built; 1: not; 130: interrupted.
 """
 import fcntl
+import hashlib
 import os
 import shutil
 import signal
@@ -46,12 +47,6 @@ def libraries():
     return {name: [it for it in below if it in found] for name, below in found.items()}
 
 
-def is_static(name):
-    """Whether crates.txt calls a crate a static library, which has nothing to run."""
-    with open(f"{TOP}/crates.txt", encoding="utf-8") as lines:
-        return any(line.partition(":")[0].split() == [name, "staticlib"] for line in lines)
-
-
 def below(crates, name):
     """All crates below one, lowest first."""
     found = []
@@ -69,6 +64,34 @@ def lines_of(name):
                 with open(f"{at}/{it}", "rb") as text:
                     count += text.read().count(b"\n")
     return count
+
+
+def sums(crates, kit):
+    """For each crate the sum of all that its proof is made from: its files, its line of crates.txt, the kit, and the sums of those below."""
+    found = {}
+
+    def sum_of(name):
+        if name not in found:
+            made = hashlib.sha256(repr((kit, name, [(it, sum_of(it)) for it in crates[name]])).encode())
+            for part in PARTS:
+                for at, folders, names in os.walk(f"{TOP}/crates/{name}/{part}"):
+                    folders.sort()
+                    for it in sorted(names):
+                        with open(f"{at}/{it}", "rb") as text:
+                            made.update(repr((os.path.relpath(f"{at}/{it}", TOP), text.read())).encode())
+            found[name] = made.hexdigest()
+        return found[name]
+
+    return {name: sum_of(name) for name in crates}
+
+
+def is_proved(name, sum):
+    """Whether an earlier run proved the crate of this sum, and what that built is there."""
+    try:
+        with open(f"{TOP}/crates/{name}/out/proof", encoding="utf-8") as it:
+            return it.read() == sum and os.path.isdir(f"{TOP}/crates/{name}/out/rlib/{name}.rlib") and not os.path.exists(f"{TOP}/crates/{name}/out/rlib/stamp")
+    except OSError:
+        return False
 
 
 def lanes():
@@ -108,7 +131,7 @@ class Proof:
             with open(self.log, "wb") as log:
                 self.process = subprocess.Popen(
                     self.command,
-                    cwd=f"{self.room}/crates/{name}",
+                    cwd=self.room,
                     stdin=subprocess.DEVNULL,
                     stdout=log,
                     stderr=subprocess.STDOUT,
@@ -125,8 +148,6 @@ class Proof:
         for name in lower:
             self.bring(name, "out/rlib")
         self.bring(self.name)
-        if os.path.isdir(f"{self.home}/out"):
-            shutil.move(f"{self.home}/out", f"{self.room}/crates/{self.name}/out")
 
     def bring(self, name, *more):
         for part in (*PARTS, *more):
@@ -139,12 +160,21 @@ class Proof:
             os.killpg(self.process.pid, signal.SIGKILL)
             self.process.wait()
 
+    def give(self, sum):
+        """Gives the crate what was built of it, and the sum of what it was made from."""
+        made, out = f"{self.room}/crates/{self.name}/out", f"{self.home}/out"
+        os.makedirs(out, exist_ok=True)
+        if os.path.exists(f"{out}/proof"):
+            os.remove(f"{out}/proof")
+        for name in os.listdir(made):
+            if os.path.isdir(f"{out}/{name}"):
+                shutil.rmtree(f"{out}/{name}")
+            shutil.move(f"{made}/{name}", f"{out}/{name}")
+        with open(f"{out}/proof", "w", encoding="utf-8") as it:
+            it.write(sum)
+
     def leave(self):
-        """Gives the crate back what its check kept, and clears the room."""
-        made = f"{self.room}/crates/{self.name}/out"
-        if os.path.isdir(made):
-            shutil.rmtree(f"{self.home}/out", ignore_errors=True)
-            shutil.move(made, f"{self.home}/out")
+        """Clears the room."""
         shutil.rmtree(self.room, ignore_errors=True)
 
     def last_lines(self):
@@ -177,24 +207,22 @@ class Progress:
             print(file=sys.stderr, flush=True)
 
 
-def prove(crates, program, cpu):
+def prove(crates, program, cpu, kit):
     """Proves what stands below the program, and then the program, and builds it."""
-    needed = [*below(crates, program), program]
-    progress, done, running, most = Progress(len(needed)), [], [], lanes()
+    needed, sum_of = [*below(crates, program), program], sums(crates, kit)
+    progress, running, most = Progress(len(needed)), [], lanes()
+    done = [name for name in needed if is_proved(name, sum_of[name])]
     # A crate comes first behind which the longest chain of lines waits, its own among them.
     chain = {name: lines_of(name) for name in needed}
     for name in reversed(needed):
         chain[name] += max((chain[it] for it in needed if name in crates[it]), default=0)
-    left = sorted(needed, key=lambda name: -chain[name])
+    left = sorted((it for it in needed if it not in done), key=lambda name: -chain[name])
     try:
         while left or running:
             ready = [it for it in left if all(lower in done for lower in crates[it])][: most - len(running)]
             jobs = str(jobs_each(most, len(running) + len(ready)))
             for name in ready:
-                words = ["rt", "lib", "--jobs", jobs]
-                if name == program:
-                    for_cpu = ["--cpu", cpu] if cpu else []
-                    words = [*words, *for_cpu] if is_static(name) else ["rt", "run", "--jobs", jobs, *for_cpu, "--", "--help"]
+                words = [sys.executable, f"{TOP}/tools/proof.py", name, jobs, *([cpu] if cpu and name == program else [])]
                 running.append(Proof(name, below(crates, name), words))
                 left.remove(name)
             progress.show(len(done), running)
@@ -203,6 +231,7 @@ def prove(crates, program, cpu):
                 if proof.process.returncode:
                     progress.end()
                     raise Stopped("\n".join([f"{proof.name} was not proved; the end of what its check said:", *proof.last_lines()]))
+                proof.give(sum_of[proof.name])
                 proof.leave()
                 running.remove(proof)
                 done.append(proof.name)
@@ -245,7 +274,7 @@ def main(program, tree, *words):
             return
     began = time.monotonic()
     kit = subprocess.run(["rt", "version"], stdout=subprocess.PIPE, encoding="utf-8", check=False).stdout.strip()
-    prove(libraries(), program, cpu)
+    prove(libraries(), program, cpu, kit)
     with open(stamp_of(program), "w", encoding="utf-8") as stamp:
         stamp.write(f"{tree}\n{cpu or DEFAULT_CPU}\n{kit}\n")
     say(f"proved and built in {int(time.monotonic() - began)} s")

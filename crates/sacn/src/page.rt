@@ -1,8 +1,7 @@
 //! A watch that browsers see.
-use crate::watch::watch_end;
+use crate::watch::{receiver_at, watch_end};
 use sacn_commands::ending::Ending;
-use sacn_commands::live::{clock_of, of_socket, say_hearing};
-use sacn_live::UdpReceiver;
+use sacn_commands::live::{of_socket, say_hearing};
 use sacn_page::{Board, MAX_ALARMS, Pages};
 use sacn_watch::run_watch;
 use std::io::Write;
@@ -27,11 +26,21 @@ pub fn serve<R: AllocGlobal + Net + Clock, E: Write>(
 ) -> Result<(), Ending> {
     let board = Board::new(rt.alloc(), universe, MAX_ALARMS)?;
     let mut pages = of_socket(Pages::bind(rt, rt.alloc(), place, board), place, err)?;
-    let bound = UdpReceiver::bind(rt, address, clock_of(rt)?);
-    let mut receiver = of_socket(bound, address, err)?;
-    receiver.wait_for_input();
+    hear(rt, address, place, &mut pages, until, err)
+}
+
+// Hears for pages that have their place.
+fn hear<R: Net + Clock, E: Write>(
+    rt: &R,
+    address: SocketAddrV4,
+    place: SocketAddrV4,
+    pages: &mut Pages<Board>,
+    until: u64,
+    err: &mut E,
+) -> Result<(), Ending> {
+    let mut receiver = receiver_at(rt, address, err)?;
     receiver.wait_beside(pages.descriptor());
     say_hearing(address, receiver.room(), err);
     say_page(place, err);
-    watch_end(run_watch(&mut receiver, &mut pages, until))
+    watch_end(run_watch(&mut receiver, pages, until))
 }

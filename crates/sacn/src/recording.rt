@@ -84,29 +84,30 @@ fn serve_recording<R: AllocGlobal + Files + Net + Clock, E: Write>(
     err: &mut E,
 ) -> Result<(), Ending> {
     let mut quiet = Quiet::new(clock_of(rt)?);
-    match read_all(&mut recording, &mut quiet) {
-        Ok(true) => {}
-        Ok(false) => return Ok(()),
-        Err(SeekFault::OutOfMemory) => return Err(Ending::OutOfMemory),
-        Err(SeekFault::Device) => return Err(say_unread(asked.capture, err)),
+    if !read_all(&mut recording, &mut quiet, asked.capture, err)? {
+        return Ok(());
     }
-    let fault = recording.fault();
-    let mut ending = Ok(());
-    if let Some(fault) = fault {
-        ending = Err(say_capture_fault(asked.capture, fault, err));
-    }
+    let ending = match recording.fault() {
+        Some(fault) => Err(say_capture_fault(asked.capture, fault, err)),
+        None => Ok(()),
+    };
     serve_pages(rt, recording, &mut quiet, place, asked.until(), err)?;
     ending
 }
 
 // Reads a recording to its end, and returns whether it came there before standard input ended.
-fn read_all<R: Files, L: Listener>(
+fn read_all<R: Files, L: Listener, E: Write>(
     recording: &mut Recording<FileTape<R>>,
     listener: &mut L,
-) -> Result<bool, SeekFault> {
+    path: &str,
+    err: &mut E,
+) -> Result<bool, Ending> {
     for _ in 0..u64::MAX {
-        if recording.read(MAX_STEPS)? {
-            return Ok(true);
+        match recording.read(MAX_STEPS) {
+            Ok(true) => return Ok(true),
+            Ok(false) => {}
+            Err(SeekFault::OutOfMemory) => return Err(Ending::OutOfMemory),
+            Err(SeekFault::Device) => return Err(say_unread(path, err)),
         }
         if listener.has_ended() {
             break;
@@ -123,18 +124,7 @@ fn serve_pages<R: AllocGlobal + Files + Net + Clock, E: Write>(
     until: u64,
     err: &mut E,
 ) -> Result<(), Ending> {
-    let pages = of_socket(Pages::bind(rt, rt.alloc(), place, recording), place, err)?;
-    show(pages, quiet, place, until, err)
-}
-
-// Serves pages that have their place.
-fn show<R: AllocGlobal + Files + Net + Clock, E: Write>(
-    mut pages: Pages<Recording<FileTape<R>>>,
-    quiet: &mut Quiet<'_, R>,
-    place: SocketAddrV4,
-    until: u64,
-    err: &mut E,
-) -> Result<(), Ending> {
+    let mut pages = of_socket(Pages::bind(rt, rt.alloc(), place, recording), place, err)?;
     quiet.wait_beside(pages.descriptor());
     say_page(place, err);
     watch_end(run_watch(quiet, &mut pages, until))

@@ -39,11 +39,21 @@ pub fn watch<R: AllocGlobal + Env + Net + Clock, O: Write, E: Write>(
         let universe = asked.universes.first().copied();
         return serve(rt, address, place, universe, until, err);
     }
-    let clock = clock_of(rt)?;
-    let mut receiver = of_socket(UdpReceiver::bind(rt, address, clock), address, err)?;
-    receiver.wait_for_input();
+    let mut receiver = receiver_at(rt, address, err)?;
     say_hearing(address, receiver.room(), err);
     watch_end(tell(rt, &mut receiver, asked, until, out))
+}
+
+/// Hears at an address, for as long as standard input goes on.
+pub fn receiver_at<'a, R: Net + Clock, E: Write>(
+    rt: &'a R,
+    address: SocketAddrV4,
+    err: &mut E,
+) -> Result<UdpReceiver<'a, R>, Ending> {
+    let bound = UdpReceiver::bind(rt, address, clock_of(rt)?);
+    let mut receiver = of_socket(bound, address, err)?;
+    receiver.wait_for_input();
+    Ok(receiver)
 }
 
 // Tells what a receiver hears, line by line, or shows it on a terminal.

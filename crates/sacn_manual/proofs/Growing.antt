@@ -56,7 +56,7 @@ more_told form old new xs i d l g a t = All-more (TellsArgument form new) xs i d
 
 -- the same of commands
 pub command_kept : (form : Form) (old new : List ℕ) (c : Command) → TellsCommand form old c → Grows old new → TellsCommand form new c
-command_kept form old new c t g = record { told = kept_told form _ _ _ old new t.told g; arguments = all_kept form old new c.arguments.items t.arguments g }
+command_kept form old new c t g = record { told = kept_told form _ _ _ old new t.told g; arguments = all_kept form old new c.arguments.now t.arguments g }
 
 pub commands_kept : (form : Form) (old new : List ℕ) (xs : List Command) → All (TellsCommand form old) xs → Grows old new → All (TellsCommand form new) xs
 commands_kept form old new xs a g = λ k d l. command_kept form old new _ (a k d l) g

@@ -29,9 +29,9 @@ TellsArgument form text a = IsTold form (mark form a.spelling) a.name.now a.help
 -- a command: its name, what it does, and each of its arguments
 pub record TellsCommand (form : Form) (text : List ℕ) (c : Command) : Type 0 where
   pub told : IsTold form [] c.name.now c.about.now text
-  pub arguments : All (TellsArgument form text) c.arguments.items
+  pub arguments : All (TellsArgument form text) c.arguments.now
 
 -- a program: its own arguments, and its commands
 pub record TellsProgram (form : Form) (text : List ℕ) (p : Program) : Type 0 where
-  pub own : All (TellsArgument form text) p.arguments.items
-  pub commands : All (TellsCommand form text) p.commands.items
+  pub own : All (TellsArgument form text) p.arguments.now
+  pub commands : All (TellsCommand form text) p.commands.now

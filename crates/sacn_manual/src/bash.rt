@@ -71,7 +71,7 @@ pub fn before_about(alloc: Global, command: &Command<'_>) -> Result<Vec<u8>, All
 
 /// What stands before an argument's name.
 pub fn before_argument(alloc: Global, argument: &Argument<'_>) -> Result<Vec<u8>, AllocError> {
-    if argument.spelling != Spelling::Positional {
+    if !matches!(argument.spelling, Spelling::Positional) {
         return join(alloc, FORM, &[Raw("        options+=' ")]);
     }
     let [open, words, close] = action_word(argument);
@@ -84,7 +84,7 @@ pub fn before_argument(alloc: Global, argument: &Argument<'_>) -> Result<Vec<u8>
 
 /// What stands between an argument's name and what help says of it.
 pub fn before_help(alloc: Global, argument: &Argument<'_>) -> Result<Vec<u8>, AllocError> {
-    if argument.spelling == Spelling::Positional {
+    if matches!(argument.spelling, Spelling::Positional) {
         return join(alloc, FORM, &[Raw(": ")]);
     }
     if argument.value.is_none() {

@@ -61,7 +61,7 @@ pub fn before_argument<'a>(
     } else {
         [Raw("__fish_seen_subcommand_from "), Text(command)]
     };
-    if argument.spelling != Spelling::Positional {
+    if !matches!(argument.spelling, Spelling::Positional) {
         return join(
             alloc,
             FORM,
@@ -87,7 +87,7 @@ pub fn before_argument<'a>(
 
 /// What stands between an argument's name and what help says of it.
 pub fn before_help(alloc: Global, argument: &Argument<'_>) -> Result<Vec<u8>, AllocError> {
-    if argument.spelling == Spelling::Positional {
+    if matches!(argument.spelling, Spelling::Positional) {
         return join(alloc, FORM, &[Raw(": ")]);
     }
     if argument.value.is_none() {

@@ -9,6 +9,9 @@ use crate::tree::Spelling;
 /// The shells that completions are made for.
 pub const SHELLS: &[&str] = &["bash", "zsh", "fish"];
 
+/// The same, with a comma and a space between them.
+pub const SHELL_WORDS: &str = "bash, zsh, fish";
+
 /// A text that is made from a tree.
 #[derive(Clone, Copy)]
 pub enum Form {

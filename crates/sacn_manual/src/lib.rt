@@ -1,4 +1,4 @@
-//! A manual page and completions of a program, made from a plain tree of its commands.
+//! A manual page and completions of a program, made from a plain table of its commands, which may be a constant.
 //!
 //! Each command and each argument of the tree stands in each of these texts, with what help says of it.
 #![tactic(auto)]
@@ -7,14 +7,12 @@ mod action;
 mod bash;
 mod fish;
 mod form;
-mod help;
 mod pieces;
 mod print;
 mod roff;
 mod tree;
 mod zsh;
 
-pub use form::{Form, SHELLS, shell_of};
-pub use help::{choices_in, short_in, usage_in, value_in};
+pub use form::{Form, SHELL_WORDS, SHELLS, shell_of};
 pub use print::render;
-pub use tree::{Argument, Command, Program, Spelling};
+pub use tree::{Argument, Command, Kind, Program, Spelling};

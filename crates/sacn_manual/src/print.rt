@@ -231,13 +231,7 @@ fn push_command(
     ensures told { OnOk result (TellsCommand form text.new.items command.now) }
 {
     push_name(alloc, text, form, command)?;
-    push_arguments(
-        alloc,
-        text,
-        form,
-        command.name,
-        command.arguments.as_slice(),
-    )?;
+    push_arguments(alloc, text, form, command.name, command.arguments)?;
     let after = after_command(alloc, form)?;
     text.extend_from_slice(after.as_slice())?;
     Ok(())
@@ -267,10 +261,10 @@ pub fn render(alloc: Global, form: Form, program: &Program<'_>) -> Result<Vec<u8
     ensures { IfOk result (λ text. TellsProgram form text.items program.now) }
 {
     let mut text = head(alloc, form, program)?;
-    push_arguments(alloc, &mut text, form, "", program.arguments.as_slice())?;
+    push_arguments(alloc, &mut text, form, "", program.arguments)?;
     let middle = between(alloc, form)?;
     text.extend_from_slice(middle.as_slice())?;
-    push_commands(alloc, &mut text, form, program.commands.as_slice())?;
+    push_commands(alloc, &mut text, form, program.commands)?;
     let end = tail(alloc, form, program)?;
     text.extend_from_slice(end.as_slice())?;
     Ok(text)

@@ -11,6 +11,23 @@ pub enum Spelling {
     Long,
 }
 
+/// What is given with an argument.
+#[derive(Clone, Copy)]
+pub enum Kind<'a> {
+    /// Nothing: it is a flag.
+    Flag,
+    /// Nothing, and it is answered at once.
+    Answered,
+    /// A word, whatever it is.
+    Word,
+    /// One of these words.
+    Choice(&'a [&'a str]),
+    /// A number in decimal digits, from the first to the second of these.
+    Number(u64, u64),
+    /// Such a number of at most 255.
+    Octet(u8, u8),
+}
+
 /// An argument, or an option, of a command. One that is given by a letter and by a name is two of them.
 #[derive(Clone, Copy)]
 pub struct Argument<'a> {
@@ -19,29 +36,32 @@ pub struct Argument<'a> {
     pub name: &'a str,
     /// What help says of it, in a line.
     pub help: &'a str,
+    pub kind: Kind<'a>,
     /// What help calls its value; none for an option that takes none.
     pub value: Option<&'a str>,
     /// The words that it takes, with a comma and a space between them; empty where it takes others.
     pub choices: &'a str,
     /// The value of an option that isn't given.
     pub default: Option<&'a str>,
+    /// Whether a call without it is refused.
+    pub is_required: bool,
     /// Whether it may stand more than once.
     pub is_repeated: bool,
 }
 
 /// A command of a program.
-#[derive(Drop)]
+#[derive(Clone, Copy)]
 pub struct Command<'a> {
     pub name: &'a str,
     /// What help says of it, in a line.
     pub about: &'a str,
     /// How it is called, with the program's name.
     pub usage: &'a str,
-    pub arguments: Vec<Argument<'a>>,
+    pub arguments: &'a [Argument<'a>],
 }
 
 /// A program of commands.
-#[derive(Drop)]
+#[derive(Clone, Copy)]
 pub struct Program<'a> {
     /// The day of its manual, as `2026-11-23`; it stands in a page as it is.
     pub date: &'a str,
@@ -52,6 +72,6 @@ pub struct Program<'a> {
     /// Lines, of which those after two spaces are examples.
     pub notes: &'a str,
     /// What is given without a command.
-    pub arguments: Vec<Argument<'a>>,
-    pub commands: Vec<Command<'a>>,
+    pub arguments: &'a [Argument<'a>],
+    pub commands: &'a [Command<'a>],
 }

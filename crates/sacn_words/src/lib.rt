@@ -1,17 +1,14 @@
-//! The words of a command line: which commands there are, what each is asked, and the texts that are made from their table.
+//! The words of a command line: one table of the commands and their arguments, clap's tree made from it, and what the words ask for.
 #![tactic(auto)]
 
-mod check;
-mod command;
-mod explain;
-mod live;
-mod manual;
-mod page;
-mod watch;
+mod arguments;
+mod asked;
+mod reading;
+mod spelled;
+mod table;
+mod tree;
 
-pub use check::CheckAsked;
-pub use command::{Asked, parse};
-pub use explain::ExplainAsked;
-pub use live::{DeskAsked, GatewayAsked, moment_of};
-pub use manual::manual_text;
-pub use watch::WatchAsked;
+pub use asked::{
+    Asked, CheckAsked, DeskAsked, ExplainAsked, GatewayAsked, WatchAsked, moment_of, parse,
+};
+pub use table::manual_text;

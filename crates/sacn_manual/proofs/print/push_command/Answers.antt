@@ -1,6 +1,3 @@
-use Rattle.std.proofs.Common.{subst}
-use Rattle.std.specs.Prelude.{All}
-use Rattle.sacn_manual.specs.Texts.{TellsArgument}
 use Rattle.sacn_manual.proofs.Growing.{grows, chain, kept_told, all_kept}
 use Rattle.sacn_manual.proofs.print.push_command.Goals as goal
 
@@ -9,5 +6,5 @@ returns-clause-told c =
     let last = grows _ _ _ c.in_ok-extend_from_slice.ensures.items in
     record {
       told = kept_told _ _ _ _ _ _ c.in_ok-push_name.ensures.told (chain _ _ _ c.in_ok-push_arguments.ensures.grows last);
-      arguments = all_kept _ _ _ _ (subst (All (TellsArgument c.args.form c.push_arguments.new.text.items)) c.as_slice.ensures.value c.in_ok-push_arguments.ensures.told) last;
+      arguments = all_kept _ _ _ _ c.in_ok-push_arguments.ensures.told last;
     }

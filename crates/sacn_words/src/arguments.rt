@@ -1,0 +1,120 @@
+//! Arguments of several commands, and what the rows of the others begin with.
+use sacn_manual::{Argument, Kind, Spelling};
+
+pub const SETUP_HELP: &str =
+    "A setup: a TOML file of a node's ports, each with a universe or ranges of slots, as examples/node.toml";
+
+pub const SCRIPT_HELP: &str =
+    "A script: a text file of an order a line, each after its moment in milliseconds, as `0 go`";
+
+pub const SETUP: Argument<'static> = Argument {
+    name: "SETUP",
+    help: SETUP_HELP,
+    value: Some("SETUP"),
+    ..OPERAND
+};
+
+pub const SHOW: Argument<'static> = Argument {
+    name: "SHOW",
+    help: "A show: a TOML file of a console's CID, name, universes, cues and patch, as examples/show.toml",
+    value: Some("SHOW"),
+    ..OPERAND
+};
+
+pub const TURNS: Argument<'static> = Argument {
+    name: "turns",
+    help: "How many turns it makes, 1 to 1000000000",
+    kind: Kind::Number(1, 1_000_000_000),
+    value: Some("N"),
+    is_required: true,
+    ..OPTION
+};
+
+pub const FIRST: Argument<'static> = Argument {
+    name: "first",
+    help: "The number of the first packet of each universe, 0 to 255",
+    kind: Kind::Octet(0, 255),
+    value: Some("F"),
+    default: Some("0"),
+    ..OPTION
+};
+
+pub const LISTEN: Argument<'static> = Argument {
+    name: "listen",
+    help: "The address that it hears at; else all",
+    value: Some("ADDRESS"),
+    ..OPTION
+};
+
+pub const SECONDS: Argument<'static> = Argument {
+    name: "seconds",
+    help: "How many seconds it runs, 1 to 1000000000",
+    kind: Kind::Number(1, 1_000_000_000),
+    value: Some("S"),
+    ..OPTION
+};
+
+pub const JSON: Argument<'static> = Argument {
+    name: "json",
+    help: "Prints an object of JSON on each line",
+    ..FLAG
+};
+
+pub const PAGE: Argument<'static> = Argument {
+    name: "page",
+    help: "Serves a page for browsers there, of this machine where only a port is named, and prints nothing",
+    value: Some("[ADDRESS:]PORT"),
+    ..OPTION
+};
+
+pub const HELP_LETTER: Argument<'static> = Argument {
+    spelling: Spelling::Short,
+    name: "h",
+    ..HELP
+};
+
+pub const HELP: Argument<'static> = Argument {
+    name: "help",
+    help: "Print help",
+    kind: Kind::Answered,
+    ..FLAG
+};
+
+pub const VERSION_LETTER: Argument<'static> = Argument {
+    spelling: Spelling::Short,
+    name: "V",
+    ..VERSION_NAME
+};
+
+pub const VERSION_NAME: Argument<'static> = Argument {
+    name: "version",
+    help: "Print version",
+    kind: Kind::Answered,
+    ..FLAG
+};
+
+/// What is given by its place.
+pub const OPERAND: Argument<'static> = Argument {
+    spelling: Spelling::Positional,
+    is_required: true,
+    ..OPTION
+};
+
+/// An option that is given or not.
+pub const FLAG: Argument<'static> = Argument {
+    kind: Kind::Flag,
+    ..OPTION
+};
+
+/// An option that takes any word.
+pub const OPTION: Argument<'static> = Argument {
+    spelling: Spelling::Long,
+    name: "",
+    help: "",
+    kind: Kind::Word,
+    value: None,
+    choices: "",
+    default: None,
+    is_required: false,
+    is_repeated: false,
+};

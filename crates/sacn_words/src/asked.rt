@@ -1,0 +1,275 @@
+//! What the words of a command line ask for.
+use crate::reading::{Fault, Words, refusal};
+use crate::spelled::{destination, device, host, kind, page, path, port, sender, universe, widget};
+use crate::tree::matches;
+use clap::{ArgMatches, Error};
+use sacn_check::FileKind;
+use sacn_live::{MAX_DESTINATIONS, Octets4, SACN_PORT};
+use sacn_manual::{Form, shell_of};
+use std::alloc::Global;
+use std::net::{Ipv4Addr, SocketAddrV4};
+
+/// What the words ask for.
+#[derive(Drop)]
+pub enum Asked<'a> {
+    /// A datagram on standard input.
+    Datagram,
+    /// The datagrams of these files.
+    Decode(Vec<&'a str>),
+    /// A world, run by a schedule.
+    Simulate {
+        world: &'a str,
+        schedule: &'a str,
+    },
+    /// A console of this show, given the orders of this script.
+    Console {
+        show: &'a str,
+        script: &'a str,
+        turns: u64,
+        first: u8,
+    },
+    /// A node of this setup.
+    Node {
+        setup: &'a str,
+        turns: u64,
+    },
+    Gateway(GatewayAsked<'a>),
+    Desk(DeskAsked<'a>),
+    /// The groups of a setup or a show, for a network device.
+    Groups {
+        file: &'a str,
+        device: &'a str,
+    },
+    Explain(ExplainAsked<'a>),
+    Watch(WatchAsked),
+    Check(CheckAsked<'a>),
+    /// A text that is made from the table of commands.
+    Manual(Form),
+}
+
+/// What a gateway is asked.
+#[derive(Drop)]
+pub struct GatewayAsked<'a> {
+    pub setup: &'a str,
+    pub listen: Ipv4Addr,
+    pub from: Vec<Octets4>,
+    /// Ports and the device files of their interfaces.
+    pub widgets: Vec<(u8, &'a str)>,
+    pub seconds: Option<u64>,
+}
+
+/// What a desk is asked.
+#[derive(Drop)]
+pub struct DeskAsked<'a> {
+    pub show: &'a str,
+    /// Empty where nothing says otherwise than the show.
+    pub to: Vec<SocketAddrV4>,
+    pub is_multicast: bool,
+    pub ttl: u8,
+    pub bind: Ipv4Addr,
+    pub script: Option<&'a str>,
+    pub first: u8,
+    pub stays: bool,
+}
+
+/// What is asked of a recording.
+#[derive(Drop)]
+pub struct ExplainAsked<'a> {
+    pub capture: &'a str,
+    /// The node whose frames are told.
+    pub setup: Option<&'a str>,
+    pub port: Option<u16>,
+    /// Empty for all.
+    pub universes: Vec<u16>,
+    /// Whether what is told is objects of JSON, one a line, and not text.
+    pub is_json: bool,
+    /// Where a page is served in place of what is printed.
+    pub page: Option<SocketAddrV4>,
+    /// How long it is served.
+    pub seconds: Option<u64>,
+}
+
+impl<'a> ExplainAsked<'a> {
+    /// The moment until which a page is served, in milliseconds.
+    pub fn until(&self) -> u64 {
+        moment_of(self.seconds)
+    }
+}
+
+/// What a watch is asked.
+#[derive(Drop)]
+pub struct WatchAsked {
+    pub listen: Ipv4Addr,
+    pub port: u16,
+    pub universes: Vec<u16>,
+    pub seconds: Option<u64>,
+    /// Whether what is told is objects of JSON, one a line, and not text.
+    pub is_json: bool,
+    pub is_plain: bool,
+    /// Where a page is served in place of what is printed.
+    pub page: Option<SocketAddrV4>,
+}
+
+/// The files that are checked.
+#[derive(Drop)]
+pub struct CheckAsked<'a> {
+    pub files: Vec<&'a str>,
+    /// None where each file's keys tell.
+    pub kind: Option<FileKind>,
+}
+
+/// The moment until which a run of so many seconds goes on, in milliseconds.
+pub fn moment_of(seconds: Option<u64>) -> u64 {
+    match seconds {
+        Some(seconds) => seconds.saturating_mul(1000),
+        None => u64::MAX,
+    }
+}
+
+// Of each command's faults the first that is read here is told.
+
+fn console<'a>(words: &mut Words<'_, 'a>) -> Asked<'a> {
+    Asked::Console {
+        turns: words.number("turns"),
+        first: words.octet("first"),
+        show: words.text("SHOW"),
+        script: words.text("SCRIPT"),
+    }
+}
+
+fn gateway<'a>(words: &mut Words<'_, 'a>) -> Asked<'a> {
+    Asked::Gateway(GatewayAsked {
+        seconds: words.seconds(),
+        listen: words.value("listen", host).unwrap_or(Ipv4Addr::UNSPECIFIED),
+        from: words.values("from", sender),
+        widgets: words.values("widget", widget),
+        setup: words.text("SETUP"),
+    })
+}
+
+// Whether an address is a group's (224.0.0.0/4).
+fn is_group(host: &SocketAddrV4) -> bool {
+    let [first, _, _, _] = host.ip().octets();
+    first & 0xf0 == 0xe0
+}
+
+// The hosts that a desk sends to.
+fn destinations<'a>(words: &mut Words<'_, 'a>) -> Vec<SocketAddrV4> {
+    let hosts = words.values("to", destination);
+    if hosts.len() > MAX_DESTINATIONS {
+        words.refuse(Fault::Word("--to", "TooManyDestinations"));
+    }
+    hosts
+}
+
+// The time to live of what is sent to groups; one that nothing sent would have is refused.
+fn time_to_live<'a>(words: &mut Words<'_, 'a>, to: &[SocketAddrV4]) -> u8 {
+    let ttl = words.octet("ttl");
+    if ttl != 1 && !to.iter().any(is_group) {
+        words.without("ttl", "multicast");
+    }
+    ttl
+}
+
+fn desk<'a>(words: &mut Words<'_, 'a>) -> Asked<'a> {
+    let first = words.octet("first");
+    let to = destinations(words);
+    let ttl = time_to_live(words, to.as_slice());
+    words.without("stay", "script");
+    words.beside("to", "multicast");
+    Asked::Desk(DeskAsked {
+        bind: words.value("bind", host).unwrap_or(Ipv4Addr::UNSPECIFIED),
+        show: words.text("SHOW"),
+        to,
+        is_multicast: words.is_given("multicast"),
+        ttl,
+        script: words.word("script"),
+        first,
+        stays: words.is_given("stay"),
+    })
+}
+
+fn explain<'a>(words: &mut Words<'_, 'a>) -> Asked<'a> {
+    let port = words.value("port", port);
+    let universes = words.values("universe", universe);
+    words.beside("page", "json");
+    words.beside("page", "setup");
+    let page = words.value("page", page);
+    let seconds = words.seconds();
+    words.without("seconds", "page");
+    Asked::Explain(ExplainAsked {
+        capture: words.text("CAPTURE"),
+        setup: words.word("setup"),
+        port,
+        universes,
+        is_json: words.is_given("json"),
+        page,
+        seconds,
+    })
+}
+
+fn watch<'a>(words: &mut Words<'_, 'a>) -> Asked<'a> {
+    let listen = words.value("listen", host).unwrap_or(Ipv4Addr::UNSPECIFIED);
+    let seconds = words.seconds();
+    let port = words.value("port", port).unwrap_or(SACN_PORT);
+    words.beside("page", "plain");
+    words.beside("page", "json");
+    Asked::Watch(WatchAsked {
+        listen,
+        port,
+        page: words.value("page", page),
+        universes: words.values("universe", universe),
+        seconds,
+        is_json: words.is_given("json"),
+        is_plain: words.is_given("plain"),
+    })
+}
+
+// What the words of a command ask for.
+fn asked_of<'a>(command: &str, words: &mut Words<'_, 'a>) -> Asked<'a> {
+    match command {
+        "sim" => Asked::Simulate {
+            world: words.text("WORLD"),
+            schedule: words.text("SCHEDULE"),
+        },
+        "console" => console(words),
+        "node" => Asked::Node {
+            turns: words.number("turns"),
+            setup: words.text("SETUP"),
+        },
+        "gateway" => gateway(words),
+        "desk" => desk(words),
+        "groups" => Asked::Groups {
+            device: words.value("device", device).unwrap_or(""),
+            file: words.text("FILE"),
+        },
+        "explain" => explain(words),
+        "watch" => watch(words),
+        "check" => Asked::Check(CheckAsked {
+            kind: words.value("as", kind),
+            files: words.values("FILE", path),
+        }),
+        "manual" => Asked::Manual(Form::Manual),
+        "completion" => Asked::Manual(shell_of(words.text("SHELL")).unwrap_or(Form::Bash)),
+        _ => Asked::Decode(words.values("FILE", path)),
+    }
+}
+
+fn read<'a>(alloc: Global, command: &str, matches: &ArgMatches<'a>) -> Result<Asked<'a>, Error> {
+    let mut words = Words::new(alloc, matches);
+    let asked = asked_of(command, &mut words);
+    match words.fault() {
+        None => Ok(asked),
+        Some(fault) => Err(refusal(alloc, fault)?),
+    }
+}
+
+/// What the words of a command line ask for, the program's name first. The error of bad words, and of
+/// a call for help, prints clap's own text.
+pub fn parse<'a>(alloc: Global, words: &'a [String]) -> Result<Asked<'a>, Error> {
+    let matches = matches(alloc, words)?;
+    match matches.subcommand() {
+        None => Ok(Asked::Datagram),
+        Some((command, matches)) => read(alloc, command, matches),
+    }
+}

@@ -1,0 +1,183 @@
+//! What clap matched, read: what a word spells, or else the first of the faults.
+use crate::table::PROGRAM;
+use crate::tree::error_of;
+use clap::parser::ValueSource;
+use clap::{ArgMatches, Error};
+use sacn_manual::Kind;
+use std::alloc::{AllocError, Global};
+
+/// What is wrong with words that clap lets pass.
+#[derive(Clone, Copy)]
+pub enum Fault<'a> {
+    OutOfMemory,
+    /// A word, and what it isn't.
+    Word(&'a str, &'static str),
+    /// A number that isn't spelled by digits alone: clap takes a sign before them.
+    Number(&'static str),
+    /// An option that may not be given with another.
+    Beside(&'static str, &'static str),
+    /// An option that is given only with another.
+    Without(&'static str, &'static str),
+}
+
+/// The words of a command. What is wrong with them is noted, and what is read instead is of no use then.
+#[derive(Drop)]
+pub struct Words<'m, 'a> {
+    alloc: Global,
+    matches: &'m ArgMatches<'a>,
+    fault: Option<Fault<'a>>,
+}
+
+impl<'m, 'a> Words<'m, 'a> {
+    pub fn new(alloc: Global, matches: &'m ArgMatches<'a>) -> Words<'m, 'a> {
+        Words {
+            alloc,
+            matches,
+            fault: None,
+        }
+    }
+
+    /// The first fault.
+    pub fn fault(&self) -> Option<Fault<'a>> {
+        self.fault
+    }
+
+    /// Notes a fault, where it is the first.
+    pub fn refuse(&mut self, fault: Fault<'a>) {
+        if self.fault.is_none() {
+            self.fault = Some(fault);
+        }
+    }
+
+    /// Whether an option is given.
+    pub fn is_given(&self, name: &str) -> bool {
+        matches!(
+            self.matches.value_source(name),
+            Some(ValueSource::CommandLine)
+        )
+    }
+
+    /// An option may not be given with another.
+    pub fn beside(&mut self, name: &'static str, other: &'static str) {
+        if self.is_given(name) & self.is_given(other) {
+            self.refuse(Fault::Beside(name, other));
+        }
+    }
+
+    /// An option is given only with another.
+    pub fn without(&mut self, name: &'static str, other: &'static str) {
+        if self.is_given(name) & !self.is_given(other) {
+            self.refuse(Fault::Without(name, other));
+        }
+    }
+
+    /// A word that clap saw to it that is given.
+    pub fn text(&self, name: &str) -> &'a str {
+        self.word(name).unwrap_or("")
+    }
+
+    pub fn word(&self, name: &str) -> Option<&'a str> {
+        self.matches.get_str(name)
+    }
+
+    /// A number that is given, or has a default.
+    pub fn number(&mut self, name: &'static str) -> u64 {
+        match (self.word(name), self.matches.get_one::<u64>(name)) {
+            (Some(text), Some(number)) if !text.starts_with('+') => number,
+            _ => {
+                self.refuse(Fault::Number(name));
+                0
+            }
+        }
+    }
+
+    /// Such a number of at most 255.
+    pub fn octet(&mut self, name: &'static str) -> u8 {
+        u8::try_from(self.number(name)).unwrap_or(0)
+    }
+
+    /// How many seconds a run takes, where that is said.
+    pub fn seconds(&mut self) -> Option<u64> {
+        if self.is_given("seconds") {
+            Some(self.number("seconds"))
+        } else {
+            None
+        }
+    }
+
+    /// What the word of an option spells, where it is given.
+    pub fn value<T: Drop, F: Fn(&'a str) -> Result<T, &'static str> + Drop>(
+        &mut self,
+        name: &str,
+        read: F,
+    ) -> Option<T>
+        requires { F.IsAlwaysCallable read }
+    {
+        let word = self.word(name)?;
+        match read(word) {
+            Ok(value) => Some(value),
+            Err(fault) => {
+                self.refuse(Fault::Word(word, fault));
+                None
+            }
+        }
+    }
+
+    /// What the words of an argument spell, one after another.
+    pub fn values<T: Drop, F: Fn(&'a str) -> Result<T, &'static str> + Drop>(
+        &mut self,
+        name: &str,
+        read: F,
+    ) -> Vec<T>
+        requires { F.IsAlwaysCallable read }
+    {
+        let mut values = Vec::new(self.alloc);
+        let words = self.matches.get_strs(name).unwrap_or(&[]);
+        for word in words {
+            match read(*word) {
+                Ok(value) => {
+                    if values.push(value).is_err() {
+                        self.refuse(Fault::OutOfMemory);
+                    }
+                }
+                Err(fault) => self.refuse(Fault::Word(*word, fault)),
+            }
+        }
+        values
+    }
+}
+
+// What a number has to be.
+fn range_of(name: &str) -> (u64, u64) {
+    for command in PROGRAM.commands {
+        for row in command.arguments {
+            match row.kind {
+                Kind::Number(least, most) if row.name == name => return (least, most),
+                Kind::Octet(least, most) if row.name == name => {
+                    return (u64::from(least), u64::from(most));
+                }
+                _ => {}
+            }
+        }
+    }
+    (0, u64::MAX)
+}
+
+fn message_of(alloc: Global, fault: Fault<'_>) -> Result<String, AllocError> {
+    match fault {
+        Fault::OutOfMemory => Err(AllocError),
+        Fault::Word(word, fault) => format!(in alloc; "{word}: {fault}"),
+        Fault::Beside(name, other) => format!(in alloc; "--{name}: beside --{other}"),
+        Fault::Without(name, other) => format!(in alloc; "--{name}: without --{other}"),
+        Fault::Number(name) => {
+            let (least, most) = range_of(name);
+            format!(in alloc; "--{name} takes a number of {least} to {most}, in decimal digits")
+        }
+    }
+}
+
+/// The error that tells a fault.
+pub fn refusal(alloc: Global, fault: Fault<'_>) -> Result<Error, AllocError> {
+    let message = message_of(alloc, fault)?;
+    error_of(alloc, message.as_str())
+}

@@ -1,0 +1,335 @@
+//! The table of the program's commands and their arguments. Its help, manual and completions are made from it, and what reads its words.
+use crate::arguments::{
+    FIRST, FLAG, HELP, HELP_LETTER, JSON, LISTEN, OPERAND, OPTION, PAGE, SCRIPT_HELP, SECONDS,
+    SETUP, SETUP_HELP, SHOW, TURNS, VERSION_LETTER, VERSION_NAME,
+};
+use sacn_manual::{Argument, Command, Form, Kind, Program, SHELL_WORDS, SHELLS, render};
+use std::alloc::{AllocError, Global};
+
+/// The version, and the kits that may prove it.
+pub const VERSION: &str = "1, streaming ACN by ANSI E1.31-2018
+kit rattle-kit-13b logic dac8208d650f15bf
+kit rattle-kit-13f logic dac8208d650f15bf";
+
+/// The program, as it is called without a command, and with each of them.
+pub const PROGRAM: Program<'static> = Program {
+    // The day of the manual's latest change.
+    date: "2026-11-26",
+    usage: "sacn [COMMAND]",
+    about: "Streaming ACN (ANSI E1.31-2018): datagrams read and checked, consoles and nodes run.
+
+Without a command it reads one datagram from standard input, as hexadecimal digits with
+spaces and line ends anywhere between them, and prints its fields and its frame, or
+refuses it with the first check of the standard's layouts that fails.",
+    notes: "Examples, in a clone of the repository:
+  ./sacn < examples/desk.hex
+  ./sacn decode examples/levels.sacn examples/universes.sacn
+  ./sacn sim examples/world.toml examples/schedule.txt
+  ./sacn node examples/node.toml --turns 40000000 &
+  ./sacn console examples/show.toml examples/script.txt --turns 10000000
+  ./sacn gateway examples/node.toml --seconds 60 &
+  ./sacn desk examples/show.toml --to 127.0.0.1
+  ./sacn groups examples/node.toml --device eth0
+  ./sacn explain examples/ola.pcap
+  ./sacn watch --seconds 60
+  ./sacn check examples/show.toml
+
+docs/FILES.md tells what stands in the files, and what is printed.
+
+Exit status: 0; 2 bad words; 3 refused input; 4 a device failed.",
+    arguments: &[HELP_LETTER, HELP, VERSION_LETTER, VERSION_NAME],
+    commands: &[
+        DECODE, SIM, CONSOLE, NODE, GATEWAY, DESK, GROUPS, EXPLAIN, WATCH, CHECK, MANUAL,
+        COMPLETION,
+    ],
+};
+
+const DECODE: Command<'static> = Command {
+    name: "decode",
+    about: "Prints the packets in files of one datagram each, raw octets, in their order",
+    usage: "sacn decode <FILE>...",
+    arguments: &[
+        Argument {
+            name: "FILE",
+            help: "Files of one datagram each, raw octets",
+            value: Some("FILE"),
+            is_repeated: true,
+            ..OPERAND
+        },
+        HELP_LETTER,
+        HELP,
+    ],
+};
+
+const SIM: Command<'static> = Command {
+    name: "sim",
+    about: "Runs a world of consoles and nodes by a schedule of events, and prints what each look shows",
+    usage: "sacn sim <WORLD> <SCHEDULE>",
+    arguments: &[
+        Argument {
+            name: "WORLD",
+            help: "A world: a TOML file of shows for its consoles and setups for its nodes, as examples/world.toml",
+            value: Some("WORLD"),
+            ..OPERAND
+        },
+        Argument {
+            name: "SCHEDULE",
+            help: "A schedule: a text file of an event a line, as `deliver 0 0 1000`",
+            value: Some("SCHEDULE"),
+            ..OPERAND
+        },
+        HELP_LETTER,
+        HELP,
+    ],
+};
+
+const CONSOLE: Command<'static> = Command {
+    name: "console",
+    about: "Sends a show's universes on 127.0.0.1 as a script orders, and prints how many datagrams that were",
+    usage: "sacn console [OPTIONS] --turns <N> <SHOW> <SCRIPT>",
+    arguments: &[
+        SHOW,
+        Argument {
+            name: "SCRIPT",
+            help: SCRIPT_HELP,
+            value: Some("SCRIPT"),
+            ..OPERAND
+        },
+        TURNS,
+        FIRST,
+        HELP_LETTER,
+        HELP,
+    ],
+};
+
+const NODE: Command<'static> = Command {
+    name: "node",
+    about: "Hears datagrams on 127.0.0.1, and prints each port's frame whenever it is another",
+    usage: "sacn node --turns <N> <SETUP>",
+    arguments: &[SETUP, TURNS, HELP_LETTER, HELP],
+};
+
+const GATEWAY: Command<'static> = Command {
+    name: "gateway",
+    about: "Hears a rig until it is stopped, and prints each port's frame whenever it is another",
+    usage: "sacn gateway [OPTIONS] <SETUP>",
+    arguments: &[
+        SETUP,
+        LISTEN,
+        Argument {
+            name: "from",
+            help: "A sender that it hears; else all",
+            value: Some("ADDRESS"),
+            is_repeated: true,
+            ..OPTION
+        },
+        Argument {
+            name: "widget",
+            help: "An interface with the protocol of the DMX USB Pro, for a port of the setup",
+            value: Some("PORT=DEVICE"),
+            is_repeated: true,
+            ..OPTION
+        },
+        SECONDS,
+        HELP_LETTER,
+        HELP,
+    ],
+};
+
+const DESK: Command<'static> = Command {
+    name: "desk",
+    about: "Sends a show's universes to a rig as a script and standard input order, until these end",
+    usage: "sacn desk [OPTIONS] <SHOW>",
+    arguments: &[
+        SHOW,
+        Argument {
+            name: "to",
+            help: "A host that it sends to, at most 64; else the show's ports on 127.0.0.1",
+            value: Some("ADDRESS[:PORT]"),
+            is_repeated: true,
+            ..OPTION
+        },
+        Argument {
+            name: "multicast",
+            help: "Sends each universe to its group",
+            ..FLAG
+        },
+        Argument {
+            name: "ttl",
+            help: "The time to live of a group's packets, 1 to 255: with 1 no router passes them on",
+            kind: Kind::Octet(1, 255),
+            value: Some("N"),
+            default: Some("1"),
+            ..OPTION
+        },
+        Argument {
+            name: "bind",
+            help: "The address that it sends from",
+            value: Some("ADDRESS"),
+            ..OPTION
+        },
+        Argument {
+            name: "script",
+            help: SCRIPT_HELP,
+            value: Some("SCRIPT"),
+            ..OPTION
+        },
+        FIRST,
+        Argument {
+            name: "stay",
+            help: "Goes on after the script",
+            ..FLAG
+        },
+        HELP_LETTER,
+        HELP,
+    ],
+};
+
+const GROUPS: Command<'static> = Command {
+    name: "groups",
+    about: "Prints the commands by which a device joins the groups of a setup's or a show's universes",
+    usage: "sacn groups --device <DEV> <FILE>",
+    arguments: &[
+        Argument {
+            name: "FILE",
+            help: "A setup or a show, as those of a gateway and of a desk",
+            value: Some("FILE"),
+            ..OPERAND
+        },
+        Argument {
+            name: "device",
+            help: "The network device that joins",
+            value: Some("DEV"),
+            is_required: true,
+            ..OPTION
+        },
+        HELP_LETTER,
+        HELP,
+    ],
+};
+
+const EXPLAIN: Command<'static> = Command {
+    name: "explain",
+    about: "Tells what a recording of a network holds: a line for each thing that happened, then tables",
+    usage: "sacn explain [OPTIONS] <CAPTURE>",
+    arguments: &[
+        Argument {
+            name: "CAPTURE",
+            help: "A recording: a file of the formats pcap or pcapng",
+            value: Some("CAPTURE"),
+            ..OPERAND
+        },
+        Argument {
+            name: "setup",
+            help: SETUP_HELP,
+            value: Some("SETUP"),
+            ..OPTION
+        },
+        Argument {
+            name: "port",
+            help: "The UDP port of the datagrams that are told; else the setup's, else 5568",
+            value: Some("P"),
+            ..OPTION
+        },
+        Argument {
+            name: "universe",
+            help: "A universe whose lines and rows are told; else all",
+            value: Some("U"),
+            is_repeated: true,
+            ..OPTION
+        },
+        JSON,
+        PAGE,
+        Argument {
+            help: "How many seconds it runs with --page, 1 to 1000000000",
+            ..SECONDS
+        },
+        HELP_LETTER,
+        HELP,
+    ],
+};
+
+const WATCH: Command<'static> = Command {
+    name: "watch",
+    about: "Hears a network until it is stopped, and tells each thing that happens, then tables; in a terminal it shows a screen",
+    usage: "sacn watch [OPTIONS]",
+    arguments: &[
+        LISTEN,
+        Argument {
+            name: "port",
+            help: "The UDP port that it hears at; else 5568",
+            value: Some("P"),
+            ..OPTION
+        },
+        Argument {
+            name: "universe",
+            help: "A universe that is told, and the first one shown; else all",
+            value: Some("U"),
+            is_repeated: true,
+            ..OPTION
+        },
+        SECONDS,
+        JSON,
+        Argument {
+            name: "plain",
+            help: "Prints lines in a terminal too",
+            ..FLAG
+        },
+        PAGE,
+        HELP_LETTER,
+        HELP,
+    ],
+};
+
+const CHECK: Command<'static> = Command {
+    name: "check",
+    about: "Says what is wrong with shows, setups, worlds, scripts and schedules, each fault with its place",
+    usage: "sacn check [OPTIONS] <FILE>...",
+    arguments: &[
+        Argument {
+            name: "FILE",
+            help: "Shows, setups, worlds, scripts and schedules",
+            value: Some("FILE"),
+            is_repeated: true,
+            ..OPERAND
+        },
+        Argument {
+            name: "as",
+            help: "What the files are: show, setup, world, script or schedule; else told by their keys",
+            value: Some("KIND"),
+            ..OPTION
+        },
+        HELP_LETTER,
+        HELP,
+    ],
+};
+
+const MANUAL: Command<'static> = Command {
+    name: "manual",
+    about: "Prints this program's manual, a page in roff that `man -l` shows",
+    usage: "sacn manual",
+    arguments: &[HELP_LETTER, HELP],
+};
+
+const COMPLETION: Command<'static> = Command {
+    name: "completion",
+    about: "Prints what completes this program's words in a shell",
+    usage: "sacn completion <SHELL>",
+    arguments: &[
+        Argument {
+            name: "SHELL",
+            help: "The shell that they are for",
+            kind: Kind::Choice(SHELLS),
+            value: Some("SHELL"),
+            choices: SHELL_WORDS,
+            ..OPERAND
+        },
+        HELP_LETTER,
+        HELP,
+    ],
+};
+
+/// A text that is made from the table.
+pub fn manual_text(alloc: Global, form: Form) -> Result<Vec<u8>, AllocError> {
+    render(alloc, form, &PROGRAM)
+}

@@ -1,0 +1,229 @@
+#!/usr/bin/env bash
+# The release: that the program which the gate built is the released one, octet by octet; the one for aarch64 beside it, under qemu; the helper that joins
+# groups, in network namespaces; packages; and how long a new user waits for the first light. Prints 'ok NAME', 'not ok NAME: why' or 'skipped NAME: why' for each.
+set -u
+top=$(cd "$(dirname "$(readlink -f "$0")")/.." && pwd)
+built=${SACN:-$top/crates/sacn/out/sacn}
+release=$top/release
+room=$(mktemp -d)
+running=()
+cleanup() {
+  for it in ${running[@]+"${running[@]}"}; do kill "$it" 2>/dev/null; done
+  for it in near far; do ip netns del "sacn-$it-$$" 2>/dev/null; done
+  rm -rf "$room"
+}
+trap cleanup EXIT
+ok() { echo "ok release: $1"; }
+fails() { echo "not ok release: $1: $2"; }
+skips() { echo "skipped release: $1: $2"; }
+of_release() { [ ! -f "$release/RELEASE" ] || sed -n "s#^$1 ##p" "$release/RELEASE"; }
+# Waits until a file has a line like this: at most ten seconds.
+told() { for _ in $(seq 200); do grep -qE -- "$2" "$1" 2>/dev/null && return; sleep 0.05; done; return 1; }
+export PATH_WITHOUT_KIT=/usr/local/sbin:/usr/sbin:/usr/bin:/sbin:/bin
+
+is_current=
+if [ ! -f "$release/RELEASE" ]; then
+  skips "the octets" "there is no release"
+elif [ "$(of_release code)" != "$("$top/sacn" --code)" ]; then
+  skips "the octets" "the release is of another tree: its code is $(of_release code)"
+elif [ "$(of_release kit)" != "$(rt version 2>/dev/null)" ]; then
+  is_current=1
+  skips "the octets" "the release was made by $(of_release kit), and this machine has $(rt version 2>/dev/null)"
+else
+  is_current=1
+  strip -s -o "$room/stripped" "$built" 2>/dev/null || : >"$room/stripped"
+  if cmp "$room/stripped" "$release/x86_64-linux/sacn" >"$room/said" 2>&1; then ok "what the gate built is the released program, octet by octet"; else fails "the octets" "$(head -n 1 "$room/said")"; fi
+  for name in x86_64-linux/sacn x86_64-linux/sacn-join aarch64-linux/sacn aarch64-linux/sacn-join; do
+    if [ "$(sha256sum <"$release/$name" | cut -d ' ' -f 1)" = "$(of_release "$name")" ]; then ok "$name is what RELEASE says"; else fails "$name" "it isn't what RELEASE says"; fi
+  done
+fi
+
+# ---- What the program for aarch64 asks of C.
+if command -v cc >/dev/null; then
+  cc -std=gnu11 -O2 -Wall -Wextra -Werror -o "$room/runtime" "$top/tests/c/runtime.c" && FIRST=value "$room/runtime" one "" three >"$room/said" && ok "each function of the C beside aarch64's program" || fails "runtime.c" "$(head -n 1 "$room/said")"
+else
+  skips "runtime.c" "this machine has no C compiler"
+fi
+arm=(qemu-aarch64 -L /usr/aarch64-linux-gnu)
+has_arm=
+if ! command -v qemu-aarch64 >/dev/null || [ ! -e /usr/aarch64-linux-gnu/lib/libc.so.6 ]; then
+  skips "aarch64" "qemu-user or libc6-dev-arm64-cross isn't there"
+else
+  if command -v aarch64-linux-gnu-gcc >/dev/null; then
+    aarch64-linux-gnu-gcc -std=gnu11 -O2 -Wall -Wextra -Werror -o "$room/runtime-arm" "$top/tests/c/runtime.c" && FIRST=value "${arm[@]}" "$room/runtime-arm" one "" three >"$room/said" && ok "and on aarch64" || fails "runtime.c on aarch64" "$(head -n 1 "$room/said")"
+  fi
+  if [ -n "$is_current" ] && [ -x "$built" ]; then has_arm=1; else skips "aarch64" "no release of this tree"; fi
+fi
+
+# ---- aarch64's program beside this one.
+alike() { # NAME INPUT WORD..
+  local name=$1 input=$2 status=0 other=0
+  shift 2
+  "$built" "$@" <"$input" >"$room/out" 2>"$room/err" || status=$?
+  "${arm[@]}" "$release/aarch64-linux/sacn" "$@" <"$input" >"$room/out-arm" 2>"$room/err-arm" || other=$?
+  # (a usage names the program by its path)
+  sed -i "s#$release/aarch64-linux/sacn#$built#g" "$room/err-arm" "$room/out-arm"
+  if [ "$status" = "$other" ] && cmp -s "$room/out" "$room/out-arm" && cmp -s "$room/err" "$room/err-arm"; then return 0; fi
+  echo "# $name: status $status and $other"
+  return 1
+}
+every_command_is_alike() {
+  local count=0 it
+  cd "$top/examples" || return 1
+  alike "a datagram" desk.hex && alike "no datagram" /dev/null || return 1
+  for it in "decode levels.sacn universes.sacn" "sim world.toml schedule.txt" "explain ola.pcap" "explain qlcplus.pcap --json" "explain ola.pcap --setup node.toml" "explain qlcplus.pcap --setup node.toml --json" \
+    "explain show.toml" "check show.toml node.toml world.toml script.txt schedule.txt" "check desk.hex" "groups node.toml --device eth0" "groups show.toml --device eth0" "manual" "completion bash" "completion zsh" \
+    "completion fish" "--help" "gateway --help" "decode nothere" "jump" "console show.toml script.txt --turns 50" "node show.toml --turns 1"; do
+    # shellcheck disable=SC2086
+    alike "$it" /dev/null $it || return 1
+    count=$((count + 1))
+  done
+  echo "$count" >"$room/count"
+}
+setup() { printf 'version = 1\nudp_port = %s\n[[port]]\nnumber = 1\nuniverse = 1\n' "$1"; }
+show() { printf 'version = 1\ncid = "00010203-0405-0607-0809-0a0b0c0d0e0f"\nname = "Desk"\nuniverses = [1]\nsend_to = [%s]\n[[cue]]\nnumber = 1\nfade = 0\nlevels = [[1, 65535]]\n[[patch]]\nchannel = 1\nuniverse = 1\nslot = 1\n' "$1"; }
+arm_lights() {
+  setup 25871 >"$room/node.toml" && show 25871 >"$room/show.toml"
+  : >"$room/said"
+  "${arm[@]}" "$release/aarch64-linux/sacn" gateway "$room/node.toml" --seconds 20 >"$room/lines" 2>"$room/said" &
+  running+=($!)
+  told "$room/said" '^hears' || return 1
+  (echo go; told "$room/lines" '^1 [0-9]+ 00ff') | "${arm[@]}" "$release/aarch64-linux/sacn" desk "$room/show.toml" >"$room/answers" 2>&1
+  told "$room/lines" '^1 [0-9]+ 00ff' && told "$room/said" 'universe 1 ended$' && grep -qx ok "$room/answers"
+}
+arm_serves() {
+  : >"$room/said"
+  "${arm[@]}" "$release/aarch64-linux/sacn" watch --port 25872 --page 25873 --seconds 20 </dev/zero >/dev/null 2>"$room/said" &
+  running+=($!)
+  for _ in $(seq 100); do
+    exec 3<>/dev/tcp/127.0.0.1/25873 && break
+    sleep 0.1
+  done 2>/dev/null
+  printf 'GET / HTTP/1.1\r\nHost: 127.0.0.1:25873\r\nConnection: close\r\n\r\n' >&3
+  timeout 5 head -c 4000 <&3 >"$room/page"
+  exec 3>&-
+  grep -q '^HTTP/1.1 200' "$room/page"
+}
+if [ -n "$has_arm" ]; then
+  if (every_command_is_alike) >"$room/said"; then ok "aarch64's program ends as x86's in $(cat "$room/count") runs"; else fails "aarch64's program" "$(tail -n 1 "$room/said")"; fi
+  if arm_lights; then ok "a gateway and a desk on aarch64"; else fails "a gateway and a desk on aarch64" "$(tail -n 1 "$room/said")"; fi
+  if arm_serves; then ok "the page on aarch64"; else fails "the page on aarch64" "$(head -n 1 "$room/page")"; fi
+fi
+
+# ---- The first light, as a new user has it: from a clone, without a kit, and from a package.
+seconds_until() { # FILE COMMAND..: how long until its first line, which is a frame
+  local file=$1 start end
+  shift
+  start=$(date +%s%N)
+  # (the input of what is started ends with this script)
+  PATH=$PATH_WITHOUT_KIT setsid "$@" >"$file" 2>"$room/said" </dev/null &
+  running+=($!)
+  for _ in $(seq 1000); do [ -s "$file" ] && break; sleep 0.01; done
+  end=$(date +%s%N)
+  kill "${running[-1]}" 2>/dev/null
+  wait "${running[-1]}" 2>/dev/null
+  unset 'running[-1]'
+  echo $(((end - start) / 1000000))
+}
+# light NAME COMMAND..: the fastest of three tries counts, since the machine may be busy
+light() {
+  local name=$1 least=100000 took
+  shift
+  for _ in 1 2 3; do
+    took=$(seconds_until "$room/lines" "$@")
+    if [ "$took" -lt "$least" ]; then least=$took; fi
+  done
+  if grep -qE '^1 [0-9]+ 0000' "$room/lines" && [ "$least" -lt 5000 ]; then ok "first light $name: $least ms"; else fails "first light $name" "after $least ms: $(head -n 1 "$room/said")"; fi
+}
+if [ -z "$is_current" ]; then
+  skips "first light" "no release of this tree"
+else
+  setup 25874 >"$room/node.toml"
+  mkdir "$room/clone"
+  (cd "$top" && cp -r sacn crates.txt HANDLES tools release examples docs "$room/clone/" && find crates -path '*/out' -prune -o -name '*.rt' -print0 | xargs -0 cp --parents -t "$room/clone")
+  light "from a clone" "$room/clone/sacn" gateway "$room/node.toml"
+  if grep -q 'proved and built elsewhere, from this very tree' "$room/said"; then ok "and it says where it was proved"; else fails "where it was proved" "$(head -n 1 "$room/said")"; fi
+fi
+
+# ---- Packages.
+if [ -z "$is_current" ] || ! command -v dpkg-deb >/dev/null; then
+  skips "packages" "no release of this tree, or no dpkg-deb"
+elif ! "$top/sacn" package "$room/packages" >"$room/said" 2>&1; then
+  fails "packages" "$(tail -n 1 "$room/said")"
+else
+  version=$(of_release version)
+  ok "packages: $(cd "$room/packages" && echo *)"
+  dpkg-deb -x "$room/packages/sacn_${version}_amd64.deb" "$room/amd64"
+  dpkg-deb -x "$room/packages/sacn_${version}_arm64.deb" "$room/arm64"
+  light "from a package" "$room/amd64/usr/bin/sacn" gateway "$room/node.toml"
+  if [ ! -s "$room/said" ] || ! grep -q 'sacn:' "$room/said"; then ok "a package's program says nothing of its own"; else fails "a package's program" "$(head -n 1 "$room/said")"; fi
+  if [ "$("$room/amd64/usr/bin/sacn" --version | sed -n 2p)" = "release $version" ]; then ok "a package's version"; else fails "a package's version" "$("$room/amd64/usr/bin/sacn" --version | sed -n 2p)"; fi
+  if [ -n "$has_arm" ]; then
+    if [ "$("${arm[@]}" "$room/arm64/usr/lib/sacn/sacn" decode "$top/examples/levels.sacn" | sed -n 2p)" = "cid 00010203-0405-0607-0809-0a0b0c0d0e0f" ]; then ok "the package for arm64"; else fails "the package for arm64" "it decodes otherwise"; fi
+  fi
+  if command -v lintian >/dev/null; then
+    lintian --fail-on error,warning "$room"/packages/*.deb >"$room/said" 2>&1 && ok "lintian has nothing to say" || fails "lintian" "$(head -n 1 "$room/said")"
+  else
+    skips "lintian" "it isn't there"
+  fi
+  if command -v systemd-analyze >/dev/null; then
+    for it in gateway desk page; do
+      exposure=$(systemd-analyze security --offline=yes "$top/packaging/sacn-$it@.service" 2>/dev/null | sed -n 's/.*Overall exposure level for [^:]*: \([0-9]*\)\.\([0-9]\).*/\1\2/p')
+      if [ "${exposure:-99}" -lt 20 ]; then ok "the service of a $it is exposed by less than 2.0"; else fails "the service of a $it" "exposed by ${exposure:-an unknown level} tenths"; fi
+    done
+  else
+    skips "services" "systemd-analyze isn't there"
+  fi
+fi
+
+# ---- Groups, joined without a privilege, between two hosts of this script's own.
+near=sacn-near-$$ far=sacn-far-$$
+if ! command -v ip >/dev/null || ! ip netns add "$near" 2>/dev/null || ! ip netns add "$far" 2>/dev/null || ! ip -n "$near" link add eth0 type veth peer name eth0 netns "$far" 2>/dev/null; then
+  skips "groups" "this machine lets no network namespaces be made"
+elif ! command -v cc >/dev/null || [ ! -x "$built" ]; then
+  skips "groups" "no C compiler, or sacn isn't built"
+else
+  cc -std=gnu11 -O2 -Wall -Wextra -Werror -o "$room/sacn-join" "$top/runtime/join.c" || fails "join.c" "it isn't compiled"
+  chmod 755 "$room"
+  for it in "$near 1" "$far 2"; do
+    set -- $it
+    ip -n "$1" address add "10.99.0.$2/24" dev eth0
+    ip -n "$1" link set eth0 up
+    ip -n "$1" link set lo up
+    ip -n "$1" route add default via "10.99.0.$((3 - $2))" 2>/dev/null
+  done
+  printf '. "%s/tools/run.sh"\nsacn_join=%s\nrun "%s" "$@"\n' "$top" "$room/sacn-join" "$built" >"$room/run"
+  joined() { ip -n "$near" maddress show dev eth0 | grep -c 'inet *239\.255\.'; }
+  printf 'version = 1\nudp_port = 5568\n[[port]]\nnumber = 1\nuniverse = 1\n[[port]]\nnumber = 2\nuniverse = 300\n' >"$room/node.toml"
+  : >"$room/said"
+  ip netns exec "$near" setpriv --reuid 65534 --regid 65534 --clear-groups bash "$room/run" gateway --join "$room/node.toml" --seconds 60 >"$room/lines" 2>"$room/said" </dev/null &
+  running+=($!)
+  told "$room/said" '^hears' || fails "a gateway that joins" "$(head -n 1 "$room/said")"
+  if [ "$(joined)" = 3 ]; then ok "nobody joins the groups of a setup, and the lists'"; else fails "the groups of a setup" "$(joined) are joined"; fi
+  show 5568 >"$room/show.toml"
+  (echo go; told "$room/lines" '^1 [0-9]+ 00ff') | ip netns exec "$far" "$built" desk "$room/show.toml" --multicast --bind 10.99.0.2 >/dev/null 2>&1
+  if told "$room/lines" '^1 [0-9]+ 00ff' && told "$room/said" 'universe 1 came 10.99.0.2$'; then ok "a gateway that joined hears a desk's group"; else fails "a gateway that joined" "$(tail -n 1 "$room/said")"; fi
+  # (the one that holds the groups is the child of the other)
+  pkill -n -f "$room/sacn-join"
+  if told "$room/said" '^sacn: what joined the groups on eth0 was ended'; then ok "the helper's end is told, and the gateway goes on"; else fails "the helper's end" "$(tail -n 1 "$room/said")"; fi
+  kill "${running[-1]}"
+  wait "${running[-1]}" 2>/dev/null
+  unset 'running[-1]'
+
+  ip netns exec "$near" setpriv --reuid 65534 --regid 65534 --clear-groups bash "$room/run" watch --join eth0 --plain --seconds 60 >"$room/told" 2>"$room/said" </dev/null &
+  running+=($!)
+  told "$room/said" '^hears' || fails "a watch that joins" "$(head -n 1 "$room/said")"
+  printf 'version = 1\ncid = "00010203-0405-0607-0809-0a0b0c0d0e0f"\nname = "Desk"\nuniverses = [%s 900]\nsend_to = [5568]\n' "$(seq -s , 1 40 | sed 's/$/,/')" >"$room/wide.toml"
+  (told "$room/told" 'universe +900 .*appears') | ip netns exec "$far" "$built" desk "$room/wide.toml" --multicast --bind 10.99.0.2 >/dev/null 2>&1
+  if told "$room/told" 'universe +900 .*appears' && [ "$(joined)" = 42 ]; then ok "a watch joins what is listed: 41 universes"; else fails "a watch that joins" "$(joined) groups are joined; $(tail -n 1 "$room/told")"; fi
+  kill "${running[-1]}"
+  wait "${running[-1]}" 2>/dev/null
+  unset 'running[-1]'
+  for _ in $(seq 100); do [ "$(joined)" = 0 ] && break; sleep 0.05; done
+  if [ "$(joined)" = 0 ]; then ok "the groups are left at its end"; else fails "the groups at its end" "$(joined) are still joined"; fi
+  ip netns exec "$near" bash "$room/run" watch --join nosuch --seconds 5 >/dev/null 2>"$room/said" </dev/null
+  if [ $? = 4 ] && grep -q 'no groups on nosuch: No such device' "$room/said"; then ok "a device that isn't there is named"; else fails "a device that isn't there" "$(head -n 1 "$room/said")"; fi
+  ip -n "$near" route del default
+  ip netns exec "$near" bash "$room/run" watch --join --seconds 5 >/dev/null 2>"$room/said" </dev/null
+  if [ $? = 4 ] && grep -q 'no default route' "$room/said"; then ok "no default route is told"; else fails "no default route" "$(head -n 1 "$room/said")"; fi
+fi

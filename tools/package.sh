@@ -1,0 +1,96 @@
+#!/usr/bin/env bash
+# Makes packages of the release: a .deb for Debian and its kin and a .tar.gz for others, for each processor, and what C programs need.
+#
+#   tools/package.sh [FOLDER]     into FOLDER; without one into this one
+#
+# It wants dpkg-deb, gzip and tar, and a release of this very tree (tools/release.py).
+set -eu
+top=$(cd "$(dirname "$(readlink -f "$0")")/.." && pwd)
+say() { echo "sacn: $*" >&2; }
+release=$top/release
+if [ ! -f "$release/RELEASE" ]; then
+  say "there is no release here: tools/release.py makes one from a tree that ./test passed"
+  exit 1
+fi
+of_release() { local name=$1 key value; while read -r key value; do if [ "$key" = "$name" ]; then echo "$value"; fi; done <"$release/RELEASE"; }
+if [ "$(of_release code)" != "$("$top/sacn" --code)" ]; then
+  say "the release is of another tree than this one: check out its commit, or make it anew (tools/release.py)"
+  exit 1
+fi
+for tool in dpkg-deb gzip tar; do
+  command -v "$tool" >/dev/null || { say "there is no $tool here, which makes packages"; exit 1; }
+done
+version=$(of_release version)
+mkdir -p "${1:-.}"
+folder=$(cd "${1:-.}" && pwd)
+room=$(mktemp -d)
+trap 'rm -rf "$room"' EXIT
+program=$release/$(uname -m)-linux/sacn
+# (all that is packed bears the moment of the commit, so that the same tree gives the same packages)
+moment=$(git -C "$top" log -1 --format=%ct 2>/dev/null || date +%s)
+export SOURCE_DATE_EPOCH=$moment
+
+for name in x86_64-linux/sacn x86_64-linux/sacn-join aarch64-linux/sacn aarch64-linux/sacn-join; do
+  sum=$(sha256sum <"$release/$name")
+  if [ "${sum%% *}" != "$(of_release "$name")" ]; then say "$release/$name is not the released one: its SHA-256 is ${sum%% *}"; exit 4; fi
+done
+
+packed() { gzip -9n >"$1"; chmod 644 "$1"; }
+
+# tree FOLDER PROCESSOR: lays out all but what is Debian's own.
+tree() {
+  local root=$1 from=$release/$2-linux
+  install -d "$root/usr/bin" "$root/usr/lib/sacn" "$root/usr/share/man/man1" "$root/usr/share/bash-completion/completions" "$root/usr/share/fish/vendor_completions.d" \
+    "$root/usr/share/zsh/vendor-completions" "$root/usr/share/doc/sacn/examples" "$root/lib/systemd/system" "$root/etc/sacn"
+  install -m 755 "$top/packaging/sacn" "$root/usr/bin/sacn"
+  install -m 755 "$from/sacn" "$from/sacn-join" "$root/usr/lib/sacn/"
+  install -m 644 "$top/tools/run.sh" "$release/RELEASE" "$root/usr/lib/sacn/"
+  "$program" manual | packed "$root/usr/share/man/man1/sacn.1.gz"
+  "$program" completion bash >"$root/usr/share/bash-completion/completions/sacn"
+  "$program" completion fish >"$root/usr/share/fish/vendor_completions.d/sacn.fish"
+  "$program" completion zsh >"$root/usr/share/zsh/vendor-completions/_sacn"
+  install -m 644 "$top"/packaging/*.service "$root/lib/systemd/system/"
+  for it in "$top"/examples/*; do if [ -f "$it" ]; then install -m 644 "$it" "$root/usr/share/doc/sacn/examples/"; fi; done
+  install -m 644 "$top/README.md" "$top/docs/FILES.md" "$top/docs/PROTOCOL.md" "$root/usr/share/doc/sacn/"
+  packed "$root/usr/share/doc/sacn/changelog.gz" <"$top/CHANGELOG.md"
+  copyright >"$root/usr/share/doc/sacn/copyright"
+}
+
+copyright() {
+  printf 'Format: https://www.debian.org/doc/packaging-manuals/copyright-format/1.0/\nUpstream-Name: sacn\n\nFiles: *\n'
+  printf 'Copyright: 2026 Fetchserge maintainers\nLicense: Expat or Apache-2.0\n\nLicense: Expat\n'
+  sed -n '/^Permission/,$p' "$top/LICENSE-MIT" | sed 's/^$/./; s/^/ /'
+  printf '\nLicense: Apache-2.0\n On Debian systems the text of this licence stands in /usr/share/common-licenses/Apache-2.0.\n'
+}
+
+# control ARCHITECTURE PACKAGE DEPENDS SECTION: Debian's words on a package; then its description on standard input.
+control() {
+  printf 'Package: %s\nVersion: %s\nArchitecture: %s\nMaintainer: Fetchserge maintainers <maintainers@users.noreply.fetchserge.example>\n' "$2" "$version" "$1"
+  printf 'Depends: %s\nSection: %s\nPriority: optional\nInstalled-Size: %s\n' "$3" "$4" "$(du -sk "$root" | cut -f 1)"
+  cat
+}
+
+debian() {
+  find "$root" -newermt "@$moment" -print0 | xargs -0r touch -h -d "@$moment"
+  dpkg-deb --root-owner-group -Zxz --build "$root" "$folder/$1" >/dev/null
+  say "made $folder/$1"
+}
+
+for pair in x86_64:amd64 aarch64:arm64; do
+  processor=${pair%:*} architecture=${pair#*:}
+  root=$room/sacn_${version}_$architecture
+  tree "$root" "$processor"
+  tar -C "$room" --owner=0 --group=0 --numeric-owner --sort=name --mtime="@$moment" -czf "$folder/sacn_${version}_$architecture.tar.gz" "${root##*/}"
+  say "made $folder/sacn_${version}_$architecture.tar.gz"
+  install -d "$root/DEBIAN" "$root/usr/share/lintian/overrides"
+  install -m 644 "$top/packaging/sacn.lintian-overrides" "$root/usr/share/lintian/overrides/sacn"
+  install -m 755 "$top/packaging/postrm" "$root/DEBIAN/postrm"
+  control "$architecture" sacn "bash (>= 4.4), libc6 (>= 2.34)" net >"$root/DEBIAN/control" <<'TEXT'
+Description: streaming ACN for stage lighting: gateway, desk, watch
+ Both ends of ANSI E1.31-2018 (streaming ACN, sACN), each function proved to
+ keep its contract: a gateway that merges what consoles send and gives DMX512
+ frames, a desk that plays the cues of a show, a watch on the network with a
+ page for browsers, and an explainer of recordings.
+TEXT
+  debian "sacn_${version}_$architecture.deb"
+done

@@ -1,0 +1,160 @@
+# How the program runs, also where it is installed: what the launcher does around it that it can't do itself. It ends a desk by the end of its input, tells a
+# watch how large its terminal is, and joins multicast groups. Read by ./sacn and by a package's /usr/bin/sacn, which say in $sacn_join where sacn-join is.
+
+say() { echo "sacn: $*" >&2; }
+
+# Whether standard input is of use: a desk with a script, as one that a service starts, may have none.
+is_ordered() {
+  local word
+  [ /proc/self/fd/0 -ef /dev/null ] || return 0
+  for word in "$@"; do case $word in --script | --script=*) return 1 ;; esac; done
+}
+
+# Ends the feed, and with it the input of what runs; of a desk not in its first second, in which an input that ends is none.
+stop_feed() {
+  while [ $((SECONDS - since)) -lt "$calm" ]; do sleep 0.1 || true; done
+  kill "$feed" 2>/dev/null || true
+}
+
+# Runs a program whose clean end is the end of its standard input: INT, TERM and HUP end the feed, and not the program, which
+# then ends what it has lit. A second one changes nothing.
+feed() {
+  local feed= pid status since=$SECONDS calm=0 caught=
+  trap 'caught=1' INT TERM HUP
+  exec {in}<&0
+  # (A desk is ordered by its input; a watch only waits for the end of it, whatever stands there.)
+  if [ "$2" = desk ]; then calm=3; fi
+  if [ "$2" = desk ] && is_ordered "$@"; then
+    exec {out}< <(trap '' INT HUP; exec cat <&"$in")
+  else
+    exec {out}< <(trap '' INT HUP; exec sleep infinity)
+  fi
+  feed=$!
+  (trap '' INT TERM HUP; exec "$@" <&"$out" {in}<&- {out}<&-) &
+  pid=$!
+  exec {out}<&- {in}<&-
+  trap 'caught=1; stop_feed' INT TERM HUP
+  if [ -n "$caught" ]; then stop_feed; fi
+  # (A wait that a signal cuts short is made again: the shell keeps the status of a process that ended meanwhile.)
+  while caught= status=0; do
+    wait "$pid" || status=$?
+    [ -n "$caught" ] || break
+  done
+  kill "$feed" 2>/dev/null || true
+  exit "$status"
+}
+
+# Whether it serves a page, until it is stopped.
+serves() {
+  local word
+  for word in "$@"; do case $word in --page | --page=*) return 0 ;; esac; done
+  return 1
+}
+
+# The device of the default route, as Linux's table has it; nothing where there is none.
+default_device() {
+  local name destination
+  while read -r name destination _; do
+    if [ "$destination" = 00000000 ]; then echo "$name"; return; fi
+  done </proc/self/net/route
+}
+
+# Takes `--join`, `--join DEVICE` and `--join=DEVICE` out of a command's words: into `words` and `device`. The word behind it is its device where the machine has one of that
+# name, or where it is no option and no file.
+split_join() {
+  words=() device= has_join=
+  while [ $# != 0 ]; do
+    case $1 in
+      --join=*) has_join=1 device=${1#--join=} ;;
+      --join)
+        has_join=1
+        if [ $# -gt 1 ] && { [ -e "/sys/class/net/$2" ] || { [ "${2#-}" = "$2" ] && [ ! -e "$2" ]; }; }; then device=$2; shift; fi
+        ;;
+      *) words+=("$1") ;;
+    esac
+    shift
+  done
+}
+
+# What the words give an option, each on a line.
+given() {
+  local option=$1
+  shift
+  while [ $# != 0 ]; do
+    case $1 in
+      "$option") if [ $# -gt 1 ]; then echo "$2"; fi ;;
+      "$option"=*) echo "${1#*=}" ;;
+    esac
+    shift
+  done
+}
+
+# The file among a gateway's words: the one that is no option, nor an option's value.
+setup_among() {
+  while [ $# != 0 ]; do
+    case $1 in
+      --listen | --from | --widget | --seconds) shift ;;
+      -*) ;;
+      *) echo "$1"; return ;;
+    esac
+    [ $# = 0 ] || shift
+  done
+}
+
+# Joins the groups that a gateway or a watch wants, for as long as this shell lives or what it becomes.
+join_groups() {
+  local program=$1 command=$2 groups=(239.255.250.214) lists=() port universe line
+  shift 2
+  line=$(given --listen "$@")
+  if [ -n "${line//0.0.0.0/}" ]; then
+    say "--join beside --listen: what hears at an address of its own hears no group; leave --listen out, and name senders by --from where only some are to be heard"
+    exit 2
+  fi
+  if [ -z "$device" ]; then device=$(default_device); fi
+  if [ -z "$device" ]; then
+    say "--join: this machine has no default route, so it doesn't tell which device: name one, as --join eth0 (\`ip -brief link\` lists them)"
+    exit 4
+  fi
+  if [ ! -x "$sacn_join" ]; then
+    say "--join: ${sacn_join##*/} isn't there: it comes with the release, or \`cc -O2 -o $sacn_join runtime/join.c\` builds it"
+    exit 4
+  fi
+  if [ "$command" = gateway ]; then
+    # (a faulty setup joins none: the gateway itself tells its fault)
+    while read -r line; do
+      if [[ $line =~ (239\.255\.[0-9]+\.[0-9]+) ]]; then groups+=("${BASH_REMATCH[1]}"); fi
+    done < <("$program" groups "$(setup_among "$@")" --device lo 2>/dev/null || true)
+  else
+    for universe in $(given --universe "$@"); do
+      if [[ $universe =~ ^[0-9]{1,5}$ ]]; then groups+=("239.255.$((10#$universe / 256)).$((10#$universe % 256))"); fi
+    done
+    port=$(given --port "$@" | tail -n 1)
+    if [ "${#groups[@]}" = 1 ]; then lists=(--lists "${port:-5568}"); fi
+  fi
+  "$sacn_join" ${lists[@]+"${lists[@]}"} $$ "$device" "${groups[@]}" || exit $?
+}
+
+# Runs the program by its words, and becomes it where nothing has to be done around it.
+run() {
+  local program=$1 words=() device has_join
+  shift
+  # Where standard input is closed, nothing else may get its number.
+  [ -e /proc/self/fd/0 ] || exec </dev/null
+  case ${1-} in
+    gateway | watch)
+      split_join "$@"
+      set -- "${words[@]}"
+      if [ -n "$has_join" ]; then join_groups "$program" "$@"; fi
+      ;;
+  esac
+  case ${1-} in
+    desk) feed "$program" "$@" ;;
+    # How large the terminal is, which the program can't ask.
+    watch)
+      if [ -t 1 ] && read -r rows columns < <(stty size <&1 2>/dev/null); then export LINES=$rows COLUMNS=$columns; fi
+      feed "$program" "$@"
+      ;;
+    explain) if serves "$@"; then feed "$program" "$@"; else exec "$program" "$@"; fi ;;
+    *) exec "$program" "$@" ;;
+  esac
+}
