@@ -1,8 +1,8 @@
 //! The loops of a node, a gateway, a console and a desk, over devices in memory.
+use crate::comparison::compare;
 use crate::datagram::{incoming_in, sender_of};
 use crate::step::{Step, StepFault};
 use crate::tellers::{ListOrders, Tally};
-use crate::written::compare;
 use sacn_console::{Command, ConsoleCore, read_script, read_show};
 use sacn_edge::memory::{Incoming as Bringing, ListClock, MemoryLink};
 use sacn_edge::{ConsoleReport, WriterOut, run_console, run_node};
@@ -18,8 +18,8 @@ pub struct Loops {
     incoming: Vec<Incoming>,
     senders: Vec<Octets4>,
     orders: Vec<(u64, Command)>,
-    written: Vec<u8>,
-    handed: Vec<Vec<u8>>,
+    output: Vec<u8>,
+    sends: Vec<Vec<u8>>,
 }
 
 impl Loops {
@@ -29,8 +29,8 @@ impl Loops {
             incoming: Vec::new(alloc),
             senders: Vec::new(alloc),
             orders: Vec::new(alloc),
-            written: Vec::new(alloc),
-            handed: Vec::new(alloc),
+            output: Vec::new(alloc),
+            sends: Vec::new(alloc),
         }
     }
 
@@ -59,7 +59,7 @@ impl Loops {
                 self.say_datagram(step);
                 Ok(())
             }
-            "written" => compare(step, self.written.as_slice()),
+            "written" => compare(step, self.output.as_slice()),
             _ => Err(StepFault::UnknownCall),
         }
     }
@@ -68,7 +68,7 @@ impl Loops {
     fn carry(&mut self, step: &mut Step<'_>) -> Result<(), StepFault> {
         let now = step.number();
         let sender = sender_of(step.word())?;
-        let Some(octets) = self.handed.get(step.number_to(1000) as usize) else {
+        let Some(octets) = self.sends.get(step.number_to(1000) as usize) else {
             return Err(StepFault::NotReady);
         };
         let octets = Vec::from_slice(step.alloc(), octets.as_slice())?;
@@ -110,7 +110,7 @@ impl Loops {
             step.say(&format_args!("received {}", report.received));
             step.say(&format_args!("failed {}", report.failed));
         }
-        self.written = out.writer;
+        self.output = out.writer;
         Ok(())
     }
 
@@ -137,7 +137,7 @@ impl Loops {
         {
             tally.say(step);
         }
-        self.written = out.writer;
+        self.output = out.writer;
         Ok(())
     }
 
@@ -173,10 +173,10 @@ impl Loops {
 
     /// Keeps what was handed over.
     fn keep(&mut self, step: &Step<'_>, link: &MemoryLink) -> Result<(), StepFault> {
-        self.handed.clear();
+        self.sends.clear();
         for octets in link.handed() {
             let octets = Vec::from_slice(step.alloc(), octets.as_slice())?;
-            push(&mut self.handed, octets)?;
+            push(&mut self.sends, octets)?;
         }
         Ok(())
     }
@@ -184,7 +184,7 @@ impl Loops {
     /// Says of a datagram that was handed over, counted from 0, its length, and of one of 512 slots the number, the options, the
     /// universe and the slots; `none` where there is no such datagram.
     fn say_datagram(&self, step: &mut Step<'_>) {
-        let Some(octets) = self.handed.get(step.number_to(1000) as usize) else {
+        let Some(octets) = self.sends.get(step.number_to(1000) as usize) else {
             step.say(&"none");
             return;
         };
