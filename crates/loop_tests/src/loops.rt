@@ -1,9 +1,11 @@
 //! Links and sinks over memory that cut and that fail.
+ghost use Rattle.std.specs.Prelude.{◌≡◌, false};
+
 use fixtures::packets::{DESK, TWO_SLOTS, data};
 use fixtures::texts::{ONE_PORT, frame_line};
 use fixtures::writers::Stopping;
 use sacn_edge::memory::{Incoming, ListClock, MemoryLink};
-use sacn_edge::{Link, Out, Received, WriteFailed, WriterOut, run_node, write_text};
+use sacn_edge::{Link, NodeReport, Out, Received, WriteFailed, WriterOut, run_node, write_text};
 use sacn_node::{NodeCore, read_node};
 use std::alloc::{AllocError, Global};
 use std::io::{self, Write};
@@ -53,32 +55,46 @@ const FAILURES: [(usize, usize, Received); 4] = [
     (3, 1931, Received::Datagram(1)),
 ];
 
-/// Whether three turns at 0, 100 and 2500, of which a write fails, leave so many octets of the text, and then this is received.
-fn fails_so(alloc: Global, bad: usize, len: usize, next: Received) -> Option<bool> {
-    let text = lost_text(alloc).ok()?;
-    let mut link = link(alloc).ok()?;
+/// What three turns at 0, 100 and 2500 give. None where there is no memory.
+fn run_three_turns<O: Out>(
+    alloc: Global,
+    link: &mut MemoryLink,
+    out: &mut O,
+) -> Option<Result<NodeReport, WriteFailed>>
+    requires { O.failed out.old ≡ false }
+{
     let mut clock = ListClock::new(Vec::from_slice(alloc, &[0, 100, 2500]).ok()?);
     let mut node = port_node(alloc)?;
-    let mut out = WriterOut::new(Stopping::new(alloc, 900, bad));
-    let told = run_node(&mut link, &mut clock, &mut out, &mut node, 3);
-    let held = out.writer.held.as_slice();
-    let mut buffer = [0; 2048];
-    Some(
-        told == Err(WriteFailed)
-            && out.has_failed()
-            && held.len() == len
-            && text.as_slice().starts_with(held)
-            && link.receive(&mut buffer) == next,
-    )
+    Some(run_node(link, &mut clock, out, &mut node, 3))
+}
+
+fn is_prefix(alloc: Global, held: &[u8], len: usize) -> bool {
+    match lost_text(alloc) {
+        Ok(text) => held.len() == len && text.as_slice().starts_with(held),
+        Err(_) => false,
+    }
+}
+
+/// Whether a run whose write of one number fails leaves so many octets of the text, and then this is received.
+fn fails_so(alloc: Global, bad: usize, len: usize, next: Received) -> bool {
+    match link(alloc) {
+        Ok(mut link) => {
+            let mut out = WriterOut::new(Stopping::new(alloc, 900, bad));
+            let told = run_three_turns(alloc, &mut link, &mut out);
+            let mut buffer = [0; 2048];
+            told == Some(Err(WriteFailed))
+                && out.has_failed()
+                && is_prefix(alloc, out.writer.held.as_slice(), len)
+                && link.receive(&mut buffer) == next
+        }
+        Err(_) => false,
+    }
 }
 
 #[test]
 fn what_stands_after_a_failed_write_is_a_prefix(rt: HostRuntime) {
     for (bad, len, next) in FAILURES {
-        assert!(rt;
-            fails_so(rt.alloc(), bad, len, next) == Some(true),
-            "at write {bad}"
-        );
+        assert!(rt; fails_so(rt.alloc(), bad, len, next), "at write {bad}");
     }
 }
 

@@ -56,11 +56,16 @@ fn is_bound_once<R: Net>(rt: &R) -> Option<bool> {
     Some(UdpLink::bind(rt, 5573, &[]).is_err())
 }
 
+/// A console of the desk, whose first number is 0.
+fn desk(alloc: Global) -> Option<ConsoleCore> {
+    let show = read_show(alloc, DESK).ok()?;
+    ConsoleCore::new(alloc, &show, 0).ok()
+}
+
 /// Whether a console sends one datagram over this link.
 fn sends_one(alloc: Global, link: &mut UdpLink) -> Option<bool> {
     let script = read_script(alloc, "0 go\n").ok()?;
-    let show = read_show(alloc, DESK).ok()?;
-    let mut core = ConsoleCore::new(alloc, &show, 0).ok()?;
+    let mut core = desk(alloc)?;
     let mut clock = ListClock::new(Vec::new(alloc));
     let sent = run_console(link, &mut clock, &mut core, script.as_slice(), 1);
     Some((sent.sent, sent.failed, sent.refused) == (1, 0, 0))

@@ -44,53 +44,51 @@ fn data_text(alloc: Global) -> Result<Vec<u8>, AllocError> {
     Ok(text)
 }
 
-/// Whether the whole text of a data packet and a page is written, or a prefix of it where a request for memory is refused.
-fn is_prefix_told(alloc: Global) -> Option<bool> {
-    let mut wanted = data_text(alloc).ok()?;
-    wanted.extend_from_slice(PAGE.as_bytes()).ok()?;
-    let datagrams = vec![in alloc; empty_data(alloc).ok()?, empty_page(alloc).ok()?].ok()?;
+/// Whether the whole text is written, or a prefix of it where a request for memory is refused.
+fn is_prefix_told(alloc: Global, datagrams: &[Vec<u8>], wanted: &[u8]) -> bool {
     let mut out = WriterOut::new(Vec::new(alloc));
-    let is_answered = match decode_text(alloc, datagrams.as_slice(), &mut out) {
+    let is_answered = match decode_text(alloc, datagrams, &mut out) {
         Ok(()) => out.writer.len() == wanted.len(),
         Err(fault) => matches!(fault, DecodeFault::OutOfMemory | DecodeFault::WriteFailed),
     };
-    Some(is_answered && wanted.as_slice().starts_with(out.writer.as_slice()))
+    is_answered && wanted.starts_with(out.writer.as_slice())
 }
 
 #[test]
-fn want_of_memory_leaves_a_prefix(rt: HostRuntime) -> Result<(), &'static str> {
-    let is_told = is_prefix_told(rt.alloc()).ok_or("no datagrams")?;
-    assert!(rt; is_told);
+fn want_of_memory_leaves_a_prefix(rt: HostRuntime) -> Result<(), AllocError> {
+    let mut wanted = data_text(rt.alloc())?;
+    wanted.extend_from_slice(PAGE.as_bytes())?;
+    let datagrams = vec![in rt.alloc(); empty_data(rt.alloc())?, empty_page(rt.alloc())?]?;
+    assert!(rt; is_prefix_told(rt.alloc(), datagrams.as_slice(), wanted.as_slice()));
     Ok(())
 }
 
 /// Whether a sink that takes 100 octets a write and fails at one holds what stands before. Twelve writes take the text.
-fn holds_decoded(alloc: Global, bad: usize) -> Option<bool> {
-    let wanted = data_text(alloc).ok()?;
-    let datagrams = vec![in alloc; empty_data(alloc).ok()?].ok()?;
+fn holds_decoded(alloc: Global, datagrams: &[Vec<u8>], wanted: &[u8], bad: usize) -> bool {
     let mut out = WriterOut::new(Stopping::new(alloc, 100, bad));
-    let answer = decode_text(alloc, datagrams.as_slice(), &mut out);
+    let answer = decode_text(alloc, datagrams, &mut out);
     let held = out.writer.held.as_slice();
     let fault = if bad < 12 {
         Some(DecodeFault::WriteFailed)
     } else {
         None
     };
-    Some(
-        answer.err() == fault
-            && held.len() == (100usize.saturating_mul(bad)).min(wanted.len())
-            && wanted.as_slice().starts_with(held),
-    )
+    answer.err() == fault
+        && held.len() == (100usize.saturating_mul(bad)).min(wanted.len())
+        && wanted.starts_with(held)
 }
 
 #[test]
-fn a_sink_that_fails_holds_a_prefix(rt: HostRuntime) {
+fn a_sink_that_fails_holds_a_prefix(rt: HostRuntime) -> Result<(), AllocError> {
+    let wanted = data_text(rt.alloc())?;
+    let datagrams = vec![in rt.alloc(); empty_data(rt.alloc())?]?;
     for bad in 0..13usize {
         assert!(rt;
-            holds_decoded(rt.alloc(), bad) == Some(true),
+            holds_decoded(rt.alloc(), datagrams.as_slice(), wanted.as_slice(), bad),
             "at write {bad}"
         );
     }
+    Ok(())
 }
 
 /// The lines of the example's looks: of 11, 15, 14, 14 and 16 octets.

@@ -1,8 +1,8 @@
 //! The loops of a node, a gateway, a console and a desk, over devices in memory.
+use crate::comparison::compare;
 use crate::datagram::{incoming_in, sender_of};
 use crate::step::{Step, StepFault};
 use crate::tellers::{ListOrders, Tally};
-use crate::written::compare;
 use sacn_console::{Command, ConsoleCore, read_script, read_show};
 use sacn_edge::memory::{Incoming as Bringing, ListClock, MemoryLink};
 use sacn_edge::{ConsoleReport, WriterOut, run_console, run_node};
@@ -18,8 +18,8 @@ pub struct Loops {
     incoming: Vec<Incoming>,
     senders: Vec<Octets4>,
     orders: Vec<(u64, Command)>,
-    written: Vec<u8>,
-    handed: Vec<Vec<u8>>,
+    output: Vec<u8>,
+    sends: Vec<Vec<u8>>,
 }
 
 impl Loops {
@@ -29,8 +29,8 @@ impl Loops {
             incoming: Vec::new(alloc),
             senders: Vec::new(alloc),
             orders: Vec::new(alloc),
-            written: Vec::new(alloc),
-            handed: Vec::new(alloc),
+            output: Vec::new(alloc),
+            sends: Vec::new(alloc),
         }
     }
 
@@ -55,8 +55,11 @@ impl Loops {
             "gateway" => self.gateway(step),
             "console" => self.console(step),
             "desk" => self.desk(step),
-            "datagram" => self.say_datagram(step),
-            "written" => compare(step, self.written.as_slice()),
+            "datagram" => {
+                self.say_datagram(step);
+                Ok(())
+            }
+            "written" => compare(step, self.output.as_slice()),
             _ => Err(StepFault::UnknownCall),
         }
     }
@@ -65,7 +68,7 @@ impl Loops {
     fn carry(&mut self, step: &mut Step<'_>) -> Result<(), StepFault> {
         let now = step.number();
         let sender = sender_of(step.word())?;
-        let Some(octets) = self.handed.get(step.number_to(1000) as usize) else {
+        let Some(octets) = self.sends.get(step.number_to(1000) as usize) else {
             return Err(StepFault::NotReady);
         };
         let octets = Vec::from_slice(step.alloc(), octets.as_slice())?;
@@ -97,17 +100,17 @@ impl Loops {
     }
 
     fn node(&mut self, step: &mut Step<'_>) -> Result<(), StepFault> {
-        let mut core = node_of(step)?;
-        let mut link = self.link(step.alloc(), None)?;
         let readings = readings_in(step)?;
         let turns = readings.len() as u64;
         let mut clock = ListClock::new(readings);
+        let mut link = self.link(step.alloc(), None)?;
+        let mut core = node_of(step)?;
         let mut out = WriterOut::new(Vec::new(step.alloc()));
         if let Ok(report) = run_node(&mut link, &mut clock, &mut out, &mut core, turns) {
             step.say(&format_args!("received {}", report.received));
             step.say(&format_args!("failed {}", report.failed));
         }
-        self.written = out.writer;
+        self.output = out.writer;
         Ok(())
     }
 
@@ -134,21 +137,21 @@ impl Loops {
         {
             tally.say(step);
         }
-        self.written = out.writer;
+        self.output = out.writer;
         Ok(())
     }
 
     fn console(&mut self, step: &mut Step<'_>) -> Result<(), StepFault> {
-        let mut core = console_of(step)?;
         let failing = match step.word() {
             "works" => None,
             "fails" => Some(step.number()),
             _ => return Err(StepFault::Word),
         };
-        let mut link = self.link(step.alloc(), failing)?;
         let readings = readings_in(step)?;
         let turns = readings.len() as u64;
         let mut clock = ListClock::new(readings);
+        let mut link = self.link(step.alloc(), failing)?;
+        let mut core = console_of(step)?;
         let orders = self.orders.as_slice();
         let report = run_console(&mut link, &mut clock, &mut core, orders, turns);
         say_report(step, &report);
@@ -156,9 +159,9 @@ impl Loops {
     }
 
     fn desk(&mut self, step: &mut Step<'_>) -> Result<(), StepFault> {
-        let mut core = console_of(step)?;
-        let mut link = self.link(step.alloc(), None)?;
         let readings = readings_in(step)?;
+        let mut link = self.link(step.alloc(), None)?;
+        let mut core = console_of(step)?;
         let list = mem::replace(&mut self.orders, Vec::new(step.alloc()));
         let mut orders = ListOrders::new(list, readings.len());
         let mut clock = ListClock::new(readings);
@@ -170,20 +173,20 @@ impl Loops {
 
     /// Keeps what was handed over.
     fn keep(&mut self, step: &Step<'_>, link: &MemoryLink) -> Result<(), StepFault> {
-        self.handed.clear();
+        self.sends.clear();
         for octets in link.handed() {
             let octets = Vec::from_slice(step.alloc(), octets.as_slice())?;
-            push(&mut self.handed, octets)?;
+            push(&mut self.sends, octets)?;
         }
         Ok(())
     }
 
     /// Says of a datagram that was handed over, counted from 0, its length, and of one of 512 slots the number, the options, the
     /// universe and the slots; `none` where there is no such datagram.
-    fn say_datagram(&self, step: &mut Step<'_>) -> Result<(), StepFault> {
-        let Some(octets) = self.handed.get(step.number_to(1000) as usize) else {
+    fn say_datagram(&self, step: &mut Step<'_>) {
+        let Some(octets) = self.sends.get(step.number_to(1000) as usize) else {
             step.say(&"none");
-            return Ok(());
+            return;
         };
         step.say(&octets.len());
         if octets.len() == 638 {
@@ -193,7 +196,6 @@ impl Loops {
             step.say(&"slots");
             step.say_octets(&octets.as_slice()[126..]);
         }
-        Ok(())
     }
 }
 

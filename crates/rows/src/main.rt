@@ -2,6 +2,7 @@
 //! on standard input, and the program's word is the name by which faulty lines are told. `docs/ROWS.md` has the form of rows.
 #![tactic(auto)]
 
+mod comparison;
 mod console;
 mod cues;
 mod datagram;
@@ -24,7 +25,6 @@ mod texts;
 mod viewers;
 mod watches;
 mod worlds;
-mod written;
 
 use run::read_rows;
 use std::process::ExitCode;

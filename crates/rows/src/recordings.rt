@@ -1,8 +1,8 @@
 //! Recordings of a network, laid out octet by octet, what is read of them, and what is told of them.
+use crate::comparison::compare;
 use crate::datagram::datagram_in;
 use crate::step::{Step, StepFault};
 use crate::watches::form_in;
-use crate::written::compare;
 use sacn_capture::{Capture, Datagram, LinkType, Passed, datagram_in as carried_in};
 use sacn_explain::{Options, explain};
 use std::alloc::{AllocError, Global};
@@ -15,7 +15,7 @@ const ETHERNET: &[u8] = b"\x01\0\x5e\x7f\0\x01\x02\0\0\0\0\x01\x08\0";
 pub struct Recordings {
     alloc: Global,
     file: Vec<u8>,
-    written: Vec<u8>,
+    output: Vec<u8>,
 }
 
 impl Recordings {
@@ -24,7 +24,7 @@ impl Recordings {
         Recordings {
             alloc,
             file: Vec::new(alloc),
-            written: Vec::new(alloc),
+            output: Vec::new(alloc),
         }
     }
 
@@ -51,10 +51,10 @@ impl Recordings {
             }
             "read" => self.read(step),
             "explain" => self.explain(step)?,
-            "written" => compare(step, self.written.as_slice())?,
+            "written" => compare(step, self.output.as_slice())?,
             "begun" => {
-                let len = self.written.len().min(step.text().len());
-                compare(step, &self.written.as_slice()[..len])?;
+                let len = self.output.len().min(step.text().len());
+                compare(step, &self.output.as_slice()[..len])?;
             }
             _ => return Err(StepFault::UnknownCall),
         }
@@ -69,17 +69,15 @@ impl Recordings {
         let port = step.short();
         let payload = datagram_in(step)?;
         let len = payload.len().min(1000) as u16;
+        let [total_high, total_low] = (28 + len).to_be_bytes();
+        let [port_high, port_low] = port.to_be_bytes();
+        let [len_high, len_low] = (8 + len).to_be_bytes();
         self.add_record(moment, 42 + len)?;
         self.file.extend_from_slice(ETHERNET)?;
-        self.file.extend_from_slice(b"\x45\0")?;
-        self.file.extend_from_slice(&(28 + len).to_be_bytes())?;
-        self.file
-            .extend_from_slice(b"\0\0\0\0\x40\x11\0\0\x0a\0\0")?;
-        self.file
-            .extend_from_slice(&[host, 0xef, 0xff, 0, 1, 0x13, 0x88])?;
-        self.file.extend_from_slice(&port.to_be_bytes())?;
-        self.file.extend_from_slice(&(8 + len).to_be_bytes())?;
-        self.file.extend_from_slice(b"\0\0")?;
+        self.file.extend_from_slice(&[
+            0x45, 0, total_high, total_low, 0, 0, 0, 0, 0x40, 0x11, 0, 0, 10, 0, 0, host, 239, 255,
+            0, 1, 0x13, 0x88, port_high, port_low, len_high, len_low, 0, 0,
+        ])?;
         self.file.extend_from_slice(payload.as_slice())?;
         Ok(())
     }
@@ -111,9 +109,9 @@ impl Recordings {
             universes: if universe[0] == 0 { &[] } else { &universe },
             form,
         };
-        self.written.clear();
+        self.output.clear();
         let file = self.file.as_slice();
-        match explain(self.alloc, file, &options, None, &mut self.written) {
+        match explain(self.alloc, file, &options, None, &mut self.output) {
             Ok(_) => step.say(&"ok"),
             Err(fault) => step.say(&fault),
         }

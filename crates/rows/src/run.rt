@@ -89,7 +89,7 @@ impl<'a> Run<'a> {
         let call = line.get(..equal).unwrap_or(&[]);
         let wanted = line.get(equal.saturating_add(1)..).unwrap_or(&[]);
         let wanted = wanted.join(self.alloc, " ")?;
-        let answer = self.answer(Vec::from_slice(self.alloc, call)?);
+        let answer = self.answer(call);
         self.text.clear();
         match answer {
             Ok(said) if said == wanted => Ok(()),
@@ -118,11 +118,16 @@ impl<'a> Run<'a> {
     }
 
     /// The answer of the story's subject.
-    fn answer(&mut self, call: Vec<&'a str>) -> Result<String, StepFault> {
+    fn answer(&mut self, call: &[&'a str]) -> Result<String, StepFault> {
         let Some(subject) = &mut self.subject else {
             return Err(StepFault::NoStory);
         };
-        let mut step = Step::new(self.alloc, call, self.text.as_str());
+        // The words are lent for as long as the text, which is less than the file's.
+        let mut words = Vec::new(self.alloc);
+        for word in call {
+            words.push(*word).map_err(AllocError::from)?;
+        }
+        let mut step = Step::new(self.alloc, words, self.text.as_str());
         subject.answer(&mut step)?;
         step.ending()
     }

@@ -58,6 +58,7 @@ impl Notes for Tally {
 pub struct ListOrders {
     list: Vec<(u64, Command)>,
     next: usize,
+    /// How many orders the desk accepted.
     pub accepted: u64,
     rounds: usize,
 }

@@ -1,8 +1,8 @@
 //! What is printed of datagrams: decoded, watched, and on a terminal's screen.
+use crate::comparison::compare;
 use crate::datagram::{datagram_in, incoming_in};
 use crate::loops::push;
 use crate::step::{Step, StepFault};
-use crate::written::compare;
 use sacn_edge::WriterOut;
 use sacn_explain::{Form, Options};
 use sacn_live::memory::{Incoming, MemoryReceiver};
@@ -19,7 +19,7 @@ pub struct Watches {
     datagrams: Vec<Vec<u8>>,
     incoming: Vec<Incoming>,
     view: View,
-    written: Vec<u8>,
+    output: Vec<u8>,
 }
 
 impl Watches {
@@ -37,7 +37,7 @@ impl Watches {
             datagrams: Vec::new(alloc),
             incoming: Vec::new(alloc),
             view,
-            written: Vec::new(alloc),
+            output: Vec::new(alloc),
         })
     }
 
@@ -64,7 +64,7 @@ impl Watches {
                 self.view.take(now, SENDER, datagram.as_slice());
             }
             "screen" => self.draw(step)?,
-            "written" => compare(step, self.written.as_slice())?,
+            "written" => compare(step, self.output.as_slice())?,
             _ => return Err(StepFault::UnknownCall),
         }
         Ok(())
@@ -73,7 +73,7 @@ impl Watches {
     fn decode(&mut self, step: &mut Step<'_>) {
         let mut out = WriterOut::new(Vec::new(self.alloc));
         step.say_done(decode_text(self.alloc, self.datagrams.as_slice(), &mut out));
-        self.written = out.writer;
+        self.output = out.writer;
     }
 
     fn watch(&mut self, step: &mut Step<'_>) -> Result<(), StepFault> {
@@ -85,18 +85,12 @@ impl Watches {
         let until = step.number();
         let incoming = mem::replace(&mut self.incoming, Vec::new(self.alloc));
         let mut listener = MemoryReceiver::new(incoming, until);
-        self.written.clear();
-        step.say_done(watch_lines(
-            self.alloc,
-            &mut listener,
-            &options,
-            until,
-            &mut self.written,
-        ));
+        self.output.clear();
+        step.say_done(watch_lines(self.alloc, &mut listener, &options, until, &mut self.output));
         Ok(())
     }
 
-    /// Draws the screen. In what is written an escape octet stands as `^[`, and a line ends where a terminal's row is cleared.
+    /// Draws the screen. In what is written an escape octet stands as `^`, and a line ends where a terminal's row is cleared.
     fn draw(&mut self, step: &mut Step<'_>) -> Result<(), StepFault> {
         let now = step.number();
         let size = Size {
@@ -113,7 +107,7 @@ impl Watches {
         let text = page.text(self.alloc, has_colours)?;
         let rows = text.replace(self.alloc, "\u{1b}[K", "\u{1b}[K\n")?;
         let rows = rows.replace(self.alloc, "\u{1b}", "^")?;
-        self.written = Vec::from_slice(self.alloc, rows.as_bytes())?;
+        self.output = Vec::from_slice(self.alloc, rows.as_bytes())?;
         Ok(())
     }
 }

@@ -1,10 +1,10 @@
 //! World files, schedules, worlds and their simulations.
+use crate::comparison::compare;
 use crate::loops::push;
 use crate::node::say_node_taken;
 use crate::sources::say_held;
 use crate::step::{Step, StepFault};
 use crate::texts::say_one;
-use crate::written::compare;
 use fixtures::packets::CID;
 use sacn_console::Show;
 use sacn_edge::WriterOut;
@@ -24,7 +24,7 @@ pub struct Worlds {
     schedule: String,
     events: Vec<Event>,
     world: Option<World>,
-    written: Vec<u8>,
+    output: Vec<u8>,
 }
 
 impl Worlds {
@@ -38,7 +38,7 @@ impl Worlds {
             schedule: String::new(alloc),
             events: Vec::new(alloc),
             world: None,
-            written: Vec::new(alloc),
+            output: Vec::new(alloc),
         }
     }
 
@@ -55,7 +55,7 @@ impl Worlds {
                 self.read(step, text);
             }
             "edit" => {
-                let text = edited(step, self.text.as_str())?;
+                let text = edited_text(step, self.text.as_str())?;
                 self.read(step, text.as_str());
             }
             "also" => self.also(step)?,
@@ -69,7 +69,7 @@ impl Worlds {
             "place" => self.say_place(step)?,
             "held" => self.say_held(step)?,
             "simulate" => self.simulate(step),
-            "written" => compare(step, self.written.as_slice())?,
+            "written" => compare(step, self.output.as_slice())?,
             word => {
                 let event = event_in(step, word)?;
                 self.step(step, &event)?;
@@ -159,7 +159,7 @@ impl Worlds {
     }
 
     fn step(&mut self, step: &mut Step<'_>, event: &Event) -> Result<(), StepFault> {
-        match self.made()?.step(event) {
+        match self.world_mut()?.step(event) {
             Ok(answer) => say_answer(step, &answer),
             Err(fault) => step.say_name(&fault),
         }
@@ -169,7 +169,7 @@ impl Worlds {
     /// Takes all events of the schedule, and says the answers, each after a `;` but the first; or the step that is refused and why.
     fn run(&mut self, step: &mut Step<'_>) -> Result<(), StepFault> {
         let events = mem::replace(&mut self.events, Vec::new(self.alloc));
-        match self.made()?.run(events.as_slice()) {
+        match self.world_mut()?.run(events.as_slice()) {
             Ok(answers) => {
                 for (at, answer) in answers.iter().enumerate() {
                     if at > 0 {
@@ -189,7 +189,7 @@ impl Worlds {
     /// Polls console 0 so many times, a second apart from 0 on, and says how often it sent.
     fn polls(&mut self, step: &mut Step<'_>) -> Result<(), StepFault> {
         let count = step.number_to(10_000);
-        let world = self.made()?;
+        let world = self.world_mut()?;
         let mut sent = 0u64;
         for second in 0..count {
             let event = Event::Poll(0, second.saturating_mul(1000));
@@ -202,7 +202,7 @@ impl Worlds {
     }
 
     /// The world.
-    fn made(&mut self) -> Result<&mut World, StepFault> {
+    fn world_mut(&mut self) -> Result<&mut World, StepFault> {
         match &mut self.world {
             Some(world) => Ok(world),
             None => Err(StepFault::NotReady),
@@ -212,7 +212,7 @@ impl Worlds {
     /// Says the place of the packet that a node holds of the source.
     fn say_place(&mut self, step: &mut Step<'_>) -> Result<(), StepFault> {
         let (node, universe) = (step.number_to(1000) as usize, step.short());
-        match self.made()?.place(node, &CID, universe) {
+        match self.world_mut()?.place(node, &CID, universe) {
             Some(place) => step.say(&place),
             None => step.say(&"none"),
         }
@@ -222,7 +222,7 @@ impl Worlds {
     /// Says what a node holds of the source.
     fn say_held(&mut self, step: &mut Step<'_>) -> Result<(), StepFault> {
         let (node, universe) = (step.number_to(1000) as usize, step.short());
-        say_held(step, self.made()?.held(node, universe, &CID));
+        say_held(step, self.world_mut()?.held(node, universe, &CID));
         Ok(())
     }
 
@@ -239,12 +239,12 @@ impl Worlds {
             Ok(()) => step.say(&"ok"),
             Err(fault) => step.say(&format_args!("fault {}", fault.number())),
         }
-        self.written = out.writer;
+        self.output = out.writer;
     }
 }
 
 /// A text with that before the step in place of its lines from the first number on up to the second, counted from 0.
-fn edited(step: &mut Step<'_>, text: &str) -> Result<String, StepFault> {
+fn edited_text(step: &mut Step<'_>, text: &str) -> Result<String, StepFault> {
     let (from, to) = (step.number() as usize, step.number() as usize);
     let mut whole = String::new(step.alloc());
     for (at, line) in text.lines().enumerate() {

@@ -15,7 +15,7 @@ pub fn compare(step: &mut Step<'_>, written: &[u8]) -> Result<(), StepFault> {
     let Ok(text) = str::from_utf8(written) else {
         return Err(StepFault::NotReady);
     };
-    let short = shortened(step.alloc(), text)?;
+    let short = with_short_runs(step.alloc(), text)?;
     let mut wanted = step.text().split('\n');
     for (at, line) in short.as_str().split('\n').enumerate() {
         if wanted.next() != Some(line) {
@@ -29,7 +29,7 @@ pub fn compare(step: &mut Step<'_>, written: &[u8]) -> Result<(), StepFault> {
     Ok(())
 }
 
-fn shortened(alloc: Global, text: &str) -> Result<String, AllocError> {
+fn with_short_runs(alloc: Global, text: &str) -> Result<String, AllocError> {
     let mut short = String::new(alloc);
     let mut run = ('\n', 0usize);
     for letter in text.chars() {
