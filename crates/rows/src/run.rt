@@ -20,7 +20,6 @@ struct Run<'a> {
     alloc: Global,
     name: &'a str,
     family: &'a str,
-    subject: Option<Subject>,
     text: String,
     report: String,
     faults: u64,
@@ -37,7 +36,12 @@ impl<'a> Run<'a> {
     }
 
     /// Reads a line, whose number counts from 1.
-    fn read(&mut self, number: usize, line: &'a str) -> Result<(), AllocError> {
+    fn read(
+        &mut self,
+        subject: &mut Option<Subject>,
+        number: usize,
+        line: &'a str,
+    ) -> Result<(), AllocError> {
         if line.len() > MAX_LINE_OCTETS {
             return self.tell(number, "the line has more than 4000 octets");
         }
@@ -48,31 +52,27 @@ impl<'a> Run<'a> {
         match found.as_slice() {
             [] => Ok(()),
             [word, ..] if word.starts_with('#') => Ok(()),
-            ["of", family] if self.family.is_empty() => self.open(number, family),
+            ["of", family] if self.family.is_empty() => {
+                self.family = family;
+                self.renew(subject, number)
+            }
             ["of", ..] => self.tell(number, "the family was said before, or isn't one word"),
             _ if self.family.is_empty() => self.tell(number, "no family was said before"),
-            ["story", _, ..] => self.begin(number),
+            ["story", _, ..] => {
+                self.stories = self.stories.saturating_add(1);
+                self.text.clear();
+                self.renew(subject, number)
+            }
             ["story"] => self.tell(number, "a story has no name"),
-            _ => self.step(number, found),
+            _ => self.step(subject, number, line),
         }
     }
 
-    /// Takes the family of the file's calls.
-    fn open(&mut self, number: usize, family: &'a str) -> Result<(), AllocError> {
-        self.family = family;
-        match Subject::new(self.alloc, family) {
-            Ok(_) => Ok(()),
-            Err(fault) => self.tell(number, fault.text()),
-        }
-    }
-
-    /// Begins a story.
-    fn begin(&mut self, number: usize) -> Result<(), AllocError> {
-        self.stories = self.stories.saturating_add(1);
-        self.text.clear();
+    /// Puts a fresh subject of the file's family in the place of the one before.
+    fn renew(&mut self, subject: &mut Option<Subject>, number: usize) -> Result<(), AllocError> {
         match Subject::new(self.alloc, self.family) {
-            Ok(subject) => {
-                self.subject = Some(subject);
+            Ok(fresh) => {
+                *subject = Some(fresh);
                 Ok(())
             }
             Err(fault) => self.tell(number, fault.text()),
@@ -80,16 +80,15 @@ impl<'a> Run<'a> {
     }
 
     /// Makes a step, and compares its answer.
-    fn step(&mut self, number: usize, line: Vec<&'a str>) -> Result<(), AllocError> {
+    fn step(
+        &mut self,
+        subject: &mut Option<Subject>,
+        number: usize,
+        line: &str,
+    ) -> Result<(), AllocError> {
         self.steps = self.steps.saturating_add(1);
-        let equal = line
-            .iter()
-            .position(|word| *word == "=")
-            .unwrap_or(line.len());
-        let call = line.get(..equal).unwrap_or(&[]);
-        let wanted = line.get(equal.saturating_add(1)..).unwrap_or(&[]);
-        let wanted = wanted.join(self.alloc, " ")?;
-        let answer = self.answer(call);
+        let wanted = wanted_in(self.alloc, line)?;
+        let answer = self.answer(subject, line);
         self.text.clear();
         match answer {
             Ok(said) if said == wanted => Ok(()),
@@ -99,6 +98,23 @@ impl<'a> Run<'a> {
             }
             Err(fault) => self.tell(number, fault.text()),
         }
+    }
+
+    /// The answer of the story's subject to the call of a line.
+    fn answer<'x>(
+        &'x self,
+        subject: &mut Option<Subject>,
+        line: &'x str,
+    ) -> Result<String, StepFault> {
+        let subject = match subject {
+            Some(subject) if self.stories > 0 => subject,
+            _ => return Err(StepFault::NoStory),
+        };
+        let mut call = words(self.alloc, line)?;
+        call.truncate(place_of_equal(call.as_slice()));
+        let mut step = Step::new(self.alloc, call, self.text.as_str());
+        subject.answer(&mut step)?;
+        step.ending()
     }
 
     /// What came of the whole file.
@@ -116,21 +132,23 @@ impl<'a> Run<'a> {
             is_good,
         })
     }
+}
 
-    /// The answer of the story's subject.
-    fn answer(&mut self, call: &[&'a str]) -> Result<String, StepFault> {
-        let Some(subject) = &mut self.subject else {
-            return Err(StepFault::NoStory);
-        };
-        // The words are lent for as long as the text, which is less than the file's.
-        let mut words = Vec::new(self.alloc);
-        for word in call {
-            words.push(*word).map_err(AllocError::from)?;
+/// The place of the first word that is `=`, or how many words there are.
+fn place_of_equal(words: &[&str]) -> usize {
+    for at in 0..words.len() {
+        if words[at] == "=" {
+            return at;
         }
-        let mut step = Step::new(self.alloc, words, self.text.as_str());
-        subject.answer(&mut step)?;
-        step.ending()
     }
+    words.len()
+}
+
+/// The words after the first `=` of a line, each parted from the next by a space.
+fn wanted_in(alloc: Global, line: &str) -> Result<String, AllocError> {
+    let found = words(alloc, line)?;
+    let after = place_of_equal(found.as_slice()).saturating_add(1);
+    found.get(after..).unwrap_or(&[]).join(alloc, " ")
 }
 
 /// Adds a line to a text: `\n`, `\r`, `\t`, `\0` and `\\` stand for one octet each, and a `\` at the end for no line feed.
@@ -163,22 +181,28 @@ fn push_text(text: &mut String, line: &str) -> Result<(), AllocError> {
 /// # Errors
 ///
 /// No memory.
-pub fn read_rows(alloc: Global, name: &str, text: &str) -> Result<Outcome, AllocError> {
+pub fn read_rows<'a>(alloc: Global, name: &'a str, text: &'a str) -> Result<Outcome, AllocError> {
     let mut run = Run {
         alloc,
         name,
         family: "",
-        subject: None,
         text: String::new(alloc),
         report: String::new(alloc),
         faults: 0,
         steps: 0,
         stories: 0,
     };
+    read_lines(&mut run, text)?;
+    run.ending()
+}
+
+/// Reads the lines of a text. The subject stands apart from the run, so that only this function lets one go.
+fn read_lines<'a>(run: &mut Run<'a>, text: &'a str) -> Result<(), AllocError> {
+    let mut subject = None;
     let mut number = 0usize;
     for line in text.lines() {
         number = number.saturating_add(1);
-        run.read(number, line)?;
+        run.read(&mut subject, number, line)?;
     }
-    run.ending()
+    Ok(())
 }
