@@ -56,7 +56,7 @@ def built_for_arm(room):
     rtlib = archive.kit_library()
     crates = rtlib.crates_below(TOP)
     crate = next(it for it in crates if it.name == "sacn")
-    rtlib.lock(crates)
+    held = rtlib.lock(crates)
     lacking = [it.name for it in crate.below() if not archive.is_of_the_gate(it)]
     if lacking:
         raise Stopped(f"the gate has not left its build of {', '.join(lacking)}: run ./test")
@@ -65,6 +65,8 @@ def built_for_arm(room):
     ran = subprocess.run(
         [*rtlib.guarded(), rtlib.RATTLE, "build", *words, *made], cwd=crate.folder, stdin=subprocess.DEVNULL, stdout=subprocess.PIPE, stderr=subprocess.STDOUT, encoding="utf-8", check=False
     )
+    for it in held:
+        os.close(it)
     verdict = next((it for it in ran.stdout.split("\n") if it.startswith("logic=proved ")), "")
     # (the kit's linker has no folder for this processor: what is wanted is the object that it leaves)
     found = next((it for it in (f"{room}/sacn.o", f"{crate.folder}/out/sacn.o") if os.path.isfile(it)), None)
