@@ -68,9 +68,9 @@ def built_for_arm(room):
     for it in held:
         os.close(it)
     verdict = next((it for it in ran.stdout.split("\n") if it.startswith("logic=proved ")), "")
-    # (the kit's linker has no folder for this processor: what is wanted is the object that it leaves)
-    found = next((it for it in (f"{room}/sacn.o", f"{crate.folder}/out/sacn.o") if os.path.isfile(it)), None)
-    if not verdict or not found:
+    # (what is made is an object file: the kit links for x86 alone)
+    found = f"{room}/sacn"
+    if not verdict or not os.path.isfile(found):
         raise Stopped(f"the program isn't proved and compiled for {TARGET}: {ran.stdout[-2000:]}")
     return found, verdict
 
