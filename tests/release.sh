@@ -162,7 +162,7 @@ else
     if [ "$("${arm[@]}" "$room/arm64/usr/lib/sacn/sacn" decode "$top/examples/levels.sacn" | sed -n 2p)" = "cid 00010203-0405-0607-0809-0a0b0c0d0e0f" ]; then ok "the package for arm64"; else fails "the package for arm64" "it decodes otherwise"; fi
   fi
   if command -v lintian >/dev/null; then
-    lintian --fail-on error,warning "$room"/packages/*.deb >"$room/said" 2>&1 && ok "lintian has nothing to say" || fails "lintian" "$(head -n 1 "$room/said")"
+    lintian --allow-root --fail-on error,warning "$room"/packages/*.deb >"$room/said" 2>&1 && ok "lintian has nothing to say" || fails "lintian" "$(head -n 1 "$room/said")"
   else
     skips "lintian" "it isn't there"
   fi

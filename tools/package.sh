@@ -52,8 +52,14 @@ tree() {
   install -m 644 "$top"/packaging/*.service "$root/lib/systemd/system/"
   for it in "$top"/examples/*; do if [ -f "$it" ]; then install -m 644 "$it" "$root/usr/share/doc/sacn/examples/"; fi; done
   install -m 644 "$top/README.md" "$top/docs/FILES.md" "$top/docs/PROTOCOL.md" "$root/usr/share/doc/sacn/"
-  packed "$root/usr/share/doc/sacn/changelog.gz" <"$top/CHANGELOG.md"
+  install -m 644 "$top/CHANGELOG.md" "$root/usr/share/doc/sacn/"
+  news sacn | packed "$root/usr/share/doc/sacn/changelog.gz"
   copyright >"$root/usr/share/doc/sacn/copyright"
+}
+
+# news PACKAGE: a changelog as Debian's tools read it
+news() {
+  printf '%s (%s) unstable; urgency=medium\n\n  * Release %s: CHANGELOG.md says what it has.\n\n -- Fetchserge maintainers <maintainers@users.noreply.fetchserge.example>  %s\n' "$1" "$version" "$version" "$(LC_ALL=C date -u -R -d "@$moment")"
 }
 
 copyright() {
@@ -99,10 +105,11 @@ root=$room/libsacn-dev_${version}_amd64
 install -d "$root/DEBIAN" "$root/usr/include" "$root/usr/lib/x86_64-linux-gnu/pkgconfig" "$root/usr/share/doc/libsacn-dev/examples"
 install -m 644 "$top/include/sacn.h" "$root/usr/include/"
 install -m 644 "$release/x86_64-linux/libsacn.a" "$release/x86_64-linux/libsacn.so" "$root/usr/lib/x86_64-linux-gnu/"
+echo "activate-noawait ldconfig" >"$root/DEBIAN/triggers"
 printf 'Name: sacn\nDescription: Streaming ACN (ANSI E1.31-2018) over proved cores\nVersion: %s\nLibs: -lsacn\n' "$version" >"$root/usr/lib/x86_64-linux-gnu/pkgconfig/sacn.pc"
 install -m 644 "$top/docs/LIBRARY.md" "$root/usr/share/doc/libsacn-dev/"
 install -m 644 "$top"/examples/c/*.c "$root/usr/share/doc/libsacn-dev/examples/"
-packed "$root/usr/share/doc/libsacn-dev/changelog.gz" <"$top/CHANGELOG.md"
+news libsacn-dev | packed "$root/usr/share/doc/libsacn-dev/changelog.gz"
 copyright >"$root/usr/share/doc/libsacn-dev/copyright"
 install -d "$root/usr/share/lintian/overrides"
 install -m 644 "$top/packaging/libsacn-dev.lintian-overrides" "$root/usr/share/lintian/overrides/libsacn-dev"

@@ -93,8 +93,8 @@ def make(version):
         if archive.build(archive.kit_folder(), "sacn_c"):
             raise Stopped("the library for C isn't proved and built")
         subprocess.run([f"{TOP}/tools/library.sh", f"{room}/prefix"], check=True)
-        for name in ("libsacn.a", "libsacn.so"):
-            shutil.copy2(f"{room}/prefix/lib/{name}", f"{room}/release/x86_64-linux/{name}")
+        shutil.copy2(f"{room}/prefix/lib/libsacn.a", f"{room}/release/x86_64-linux/libsacn.a")
+        subprocess.run(["strip", "--strip-unneeded", "-o", f"{room}/release/x86_64-linux/libsacn.so", f"{room}/prefix/lib/libsacn.so"], check=True)
         lines = [f"version {version}", f"code {output('./sacn', '--code')}", f"kit {kit}", f"gate {gate}", f"aarch64 {verdict}"]
         for folder in ("x86_64-linux", "aarch64-linux"):
             for name in sorted(os.listdir(f"{room}/release/{folder}")):
