@@ -135,8 +135,8 @@ def hurry(rt):
             over[it.name] = own[it.name] + max((over[up.name] for up in crates if it.name in {dep.name for dep in up.deps} and up.name in over), default=0)
         return {name: under[name] + over[name] - own[name] for name in own}
 
-    def with_chains(root):
-        crates = crates_of(root)
+    def with_chains(root, *aside):  # (kit 13b says where what earlier runs left goes)
+        crates = crates_of(root, *aside)
         chains = chains_of(crates)
         hurried.update(name for name, lines in chains.items() if lines >= NEARLY * max(chains.values()))
         return crates
