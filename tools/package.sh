@@ -51,7 +51,7 @@ tree() {
   "$program" completion zsh >"$root/usr/share/zsh/vendor-completions/_sacn"
   install -m 644 "$top"/packaging/*.service "$root/lib/systemd/system/"
   for it in "$top"/examples/*; do if [ -f "$it" ]; then install -m 644 "$it" "$root/usr/share/doc/sacn/examples/"; fi; done
-  install -m 644 "$top/README.md" "$top/docs/FILES.md" "$top/docs/PROTOCOL.md" "$root/usr/share/doc/sacn/"
+  install -m 644 "$top/README.md" "$top/docs/RIG.md" "$top/docs/FILES.md" "$top/docs/PROTOCOL.md" "$root/usr/share/doc/sacn/"
   install -m 644 "$top/CHANGELOG.md" "$root/usr/share/doc/sacn/"
   news sacn | packed "$root/usr/share/doc/sacn/changelog.gz"
   copyright >"$root/usr/share/doc/sacn/copyright"
