@@ -1,0 +1,107 @@
+"""Looks at the documents and at crates.txt for tests/house.sh."""
+
+import glob
+import os
+import re
+import sys
+
+README_OCTETS = 9000
+COLUMNS = 120
+DOCUMENTS = ["README.md", "CHANGELOG.md", *sorted(glob.glob("docs/*.md")), *sorted(glob.glob("crates/*/NOTES.md"))]
+
+# Files that stand in a document as examples of a user's, and not of this tree's.
+EXAMPLES = ("/etc/", "/dev/", "/usr/", "~")
+
+
+def text_of(name):
+    with open(name, encoding="utf-8") as text:
+        return text.read()
+
+
+def prose_of(name):
+    """A document without its blocks of code, whose lines are left empty."""
+    lines, is_code = [], False
+    for line in text_of(name).split("\n"):
+        fence = line.lstrip().startswith("```")
+        lines.append("" if is_code or fence else line)
+        is_code ^= fence
+    return "\n".join(lines)
+
+
+def anchors_of(name):
+    """The anchors of a document's headings, as a browser of repositories makes them."""
+    found = set()
+    for heading in re.findall(r"^#+ (.*)$", prose_of(name), re.M):
+        words = re.sub(r"\[([^]]*)\]\([^)]*\)", r"\1", heading).lower()
+        anchor = re.sub(r"[^\w\- ]", "", words).strip().replace(" ", "-")
+        count = 0
+        while (anchor if count == 0 else f"{anchor}-{count}") in found:
+            count += 1
+        found.add(anchor if count == 0 else f"{anchor}-{count}")
+    return found
+
+
+def broken_links():
+    for name in DOCUMENTS:
+        for link in re.findall(r"\]\(([^)\s]+)\)", prose_of(name)):
+            if re.match(r"[a-z]+:", link):
+                continue
+            path, _, anchor = link.partition("#")
+            file = os.path.normpath(os.path.join(os.path.dirname(name), path)) if path else name
+            if not os.path.exists(file):
+                yield f"{name} leads to {link}, which isn't there"
+            elif anchor and anchor not in anchors_of(file):
+                yield f"{name} leads to {link}, and {file} has no such heading"
+
+
+def lacking_files():
+    """Files that a document names with their folder, from the top or from crates/, docs/ or examples/, and that aren't there."""
+    for name in [it for it in DOCUMENTS if not it.endswith(("NOTES.md", "CHANGELOG.md"))]:
+        for word in re.findall(r"`([\w.-]+(?:/[\w.-]+)+)`", prose_of(name)):
+            if word.startswith(EXAMPLES) or not re.search(r"\.(rt|antt|md|sh|py|rows|c|h|toml|txt|pcap|sacn|hex)$", word):
+                continue
+            if not any(os.path.exists(os.path.join(folder, word)) for folder in ("", "crates")):
+                yield f"{name} names {word}, which isn't there"
+
+
+def sinking_crates():
+    """Crates of crates.txt that name a crate of it which doesn't stand above them, and folders that it leaves out."""
+    rows = [line.partition("#")[0].partition(":") for line in text_of("crates.txt").split("\n")]
+    crates = {row[0].split()[0]: row[2].split() for row in rows if row[1]}
+    above = set()
+    for name, below in crates.items():
+        for it in below:
+            if it in crates and it not in above:
+                yield f"{name} names {it}, which doesn't stand above it"
+        above.add(name)
+    for folder in sorted(os.listdir("crates")):
+        if os.path.isdir(f"crates/{folder}/src") and folder not in crates:
+            yield f"crates/{folder} isn't named"
+    for name in crates:
+        if f"`{name}`" not in text_of("docs/ARCHITECTURE.md"):
+            yield f"docs/ARCHITECTURE.md doesn't say what {name} is"
+
+
+def long_readme():
+    size = os.path.getsize("README.md")
+    if size > README_OCTETS:
+        yield f"README.md has {size} octets, more than {README_OCTETS}"
+    for number, line in enumerate(text_of("README.md").split("\n"), 1):
+        if len(line) > COLUMNS:
+            yield f"README.md line {number} has {len(line)} letters, more than {COLUMNS}"
+
+
+def verdict(what, faults):
+    told = list(faults)
+    print(f"not ok house: {what}: {'; '.join(told[:8])}" if told else f"ok house: {what}")
+    return not told
+
+
+LOOKS = {
+    "links between documents lead somewhere": broken_links,
+    "files that documents name are there": lacking_files,
+    "each crate names only crates above it, and is told": sinking_crates,
+    "the README is short": long_readme,
+}
+
+sys.exit(0 if all([verdict(what, look()) for what, look in LOOKS.items()]) else 1)

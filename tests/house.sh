@@ -1,0 +1,11 @@
+#!/usr/bin/env bash
+# What the documents and the list of crates say of this tree: links lead to what is there, files that are named are there, crates.txt rises, and the
+# README is short. Prints 'ok NAME' or 'not ok NAME: why' for each, as ./test counts them. It runs no program of this tree.
+set -u
+top=$(cd "$(dirname "$(readlink -f "$0")")/.." && pwd)
+cd "$top" || exit 1
+if ! command -v python3 >/dev/null; then
+  echo "skipped house: there is no python3"
+  exit 0
+fi
+exec python3 tests/house.py
