@@ -213,6 +213,7 @@ desk_ends_well() {
   anew
   launch prove
   printf '#!/bin/sh\ntrap "" INT\nwhile read -r line; do echo "took $line"; done\necho "ended all"\nexit 7\n' >"$tree/crates/sacn/out/sacn"
+  : >"$room/out"
   (PATH=$room/bin:$usual exec setsid "$tree/sacn" desk show.toml >"$room/out" 2>"$room/err" < <(exec 2>/dev/null; echo go; sleep 30)) &
   local launcher=$!
   for _ in $(seq 100); do grep -q "took go" "$room/out" && break; sleep 0.05; done
@@ -228,6 +229,7 @@ desk_without_input() {
   local pause=$1
   shift
   rm -f "$room/told"
+  : >"$room/out"
   printf '#!/usr/bin/env bash\ntrap "" INT\necho began\nread -r line\nif [ -e "%s" ]; then echo "ended when told"; else echo "ended early"; fi\n[ $SECONDS -ge 1 ] && echo "after a second"\nexit 7\n' "$room/told" >"$tree/crates/sacn/out/sacn"
   PATH=$room/bin:$usual setsid "$tree/sacn" desk show.toml "$@" >"$room/out" 2>"$room/err" </dev/null &
   local launcher=$!

@@ -3,8 +3,9 @@
 
 usage: gate.py [--anew] [NAME..]         as `rt ci`, at the top of the repository: the gate, or (kit 13f) some crates and those below them
        gate.py edits [--anew] NAME..     as `rt must-fail`: the edits of these crates alone, begun with what `rt check` kept
-       gate.py further [--anew] [NAME..] (kit 13f) as the first for these crates, or all that have some, but with their edits of further-edits/, which
-                                         the gate leaves out, in place of those of must-fail/
+       gate.py further [--anew] [NAME..] as the first for these crates, or all that have some, but with their edits of further-edits/, which
+                                         the gate leaves out, in place of those of must-fail/. (Kit 13b: over what ./test left of this very tree, or else over
+                                         libraries that are proved first; it tries no tests and runs no programs.)
 
 All else is the kit's: every proof from nothing (or, by a kit that keeps them, kept of an earlier run on this machine of the same files), each edit's text,
 what is printed, and the last line.
@@ -12,6 +13,7 @@ what is printed, and the last line.
 There are two ways in, by what the kit has: kit 13f checks a crate as it stands before its edits (here only where some are left), and takes names and
 --anew; kit 13b has one function that tries a crate's edits, and proves all anew.
 """
+import copy
 import glob
 import hashlib
 import importlib.machinery
@@ -232,14 +234,72 @@ def further(rt, names):
     return names or sorted(os.path.basename(os.path.dirname(it)) for it in glob.glob(f"crates/*/{FURTHER}"))
 
 
+def is_left_by_the_gate():
+    """Whether the test command has passed this very tree here, so that each library in out/ is the gate's."""
+    try:
+        with open("crates/sacn/out/sacn.tree", encoding="utf-8") as it:
+            made_of = it.readline().rstrip("\n")
+        return made_of == subprocess.run(["./sacn", "--tree"], stdout=subprocess.PIPE, encoding="utf-8", check=True).stdout.rstrip("\n")
+    except (OSError, subprocess.CalledProcessError):
+        return False
+
+
+def over_libraries(rt, names, is_anew):
+    """Tries edits of some crates with kit 13b, side by side, over the gate's libraries or those that are proved here first. Says what `rt ci` says, and counts each
+    of these crates, which is proved, and each edit."""
+    rt.rtlib.guarded()
+    rt.rtlib.Crate = rt.Crate
+    rt.Crate.allowed, rt.Crate.cuts_libraries = rt.handles_of(os.getcwd()), True
+    known = rt.rtlib.crates_below(os.getcwd())
+    crates = [it for it in known if it.name in names]
+    lacking = {*names} - {it.name for it in crates}
+    if lacking:
+        sys.exit(f"gate: crates.txt names no {', '.join(sorted(lacking))}")
+    wanted = [it for it in known if any(it.name == own.name or it.name in {dep.name for dep in own.below()} for own in crates)]
+    locks = rt.rtlib.lock(wanted)
+    is_built = not is_anew and is_left_by_the_gate()
+
+    def proof(crate, given, jobs):
+        crate = copy.copy(crate)
+        with tempfile.TemporaryFile("a+", errors="replace") as crate.out:
+            is_well = all(given[it.name, "proof"] for it in crate.below()) and (is_built or not rt.Crate.ci(crate, ["--jobs", str(jobs)], False))
+            crate.out.seek(0)
+            said = crate.out.read()
+        if not is_well:
+            rt.say(f"{crate.name} NOT PROVED\n{said[-2000:]}")
+        return is_well
+
+    def edits(crate, given, _):
+        good, bad = rt.edits_of(crate)
+        return [*((False, f"{it}: BAD EDIT") for it in bad), *(rt.must_fail_all(crate, good, ["--jobs", "1"]) if good and given[crate.name, "proof"] else [])]
+
+    tasks = {}
+    for it in sorted(wanted, key=lambda crate: len(crate.below())):
+        os.makedirs(f"{it.folder}/out", exist_ok=True)
+        lines = 0 if is_built else it.count(rb"\n")
+        tasks[it.name, "proof"] = ([(dep.name, "proof") for dep in it.below()], lines, rt.need(it), lambda given, jobs, it=it: proof(it, given, jobs))
+    for it in crates:
+        tasks[it.name, "edits"] = ([(it.name, "proof")], it.count(rb"\n"), rt.need(it), lambda given, jobs, it=it: edits(it, given, jobs))
+    given = rt.in_lanes(tasks)
+    tried = [(it, *one) for it in crates for one in given[it.name, "edits"]]
+    for _, _, text in tried:
+        rt.say(text)
+    passed = sum(given[it.name, "proof"] for it in crates) + sum(refused for _, refused, _ in tried)
+    failed = len(crates) + len(tried) - passed
+    for it in locks or ():
+        os.close(it)
+    print(f"{passed} passed, {failed} failed")
+    return 1 if failed else 0
+
+
 def main(words):
     rt = gate()
     if words[:1] == ["further"]:
-        if not hasattr(rt, "where_disk_lasts"):
-            sys.exit("gate: this kit proves all crates or none: only `edits` takes names")
         names = further(rt, [it for it in words[1:] if it != "--anew"])
         if not names:
             sys.exit(f"gate: no crate has a folder {FURTHER}")
+        if not hasattr(rt, "where_disk_lasts"):
+            return over_libraries(rt, names, "--anew" in words)
         return rt.where_disk_lasts(rt.ci, "--anew" in words, names)
     call, given = (rt.edits_alone, [words[1:]]) if words[:1] == ["edits"] else (rt.ci, ["--anew" in words, [it for it in words if it != "--anew"]])
     if hasattr(rt, "where_disk_lasts"):
