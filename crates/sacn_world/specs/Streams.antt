@@ -90,7 +90,7 @@ unfoldable pub follows : List Sent → ℕ → ℕ → Bool
 follows st p q =
     nat_lt p q
     && (if life_at st p == life_at st q then nat_le 1 ((q - p) % 256) && nat_le ((q - p) % 256) farthest_ahead
-        else not (late (number_at st p) (number_at st q)))
+    else not (late (number_at st p) (number_at st q)))
 
 -- along a stream lives never go back, and each life has one first number
 pub record Ordered (st : List Sent) : Type 0 where

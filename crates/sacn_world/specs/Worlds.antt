@@ -59,8 +59,10 @@ with_core c core = record { show = c.show; life = c.life; first = c.first; core 
 abbrev pub order_step : World → ℕ → ℕ → Command → Option Console → Step
 order_step w i m k None = Err NoConsole
 order_step w i m k (Some c) =
-    Ok (record { answer = answered.Ordered (console.answer k (console.at m c.core));
-      world = with_console w i (with_core c (console.after_command m k c.core)) })
+    Ok (record {
+      answer = answered.Ordered (console.answer k (console.at m c.core));
+      world = with_console w i (with_core c (console.after_command m k c.core));
+    })
 
 -- what a due datagram says
 abbrev pub said_by : Sender → line.Datagram → Packet
