@@ -11,9 +11,9 @@ use Rattle.std.proofs.lemmas.List.Elements.{All-cons}
 use Rattle.sacn_sequence.specs.Sequence.{is_late}
 use Rattle.sacn_sources.specs.Order.{order}
 use Rattle.sacn_sources.specs.declared.limits.TheConstants.{MAX_SOURCES}
-use Rattle.sacn_sources.specs.Rows.{Row, Packet, Kind, Termination, Preview, Live, Other, take_unknown, take_known}
+use Rattle.sacn_sources.specs.Rows.{Row, Packet, Kind, Termination, Preview, Live, Other}
 use Rattle.sacn_sources.specs.Calls.{Call, Take, Expire, Merge, moment_of, after_calls, moment_in_use, IsGreatestMoment}
-use Rattle.sacn_sources.specs.PlainRule.{Entry, Sources, is_unexpired, unexpired, live, held_by, row_for, change, held_after}
+use Rattle.sacn_sources.specs.PlainRule.{Entry, Sources, is_unexpired, unexpired, live, held_by, unknown_answer, known_answer, row_for, change, held_after}
 use Rattle.sacn_sources.specs.Laws.{UsesTheGreatestMoment, RowsRise}
 use Rattle.sacn_sources.proofs.Mirrors.{Mirrors, pair, same_length, first, second, lt_less, entries-unexpired}
 use Rattle.sacn_sources.proofs.Sweeps.{length_left}
@@ -87,7 +87,7 @@ module _ (t : ℕ) (x : Packet) (held : Sources) (few : len held ≤ MAX_SOURCES
   has_room : (n : ℕ) → nat_lt n MAX_SOURCES ≡ true → n < MAX_SOURCES
   has_room n is = grind (arith, nat_tests)
 
-  few_unknown : (kind : Kind) (room : Bool) → nat_lt (len held) MAX_SOURCES ≡ room → len (held_by (take_unknown kind room) t x None held) ≤ MAX_SOURCES
+  few_unknown : (kind : Kind) (room : Bool) → nat_lt (len held) MAX_SOURCES ≡ room → len (held_by (unknown_answer kind room) t x None held) ≤ MAX_SOURCES
   few_unknown Live true is = omega (arith, has_room (len held) is, one_more held x.source (live x t))
   few_unknown Live false is = few
   few_unknown Termination room is = few
@@ -97,7 +97,7 @@ module _ (t : ℕ) (x : Packet) (held : Sources) (few : len held ≤ MAX_SOURCES
   as_few : (e old : Entry) → get held x.source ≡ Some old → len (insert held x.source e) ≤ MAX_SOURCES
   as_few e old there = omega (arith, as_many held x.source e old there)
 
-  few_known : (old : Entry) (kind : Kind) (late : Bool) → get held x.source ≡ Some old → len (held_by (take_known kind late) t x (Some old) held) ≤ MAX_SOURCES
+  few_known : (old : Entry) (kind : Kind) (late : Bool) → get held x.source ≡ Some old → len (held_by (known_answer kind late) t x (Some old) held) ≤ MAX_SOURCES
   few_known old Termination true there = few
   few_known old Preview true there = few
   few_known old Live true there = few

@@ -2,22 +2,24 @@
 use Rattle.std.proofs.Common.{◌≡◌, ℕ, ◌+◌, ◌-◌, ◌^◌, min, max, nat_lt, Bool, true, false, cond, ◌||◌, List, [], ◌∷◌, length, Option, Some, None, refl, sym, ap, subst, ◌∙◌, arith}
 use Rattle.std.specs.Option.{option_map}
 use Rattle.std.specs.FinMap.{FinMap, get, len, empty, entries, len-entries, len-empty}
+use Rattle.sacn_sequence.specs.Sequence.{is_late}
 use Rattle.sacn_slots.specs.Merge.{merge}
 use Rattle.sacn_sources.specs.Order.{order}
 use Rattle.sacn_sources.specs.declared.limits.TheConstants.{MAX_SOURCES}
-use Rattle.sacn_sources.specs.Rows.{Row, Packet, Taken, Held, Observed, EndedNow, OutOfSequence, SourcesExceeded, UnknownIgnored, rows_kept, row_of, take_by, taken, observed, rows_after, take_row, layers}
+use Rattle.sacn_sources.specs.Rows.{Row, Packet, Taken, Held, Observed, EndedNow, OutOfSequence, SourcesExceeded, UnknownIgnored, rows_kept, row_of, take_by, taken, observed, rows_after, take_row, layers, answer}
 use Rattle.sacn_sources.specs.LatestMerge.{Kept, due_at, loses_live}
 use Rattle.sacn_sources.specs.Calls.{Call, Take, Expire, Merge, Took, Expired, Slots, moment_of, step, answer_to, after_calls, moment_in_use}
 use Rattle.sacn_sources.specs.PlainRule.{Entry, Sources, unexpired, live, ended_entry, renumbered, held_by, answer_for, source_row, change, held_after, answer_at, plain_rule, expires_live, renews_source, is_news, is_due, renewal_count}
 use Rattle.sacn_sources.specs.Laws.{row_with, AnswersByThePlainRule, HoldsByThePlainRule, CountsRenewals}
 use Rattle.sacn_sources.proofs.Mirrors.{Mirrors, row_found, put_mirrors, kept_mirrors, same_length, same_shown, same_losses}
+use Rattle.sacn_sources.proofs.TablesAgree.{same_unknown, same_known, same_renewal}
 
 -- ---- a packet
 
 module _ (t : ℕ) (x : Packet) (rs : List Row) (held : Sources) (mirrors : Mirrors rs held) where
   packet_answer : (o : Option Entry) → take_by x (nat_lt (len held) MAX_SOURCES) (option_map (row_with x.source) o) ≡ answer_for x held o
-  packet_answer None = refl
-  packet_answer (Some e) = refl
+  packet_answer None = same_unknown x.kind (nat_lt (len held) MAX_SOURCES)
+  packet_answer (Some e) = same_known x.kind (is_late e.sequence_number x.sequence_number)
 
   packet_rows : (a : Taken) (o : Option Entry) → row_of x.source rs ≡ option_map (row_with x.source) o → Mirrors (rows_after a x t rs) (held_by a t x o held)
   packet_rows Held o there = put_mirrors rs held mirrors x.source (live x t)
@@ -126,7 +128,7 @@ module _ (earlier : List Call) (due : (after_calls earlier).due ≡ is_due earli
       ∙ regrouped (is_due earlier) (expires_live (moment_in_use (call ∷ earlier)) (held_after earlier)) (renews_source (plain_rule call earlier))
 
   due_after : (call : Call) → (step call before).due ≡ is_due (call ∷ earlier)
-  due_after (Take now x) = with_news (Take now x)
+  due_after (Take now x) = ap (λ b. due_at now before || b) (same_renewal (answer now x before.table)) ∙ with_news (Take now x)
   due_after (Expire now) = or_false (due_at now before) ∙ with_news (Expire now)
   due_after (Merge now) = refl
 

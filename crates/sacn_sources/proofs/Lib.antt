@@ -8,6 +8,7 @@ mod Taking
 mod Layers
 mod Keeps
 mod Mirrors
+mod TablesAgree
 mod Histories
 mod Bounds
 mod PlainEdits

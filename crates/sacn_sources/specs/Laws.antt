@@ -30,7 +30,8 @@ ExpiresAlone = (t : ℕ) (held : Sources) (cid : List ℕ) → get (unexpired t 
 
 -- the rows rise strictly by CID, and there are at most `MAX_SOURCES`
 abbrev pub RowsRise : Type 0
-RowsRise = (calls : List Call) → AllPairs (λ (a b : Row). order a.source b.source ≡ Less) (after_calls calls).table.rows × (length (after_calls calls).table.rows ≤ MAX_SOURCES)
+RowsRise = (calls : List Call) → AllPairs (λ (a b : Row). order a.source b.source ≡ Less) (after_calls calls).table.rows
+    × (length (after_calls calls).table.rows ≤ MAX_SOURCES)
 
 -- the renewals are the merges that were made anew, as far as a u64 counts
 abbrev pub CountsRenewals : Type 0

@@ -7,7 +7,8 @@ use Rattle.sacn_sequence.specs.Sequence.{is_late}
 use Rattle.sacn_slots.specs.Merge.{Shown, merge}
 use Rattle.sacn_sources.specs.Order.{order}
 use Rattle.sacn_sources.specs.declared.limits.TheConstants.{MAX_SOURCES, NETWORK_DATA_LOSS}
-use Rattle.sacn_sources.specs.Rows.{Packet, Taken, Held, Observed, EndedNow, OutOfSequence, SourcesExceeded, UnknownIgnored, take_unknown, take_known, renews}
+use Rattle.sacn_sources.specs.Rows.{Packet, Kind, Termination, Preview, Live, Other}
+use Rattle.sacn_sources.specs.Rows.{Taken, Held, Observed, EndedNow, OutOfSequence, SourcesExceeded, UnknownIgnored}
 use Rattle.sacn_sources.specs.Calls.{Call, Take, Expire, Merge, Answer, Took, Expired, Slots, moment_in_use}
 
 pub record Entry : Type 0 where
@@ -31,8 +32,40 @@ abbrev pub unless_expired : ℕ → Option Entry → Option Entry
 unless_expired t None = None
 unless_expired t (Some e) = if is_unexpired t e then Some e else None
 
--- ---- the rows of the source table at t, over the sources that are not expired: the answer is that of the table of answers,
--- and what it makes of the source is said here
+-- ---- the source table (E1.31, 6.2.6 and 6.7), in words of its own: it cites nothing of the contract's table of answers, which must agree with it
+
+-- its levels are for the stage: no termination, no preview, start code 0
+abbrev pub is_live : Kind → Bool
+is_live Live = true
+is_live Termination = false
+is_live Preview = false
+is_live Other = false
+
+abbrev pub is_termination : Kind → Bool
+is_termination Termination = true
+is_termination Preview = false
+is_termination Live = false
+is_termination Other = false
+
+-- the packet of a source that is not held is ignored unless it is live, and then held where there is room
+abbrev pub unknown_answer : Kind → Bool → Taken
+unknown_answer kind room = if not (is_live kind) then UnknownIgnored else (if room then Held else SourcesExceeded)
+
+-- of one that is held a packet out of sequence is discarded, whatever it says; a termination ends it, a live packet is shown, and
+-- any other tells its number alone
+abbrev pub known_answer : Kind → Bool → Taken
+known_answer kind late = if late then OutOfSequence else (if is_termination kind then EndedNow else (if is_live kind then Held else Observed))
+
+-- a source is renewed by what is shown and by what ends it
+abbrev pub is_renewed_by : Taken → Bool
+is_renewed_by Held = true
+is_renewed_by EndedNow = true
+is_renewed_by Observed = false
+is_renewed_by OutOfSequence = false
+is_renewed_by SourcesExceeded = false
+is_renewed_by UnknownIgnored = false
+
+-- ---- a packet at t, over the sources that are not expired: its answer, and what is held after it
 
 pub record Outcome : Type 0 where
   pub answer : Taken
@@ -59,8 +92,8 @@ held_by SourcesExceeded t x o held = held
 held_by UnknownIgnored t x o held = held
 
 abbrev pub answer_for : Packet → Sources → Option Entry → Taken
-answer_for x held None = take_unknown x.kind (nat_lt (len held) MAX_SOURCES)
-answer_for x held (Some e) = take_known x.kind (is_late e.sequence_number x.sequence_number)
+answer_for x held None = unknown_answer x.kind (nat_lt (len held) MAX_SOURCES)
+answer_for x held (Some e) = known_answer x.kind (is_late e.sequence_number x.sequence_number)
 
 abbrev pub row_for : ℕ → Packet → Sources → Option Entry → Outcome
 row_for t x held o = record { answer = answer_for x held o; held = held_by (answer_for x held o) t x o held }
@@ -100,7 +133,7 @@ abbrev pub expires_live : ℕ → Sources → Bool
 expires_live t held = list_any (λ e. not (is_unexpired t e.1) && is_some e.1.shown) (entries held)
 
 abbrev pub renews_source : Answer → Bool
-renews_source (Took taken) = renews taken
+renews_source (Took taken) = is_renewed_by taken
 renews_source (Expired n) = false
 renews_source (Slots s) = false
 

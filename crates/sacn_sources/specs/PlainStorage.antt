@@ -8,7 +8,12 @@ use Rattle.sacn_sources.specs.declared.plain.entries.PlainEntry.{PlainEntry}
 use Rattle.sacn_sources.specs.declared.limits.TheConstants.{MAX_SOURCES}
 
 abbrev pub plain_row : PlainEntry → Row
-plain_row e = record { source = e.cid; sequence_number = e.sequence_number; shown = option_map (λ priority. record { priority = priority; levels = e.levels }) e.priority; moment = e.moment }
+plain_row e = record {
+  source = e.cid;
+  sequence_number = e.sequence_number;
+  shown = option_map (λ priority. record { priority = priority; levels = e.levels }) e.priority;
+  moment = e.moment;
+}
 
 abbrev pub plain_rows : List PlainEntry → List Row
 plain_rows es = map plain_row es

@@ -135,7 +135,10 @@ abbrev pub shown_code : Coded Shown
 shown_code = code_by (ℕ × List ℕ) (coded× coded_ℕ (coded_list coded_ℕ)) (λ s. (s.priority, s.levels)) (λ p. record { priority = p.0; levels = p.1 }) (λ _. refl)
 
 abbrev pub row_code : Coded Row
-row_code = code_by (List ℕ × (ℕ × (Option Shown × ℕ))) (coded× (coded_list coded_ℕ) (coded× coded_ℕ (coded× (coded_option shown_code) coded_ℕ))) (λ r. (r.source, (r.sequence_number, (r.shown, r.moment)))) (λ p. record { source = p.0; sequence_number = p.1.0; shown = p.1.1.0; moment = p.1.1.1 }) (λ _. refl)
+row_code = code_by (List ℕ × (ℕ × (Option Shown × ℕ)))
+    (coded× (coded_list coded_ℕ) (coded× coded_ℕ (coded× (coded_option shown_code) coded_ℕ)))
+    (λ r. (r.source, (r.sequence_number, (r.shown, r.moment))))
+    (λ p. record { source = p.0; sequence_number = p.1.0; shown = p.1.1.0; moment = p.1.1.1 }) (λ _. refl)
 
 abbrev pub table_code : Coded Table
 table_code = code_by (List Row × ℕ) (coded× (coded_list row_code) coded_ℕ) (λ t. (t.rows, t.moment)) (λ p. record { rows = p.0; moment = p.1 }) (λ _. refl)

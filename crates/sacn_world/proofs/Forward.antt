@@ -6,9 +6,8 @@ use Rattle.sacn_sources.specs.declared.limits.TheConstants.{MAX_SOURCES}
 use Rattle.sacn_world.proofs.Sources.{same_source}
 use Rattle.sacn_world.proofs.Maps.{hold_of-put, hold_of_other-put}
 use Rattle.sacn_world.specs.Streams.{Sent, at, is_live, follows}
-use Rattle.sacn_world.specs.Holdings.{Hold, hold_of, answer_known, answer_by, answer, holding_after, after_delivery}
+use Rattle.sacn_world.specs.Holdings.{Hold, hold_of, answer_known, answer_by, answer, takes_place, holding_after, after_delivery}
 use Rattle.sacn_sources.specs.Order.{same}
-use Rattle.sacn_sources.specs.Rows.{renews}
 use Rattle.sacn_sources.specs.declared.answer.Taken.{Taken}
 use Rattle.sacn_sources.specs.declared.answer.Taken.TheVariants.{UnknownIgnored, Held, EndedNow, Observed, OutOfSequence, SourcesExceeded}
 
@@ -16,20 +15,20 @@ pub follows_later : (st : List Sent) (p q : ℕ) → follows st p q ≡ true →
 unfolding follows
 follows_later st p q e = ltb-true p q (and_parts _ _ e).0
 
-moves : (live f : Bool) → renews (answer_known live f) ≡ true → f ≡ true
+moves : (live f : Bool) → takes_place (answer_known live f) ≡ true → f ≡ true
 moves live true e = refl
 moves true false e = cc
 moves false false e = cc
 
-by_hold : (st : List Sent) (q : ℕ) (room : Bool) (o : Option Hold) (h : Hold) → o ≡ Some h → renews (answer_by st q room o) ≡ true → h.place < q
+by_hold : (st : List Sent) (q : ℕ) (room : Bool) (o : Option Hold) (h : Hold) → o ≡ Some h → takes_place (answer_by st q room o) ≡ true → h.place < q
 by_hold st q room None h e m = cc
 by_hold st q room (Some g) h e m =
     let l = follows_later st g.place q (moves (is_live (at st q)) (follows st g.place q) m) in
     let is : g ≡ h = cc in
     subst (λ (x : Hold). x.place < q) is l
 
--- a packet that renews its source has a later place than the entry of its source
-pub later_than_held : (st : List Sent) (s : List ℕ) (q : ℕ) (hs : List Hold) (h : Hold) → hold_of s hs ≡ Some h → renews (answer st s q hs) ≡ true → h.place < q
+-- a packet whose place is now held has a later place than the entry of its source
+pub later_than_held : (st : List Sent) (s : List ℕ) (q : ℕ) (hs : List Hold) (h : Hold) → hold_of s hs ≡ Some h → takes_place (answer st s q hs) ≡ true → h.place < q
 later_than_held st s q hs h e m = by_hold st q (nat_lt (length hs) MAX_SOURCES) (hold_of s hs) h e m
 
 pub other_kept : (s : List ℕ) (a : Taken) (n : Hold) (hs : List Hold) → same s n.source ≡ false → hold_of s (holding_after a n hs) ≡ hold_of s hs
@@ -40,7 +39,7 @@ other_kept s OutOfSequence n hs e = refl
 other_kept s SourcesExceeded n hs e = refl
 other_kept s UnknownIgnored n hs e = refl
 
-own_kept : (a : Taken) (n : Hold) (hs : List Hold) (h : Hold) → hold_of n.source hs ≡ Some h → (renews a ≡ true → h.place < n.place) → (g : Hold) × (hold_of n.source (holding_after a n hs) ≡ Some g) × (h.place ≤ g.place)
+own_kept : (a : Taken) (n : Hold) (hs : List Hold) (h : Hold) → hold_of n.source hs ≡ Some h → (takes_place a ≡ true → h.place < n.place) → (g : Hold) × (hold_of n.source (holding_after a n hs) ≡ Some g) × (h.place ≤ g.place)
 own_kept Held n hs h e m = (n, hold_of-put n hs, let l = m refl in omega (arith, l))
 own_kept EndedNow n hs h e m = (n, hold_of-put n hs, let l = m refl in omega (arith, l))
 own_kept Observed n hs h e m = (h, e, omega arith)

@@ -14,7 +14,6 @@ use Rattle.sacn_node.specs.declared.answer.NodeTaken.{NodeTaken}
 use Rattle.sacn_node.specs.declared.answer.NodeTaken.TheVariants.{FromTable}
 use Rattle.sacn_sources.specs.Order.{same}
 use Rattle.sacn_sources.specs.declared.answer.Taken.{Taken}
-use Rattle.sacn_sources.specs.Rows.{renews}
 use Rattle.sacn_world.specs.declared.answer.Answer.{Answer}
 use Rattle.sacn_world.specs.declared.answer.Answer.TheVariants as answered
 use Rattle.sacn_world.specs.declared.console.Console.{Console}
@@ -22,7 +21,7 @@ use Rattle.sacn_schedule.specs.declared.event.Event.{Event}
 use Rattle.sacn_schedule.specs.declared.event.Event.TheVariants.{Order, Poll, Deliver, Look, RestartConsole, RestartNode, Noise}
 use Rattle.sacn_world.specs.declared.fault.WorldFault.{WorldFault}
 use Rattle.sacn_world.specs.Streams.{Sent, stream_of, place_of}
-use Rattle.sacn_world.specs.Holdings.{Hold, is_renewed, unexpired, hold_of, put, answer, holding_after, after_delivery}
+use Rattle.sacn_world.specs.Holdings.{Hold, is_renewed, unexpired, hold_of, put, takes_place, answer, holding_after, after_delivery}
 use Rattle.sacn_world.specs.Nodes.{Holding, Node, node_of, unexpired_all, holding_of, reply_on, change, node_reply, node_after, node_at}
 use Rattle.sacn_world.specs.Worlds.{World, Outcome, Step, with_node, order_step, poll_by, poll_step, restart_console, come, arrive, deliver_step, look_step, hear_noise, noise_step, restart_node, step, left_by, after, place_on, hold_in, held_at, place_at}
 use Rattle.sacn_world.specs.Entries.{LastsThrough, Lasts, HoldsFrom, TakesItsPlace, MovesForward, NoHeldPacketGivesWay}
@@ -195,10 +194,10 @@ places_stay w es i s u p is lasts =
     let b = held_onward w es i s u a.0 a.1 lasts in
     record { place = b.hold.place; held = ap (option_map (λ (h : Hold). h.place)) b.held; no_earlier = omega (arith, a.2, b.no_earlier) }
 
--- ---- a delivery that renews its source
+-- ---- a delivery whose packet is now held
 
 abbrev Takes : NodeTaken → Type 0
-Takes a = (taken : Taken) × (a ≡ FromTable taken) × (renews taken ≡ true)
+Takes a = (taken : Taken) × (a ≡ FromTable taken) × (takes_place taken ≡ true)
 
 taken_of : (a b : NodeTaken) → answered.Taken a ≡ answered.Taken b → a ≡ b
 taken_of a b e = cc
@@ -206,13 +205,13 @@ taken_of a b e = cc
 from_table : (a b : Taken) → FromTable a ≡ FromTable b → a ≡ b
 from_table a b e = cc
 
-put_by : (a : Taken) (n : Hold) (hs : List Hold) → renews a ≡ true → hold_of n.source (holding_after a n hs) ≡ Some n
+put_by : (a : Taken) (n : Hold) (hs : List Hold) → takes_place a ≡ true → hold_of n.source (holding_after a n hs) ≡ Some n
 put_by a n hs e = ap (λ b. hold_of n.source (cond b (put n hs) hs)) e ∙ hold_of-put n hs
 
 -- the reply of a node that has the universe
-reply_taken : (st : List Sent) (s : List ℕ) (q : ℕ) (o : Option Holding) → Takes (reply_on st s q o) → (g : Holding) × (o ≡ Some g) × (renews (answer st s q g.held) ≡ true)
+reply_taken : (st : List Sent) (s : List ℕ) (q : ℕ) (o : Option Holding) → Takes (reply_on st s q o) → (g : Holding) × (o ≡ Some g) × (takes_place (answer st s q g.held) ≡ true)
 reply_taken st s q None takes = absurd (let e = takes.1 in cc)
-reply_taken st s q (Some g) takes = (g, refl, ap renews (from_table _ _ takes.1) ∙ takes.2)
+reply_taken st s q (Some g) takes = (g, refl, ap takes_place (from_table _ _ takes.1) ∙ takes.2)
 
 moved_node : (w : World) (i m : ℕ) (n : Node) (s : List ℕ) (u q : ℕ) → slice_get w.nodes i ≡ Some n → Takes (node_reply w.sent s u q m n) → MovesForward w (with_node w i (node_after w.sent s u q m n)) i m s u q
 moved_node w i m n s u q en takes =

@@ -8,21 +8,27 @@ use Rattle.sacn_world.specs.Streams.{priority, levels, Sent, at, number_at, is_l
 use Rattle.sacn_world.specs.Holdings.{Hold, hold_of, answer_unknown, answer_known, answer_by, answer, holding_after}
 use Rattle.sacn_world.specs.RowsOfPlaces.{shown_by, packet_at, seen, rows_of}
 use Rattle.sacn_world.specs.Streams.{kind_by}
-use Rattle.sacn_sources.specs.Rows.{row_of, put_row, take_known, take_by, taken, rows_after}
+use Rattle.sacn_sources.specs.Rows.{row_of, put_row, take_unknown, take_known, take_by, taken, rows_after}
 use Rattle.sacn_sources.specs.declared.answer.Taken.{Taken}
 use Rattle.sacn_sources.specs.declared.answer.Taken.TheVariants.{UnknownIgnored, Held, EndedNow, Observed, OutOfSequence, SourcesExceeded}
+
+unknown_same : (live room : Bool) → take_unknown (kind_by live) room ≡ answer_unknown live room
+unknown_same true true = refl
+unknown_same true false = refl
+unknown_same false room = refl
 
 known_same : (live late follows : Bool) → not late ≡ follows → take_known (kind_by live) late ≡ answer_known live follows
 known_same live true true e = cc
 known_same live true false e = refl
-known_same live false true e = refl
+known_same true false true e = refl
+known_same false false true e = refl
 known_same live false false e = cc
 
 module _ (u : ℕ) (sent : List Sent) where
   -- by cases on what is held of the source
   by_seen : (s : List ℕ) (q : ℕ) (room : Bool) (o : Option Hold) → ((h : Hold) → o ≡ Some h → not (late (number_at (stream_of h.source u sent) h.place) (number_at (stream_of s u sent) q)) ≡ follows (stream_of s u sent) h.place q) → take_by (packet_at s (stream_of s u sent) q) room (option_map (seen u sent) o) ≡ answer_by (stream_of s u sent) q room o
   unfolding late
-  by_seen s q room None rule = refl
+  by_seen s q room None rule = unknown_same _ room
   by_seen s q room (Some h) rule = known_same _ _ _ (rule h refl)
 
   pub taken_seen : (s : List ℕ) (q : ℕ) (hs : List Hold) → ((h : Hold) → hold_of s hs ≡ Some h → not (late (number_at (stream_of h.source u sent) h.place) (number_at (stream_of s u sent) q)) ≡ follows (stream_of s u sent) h.place q) → taken (packet_at s (stream_of s u sent) q) (rows_of u sent hs) ≡ answer (stream_of s u sent) s q hs

@@ -14,7 +14,8 @@ use Rattle.sacn_world.specs.Newest.{greatest, delivered_in}
 -- place q of a stream may come to a node to which these places of the stream were delivered since it started: the newest of them
 -- is of no later life, and of its life fewer than twenty sends on
 abbrev pub MayCome : List Sent → List ℕ → ℕ → Type 0
-MayCome st delivered q = (newest : ℕ) → greatest delivered ≡ Some newest → (life_at st newest ≤ life_at st q) × (life_at st q ≡ life_at st newest → newest < q + TOO_FAR_BEHIND)
+MayCome st delivered q = (newest : ℕ) → greatest delivered ≡ Some newest →
+    (life_at st newest ≤ life_at st q) × (life_at st q ≡ life_at st newest → newest < q + TOO_FAR_BEHIND)
 
 -- datagram k may come to node i of world w, where these are the places that were delivered of each stream: there is such a node
 -- and such a datagram; a data packet may come as its place, and a page may at any time
@@ -22,7 +23,8 @@ pub record MayBeDelivered (w : World) (delivered : List ℕ → ℕ → List ℕ
   pub node : i < length w.nodes
   pub datagram : Sent
   pub is_datagram : slice_get w.sent k ≡ Some datagram
-  pub in_time : (d : Data) → datagram.packet ≡ DataPacket d → MayCome (stream_of datagram.source d.universe w.sent) (delivered datagram.source d.universe) (place_of datagram.source d.universe k w.sent)
+  pub in_time : (d : Data) → datagram.packet ≡ DataPacket d →
+      MayCome (stream_of datagram.source d.universe w.sent) (delivered datagram.source d.universe) (place_of datagram.source d.universe k w.sent)
 
 -- an event that may come after these events of a world: its console or node is there, its datagram may be delivered, its noise
 -- is no packet

@@ -1,5 +1,5 @@
 -- The catch-up count of a node and a stream, over a run.
-use Rattle.std.specs.Prelude.{◌≡◌, ℕ, ◌==◌, ◌&&◌, if◌then◌else◌, List, [], ◌∷◌, slice_get, Option, Some, None, true}
+use Rattle.std.specs.Prelude.{◌≡◌, ℕ, ◌+◌, ◌==◌, ◌&&◌, if◌then◌else◌, List, [], ◌∷◌, slice_get, Option, Some, None, true}
 use Rattle.sacn_framing.specs.declared.packet.Packet.{Packet}
 use Rattle.sacn_framing.specs.declared.packet.Packet.TheVariants.{DataPacket, PagePacket, SyncPacket}
 use Rattle.sacn_sources.specs.Order.{same}
@@ -8,6 +8,7 @@ use Rattle.sacn_node.specs.declared.answer.NodeTaken.TheVariants.{FromTable, Oth
 use Rattle.sacn_schedule.specs.declared.event.Event.{Event}
 use Rattle.sacn_schedule.specs.declared.event.Event.TheVariants.{Order, Poll, Deliver, Look, RestartConsole, RestartNode, Noise}
 use Rattle.sacn_world.specs.declared.fault.WorldFault.{WorldFault}
+use Rattle.sacn_world.specs.declared.limits.TheConstants.{TOO_FAR_BEHIND}
 use Rattle.sacn_world.specs.Streams.{Sent, at, is_live, stream_of, place_of}
 use Rattle.sacn_world.specs.Holdings.{Hold, newest, refusal, hold_of}
 use Rattle.sacn_world.specs.Nodes.{Holding, Node, holding_of, node_reply}
@@ -18,6 +19,10 @@ use Rattle.sacn_world.specs.Worlds.{World, step, left_by}
 pub record Count : Type 0 where
   pub last : Option ℕ
   pub count : ℕ
+
+-- so many live packets of one life in a row, 21, can't all be out of sequence
+abbrev pub enough_in_a_row : ℕ
+enough_in_a_row = TOO_FAR_BEHIND + 1
 
 abbrev pub no_count : Count
 no_count = record { last = None; count = 0 }
@@ -36,7 +41,8 @@ count_come w s u m n r v q None c = if same s r && (v == u) then count_reply (st
 
 abbrev pub count_arrive : World → List ℕ → ℕ → ℕ → ℕ → Node → List ℕ → Packet → Count → Count
 count_arrive w s u k m n r (DataPacket d) c =
-    let q = place_of r d.universe k w.sent in count_come w s u m n r d.universe q (refusal (stream_of r d.universe w.sent) (newest r d.universe n.delivered) q) c
+    let q = place_of r d.universe k w.sent in
+    count_come w s u m n r d.universe q (refusal (stream_of r d.universe w.sent) (newest r d.universe n.delivered) q) c
 count_arrive w s u k m n r (PagePacket p) c = c
 count_arrive w s u k m n r SyncPacket c = c
 

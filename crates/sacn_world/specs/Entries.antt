@@ -2,7 +2,6 @@
 use Rattle.std.specs.Prelude.{◌≡◌, ◌≢◌, ⊤, ℕ, ◌<◌, ◌≤◌, max, true, ◌==◌, if◌then◌else◌, List, [], ◌∷◌, slice_get, Some, Ok}
 use Rattle.sacn_framing.specs.Data.{Data}
 use Rattle.sacn_framing.specs.declared.packet.Packet.TheVariants.{DataPacket}
-use Rattle.sacn_sources.specs.Rows.{renews}
 use Rattle.sacn_sources.specs.declared.answer.Taken.{Taken as TableTaken}
 use Rattle.sacn_node.specs.declared.answer.NodeTaken.TheVariants.{FromTable}
 use Rattle.sacn_world.specs.declared.answer.Answer.{Answer}
@@ -10,7 +9,7 @@ use Rattle.sacn_world.specs.declared.answer.Answer.TheVariants.{Taken}
 use Rattle.sacn_schedule.specs.declared.event.Event.{Event}
 use Rattle.sacn_schedule.specs.declared.event.Event.TheVariants.{Order, Poll, Deliver, Look, RestartConsole, RestartNode, Noise}
 use Rattle.sacn_world.specs.Streams.{Sent, place_of}
-use Rattle.sacn_world.specs.Holdings.{Hold, is_renewed}
+use Rattle.sacn_world.specs.Holdings.{Hold, is_renewed, takes_place}
 use Rattle.sacn_world.specs.Nodes.{Node}
 use Rattle.sacn_world.specs.Worlds.{World, Outcome, step, left_by, after, held_at, place_at}
 
@@ -43,7 +42,7 @@ pub record HoldsFrom (w : World) (i : ℕ) (s : List ℕ) (u p : ℕ) : Type 0 w
 
 -- the answer says that the packet is now what the node holds
 abbrev pub TakesItsPlace : Answer → Type 0
-TakesItsPlace a = (taken : TableTaken) × (a ≡ Taken (FromTable taken)) × (renews taken ≡ true)
+TakesItsPlace a = (taken : TableTaken) × (a ≡ Taken (FromTable taken)) × (takes_place taken ≡ true)
 
 -- the place of datagram k is held after a delivery, and is later than what the node held until then and had not lost
 pub record MovesForward (w v : World) (i m : ℕ) (s : List ℕ) (u q : ℕ) : Type 0 where
@@ -52,6 +51,8 @@ pub record MovesForward (w v : World) (i m : ℕ) (s : List ℕ) (u q : ℕ) : T
 
 pub record NoHeldPacketGivesWay : Type 0 where
   -- while its entry lasts, a source stays held, at no earlier place
-  pub stays : (w : World) (events : List Event) (i : ℕ) (s : List ℕ) (u p : ℕ) → place_at i s u w ≡ Some p → Lasts w i s u events → HoldsFrom (after w events) i s u p
+  pub stays : (w : World) (events : List Event) (i : ℕ) (s : List ℕ) (u p : ℕ) → place_at i s u w ≡ Some p → Lasts w i s u events →
+      HoldsFrom (after w events) i s u p
   -- and a delivery that is answered Held or EndedNow takes it to a later one, that of its packet
-  pub moves : (w : World) (i k m : ℕ) (x : Sent) (d : Data) (o : Outcome) → slice_get w.sent k ≡ Some x → x.packet ≡ DataPacket d → step w (Deliver k i m) ≡ Ok o → TakesItsPlace o.answer → MovesForward w o.world i m x.source d.universe (place_of x.source d.universe k w.sent)
+  pub moves : (w : World) (i k m : ℕ) (x : Sent) (d : Data) (o : Outcome) → slice_get w.sent k ≡ Some x → x.packet ≡ DataPacket d →
+      step w (Deliver k i m) ≡ Ok o → TakesItsPlace o.answer → MovesForward w o.world i m x.source d.universe (place_of x.source d.universe k w.sent)

@@ -56,7 +56,8 @@ pub record DoesWhatIsDue (w : World) (i : ℕ) (c : Console) (life : Life) (t : 
 -- commands and datagrams, whatever its earlier lives did
 abbrev pub ConsolesDoWhatIsDue : Type 0
 ConsolesDoWhatIsDue =
-    (shows : List Desk) (setups : List (List Port)) (events : List Event) (i : ℕ) (desk : Desk) (c : Console) → slice_get shows i ≡ Some desk → slice_get (reached shows setups events).consoles i ≡ Some c →
+    (shows : List Desk) (setups : List (List Port)) (events : List Event) (i : ℕ) (desk : Desk) (c : Console) → slice_get shows i ≡ Some desk →
+    slice_get (reached shows setups events).consoles i ≡ Some c →
     let life = life_of desk.0 (first_in i events desk.1) in
     let calls = calls_in i events [] in
     DoesWhatIsDue (reached shows setups events) i c life (moment_of 0 calls) (deeds_after life 0 [] calls)

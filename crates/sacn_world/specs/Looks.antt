@@ -31,7 +31,8 @@ pub record LookOf (shows : List Desk) (setups : List (List Port)) (events : List
 -- Each frame that a run answered is the merge of exactly the live packets that the node held after expiry, and that were really sent
 abbrev pub FramesAreMergesOfWhatWasSent : Type 0
 FramesAreMergesOfWhatWasSent =
-    (shows : List Desk) (setups : List (List Port)) (events : List Event) (run : Ran) → Apart (map new_console shows) → ran (new_world shows setups) events ≡ Some run →
+    (shows : List Desk) (setups : List (List Port)) (events : List Event) (run : Ran) → Apart (map new_console shows) →
+    ran (new_world shows setups) events ≡ Some run →
     (j i port m : ℕ) (frame : List ℕ) → Looked events run.answers j i port m frame → IsMergedFrame shows (reached shows setups (take j events)) i port m frame
 
 module _ {shows : List Desk} {setups : List (List Port)} {events : List Event} {answers : List Answer} {frame : List ℕ} where
@@ -48,11 +49,14 @@ AgreeOn u p q frame other = (x y : ℕ) → 0 < x → x ≤ SLOTS → 0 < y → 
 
 pub record EqualHoldingsGiveEqualSlots : Type 0 where
   -- two looks of one run, of one node or two, at which the same places of the same sources are shown
-  pub one : (shows : List Desk) (setups : List (List Port)) (events : List Event) (run : Ran) → Apart (map new_console shows) → ran (new_world shows setups) events ≡ Some run →
+  pub one : (shows : List Desk) (setups : List (List Port)) (events : List Event) (run : Ran) → Apart (map new_console shows) →
+      ran (new_world shows setups) events ≡ Some run →
       (frame other : List ℕ) (a : LookOf shows setups events run.answers frame) (b : LookOf shows setups events run.answers other) (u : ℕ) →
       SameShown u (sent_at a) (held_at_look u a) (sent_at b) (held_at_look u b) → AgreeOn u a.port_there b.port_there frame other
   -- two looks of two runs, of whatever worlds, at which live packets of the same priorities and levels are held
-  pub two : (shows shows_then : List Desk) (setups setups_then : List (List Port)) (events events_then : List Event) (run run_then : Ran) → Apart (map new_console shows) → Apart (map new_console shows_then) →
+  pub two : (shows shows_then : List Desk) (setups setups_then : List (List Port)) (events events_then : List Event) (run run_then : Ran) →
+      Apart (map new_console shows) → Apart (map new_console shows_then) →
       ran (new_world shows setups) events ≡ Some run → ran (new_world shows_then setups_then) events_then ≡ Some run_then →
       (frame other : List ℕ) (a : LookOf shows setups events run.answers frame) (b : LookOf shows_then setups_then events_then run_then.answers other) (u : ℕ) →
-      ((y : Shown) → IsHeldLayer shows (sent_at a) u (held_at_look u a) y ↔ IsHeldLayer shows_then (sent_at b) u (held_at_look u b) y) → AgreeOn u a.port_there b.port_there frame other
+      ((y : Shown) → IsHeldLayer shows (sent_at a) u (held_at_look u a) y ↔ IsHeldLayer shows_then (sent_at b) u (held_at_look u b) y) →
+      AgreeOn u a.port_there b.port_there frame other

@@ -56,5 +56,6 @@ delivered_in w i s u (e ∷ es) ps = delivered_in (left_by w (step w e)) i s u e
 -- The record of the newest delivered packet is the greatest place delivered since the node started, whatever was answered
 abbrev pub NewestIsTheGreatestDelivered : Type 0
 NewestIsTheGreatestDelivered =
-    (shows : List Desk) (setups : List (List Port)) (events : List Event) (i : ℕ) (n : Node) (s : List ℕ) (u : ℕ) → slice_get (reached shows setups events).nodes i ≡ Some n →
+    (shows : List Desk) (setups : List (List Port)) (events : List Event) (i : ℕ) (n : Node) (s : List ℕ) (u : ℕ) →
+    slice_get (reached shows setups events).nodes i ≡ Some n →
     newest s u n.delivered ≡ greatest (delivered_in (new_world shows setups) i s u events [])

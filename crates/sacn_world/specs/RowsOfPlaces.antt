@@ -11,13 +11,24 @@ shown_by false p l = None
 
 -- the data packet that is sent as place q of the stream of s
 abbrev pub packet_at : List ℕ → List Sent → ℕ → Packet
-packet_at s st q = record { source = s; sequence_number = number_at st q; kind = kind_by (is_live (at st q)); priority = priority (at st q); levels = levels (at st q) }
+packet_at s st q = record {
+  source = s;
+  sequence_number = number_at st q;
+  kind = kind_by (is_live (at st q));
+  priority = priority (at st q);
+  levels = levels (at st q);
+}
 
 -- the row for a place that is held on universe u
 abbrev pub seen : ℕ → List Sent → Hold → Row
 seen u sent h =
     let st = stream_of h.source u sent in
-    record { source = h.source; sequence_number = number_at st h.place; shown = shown_by (is_live (at st h.place)) (priority (at st h.place)) (levels (at st h.place)); moment = h.moment }
+    record {
+      source = h.source;
+      sequence_number = number_at st h.place;
+      shown = shown_by (is_live (at st h.place)) (priority (at st h.place)) (levels (at st h.place));
+      moment = h.moment;
+    }
 
 abbrev pub rows_of : ℕ → List Sent → List Hold → List Row
 rows_of u sent hs = map (seen u sent) hs

@@ -6,6 +6,7 @@ use Rattle.sacn_sequence.specs.Sequence.{is_late}
 use Rattle.sacn_sources.specs.Order.{same}
 use Rattle.sacn_sources.specs.declared.kind.Kind.{Kind}
 use Rattle.sacn_sources.specs.declared.kind.Kind.TheVariants.{Live, Termination}
+use Rattle.sacn_world.specs.declared.limits.TheConstants.{TOO_FAR_BEHIND}
 
 -- a datagram that a console sent: who sent it, in which life, that life's first number, and what it says
 pub record Sent : Type 0 where
@@ -79,12 +80,17 @@ number_at st p = ((at st p).first + rank st p) % 256
 unfoldable pub late : ℕ → ℕ → Bool
 late a b = is_late a b
 
--- q may take the place of p: it is later in the stream, and in one life 1 to 236 places on but for whole rounds of the
+-- of the 256 numbers the most that one can be ahead of another and not out of sequence: the other twenty are
+abbrev pub farthest_ahead : ℕ
+farthest_ahead = 256 - TOO_FAR_BEHIND
+
+-- q may take the place of p: it is later in the stream, and in one life 1 to `farthest_ahead` places on but for whole rounds of the
 -- numbers; in a later life its number is not late
 unfoldable pub follows : List Sent → ℕ → ℕ → Bool
 follows st p q =
     nat_lt p q
-    && (if life_at st p == life_at st q then nat_le 1 ((q - p) % 256) && nat_le ((q - p) % 256) 236 else not (late (number_at st p) (number_at st q)))
+    && (if life_at st p == life_at st q then nat_le 1 ((q - p) % 256) && nat_le ((q - p) % 256) farthest_ahead
+    else not (late (number_at st p) (number_at st q)))
 
 -- along a stream lives never go back, and each life has one first number
 pub record Ordered (st : List Sent) : Type 0 where

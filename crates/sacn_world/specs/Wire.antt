@@ -61,7 +61,8 @@ place_in s u f = if is_filed s u f then option_map (λ i. i.place) f.stream else
 
 -- each datagram's place is how many of its stream stand before it
 abbrev pub AreFiled : List SentDatagram → Type 0
-AreFiled fs = (k : ℕ) (f : SentDatagram) (i : InStream) → slice_get fs k ≡ Some f → f.stream ≡ Some i → i.place ≡ count_by (is_filed f.source i.universe) (take k fs)
+AreFiled fs = (k : ℕ) (f : SentDatagram) (i : InStream) → slice_get fs k ≡ Some f → f.stream ≡ Some i →
+    i.place ≡ count_by (is_filed f.source i.universe) (take k fs)
 
 -- where octets of the source s that are sent next stand
 abbrev pub stream_next : List SentDatagram → List ℕ → Packet → Option InStream

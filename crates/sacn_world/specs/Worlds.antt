@@ -59,7 +59,10 @@ with_core c core = record { show = c.show; life = c.life; first = c.first; core 
 abbrev pub order_step : World → ℕ → ℕ → Command → Option Console → Step
 order_step w i m k None = Err NoConsole
 order_step w i m k (Some c) =
-    Ok (record { answer = answered.Ordered (console.answer k (console.at m c.core)); world = with_console w i (with_core c (console.after_command m k c.core)) })
+    Ok (record {
+      answer = answered.Ordered (console.answer k (console.at m c.core));
+      world = with_console w i (with_core c (console.after_command m k c.core));
+    })
 
 -- what a due datagram says
 abbrev pub said_by : Sender → line.Datagram → Packet
@@ -214,7 +217,8 @@ LineOk sent c l = l.sequence_number ≡ (c.first + count_by (is_of_life c.show.c
 -- a console's life is the latest of its streams, and its numbers are those of its places
 pub record ConsoleOk (sent : List Sent) (c : Console) : Type 0 where
   pub latest : (u p : ℕ) → p < length (stream_of c.show.cid u sent) → life_at (stream_of c.show.cid u sent) p ≤ c.life
-  pub begun : (u p : ℕ) → p < length (stream_of c.show.cid u sent) → life_at (stream_of c.show.cid u sent) p ≡ c.life → (at (stream_of c.show.cid u sent) p).first ≡ c.first
+  pub begun : (u p : ℕ) → p < length (stream_of c.show.cid u sent) → life_at (stream_of c.show.cid u sent) p ≡ c.life →
+      (at (stream_of c.show.cid u sent) p).first ≡ c.first
   pub sender : c.core.sender.cid ≡ c.show.cid
   pub lines : AllByRecursion (LineOk sent c) c.core.lines
 

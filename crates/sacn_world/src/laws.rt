@@ -118,10 +118,13 @@ pub fn consoles_do_what_is_due()
     steps_are_the_list();
 }
 
-/// The headline: of every world that `World::new` makes, and every list of events that its `run` answers, whatever was
-/// commanded, sent, delivered, lost, repeated, delayed and restarted, and whatever the clocks read: every frame is the merge of
-/// packets that its live sources really sent; no held packet gives way to an earlier one while its entry lasts; equal holdings
-/// give equal slots; and the twenty-first live packet in a row is held.
+/// The headline: a new world accepts a list of events exactly where each names a console, node and datagram that there is, no data
+/// packet comes twenty or more sends behind the newest of its stream and life that was delivered to the node, or after one of a later
+/// life, and no noise is a packet. And of every world that `World::new` makes, and every list of events that its `run` answers,
+/// whatever was commanded, sent, delivered, lost, repeated, delayed and restarted, and whatever the clocks read: every frame is the
+/// merge of packets that its live sources really sent; no held packet gives way to an earlier one while its entry lasts, and one that
+/// is answered Held or EndedNow is held from then on, at a later place; equal holdings give equal slots; and the twenty-first live
+/// packet in a row is held.
 pub fn headline()
     ensures { Headline }
 {
