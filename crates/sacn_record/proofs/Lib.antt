@@ -1,0 +1,12 @@
+pub mod Joined
+pub mod Written
+pub mod Sums
+pub mod Headers
+pub mod Whole
+pub mod Steps
+pub mod Numbers
+pub mod Packed
+pub mod Pieces
+pub mod Heads
+pub mod Reading
+pub mod Opening

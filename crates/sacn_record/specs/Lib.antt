@@ -1,0 +1,5 @@
+pub mod Packets
+pub mod Blocks
+pub mod Recordings
+pub mod Writing
+pub mod Laws
