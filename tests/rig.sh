@@ -177,10 +177,13 @@ import socket, subprocess, sys, time
 run = subprocess.Popen([sys.argv[1], "gateway", sys.argv[2], "--seconds", "5"], stdout=subprocess.PIPE, stderr=subprocess.PIPE, text=True)
 run.stderr.readline()
 out = socket.socket(socket.AF_INET, socket.SOCK_DGRAM)
+sent = time.monotonic()
 out.sendto(open(sys.argv[3], "rb").read(), ("127.0.0.1", 25806))
-moments = [int(line.split()[1]) for line in run.communicate()[0].splitlines()]
-print("moments", moments, file=sys.stderr)
-sys.exit(0 if len(moments) == 3 and 2500 <= moments[2] - moments[1] else 1)
+lines = [(time.monotonic() - sent, line.split()[2]) for line in run.stdout]
+is_lit = [frame.strip("0") != "" for _, frame in lines]
+print("moments", [moment for moment, _ in lines], is_lit, file=sys.stderr)
+# (2500 ms of the gateway's clock, in whole milliseconds. Its lit line may bear a later moment than the packet, so the packet's own counts.)
+sys.exit(0 if is_lit == [False, True, False] and lines[2][0] > 2.498 else 1)
 P
 }
 
