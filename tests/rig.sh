@@ -41,7 +41,7 @@ setup() { # PORT UNIVERSE
   printf 'version = 1\nudp_port = %s\n[[port]]\nnumber = 1\nuniverse = %s\n' "$1" "$2"
 }
 
-# Waits until a program has said its first line, which it does once its socket is there: at most ten seconds.
+# Waits until a gateway has written its first line, which it does after its first turn (what comes before that one ends shows in it): at most ten seconds.
 ready() { # FILE
   for _ in $(seq 100); do [ -s "$1" ] && return; sleep 0.1; done
 }
@@ -66,10 +66,10 @@ lit() {
 a_desk_lights_a_gateway() {
   setup 25801 1 >"$work/node.toml"
   show 25801 1 >"$work/show.toml"
-  : >"$work/said"
+  : >"$work/lines"
   "$sacn" gateway "$work/node.toml" --seconds 6 >"$work/lines" 2>"$work/said" &
   local pid=$!
-  ready "$work/said"
+  ready "$work/lines"
   (echo go; lit; echo status; echo "goto 9"; echo jump; sleep 0.3) | "$sacn" desk "$work/show.toml" >"$work/answers" 2>"$work/desk" || return 1
   wait "$pid" || return 1
   [ "$(levels "$work/lines")" = "00 ff 00 " ] || return 1
@@ -153,11 +153,11 @@ P
 a_stop_drops_the_backlog() {
   setup 25805 1 >"$work/node.toml"
   show 25805 1 >"$work/show.toml"
-  : >"$work/said"
+  : >"$work/lines"
   "$sacn" gateway "$work/node.toml" --seconds 9 >"$work/lines" 2>"$work/said" &
   local pid=$!
   started+=("$pid")
-  ready "$work/said"
+  ready "$work/lines"
   (echo go; lit; sleep 2) | "$sacn" desk "$work/show.toml" >/dev/null &
   local desk=$!
   lit
@@ -175,7 +175,8 @@ a_lost_source_goes_dark() {
   python3 - "$sacn" "$work/node.toml" "$top/examples/levels.sacn" <<'P'
 import socket, subprocess, sys, time
 run = subprocess.Popen([sys.argv[1], "gateway", sys.argv[2], "--seconds", "5"], stdout=subprocess.PIPE, stderr=subprocess.PIPE, text=True)
-run.stderr.readline()
+# (Its first line, of the first turn, comes before anything is sent.)
+is_dark = run.stdout.readline().split()[2].strip("0") == ""
 out = socket.socket(socket.AF_INET, socket.SOCK_DGRAM)
 sent = time.monotonic()
 out.sendto(open(sys.argv[3], "rb").read(), ("127.0.0.1", 25806))
@@ -183,7 +184,7 @@ lines = [(time.monotonic() - sent, line.split()[2]) for line in run.stdout]
 is_lit = [frame.strip("0") != "" for _, frame in lines]
 print("moments", [moment for moment, _ in lines], is_lit, file=sys.stderr)
 # (2500 ms of the gateway's clock, in whole milliseconds. Its lit line may bear a later moment than the packet, so the packet's own counts.)
-sys.exit(0 if is_lit == [False, True, False] and lines[2][0] > 2.498 else 1)
+sys.exit(0 if is_dark and is_lit == [True, False] and lines[1][0] > 2.498 else 1)
 P
 }
 
@@ -241,7 +242,13 @@ import socket, subprocess, sys, time
 heard = socket.socket(socket.AF_INET, socket.SOCK_DGRAM)
 heard.bind(("127.0.0.1", 25808)); heard.settimeout(0.2)
 run = subprocess.Popen([sys.argv[1], "desk", sys.argv[2]], stdin=subprocess.PIPE, stdout=subprocess.PIPE, text=True)
-time.sleep(0.5)
+# (It runs once it is heard.)
+end = time.time() + 20
+while time.time() < end:
+    try:
+        heard.recv(2048)
+        break
+    except socket.timeout: pass
 run.stdin.close()
 ends = {}
 while True:
@@ -294,10 +301,10 @@ multicast_between_namespaces() {
     ip -n "$a" link set va up && ip -n "$b" link set vb up &&
     ip -n "$a" route add 239.255.0.0/16 dev va &&
     "$sacn" groups "$work/node.toml" --device vb | while read -r line; do ip -n "$b" ${line#ip }; done && {
-    : >"$work/said"
+    : >"$work/lines"
     ip netns exec "$b" "$sacn" gateway "$work/node.toml" --seconds 6 >"$work/lines" 2>"$work/said" &
     local pid=$!
-    ready "$work/said"
+    ready "$work/lines"
     (echo go; lit; sleep 0.2) | ip netns exec "$a" "$sacn" desk "$work/show.toml" --multicast >/dev/null 2>"$work/desk"
     wait "$pid"
     [ "$(levels "$work/lines")" = "00 ff 00 " ] && grep -q 'came 10.77.0.1$' "$work/said" && status=0
