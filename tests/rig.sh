@@ -285,6 +285,25 @@ bad_words_are_named() {
   [ "$(sed -n 1p "$work/answers")" = "line 1 TooLong" ] && [ "$(sed -n 2p "$work/answers")" = ok ]
 }
 
+a_small_stack_is_enough() {
+  setup 25811 1 >"$work/node.toml"
+  show 25811 1 >"$work/show.toml"
+  { echo 'version = 1'; echo "x = $(printf '[%.0s' $(seq 80))$(printf ']%.0s' $(seq 80))"; } >"$work/nested.toml"
+  (
+    ulimit -s 256 || exit 1
+    "$sacn" gateway "$work/nested.toml" 2>"$work/said"
+    [ $? -eq 3 ] || exit 1
+    : >"$work/lines"
+    "$sacn" gateway "$work/node.toml" --seconds 4 >"$work/lines" 2>"$work/said" &
+    ready "$work/lines"
+    (echo go; lit) | "$sacn" desk "$work/show.toml" >"$work/answers" || exit 1
+    wait $! || exit 1
+    [ "$(levels "$work/lines")" = "00 ff 00 " ] || exit 1
+    "$sacn" watch --plain --port 25811 --seconds 1 </dev/null >"$work/lines" 2>"$work/said" || exit 1
+    "$sacn" explain "$top/examples/qlcplus.pcap" >"$work/lines" </dev/null
+  )
+}
+
 groups_are_printed() {
   setup 25810 258 >"$work/node.toml"
   [ "$("$sacn" groups "$work/node.toml" --device eth0)" = "ip address add 239.255.1.2/32 dev eth0 autojoin
@@ -316,7 +335,7 @@ multicast_between_namespaces() {
 
 [ -x "$sacn" ] || { echo "not ok the program is built: $sacn isn't there"; exit 1; }
 tests="a_desk_lights_a_gateway a_script_ends_the_desk a_port_is_shared a_stop_drops_the_backlog
-  a_lost_source_goes_dark an_interface_gets_frames Ctrl_C_ends_each_universe bad_words_are_named groups_are_printed"
+  a_lost_source_goes_dark an_interface_gets_frames Ctrl_C_ends_each_universe bad_words_are_named groups_are_printed a_small_stack_is_enough"
 for test in $tests; do
   "$test"
   verdict "$test" $?
