@@ -529,28 +529,40 @@ def an_interface_comes_back():
     want(first == 203 and took < 4, f"its first frame has level {first} (203) after {took:.2f} s (under 4)")
 
 
-def flooding():
-    """Sends at full speed what a gateway refuses, what it doesn't hear, and other sources than the desk, until it is killed."""
+def flooding(rate=None):
+    """Sends what a gateway refuses, what it doesn't hear, and other sources than the desk, until it is killed: at full speed, or so many a second."""
     sock = socket.socket(socket.AF_INET, socket.SOCK_DGRAM)
     sock.connect(("127.0.0.1", PORT))
     # (fifteen other sources of the desk's universe whose numbers rise, all dark)
     noise = [packet(n // 16, 0, cid=bytes([100 + n % 16]) * 16) for n in range(1008) if n % 16]
     noise += [b"no packet at all", packet(0, 9)[:300]] * 20 + [packet(n, 9, universe=2 + n) for n in range(39)]
-    texts = [ctypes.create_string_buffer(noise[n % len(noise)], len(noise[n % len(noise)])) for n in range(1024)]
+    send = sender(sock, [ctypes.create_string_buffer(text, len(text)) for text in (noise * 2)[:1024]])
+    begin, count = time.monotonic(), 0
+    while True:
+        send()
+        count += 1024
+        if rate is not None:
+            time.sleep(max(0, begin + count / rate - time.monotonic()))
+
+
+def sender(sock, texts):
+    """Sends at most 1024 buffers in one call of the machine."""
 
     class Vector(ctypes.Structure):
         _fields_ = [("base", ctypes.c_void_p), ("length", ctypes.c_size_t)]
 
-    class Message(ctypes.Structure):
+    class Head(ctypes.Structure):
         _fields_ = [("name", ctypes.c_void_p), ("name_length", ctypes.c_uint), ("vectors", ctypes.POINTER(Vector)), ("count", ctypes.c_size_t),
-                    ("control", ctypes.c_void_p), ("control_length", ctypes.c_size_t), ("flags", ctypes.c_int), ("sent", ctypes.c_uint)]
+                    ("control", ctypes.c_void_p), ("control_length", ctypes.c_size_t), ("flags", ctypes.c_int)]
 
-    vectors = (Vector * 1024)(*[Vector(ctypes.addressof(text), len(text)) for text in texts])
-    messages = (Message * 1024)()
-    for n in range(1024):
-        messages[n].vectors, messages[n].count = ctypes.pointer(vectors[n]), 1
-    while True:
-        LIBC.sendmmsg(sock.fileno(), messages, 1024, 0)
+    class Message(ctypes.Structure):
+        _fields_ = [("head", Head), ("sent", ctypes.c_uint)]
+
+    vectors = (Vector * len(texts))(*[Vector(ctypes.addressof(text), len(text)) for text in texts])
+    messages = (Message * len(texts))()
+    for n, message in enumerate(messages):
+        message.head.vectors, message.head.count = ctypes.pointer(vectors[n]), 1
+    return lambda: LIBC.sendmmsg(sock.fileno(), messages, len(texts), 0)
 
 
 def a_flood():
@@ -678,7 +690,7 @@ def finish(status):
 
 def main(name):
     if name == "flooding":
-        flooding()
+        flooding(*map(int, sys.argv[2:]))
     if "SPACE" in os.environ:
         subprocess.run(["ip", "link", "set", "lo", "up"], check=False)
     try:
@@ -688,4 +700,5 @@ def main(name):
     finish(0 if is_well else 1)
 
 
-main(sys.argv[1])
+if __name__ == "__main__":
+    main(sys.argv[1])
