@@ -571,11 +571,12 @@ def a_flood():
     lines = Lines(os.fdopen(run.stdout.fileno(), encoding="utf-8", closefd=False))
     desk = Desk([SACN, "desk", show(1)], stderr=subprocess.DEVNULL, text=True)
     desk.order("go\n", "^ok")
-    floods = [start([sys.executable, __file__, "flooding"]) for _ in range(2)]
-    time.sleep(4)
+    floods = [start([sys.executable, __file__, "flooding"]) for _ in range(5)]
+    # (longer than anything may wait)
+    time.sleep(3)
     delays = []
     for n in range(20):
-        time.sleep(0.1)
+        time.sleep(0.25)
         desk.run.stdin.write(f"set 2 {257 * (n + 1)}\n")
         desk.run.stdin.flush()
         slot_3 = lambda line: int(line.split()[2][6:8], 16) == n + 1 if len(line.split()) == 3 else False
