@@ -295,7 +295,7 @@ class Desk:
 def second_space():
     """Another network namespace behind a cable: this one is 10.77.0.1, that one 10.77.0.2, and nobody else is on the subnet."""
     if "SPACE" not in os.environ:
-        sys.exit(77)
+        finish(77)
     other = start(["unshare", "-n", "sleep", "1000"])
     mine = os.readlink("/proc/self/ns/net")
     for _ in range(100):
@@ -684,6 +684,7 @@ def finish(status):
     for run in started:
         if run.poll() is None:
             run.kill()
+            run.wait()
     shutil.rmtree(ROOM, ignore_errors=True)
     sys.stderr.flush()
     os._exit(status)
