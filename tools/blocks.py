@@ -62,6 +62,13 @@ def absent():
         line_of("absent", "the end: not in 60 s")
 
 
+def sent_so_far():
+    """The datagrams that this namespace has sent."""
+    with open("/proc/net/snmp", encoding="utf-8") as lines:
+        names, values = [line.split() for line in lines if line.startswith("Udp:")]
+    return int(values[names.index("OutDatagrams")])
+
+
 def flood():
     run = light.gateway(stdout=subprocess.PIPE)
     lines = light.Lines(os.fdopen(run.stdout.fileno(), encoding="utf-8", closefd=False))
@@ -70,15 +77,17 @@ def flood():
     time.sleep(2)
     before = len(lines.lines)
     floods = [light.start([sys.executable, f"{TOP}/tests/light.py", "flooding", "150000"]) for _ in range(2)]
+    sent, begin = sent_so_far(), time.monotonic()
     time.sleep(20)
+    sent, took = sent_so_far() - sent, time.monotonic() - begin
     moments = [int(line.split()[1]) for _, line in lines.lines[before:]]
     for one in floods:
         one.kill()
     gaps = [b - a for a, b in zip(moments, moments[1:])]
     time.sleep(1.5)
     dropped = sum(int(line.split()[-1]) for line in light.text_of_sockets().splitlines() if f":{PORT:04X} 00000000" in line)
-    counted = sum(int(n) for n in re.findall("^(?:refused|discarded|dropped) [A-Za-z]+ ([0-9]+)", light.text_of("said"), re.M))
-    line_of("flood", f"greatest gap of a port: {max(gaps, default=0)} ms, {len(moments)} of 800 changes shown; the machine dropped {dropped}; {counted / 20:.0f} a second refused or discarded")
+    line_of("flood", f"{sent / took:.0f} datagrams a second, of which the machine dropped {100 * dropped / sent:.1f} of 100")
+    line_of("flood", f"greatest gap of a port of 40 changes a second: {max(gaps, default=20000)} ms, {len(moments)} of {40 * took:.0f} changes shown")
     late = re.findall("^dropped Late ([0-9]+)", light.text_of("said"), re.M)
     line_of("flood", f"dropped as late: {sum(map(int, late))}")
 
