@@ -10,6 +10,7 @@ unread    twelve interfaces that nobody reads beside one that works: its greates
 
 It takes the program crates/sacn/out/sacn, or the path in SACN. Each runs in a network namespace of its own (as root, or as a user who may make one).
 """
+import ctypes
 import os
 import re
 import select
@@ -20,8 +21,10 @@ import time
 
 TOP = os.path.dirname(os.path.dirname(os.path.realpath(__file__)))
 sys.path.insert(0, f"{TOP}/tests")
+sys.dont_write_bytecode = True
 import light
-from light import SACN, PORT
+import stage
+from stage import SACN, PORT
 
 
 def line_of(name, *words):
@@ -38,12 +41,12 @@ def spread(values, unit):
 
 def absent():
     universes, hosts = range(1, 65), [f"10.77.0.{100 + n}" for n in range(63)]
-    other, inside = light.second_space()
-    heard = light.Heard(light.tap(other, "vb"), skip=42)
+    other, inside = stage.second_space()
+    heard = stage.Heard(stage.tap(other, "vb"), skip=42)
     # (what takes the datagrams: a socket that nobody reads would have its host say that it is full)
-    light.gateway(space=inside)
+    stage.gateway(space=inside)
     to = [word for host in [*hosts, "10.77.0.2"] for word in ("--to", host)]
-    desk = light.Desk([SACN, "desk", light.show(64), *to], stderr=subprocess.DEVNULL, text=True)
+    desk = stage.Desk([SACN, "desk", stage.show(64), *to], stderr=subprocess.DEVNULL, text=True)
     begin = time.time()
     answers = [desk.order("go\n", "^ok", 40)]
     while time.time() - begin < 30 and None not in answers:
@@ -70,13 +73,13 @@ def sent_so_far():
 
 
 def flood():
-    run = light.gateway(stdout=subprocess.PIPE)
-    lines = light.Lines(os.fdopen(run.stdout.fileno(), encoding="utf-8", closefd=False))
-    desk = light.Desk([SACN, "desk", light.show(1)], stderr=subprocess.DEVNULL, text=True)
+    run = stage.gateway(stdout=subprocess.PIPE)
+    lines = stage.Lines(os.fdopen(run.stdout.fileno(), encoding="utf-8", closefd=False))
+    desk = stage.Desk([SACN, "desk", stage.show(1)], stderr=subprocess.DEVNULL, text=True)
     desk.order("go\n", "^ok")
     time.sleep(2)
     before = len(lines.lines)
-    floods = [light.start([sys.executable, f"{TOP}/tests/light.py", "flooding", "150000"]) for _ in range(2)]
+    floods = [stage.start([sys.executable, f"{TOP}/tests/light.py", "flooding", "150000"]) for _ in range(2)]
     sent, begin = sent_so_far(), time.monotonic()
     time.sleep(20)
     sent, took = sent_so_far() - sent, time.monotonic() - begin
@@ -85,10 +88,10 @@ def flood():
         one.kill()
     gaps = [b - a for a, b in zip(moments, moments[1:])]
     time.sleep(1.5)
-    dropped = sum(int(line.split()[-1]) for line in light.text_of_sockets().splitlines() if f":{PORT:04X} 00000000" in line)
+    dropped = sum(int(line.split()[-1]) for line in stage.text_of_sockets().splitlines() if f":{PORT:04X} 00000000" in line)
     line_of("flood", f"{sent / took:.0f} datagrams a second, of which the machine dropped {100 * dropped / sent:.1f} of 100")
     line_of("flood", f"greatest gap of a port of 40 changes a second: {max(gaps, default=20000)} ms, {len(moments)} of {40 * took:.0f} changes shown")
-    late = re.findall("^dropped Late ([0-9]+)", light.text_of("said"), re.M)
+    late = re.findall("^dropped Late ([0-9]+)", stage.text_of("said"), re.M)
     line_of("flood", f"dropped as late: {sum(map(int, late))}")
 
 
@@ -96,9 +99,9 @@ def send_many(seconds):
     """1000 universes of 44 packets a second; how many were sent, and in how many seconds."""
     sock = socket.socket(socket.AF_INET, socket.SOCK_DGRAM)
     sock.connect(("127.0.0.1", PORT))
-    texts = [light.ctypes.create_string_buffer(octets, len(octets)) for octets in (light.packet(0, 0, universe=u) for u in range(1, 1001))]
+    texts = [ctypes.create_string_buffer(octets, len(octets)) for octets in (stage.packet(0, 0, universe=u) for u in range(1, 1001))]
     # (fifty at a time, spread over the turn, as a network brings them: no receive buffer wants to hold a thousand)
-    parts = [(texts[at:at + 50], light.sender(sock, texts[at:at + 50])) for at in range(0, 1000, 50)]
+    parts = [(texts[at:at + 50], stage.sender(sock, texts[at:at + 50])) for at in range(0, 1000, 50)]
     begin, sent = time.monotonic(), 0
     for step in range(seconds * 44 * 20):
         part, send = parts[step % 20]
@@ -140,15 +143,15 @@ def viewers(seconds=60):
             heard = int(found.group(1))
             break
         time.sleep(0.1)
-    dropped = sum(int(line.split()[-1]) for line in light.text_of_sockets().splitlines() if f":{PORT:04X} 00000000" in line)
+    dropped = sum(int(line.split()[-1]) for line in stage.text_of_sockets().splitlines() if f":{PORT:04X} 00000000" in line)
     lost = sent - (heard or 0)
     line_of("viewers", f"{sent} datagrams in {took:.1f} s, lost {lost} ({100 * lost / sent:.4f} of 100), {dropped} of them dropped by the machine")
 
 
 def unread():
-    works = light.Interface("works")
-    light.gateway(light.widgets([*light.stuck_interfaces(12), works]), ports=13)
-    console = light.Console()
+    works = stage.Interface("works")
+    stage.gateway(light.widgets([*light.stuck_interfaces(12), works]), ports=13)
+    console = stage.Console()
     console.fade(80)
     delays = []
     for level in range(201, 251):
@@ -166,7 +169,7 @@ def main(words):
     if "SPACE" in os.environ:
         subprocess.run(["ip", "link", "set", "lo", "up"], check=False)
         jobs[words[0]]()
-        light.finish(0)
+        stage.finish(0)
     flags = ["-n"] if subprocess.run(["unshare", "-n", "true"], stderr=subprocess.DEVNULL, check=False).returncode == 0 else ["-Urn"]
     for name in words or jobs:
         print(name, "at a load of", "%.1f" % os.getloadavg()[0], flush=True)
