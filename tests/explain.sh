@@ -354,11 +354,15 @@ if ! command -v tcpdump >/dev/null; then
   exit 0
 fi
 port=25821
-timeout 20 tcpdump -i lo -U -w rig.pcap "udp port $port" 2>tcpdump.err &
-recorder=$!
-started+=("$recorder")
-for _ in $(seq 50); do grep -q '^tcpdump: listening' tcpdump.err && break; sleep 0.1; done
-if ! kill -0 "$recorder" 2>/dev/null || ! grep -q '^tcpdump: listening' tcpdump.err; then
+# Whether a recording has begun.
+records() {
+  timeout 20 tcpdump -i lo -U -w rig.pcap "udp port $port" 2>tcpdump.err &
+  recorder=$!
+  started+=("$recorder")
+  for _ in $(seq 50); do grep -q '^tcpdump: listening' tcpdump.err && break; sleep 0.1; done
+  kill -0 "$recorder" 2>/dev/null && grep -q '^tcpdump: listening' tcpdump.err
+}
+if ! records; then
   echo "skipped explain: a gateway's frames: $(head -n 1 tcpdump.err)"
   exit 0
 fi
@@ -388,20 +392,28 @@ T
   for step in $(seq 12); do echo "$((100 + 100 * step)) set $((1 + step % 2)) $((65535 - 5000 * step))"; done
   printf '%s\n' "1500 master 30000" "1600 end 2"
 } >rig-script.txt
-"$sacn" gateway rig.toml --seconds 5 >gateway.lines 2>gateway.err &
-gateway=$!
-started+=("$gateway")
-for _ in $(seq 50); do [ -s gateway.lines ] && break; sleep 0.1; done
-"$sacn" desk rig-show.toml --script rig-script.txt </dev/null >desk.lines 2>desk.err
-wait "$gateway"
-kill -INT "$recorder"
-wait "$recorder"
-"$sacn" explain rig.pcap --setup rig.toml </dev/null >rig.text 2>err
-# (One turn of a gateway takes all that waits, and writes its ports in order: so the lines of each port are compared.)
-cut -d ' ' -f 1,3 gateway.lines | sort -s -n -k 1,1 >wanted
-grep -E '^[0-9]+ [0-9]+ [0-9a-f]{1026}$' rig.text | cut -d ' ' -f 1,3 | sort -s -n -k 1,1 >found
-count=$(wc -l <wanted)
-if [ "$count" -gt 10 ] && cmp -s wanted found; then
+# Whether a recording of a gateway and a desk tells the frames that the gateway prints.
+is_told() {
+  local gateway
+  : >gateway.lines
+  "$sacn" gateway rig.toml --seconds 5 >gateway.lines 2>gateway.err &
+  gateway=$!
+  started+=("$gateway")
+  for _ in $(seq 50); do [ -s gateway.lines ] && break; sleep 0.1; done
+  "$sacn" desk rig-show.toml --script rig-script.txt </dev/null >desk.lines 2>desk.err
+  wait "$gateway"
+  kill -INT "$recorder"
+  wait "$recorder"
+  "$sacn" explain rig.pcap --setup rig.toml </dev/null >rig.text 2>err
+  # (One turn of a gateway takes all that waits, and writes its ports in order: so the lines of each port are compared.)
+  cut -d ' ' -f 1,3 gateway.lines | sort -s -n -k 1,1 >wanted
+  grep -E '^[0-9]+ [0-9]+ [0-9a-f]{1026}$' rig.text | cut -d ' ' -f 1,3 | sort -s -n -k 1,1 >found
+  count=$(wc -l <wanted)
+  [ "$count" -gt 10 ] && cmp -s wanted found
+}
+# (A gateway that gets no processor for the time between two changes shows both at once: that happens on a busy machine, and seldom thrice.)
+is_told || { records && is_told; } || { records && is_told; }
+if [ $? = 0 ]; then
   echo "ok explain: a gateway's frames out of a recording, $count lines"
 else
   echo "not ok explain: a gateway's frames: $count lines, $(wc -l <found) told"

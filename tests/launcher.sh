@@ -248,6 +248,37 @@ check "what ends a desk in its first second isn't lost" early_end_counts
 no_input_is_its_end() { desk_without_input 1 && prints "ended early"; }
 check "a desk without a script and without input ends at once" no_input_is_its_end
 
+# The processes of a session.
+session() { sed -n "s/^\([0-9]*\) .*) [A-Y] [0-9]* [0-9]* $1 .*/\1/p" /proc/[0-9]*/stat 2>/dev/null; }
+# Kills the launcher of a program outright, which has its input from a file or else from a pipe that stays: within five seconds the program's
+# input ends, and nothing of the launcher's is left.
+killed_outright() { # FILE-OR-NONE WORD..
+  local input=$1 launcher orders verdict
+  shift
+  rm -f "$room/told"
+  printf '#!/usr/bin/env bash\ntrap "" INT\necho began\nwhile read -r line; do echo "took $line"; done\nif [ -e "%s" ]; then echo "ended all"; else echo "ended early"; fi\n' "$room/told" >"$tree/crates/sacn/out/sacn"
+  mkfifo "$room/orders"
+  exec {orders}<>"$room/orders"
+  rm "$room/orders"
+  PATH=$room/bin:$usual setsid "$tree/sacn" "$@" >"$room/out" 2>"$room/err" <"${input:-/proc/self/fd/$orders}" &
+  launcher=$!
+  for _ in $(seq 200); do grep -q began "$room/out" && break; sleep 0.05; done
+  : >"$room/told"
+  kill -KILL "$launcher"
+  wait "$launcher" 2>/dev/null
+  status=$?
+  for _ in $(seq 50); do grep -q ended "$room/out" && break; sleep 0.1; done
+  for _ in $(seq 20); do [ -z "$(session "$launcher")" ] && break; sleep 0.1; done
+  prints "ended all" && [ -z "$(session "$launcher")" ]
+  verdict=$?
+  exec {orders}<&-
+  kill $(session "$launcher") 2>/dev/null
+  return "$verdict"
+}
+check "a desk whose launcher is killed comes to the end of its input, though another holds that" killed_outright "" desk show.toml
+check "so does a desk with a script and no input" killed_outright /dev/null desk show.toml --script s.txt --stay
+check "so does a watch" killed_outright "" watch
+
 full_disk() {
   anew
   launch prove

@@ -195,7 +195,7 @@ serves 127.0.0.1:$tcp --universe 7
 curl -sN -m 9 "$at/events" >events &
 viewer=$!
 curl -sN -m 9 "$at/events?universe=1" >events.1 &
-sleep 0.5
+for _ in $(seq 60); do [ -s events ] && [ -s events.1 ] && break; sleep 0.1; done
 printf '0 go\n2500 go\n3500 go\n' >script.txt
 timeout 30 "$sacn" desk show.toml --script script.txt </dev/null >/dev/null 2>desk.err &
 desk=$!

@@ -41,7 +41,7 @@ setup() { # PORT UNIVERSE
   printf 'version = 1\nudp_port = %s\n[[port]]\nnumber = 1\nuniverse = %s\n' "$1" "$2"
 }
 
-# Waits until a program has said its first line, which it does once its socket is there: at most ten seconds.
+# Waits until a gateway has written its first line, which it does after its first turn (what comes before that one ends shows in it): at most ten seconds.
 ready() { # FILE
   for _ in $(seq 100); do [ -s "$1" ] && return; sleep 0.1; done
 }
@@ -66,10 +66,10 @@ lit() {
 a_desk_lights_a_gateway() {
   setup 25801 1 >"$work/node.toml"
   show 25801 1 >"$work/show.toml"
-  : >"$work/said"
+  : >"$work/lines"
   "$sacn" gateway "$work/node.toml" --seconds 6 >"$work/lines" 2>"$work/said" &
   local pid=$!
-  ready "$work/said"
+  ready "$work/lines"
   (echo go; lit; echo status; echo "goto 9"; echo jump; sleep 0.3) | "$sacn" desk "$work/show.toml" >"$work/answers" 2>"$work/desk" || return 1
   wait "$pid" || return 1
   [ "$(levels "$work/lines")" = "00 ff 00 " ] || return 1
@@ -153,11 +153,11 @@ P
 a_stop_drops_the_backlog() {
   setup 25805 1 >"$work/node.toml"
   show 25805 1 >"$work/show.toml"
-  : >"$work/said"
+  : >"$work/lines"
   "$sacn" gateway "$work/node.toml" --seconds 9 >"$work/lines" 2>"$work/said" &
   local pid=$!
   started+=("$pid")
-  ready "$work/said"
+  ready "$work/lines"
   (echo go; lit; sleep 2) | "$sacn" desk "$work/show.toml" >/dev/null &
   local desk=$!
   lit
@@ -175,12 +175,16 @@ a_lost_source_goes_dark() {
   python3 - "$sacn" "$work/node.toml" "$top/examples/levels.sacn" <<'P'
 import socket, subprocess, sys, time
 run = subprocess.Popen([sys.argv[1], "gateway", sys.argv[2], "--seconds", "5"], stdout=subprocess.PIPE, stderr=subprocess.PIPE, text=True)
-run.stderr.readline()
+# (Its first line, of the first turn, comes before anything is sent.)
+is_dark = run.stdout.readline().split()[2].strip("0") == ""
 out = socket.socket(socket.AF_INET, socket.SOCK_DGRAM)
+sent = time.monotonic()
 out.sendto(open(sys.argv[3], "rb").read(), ("127.0.0.1", 25806))
-moments = [int(line.split()[1]) for line in run.communicate()[0].splitlines()]
-print("moments", moments, file=sys.stderr)
-sys.exit(0 if len(moments) == 3 and 2500 <= moments[2] - moments[1] else 1)
+lines = [(time.monotonic() - sent, line.split()[2]) for line in run.stdout]
+is_lit = [frame.strip("0") != "" for _, frame in lines]
+print("moments", [moment for moment, _ in lines], is_lit, file=sys.stderr)
+# (2500 ms of the gateway's clock, in whole milliseconds. Its lit line may bear a later moment than the packet, so the packet's own counts.)
+sys.exit(0 if is_dark and is_lit == [True, False] and lines[1][0] > 2.498 else 1)
 P
 }
 
@@ -238,7 +242,13 @@ import socket, subprocess, sys, time
 heard = socket.socket(socket.AF_INET, socket.SOCK_DGRAM)
 heard.bind(("127.0.0.1", 25808)); heard.settimeout(0.2)
 run = subprocess.Popen([sys.argv[1], "desk", sys.argv[2]], stdin=subprocess.PIPE, stdout=subprocess.PIPE, text=True)
-time.sleep(0.5)
+# (It runs once it is heard.)
+end = time.time() + 20
+while time.time() < end:
+    try:
+        heard.recv(2048)
+        break
+    except socket.timeout: pass
 run.stdin.close()
 ends = {}
 while True:
@@ -275,6 +285,25 @@ bad_words_are_named() {
   [ "$(sed -n 1p "$work/answers")" = "line 1 TooLong" ] && [ "$(sed -n 2p "$work/answers")" = ok ]
 }
 
+a_small_stack_is_enough() {
+  setup 25811 1 >"$work/node.toml"
+  show 25811 1 >"$work/show.toml"
+  { echo 'version = 1'; echo "x = $(printf '[%.0s' $(seq 80))$(printf ']%.0s' $(seq 80))"; } >"$work/nested.toml"
+  (
+    ulimit -s 256 || exit 1
+    "$sacn" gateway "$work/nested.toml" 2>"$work/said"
+    [ $? -eq 3 ] || exit 1
+    : >"$work/lines"
+    "$sacn" gateway "$work/node.toml" --seconds 4 >"$work/lines" 2>"$work/said" &
+    ready "$work/lines"
+    (echo go; lit) | "$sacn" desk "$work/show.toml" >"$work/answers" || exit 1
+    wait $! || exit 1
+    [ "$(levels "$work/lines")" = "00 ff 00 " ] || exit 1
+    "$sacn" watch --plain --port 25811 --seconds 1 </dev/null >"$work/lines" 2>"$work/said" || exit 1
+    "$sacn" explain "$top/examples/qlcplus.pcap" >"$work/lines" </dev/null
+  )
+}
+
 groups_are_printed() {
   setup 25810 258 >"$work/node.toml"
   [ "$("$sacn" groups "$work/node.toml" --device eth0)" = "ip address add 239.255.1.2/32 dev eth0 autojoin
@@ -291,10 +320,10 @@ multicast_between_namespaces() {
     ip -n "$a" link set va up && ip -n "$b" link set vb up &&
     ip -n "$a" route add 239.255.0.0/16 dev va &&
     "$sacn" groups "$work/node.toml" --device vb | while read -r line; do ip -n "$b" ${line#ip }; done && {
-    : >"$work/said"
+    : >"$work/lines"
     ip netns exec "$b" "$sacn" gateway "$work/node.toml" --seconds 6 >"$work/lines" 2>"$work/said" &
     local pid=$!
-    ready "$work/said"
+    ready "$work/lines"
     (echo go; lit; sleep 0.2) | ip netns exec "$a" "$sacn" desk "$work/show.toml" --multicast >/dev/null 2>"$work/desk"
     wait "$pid"
     [ "$(levels "$work/lines")" = "00 ff 00 " ] && grep -q 'came 10.77.0.1$' "$work/said" && status=0
@@ -306,7 +335,7 @@ multicast_between_namespaces() {
 
 [ -x "$sacn" ] || { echo "not ok the program is built: $sacn isn't there"; exit 1; }
 tests="a_desk_lights_a_gateway a_script_ends_the_desk a_port_is_shared a_stop_drops_the_backlog
-  a_lost_source_goes_dark an_interface_gets_frames Ctrl_C_ends_each_universe bad_words_are_named groups_are_printed"
+  a_lost_source_goes_dark an_interface_gets_frames Ctrl_C_ends_each_universe bad_words_are_named groups_are_printed a_small_stack_is_enough"
 for test in $tests; do
   "$test"
   verdict "$test" $?

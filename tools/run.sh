@@ -10,37 +10,48 @@ is_ordered() {
   for word in "$@"; do case $word in --script | --script=*) return 1 ;; esac; done
 }
 
-# Ends the feed, and with it the input of what runs; of a desk not in its first second, in which an input that ends is none.
-stop_feed() {
-  while [ $((SECONDS - since)) -lt "$calm" ]; do sleep 0.1 || true; done
-  kill "$feed" 2>/dev/null || true
+# Gives a desk its input until the launcher lets go of its end of a pipe, or is gone: an end of input in a desk's first second is none, so that
+# it comes after that second. A line on the pipe says that the desk has ended by itself.
+feed_desk() {
+  local copy=
+  trap '' INT TERM HUP
+  exec {life}>&-
+  if is_ordered "$@"; then
+    cat <&"$in" &
+    copy=$!
+    exec >&-
+  fi
+  exec {in}<&-
+  if ! read -r <&"$lives"; then
+    while [ $((SECONDS - since)) -lt 3 ]; do sleep 0.1; done
+  fi
+  if [ -n "$copy" ]; then kill -KILL "$copy" 2>/dev/null || true; fi
 }
 
-# Runs a program whose clean end is the end of its standard input: INT, TERM and HUP end the feed, and not the program, which
-# then ends what it has lit. A second one changes nothing.
+# Runs a program whose clean end is the end of its standard input: INT, TERM and HUP end its input, and not the program, which
+# then ends what it has lit. A second one changes nothing. What the program waits for is held by this process alone, so that it comes
+# to its end also where this one is killed.
 feed() {
-  local feed= pid status since=$SECONDS calm=0 caught=
+  local life lives in out pid status since=$SECONDS caught=
   trap 'caught=1' INT TERM HUP
   exec {in}<&0
+  # A pipe of which both ends are here.
+  exec {life}<> <(:)
+  exec {lives}<"/proc/self/fd/$life"
   # (A desk is ordered by its input; a watch only waits for the end of it, whatever stands there.)
-  if [ "$2" = desk ]; then calm=3; fi
-  if [ "$2" = desk ] && is_ordered "$@"; then
-    exec {out}< <(trap '' INT HUP; exec cat <&"$in")
-  else
-    exec {out}< <(trap '' INT HUP; exec sleep infinity)
-  fi
-  feed=$!
-  (trap '' INT TERM HUP; exec "$@" <&"$out" {in}<&- {out}<&-) &
+  if [ "$2" = desk ]; then exec {out}< <(feed_desk "$@"); else exec {out}<&"$lives"; fi
+  (trap '' INT TERM HUP; exec "$@" <&"$out" {in}<&- {out}<&- {life}<&- {lives}<&-) &
   pid=$!
-  exec {out}<&- {in}<&-
-  trap 'caught=1; stop_feed' INT TERM HUP
-  if [ -n "$caught" ]; then stop_feed; fi
+  exec {out}<&- {in}<&- {lives}<&-
+  # (Where it comes twice, the pipe is closed already.)
+  trap 'caught=1; exec {life}>&-' INT TERM HUP
+  if [ -n "$caught" ]; then exec {life}>&-; fi
   # (A wait that a signal cuts short is made again: the shell keeps the status of a process that ended meanwhile.)
   while caught= status=0; do
     wait "$pid" || status=$?
     [ -n "$caught" ] || break
   done
-  kill "$feed" 2>/dev/null || true
+  { echo >&"$life"; } 2>/dev/null || true
   exit "$status"
 }
 
