@@ -24,7 +24,7 @@ called ports (t ∷ ts) earlier n is = ap (step (call_at t.now t.heard)) (called
 -- after a turn nothing more is lost at its last reading
 whole_settled : (senders : List (List ℕ)) (start : ℕ) (n : Node) (hs : List Hearing) → IsWhole hs
     → core_at (latest_reading hs) (node_after n (turns_of senders start hs)).core ≡ (node_after n (turns_of senders start hs)).core
-whole_settled senders start n [] whole = absurd (omega (arith, whole refl))
+whole_settled senders start n [] whole = absurd whole
 whole_settled senders start n (h ∷ hs) whole =
     turn_settled h.now (heard_of senders (emptied_after start hs) h.now h.came) (node_after n (turns_of senders start hs)).core
 

@@ -8,5 +8,8 @@ pub mod Addresses
 pub mod Gathering
 pub mod Groups
 pub mod Widgets
+pub mod Interfaces
+pub mod InterfaceLaws
 pub mod MemoryHearings
 pub mod MemoryReceiver
+pub mod MemoryDevice

@@ -7,9 +7,10 @@ ghost use Rattle.sacn_edge.specs.NodeText.{call_at, same};
 ghost use Rattle.sacn_edge.specs.PortChanges.{Grows, IsTold};
 ghost use Rattle.sacn_live.specs.Hearings.{hearing_in, From, came_of, is_admitted, is_late, is_datagram, heard_of, emptied_with};
 
+use crate::device::DeviceFault;
 use crate::limits::LATE_AFTER;
 use crate::receiver::{Arrival, Octets4, Receiver};
-use sacn_edge::{BUFFER_OCTETS, Changes, PortShown};
+use sacn_edge::{BUFFER_OCTETS, Changes};
 use sacn_node::{NodeCore, NodeTaken};
 
 /// Why a datagram doesn't go to the node.
@@ -21,8 +22,8 @@ pub enum PassedOver {
     OtherSender,
 }
 
-/// What looks on while a gateway runs: for diagnosis, and for interfaces that show the frames. Nothing that it
-/// does changes the gateway's text.
+/// What looks on while a gateway runs, for diagnosis. Nothing that it does changes the gateway's text, nor what interfaces
+/// are offered.
 pub trait Notes {
     /// A datagram went to the node.
     fn note_taken(&mut self, now: u64, sender: Octets4, octets: &[u8], taken: NodeTaken);
@@ -33,8 +34,11 @@ pub trait Notes {
     /// The device failed in a receive.
     fn note_failure(&mut self, now: u64);
 
-    /// A turn's lines are written: these are the frames of the ports.
-    fn note_frames(&mut self, now: u64, ports: &[PortShown]);
+    /// What became of an interface: why it failed, or that it works again. It isn't noted again until that changes.
+    fn note_interface(&mut self, port: u8, name: &str, fault: Option<DeviceFault>);
+
+    /// A turn's lines are written, and its frames offered.
+    fn note_turn(&mut self, now: u64);
 }
 
 /// What a receive brought, and what is known after it.

@@ -7,7 +7,10 @@ pub const LATE_AFTER: u64 = 2500;
 /// The most receives of one turn of a gateway.
 pub const MAX_BURST: usize = 4096;
 
-/// The longest wait of a turn: a stop of the process is then seen, and interfaces get their frame twice a second.
+/// How long after its first reading a turn ends, though more may wait: the frames are then shown.
+pub const TURN_SPAN: u64 = 20;
+
+/// The longest wait of a turn: a stop of the process is then seen.
 pub const LONGEST_WAIT: u64 = 500;
 
 /// The most orders that a desk takes in one round; what is left waits for the next one.
@@ -33,3 +36,9 @@ pub const SAID_EACH: u64 = 1000;
 
 /// How long an interface shows a frame before it gets it again.
 pub const REFRESH: u64 = 500;
+
+/// How long an interface that failed is left alone.
+pub const RETRY: u64 = 1000;
+
+/// How long a gateway waits at most where an interface could take no more octets.
+pub const LATER_WAIT: u64 = 25;
