@@ -235,6 +235,59 @@ assert "widget 1 " in said and "works again" in said, said
 P
 }
 
+a_stuck_interface_costs_itself_alone() {
+  { setup 25813 1; printf '[[port]]\nnumber = 2\nuniverse = 1\n'; } >"$work/node.toml"
+  show 25813 1 >"$work/show.toml"
+  python3 - "$sacn" "$work" <<'P'
+import os, pty, select, subprocess, sys, time, tty
+sacn, work = sys.argv[1], sys.argv[2]
+def terminal(is_raw):
+    master, slave = pty.openpty()
+    if is_raw: tty.setraw(slave)
+    return master, slave
+# What comes until it is enough.
+def read(master, is_enough):
+    data, end = b"", time.time() + 20
+    while time.time() < end and not is_enough(data):
+        ready, _, _ = select.select([master], [], [], 0.1)
+        if ready: data += os.read(master, 65536)
+    return data
+# The first slot of each packet; there is nothing between them, and the last may have come in part.
+def frames(data):
+    found = [data[at:at + 518] for at in range(0, len(data) - 517, 518)]
+    assert all(f[:4] == b"\x7e\x06\x01\x02" and f[-1] == 0xe7 for f in found), data[:20]
+    return [f[5] for f in found]
+def is_lit(data): return 255 in frames(data)
+for is_raw in (True, False):
+    stuck, full = terminal(is_raw)
+    works, beside = terminal(True)
+    # Nobody reads one terminal: it is full, but for less than a packet.
+    os.set_blocking(full, False)
+    written = 0
+    try:
+        while True: written += os.write(full, b"x" * 64)
+    except BlockingIOError: pass
+    before = os.read(stuck, 300)
+    words = ["--widget", "1=" + os.ttyname(full), "--widget", "2=" + os.ttyname(beside), "--seconds", "12"]
+    run = subprocess.Popen([sacn, "gateway", work + "/node.toml"] + words, stdout=subprocess.DEVNULL, stderr=subprocess.PIPE, text=True)
+    run.stderr.readline()
+    dark = frames(read(works, lambda data: len(data) >= 3 * 518))
+    assert len(dark) >= 3 and set(dark) == {0}, dark
+    desk = subprocess.Popen([sacn, "desk", work + "/show.toml"], stdin=subprocess.PIPE, stdout=subprocess.DEVNULL, text=True)
+    desk.stdin.write("go\n"); desk.stdin.flush()
+    lit = frames(read(works, is_lit))
+    assert lit and lit[-1] == 255, lit
+    # Now it is read: what comes after its old octets is whole packets, up to the frame as it is.
+    left = written - len(before)
+    later = read(stuck, lambda data: is_lit(data[left:]))
+    assert set(later[:left]) == {ord("x")}, later[:20]
+    assert is_lit(later[left:]), frames(later[left:])
+    desk.stdin.close(); desk.wait()
+    run.communicate()
+    for descriptor in (stuck, full, works, beside): os.close(descriptor)
+P
+}
+
 Ctrl_C_ends_each_universe() {
   show 25808 1 2 >"$work/show.toml"
   python3 - "$sacn" "$work/show.toml" <<'P'
@@ -335,7 +388,7 @@ multicast_between_namespaces() {
 
 [ -x "$sacn" ] || { echo "not ok the program is built: $sacn isn't there"; exit 1; }
 tests="a_desk_lights_a_gateway a_script_ends_the_desk a_port_is_shared a_stop_drops_the_backlog
-  a_lost_source_goes_dark an_interface_gets_frames Ctrl_C_ends_each_universe bad_words_are_named groups_are_printed a_small_stack_is_enough"
+  a_lost_source_goes_dark an_interface_gets_frames a_stuck_interface_costs_itself_alone Ctrl_C_ends_each_universe bad_words_are_named groups_are_printed a_small_stack_is_enough"
 for test in $tests; do
   "$test"
   verdict "$test" $?

@@ -7,7 +7,8 @@ use sacn_console::{Command, ConsoleCore, read_script, read_show};
 use sacn_edge::memory::{Incoming as Bringing, ListClock, MemoryLink};
 use sacn_edge::{ConsoleReport, WriterOut, run_console, run_node};
 use sacn_live::memory::{Incoming, MemoryReceiver};
-use sacn_live::{Octets4, Span, run_desk, run_gateway};
+use sacn_live::memory_device::MemoryDevice;
+use sacn_live::{DeviceFault, Interface, Octets4, Span, Took, run_desk, run_gateway};
 use sacn_node::{NodeCore, read_node};
 use std::alloc::Global;
 use std::mem;
@@ -17,6 +18,7 @@ use std::mem;
 pub struct Loops {
     incoming: Vec<Incoming>,
     senders: Vec<Octets4>,
+    interfaces: Vec<Interface<'static, MemoryDevice>>,
     orders: Vec<(u64, Command)>,
     output: Vec<u8>,
     sends: Vec<Vec<u8>>,
@@ -28,6 +30,7 @@ impl Loops {
         Loops {
             incoming: Vec::new(alloc),
             senders: Vec::new(alloc),
+            interfaces: Vec::new(alloc),
             orders: Vec::new(alloc),
             output: Vec::new(alloc),
             sends: Vec::new(alloc),
@@ -50,6 +53,7 @@ impl Loops {
                 let sender = sender_of(step.word())?;
                 push(&mut self.senders, sender)
             }
+            "interface" => self.interface(step),
             "script" => self.script(step),
             "node" => self.node(step),
             "gateway" => self.gateway(step),
@@ -57,6 +61,10 @@ impl Loops {
             "desk" => self.desk(step),
             "datagram" => {
                 self.say_datagram(step);
+                Ok(())
+            }
+            "offered" => {
+                self.say_offers(step);
                 Ok(())
             }
             "written" => compare(step, self.output.as_slice()),
@@ -73,6 +81,32 @@ impl Loops {
         };
         let octets = Vec::from_slice(step.alloc(), octets.as_slice())?;
         push(&mut self.incoming, Incoming::Datagram(now, sender, octets))
+    }
+
+    /// An interface of a port, whose device answers these words and then `whole`.
+    fn interface(&mut self, step: &mut Step<'_>) -> Result<(), StepFault> {
+        let port = step.number_to(255) as u8;
+        let mut answers = Vec::new(step.alloc());
+        for word in step.words()? {
+            push(&mut answers, answer_of(word)?)?;
+        }
+        let device = MemoryDevice::new(step.alloc(), answers);
+        push(&mut self.interfaces, Interface::new(port, "memory", device))
+    }
+
+    /// Says what an interface, counted from 0, was offered: of each packet the moment and slot 1.
+    fn say_offers(&self, step: &mut Step<'_>) {
+        let Some(interface) = self.interfaces.get(step.number_to(255) as usize) else {
+            step.say(&"none");
+            return;
+        };
+        let offers = interface.device().offers();
+        if offers.is_empty() {
+            step.say(&"none");
+        }
+        for offer in offers {
+            step.say(&format_args!("{} {}", offer.now, offer.packet[5]));
+        }
     }
 
     fn script(&mut self, step: &mut Step<'_>) -> Result<(), StepFault> {
@@ -125,10 +159,12 @@ impl Loops {
         let mut tally = Tally::none();
         let mut out = WriterOut::new(Vec::new(step.alloc()));
         let senders = self.senders.as_slice();
+        let mut interfaces = mem::replace(&mut self.interfaces, Vec::new(step.alloc()));
         if run_gateway(
             &mut receiver,
             &mut tally,
             &mut out,
+            interfaces.as_mut_slice(),
             &mut core,
             senders,
             span,
@@ -138,6 +174,7 @@ impl Loops {
             tally.say(step);
         }
         self.output = out.writer;
+        self.interfaces = interfaces;
         Ok(())
     }
 
@@ -221,6 +258,16 @@ fn readings_in(step: &mut Step<'_>) -> Result<Vec<u64>, StepFault> {
         push(&mut readings, step.number())?;
     }
     Ok(readings)
+}
+
+/// What a device takes, by its word.
+fn answer_of(word: &str) -> Result<Took, StepFault> {
+    match word {
+        "whole" => Ok(Took::Whole),
+        "later" => Ok(Took::Later),
+        "failed" => Ok(Took::Failed(DeviceFault::Unplugged)),
+        _ => Err(StepFault::Word),
+    }
 }
 
 /// A node of the setup that stands before the step.

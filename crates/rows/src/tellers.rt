@@ -1,8 +1,8 @@
 //! What stands beside a loop: what counts at a gateway, and what gives a desk its orders.
 use crate::step::Step;
 use sacn_console::{Command, ConsoleCore, ConsoleFault};
-use sacn_edge::{ConsoleReport, PortShown};
-use sacn_live::{Notes, Octets4, Orders, PassedOver};
+use sacn_edge::ConsoleReport;
+use sacn_live::{DeviceFault, Notes, Octets4, Orders, PassedOver};
 use sacn_node::NodeTaken;
 
 /// Counts what a gateway notes.
@@ -48,7 +48,9 @@ impl Notes for Tally {
 
     fn note_failure(&mut self, _now: u64) {}
 
-    fn note_frames(&mut self, _now: u64, _ports: &[PortShown]) {
+    fn note_interface(&mut self, _port: u8, _name: &str, _fault: Option<DeviceFault>) {}
+
+    fn note_turn(&mut self, _now: u64) {
         self.turns = self.turns.saturating_add(1);
     }
 }

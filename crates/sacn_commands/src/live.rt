@@ -8,8 +8,8 @@ use sacn_edge::{ConsoleReport, Link, WriterOut};
 use sacn_framing::multicast_group;
 use sacn_live::limits::{MAX_ROUNDS, RECEIVE_ROOM};
 use sacn_live::{
-    DISCOVERY_UNIVERSE, DeskOrders, Destinations, Plan, RigClock, Span, UdpReceiver, UdpSender,
-    Watch, Widget, guard_standard_descriptors, run_desk, run_gateway,
+    DISCOVERY_UNIVERSE, DeskOrders, Destinations, Interface, Plan, RigClock, Span, UdpReceiver,
+    UdpSender, Watch, Widget, guard_standard_descriptors, run_desk, run_gateway,
 };
 use sacn_node::{NodeCore, NodeSetup, read_node};
 use sacn_words::{DeskAsked, GatewayAsked, moment_of};
@@ -135,15 +135,15 @@ fn say_gateway<E: Write>(address: SocketAddrV4, room: Option<u32>, universes: &[
     }
 }
 
-fn widgets_of<'a, R: AllocGlobal>(
+fn interfaces_of<'a, R: AllocGlobal>(
     rt: &R,
     asked: &[(u8, &'a str)],
-) -> Result<Vec<Widget<'a>>, Ending> {
-    let mut widgets = Vec::new(rt.alloc());
+) -> Result<Vec<Interface<'a, Widget<'a>>>, Ending> {
+    let mut interfaces = Vec::new(rt.alloc());
     for (port, path) in asked {
-        widgets.push(Widget::new(*port, path))?;
+        interfaces.push(Interface::new(*port, path, Widget::new(path)))?;
     }
-    Ok(widgets)
+    Ok(interfaces)
 }
 
 // Refuses an interface for a port that the setup hasn't, and one that two ports would have.
@@ -187,8 +187,8 @@ fn run_setup<R: AllocGlobal + Net + Clock, O: Write, E: Write>(
     err: &mut E,
 ) -> Result<(), Ending> {
     let mut receiver = receiver_of(rt, asked, setup, err)?;
-    let widgets = widgets_of(rt, asked.widgets.as_slice())?;
-    let mut watch = Watch::new(&mut *err, widgets);
+    let mut interfaces = interfaces_of(rt, asked.widgets.as_slice())?;
+    let mut watch = Watch::new(&mut *err);
     let mut core = NodeCore::new(rt.alloc(), setup)?;
     let span = Span {
         turns: u64::MAX,
@@ -199,6 +199,7 @@ fn run_setup<R: AllocGlobal + Net + Clock, O: Write, E: Write>(
         &mut receiver,
         &mut watch,
         &mut lines,
+        interfaces.as_mut_slice(),
         &mut core,
         asked.from.as_slice(),
         span,

@@ -1,6 +1,9 @@
 mod Draining
 mod Turning
 mod PlainLines
+mod Pairing
+mod Serving
+mod Offers
 mod Rounding
 mod Fair
 mod FairRounds

@@ -8,7 +8,8 @@ use Rattle.sacn_edge.specs.NodeText.{with_ports, node_after, text_of}
 use Rattle.sacn_edge.specs.PortLines.{port_after, ports_text, FailsAmong}
 use Rattle.sacn_edge.proofs.ToldLemmas.{Adds-append}
 use Rattle.sacn_edge.proofs.NodeLemmas.{Distinct, numbers, Remembers, turn_text, turn_remembered, numbers_after, stops, Extends-append}
-use Rattle.sacn_live.specs.Hearings.{Hearing, turns_of, in_order, emptied_after}
+use Rattle.sacn_live.specs.declared.backlog.Backlog.{Backlog}
+use Rattle.sacn_live.specs.Hearings.{Hearing, turns_of, in_order, backlog_after}
 use Rattle.sacn_live.specs.GatewayText.{gateway_after, gateway_lines}
 use Rattle.sacn_live.specs.GatewayRun.{all_heard, AllBefore, IsRun, StopsIn}
 
@@ -30,16 +31,16 @@ pub heard_more : (a b c : Option (List Hearing)) (hs : List Hearing) (turns : Li
 heard_more a b c hs turns sofar more = Extends-append a b c (all_heard turns) (in_order hs) sofar more
 
 -- the node after one turn more
-pub gate_more : (first : Node) (senders : List (List ℕ)) (hs : List Hearing) (turns : List (List Hearing)) (old new : Node) (emptied : ℕ)
-    → old ≡ (gateway_after first senders turns).node → emptied ≡ (gateway_after first senders turns).emptied
-    → new ≡ node_after old (turns_of senders emptied hs) → new ≡ (gateway_after first senders (hs ∷ turns)).node
-gate_more first senders hs turns old new emptied was at is =
+pub gate_more : (first : Node) (senders : List (List ℕ)) (hs : List Hearing) (turns : List (List Hearing)) (old new : Node) (waits : Backlog)
+    → old ≡ (gateway_after first senders turns).node → waits ≡ (gateway_after first senders turns).waits
+    → new ≡ node_after old (turns_of senders waits hs) → new ≡ (gateway_after first senders (hs ∷ turns)).node
+gate_more first senders hs turns old new waits was at is =
     is ∙ ap (λ e. node_after old (turns_of senders e hs)) at
-    ∙ ap (λ n. node_after n (turns_of senders (gateway_after first senders turns).emptied hs)) was
+    ∙ ap (λ n. node_after n (turns_of senders (gateway_after first senders turns).waits hs)) was
 
-pub emptied_later : (first : Node) (senders : List (List ℕ)) (hs : List Hearing) (turns : List (List Hearing)) (emptied new : ℕ)
-    → emptied ≡ (gateway_after first senders turns).emptied → new ≡ emptied_after emptied hs → new ≡ (gateway_after first senders (hs ∷ turns)).emptied
-emptied_later first senders hs turns emptied new at is = is ∙ ap (λ e. emptied_after e hs) at
+pub backlog_later : (first : Node) (senders : List (List ℕ)) (hs : List Hearing) (turns : List (List Hearing)) (waits new : Backlog)
+    → waits ≡ (gateway_after first senders turns).waits → new ≡ backlog_after waits hs → new ≡ (gateway_after first senders (hs ∷ turns)).waits
+backlog_later first senders hs turns waits new at is = is ∙ ap (λ e. backlog_after e hs) at
 
 -- the lines of one turn more, where ss is what is kept of the ports before it
 module _ (first n : Node) (senders : List (List ℕ)) (ss : List PortShown) (hs : List Hearing) (turns : List (List Hearing)) (is : n ≡ (gateway_after first senders (hs ∷ turns)).node) (own : numbers ss ≡ port_numbers first.ports) (distinct : Distinct (port_numbers first.ports)) (all : Remembers (gateway_lines first senders turns) ss) where

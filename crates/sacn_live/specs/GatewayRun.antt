@@ -1,11 +1,11 @@
 -- What a run of a gateway hears, and where it ends. Lists of turns, hearings and lines have the latest first.
-use Rattle.std.specs.Prelude.{◌≡◌, ℕ, ◌<◌, ◌≤◌, ⊤, Bool, true, List, [], ◌∷◌, ◌++◌, length, take}
+use Rattle.std.specs.Prelude.{◌≡◌, ℕ, ◌-◌, ◌<◌, ◌≤◌, ◌==◌, ◌||◌, not, nat_lt, ⊤, Bool, true, false, List, [], ◌∷◌, ◌++◌, length, take}
 use Rattle.sacn_node.specs.Cores.{Node}
 use Rattle.sacn_edge.specs.Additions.{Adds}
 use Rattle.sacn_edge.specs.NodeText.{FrameLine, line_text, text_of}
 use Rattle.sacn_live.specs.Hearings.{Hearing, in_order, is_datagram}
 use Rattle.sacn_live.specs.GatewayText.{gateway_lines}
-use Rattle.sacn_live.specs.declared.limits.TheConstants.{MAX_BURST}
+use Rattle.sacn_live.specs.declared.limits.TheConstants.{MAX_BURST, TURN_SPAN}
 
 -- all that was heard, in the order of the calls
 abbrev pub all_heard : List (List Hearing) → List Hearing
@@ -16,17 +16,36 @@ abbrev pub ends_with_datagram : List Hearing → Bool
 ends_with_datagram [] = true
 ends_with_datagram (h ∷ hs) = is_datagram h.came
 
--- a turn takes all that waits: it ends where no datagram is there any more, or at the greatest number of receives
+abbrev pub latest_reading : List Hearing → ℕ
+latest_reading [] = 0
+latest_reading (h ∷ hs) = h.now
+
+abbrev pub first_reading : List Hearing → ℕ
+first_reading [] = 0
+first_reading (h ∷ []) = h.now
+first_reading (h ∷ hs) = first_reading hs
+
+-- the latest reading of a turn is so late after its first that the turn ends
+abbrev pub is_spent : List Hearing → Bool
+is_spent hs = not (nat_lt (latest_reading hs - first_reading hs) TURN_SPAN)
+
+-- a turn ends after its latest receive: no datagram was there, it took long enough, or it made the greatest number of receives
+abbrev pub has_ended : List Hearing → Bool
+has_ended hs = (not (ends_with_datagram hs) || is_spent hs) || (length hs == MAX_BURST)
+
+-- it went on after each receive
+abbrev pub GoesOn : List Hearing → Type 0
+GoesOn [] = ⊤
+GoesOn (h ∷ hs) = (has_ended (h ∷ hs) ≡ false) × GoesOn hs
+
+-- a turn ends at the first receive after which it may
 abbrev pub IsWhole : List Hearing → Type 0
-IsWhole hs = ends_with_datagram hs ≡ true → length hs ≡ MAX_BURST
+IsWhole [] = ⊥
+IsWhole (h ∷ hs) = (has_ended (h ∷ hs) ≡ true) × GoesOn hs
 
 abbrev pub AreWhole : List (List Hearing) → Type 0
 AreWhole [] = ⊤
 AreWhole (hs ∷ turns) = IsWhole hs × AreWhole turns
-
-abbrev pub latest_reading : List Hearing → ℕ
-latest_reading [] = 0
-latest_reading (h ∷ hs) = h.now
 
 -- each turn ended before the moment
 abbrev pub AllBefore : ℕ → List (List Hearing) → Type 0

@@ -1,12 +1,13 @@
 -- What a gateway hears, and what of it goes to its node. Lists of hearings have the latest first.
-use Rattle.std.specs.Prelude.{◌≤◌, ◌-◌, ◌||◌, ◌==◌, length, ℕ, Bool, true, false, not, nat_lt, List, [], ◌∷◌, ◌++◌, take, ⊤, if◌then◌else◌}
+use Rattle.std.specs.Prelude.{◌≤◌, ◌||◌, ◌==◌, length, ℕ, Bool, true, false, not, List, [], ◌∷◌, ◌++◌, take, ⊤, if◌then◌else◌}
 use Rattle.std.specs.List.{list_any}
 use Rattle.sacn_edge.specs.Hearings.{Heard, Silence, Octets, Fault}
 use Rattle.sacn_edge.specs.NodeText.{Turn, same}
 use Rattle.sacn_live.specs.declared.receiver.Arrival.{Arrival}
 use Rattle.sacn_live.specs.declared.receiver.Arrival.TheVariants.{Nothing, Datagram, Failed}
 use Rattle.sacn_live.specs.declared.receiver.Receipt.{Receipt}
-use Rattle.sacn_live.specs.declared.limits.TheConstants.{LATE_AFTER}
+use Rattle.sacn_live.specs.declared.backlog.Backlog.{Backlog}
+use Rattle.sacn_live.specs.Backlogs.{nothing_waits, with_datagram, is_late}
 
 -- what a receive brought: nothing, a sender's octets from an address, or a failure of the device
 pub data Came : Type 0 where
@@ -48,36 +49,33 @@ is_datagram Broken = false
 abbrev pub is_admitted : List (List ℕ) → List ℕ → Bool
 is_admitted senders sender = (length senders == 0) || list_any (λ s. same s sender) senders
 
--- nothing was found waiting for so long that what waits now may be older than the network data loss time
-abbrev pub is_late : ℕ → ℕ → Bool
-is_late emptied now = nat_lt LATE_AFTER (now - emptied)
-
 -- a datagram that may be too old, or comes from another sender, isn't taken; the node's clock moves
-abbrev pub heard_of : List (List ℕ) → ℕ → ℕ → Came → Heard
-heard_of senders emptied now None_there = Silence
-heard_of senders emptied now (From sender octets) = if is_late emptied now || not (is_admitted senders sender) then Silence else Octets octets
-heard_of senders emptied now Broken = Fault
+abbrev pub heard_of : List (List ℕ) → Backlog → ℕ → Came → Heard
+heard_of senders waits now None_there = Silence
+heard_of senders waits now (From sender octets) = if is_late waits now || not (is_admitted senders sender) then Silence else Octets octets
+heard_of senders waits now Broken = Fault
 
-abbrev pub emptied_with : ℕ → ℕ → Came → ℕ
-emptied_with emptied now None_there = now
-emptied_with emptied now (From sender octets) = emptied
-emptied_with emptied now Broken = emptied
+-- what is known of what waits, after a receive
+abbrev pub backlog_with : Backlog → ℕ → Came → Backlog
+backlog_with waits now None_there = nothing_waits now
+backlog_with waits now (From sender octets) = with_datagram now waits
+backlog_with waits now Broken = waits
 
-abbrev pub emptied_by : Hearing → ℕ → ℕ
-emptied_by h emptied = emptied_with emptied h.now h.came
+abbrev pub backlog_by : Hearing → Backlog → Backlog
+backlog_by h waits = backlog_with waits h.now h.came
 
--- the latest reading at which nothing was there, after some hearings
-abbrev pub emptied_after : ℕ → List Hearing → ℕ
-emptied_after start [] = start
-emptied_after start (h ∷ hs) = emptied_by h (emptied_after start hs)
+-- the same after some hearings
+abbrev pub backlog_after : Backlog → List Hearing → Backlog
+backlog_after start [] = start
+backlog_after start (h ∷ hs) = backlog_by h (backlog_after start hs)
 
 -- what goes to the node, a turn for each hearing
-abbrev pub turn_of : List (List ℕ) → ℕ → Hearing → Turn
-turn_of senders emptied h = record { now = h.now; heard = heard_of senders emptied h.now h.came }
+abbrev pub turn_of : List (List ℕ) → Backlog → Hearing → Turn
+turn_of senders waits h = record { now = h.now; heard = heard_of senders waits h.now h.came }
 
-abbrev pub turns_of : List (List ℕ) → ℕ → List Hearing → List Turn
+abbrev pub turns_of : List (List ℕ) → Backlog → List Hearing → List Turn
 turns_of senders start [] = []
-turns_of senders start (h ∷ hs) = turn_of senders (emptied_after start hs) h ∷ turns_of senders start hs
+turns_of senders start (h ∷ hs) = turn_of senders (backlog_after start hs) h ∷ turns_of senders start hs
 
 -- in the order of the calls
 abbrev pub in_order : List Hearing → List Hearing

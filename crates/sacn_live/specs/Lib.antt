@@ -1,3 +1,4 @@
+pub mod Backlogs
 pub mod Hearings
 pub mod GatewayText
 pub mod GatewayRun
@@ -8,5 +9,8 @@ pub mod Addresses
 pub mod Gathering
 pub mod Groups
 pub mod Widgets
+pub mod Interfaces
+pub mod InterfaceLaws
 pub mod MemoryHearings
 pub mod MemoryReceiver
+pub mod MemoryDevice

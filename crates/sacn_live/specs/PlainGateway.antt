@@ -6,14 +6,16 @@ use Rattle.sacn_node.specs.Calls.{Call, after_calls}
 use Rattle.sacn_edge.specs.Additions.{Adds}
 use Rattle.sacn_edge.specs.NodeText.{Turn, FrameLine, call_at, line_text, text_of}
 use Rattle.sacn_edge.specs.PlainText.{asked, plain_ports}
-use Rattle.sacn_live.specs.Hearings.{Hearing, turns_of, emptied_after}
+use Rattle.sacn_live.specs.declared.backlog.Backlog.{Backlog}
+use Rattle.sacn_live.specs.Backlogs.{nothing_waits}
+use Rattle.sacn_live.specs.Hearings.{Hearing, turns_of, backlog_after}
 use Rattle.sacn_live.specs.GatewayText.{gateway_lines, gateway_text}
 use Rattle.sacn_live.specs.GatewayRun.{AreWhole, StopsIn, latest_reading}
 
--- the latest reading at which nothing was waiting, after some turns of a gateway whose clock began at 0
-abbrev pub emptied_at : List (List Hearing) → ℕ
-emptied_at [] = 0
-emptied_at (hs ∷ turns) = emptied_after (emptied_at turns) hs
+-- what is known of what waits, after some turns of a gateway whose clock began at 0
+abbrev pub backlog_at : List (List Hearing) → Backlog
+backlog_at [] = nothing_waits 0
+backlog_at (hs ∷ turns) = backlog_after (backlog_at turns) hs
 
 -- the calls, with those of what came
 abbrev pub with_calls : List Turn → List Call → List Call
@@ -24,14 +26,14 @@ with_calls (t ∷ ts) calls = call_at t.now t.heard ∷ with_calls ts calls
 abbrev pub calls_of : List Port → List (List ℕ) → List Call → List (List Hearing) → List Call
 calls_of ports senders before [] = before
 calls_of ports senders before (hs ∷ turns) =
-    asked (latest_reading hs) (port_numbers ports) (with_calls (turns_of senders (emptied_at turns) hs) (calls_of ports senders before turns))
+    asked (latest_reading hs) (port_numbers ports) (with_calls (turns_of senders (backlog_at turns) hs) (calls_of ports senders before turns))
 
 -- the lines of some turns, after the calls made before
 abbrev pub plain_lines : List Port → List (List ℕ) → List Call → List (List Hearing) → List FrameLine
 plain_lines ports senders before [] = []
 plain_lines ports senders before (hs ∷ turns) =
     plain_ports ports (latest_reading hs) (port_numbers ports)
-    (with_calls (turns_of senders (emptied_at turns) hs) (calls_of ports senders before turns))
+    (with_calls (turns_of senders (backlog_at turns) hs) (calls_of ports senders before turns))
     (plain_lines ports senders before turns)
 
 -- after any calls on a node, the lines that a gateway writes over any turns are those of the plain rule

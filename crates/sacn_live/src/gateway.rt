@@ -1,16 +1,20 @@
 //! The gateway's loop.
-ghost use Rattle.std.specs.Prelude.{◌≡◌, ℕ, ◌≤◌, ◌<◌, ◌+◌, ◌∷◌, [], List, length, false, true, OnOk, OnErr};
+ghost use Rattle.std.specs.Prelude.{◌≡◌, ℕ, ◌≤◌, ◌<◌, ◌+◌, ◌-◌, ◌||◌, not, nat_lt, ◌∷◌, [], List, length, false, true, OnOk, OnErr};
 ghost use Rattle.sacn_node.specs.Cores.{core_at, core_lost};
 ghost use Rattle.sacn_edge.specs.Additions.{Adds, Extends};
 ghost use Rattle.sacn_edge.specs.NodeText.{node_after};
 ghost use Rattle.sacn_edge.specs.PortChanges.{Grows, IsTold};
-ghost use Rattle.sacn_live.specs.Hearings.{Hearing, turns_of, emptied_after, in_order};
+ghost use Rattle.sacn_live.specs.Hearings.{Hearing, turns_of, backlog_after, in_order};
 ghost use Rattle.sacn_live.specs.GatewayText.{gateway_after, gateway_text};
-ghost use Rattle.sacn_live.specs.declared.limits.TheConstants.{LONGEST_WAIT};
+ghost use Rattle.sacn_live.specs.declared.limits.TheConstants.{LONGEST_WAIT, TURN_SPAN};
+ghost use Rattle.sacn_live.specs.Interfaces.{AreOffered};
 ghost use Rattle.sacn_live.specs.GatewayRun.{all_heard, IsWhole, AreWhole, latest_reading, AllBefore, IsRun, StopsIn};
 
+use crate::backlog::Backlog;
+use crate::device::Device;
 use crate::hearing::{Notes, hear};
-use crate::limits::{LONGEST_WAIT, MAX_BURST};
+use crate::interface::{Interface, first_wake, serve_interfaces};
+use crate::limits::{LONGEST_WAIT, MAX_BURST, TURN_SPAN};
 use crate::receiver::{Octets4, Receiver};
 use sacn_edge::{BUFFER_OCTETS, Changes, Out, WriteFailed, ports_of, show_changed};
 use sacn_node::NodeCore;
@@ -27,7 +31,14 @@ pub struct Span {
 #[derive(Clone, Copy)]
 struct Drained {
     now: u64,
-    emptied: u64,
+    waits: Backlog,
+}
+
+/// Whether a turn that began at a reading ends after a receive at this one, where a datagram was there or not.
+fn is_over(is_more: bool, now: u64, first: u64) -> bool
+    ensures { result ≡ (not is_more || not (nat_lt (now - first) TURN_SPAN)) }
+{
+    !is_more || now.saturating_sub(first) >= TURN_SPAN
 }
 
 /// Takes all that waits, or as much as a turn may.
@@ -37,39 +48,32 @@ fn drain<G: Receiver, N: Notes>(
     changes: &mut Changes,
     notes: &mut N,
     senders: &[Octets4],
-    emptied: u64,
+    waits: Backlog,
     buffer: &mut [u8; BUFFER_OCTETS],
 ) -> Drained
     ensures heard { (hs : List Hearing) × IsWhole hs
         × Extends (G.told receiver.old) (G.told receiver.new) (in_order hs)
-        × (core.new ≡ node_after core.old (turns_of senders.now emptied hs))
-        × (result.emptied ≡ emptied_after emptied hs)
+        × (core.new ≡ node_after core.old (turns_of senders.now waits hs))
+        × (result.waits ≡ backlog_after waits hs)
         × (result.now ≡ latest_reading hs) }
     ensures settled { core_at result.now core.new.core ≡ core.new.core }
     ensures grows { Grows changes.old changes.new }
     ensures changed { IsTold changes.new core.old.core core.new.core }
 {
-    let mut step = hear(receiver, core, changes, notes, senders, emptied, buffer);
+    let mut step = hear(receiver, core, changes, notes, senders, waits, buffer);
+    let first = step.now;
     for _count in 1..MAX_BURST {
-        if !step.is_more {
+        if is_over(step.is_more, step.now, first) {
             return Drained {
                 now: step.now,
-                emptied: step.emptied,
+                waits: step.waits,
             };
         }
-        step = hear(
-            receiver,
-            core,
-            changes,
-            notes,
-            senders,
-            step.emptied,
-            buffer,
-        );
+        step = hear(receiver, core, changes, notes, senders, step.waits, buffer);
     }
     Drained {
         now: step.now,
-        emptied: step.emptied,
+        waits: step.waits,
     }
 }
 
@@ -88,46 +92,51 @@ fn next_wait(core: &NodeCore, now: u64, until: u64) -> u64
 }
 
 /// Runs a gateway. In each turn it waits until a datagram is there or something is to be done, then receives until
-/// nothing is there any more, at most `MAX_BURST` times, each time reading the clock before. A datagram goes to the
+/// nothing is there any more, at most `MAX_BURST` times, each time reading the clock before, and no more after the first
+/// reading that is 20 ms after the turn's first. A datagram goes to the
 /// node at its reading, unless it comes from another sender than these (an empty list admits all), or nothing was found
 /// waiting for more than 2500 ms, so that it may be older than the network data loss time. Then for each
 /// port in ascending number it writes a line, where the port's frame isn't that of the last line written for it, or
-/// none was.
+/// none was. At last it offers each interface the packet of its port's frame: where the device took another one last, or this
+/// one half a second ago, or not all of the latest; a device that failed, a second after that.
 ///
-/// `WriteFailed` where `out` has failed; the run then ends, and nothing further is heard or written.
-pub fn run_gateway<G: Receiver, N: Notes, O: Out>(
+/// `WriteFailed` where `out` has failed; the run then ends, and nothing further is heard, written or offered.
+pub fn run_gateway<G: Receiver, N: Notes, O: Out, D: Device>(
     receiver: &mut G,
     notes: &mut N,
     out: &mut O,
+    interfaces: &mut [Interface<'_, D>],
     core: &mut NodeCore,
     senders: &[Octets4],
     span: Span,
 ) -> Result<(), WriteFailed>
     requires { O.failed out.old ≡ false }
 
-    // What is written is the gateway's text over what it heard.
+    // What is written is the gateway's text over what it heard, and what is offered are the frames after its turns.
     ensures ok { OnOk result ((turns : List (List Hearing))
         × IsRun span.turns span.until turns
         × AreWhole turns
         × Extends (G.told receiver.old) (G.told receiver.new) (all_heard turns)
         × Adds (O.Tells out.old) (O.Tells out.new) (gateway_text core.old senders.now turns)
-        × (core.new ≡ (gateway_after core.old senders.now turns).node)) }
+        × (core.new ≡ (gateway_after core.old senders.now turns).node)
+        × AreOffered D.told core.old senders.now turns interfaces.old interfaces.new) }
     ensures works { OnOk result (O.failed out.new ≡ false) }
 
-    // What is written is the gateway's text up to a line of the last turn, of which a part is.
+    // What is written is the gateway's text up to a line of the last turn, of which a part is; of that turn nothing is offered.
     ensures err { OnErr result ((hs : List Hearing) × (turns : List (List Hearing))
         × AllBefore span.until turns
         × (length turns < span.turns)
         × AreWhole (hs ∷ turns)
         × Extends (G.told receiver.old) (G.told receiver.new) (all_heard (hs ∷ turns))
         × StopsIn core.old senders.now hs turns (O.Tells out.old) (O.Tells out.new)
-        × (core.new ≡ (gateway_after core.old senders.now (hs ∷ turns)).node)) }
+        × (core.new ≡ (gateway_after core.old senders.now (hs ∷ turns)).node)
+        × AreOffered D.told core.old senders.now turns interfaces.old interfaces.new) }
     ensures failed { OnErr result (O.failed out.new ≡ true) }
 {
     let mut ports = ports_of(core);
     let mut changes = Changes::all();
     let mut buffer = [0; BUFFER_OCTETS];
-    let mut emptied = 0;
+    let mut waits = Backlog::none(0);
     let mut wake = 0;
     for _turn in 0..span.turns {
         receiver.wait(wake);
@@ -137,18 +146,19 @@ pub fn run_gateway<G: Receiver, N: Notes, O: Out>(
             &mut changes,
             notes,
             senders,
-            emptied,
+            waits,
             &mut buffer,
         );
-        emptied = drained.emptied;
+        waits = drained.waits;
         let now = drained.now;
         show_changed(out, core, now, &changes, ports.as_mut_slice())?;
         changes.clear();
-        notes.note_frames(now, ports.as_slice());
+        serve_interfaces(interfaces, now, ports.as_slice(), notes);
+        notes.note_turn(now);
         if now >= span.until {
             return Ok(());
         }
-        wake = next_wait(core, now, span.until);
+        wake = first_wake(interfaces, now, next_wait(core, now, span.until));
     }
     Ok(())
 }

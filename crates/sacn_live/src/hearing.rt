@@ -5,11 +5,13 @@ ghost use Rattle.sacn_node.specs.Calls.{step};
 ghost use Rattle.sacn_edge.specs.Additions.{Extends};
 ghost use Rattle.sacn_edge.specs.NodeText.{call_at, same};
 ghost use Rattle.sacn_edge.specs.PortChanges.{Grows, IsTold};
-ghost use Rattle.sacn_live.specs.Hearings.{hearing_in, From, came_of, is_admitted, is_late, is_datagram, heard_of, emptied_with};
+ghost use Rattle.sacn_live.specs.Backlogs.{is_late};
+ghost use Rattle.sacn_live.specs.Hearings.{hearing_in, From, came_of, is_admitted, is_datagram, heard_of, backlog_with};
 
-use crate::limits::LATE_AFTER;
+use crate::backlog::Backlog;
+use crate::device::DeviceFault;
 use crate::receiver::{Arrival, Octets4, Receiver};
-use sacn_edge::{BUFFER_OCTETS, Changes, PortShown};
+use sacn_edge::{BUFFER_OCTETS, Changes};
 use sacn_node::{NodeCore, NodeTaken};
 
 /// Why a datagram doesn't go to the node.
@@ -21,8 +23,8 @@ pub enum PassedOver {
     OtherSender,
 }
 
-/// What looks on while a gateway runs: for diagnosis, and for interfaces that show the frames. Nothing that it
-/// does changes the gateway's text.
+/// What looks on while a gateway runs, for diagnosis. Nothing that it does changes the gateway's text, nor what interfaces
+/// are offered.
 pub trait Notes {
     /// A datagram went to the node.
     fn note_taken(&mut self, now: u64, sender: Octets4, octets: &[u8], taken: NodeTaken);
@@ -33,8 +35,11 @@ pub trait Notes {
     /// The device failed in a receive.
     fn note_failure(&mut self, now: u64);
 
-    /// A turn's lines are written: these are the frames of the ports.
-    fn note_frames(&mut self, now: u64, ports: &[PortShown]);
+    /// What became of an interface: why it failed, or that it works again. It isn't noted again until that changes.
+    fn note_interface(&mut self, port: u8, name: &str, fault: Option<DeviceFault>);
+
+    /// A turn's lines are written, and its frames offered.
+    fn note_turn(&mut self, now: u64);
 }
 
 /// What a receive brought, and what is known after it.
@@ -42,8 +47,8 @@ pub trait Notes {
 pub(crate) struct Step {
     pub(crate) now: u64,
     pub(crate) arrival: Arrival,
-    /// The latest reading at which nothing was there.
-    pub(crate) emptied: u64,
+    /// What is known of what waits.
+    pub(crate) waits: Backlog,
     /// A datagram was there, so that there may be another.
     pub(crate) is_more: bool,
 }
@@ -70,10 +75,10 @@ fn admits(senders: &[Octets4], sender: &Octets4) -> bool
 }
 
 /// Why a datagram that came at a reading doesn't go to the node.
-fn why_passed(senders: &[Octets4], emptied: u64, now: u64, sender: &Octets4) -> Option<PassedOver>
-    ensures { is_some result ≡ (is_late emptied now || not (is_admitted senders.now sender.now)) }
+fn why_passed(senders: &[Octets4], waits: Backlog, now: u64, sender: &Octets4) -> Option<PassedOver>
+    ensures { is_some result ≡ (is_late waits now || not (is_admitted senders.now sender.now)) }
 {
-    if now.saturating_sub(emptied) > LATE_AFTER {
+    if waits.is_late(now) {
         return Some(PassedOver::Late);
     }
     if admits(senders, sender) {
@@ -89,7 +94,7 @@ fn give<N: Notes>(
     changes: &mut Changes,
     notes: &mut N,
     senders: &[Octets4],
-    emptied: u64,
+    waits: Backlog,
     now: u64,
     sender: Octets4,
     octets: &[u8],
@@ -97,9 +102,9 @@ fn give<N: Notes>(
     ensures grows { Grows changes.old changes.new }
     ensures changed { IsTold changes.new core.old.core core.new.core }
     ensures core { core.new
-        ≡ step (call_at now (heard_of senders.now emptied now (From sender octets.now))) core.old }
+        ≡ step (call_at now (heard_of senders.now waits now (From sender octets.now))) core.old }
 {
-    match why_passed(senders, emptied, now, &sender) {
+    match why_passed(senders, waits, now, &sender) {
         None => {
             let taken = changes.take(core, now, octets);
             notes.note_taken(now, sender, octets, taken);
@@ -118,15 +123,15 @@ pub(crate) fn hear<G: Receiver, N: Notes>(
     changes: &mut Changes,
     notes: &mut N,
     senders: &[Octets4],
-    emptied: u64,
+    waits: Backlog,
     buffer: &mut [u8; BUFFER_OCTETS],
 ) -> Step
     ensures told { Extends (G.told receiver.old) (G.told receiver.new)
         (hearing_in result.now result.arrival buffer.new ∷ []) }
     ensures core { core.new ≡ step (call_at result.now
-        (heard_of senders.now emptied result.now (came_of result.arrival buffer.new))) core.old }
-    ensures emptied { result.emptied
-        ≡ emptied_with emptied result.now (came_of result.arrival buffer.new) }
+        (heard_of senders.now waits result.now (came_of result.arrival buffer.new))) core.old }
+    ensures waits { result.waits
+        ≡ backlog_with waits result.now (came_of result.arrival buffer.new) }
     ensures grows { Grows changes.old changes.new }
     ensures changed { IsTold changes.new core.old.core core.new.core }
     ensures more { result.is_more ≡ is_datagram (came_of result.arrival buffer.new) }
@@ -141,7 +146,7 @@ pub(crate) fn hear<G: Receiver, N: Notes>(
                 changes,
                 notes,
                 senders,
-                emptied,
+                waits,
                 now,
                 sender,
                 &buffer[..octets],
@@ -149,7 +154,7 @@ pub(crate) fn hear<G: Receiver, N: Notes>(
             Step {
                 now,
                 arrival,
-                emptied,
+                waits: waits.with_datagram(now),
                 is_more: true,
             }
         }
@@ -158,7 +163,7 @@ pub(crate) fn hear<G: Receiver, N: Notes>(
             Step {
                 now,
                 arrival,
-                emptied: now,
+                waits: Backlog::none(now),
                 is_more: false,
             }
         }
@@ -168,7 +173,7 @@ pub(crate) fn hear<G: Receiver, N: Notes>(
             Step {
                 now,
                 arrival,
-                emptied,
+                waits,
                 is_more: false,
             }
         }

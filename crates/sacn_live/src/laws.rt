@@ -9,6 +9,7 @@
 //! once, and no other is.
 ghost use Rattle.sacn_live.specs.Fairness.{DeskSendsAreGiven, EachAtMostOnce, EachDueIsGiven, EachOnce, EachReadingEnds, RoundsAreFair, RoundsOfShowsAreFair, SendsAreGiven, ShortRoundsAreFair};
 ghost use Rattle.sacn_live.specs.PlainGateway.{GatewayLinesAreByThePlainRule, GatewayStopsByThePlainRule, GatewayTextIsByThePlainRule};
+ghost use Rattle.sacn_live.specs.InterfaceLaws.{FailedDevicesAreTriedAgain, FailedDevicesRest, OffersAreOfTheirPort, WorkingDevicesShowTheirPorts};
 
 use sacn_node::laws as node;
 
@@ -25,6 +26,16 @@ pub fn lines_are_by_the_plain_rule()
     node::keeps_its_ports();
     node::moment_is_the_greatest();
 }
+
+/// Whatever devices answer: after each turn a device that took all of its latest packet has that of its own port's frame as it is
+/// then, and took it less than half a second ago; one that failed did so less than a second ago, and between a failure and
+/// the next offer is a second or more. Each packet offered is that of its own port's frame after a turn, at that turn's reading.
+pub fn interfaces_show_their_ports()
+    ensures shows { WorkingDevicesShowTheirPorts }
+    ensures tried { FailedDevicesAreTriedAgain }
+    ensures rests { FailedDevicesRest }
+    ensures frames { OffersAreOfTheirPort }
+{}
 
 /// Polls at one reading give a universe at most one packet, and none where it isn't due at the reading.
 pub fn each_universe_is_sent_at_most_once()

@@ -7,7 +7,10 @@ pub const LATE_AFTER: u64 = 2500;
 /// The most receives of one turn of a gateway.
 pub const MAX_BURST: usize = 4096;
 
-/// The longest wait of a turn: a stop of the process is then seen, and interfaces get their frame twice a second.
+/// How long after its first reading a turn ends, though more may wait: the frames are then shown.
+pub const TURN_SPAN: u64 = 20;
+
+/// The longest wait of a turn: a stop of the process is then seen.
 pub const LONGEST_WAIT: u64 = 500;
 
 /// The most orders that a desk takes in one round; what is left waits for the next one.
@@ -25,6 +28,10 @@ pub const IDLE_WAIT: u64 = 1000;
 /// The room for datagrams that wait in a gateway's socket, in octets, that the machine is asked for.
 pub const RECEIVE_ROOM: i32 = 4_194_304;
 
+/// The most datagrams that wait in a gateway's socket: the machine gives it at most twice the room that it is asked for, and counts
+/// more than 512 octets for each, however short.
+pub const MOST_WAITING: u64 = 16_384;
+
 /// The longest wait after a receive that failed.
 pub const FAILED_WAIT: i32 = 100;
 
@@ -33,3 +40,9 @@ pub const SAID_EACH: u64 = 1000;
 
 /// How long an interface shows a frame before it gets it again.
 pub const REFRESH: u64 = 500;
+
+/// How long an interface that failed is left alone.
+pub const RETRY: u64 = 1000;
+
+/// How long a gateway waits at most where an interface could take no more octets.
+pub const LATER_WAIT: u64 = 25;

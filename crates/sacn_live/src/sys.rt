@@ -1,6 +1,7 @@
 //! The calls of the machine that std has no word for, each in a function of its own.
 ghost use Rattle.std.specs.Prelude.{◌≤◌, length, IfSome};
 
+use crate::device::DeviceFault;
 use crate::limits::RECEIVE_ROOM;
 use libc::net as c;
 use libc::types::pollfd;
@@ -42,10 +43,10 @@ pub(crate) fn is_readable(fd: RawFd) -> bool {
     c::poll(&mut fds, 0) > 0
 }
 
-/// Whether a descriptor takes octets now.
-pub(crate) fn is_writable(fd: RawFd) -> bool {
+/// Whether a descriptor takes octets now, or has failed.
+fn is_ready(fd: RawFd) -> bool {
     let mut fds = [request(fd, c::POLLOUT)];
-    c::poll(&mut fds, 0) > 0 && fds[0].revents & c::POLLOUT != 0
+    c::poll(&mut fds, 0) > 0
 }
 
 fn last_fault() -> ErrorKind {
@@ -138,28 +139,52 @@ pub fn output_is_terminal() -> bool {
     libc::isatty(STDOUT) == 1
 }
 
-/// A device file that is there, for reading and writing.
-pub(crate) fn open_device(path: &str) -> Result<OwnedFd, ErrorKind> {
-    let fd = os::open_update(path.as_bytes());
-    if fd < 0 {
-        return Err(last_fault());
+/// C's numbers of faults that its library in the kit doesn't name.
+const ENXIO: i32 = 6;
+
+const ENODEV: i32 = 19;
+
+const ENFILE: i32 = 23;
+
+/// The fault of the latest call on a device file.
+fn last_device_fault() -> DeviceFault {
+    let error = os::errno();
+    if error == libc::EIO || error == ENXIO || error == ENODEV {
+        DeviceFault::Unplugged
+    } else if error == libc::EMFILE || error == ENFILE {
+        DeviceFault::NoDescriptor
+    } else {
+        DeviceFault::Other(Error::from_raw_os_error(error).kind())
     }
-    Ok(unsafe { OwnedFd::from_raw_fd(fd) })
 }
 
-/// Writes all octets to a device that takes them now.
-pub(crate) fn write_device(device: &OwnedFd, octets: &[u8]) -> Result<(), ErrorKind> {
-    if !is_writable(device.as_raw_fd()) {
-        return Err(ErrorKind::WouldBlock);
+/// A device file that is there, for reading and writing. No write to it waits.
+pub(crate) fn open_device(path: &str) -> Result<OwnedFd, DeviceFault> {
+    let fd = os::open_update(path.as_bytes());
+    if fd < 0 {
+        return Err(last_device_fault());
     }
-    let count = libc::write(device.as_raw_fd(), octets);
-    if count < 0 {
-        return Err(last_fault());
+    let file = unsafe { OwnedFd::from_raw_fd(fd) };
+    if os::set_nonblocking(fd, true) < 0 {
+        return Err(last_device_fault());
     }
-    if count as usize != octets.len() {
-        return Err(ErrorKind::WriteZero);
+    Ok(file)
+}
+
+/// Writes to a device as many octets as it takes now, and returns how many.
+pub(crate) fn write_device(file: &OwnedFd, octets: &[u8]) -> Result<usize, DeviceFault> {
+    if !is_ready(file.as_raw_fd()) {
+        return Ok(0);
     }
-    Ok(())
+    let count = libc::write(file.as_raw_fd(), octets);
+    if count >= 0 {
+        return Ok(count as usize);
+    }
+    let error = os::errno();
+    if error == libc::EAGAIN || error == libc::EINTR {
+        return Ok(0);
+    }
+    Err(last_device_fault())
 }
 
 /// Octets of standard input, 0 at its end; None where it fails.

@@ -1,10 +1,9 @@
 //! What a gateway says of what it hears.
 use crate::counts::Counts;
+use crate::device::DeviceFault;
 use crate::hearing::{Notes, PassedOver};
 use crate::receiver::Octets4;
 use crate::sources::Sources;
-use crate::widget::Widget;
-use sacn_edge::PortShown;
 use sacn_framing::{DataView, Packet, read_packet};
 use sacn_node::NodeTaken;
 use sacn_root::PacketFault;
@@ -12,13 +11,12 @@ use sacn_sources::Taken;
 use std::io::Write;
 
 /// Looks on while a gateway runs, and says on an output what it sees: sources that come, end, are lost or find no room,
-/// and what isn't taken, each name at most once a second with how often. It hands the frames to interfaces.
+/// and what isn't taken, each name at most once a second with how often; and what becomes of interfaces.
 #[derive(Drop)]
-pub struct Watch<'a, E> {
+pub struct Watch<E> {
     err: E,
     sources: Sources,
     counts: Counts,
-    widgets: Vec<Widget<'a>>,
 }
 
 /// The name of a fault of a packet.
@@ -45,14 +43,13 @@ fn fault_name(fault: PacketFault) -> &'static str {
     }
 }
 
-impl<'a, E: Write> Watch<'a, E> {
-    /// A watch that has seen nothing, and hands frames to these interfaces.
-    pub fn new(err: E, widgets: Vec<Widget<'a>>) -> Watch<'a, E> {
+impl<E: Write> Watch<E> {
+    /// A watch that has seen nothing.
+    pub fn new(err: E) -> Watch<E> {
         Watch {
             err,
             sources: Sources::new(),
             counts: Counts::new(),
-            widgets,
         }
     }
 
@@ -73,7 +70,7 @@ impl<'a, E: Write> Watch<'a, E> {
     }
 }
 
-impl<'a, E: Write> Notes for Watch<'a, E> {
+impl<E: Write> Notes for Watch<E> {
     fn note_taken(&mut self, now: u64, sender: Octets4, octets: &[u8], taken: NodeTaken) {
         match taken {
             NodeTaken::FromTable(taken) => {
@@ -99,11 +96,19 @@ impl<'a, E: Write> Notes for Watch<'a, E> {
         self.counts.count("device receive");
     }
 
-    fn note_frames(&mut self, now: u64, ports: &[PortShown]) {
+    fn note_interface(&mut self, port: u8, name: &str, fault: Option<DeviceFault>) {
+        let _ = match fault {
+            None => writeln!(self.err, "widget {port} {name} works again"),
+            Some(DeviceFault::Unplugged) => writeln!(self.err, "widget {port} {name} Unplugged"),
+            Some(DeviceFault::NoDescriptor) => {
+                writeln!(self.err, "widget {port} {name} NoDescriptor")
+            }
+            Some(DeviceFault::Other(kind)) => writeln!(self.err, "widget {port} {name} {kind:?}"),
+        };
+    }
+
+    fn note_turn(&mut self, now: u64) {
         self.counts.say(now, &mut self.err);
         self.sources.check(now, &mut self.err);
-        for widget in self.widgets.iter_mut() {
-            widget.show(now, ports, &mut self.err);
-        }
     }
 }

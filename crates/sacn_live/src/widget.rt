@@ -2,15 +2,11 @@
 ghost use Rattle.std.specs.Prelude.{◌≡◌};
 ghost use Rattle.sacn_live.specs.Widgets.{widget_text};
 
-use crate::limits::{REFRESH, SAID_EACH};
+use crate::device::{Device, DeviceFault, Took, WIDGET_OCTETS};
 use crate::sys::{open_device, write_device};
-use sacn_edge::PortShown;
 use sacn_universe::FRAME_OCTETS;
-use std::io::{ErrorKind, Write};
+use std::io::ErrorKind;
 use std::os::fd::OwnedFd;
-
-/// The octets of a packet that sends a frame: four before it, and one after.
-pub const WIDGET_OCTETS: usize = 4 + FRAME_OCTETS + 1;
 
 /// The packet of a frame: the start octet, the label "send DMX packet", the frame's length from its low octet on, the
 /// frame, which is a start code and 512 slots, and the end octet.
@@ -24,100 +20,76 @@ pub fn widget_packet(frame: &[u8; FRAME_OCTETS]) -> [u8; WIDGET_OCTETS]
     packet
 }
 
-/// An interface: the port that it shows, and its device file.
+fn is_same(a: &[u8; WIDGET_OCTETS], b: &[u8; WIDGET_OCTETS]) -> bool {
+    a == b
+}
+
+/// An interface at a device file of the machine. It tells nothing.
+///
+/// The file is opened at the first packet, and again at the next one after it failed. No call of it waits. Where the device
+/// took a part of a packet, what is left of that packet is written before any other.
 #[derive(Drop)]
 pub struct Widget<'a> {
-    port: u8,
     path: &'a str,
-    device: Option<OwnedFd>,
-    // The moment at which the device got its frame, and that frame.
-    last: Option<u64>,
-    frame: [u8; FRAME_OCTETS],
-    tried: Option<u64>,
-    said: Option<ErrorKind>,
-}
-
-/// Whether so many milliseconds have passed since a moment, or there was none.
-fn has_passed(wait: u64, now: u64, since: Option<u64>) -> bool {
-    match since {
-        Some(since) => now.saturating_sub(since) >= wait,
-        None => true,
-    }
-}
-
-fn is_same(a: &[u8; FRAME_OCTETS], b: &[u8; FRAME_OCTETS]) -> bool {
-    a == b
+    file: Option<OwnedFd>,
+    // The latest packet that was begun, and how many octets of it the device took.
+    packet: [u8; WIDGET_OCTETS],
+    written: usize,
 }
 
 impl<'a> Widget<'a> {
     /// An interface that isn't opened yet.
-    pub fn new(port: u8, path: &'a str) -> Widget<'a> {
+    pub fn new(path: &'a str) -> Widget<'a> {
         Widget {
-            port,
             path,
-            device: None,
-            last: None,
-            frame: [0; FRAME_OCTETS],
-            tried: None,
-            said: None,
+            file: None,
+            packet: [0; WIDGET_OCTETS],
+            written: 0,
         }
     }
 
-    /// Shows the frame of its port, where it is another one than the device has or the device got it half a second ago or
-    /// earlier. A device that fails is closed and opened again, at most once a second; each other fault of it is said on this output.
-    pub fn show<E: Write>(&mut self, now: u64, ports: &[PortShown], err: &mut E) {
-        let port = self.port;
-        let Some(shown) = ports.iter().find(|shown| shown.port == port) else {
-            return;
-        };
-        let Some(frame) = shown.last else {
-            return;
-        };
-        if !self.is_due(now, &frame) {
-            return;
-        }
-        match self.write(now, &frame) {
-            Ok(()) => {
-                self.last = Some(now);
-                self.frame = frame;
-                self.say(None, err);
+    /// Writes a packet after what is left of the one before. Whether the device has all of it.
+    fn write(&mut self, packet: &[u8; WIDGET_OCTETS]) -> Result<bool, DeviceFault> {
+        if self.written > 0 && self.written < WIDGET_OCTETS {
+            if !self.write_rest()? {
+                return Ok(false);
             }
-            Err(ErrorKind::WouldBlock) => {}
-            Err(kind) => {
-                self.device = None;
-                self.last = None;
-                self.say(Some(kind), err);
+            if is_same(&self.packet, packet) {
+                return Ok(true);
             }
         }
+        self.packet = *packet;
+        self.written = 0;
+        self.write_rest()
     }
 
-    fn is_due(&self, now: u64, frame: &[u8; FRAME_OCTETS]) -> bool {
-        match self.last {
-            Some(moment) => !is_same(&self.frame, frame) || has_passed(REFRESH, now, Some(moment)),
-            None => self.device.is_some() || has_passed(SAID_EACH, now, self.tried),
+    /// Writes what is left of the packet that was begun, as much as the device takes now. Whether that was all.
+    fn write_rest(&mut self) -> Result<bool, DeviceFault> {
+        if self.file.is_none() {
+            self.file = Some(open_device(self.path)?);
         }
-    }
-
-    fn write(&mut self, now: u64, frame: &[u8; FRAME_OCTETS]) -> Result<(), ErrorKind> {
-        if self.device.is_none() {
-            self.tried = Some(now);
-            self.device = Some(open_device(self.path)?);
-        }
-        match &self.device {
-            Some(device) => write_device(device, &widget_packet(frame)),
-            None => Err(ErrorKind::NotFound),
-        }
-    }
-
-    /// Says what became of the device, where it is something else than before.
-    fn say<E: Write>(&mut self, fault: Option<ErrorKind>, err: &mut E) {
-        if self.said == fault {
-            return;
-        }
-        let _ = match fault {
-            Some(kind) => writeln!(err, "widget {} {} {kind:?}", self.port, self.path),
-            None => writeln!(err, "widget {} {} works again", self.port, self.path),
+        let Some(file) = &self.file else {
+            return Err(DeviceFault::Other(ErrorKind::NotFound));
         };
-        self.said = fault;
+        let Some(rest) = self.packet.get(self.written..) else {
+            return Ok(true);
+        };
+        let count = write_device(file, rest)?;
+        self.written = self.written.saturating_add(count);
+        Ok(self.written >= WIDGET_OCTETS)
+    }
+}
+
+impl<'a> Device for Widget<'a> {
+    fn take(&mut self, _now: u64, packet: &[u8; WIDGET_OCTETS]) -> Took {
+        match self.write(packet) {
+            Ok(true) => Took::Whole,
+            Ok(false) => Took::Later,
+            Err(fault) => {
+                self.file = None;
+                self.written = 0;
+                Took::Failed(fault)
+            }
+        }
     }
 }

@@ -1,8 +1,9 @@
-use Rattle.std.proofs.Common.{arith, ◌∷◌, [], refl, sym}
+use Rattle.std.proofs.Common.{arith, ◌-◌, ◌||◌, not, nat_lt, ◌∷◌, [], refl, sym}
 use Rattle.sacn_edge.proofs.NodeLemmas.{Extends-append}
 use Rattle.sacn_edge.proofs.Changing.{grown, more_told}
 use Rattle.sacn_live.specs.Hearings.{hearing_in, came_of, heard_of, in_order}
-use Rattle.sacn_live.proofs.Draining.{settled_by, node_more, emptied_more, no_more}
+use Rattle.sacn_live.specs.declared.limits.TheConstants.{TURN_SPAN}
+use Rattle.sacn_live.proofs.Draining.{settled_by, node_more, backlog_more, ended_is, ended_over, ended_full, goes_on}
 use Rattle.sacn_live.proofs.gateway.drain.Goals as goal
 
 pub loop-count-init : goal.loop-count-init
@@ -11,25 +12,27 @@ loop-count-init g c =
     let e = c.hear-step.ensures in
     let came = came_of r.arrival c.hear-step.new.buffer in
     record {
-      settled = settled_by r.now (heard_of c.args.senders.now c.args.emptied r.now came) c.args.core.now c.hear-step.new.core e.core;
+      settled = settled_by r.now (heard_of c.args.senders.now c.args.waits r.now came) c.args.core.now c.hear-step.new.core e.core;
       grows = e.grows;
       changed = e.changed;
-      run = (hearing_in r.now r.arrival c.hear-step.new.buffer ∷ [], refl, sym e.more, e.told, e.core, e.emptied, refl);
+      run = (hearing_in r.now r.arrival c.hear-step.new.buffer, [], refl, sym e.more, e.told, e.core, e.waits, refl, refl, tt);
     }
 
-pub returns-then-not-step-clause-heard : goal.returns-then-not-step-clause-heard
-returns-then-not-step-clause-heard g c =
+pub returns-then-is_over-clause-heard : goal.returns-then-is_over-clause-heard
+returns-then-is_over-clause-heard g c =
     let run = c.loop-count.invariant.run in
-    (run.0, (λ ends. no_more _ _ c.if-not-step.true run.2 ends), run.3, run.4, run.5, run.6)
+    let hs = run.0 ∷ run.1 in
+    let ended = ended_is hs c.loop-count.step.is_more c.loop-count.step.now c.hear-step.result.now run.3 run.7 run.8 in
+    (hs, (ended_over (not c.loop-count.step.is_more || not (nat_lt (c.loop-count.step.now - c.hear-step.result.now) TURN_SPAN)) c.is_over.result hs ended c.is_over.ensures c.if-is_over.true, run.9), run.4, run.5, run.6, run.7)
 
-pub returns-then-not-step-clause-settled : goal.returns-then-not-step-clause-settled
-returns-then-not-step-clause-settled g c = c.loop-count.invariant.settled
+pub returns-then-is_over-clause-settled : goal.returns-then-is_over-clause-settled
+returns-then-is_over-clause-settled g c = c.loop-count.invariant.settled
 
-pub returns-then-not-step-clause-grows : goal.returns-then-not-step-clause-grows
-returns-then-not-step-clause-grows g c = c.loop-count.invariant.grows
+pub returns-then-is_over-clause-grows : goal.returns-then-is_over-clause-grows
+returns-then-is_over-clause-grows g c = c.loop-count.invariant.grows
 
-pub returns-then-not-step-clause-changed : goal.returns-then-not-step-clause-changed
-returns-then-not-step-clause-changed g c = c.loop-count.invariant.changed
+pub returns-then-is_over-clause-changed : goal.returns-then-is_over-clause-changed
+returns-then-is_over-clause-changed g c = c.loop-count.invariant.changed
 
 pub loop-count-preserved : goal.loop-count-preserved
 loop-count-preserved g c =
@@ -39,25 +42,32 @@ loop-count-preserved g c =
     let came = came_of r.arrival new.buffer in
     let run = c.loop-count.invariant.run in
     let old = c.loop-count.core in
+    let hs = run.0 ∷ run.1 in
+    let ended = ended_is hs c.loop-count.step.is_more c.loop-count.step.now c.hear-step.result.now run.3 run.7 run.8 in
     record {
-      settled = settled_by r.now (heard_of c.args.senders.now c.loop-count.step.emptied r.now came) old new.core e.core;
+      settled = settled_by r.now (heard_of c.args.senders.now c.loop-count.step.waits r.now came) old new.core e.core;
       grows = grown c.args.changes.now c.loop-count.changes new.changes c.loop-count.invariant.grows e.grows;
       changed = more_told c.loop-count.changes new.changes c.args.core.now.core old.core new.core.core e.grows c.loop-count.invariant.changed e.changed;
       run = (
-        hearing_in r.now r.arrival new.buffer ∷ run.0,
-        omega (arith, run.1),
+        hearing_in r.now r.arrival new.buffer,
+        hs,
+        omega (arith, run.2),
         sym e.more,
-        Extends-append _ _ _ (in_order run.0) (hearing_in r.now r.arrival new.buffer ∷ []) run.3 e.told,
-        node_more c.args.senders.now c.args.emptied c.loop-count.step.emptied r.now came run.0 c.args.core.now old new.core run.5 run.4 e.core,
-        emptied_more c.args.emptied c.loop-count.step.emptied r.now r.emptied came run.0 run.5 e.emptied,
+        Extends-append _ _ _ (in_order hs) (hearing_in r.now r.arrival new.buffer ∷ []) run.4 e.told,
+        node_more c.args.senders.now c.args.waits c.loop-count.step.waits r.now came hs c.args.core.now old new.core run.6 run.5 e.core,
+        backlog_more c.args.waits c.loop-count.step.waits r.now r.waits came hs run.6 e.waits,
         refl,
+        run.8,
+        (goes_on _ _ hs ended c.is_over.ensures c.if-is_over.false (omega (arith, run.2, c.loop-count-test.true)), run.9),
       );
     }
 
 pub returns-clause-heard : goal.returns-clause-heard
 returns-clause-heard g c =
     let run = c.loop-count.invariant.run in
-    (run.0, (λ ends. omega (arith, run.1, c.loop-count-test.false, c.loop-count.auto._count-end)), run.3, run.4, run.5, run.6)
+    let hs = run.0 ∷ run.1 in
+    let ended = ended_is hs c.loop-count.step.is_more c.loop-count.step.now c.hear-step.result.now run.3 run.7 run.8 in
+    (hs, (ended_full _ hs ended (omega (arith, run.2, c.loop-count-test.false, c.loop-count.auto._count-end)), run.9), run.4, run.5, run.6, run.7)
 
 pub returns-clause-settled : goal.returns-clause-settled
 returns-clause-settled g c = c.loop-count.invariant.settled

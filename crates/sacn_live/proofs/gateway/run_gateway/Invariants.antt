@@ -6,6 +6,7 @@ use Rattle.sacn_edge.proofs.NodeLemmas.{Distinct, numbers, Remembers}
 use Rattle.sacn_live.specs.Hearings.{Hearing}
 use Rattle.sacn_live.specs.GatewayText.{gateway_after, gateway_text, gateway_lines}
 use Rattle.sacn_live.specs.GatewayRun.{all_heard, AreWhole, AllBefore}
+use Rattle.sacn_live.specs.Interfaces.{AreOffered}
 use Rattle.sacn_live.proofs.gateway.run_gateway.Given as goal
 
 -- the turns so far
@@ -22,7 +23,8 @@ invariant-loop-turn g l = record {
       × Extends (g.G.Receiver.told l.fn.receiver) (g.G.Receiver.told l.receiver) (all_heard turns)
       × Adds (g.O.Out.Tells l.fn.out) (g.O.Out.Tells l.out) (gateway_text l.fn.core l.senders turns)
       × (l.core ≡ (gateway_after l.fn.core l.senders turns).node)
-      × (l.emptied ≡ (gateway_after l.fn.core l.senders turns).emptied)
+      × (l.waits ≡ (gateway_after l.fn.core l.senders turns).waits)
       × (numbers l.ports.items ≡ port_numbers l.fn.core.ports)
-      × Remembers (gateway_lines l.fn.core l.senders turns) l.ports.items;
+      × Remembers (gateway_lines l.fn.core l.senders turns) l.ports.items
+      × AreOffered g.D.Device.told l.fn.core l.senders turns l.fn.interfaces l.interfaces;
 }
