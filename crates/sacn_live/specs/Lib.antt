@@ -10,3 +10,4 @@ pub mod Groups
 pub mod Widgets
 pub mod MemoryHearings
 pub mod MemoryReceiver
+pub mod Rooms

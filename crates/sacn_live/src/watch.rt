@@ -1,5 +1,6 @@
 //! What a gateway says of what it hears.
 use crate::counts::Counts;
+use crate::drops::Drops;
 use crate::hearing::{Notes, PassedOver};
 use crate::receiver::Octets4;
 use crate::sources::Sources;
@@ -18,6 +19,7 @@ pub struct Watch<'a, E> {
     err: E,
     sources: Sources,
     counts: Counts,
+    drops: Option<Drops>,
     widgets: Vec<Widget<'a>>,
 }
 
@@ -52,8 +54,14 @@ impl<'a, E: Write> Watch<'a, E> {
             err,
             sources: Sources::new(),
             counts: Counts::new(),
+            drops: None,
             widgets,
         }
+    }
+
+    /// From now on it says what the machine drops, too.
+    pub fn count_drops(&mut self, drops: Drops) {
+        self.drops = Some(drops);
     }
 
     /// A data packet of one of the node's universes.
@@ -102,6 +110,9 @@ impl<'a, E: Write> Notes for Watch<'a, E> {
     fn note_frames(&mut self, now: u64, ports: &[PortShown]) {
         self.counts.say(now, &mut self.err);
         self.sources.check(now, &mut self.err);
+        if let Some(drops) = &mut self.drops {
+            drops.check(now, &mut self.err);
+        }
         for widget in self.widgets.iter_mut() {
             widget.show(now, ports, &mut self.err);
         }
