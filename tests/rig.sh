@@ -288,6 +288,54 @@ for is_raw in (True, False):
 P
 }
 
+# A gateway whose outputs nobody reads, beside a source of which each packet is another level: its interface gets frames all the same. What
+# is read of it later is whole lines, one of which says how many are missing, and the newest frame.
+an_unread_output_holds_nothing_up() {
+  setup 25811 1 >"$work/node.toml"
+  python3 - "$sacn" "$work" <<'P'
+import os, socket, subprocess, sys, time
+work = sys.argv[2]
+def packet(number, level, ends=False):
+    slots = bytes([0, level]) + bytes(511)
+    dmp = (0x7000 + 10 + len(slots)).to_bytes(2, "big") + bytes([2, 0xa1, 0, 0, 0, 1]) + len(slots).to_bytes(2, "big") + slots
+    framing = b"\0\0\0\2" + b"unread".ljust(64, b"\0") + bytes([100, 0, 0, number, 0x40 if ends else 0, 0, 1])
+    framing = (0x7000 + 2 + len(framing) + len(dmp)).to_bytes(2, "big") + framing + dmp
+    root = b"\0\0\0\4" + bytes(range(16))
+    root = (0x7000 + 2 + len(root) + len(framing)).to_bytes(2, "big") + root + framing
+    return b"\0\x10\0\0ASC-E1.17\0\0\0" + root
+open(work + "/device", "w").close()
+run = subprocess.Popen([sys.argv[1], "gateway", work + "/node.toml", "--widget", "1=" + work + "/device", "--seconds", "12"],
+                       stdout=subprocess.PIPE, stderr=subprocess.PIPE)
+run.stderr.readline()
+out = socket.socket(socket.AF_INET, socket.SOCK_DGRAM)
+place = ("127.0.0.1", 25811)
+sizes = []
+for count in range(600):
+    out.sendto(packet(count % 256, 1 + count % 255), place)
+    time.sleep(0.005)
+    if count in (400, 599): sizes.append(os.path.getsize(work + "/device"))
+time.sleep(0.5)
+last = 1 + 599 % 255
+# a thousand ends and beginnings, of which few lines may come
+for count in range(1000):
+    out.sendto(packet((600 + count) % 256, last, count % 2 == 0), place)
+    time.sleep(0.001)
+out.sendto(packet(1600 % 256, last), place)
+written, said = run.communicate()
+lines = written.decode().splitlines()
+missing = [line for line in lines if line.endswith(" lines not written")]
+frames = [line.split() for line in lines if line not in missing]
+sources = [line for line in said.decode().splitlines() if line.startswith("source ")]
+passed = [int(line.split()[0]) for line in said.decode().splitlines() if line.endswith(" source lines not written")]
+print("sizes", sizes, "missing", missing, "frames", len(frames), "source lines", len(sources), passed, file=sys.stderr)
+assert sizes[1] - sizes[0] > 20 * 518, sizes
+assert all(len(frame) == 3 and frame[0] == "1" and len(frame[2]) == 1026 for frame in frames)
+assert written.endswith(b"\n") and len(missing) >= 1 and int(missing[0].split()[0]) > 0
+assert "%02x" % last in [frame[2][2:4] for frame in frames[-3:]]
+assert sum(passed) > 0 and len(sources) <= 10 * 13, (sources, passed)
+P
+}
+
 Ctrl_C_ends_each_universe() {
   show 25808 1 2 >"$work/show.toml"
   python3 - "$sacn" "$work/show.toml" <<'P'
@@ -388,7 +436,7 @@ multicast_between_namespaces() {
 
 [ -x "$sacn" ] || { echo "not ok the program is built: $sacn isn't there"; exit 1; }
 tests="a_desk_lights_a_gateway a_script_ends_the_desk a_port_is_shared a_stop_drops_the_backlog
-  a_lost_source_goes_dark an_interface_gets_frames a_stuck_interface_costs_itself_alone Ctrl_C_ends_each_universe bad_words_are_named groups_are_printed a_small_stack_is_enough"
+  a_lost_source_goes_dark an_interface_gets_frames a_stuck_interface_costs_itself_alone an_unread_output_holds_nothing_up Ctrl_C_ends_each_universe bad_words_are_named groups_are_printed a_small_stack_is_enough"
 for test in $tests; do
   "$test"
   verdict "$test" $?

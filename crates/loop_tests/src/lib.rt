@@ -7,6 +7,8 @@ mod loops;
 #[cfg(test)]
 mod network;
 #[cfg(test)]
+mod outputs;
+#[cfg(test)]
 mod texts;
 #[cfg(test)]
 mod worlds;

@@ -5,7 +5,7 @@ use sacn_commands::ending::Ending;
 use sacn_commands::live::{clock_of, of_socket, say_hearing};
 use sacn_explain::Options;
 use sacn_files::words::short_in;
-use sacn_live::{UdpReceiver, guard_standard_descriptors, output_is_terminal};
+use sacn_live::{Lines, Outputs, UdpReceiver, guard_standard_descriptors, output_is_terminal};
 use sacn_watch::{Listener, Size, WatchFault, watch_lines, watch_terminal};
 use sacn_words::{WatchAsked, moment_of};
 use std::env::{self, Env};
@@ -39,9 +39,55 @@ pub fn watch<R: AllocGlobal + Env + Net + Clock, O: Write, E: Write>(
         let universe = asked.universes.first().copied();
         return serve(rt, address, place, universe, until, err);
     }
+    if asked.is_plain | asked.is_json || !output_is_terminal() {
+        return tell(rt, address, asked, until);
+    }
     let mut receiver = receiver_at(rt, address, err)?;
     say_hearing(address, receiver.room(), err);
-    watch_end(tell(rt, &mut receiver, asked, until, out))
+    watch_end(show(rt, &mut receiver, asked, until, out))
+}
+
+// Tells what is heard at an address line by line, on standard output. No output that isn't read holds it up.
+fn tell<R: AllocGlobal + Net + Clock>(
+    rt: &R,
+    address: SocketAddrV4,
+    asked: &WatchAsked,
+    until: u64,
+) -> Result<(), Ending> {
+    let mut clock = clock_of(rt)?;
+    let lines = if asked.is_json {
+        Lines::Objects
+    } else {
+        Lines::Plain
+    };
+    let outputs = Outputs::new(rt.alloc(), lines)?;
+    let run = tell_on(rt, address, asked, until, &outputs);
+    outputs.finish(&mut clock);
+    run
+}
+
+fn tell_on<R: AllocGlobal + Net + Clock>(
+    rt: &R,
+    address: SocketAddrV4,
+    asked: &WatchAsked,
+    until: u64,
+    outputs: &Outputs,
+) -> Result<(), Ending> {
+    let mut receiver = receiver_at(rt, address, &mut outputs.err())?;
+    receiver.tend(outputs);
+    say_hearing(address, receiver.room(), &mut outputs.err());
+    let options = Options {
+        port: asked.port,
+        universes: asked.universes.as_slice(),
+        form: form_of(asked.is_json),
+    };
+    watch_end(watch_lines(
+        rt.alloc(),
+        &mut receiver,
+        &options,
+        until,
+        &mut outputs.out(),
+    ))
 }
 
 /// Hears at an address, for as long as standard input goes on.
@@ -56,22 +102,14 @@ pub fn receiver_at<'a, R: Net + Clock, E: Write>(
     Ok(receiver)
 }
 
-// Tells what a receiver hears, line by line, or shows it on a terminal.
-fn tell<R: AllocGlobal + Env, L: Listener, O: Write>(
+// Shows what a receiver hears on a terminal.
+fn show<R: AllocGlobal + Env, L: Listener, O: Write>(
     rt: &R,
     listener: &mut L,
     asked: &WatchAsked,
     until: u64,
     out: &mut O,
 ) -> Result<(), WatchFault> {
-    let options = Options {
-        port: asked.port,
-        universes: asked.universes.as_slice(),
-        form: form_of(asked.is_json),
-    };
-    if asked.is_plain | asked.is_json || !output_is_terminal() {
-        return watch_lines(rt.alloc(), listener, &options, until, out);
-    }
     let size = Size {
         width: extent(rt, "COLUMNS", 80),
         height: extent(rt, "LINES", 24),

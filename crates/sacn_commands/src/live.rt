@@ -8,8 +8,8 @@ use sacn_edge::{ConsoleReport, Link, WriterOut};
 use sacn_framing::multicast_group;
 use sacn_live::limits::{MAX_ROUNDS, RECEIVE_ROOM};
 use sacn_live::{
-    DISCOVERY_UNIVERSE, DeskOrders, Destinations, Interface, Plan, RigClock, Span, UdpReceiver,
-    UdpSender, Watch, Widget, guard_standard_descriptors, run_desk, run_gateway,
+    DISCOVERY_UNIVERSE, DeskOrders, Destinations, Interface, Lines, Outputs, Plan, RigClock, Span,
+    UdpReceiver, UdpSender, Watch, Widget, guard_standard_descriptors, run_desk, run_gateway,
 };
 use sacn_node::{NodeCore, NodeSetup, read_node};
 use sacn_words::{DeskAsked, GatewayAsked, moment_of};
@@ -165,36 +165,48 @@ fn check_widgets<E: Write>(
     Ok(())
 }
 
-/// Runs a gateway, which prints its frames as they change.
-pub fn gateway<R: AllocGlobal + Files + Net + Clock, O: Write, E: Write>(
+/// Runs a gateway, which prints its frames on standard output as they change. No output that isn't read holds it up.
+pub fn gateway<R: AllocGlobal + Files + Net + Clock>(
     rt: &R,
     asked: &GatewayAsked<'_>,
-    out: &mut O,
-    err: &mut E,
 ) -> Result<(), Ending> {
     guard_standard_descriptors();
-    let setup = of_file(setup_of_file(rt, asked.setup), asked.setup, err)?;
-    check_widgets(asked.widgets.as_slice(), &setup, err)?;
-    run_setup(rt, asked, &setup, out, err)
+    let mut clock = clock_of(rt)?;
+    let outputs = Outputs::new(rt.alloc(), Lines::Frames)?;
+    let run = gateway_on(rt, asked, &outputs);
+    outputs.finish(&mut clock);
+    run
+}
+
+fn gateway_on<R: AllocGlobal + Files + Net + Clock>(
+    rt: &R,
+    asked: &GatewayAsked<'_>,
+    outputs: &Outputs,
+) -> Result<(), Ending> {
+    let mut err = outputs.err();
+    let setup = of_file(setup_of_file(rt, asked.setup), asked.setup, &mut err)?;
+    check_widgets(asked.widgets.as_slice(), &setup, &mut err)?;
+    run_setup(rt, asked, &setup, outputs)
 }
 
 // Runs a gateway of a setup. (The check of a function takes much longer the more values it has to drop on its ways out.)
-fn run_setup<R: AllocGlobal + Net + Clock, O: Write, E: Write>(
+fn run_setup<R: AllocGlobal + Net + Clock>(
     rt: &R,
     asked: &GatewayAsked<'_>,
     setup: &NodeSetup,
-    out: &mut O,
-    err: &mut E,
+    outputs: &Outputs,
 ) -> Result<(), Ending> {
-    let mut receiver = receiver_of(rt, asked, setup, err)?;
+    let mut receiver = receiver_of(rt, asked, setup, &mut outputs.err())?;
+    receiver.tend(outputs);
     let mut interfaces = interfaces_of(rt, asked.widgets.as_slice())?;
-    let mut watch = Watch::new(&mut *err);
+    let mut watch = Watch::new(outputs.err());
+    watch.count_drops(receiver.drops(rt.alloc())?);
     let mut core = NodeCore::new(rt.alloc(), setup)?;
     let span = Span {
         turns: u64::MAX,
         until: moment_of(asked.seconds),
     };
-    let mut lines = WriterOut::new(&mut *out);
+    let mut lines = WriterOut::new(outputs.out());
     run_gateway(
         &mut receiver,
         &mut watch,
@@ -204,7 +216,7 @@ fn run_setup<R: AllocGlobal + Net + Clock, O: Write, E: Write>(
         asked.from.as_slice(),
         span,
     )?;
-    of_write(out.flush())
+    of_write(outputs.out().flush())
 }
 
 // The socket at which a setup is heard; what it hears is said.
@@ -241,14 +253,25 @@ fn destinations_of<R: AllocGlobal>(
     Ok(Destinations::Hosts(hosts))
 }
 
-/// Runs a desk, and prints what came of it.
-pub fn desk<R: AllocGlobal + Files + Net + Clock, O: Write, E: Write>(
+/// Runs a desk, and prints what came of it on standard output. No output that isn't read holds it up.
+pub fn desk<R: AllocGlobal + Files + Net + Clock>(
+    rt: &R,
+    asked: &DeskAsked<'_>,
+) -> Result<(), Ending> {
+    guard_standard_descriptors();
+    let mut clock = clock_of(rt)?;
+    let outputs = Outputs::new(rt.alloc(), Lines::Plain)?;
+    let run = desk_on(rt, asked, &mut outputs.out(), &mut outputs.err());
+    outputs.finish(&mut clock);
+    run
+}
+
+fn desk_on<R: AllocGlobal + Files + Net + Clock, O: Write, E: Write>(
     rt: &R,
     asked: &DeskAsked<'_>,
     out: &mut O,
     err: &mut E,
 ) -> Result<(), Ending> {
-    guard_standard_descriptors();
     let show = of_file(show_of_file(rt, asked.show), asked.show, err)?;
     match asked.script {
         Some(path) => perform_script(rt, asked, &show, path, out, err),

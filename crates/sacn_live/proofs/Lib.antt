@@ -9,3 +9,4 @@ mod Fair
 mod FairRounds
 mod FairEnds
 mod FairDesks
+mod Gone

@@ -14,3 +14,4 @@ pub mod InterfaceLaws
 pub mod MemoryHearings
 pub mod MemoryReceiver
 pub mod MemoryDevice
+pub mod Rooms

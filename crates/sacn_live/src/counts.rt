@@ -1,5 +1,8 @@
 //! Messages that could come often.
-use crate::limits::SAID_EACH;
+ghost use Rattle.std.specs.Prelude.{◌≡◌, ◌≤◌, ◌+◌, true, false};
+ghost use Rattle.sacn_live.specs.declared.limits.TheConstants.{SOURCE_LINES};
+
+use crate::limits::{SAID_EACH, SOURCE_LINES};
 use arrayvec::ArrayVec;
 use std::io::Write;
 
@@ -64,6 +67,58 @@ impl Counts {
                 counted.count = 0;
                 counted.said = Some(now);
             }
+        }
+    }
+}
+
+/// How many lines of one kind a second may have: a few, and the others are counted.
+#[derive(Clone, Copy, Default)]
+pub struct Allowance {
+    // The moment of the second's first line.
+    begun: u64,
+    said: u64,
+    passed: u64,
+}
+
+impl Allowance {
+    /// Nothing was said or passed over.
+    pub fn new() -> Allowance
+        ensures { result.said ≡ 0 }
+    {
+        Allowance {
+            begun: 0,
+            said: 0,
+            passed: 0,
+        }
+    }
+
+    fn is_over(&self, now: u64) -> bool {
+        now.saturating_sub(self.begun) >= SAID_EACH
+    }
+
+    /// Whether one more line may be written at a moment. One that may not is counted.
+    pub fn admits(&mut self, now: u64) -> bool
+        ensures few { self.old.said ≤ SOURCE_LINES → self.new.said ≤ SOURCE_LINES }
+        ensures said { result ≡ true → self.new.passed ≡ self.old.passed }
+        ensures passed { result ≡ false → self.old.passed ≤ self.new.passed }
+    {
+        if self.is_over(now) {
+            self.begun = now;
+            self.said = 0;
+        }
+        if self.said < SOURCE_LINES {
+            self.said += 1;
+            return true;
+        }
+        self.passed = self.passed.saturating_add(1);
+        false
+    }
+
+    /// Says once the second is over how many lines were passed over in it.
+    pub fn say<E: Write>(&mut self, now: u64, err: &mut E) {
+        if self.passed > 0 && self.is_over(now) {
+            let _ = writeln!(err, "{} source lines not written", self.passed);
+            self.passed = 0;
         }
     }
 }

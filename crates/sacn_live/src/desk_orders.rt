@@ -313,6 +313,7 @@ impl<'a, R: MachineClock, O: Write> Orders for DeskOrders<'a, R, O> {
     }
 
     fn look(&mut self, core: &ConsoleCore, report: &ConsoleReport) {
+        let _ = self.out.flush();
         if self.asks_status {
             self.asks_status = false;
             self.say_status(core, report);

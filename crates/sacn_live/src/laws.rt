@@ -10,6 +10,7 @@
 ghost use Rattle.sacn_live.specs.Fairness.{DeskSendsAreGiven, EachAtMostOnce, EachDueIsGiven, EachOnce, EachReadingEnds, RoundsAreFair, RoundsOfShowsAreFair, SendsAreGiven, ShortRoundsAreFair};
 ghost use Rattle.sacn_live.specs.PlainGateway.{GatewayLinesAreByThePlainRule, GatewayStopsByThePlainRule, GatewayTextIsByThePlainRule};
 ghost use Rattle.sacn_live.specs.InterfaceLaws.{FailedDevicesAreTriedAgain, FailedDevicesRest, OffersAreOfTheirPort, WorkingDevicesShowTheirPorts};
+ghost use Rattle.sacn_live.specs.Rooms.{NothingIsCut};
 
 use sacn_node::laws as node;
 
@@ -68,4 +69,10 @@ pub fn rounds_are_fair()
     ensures shows { RoundsOfShowsAreFair }
     ensures few { RoundsAreFair }
     ensures short { ShortRoundsAreFair }
+{}
+
+/// Whatever comes, goes out and is told of the lines that wait for an output: what went out, and then what waits, is the lines that
+/// found room, whole and in order. So a line goes out whole, or nothing of it does.
+pub fn waiting_lines_are_whole()
+    ensures { NothingIsCut }
 {}

@@ -38,6 +38,9 @@ pub const FAILED_WAIT: i32 = 100;
 /// How long a message that could come often is held back after the one before.
 pub const SAID_EACH: u64 = 1000;
 
+/// The most lines in a second of sources that come, end or are lost.
+pub const SOURCE_LINES: u64 = 10;
+
 /// How long an interface shows a frame before it gets it again.
 pub const REFRESH: u64 = 500;
 
@@ -46,3 +49,5 @@ pub const RETRY: u64 = 1000;
 
 /// How long a gateway waits at most where an interface could take no more octets.
 pub const LATER_WAIT: u64 = 25;
+/// The longest wait of a watch while lines wait for an output, in milliseconds.
+pub const PENDING_WAIT: i32 = 100;

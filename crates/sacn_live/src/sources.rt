@@ -1,11 +1,14 @@
 //! The sources that a gateway knows of.
+use crate::counts::Allowance;
 use crate::limits::LATE_AFTER;
 use crate::receiver::Octets4;
 use arrayvec::ArrayVec;
+use sacn_node::MAX_UNIVERSES;
+use sacn_sources::MAX_SOURCES;
 use std::io::Write;
 
-/// The most sources of which the watch knows: those of sixteen universes.
-const MAX_WATCHED: usize = 256;
+/// The most sources of which the watch knows: those of all universes that a node may show.
+const MAX_WATCHED: usize = MAX_SOURCES * MAX_UNIVERSES;
 
 /// A source on a universe, and its latest packet that renewed it.
 #[derive(Clone, Copy, Default)]
@@ -21,6 +24,7 @@ pub struct Sources {
     watched: ArrayVec<Watched, MAX_WATCHED>,
     // The earliest moment at which one may be lost.
     next_check: u64,
+    allowance: Allowance,
 }
 
 fn is_same(a: &[u8; 16], b: &[u8; 16]) -> bool {
@@ -51,6 +55,7 @@ impl Sources {
         Sources {
             watched: ArrayVec::new(),
             next_check: 0,
+            allowance: Allowance::new(),
         }
     }
 
@@ -63,7 +68,13 @@ impl Sources {
         None
     }
 
-    /// A source's packet that is shown. Says so where the source wasn't there.
+    /// Whether a line may be written at a moment; how many weren't is said before.
+    fn may_say<E: Write>(&mut self, now: u64, err: &mut E) -> bool {
+        self.allowance.say(now, err);
+        self.allowance.admits(now)
+    }
+
+    /// A source's packet that is shown. Says so where the source wasn't there, and there is room to know of it.
     pub fn note_packet<E: Write>(
         &mut self,
         now: u64,
@@ -78,32 +89,38 @@ impl Sources {
             }
             return;
         }
-        say_came(err, cid, universe, sender);
-        let cid = *cid;
-        let _ = self.watched.try_push(Watched {
-            cid,
+        let watched = Watched {
+            cid: *cid,
             universe,
             moment: now,
-        });
-    }
-
-    /// A source's termination.
-    pub fn note_end<E: Write>(&mut self, _now: u64, cid: &[u8; 16], universe: u16, err: &mut E) {
-        if let Some(place) = self.place_of(cid, universe) {
-            let _ = self.watched.swap_pop(place);
-            say(err, cid, universe, "ended");
+        };
+        if self.watched.try_push(watched).is_ok() && self.may_say(now, err) {
+            say_came(err, cid, universe, sender);
         }
     }
 
-    /// Says which sources are lost at a moment.
+    /// A source's termination.
+    pub fn note_end<E: Write>(&mut self, now: u64, cid: &[u8; 16], universe: u16, err: &mut E) {
+        if let Some(place) = self.place_of(cid, universe) {
+            let _ = self.watched.swap_pop(place);
+            if self.may_say(now, err) {
+                say(err, cid, universe, "ended");
+            }
+        }
+    }
+
+    /// Says which sources are lost at a moment, and how many lines weren't written.
     pub fn check<E: Write>(&mut self, now: u64, err: &mut E) {
+        self.allowance.say(now, err);
         if now < self.next_check {
             return;
         }
         let mut oldest = now;
         for watched in self.watched.as_slice() {
             if is_lost(watched, now) {
-                say(err, &watched.cid, watched.universe, "lost");
+                if self.allowance.admits(now) {
+                    say(err, &watched.cid, watched.universe, "lost");
+                }
             } else {
                 oldest = oldest.min(watched.moment);
             }

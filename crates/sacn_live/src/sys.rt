@@ -1,5 +1,5 @@
 //! The calls of the machine that std has no word for, each in a function of its own.
-ghost use Rattle.std.specs.Prelude.{◌≤◌, length, IfSome};
+ghost use Rattle.std.specs.Prelude.{◌≤◌, length, IfOk, IfSome};
 
 use crate::device::DeviceFault;
 use crate::limits::RECEIVE_ROOM;
@@ -14,7 +14,10 @@ use std::os::fd::{AsRawFd, OwnedFd, RawFd};
 pub const STDIN: RawFd = 0;
 
 /// Standard output.
-const STDOUT: RawFd = 1;
+pub const STDOUT: RawFd = 1;
+
+/// Standard error.
+pub const STDERR: RawFd = 2;
 
 /// No descriptor: `poll` passes it over.
 pub const NO_DESCRIPTOR: RawFd = -1;
@@ -47,6 +50,23 @@ pub(crate) fn is_readable(fd: RawFd) -> bool {
 fn is_ready(fd: RawFd) -> bool {
     let mut fds = [request(fd, c::POLLOUT)];
     c::poll(&mut fds, 0) > 0
+}
+
+/// Waits until a descriptor takes octets or refuses them at once, for at most so many milliseconds. Returns whether it does.
+pub(crate) fn takes_octets(fd: RawFd, millis: i32) -> bool {
+    let mut fds = [request(fd, c::POLLOUT)];
+    c::poll(&mut fds, millis) > 0
+}
+
+/// Writes some of these octets to a descriptor, from the first on. Returns how many.
+pub(crate) fn write_some(fd: RawFd, octets: &[u8]) -> Result<usize, ErrorKind>
+    ensures { IfOk result (λ n. n ≤ length octets.now) }
+{
+    let count = libc::write(fd, octets);
+    if count < 0 {
+        return Err(last_fault());
+    }
+    Ok(count as usize)
 }
 
 fn last_fault() -> ErrorKind {
@@ -134,9 +154,14 @@ pub fn guard_standard_descriptors() {
     }
 }
 
+/// Whether a descriptor is a terminal.
+pub(crate) fn is_terminal(fd: RawFd) -> bool {
+    libc::isatty(fd) == 1
+}
+
 /// Whether standard output is a terminal.
 pub fn output_is_terminal() -> bool {
-    libc::isatty(STDOUT) == 1
+    is_terminal(STDOUT)
 }
 
 /// C's numbers of faults that its library in the kit doesn't name.
@@ -185,6 +210,41 @@ pub(crate) fn write_device(file: &OwnedFd, octets: &[u8]) -> Result<usize, Devic
         return Ok(0);
     }
     Err(last_device_fault())
+}
+
+/// What a link leads to, as many octets as the buffer holds. Returns how many, or None where it can't be read.
+pub(crate) fn read_link(path: &[u8], buffer: &mut [u8]) -> Option<usize>
+    ensures { IfSome result (λ n. n ≤ length buffer.new) }
+{
+    let count = os::readlink(path, buffer);
+    if count < 0 {
+        None
+    } else {
+        Some(count as usize)
+    }
+}
+
+/// The most reads of a file's start.
+const MAX_READS: usize = 64;
+
+/// The octets of a file from its start, as many as the buffer holds. Returns how many, or None where it can't be opened.
+pub(crate) fn read_start(path: &[u8], buffer: &mut [u8]) -> Option<usize>
+    ensures { IfSome result (λ n. n ≤ length buffer.new) }
+{
+    let fd = os::open_read(path);
+    if fd < 0 {
+        return None;
+    }
+    let file = unsafe { OwnedFd::from_raw_fd(fd) };
+    let mut filled = 0;
+    for _ in 0..MAX_READS {
+        let count = libc::read(file.as_raw_fd(), &mut buffer[filled..]);
+        if count <= 0 {
+            return Some(filled);
+        }
+        filled += count as usize;
+    }
+    Some(filled)
 }
 
 /// Octets of standard input, 0 at its end; None where it fails.

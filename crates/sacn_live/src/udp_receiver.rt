@@ -1,10 +1,13 @@
 //! A receiver over a UDP socket of the machine.
 use crate::clock::RigClock;
+use crate::drops::Drops;
 use crate::input_end::InputEnd;
-use crate::limits::FAILED_WAIT;
+use crate::limits::{FAILED_WAIT, PENDING_WAIT};
+use crate::outputs::Outputs;
 use crate::receiver::{Arrival, Octets4, Receipt, Receiver};
 use crate::sys::{NO_DESCRIPTOR, bind_shared, room_of, wait_readable};
 use sacn_edge::{BUFFER_OCTETS, Clock};
+use std::alloc::{AllocError, Global};
 use std::io::ErrorKind;
 use std::net::{Net, SocketAddr, SocketAddrV4, UdpSocket};
 use std::os::fd::{AsRawFd, RawFd};
@@ -25,6 +28,8 @@ pub struct UdpReceiver<'a, R> {
     input: InputEnd,
     // What a wait ends at too, where it can be read.
     beside: RawFd,
+    // What is handed on before a wait.
+    outputs: Option<&'a Outputs>,
 }
 
 impl<'a, R: Net + MachineClock> UdpReceiver<'a, R> {
@@ -41,6 +46,7 @@ impl<'a, R: Net + MachineClock> UdpReceiver<'a, R> {
             sender_port: 0,
             input: InputEnd::ignored(),
             beside: NO_DESCRIPTOR,
+            outputs: None,
         })
     }
 
@@ -59,9 +65,28 @@ impl<'a, R: Net + MachineClock> UdpReceiver<'a, R> {
         self.beside = descriptor;
     }
 
+    /// From now on each wait hands on what waits for these outputs, and is short while something does.
+    pub fn tend(&mut self, outputs: &'a Outputs) {
+        self.outputs = Some(outputs);
+    }
+
+    /// The most milliseconds of a wait up to this moment.
+    fn wait_millis(&mut self, until: u64) -> i32 {
+        let millis = self.clock.millis_until(until);
+        match self.outputs {
+            Some(outputs) if outputs.pump() => millis.min(PENDING_WAIT),
+            _ => millis,
+        }
+    }
+
     /// Whether standard input is waited for and has ended or failed. What is there of it is passed over.
     pub fn input_ended(&mut self) -> bool {
         self.input.has_come()
+    }
+
+    /// What the machine drops of what comes.
+    pub fn drops(&self, alloc: Global) -> Result<Drops, AllocError> {
+        Drops::of(alloc, self.socket.as_raw_fd())
     }
 
     /// The room for datagrams that wait, in octets, as the machine tells it; None where it doesn't.
@@ -80,7 +105,7 @@ fn place_of(sender: SocketAddr) -> (Octets4, u16) {
 
 impl<'a, R: Net + MachineClock> Receiver for UdpReceiver<'a, R> {
     fn wait(&mut self, until: u64) {
-        let millis = self.clock.millis_until(until);
+        let millis = self.wait_millis(until);
         let input = self.input.descriptor();
         if self.is_failing {
             let millis = millis.max(1).min(FAILED_WAIT);

@@ -1,6 +1,7 @@
 //! What a gateway says of what it hears.
 use crate::counts::Counts;
 use crate::device::DeviceFault;
+use crate::drops::Drops;
 use crate::hearing::{Notes, PassedOver};
 use crate::receiver::Octets4;
 use crate::sources::Sources;
@@ -17,6 +18,7 @@ pub struct Watch<E> {
     err: E,
     sources: Sources,
     counts: Counts,
+    drops: Option<Drops>,
 }
 
 /// The name of a fault of a packet.
@@ -50,7 +52,13 @@ impl<E: Write> Watch<E> {
             err,
             sources: Sources::new(),
             counts: Counts::new(),
+            drops: None,
         }
+    }
+
+    /// From now on it says what the machine drops, too.
+    pub fn count_drops(&mut self, drops: Drops) {
+        self.drops = Some(drops);
     }
 
     /// A data packet of one of the node's universes.
@@ -110,5 +118,8 @@ impl<E: Write> Notes for Watch<E> {
     fn note_turn(&mut self, now: u64) {
         self.counts.say(now, &mut self.err);
         self.sources.check(now, &mut self.err);
+        if let Some(drops) = &mut self.drops {
+            drops.check(now, &mut self.err);
+        }
     }
 }

@@ -1,0 +1,228 @@
+//! Outputs that never hold up what writes to them.
+//!
+//! An [`Output`] keeps the lines that its sink doesn't take now. What finds no room is lost by whole lines, and how many is told once
+//! there is room. Nothing here waits but [`Output::finish`].
+ghost use Rattle.std.specs.Prelude.{◌≤◌, length, IfOk};
+
+use crate::room::{FrameLine, MAX_FRAMES, NewestFrames, ROOM_OCTETS, Room};
+use arrayvec::{ArrayString, ArrayVec};
+use sacn_edge::Clock;
+use std::alloc::{AllocError, Global};
+use std::fmt::Write as _;
+use std::io::{Error, ErrorKind, Result, Write};
+
+/// The most pieces that are handed on at one call: those of a full room, where each is of 64 octets.
+const MAX_PIECES: usize = 1024;
+
+/// How long the end of a run waits for what waits to go out, in milliseconds.
+const END_WAIT: u64 = 200;
+
+/// What takes octets, and can be asked whether it does so now.
+pub trait Sink {
+    /// Waits until octets are taken or refused at once, for at most so many milliseconds. Returns whether they are.
+    fn is_ready(&mut self, millis: i32) -> bool;
+
+    /// The most octets that are taken at once where the sink is ready.
+    fn most(&self) -> usize;
+
+    /// Takes some of these octets, from the first on. Returns how many.
+    fn take(&mut self, octets: &[u8]) -> std::result::Result<usize, ErrorKind>
+        ensures { IfOk result (λ n. n ≤ length octets.now) };
+}
+
+/// What the lines of an output are.
+#[derive(Clone, Copy, PartialEq, Eq)]
+pub enum Lines {
+    /// Lines for people. Where there is no room, the newest are lost.
+    Plain,
+    /// JSON objects, lost as plain lines.
+    Objects,
+    /// Frames of ports. Where there is no room, the newest of each port is kept for when there is.
+    Frames,
+}
+
+/// An output whose lines wait where its sink doesn't take them.
+#[derive(Drop)]
+pub struct Output<S> {
+    sink: S,
+    lines: Lines,
+    room: Room,
+    frames: NewestFrames,
+    // The line that is being written, without what is beyond its room.
+    line: Vec<u8>,
+    is_long: bool,
+}
+
+/// The port of a frame's line.
+fn port_of(line: &[u8]) -> Option<u8> {
+    let end = line.iter().position(|octet| *octet == b' ')?;
+    let digits = std::str::from_utf8(&line[..end]).ok()?;
+    digits.parse::<u8>().ok()
+}
+
+fn frame_line(line: &[u8]) -> Option<FrameLine> {
+    let port = port_of(line)?;
+    let mut octets = ArrayVec::new();
+    octets.try_extend_from_slice(line).ok()?;
+    Some(FrameLine { port, octets })
+}
+
+/// The line that tells how many lines were lost.
+fn loss_line(lines: Lines, count: u64) -> ArrayString<64> {
+    let mut text = ArrayString::new();
+    let _ = match lines {
+        Lines::Objects => writeln!(text, "{{\"event\":\"not_written\",\"lines\":{count}}}"),
+        Lines::Plain => writeln!(text, "{count} lines not written"),
+        Lines::Frames => writeln!(text, "{count} lines not written"),
+    };
+    text
+}
+
+impl<S: Sink + Drop> Output<S> {
+    /// An output to which nothing was written. Once it is there it takes no memory.
+    pub fn new(alloc: Global, sink: S, lines: Lines) -> std::result::Result<Output<S>, AllocError> {
+        Ok(Output {
+            sink,
+            lines,
+            room: Room::new(alloc)?,
+            frames: NewestFrames::new(),
+            line: Vec::with_capacity(alloc, ROOM_OCTETS)?,
+            is_long: false,
+        })
+    }
+
+    /// Adds octets to the line that is being written.
+    fn gather(&mut self, octets: &[u8]) {
+        let left = ROOM_OCTETS.saturating_sub(self.line.len());
+        if octets.len() > left || self.line.extend_from_slice(octets).is_err() {
+            self.is_long = true;
+        }
+    }
+
+    fn end_line(&mut self) {
+        if self.is_long {
+            self.room.count_loss();
+        } else if self.lines == Lines::Frames {
+            self.add_frame();
+        } else {
+            self.room.add_line(self.line.as_slice());
+        }
+        self.line.clear();
+        self.is_long = false;
+    }
+
+    /// Gives a frame's line room, or keeps it in place of an earlier one of its port.
+    fn add_frame(&mut self) {
+        if self.frames.len() == 0 && self.room.has_room(self.line.len()) {
+            self.room.add_line(self.line.as_slice());
+            return;
+        }
+        let earlier = self.frames.len();
+        let is_kept = match frame_line(self.line.as_slice()) {
+            Some(line) => self.frames.hold(line),
+            None => false,
+        };
+        if !is_kept || self.frames.len() == earlier {
+            self.room.count_loss();
+        }
+    }
+
+    /// Gives the frame that waits the longest room, where there is. Returns whether there was.
+    fn move_frame(&mut self) -> bool {
+        let Some(line) = self.frames.first() else {
+            return false;
+        };
+        if !self.room.has_room(line.octets.len()) {
+            return false;
+        }
+        self.room.add_line(line.octets.as_slice());
+        self.frames.drop_first();
+        true
+    }
+
+    /// Tells what was lost, and gives frames that wait room, where there is.
+    fn settle(&mut self) {
+        if let Some(count) = self.room.take_loss() {
+            let line = loss_line(self.lines, count);
+            self.room.add_line(line.as_str().as_bytes());
+        }
+        for _ in 0..MAX_FRAMES {
+            if !self.move_frame() {
+                return;
+            }
+        }
+    }
+
+    /// Hands on a piece of what waits, where the sink is ready for it within so many milliseconds. Returns whether it took some.
+    fn hand_on(&mut self, millis: i32) -> std::result::Result<bool, ErrorKind> {
+        self.settle();
+        if self.room.is_empty() || !self.sink.is_ready(millis) {
+            return Ok(false);
+        }
+        let front = self.room.front();
+        let most = front.len().min(self.sink.most());
+        match self.sink.take(&front[..most]) {
+            Ok(0) => Err(ErrorKind::WriteZero),
+            Ok(count) => {
+                self.room.take(count);
+                Ok(true)
+            }
+            Err(ErrorKind::WouldBlock) => Ok(false),
+            Err(ErrorKind::Interrupted) => Ok(false),
+            Err(kind) => Err(kind),
+        }
+    }
+
+    /// Hands on what waits, as much as the sink takes at once.
+    fn pump(&mut self) -> std::result::Result<(), ErrorKind> {
+        for _ in 0..MAX_PIECES {
+            if !self.hand_on(0)? {
+                return Ok(());
+            }
+        }
+        Ok(())
+    }
+
+    /// Whether something waits.
+    pub fn is_pending(&self) -> bool {
+        !self.room.is_empty() || self.frames.len() > 0
+    }
+
+    /// Waits for what waits to go out, at most a fifth of a second. Returns how many lines are given up.
+    pub fn finish<C: Clock>(&mut self, clock: &mut C) -> u64 {
+        let until = clock.now().saturating_add(END_WAIT);
+        for _ in 0..MAX_PIECES {
+            let left = until.saturating_sub(clock.now()).min(END_WAIT);
+            match self.hand_on(left as i32) {
+                Ok(true) if left > 0 => {}
+                _ => break,
+            }
+        }
+        self.room
+            .count_left()
+            .saturating_add(self.frames.len() as u64)
+    }
+}
+
+impl<S: Sink + Drop> Write for Output<S> {
+    fn write(&mut self, octets: &[u8]) -> Result<usize> {
+        let Some(end) = octets.iter().position(|octet| *octet == b'\n') else {
+            self.gather(octets);
+            return Ok(octets.len());
+        };
+        let count = end + 1;
+        self.gather(&octets[..count]);
+        self.end_line();
+        match self.pump() {
+            Ok(()) => Ok(count),
+            Err(kind) => Err(Error::from(kind)),
+        }
+    }
+
+    fn flush(&mut self) -> Result<()> {
+        match self.pump() {
+            Ok(()) => Ok(()),
+            Err(kind) => Err(Error::from(kind)),
+        }
+    }
+}
