@@ -6,3 +6,4 @@ mod Fair
 mod FairRounds
 mod FairEnds
 mod FairDesks
+mod SendingLists
