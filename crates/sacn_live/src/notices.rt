@@ -101,7 +101,11 @@ pub(crate) struct Notices<E> {
 
 impl<E: Write + Drop> Notices<E> {
     /// Notices of so many destinations, said on this output.
-    pub(crate) fn new(alloc: Global, destinations: usize, err: E) -> Result<Notices<E>, AllocError> {
+    pub(crate) fn new(
+        alloc: Global,
+        destinations: usize,
+        err: E,
+    ) -> Result<Notices<E>, AllocError> {
         let list = vec![in alloc; Notice::new(); destinations]?;
         Ok(Notices { list, err })
     }
@@ -138,6 +142,10 @@ impl<E: Write + Drop> Notices<E> {
 
     fn say_again(&mut self, to: SocketAddrV4) {
         let [a, b, c, d] = to.ip().octets();
-        let _ = writeln!(self.err, "{a}.{b}.{c}.{d}:{} takes packets again", to.port());
+        let _ = writeln!(
+            self.err,
+            "{a}.{b}.{c}.{d}:{} takes packets again",
+            to.port()
+        );
     }
 }

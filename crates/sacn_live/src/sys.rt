@@ -102,15 +102,7 @@ pub fn bind_shared<R: Net>(_rt: &R, address: SocketAddrV4) -> Result<UdpSocket, 
 /// Asks for this much room for what waits to be sent by a socket, in octets.
 pub(crate) fn set_send_room(socket: &UdpSocket, octets: i32) -> Result<(), ErrorKind> {
     let room = number_value(octets);
-    result_of(unsafe {
-        c::setsockopt(
-            socket.as_raw_fd(),
-            c::SOL_SOCKET,
-            c::SO_SNDBUF,
-            &room,
-            4,
-        )
-    })
+    result_of(unsafe { c::setsockopt(socket.as_raw_fd(), c::SOL_SOCKET, c::SO_SNDBUF, &room, 4) })
 }
 
 /// Sends a datagram, without waiting.

@@ -36,7 +36,11 @@ impl HostSocket {
         let sent = send_now(&self.socket, datagram, to);
         let is_full = sent == Err(ErrorKind::WouldBlock);
         if self.hold.note(now, is_full) {
-            let room = if self.hold.is_held() { HELD_ROOM } else { self.room };
+            let room = if self.hold.is_held() {
+                HELD_ROOM
+            } else {
+                self.room
+            };
             let _ = set_send_room(&self.socket, room);
         }
         sent
