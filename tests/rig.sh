@@ -434,9 +434,70 @@ multicast_between_namespaces() {
   return "$status"
 }
 
+# The broadcast address refuses each datagram of a socket that didn't ask for it.
+a_host_that_refuses_stops_no_other() {
+  setup 25811 1 >"$work/node.toml"
+  show 25811 1 >"$work/show.toml"
+  : >"$work/said"
+  "$sacn" gateway "$work/node.toml" --seconds 6 >"$work/lines" 2>"$work/said" &
+  local pid=$!
+  ready "$work/said"
+  (echo go; lit; sleep 0.2) | "$sacn" desk "$work/show.toml" --to 255.255.255.255:25811 --to 127.0.0.1:25811 >"$work/answers" 2>"$work/desk" || return 1
+  wait "$pid" || return 1
+  [ "$(levels "$work/lines")" = "00 ff 00 " ] || return 1
+  [ "$(sed -n 1p "$work/desk")" = "255.255.255.255:25811 doesn't take packets: 1 failed (PermissionDenied)" ] || return 1
+  ! grep -q 127.0.0.1 "$work/desk" || return 1
+  grep -q '^sent 0 failed [1-9][0-9]* refused ' "$work/answers"
+}
+
+# A desk that fades 16 universes to 20 addresses that nobody has and one that hears: no universe of that one waits for the others.
+absent_hosts_stop_no_other() {
+  local a=sacn-a-$$ b=sacn-b-$$ status=1
+  printf 'version = 1\ncid = "00010203-0405-0607-0809-0a0b0c0d0e0f"\nname = "Desk"\nuniverses = [1,2,3,4,5,6,7,8,9,10,11,12,13,14,15,16]\nsend_to = [5568]\n' >"$work/show.toml"
+  printf '[[cue]]\nnumber = 1\nfade = 900000\nlevels = [[1, 65535]]\n' >>"$work/show.toml"
+  for universe in $(seq 16); do printf '[[patch]]\nchannel = 1\nuniverse = %s\nslot = 1\nwide = true\n' "$universe"; done >>"$work/show.toml"
+  ip netns add "$a" && ip netns add "$b" &&
+    ip link add va netns "$a" type veth peer name vb netns "$b" &&
+    ip -n "$a" address add 10.77.0.1/24 dev va && ip -n "$b" address add 10.77.0.2/24 dev vb &&
+    ip -n "$a" link set va up && ip -n "$b" link set vb up &&
+    python3 - "$sacn" "$work/show.toml" "$a" "$b" <<'P' && status=0
+import re, subprocess, sys, time
+sacn, show, a, b = sys.argv[1:]
+hear = '''
+import socket, time
+s = socket.socket(socket.AF_INET, socket.SOCK_DGRAM); s.bind(("10.77.0.2", 5568)); s.settimeout(0.2)
+print("ready", flush=True)
+last, gap, end = {}, 0, time.monotonic() + 7
+while time.monotonic() < end:
+    try: octets = s.recv(2048)
+    except TimeoutError: continue
+    if len(octets) != 638: continue
+    now = time.monotonic()
+    gap = max(gap, now - last.get(octets[114], now)); last[octets[114]] = now
+print(len(last), gap)
+'''
+run = subprocess.Popen(["ip", "netns", "exec", b, sys.executable, "-c", hear], stdout=subprocess.PIPE, text=True)
+run.stdout.readline()
+absent = [f"10.77.0.{100 + host}" for host in range(20)]
+to = [word for host in absent + ["10.77.0.2"] for word in ("--to", host)]
+desk = subprocess.Popen(["ip", "netns", "exec", a, sacn, "desk", show, *to], stdin=subprocess.PIPE, stdout=subprocess.PIPE, stderr=subprocess.PIPE, text=True)
+desk.stdin.write("go\n"); desk.stdin.flush()
+time.sleep(6)
+said = desk.communicate()[1].splitlines()
+universes, gap = run.communicate()[0].split()
+named = {line.split(":")[0] for line in said}
+fit = all(re.fullmatch(r"10\.77\.0\.\d+:5568 (doesn't take packets: \d+ failed \(WouldBlock\)|takes packets again)", line) for line in said)
+print("universes", universes, "greatest gap", gap, "named", len(named), file=sys.stderr)
+sys.exit(0 if universes == "16" and float(gap) < 1.5 and named == set(absent) and fit else 1)
+P
+  ip netns del "$a" 2>/dev/null
+  ip netns del "$b" 2>/dev/null
+  return "$status"
+}
+
 [ -x "$sacn" ] || { echo "not ok the program is built: $sacn isn't there"; exit 1; }
 tests="a_desk_lights_a_gateway a_script_ends_the_desk a_port_is_shared a_stop_drops_the_backlog
-  a_lost_source_goes_dark an_interface_gets_frames a_stuck_interface_costs_itself_alone an_unread_output_holds_nothing_up Ctrl_C_ends_each_universe bad_words_are_named groups_are_printed a_small_stack_is_enough"
+  a_lost_source_goes_dark an_interface_gets_frames a_stuck_interface_costs_itself_alone an_unread_output_holds_nothing_up Ctrl_C_ends_each_universe bad_words_are_named groups_are_printed a_small_stack_is_enough a_host_that_refuses_stops_no_other"
 for test in $tests; do
   "$test"
   verdict "$test" $?
@@ -448,9 +509,12 @@ if ip netns add "sacn-try-$$" 2>/dev/null && ip -n "sacn-try-$$" link add va typ
   ip netns del "sacn-try-$$"
   multicast_between_namespaces
   verdict multicast_between_namespaces $?
+  in_three_tries absent_hosts_stop_no_other
+  verdict absent_hosts_stop_no_other $?
 else
   ip netns del "sacn-try-$$" 2>/dev/null
   echo "skipped multicast_between_namespaces: no network namespaces can be made here"
+  echo "skipped absent_hosts_stop_no_other: no network namespaces can be made here"
 fi
 echo "$passed passed, $failed failed"
 [ "$failed" -eq 0 ]

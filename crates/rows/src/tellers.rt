@@ -99,7 +99,7 @@ impl Orders for ListOrders {
         self.rounds = self.rounds.saturating_sub(1);
     }
 
-    fn has_ended(&self) -> bool {
+    fn has_ended(&mut self) -> bool {
         self.rounds == 0
     }
 }

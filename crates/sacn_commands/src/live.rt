@@ -3,13 +3,15 @@ use crate::ending::{BAD_WORDS, DEVICE_FAILED, Ending, REFUSED, of_write};
 use crate::files::text_of_file;
 use crate::network::tell;
 use sacn_check::{FileKind, kind_of};
+use sacn_console::limits::CONSOLE_UNIVERSES;
 use sacn_console::{Command, ConsoleCore, Show, TextFault, read_script, read_show};
 use sacn_edge::{ConsoleReport, Link, WriterOut};
 use sacn_framing::multicast_group;
 use sacn_live::limits::{MAX_ROUNDS, RECEIVE_ROOM};
 use sacn_live::{
-    DISCOVERY_UNIVERSE, DeskOrders, Destinations, Interface, Lines, Outputs, Plan, RigClock, Span,
-    UdpReceiver, UdpSender, Watch, Widget, guard_standard_descriptors, run_desk, run_gateway,
+    DISCOVERY_UNIVERSE, DeskOrders, DeskSender, Destinations, Interface, Lines, Origin, Outputs,
+    Plan, RigClock, Span, UdpReceiver, Watch, Widget, guard_standard_descriptors, run_desk,
+    run_gateway,
 };
 use sacn_node::{NodeCore, NodeSetup, read_node};
 use sacn_words::{DeskAsked, GatewayAsked, moment_of};
@@ -310,7 +312,7 @@ fn perform<R: AllocGlobal + Net + Clock, O: Write, E: Write>(
     tell(&report, out)
 }
 
-// Sends from a socket of its own.
+// Sends from sockets of its own.
 fn send_show<R: AllocGlobal + Net + Clock, O: Write, E: Write>(
     rt: &R,
     asked: &DeskAsked<'_>,
@@ -321,10 +323,15 @@ fn send_show<R: AllocGlobal + Net + Clock, O: Write, E: Write>(
     err: &mut E,
 ) -> Result<ConsoleReport, Ending> {
     let clock = clock_of(rt)?;
-    let mut link = match UdpSender::bind(
+    let origin = Origin {
+        address: asked.bind,
+        ttl: asked.ttl,
+        universes: plan.universes.len().min(CONSOLE_UNIVERSES) as u16,
+    };
+    let mut link = match DeskSender::bind(
         rt,
-        asked.bind,
-        asked.ttl,
+        rt.alloc(),
+        origin,
         destinations,
         clock.twin(),
         &mut *err,

@@ -10,3 +10,4 @@ mod FairRounds
 mod FairEnds
 mod FairDesks
 mod Gone
+mod SendingLists

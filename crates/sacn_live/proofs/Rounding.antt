@@ -11,7 +11,7 @@ use Rattle.sacn_edge.specs.ConsoleSends.{Handed, datagrams, sent_at, handed_of, 
 use Rattle.sacn_edge.proofs.NodeLemmas.{Extends-append}
 use Rattle.sacn_edge.proofs.ConsoleLemmas.{datagrams_more, counted_more}
 use Rattle.sacn_live.specs.declared.limits.TheConstants.{MAX_POLLS}
-use Rattle.sacn_live.specs.DeskSends.{Round, Talk, Asked, ordered, polled, sends, given, asked_last, refusals, desk_after, desk_sends, desk_refusals, talk, AreQuiet}
+use Rattle.sacn_live.specs.DeskSends.{Round, Talk, Asked, ordered, polled, sends, given, asked_last, refusals, desk_after, desk_sends, desk_refusals, round_talk, talk, AreQuiet, EndAsked, AllGoOn, IsRun}
 
 -- ---- orders
 
@@ -57,9 +57,9 @@ module _ (now n : ℕ) (first core new : Core) (was : core ≡ polled now n firs
 -- ---- rounds
 
 -- one round more
-module _ (first core mid new : Core) (rs : List Round) (now n : ℕ) (ks : List Command) (was : core ≡ desk_after first rs) (gave : mid ≡ ordered now ks core) (polls : new ≡ polled now n mid) where
+module _ (first core mid new : Core) (rs : List Round) (now n : ℕ) (ks : List Command) (ends : Bool) (was : core ≡ desk_after first rs) (gave : mid ≡ ordered now ks core) (polls : new ≡ polled now n mid) where
   abbrev pub round : Round
-  round = record { now = now; orders = ks; polls = n }
+  round = record { now = now; orders = ks; polls = n; ends = ends }
 
   mid_is : mid ≡ ordered now ks (desk_after first rs)
   mid_is = gave ∙ ap (ordered now ks) was
@@ -73,10 +73,10 @@ module _ (first core mid new : Core) (rs : List Round) (now n : ℕ) (ks : List 
       ∙ ap (λ os. os ++ datagrams ms) sofar
       ∙ ap (λ os. desk_sends first rs ++ os) (more ∙ ap (sends now n) mid_is)
 
-  pub talk_round : (a b c : Option (List Talk)) → Extends a b (talk first rs) → Extends b c (given now ks core ++ asked_last now ks) → Extends a c (talk first (round ∷ rs))
-  talk_round a b c sofar more =
-      Extends-append a b c (talk first rs) (given now ks (desk_after first rs) ++ asked_last now ks) sofar
-      (subst (λ (d : Core). Extends b c (given now ks d ++ asked_last now ks)) was more)
+  pub talk_round : (a b c d : Option (List Talk)) → Extends a b (talk first rs) → Extends b c (given now ks core ++ asked_last now ks) → Extends c d (EndAsked ends ∷ []) → Extends a d (talk first (round ∷ rs))
+  talk_round a b c d sofar more end =
+      Extends-append a b d (talk first rs) (round_talk round (desk_after first rs)) sofar
+      (subst (λ (e : Core). Extends b d (round_talk round e)) was (Extends-append b c d (given now ks core ++ asked_last now ks) (EndAsked ends ∷ []) more end))
 
   pub refused_round : (refused more : ℕ) → refused ≡ desk_refusals first rs → more ≡ refusals now ks core → refused + more ≡ desk_refusals first (round ∷ rs)
   refused_round refused more sofar is =
@@ -84,3 +84,10 @@ module _ (first core mid new : Core) (rs : List Round) (now n : ℕ) (ks : List 
 
   pub quiet_round : AreQuiet first rs → 0 < n → n ≤ MAX_POLLS → (n < MAX_POLLS → due new ≡ None) → AreQuiet first (round ∷ rs)
   quiet_round sofar some most quiet = (some, most, λ few. subst (λ (d : Core). due d ≡ None) core_round (quiet few), sofar)
+
+-- ---- the end
+
+-- a desk that made all its rounds
+pub run_made : (rounds : ℕ) (rs : List Round) → AllGoOn rs → length rs ≡ rounds → IsRun rounds rs
+run_made rounds [] go_on all = sym all
+run_made rounds (r ∷ rs) go_on all = (go_on.1, omega (arith, all), λ _. all)

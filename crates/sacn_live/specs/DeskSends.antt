@@ -1,21 +1,24 @@
 -- What a desk does over what was asked of it. Lists of rounds and of a round's orders have the latest first.
-use Rattle.std.specs.Prelude.{◌≡◌, ◌==◌, ◌<◌, ◌≤◌, ℕ, zero, suc, ◌+◌, ⊤, is_ok, if◌then◌else◌, List, [], ◌∷◌, ◌++◌, length, Option, None, Some, Result}
+use Rattle.std.specs.Prelude.{◌≡◌, ◌==◌, ◌<◌, ◌≤◌, ℕ, zero, suc, ◌+◌, ⊤, Bool, false, is_ok, if◌then◌else◌, List, [], ◌∷◌, ◌++◌, length, Option, None, Some, Result}
 use Rattle.sacn_console.specs.declared.command.Command.{Command}
 use Rattle.sacn_console.specs.declared.command.ConsoleFault.{ConsoleFault}
 use Rattle.sacn_console.specs.Core.{Core, at, after_command, after_poll, answer, due}
 use Rattle.sacn_edge.specs.ConsoleSends.{sent_at}
 use Rattle.sacn_live.specs.declared.limits.TheConstants.{MAX_ORDERS, MAX_POLLS}
 
--- what passes between a desk and where its orders come from: a request at a moment, with the order or none, and the answer to an order
+-- what passes between a desk and where its orders come from: a request at a moment, with the order or none; the answer to an
+-- order; and whether no order will come any more
 pub data Talk : Type 0 where
   Asked : ℕ → Option Command → Talk
   Answered : Result (Unit {0}) ConsoleFault → Talk
+  EndAsked : Bool → Talk
 
--- a round: what the clock read, the orders that were given, and how often the core was polled
+-- a round: what the clock read, the orders that were given, how often the core was polled, and whether no order will come any more
 pub record Round : Type 0 where
   pub now : ℕ
   pub orders : List Command
   pub polls : ℕ
+  pub ends : Bool
 
 -- ---- the core
 
@@ -60,9 +63,13 @@ given now (k ∷ ks) c = given now ks c ++ Asked now (Some k) ∷ Answered (answ
 abbrev pub asked_last : ℕ → List Command → List Talk
 asked_last now ks = if length ks == MAX_ORDERS then [] else Asked now None ∷ []
 
+-- a round asks for the end once its orders are answered
+abbrev pub round_talk : Round → Core → List Talk
+round_talk r c = (given r.now r.orders c ++ asked_last r.now r.orders) ++ EndAsked r.ends ∷ []
+
 abbrev pub talk : Core → List Round → List Talk
 talk first [] = []
-talk first (r ∷ rs) = talk first rs ++ (given r.now r.orders (desk_after first rs) ++ asked_last r.now r.orders)
+talk first (r ∷ rs) = talk first rs ++ round_talk r (desk_after first rs)
 
 -- how many orders are refused
 abbrev pub refusals : ℕ → List Command → Core → ℕ
@@ -77,3 +84,16 @@ desk_refusals first (r ∷ rs) = desk_refusals first rs + refusals r.now r.order
 abbrev pub readings : List Round → List ℕ
 readings [] = []
 readings (r ∷ rs) = readings rs ++ r.now ∷ []
+
+-- ---- the end
+
+-- orders may come after each of these rounds
+abbrev pub AllGoOn : List Round → Type 0
+AllGoOn [] = ⊤
+AllGoOn (r ∷ rs) = (r.ends ≡ false) × AllGoOn rs
+
+-- a run ends after its last round, or at the first after which no order will come any more
+abbrev pub IsRun : ℕ → List Round → Type 0
+IsRun rounds [] = rounds ≡ 0
+IsRun rounds (r ∷ earlier) =
+    AllGoOn earlier × (length (r ∷ earlier) ≤ rounds) × (r.ends ≡ false → length (r ∷ earlier) ≡ rounds)

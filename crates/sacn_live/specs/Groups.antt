@@ -4,7 +4,7 @@ use Rattle.sacn_framing.specs.Naming.{group_of}
 use Rattle.sacn_framing.specs.declared.packet.Packet.{Packet}
 use Rattle.sacn_framing.specs.declared.packet.Packet.TheVariants.{DataPacket, PagePacket, SyncPacket}
 use Rattle.sacn_root.specs.declared.fault.PacketFault.{PacketFault}
-use Rattle.sacn_live.specs.declared.udp_sender.TheConstants.{DISCOVERY_UNIVERSE}
+use Rattle.sacn_live.specs.declared.destinations.TheConstants.{DISCOVERY_UNIVERSE}
 
 -- a data packet goes to the group of its universe, and a page to that of discovery
 abbrev pub destination_by : Result Packet PacketFault → Option (List ℕ)

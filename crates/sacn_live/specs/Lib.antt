@@ -8,6 +8,9 @@ pub mod Fairness
 pub mod Addresses
 pub mod Gathering
 pub mod Groups
+pub mod Sendings
+pub mod Noticing
+pub mod DeskSenders
 pub mod Widgets
 pub mod Interfaces
 pub mod InterfaceLaws

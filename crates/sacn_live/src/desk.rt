@@ -6,7 +6,7 @@ ghost use Rattle.sacn_edge.specs.Additions.{Extends};
 ghost use Rattle.sacn_edge.specs.Hearings.{Hands};
 ghost use Rattle.sacn_edge.specs.ConsoleSends.{Handed, datagrams, sends_report};
 ghost use Rattle.sacn_live.specs.declared.limits.TheConstants.{IDLE_WAIT, MAX_POLLS, MAX_ROUNDS, MAX_ORDERS};
-ghost use Rattle.sacn_live.specs.DeskSends.{Round, Answered, ordered, polled, sends, given, asked_last, refusals, desk_after, desk_sends, desk_refusals, talk, readings, AreQuiet};
+ghost use Rattle.sacn_live.specs.DeskSends.{Round, Answered, ordered, polled, sends, given, asked_last, refusals, desk_after, desk_sends, desk_refusals, talk, readings, AreQuiet, IsRun};
 
 use crate::limits::{IDLE_WAIT, MAX_ORDERS, MAX_POLLS};
 use crate::orders::Orders;
@@ -95,7 +95,7 @@ pub fn run_desk<L: Link, C: Clock, O: Orders>(
 ) -> ConsoleReport
     requires { rounds ≤ MAX_ROUNDS }
     ensures { (rs : List Round) × (handed : Handed)
-        × (length rs ≤ rounds)
+        × IsRun rounds rs
         × Extends (C.readings clock.old) (C.readings clock.new) (readings rs)
         × Extends (O.told orders.old) (O.told orders.new) (talk core.old rs)
         × Hands (L.told link.old) (L.told link.new) handed

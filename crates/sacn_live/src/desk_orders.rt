@@ -325,7 +325,7 @@ impl<'a, R: MachineClock, O: Write> Orders for DeskOrders<'a, R, O> {
         }
     }
 
-    fn has_ended(&self) -> bool {
+    fn has_ended(&mut self) -> bool {
         self.has_ended
     }
 }

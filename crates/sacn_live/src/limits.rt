@@ -51,3 +51,24 @@ pub const RETRY: u64 = 1000;
 pub const LATER_WAIT: u64 = 25;
 /// The longest wait of a watch while lines wait for an output, in milliseconds.
 pub const PENDING_WAIT: i32 = 100;
+/// The room for datagrams that wait in a host's socket, in octets, that the machine is asked for; it gives twice as much. That is less than
+/// waits for a host whose hardware address isn't known (212,992), so the socket of an absent host is full before anything of it is lost.
+pub const HOST_ROOM: i32 = 98_304;
+
+/// The room that one datagram of 512 slots takes, asked for as above.
+pub const HOST_OCTETS: i32 = 640;
+
+/// The same for a socket that sends to groups.
+pub const GROUPS_ROOM: i32 = 4_194_304;
+
+/// The same for the socket of a host that takes nothing: the least that a machine gives, for three datagrams.
+pub const HELD_ROOM: i32 = 1;
+
+/// How long a socket is full at each try until it is tried seldom.
+pub const HOLD_AFTER: u64 = 100;
+
+/// How often a socket is tried then.
+pub const TRIED_EACH: u64 = 10;
+
+/// A destination takes datagrams again where it takes more than so many in a row.
+pub const TAKEN_AGAIN: u32 = 8;

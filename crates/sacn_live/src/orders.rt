@@ -1,7 +1,7 @@
 //! Where a desk's orders come from.
 ghost use Rattle.std.specs.Prelude.{◌≡◌, List, [], ◌∷◌, None, Option};
 ghost use Rattle.sacn_edge.specs.Additions.{Extends};
-ghost use Rattle.sacn_live.specs.DeskSends.{Talk, Asked, Answered};
+ghost use Rattle.sacn_live.specs.DeskSends.{Talk, Asked, Answered, EndAsked};
 
 use sacn_console::{Command, ConsoleCore, ConsoleFault};
 use sacn_edge::ConsoleReport;
@@ -29,5 +29,6 @@ pub trait Orders {
         ensures told { told self.new ≡ told self.old };
 
     /// Whether no order will come any more, so that the desk ends.
-    fn has_ended(&self) -> bool;
+    fn has_ended(&mut self) -> bool
+        ensures told { Extends (told self.old) (told self.new) (EndAsked result ∷ []) };
 }

@@ -120,6 +120,24 @@ pub fn bind_shared<R: Net>(_rt: &R, address: SocketAddrV4) -> Result<UdpSocket, 
     Ok(UdpSocket::from(owned))
 }
 
+/// Asks for this much room for what waits to be sent by a socket, in octets.
+pub(crate) fn set_send_room(socket: &UdpSocket, octets: i32) -> Result<(), ErrorKind> {
+    let room = number_value(octets);
+    result_of(unsafe { c::setsockopt(socket.as_raw_fd(), c::SOL_SOCKET, c::SO_SNDBUF, &room, 4) })
+}
+
+/// Sends a datagram, without waiting.
+pub(crate) fn send_now(
+    socket: &UdpSocket,
+    datagram: &[u8],
+    to: SocketAddrV4,
+) -> Result<(), ErrorKind> {
+    let raw = encode(to);
+    let flags = c::MSG_NOSIGNAL | c::MSG_DONTWAIT;
+    let sent = unsafe { c::sendto(socket.as_raw_fd(), datagram, flags, &raw, 16) };
+    if sent < 0 { Err(last_fault()) } else { Ok(()) }
+}
+
 /// The room for what waits in a socket, in octets; the machine counts its own needs too, so it tells twice what it
 /// was asked for.
 pub fn room_of(socket: &UdpSocket) -> Option<u32> {

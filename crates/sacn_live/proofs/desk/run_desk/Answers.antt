@@ -1,4 +1,4 @@
-use Rattle.std.proofs.Common.{rules, arith, ◌≡◌, ◌∷◌, ◌++◌, [], ◌+◌, refl, sym, ap, subst, ◌∙◌}
+use Rattle.std.proofs.Common.{rules, arith, ◌≡◌, ◌∷◌, ◌++◌, [], ◌+◌, refl, sym, ap, subst, ◌∙◌, true≢false}
 use Rattle.sacn_edge.specs.declared.report.ConsoleReport.{ConsoleReport}
 use Rattle.sacn_edge.specs.Additions.{Extends}
 use Rattle.sacn_edge.specs.ConsoleSends.{sends_report}
@@ -6,14 +6,14 @@ use Rattle.sacn_edge.proofs.NodeLemmas.{Extends-append}
 use Rattle.sacn_edge.proofs.ConsoleLemmas.{Hands-append, Hands-nil, Extends-nil}
 use Rattle.sacn_live.specs.DeskSends.{Round, desk_refusals, readings, given, asked_last}
 use Rattle.sacn_live.proofs.Turning.{Extends-none}
-use Rattle.sacn_live.proofs.Rounding.{core_round, sends_round, talk_round, refused_round, quiet_round}
+use Rattle.sacn_live.proofs.Rounding.{core_round, sends_round, talk_round, refused_round, quiet_round, run_made}
 use Rattle.sacn_live.proofs.desk.run_desk.Goals as goal
 
 pub loop-round-init : goal.loop-round-init
 loop-round-init g c = record {
   few = search rules;
   refusals = search rules;
-  run = ([], [], refl, Extends-nil _, Extends-none _, Hands-nil _, refl, refl, tt, refl);
+  run = ([], [], refl, Extends-nil _, Extends-none _, Hands-nil _, refl, refl, tt, refl, tt);
 }
 
 pub overflow_add-report : goal.overflow_add-report
@@ -41,17 +41,18 @@ returns-then-has_ended g c =
     let refused = c.loop-round.report.refused + c.order.result in
     let before : record { sent = c.loop-round.report.sent; failed = c.loop-round.report.failed; refused = refused } ≡ sends_report handed (desk_refusals first rs + c.order.result) =
     ap (λ (r : ConsoleReport). let s : ConsoleReport = record { sent = r.sent; failed = r.failed; refused = r.refused + c.order.result } in s) run.9 in
-    let round : Round = record { now = now; orders = ks; polls = n } in (
+    let ends = c.has_ended.result in
+    let round : Round = record { now = now; orders = ks; polls = n; ends = ends } in (
       round ∷ rs,
       handed ++ s.1,
-      omega (arith, run.2, c.loop-round-test.true, c.loop-round.auto._round-end),
+      (run.10, omega (arith, run.2, c.loop-round-test.true, c.loop-round.auto._round-end), λ goes_on. absurd (true≢false (sym c.if-has_ended.true ∙ goes_on))),
       Extends-append _ _ _ (readings rs) (now ∷ []) run.3 c.now-now.ensures.told,
-      talk_round first core mid new rs now n ks run.7 o.3 s.6 _ _ _ run.4 told,
+      talk_round first core mid new rs now n ks ends run.7 o.3 s.6 _ _ _ _ run.4 told c.has_ended.ensures.told,
       Hands-append _ _ _ handed s.1 run.5 s.4,
-      sends_round first core mid new rs now n ks run.7 o.3 s.6 handed s.1 run.6 s.5,
-      core_round first core mid new rs now n ks run.7 o.3 s.6,
-      quiet_round first core mid new rs now n ks run.7 o.3 s.6 run.8 s.2 s.3 s.7,
-      s.8 handed (desk_refusals first rs + c.order.result) before ∙ ap (sends_report (handed ++ s.1)) (refused_round first core mid new rs now n ks run.7 o.3 s.6 (desk_refusals first rs) c.order.result refl o.4),
+      sends_round first core mid new rs now n ks ends run.7 o.3 s.6 handed s.1 run.6 s.5,
+      core_round first core mid new rs now n ks ends run.7 o.3 s.6,
+      quiet_round first core mid new rs now n ks ends run.7 o.3 s.6 run.8 s.2 s.3 s.7,
+      s.8 handed (desk_refusals first rs + c.order.result) before ∙ ap (sends_report (handed ++ s.1)) (refused_round first core mid new rs now n ks ends run.7 o.3 s.6 (desk_refusals first rs) c.order.result refl o.4),
     )
 
 pub loop-round-preserved : goal.loop-round-preserved
@@ -73,7 +74,8 @@ loop-round-preserved g c =
     let refused = c.loop-round.report.refused + c.order.result in
     let before : record { sent = c.loop-round.report.sent; failed = c.loop-round.report.failed; refused = refused } ≡ sends_report handed (desk_refusals first rs + c.order.result) =
     ap (λ (r : ConsoleReport). let s : ConsoleReport = record { sent = r.sent; failed = r.failed; refused = r.refused + c.order.result } in s) run.9 in
-    let round : Round = record { now = now; orders = ks; polls = n } in
+    let ends = c.has_ended.result in
+    let round : Round = record { now = now; orders = ks; polls = n; ends = ends } in
     record {
       few = omega (arith, c.send_due.ensures.few, c.loop-round.invariant.few);
       refusals = omega (arith, c.send_due.ensures.refused, c.order.ensures.few, c.loop-round.invariant.refusals);
@@ -82,16 +84,17 @@ loop-round-preserved g c =
         handed ++ s.1,
         omega (arith, run.2),
         Extends-append _ _ _ (readings rs) (now ∷ []) run.3 c.now-now.ensures.told,
-        talk_round first core mid new rs now n ks run.7 o.3 s.6 _ _ _ run.4 told,
+        talk_round first core mid new rs now n ks ends run.7 o.3 s.6 _ _ _ _ run.4 told c.has_ended.ensures.told,
         Hands-append _ _ _ handed s.1 run.5 s.4,
-        sends_round first core mid new rs now n ks run.7 o.3 s.6 handed s.1 run.6 s.5,
-        c.next_wait-wake.ensures.core ∙ core_round first core mid new rs now n ks run.7 o.3 s.6,
-        quiet_round first core mid new rs now n ks run.7 o.3 s.6 run.8 s.2 s.3 s.7,
-        s.8 handed (desk_refusals first rs + c.order.result) before ∙ ap (sends_report (handed ++ s.1)) (refused_round first core mid new rs now n ks run.7 o.3 s.6 (desk_refusals first rs) c.order.result refl o.4),
+        sends_round first core mid new rs now n ks ends run.7 o.3 s.6 handed s.1 run.6 s.5,
+        c.next_wait-wake.ensures.core ∙ core_round first core mid new rs now n ks ends run.7 o.3 s.6,
+        quiet_round first core mid new rs now n ks ends run.7 o.3 s.6 run.8 s.2 s.3 s.7,
+        s.8 handed (desk_refusals first rs + c.order.result) before ∙ ap (sends_report (handed ++ s.1)) (refused_round first core mid new rs now n ks ends run.7 o.3 s.6 (desk_refusals first rs) c.order.result refl o.4),
+        (c.if-has_ended.false, run.10),
       );
     }
 
 pub returns : goal.returns
 returns g c =
     let run = c.loop-round.invariant.run in
-    (run.0, run.1, omega (arith, run.2, c.loop-round.auto._round-end), run.3, run.4, run.5, run.6, run.7, run.8, run.9)
+    (run.0, run.1, run_made _ _ run.10 (omega (arith, run.2, c.loop-round-test.false, c.loop-round.auto._round-end)), run.3, run.4, run.5, run.6, run.7, run.8, run.9)

@@ -2,7 +2,7 @@ use Rattle.std.proofs.Common.{◌≡◌, ◌≤◌, ◌+◌, ◌*◌, List, leng
 use Rattle.sacn_edge.specs.Additions.{Extends}
 use Rattle.sacn_edge.specs.Hearings.{Hands}
 use Rattle.sacn_edge.specs.ConsoleSends.{Handed, datagrams, sends_report}
-use Rattle.sacn_live.specs.DeskSends.{Round, desk_after, desk_sends, desk_refusals, talk, readings, AreQuiet}
+use Rattle.sacn_live.specs.DeskSends.{Round, desk_after, desk_sends, desk_refusals, talk, readings, AreQuiet, AllGoOn}
 use Rattle.sacn_live.proofs.desk.run_desk.Given as goal
 
 -- the rounds so far
@@ -19,5 +19,6 @@ invariant-loop-round g l = record {
       × (datagrams handed ≡ desk_sends l.fn.core rs)
       × (l.core ≡ desk_after l.fn.core rs)
       × AreQuiet l.fn.core rs
-      × (l.report ≡ sends_report handed (desk_refusals l.fn.core rs));
+      × (l.report ≡ sends_report handed (desk_refusals l.fn.core rs))
+      × AllGoOn rs;
 }
