@@ -261,6 +261,21 @@ exec {lines[0]}>&-
 comes "the page once a viewer went" 200 $at/
 for line in "${lines[@]:1}"; do exec {line}>&-; done
 
+# A watch that was stopped says so, and loses no source by it.
+printf '0 go\n' >stay.txt
+timeout 60 "$sacn" desk show.toml --script stay.txt --stay </dev/null >/dev/null 2>desk.err &
+desk=$!
+started+=("$desk")
+for _ in $(seq 100); do curl -s -m 5 "$at/state?universe=7" | grep -qF '"state":"sending"' && break; sleep 0.1; done
+kill -STOP "$watch"
+sleep 4
+kill -CONT "$watch"
+answers "the document after a stop" 200 "$at/state?universe=7"
+grep -qE '"kind":"stopped","text":"not heard for [0-9]+\.[0-9]{3} s: this program was stopped"' body && ! grep -qF '"kind":"lost"' body && grep -qF '"state":"sending"' body
+verdict "a stop is an alarm, and loses no source" $? "$(grep -o '"alarms":.*' body)"
+kill "$desk"
+wait "$desk"
+
 # As many universes as are merged at once, and one more.
 lines=()
 for universe in $(seq 101 116); do

@@ -6,7 +6,7 @@ use sacn_commands::live::{clock_of, of_socket, say_hearing};
 use sacn_explain::Options;
 use sacn_files::words::short_in;
 use sacn_live::{UdpReceiver, guard_standard_descriptors, output_is_terminal};
-use sacn_watch::{Listener, Size, WatchFault, watch_lines, watch_terminal};
+use sacn_watch::{Listener, RunningListener, Size, WatchFault, watch_lines, watch_terminal};
 use sacn_words::{WatchAsked, moment_of};
 use std::env::{self, Env};
 use std::io::Write;
@@ -39,9 +39,10 @@ pub fn watch<R: AllocGlobal + Env + Net + Clock, O: Write, E: Write>(
         let universe = asked.universes.first().copied();
         return serve(rt, address, place, universe, until, err);
     }
-    let mut receiver = receiver_at(rt, address, err)?;
+    let receiver = receiver_at(rt, address, err)?;
     say_hearing(address, receiver.room(), err);
-    watch_end(tell(rt, &mut receiver, asked, until, out))
+    let mut listener = RunningListener::new(receiver);
+    watch_end(tell(rt, &mut listener, asked, until, out))
 }
 
 /// Hears at an address, for as long as standard input goes on.

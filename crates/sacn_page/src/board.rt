@@ -79,6 +79,15 @@ impl Board {
         Ok(is_lost)
     }
 
+    /// Notes that this program was stopped for so many milliseconds, in which it heard nothing. No account changes.
+    ///
+    /// Errors: OutOfMemory.
+    pub fn note_stop(&mut self, now: u64, millis: u64) -> Result<(), AllocError>
+        ensures monitor { self.new.monitor ≡ self.old.monitor }
+    {
+        self.alarms.add(now, Trouble::Stopped(millis))
+    }
+
     // Notes the sources that are lost by a moment, each at its own, and returns whether there was one.
     fn note_losses(&mut self, now: u64) -> Result<bool, AllocError>
         ensures { IsTicked now self.old.monitor self.new.monitor }

@@ -67,6 +67,14 @@ impl<C: Connection + Drop, S: Scene + Drop> Room<C, S> {
         self.scene.take(now, sender, octets)
     }
 
+    /// Notes that this program was stopped for so many milliseconds.
+    ///
+    /// Errors: OutOfMemory.
+    pub fn note_stop(&mut self, now: u64, millis: u64) -> Result<(), AllocError> {
+        self.is_stale = true;
+        self.scene.note_stop(now, millis)
+    }
+
     /// Moves the clock.
     ///
     /// Errors: OutOfMemory.

@@ -50,6 +50,11 @@ pub trait Scene {
     /// Errors: OutOfMemory.
     fn take(&mut self, now: u64, sender: Sender, octets: &[u8]) -> Result<(), AllocError>;
 
+    /// Notes that this program was stopped for so many milliseconds.
+    ///
+    /// Errors: OutOfMemory.
+    fn note_stop(&mut self, now: u64, millis: u64) -> Result<(), AllocError>;
+
     /// Moves the clock, and returns whether a source was lost.
     ///
     /// Errors: OutOfMemory.
@@ -88,6 +93,10 @@ pub trait Scene {
 impl Scene for Board {
     fn take(&mut self, now: u64, sender: Sender, octets: &[u8]) -> Result<(), AllocError> {
         self.take(now, sender, octets)
+    }
+
+    fn note_stop(&mut self, now: u64, millis: u64) -> Result<(), AllocError> {
+        self.note_stop(now, millis)
     }
 
     fn tick(&mut self, now: u64) -> Result<bool, AllocError> {

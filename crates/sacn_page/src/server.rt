@@ -147,6 +147,11 @@ impl<S: Scene + Drop> Watcher for Pages<S> {
         Ok(())
     }
 
+    fn note_stop(&mut self, now: u64, millis: u64) -> Result<(), WatchFault> {
+        self.room.note_stop(now, millis)?;
+        Ok(())
+    }
+
     fn show(&mut self, now: u64) -> Result<(), WatchFault> {
         self.room.tick(now)?;
         self.serve(now)?;
