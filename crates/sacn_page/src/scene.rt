@@ -104,7 +104,7 @@ impl Scene for Board {
     }
 
     fn next_change(&self) -> u64 {
-        self.monitor().next_loss()
+        self.next_loss()
     }
 
     fn board(&self) -> &Board {
