@@ -257,9 +257,50 @@ done
 verdict "32 viewers" $? "${#lines[@]}"
 answers "a 33rd viewer" 503 $at/events
 answers "a 33rd that asks for the page" 503 $at/
+# (many that ask at once are each told so, and closed as it should be: no connection is reset)
+more=()
+for _ in $(seq 60); do
+  exec {line}<>"/dev/tcp/127.0.0.1/$tcp"
+  ask "$line" /events
+  more+=("$line")
+done
+count=0
+for line in "${more[@]}"; do
+  [[ $(timeout 10 cat <&"$line" 2>cat.err) == "HTTP/1.1 503 "* ]] && [ ! -s cat.err ] && count=$((count + 1))
+  exec {line}>&-
+done
+[ "$count" = 60 ]
+verdict "60 viewers more are told that there is no room" $? "$count of 60, $(cat cat.err)"
 exec {lines[0]}>&-
 comes "the page once a viewer went" 200 $at/
 for line in "${lines[@]:1}"; do exec {line}>&-; done
+
+# 200 that send half a head delay no other, and the first of them is told that there was no room.
+slow=()
+for _ in $(seq 200); do
+  exec {line}<>"/dev/tcp/127.0.0.1/$tcp"
+  printf 'GET / HTTP/1.1\r\n' >&"$line"
+  slow+=("$line")
+done
+answers "the page beside 200 half heads" 200 -m 3 $at/
+[[ $(timeout 3 cat <&"${slow[0]}" 2>cat.err) == "HTTP/1.1 503 "* ]] && [ ! -s cat.err ]
+verdict "the oldest half head is told that there is no room" $? "$(cat cat.err)"
+for line in "${slow[@]}"; do exec {line}>&-; done
+
+# A watch that was stopped says so, and loses no source by it.
+printf '0 go\n' >stay.txt
+timeout 60 "$sacn" desk show.toml --script stay.txt --stay </dev/null >/dev/null 2>desk.err &
+desk=$!
+started+=("$desk")
+for _ in $(seq 100); do curl -s -m 5 "$at/state?universe=7" | grep -qF '"state":"sending"' && break; sleep 0.1; done
+kill -STOP "$watch"
+sleep 4
+kill -CONT "$watch"
+answers "the document after a stop" 200 "$at/state?universe=7"
+grep -qE '"kind":"stopped","text":"not heard for [0-9]+\.[0-9]{3} s: this program was stopped"' body && ! grep -qF '"kind":"lost"' body && grep -qF '"state":"sending"' body
+verdict "a stop is an alarm, and loses no source" $? "$(grep -o '"alarms":.*' body)"
+kill "$desk"
+wait "$desk"
 
 # As many universes as are merged at once, and one more.
 lines=()

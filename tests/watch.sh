@@ -100,6 +100,48 @@ tells "a desk, as JSON" --json "^{\"ms\":[0-9]+,\"event\":\"appeared\",\"univers
 tells "one universe" "--plain --universe 2" 'universe     2  ' '^       2 ended '
 if grep -qE 'universe     1  |^       1 ' out; then echo "not ok watch: one universe alone"; else echo "ok watch: one universe alone"; fi
 
+# stopped NAME FORM KILLED PATTERN: a watch that is stopped for five seconds beside a desk that goes on, or that is killed meanwhile
+stopped() {
+  local form=$2 killed=$3 desk watch
+  : >err
+  : >out
+  "$sacn" watch --port 25831 --seconds 12 $form </dev/null >out 2>err &
+  watch=$!
+  started+=("$watch")
+  for _ in $(seq 300); do grep -q '^hears' err && break; sleep 0.1; done
+  "$sacn" desk show.toml --script stay.txt --stay </dev/null >desk.out 2>&1 &
+  desk=$!
+  started+=("$desk")
+  for _ in $(seq 100); do grep -q appear out && break; sleep 0.1; done
+  sleep 1
+  kill -STOP "$watch"
+  if [ -n "$killed" ]; then kill -KILL "$desk"; fi
+  sleep 5
+  kill -CONT "$watch"
+  wait "$watch"
+  status=$?
+  kill "$desk" 2>/dev/null
+  wait "$desk" 2>/dev/null
+}
+printf '0 go\n' >stay.txt
+stopped go --json ""
+longest=$(sed -n 's/.*"event":"stopped","for":\([0-9]*\)}$/\1/p' out | sort -n | tail -n 1)
+[ "$status" = 0 ] && [ "${longest:-0}" -ge 4000 ]
+verdict "a stop is told" $? "status $status, for ${longest:-nothing}"
+grep -q '"event":"appeared"' out && ! grep -qE '"event":"(lost|came_back)"' out
+verdict "no source is lost by a stop" $? "$(grep -E '"event":"(lost|came_back)"' out | head -n 2)"
+stopped gone --json killed
+read -r at order < <(awk '
+  match($0, /^{"ms":[0-9]+/) { ms = substr($0, 7, RLENGTH - 6) }
+  /"event":"stopped"/ { if (!stop) { stop = ms; first = NR } }
+  /"event":"lost","universe":1,/ { if (!lost) { lost = ms; last = NR } }
+  END { print (stop && lost) ? lost - stop : "none", (first < last) ? "after" : "before" }' out)
+[ "$status" = 0 ] && [ "$order" = after ] && [ "$at" != none ] && [ "$at" -ge 1000 ] && [ "$at" -le 2500 ]
+verdict "a source that goes meanwhile is lost after 2500 ms of running time" $? "status $status, ${order:-} the stop, $at ms"
+stopped go --plain ""
+grep -qE '^ *[0-9]+\.[0-9]{3} s  not heard for [0-9]+\.[0-9]{3} s: this program was stopped$' out
+verdict "a stop in words" $? "$(grep -v universe out | head -n 3)"
+
 if ! command -v python3 >/dev/null; then
   echo "skipped watch: a terminal: no python3"
   exit 0

@@ -72,7 +72,7 @@ impl Viewers {
         };
         let hosts = Hosts::of(alloc, SocketAddrV4::new(Ipv4Addr::new(10, 0, 0, 7), 8080))?;
         Ok(Viewers {
-            viewer: Viewer::new(alloc, line, hosts, false, 0),
+            viewer: Viewer::new(alloc, line, hosts, 0),
         })
     }
 

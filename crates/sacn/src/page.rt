@@ -3,7 +3,7 @@ use crate::watch::{receiver_at, watch_end};
 use sacn_commands::ending::Ending;
 use sacn_commands::live::{of_socket, say_hearing};
 use sacn_page::{Board, MAX_ALARMS, Pages};
-use sacn_watch::run_watch;
+use sacn_watch::{RunningListener, run_watch};
 use std::io::Write;
 use std::net::{Net, SocketAddrV4};
 use std::rt::Clock;
@@ -42,5 +42,6 @@ fn hear<R: Net + Clock, E: Write>(
     receiver.wait_beside(pages.descriptor());
     say_hearing(address, receiver.room(), err);
     say_page(place, err);
-    watch_end(run_watch(&mut receiver, pages, until))
+    let mut listener = RunningListener::new(receiver);
+    watch_end(run_watch(&mut listener, pages, until))
 }

@@ -6,7 +6,7 @@ use sacn_commands::live::{clock_of, of_socket, say_hearing};
 use sacn_explain::Options;
 use sacn_files::words::short_in;
 use sacn_live::{Lines, Outputs, UdpReceiver, guard_standard_descriptors, output_is_terminal};
-use sacn_watch::{Listener, Size, WatchFault, watch_lines, watch_terminal};
+use sacn_watch::{Listener, RunningListener, Size, WatchFault, watch_lines, watch_terminal};
 use sacn_words::{WatchAsked, moment_of};
 use std::env::{self, Env};
 use std::io::Write;
@@ -42,9 +42,10 @@ pub fn watch<R: AllocGlobal + Env + Net + Clock, O: Write, E: Write>(
     if asked.is_plain | asked.is_json || !output_is_terminal() {
         return tell(rt, address, asked, until);
     }
-    let mut receiver = receiver_at(rt, address, err)?;
+    let receiver = receiver_at(rt, address, err)?;
     say_hearing(address, receiver.room(), err);
-    watch_end(show(rt, &mut receiver, asked, until, out))
+    let mut listener = RunningListener::new(receiver);
+    watch_end(show(rt, &mut listener, asked, until, out))
 }
 
 // Tells what is heard at an address line by line, on standard output. No output that isn't read holds it up.
@@ -81,9 +82,10 @@ fn tell_on<R: AllocGlobal + Net + Clock>(
         universes: asked.universes.as_slice(),
         form: form_of(asked.is_json),
     };
+    let mut listener = RunningListener::new(receiver);
     watch_end(watch_lines(
         rt.alloc(),
-        &mut receiver,
+        &mut listener,
         &options,
         until,
         &mut outputs.out(),

@@ -8,7 +8,7 @@ use Rattle.sacn_explain.specs.declared.options.Form.{Form}
 use Rattle.sacn_explain.specs.declared.options.Form.TheVariants.{Text, Json}
 use Rattle.sacn_explain.specs.Spelling.{octets_text, right}
 use Rattle.sacn_explain.specs.Members.{key_text, number_member, object_front, source_members}
-use Rattle.sacn_explain.specs.Sentences.{line_front, source_text, universe_text}
+use Rattle.sacn_explain.specs.Sentences.{line_front, source_text, stop_words, universe_text}
 use Rattle.sacn_explain.specs.Causes.{Reason, cause_members, cause_words}
 use Rattle.sacn_explain.specs.Numbers.{numbers_member, ranges_text}
 
@@ -27,6 +27,11 @@ rivals_line Text now universe sources priority = line_front now ++ (universe_tex
 rivals_line Json now universe sources priority =
     object_front now (rivals_key sources)
     ++ (number_member (codes "universe") universe ++ (number_member (codes "sources") sources ++ (number_member (codes "priority") priority ++ codes "}")))
+
+-- this program was stopped for so many milliseconds
+abbrev pub stop_line : Form → ℕ → ℕ → List ℕ
+stop_line Text now millis = line_front now ++ stop_words millis
+stop_line Json now millis = object_front now (codes "stopped") ++ (number_member (codes "for") millis ++ codes "}")
 
 -- what a line says before a source's list: its first, or another than before
 unfoldable pub list_words : List ℕ → List ℕ

@@ -55,6 +55,17 @@ moved_words s = codes "now sends from " ++ sender_text s
 unfoldable pub loss_words : Stream → List ℕ
 loss_words s = codes "is lost: silent since " ++ (decimal (s.account.latest / 1000) ++ (codes "." ++ (zeros 3 (decimal (s.account.latest % 1000)) ++ codes " s")))
 
+-- milliseconds as seconds: a point and three places
+unfoldable pub seconds_text : ℕ → List ℕ
+seconds_text millis = decimal (millis / 1000) ++ (codes "." ++ zeros 3 (decimal (millis % 1000)))
+
+unfoldable pub stopped_words : ℕ → List ℕ
+stopped_words millis = seconds_text millis ++ codes " s: this program was stopped"
+
+-- for how many milliseconds nothing was heard, since this program didn't run
+unfoldable pub stop_words : ℕ → List ℕ
+stop_words millis = codes "not heard for " ++ stopped_words millis
+
 unfoldable pub priority_words : Change → List ℕ
 priority_words c = codes "priority " ++ (decimal c.to ++ (codes ", before " ++ decimal c.from))
 

@@ -10,12 +10,13 @@ ghost use Rattle.sacn_explain.specs.Contests.{is_noted};
 ghost use Rattle.sacn_explain.specs.Datagrams.{TellsTurn};
 ghost use Rattle.sacn_explain.specs.Faults.{IsOfTelling};
 ghost use Rattle.sacn_explain.specs.Following.{IsTicked, IsTaken};
+ghost use Rattle.sacn_explain.specs.Lines.{stop_line};
 ghost use Rattle.sacn_explain.specs.Occurrences.{loss_told, lost_stream};
 ghost use Rattle.sacn_explain.specs.KeptLists.{after_reading, listed_in, none_listed};
 ghost use Rattle.sacn_explain.specs.Shows.{after_loss, after_turn, loss_shown, staged, turn_shown};
 ghost use Rattle.sacn_explain.specs.Silences.{EndsNothingBefore, IsQuiet, Leaves, TellsSilence, WakesInTime, end_told, noted_lost, scene_of};
 ghost use Rattle.sacn_explain.specs.Tables.{tables_told};
-ghost use Rattle.sacn_explain.specs.Tellings.{Tells};
+ghost use Rattle.sacn_explain.specs.Tellings.{Tells, with_line_end};
 
 use crate::cause::{Cause, cause_of};
 use crate::contests::Contests;
@@ -181,6 +182,24 @@ impl<'a, O: Write> Follower<'a, O> {
             return self.tell_loss(at);
         }
         self.show_dark(at)
+    }
+
+    /// Tells that this program was stopped for so many milliseconds, in which it heard nothing. No account changes, and nothing
+    /// ends.
+    ///
+    /// Errors: OutOfMemory; Device where a line can't be written.
+    pub fn tell_stop(&mut self, now: u64, millis: u64) -> Result<(), ExplainFault>
+        ensures told { OnOk result (Tells O.contents self.old.teller self.new.teller
+            (with_line_end (stop_line self.old.teller.form now millis))) }
+        ensures monitor { self.new.monitor ≡ self.old.monitor }
+        ensures listings { self.new.listings ≡ self.old.listings }
+        ensures moment { self.new.moment ≡ self.old.moment }
+        ensures wake { self.new.wake ≡ self.old.wake }
+        ensures in_time { WakesInTime self.old → WakesInTime self.new }
+        ensures fault { IfErr result IsOfTelling }
+    {
+        self.teller.tell_stop(now, millis)?;
+        Ok(())
     }
 
     /// Tells the tables of sources, universes and lists, and these counts.

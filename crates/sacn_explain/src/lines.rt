@@ -2,7 +2,7 @@
 
 ghost use Rattle.std.specs.Prelude.{◌≡◌, ◌++◌, OnOk, string_bytes};
 ghost use Rattle.sacn_explain.specs.Causes.{reason_of};
-ghost use Rattle.sacn_explain.specs.Lines.{frame_line, kept_list, list_words, listed_member, listed_ranges, listing_line, port_text, rivals_key, rivals_line, rivals_words, slot_digits, slots_member};
+ghost use Rattle.sacn_explain.specs.Lines.{frame_line, kept_list, list_words, listed_member, listed_ranges, listing_line, port_text, rivals_key, rivals_line, rivals_words, slot_digits, slots_member, stop_line};
 ghost use Rattle.sacn_explain.specs.Members.{source_members};
 ghost use Rattle.sacn_explain.specs.Sentences.{source_text};
 
@@ -66,6 +66,24 @@ fn push_rivals(text: &mut String, sources: u64, priority: u8) -> Result<(), Allo
             text,
             "{sources} sources send at the top priority, {priority}"
         ),
+    }
+}
+
+/// A stop of this program, of so many milliseconds.
+pub fn stop_line(text: &mut String, form: Form, now: u64, millis: u64) -> Result<(), AllocError>
+    ensures { OnOk result
+        (string_bytes text.new ≡ string_bytes text.old ++ stop_line form now millis) }
+{
+    match form {
+        Form::Text => {
+            words::begin(text, now)?;
+            words::push_stop(text, millis)
+        }
+        Form::Json => {
+            json::begin(text, now, "stopped")?;
+            json::push_number(text, "for", millis)?;
+            text.push('}')
+        }
     }
 }
 

@@ -2,12 +2,12 @@
 
 ghost use Rattle.std.specs.Prelude.{◌≡◌, ◌++◌, [], OnOk, nat_lt, string_bytes, codes};
 ghost use Rattle.sacn_explain.specs.Causes.{reason_of};
-ghost use Rattle.sacn_explain.specs.Lines.{frame_line, kept_list, listing_line, rivals_line};
+ghost use Rattle.sacn_explain.specs.Lines.{frame_line, kept_list, listing_line, rivals_line, stop_line};
 ghost use Rattle.sacn_explain.specs.PacketLines.{anew_line, loss_line, moved_line, refused_line, renamed_line, skipped_line, untracked_line};
 
 use crate::cause::Cause;
 use crate::fault::TellFault;
-use crate::lines::{frame_line, listing_line, rivals_line};
+use crate::lines::{frame_line, listing_line, rivals_line, stop_line};
 use crate::listings::Listing;
 use crate::options::Form;
 use crate::packet_lines::{
@@ -170,6 +170,15 @@ impl<'o, O: Write> Teller<'o, O> {
             (with_line_end (untracked_line self.old.form now sender.now))) }
     {
         untracked_line(&mut self.line, self.form, now, sender)?;
+        self.write()
+    }
+
+    /// A stop of this program, of so many milliseconds.
+    pub fn tell_stop(&mut self, now: u64, millis: u64) -> Result<(), TellFault>
+        ensures { OnOk result
+            (Tells O.contents self.old self.new (with_line_end (stop_line self.old.form now millis))) }
+    {
+        stop_line(&mut self.line, self.form, now, millis)?;
         self.write()
     }
 

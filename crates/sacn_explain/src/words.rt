@@ -1,7 +1,7 @@
 //! Things that happen, in words for people.
 
 ghost use Rattle.std.specs.Prelude.{◌≡◌, ◌++◌, OnOk, string_bytes};
-ghost use Rattle.sacn_explain.specs.Sentences.{line_front, source_text, universe_text, stream_front, presence_words, event_words, moved_words, loss_words, priority_words, skipped_words, refusal_words, refused_words, untracked_words};
+ghost use Rattle.sacn_explain.specs.Sentences.{line_front, source_text, universe_text, stream_front, presence_words, event_words, moved_words, loss_words, priority_words, skipped_words, refusal_words, refused_words, untracked_words, seconds_text, stop_words, stopped_words};
 
 use crate::refusals::fault_words;
 use crate::spelling::{push_cid, push_moment, push_name, push_sender};
@@ -152,4 +152,29 @@ pub fn push_untracked(text: &mut String, sender: &Sender) -> Result<(), AllocErr
     text.push_str("from ")?;
     push_sender(text, sender)?;
     text.push_str("  no room for a further source, not followed")
+}
+
+/// For how many milliseconds nothing was heard, since this program didn't run.
+pub fn push_stop(text: &mut String, millis: u64) -> Result<(), AllocError>
+    ensures { OnOk result (string_bytes text.new ≡ string_bytes text.old ++ stop_words millis) }
+{
+    text.push_str("not heard for ")?;
+    push_stopped(text, millis)
+}
+
+#[tactic(auto, unfolding(crate::specs::Sentences::stopped_words))]
+fn push_stopped(text: &mut String, millis: u64) -> Result<(), AllocError>
+    ensures { OnOk result (string_bytes text.new ≡ string_bytes text.old ++ stopped_words millis) }
+{
+    push_seconds(text, millis)?;
+    text.push_str(" s: this program was stopped")
+}
+
+#[tactic(auto, unfolding(crate::specs::Sentences::seconds_text), using(crate::proofs::Padding::zeros_is))]
+fn push_seconds(text: &mut String, millis: u64) -> Result<(), AllocError>
+    ensures { OnOk result (string_bytes text.new ≡ string_bytes text.old ++ seconds_text millis) }
+{
+    let seconds = millis / 1000;
+    let rest = millis % 1000;
+    write!(text, "{seconds}.{rest:03}")
 }

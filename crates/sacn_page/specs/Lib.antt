@@ -1,2 +1,4 @@
 pub mod Requests
 pub mod Levels
+pub mod Feeds
+pub mod Places

@@ -25,6 +25,8 @@ pub enum Trouble {
     Late(usize),
     /// A datagram is no packet of the standard.
     Refused(Sender, PacketFault),
+    /// This program was stopped for so many milliseconds, in which it heard nothing.
+    Stopped(u64),
     /// So many sources share the top priority of a universe (E1.31, 6.2.3).
     Rivals {
         universe: u16,
@@ -100,6 +102,7 @@ impl Trouble {
             Trouble::Skipped(_, _) => "skipped",
             Trouble::Late(_) => "late",
             Trouble::Refused(_, _) => "refused",
+            Trouble::Stopped(_) => "stopped",
             Trouble::Rivals { .. } => "rivals",
         }
     }
@@ -126,6 +129,7 @@ impl Trouble {
             Trouble::Skipped(_, count) => write!(text, " skipped {count} numbers"),
             Trouble::Late(_) => text.push_str(" sent a packet out of sequence"),
             Trouble::Refused(sender, fault) => push_refused(text, sender, *fault),
+            Trouble::Stopped(millis) => push_stop(text, *millis),
             Trouble::Rivals {
                 universe,
                 sources,
@@ -143,6 +147,13 @@ fn push_refused(text: &mut String, sender: &Sender, fault: PacketFault) -> Resul
     let port = sender.port;
     write!(text, "a datagram of {a}.{b}.{c}.{d}")?;
     write!(text, ":{port} is refused: {fault}")
+}
+
+fn push_stop(text: &mut String, millis: u64) -> Result<(), AllocError> {
+    let seconds = millis / 1000;
+    let rest = millis % 1000;
+    write!(text, "not heard for {seconds}.{rest:03} s")?;
+    text.push_str(": this program was stopped")
 }
 
 /// An alarm about one of these streams, as an object.

@@ -1,10 +1,9 @@
 //! What each request is answered.
 
-use crate::board::Board;
 use crate::document::{Extent, Given, push_document, push_facts};
 use crate::markup::{Subject, page};
 use crate::request::{Asked, Refusal};
-use crate::response::{Kind, event_stream_head, push_event, refusal_response, whole};
+use crate::response::{Kind, event_stream_head, refusal_response, whole};
 use crate::scene::Scene;
 use crate::viewer::{Connection, Goal, Phase, Viewer};
 use std::alloc::{AllocError, Global};
@@ -140,7 +139,7 @@ pub fn show_moment<C: Connection + Drop, S: Scene + Drop>(
     give(alloc, viewer, Kind::Json, document.as_str(), now)
 }
 
-// The document of a network, and then what changes in it.
+// The head of an answer whose events follow: those that are made for all who name this universe.
 fn begin_events<C: Connection + Drop, S: Scene + Drop>(
     alloc: Global,
     scene: &mut S,
@@ -152,19 +151,7 @@ fn begin_events<C: Connection + Drop, S: Scene + Drop>(
     if !prepare(scene, named, watched, now)? {
         return refuse(alloc, viewer, Refusal::Busy, now);
     }
-    let mut document = String::new(alloc);
-    let mut given = Given::nothing(alloc);
-    push_document(
-        &mut document,
-        None,
-        scene.board(),
-        named,
-        &mut given,
-        Extent::Whole,
-    )?;
-    viewer.given = given;
-    let mut text = event_stream_head(alloc)?;
-    push_event(&mut text, "state", document.as_str())?;
+    let text = event_stream_head(alloc)?;
     viewer.give(text.as_str(), Phase::Watching(named), now)
 }
 
@@ -183,32 +170,4 @@ fn prepare<S: Scene + Drop>(
     }
     scene.refresh(now, &[universe]);
     Ok(true)
-}
-
-/// Gives a viewer what changed since it was given something, if anything did or it is to be given an event all the same.
-///
-/// Errors: OutOfMemory.
-pub fn push_change<C: Connection + Drop>(
-    alloc: Global,
-    board: &Board,
-    viewer: &mut Viewer<C>,
-    named: Option<u16>,
-    is_beat: bool,
-    now: u64,
-) -> Result<(), AllocError> {
-    let mut document = String::new(alloc);
-    let is_more = push_document(
-        &mut document,
-        None,
-        board,
-        named,
-        &mut viewer.given,
-        Extent::Changes,
-    )?;
-    if !(is_more | is_beat) {
-        return Ok(());
-    }
-    let mut text = String::new(alloc);
-    push_event(&mut text, "change", document.as_str())?;
-    viewer.give(text.as_str(), Phase::Watching(named), now)
 }

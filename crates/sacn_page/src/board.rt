@@ -1,13 +1,14 @@
 //! What is known of a network, for all viewers.
 
 ghost use Rattle.std.specs.Prelude.{◌≡◌, ◌≤◌, IfOk, IfSome, OnOk};
-ghost use Rattle.sacn_monitor.specs.Books.{new_book, after_tick};
+ghost use Rattle.sacn_monitor.specs.Books.{new_book, after_tick, next_loss};
 ghost use Rattle.sacn_explain.specs.Following.{IsTicked, IsTaken};
 
 use crate::alarms::{Alarms, Trouble};
 use crate::lit_universe::LitUniverse;
 use sacn_framing::{DataView, Packet, read_packet};
 use sacn_monitor::{Event, Monitor, News, Noted, Sender, Stream};
+use sacn_sources::NETWORK_DATA_LOSS;
 use std::alloc::{AllocError, Global};
 
 /// The most universes that are merged at once.
@@ -28,6 +29,8 @@ pub struct Board {
     /// Those on which several sources send at the top priority.
     contested: Vec<u16>,
     lit: Vec<LitUniverse>,
+    /// No source is lost before this moment.
+    wake: u64,
 }
 
 impl Board {
@@ -45,6 +48,7 @@ impl Board {
             heard: Vec::new(alloc),
             contested: Vec::new(alloc),
             lit: Vec::new(alloc),
+            wake: 0,
         })
     }
 
@@ -56,7 +60,7 @@ impl Board {
         ensures taken { OnOk result
             (IsTaken now sender octets.now self.old.monitor self.new.monitor) }
     {
-        self.tick(now)?;
+        self.catch_up(now)?;
         match self.monitor.take(now, sender, octets) {
             Noted::Refused(fault) => self.alarms.add(now, Trouble::Refused(sender, fault))?,
             Noted::Heard(place, news) => self.note(now, place, &news)?,
@@ -76,7 +80,35 @@ impl Board {
     {
         let is_lost = self.note_losses(now)?;
         let _ = self.monitor.tick(now);
+        self.wake = self.next_loss().min(now.saturating_add(NETWORK_DATA_LOSS));
         Ok(is_lost)
+    }
+
+    // Moves the clock where a source may be lost by now: not at each datagram, which would look at all sources.
+    fn catch_up(&mut self, now: u64) -> Result<(), AllocError>
+        ensures ticked { OnOk result (IsTicked now self.old.monitor self.new.monitor) }
+    {
+        if now < self.wake {
+            return Ok(());
+        }
+        self.tick(now)?;
+        Ok(())
+    }
+
+    /// Notes that this program was stopped for so many milliseconds, in which it heard nothing. No account changes.
+    ///
+    /// Errors: OutOfMemory.
+    pub fn note_stop(&mut self, now: u64, millis: u64) -> Result<(), AllocError>
+        ensures monitor { self.new.monitor ≡ self.old.monitor }
+    {
+        self.alarms.add(now, Trouble::Stopped(millis))
+    }
+
+    /// The moment of the next loss, where no packet comes; `u64::MAX` where there is none.
+    pub fn next_loss(&self) -> u64
+        ensures { result ≡ next_loss self.now.monitor.streams }
+    {
+        self.monitor.next_loss()
     }
 
     // Notes the sources that are lost by a moment, each at its own, and returns whether there was one.

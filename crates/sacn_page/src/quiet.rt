@@ -54,4 +54,8 @@ impl<'a, R: MachineClock> Listener for Quiet<'a, R> {
     fn has_ended(&mut self) -> bool {
         self.input.has_come()
     }
+
+    fn take_stop(&mut self) -> u64 {
+        0
+    }
 }

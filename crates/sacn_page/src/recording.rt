@@ -147,6 +147,10 @@ impl<T: Tape + Drop> Scene for Recording<T> {
         Ok(())
     }
 
+    fn note_stop(&mut self, _now: u64, _millis: u64) -> Result<(), AllocError> {
+        Ok(())
+    }
+
     fn tick(&mut self, _now: u64) -> Result<bool, AllocError> {
         Ok(false)
     }

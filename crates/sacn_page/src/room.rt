@@ -1,8 +1,11 @@
 //! The viewers of a network or of a recording, whatever their connections are.
 
-use crate::answers::{Question, answer, push_change, refuse, show_moment};
+mod feeding;
+
+use crate::answers::{Question, answer, refuse, show_moment};
+use crate::feed::Feed;
 use crate::hosts::Hosts;
-use crate::request::{Reading, Refusal};
+use crate::request::{Asked, Reading, Refusal};
 use crate::scene::{Scene, SeekFault};
 use crate::viewer::{Connection, Goal, Phase, Viewer};
 use sacn_monitor::Sender;
@@ -13,16 +16,10 @@ use std::net::SocketAddrV4;
 /// The most viewers.
 pub const MAX_VIEWERS: usize = 32;
 
-/// The most connections beyond them, which are answered that there is no room.
-pub const MAX_SURPLUS: usize = 8;
+/// The most connections beyond them, which haven't asked yet, or took all. Where one more comes the oldest of them goes.
+pub const MAX_SURPLUS: usize = 32;
 
 const MAX_CONNECTIONS: usize = MAX_VIEWERS + MAX_SURPLUS;
-
-/// The least milliseconds between two events of a viewer.
-pub const MIN_WAIT: u64 = 100;
-
-/// The most milliseconds between two events of a viewer that takes all.
-pub const MAX_WAIT: u64 = 1000;
 
 /// The most steps in which a recording is followed in one turn.
 const MAX_STEPS: usize = 4096;
@@ -33,12 +30,15 @@ pub struct Room<C: Drop, S: Scene + Drop> {
     alloc: Global,
     scene: S,
     viewers: Slab<Viewer<C>>,
-    /// No viewer is given a change before this moment.
-    next: u64,
-    /// Each viewer that takes all is given an event at this moment, also where nothing changed but the moment.
-    beat: u64,
-    /// Something came since the latest look.
-    is_stale: bool,
+    feeds: Vec<Feed>,
+    /// How many events were made.
+    events: u64,
+    /// How much came so far that may be told.
+    changes: u64,
+    /// The key of the connection that is looked at first in the next turn.
+    first: usize,
+    /// The latest turn left viewers that may be owed something.
+    is_behind: bool,
     /// How many have asked for a moment of the recording.
     turns: u64,
 }
@@ -52,9 +52,11 @@ impl<C: Connection + Drop, S: Scene + Drop> Room<C, S> {
             alloc,
             scene,
             viewers: Slab::with_capacity(alloc, MAX_CONNECTIONS)?,
-            next: 0,
-            beat: 0,
-            is_stale: false,
+            feeds: Vec::new(alloc),
+            events: 0,
+            changes: 0,
+            first: 0,
+            is_behind: false,
             turns: 0,
         })
     }
@@ -63,8 +65,16 @@ impl<C: Connection + Drop, S: Scene + Drop> Room<C, S> {
     ///
     /// Errors: OutOfMemory.
     pub fn take(&mut self, now: u64, sender: Sender, octets: &[u8]) -> Result<(), AllocError> {
-        self.is_stale = true;
+        self.note_change();
         self.scene.take(now, sender, octets)
+    }
+
+    /// Notes that this program was stopped for so many milliseconds.
+    ///
+    /// Errors: OutOfMemory.
+    pub fn note_stop(&mut self, now: u64, millis: u64) -> Result<(), AllocError> {
+        self.note_change();
+        self.scene.note_stop(now, millis)
     }
 
     /// Moves the clock.
@@ -72,9 +82,14 @@ impl<C: Connection + Drop, S: Scene + Drop> Room<C, S> {
     /// Errors: OutOfMemory.
     pub fn tick(&mut self, now: u64) -> Result<(), AllocError> {
         if self.scene.tick(now)? {
-            self.is_stale = true;
+            self.note_change();
         }
         Ok(())
+    }
+
+    // Something came.
+    fn note_change(&mut self) {
+        self.changes = self.changes.wrapping_add(1);
     }
 
     /// The key of the next connection, where there is room for it.
@@ -86,7 +101,7 @@ impl<C: Connection + Drop, S: Scene + Drop> Room<C, S> {
         }
     }
 
-    /// Takes a connection that came to this address. Past `MAX_VIEWERS` it is answered that there is no room.
+    /// Takes a connection that came to this address.
     ///
     /// Errors: OutOfMemory.
     pub fn admit(
@@ -95,19 +110,79 @@ impl<C: Connection + Drop, S: Scene + Drop> Room<C, S> {
         address: SocketAddrV4,
         now: u64,
     ) -> Result<(), AllocError> {
-        let is_surplus = self.guests() >= MAX_VIEWERS;
         let hosts = Hosts::of(self.alloc, address)?;
-        let viewer = Viewer::new(self.alloc, connection, hosts, is_surplus, now);
+        let viewer = Viewer::new(self.alloc, connection, hosts, now);
         self.viewers.insert(viewer)?;
         Ok(())
     }
 
-    // The viewers for whom there was room, and that aren't leaving.
+    /// Sees to it that there is room for a further connection: where there is none, of those that haven't asked yet or took all the one
+    /// whose time is up first goes. It is told that there was no room, unless it has asked by now.
+    pub fn make_place(&mut self, now: u64) {
+        for _ in 0..MAX_CONNECTIONS {
+            if self.viewers.len() < MAX_CONNECTIONS {
+                return;
+            }
+            let Some(key) = self.first_to_go() else {
+                return;
+            };
+            self.serve(key, now);
+            self.dismiss(key, now);
+        }
+    }
+
+    // The connection whose time is up first, of those that may go.
+    fn first_to_go(&self) -> Option<usize> {
+        let mut first = None;
+        let mut least = u64::MAX;
+        for key in 0..MAX_CONNECTIONS {
+            if let Some(viewer) = self.viewers.get(key) {
+                if let Some(deadline) = viewer.spare() {
+                    if deadline < least {
+                        least = deadline;
+                        first = Some(key);
+                    }
+                }
+            }
+        }
+        first
+    }
+
+    // Lets a connection go that hasn't asked yet, or took all.
+    fn dismiss(&mut self, key: usize, now: u64) {
+        let Some(viewer) = self.viewers.get_mut(key) else {
+            return;
+        };
+        if viewer.spare().is_none() {
+            return;
+        }
+        if viewer.phase() == Phase::Asking {
+            let _ = refuse(self.alloc, viewer, Refusal::Busy, now);
+        }
+        let _ = self.viewers.try_remove(key);
+    }
+
+    /// Tells a connection to this address that there is no room for it, and closes it.
+    ///
+    /// Errors: OutOfMemory.
+    pub fn turn_away(
+        &self,
+        connection: C,
+        address: SocketAddrV4,
+        now: u64,
+    ) -> Result<(), AllocError> {
+        let hosts = Hosts::of(self.alloc, address)?;
+        let mut viewer = Viewer::new(self.alloc, connection, hosts, now);
+        let _ = viewer.hear()?;
+        refuse(self.alloc, &mut viewer, Refusal::Busy, now)
+    }
+
+    // How many have asked and have a place.
     fn guests(&self) -> usize {
         let mut count = 0_usize;
         for key in 0..MAX_CONNECTIONS {
             if let Some(viewer) = self.viewers.get(key) {
-                if !viewer.is_surplus() & (viewer.phase() != Phase::Leaving) {
+                if viewer.is_guest() {
                     count = count.saturating_add(1);
                 }
             }
@@ -117,33 +192,51 @@ impl<C: Connection + Drop, S: Scene + Drop> Room<C, S> {
 
     /// Takes what the viewer of a key sent, answers it, and sends what its connection takes.
     pub fn serve(&mut self, key: usize, now: u64) {
-        let question = Question {
-            turn: self.turns,
-            now,
-        };
-        self.turns = self.turns.saturating_add(1);
-        let stays = self.serve_viewer(key, question).unwrap_or(false);
-        // A viewer that took all may be owed what changed in the meantime.
-        self.is_stale = true;
+        let stays = self.serve_viewer(key, now).unwrap_or(false);
         if !stays {
             let _ = self.viewers.try_remove(key);
         }
     }
 
     // The same for the viewer alone: whether it stays.
-    fn serve_viewer(&mut self, key: usize, question: Question) -> Result<bool, AllocError> {
-        let watched = self.universes_watched()?;
+    fn serve_viewer(&mut self, key: usize, now: u64) -> Result<bool, AllocError> {
         let Some(viewer) = self.viewers.get_mut(key) else {
             return Ok(true);
         };
-        serve(
+        match viewer.hear()? {
+            Reading::More => viewer.send(now),
+            Reading::Refused(refusal) => refuse(self.alloc, viewer, refusal, now)?,
+            Reading::Asked(asked) => self.answer(key, asked, now)?,
+        }
+        match self.viewers.get(key) {
+            Some(viewer) => Ok(viewer.phase() != Phase::Gone),
+            None => Ok(true),
+        }
+    }
+
+    // Answers the viewer of a key, where there is room for it.
+    fn answer(&mut self, key: usize, asked: Asked, now: u64) -> Result<(), AllocError> {
+        let has_room = self.guests() < MAX_VIEWERS;
+        let watched = self.universes_watched()?;
+        let question = Question {
+            turn: self.turns,
+            now,
+        };
+        self.turns = self.turns.saturating_add(1);
+        let Some(viewer) = self.viewers.get_mut(key) else {
+            return Ok(());
+        };
+        if !has_room {
+            return refuse(self.alloc, viewer, Refusal::Busy, now);
+        }
+        answer(
             self.alloc,
             &mut self.scene,
             viewer,
+            asked,
             watched.as_slice(),
             question,
-        )?;
-        Ok(viewer.phase() != Phase::Gone)
+        )
     }
 
     // The universes that are looked at.
@@ -162,48 +255,11 @@ impl<C: Connection + Drop, S: Scene + Drop> Room<C, S> {
     }
 
     /// Gives each viewer that took all what changed since, at most ten times and at least once a second, and closes those whose
-    /// time is up.
-    ///
-    /// Errors: OutOfMemory.
-    pub fn show(&mut self, now: u64) -> Result<(), AllocError> {
+    /// time is up. One call makes one event or gives so many octets; where some are left `wakes` says that there is more to do.
+    pub fn show(&mut self, now: u64) {
         self.close_late(now);
         self.seek(now);
-        let is_beat = now >= self.beat;
-        if (now < self.next) | !(self.is_stale | is_beat) {
-            return Ok(());
-        }
-        self.is_stale = false;
-        self.next = now.saturating_add(MIN_WAIT);
-        if is_beat {
-            self.beat = now.saturating_add(MAX_WAIT);
-        }
-        let watched = self.universes_watched()?;
-        for universe in watched.as_slice() {
-            let _ = self.scene.open(*universe, watched.as_slice())?;
-        }
-        self.scene.refresh(now, watched.as_slice());
-        for key in 0..MAX_CONNECTIONS {
-            self.push(key, is_beat, now);
-        }
-        Ok(())
-    }
-
-    // Gives the viewer of a key what changed, if it took all before; at a beat also where nothing did.
-    fn push(&mut self, key: usize, is_beat: bool, now: u64) {
-        let Some(viewer) = self.viewers.get_mut(key) else {
-            return;
-        };
-        let Phase::Watching(named) = viewer.phase() else {
-            return;
-        };
-        if !viewer.is_idle() {
-            return;
-        }
-        let board = self.scene.board();
-        let pushed = push_change(self.alloc, board, viewer, named, is_beat, now);
-        if pushed.is_err() || viewer.phase() == Phase::Gone {
-            let _ = self.viewers.try_remove(key);
-        }
+        self.is_behind = self.feed_viewers(now);
     }
 
     // Answers those who wait for a moment of the recording, the first that asked first, as far as one turn reads.
@@ -266,46 +322,18 @@ impl<C: Connection + Drop, S: Scene + Drop> Room<C, S> {
 
     /// The moment at which there is something to do, where nothing comes; `u64::MAX` where there never is.
     pub fn wakes(&self) -> u64 {
+        if self.is_behind {
+            return 0;
+        }
         let mut least = self.scene.next_change();
         for key in 0..MAX_CONNECTIONS {
             if let Some(viewer) = self.viewers.get(key) {
-                least = least.min(viewer.deadline());
-                match viewer.phase() {
-                    Phase::Watching(_) => least = least.min(self.next_look()),
-                    Phase::Waiting(_) => least = 0,
-                    _ => {}
+                least = least.min(viewer.deadline()).min(self.next_event(viewer));
+                if let Phase::Waiting(_) = viewer.phase() {
+                    least = 0;
                 }
             }
         }
         least
-    }
-
-    // The moment at which viewers that watch are given something.
-    fn next_look(&self) -> u64 {
-        if self.is_stale {
-            self.next
-        } else {
-            self.beat.max(self.next)
-        }
-    }
-}
-
-// Takes what a viewer sent, and answers it.
-fn serve<C: Connection + Drop, S: Scene + Drop>(
-    alloc: Global,
-    scene: &mut S,
-    viewer: &mut Viewer<C>,
-    watched: &[u16],
-    question: Question,
-) -> Result<(), AllocError> {
-    let now = question.now;
-    match viewer.hear()? {
-        Reading::More => {
-            viewer.send(now);
-            Ok(())
-        }
-        Reading::Refused(refusal) => refuse(alloc, viewer, refusal, now),
-        Reading::Asked(_) if viewer.is_surplus() => refuse(alloc, viewer, Refusal::Busy, now),
-        Reading::Asked(asked) => answer(alloc, scene, viewer, asked, watched, question),
     }
 }

@@ -50,6 +50,11 @@ pub trait Scene {
     /// Errors: OutOfMemory.
     fn take(&mut self, now: u64, sender: Sender, octets: &[u8]) -> Result<(), AllocError>;
 
+    /// Notes that this program was stopped for so many milliseconds.
+    ///
+    /// Errors: OutOfMemory.
+    fn note_stop(&mut self, now: u64, millis: u64) -> Result<(), AllocError>;
+
     /// Moves the clock, and returns whether a source was lost.
     ///
     /// Errors: OutOfMemory.
@@ -90,12 +95,16 @@ impl Scene for Board {
         self.take(now, sender, octets)
     }
 
+    fn note_stop(&mut self, now: u64, millis: u64) -> Result<(), AllocError> {
+        self.note_stop(now, millis)
+    }
+
     fn tick(&mut self, now: u64) -> Result<bool, AllocError> {
         self.tick(now)
     }
 
     fn next_change(&self) -> u64 {
-        self.monitor().next_loss()
+        self.next_loss()
     }
 
     fn board(&self) -> &Board {

@@ -16,10 +16,10 @@ use std::time::Duration;
 const LISTENER: Token = Token(usize::MAX);
 
 /// The most connections that are taken in one turn.
-const MAX_CALLS: usize = 64;
+const MAX_CALLS: usize = 16;
 
 /// The most readinesses that are looked at in one turn.
-const MAX_EVENTS: usize = 64;
+const MAX_EVENTS: usize = 8;
 
 /// The milliseconds after which a server that could take no connection tries again.
 const RETRY: u64 = 1000;
@@ -102,14 +102,16 @@ impl<S: Scene + Drop> Pages<S> {
         }
     }
 
-    // Takes a connection, where there is room for it.
+    // Takes a connection, and what it has sent by now. One for which no other goes is told that there is no room.
     fn admit(&mut self, mut stream: TcpStream, now: u64) {
-        let Some(key) = self.room.vacancy() else {
-            return;
-        };
         let address = match stream.local_addr() {
             Ok(SocketAddr::V4(address)) => address,
             _ => self.address,
+        };
+        self.room.make_place(now);
+        let Some(key) = self.room.vacancy() else {
+            let _ = self.room.turn_away(stream, address, now);
+            return;
         };
         let _ = stream.set_nodelay(true);
         let interests = Interest::READABLE | Interest::WRITABLE;
@@ -117,8 +119,8 @@ impl<S: Scene + Drop> Pages<S> {
             .poll
             .registry()
             .register(&mut stream, Token(key), interests);
-        if registered.is_ok() {
-            let _ = self.room.admit(stream, address, now);
+        if registered.is_ok() && self.room.admit(stream, address, now).is_ok() {
+            self.room.serve(key, now);
         }
     }
 
@@ -147,10 +149,15 @@ impl<S: Scene + Drop> Watcher for Pages<S> {
         Ok(())
     }
 
+    fn note_stop(&mut self, now: u64, millis: u64) -> Result<(), WatchFault> {
+        self.room.note_stop(now, millis)?;
+        Ok(())
+    }
+
     fn show(&mut self, now: u64) -> Result<(), WatchFault> {
         self.room.tick(now)?;
         self.serve(now)?;
-        self.room.show(now)?;
+        self.room.show(now);
         Ok(())
     }
 

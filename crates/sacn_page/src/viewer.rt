@@ -1,8 +1,8 @@
 //! One connection of a browser.
 
-ghost use Rattle.std.specs.Prelude.{◌≤◌, length, IfSome};
+ghost use Rattle.std.specs.Prelude.{◌≡◌, ◌≤◌, length, IfSome};
+ghost use Rattle.sacn_page.specs.Places.{is_guest, spare};
 
-use crate::document::Given;
 use crate::hosts::Hosts;
 use crate::outbox::Outbox;
 use crate::request::{MAX_HEAD, Reading, Refusal, read_request};
@@ -63,8 +63,6 @@ pub enum Phase {
 pub struct Viewer<C> {
     connection: C,
     hosts: Hosts,
-    /// Whether it came where there was no room.
-    is_surplus: bool,
     phase: Phase,
     head: Vec<u8>,
     /// What it is to be sent.
@@ -73,23 +71,22 @@ pub struct Viewer<C> {
     has_ended: bool,
     /// The moment at which it is closed where nothing happens.
     deadline: u64,
-    /// What it was given last.
-    pub given: Given,
+    /// The number of the event that it was given last; 0 where it was given none.
+    pub seen: u64,
 }
 
 impl<C: Connection> Viewer<C> {
-    /// A connection that came at a moment to a server of these names; a surplus one is answered that there is no room.
-    pub fn new(alloc: Global, connection: C, hosts: Hosts, is_surplus: bool, now: u64) -> Self {
+    /// A connection that came at a moment to a server of these names.
+    pub fn new(alloc: Global, connection: C, hosts: Hosts, now: u64) -> Self {
         Viewer {
             connection,
             hosts,
-            is_surplus,
             phase: Phase::Asking,
             head: Vec::new(alloc),
             output: Outbox::new(alloc),
             has_ended: false,
             deadline: now.saturating_add(HEAD_TIME),
-            given: Given::nothing(alloc),
+            seen: 0,
         }
     }
 
@@ -103,9 +100,24 @@ impl<C: Connection> Viewer<C> {
         self.phase
     }
 
-    /// Whether it came where there was no room.
-    pub fn is_surplus(&self) -> bool {
-        self.is_surplus
+    /// Whether it has a place among those who look: it has asked, and was given neither all nor its leave.
+    pub fn is_guest(&self) -> bool
+        ensures { result ≡ is_guest self.now.phase }
+    {
+        match self.phase {
+            Phase::Answered | Phase::Watching(_) | Phase::Waiting(_) => true,
+            Phase::Asking | Phase::Leaving | Phase::Gone => false,
+        }
+    }
+
+    /// The moment at which it goes by itself, where it may go before, for the sake of another: it hasn't asked yet, or took all.
+    pub fn spare(&self) -> Option<u64>
+        ensures { result ≡ spare self.now.phase self.now.deadline }
+    {
+        match self.phase {
+            Phase::Asking | Phase::Leaving => Some(self.deadline),
+            _ => None,
+        }
     }
 
     /// Whether all that it was to be sent went.

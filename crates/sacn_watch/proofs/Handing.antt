@@ -18,6 +18,10 @@ Extends-none (Some xs) = sym (append_nil xs)
     append_nil [] = refl
     append_nil (x ∷ xs) = ap (λ t. x ∷ t) (append_nil xs)
 
+-- what was told stays, where a call tells nothing more
+pub heard_still : {X : Type 0} (a b c : Option (List X)) (xs : List X) → Extends a b xs → c ≡ b → Extends a c xs
+heard_still a b c xs told same = subst (λ t. Extends a t xs) (sym same) told
+
 -- what is heard in one turn more
 pub heard_more : (a b c : Option (List Hearing)) (rs : List Receive) (turns : List (List Receive)) → Extends a b (heard_by turns) → Extends b c (in_order (heard_in rs)) → Extends a c (heard_by (rs ∷ turns))
 heard_more a b c rs turns sofar more = Extends-append a b c (heard_by turns) (in_order (heard_in rs)) sofar more

@@ -4,3 +4,4 @@ pub mod Views
 pub mod Watches
 pub mod Screens
 pub mod Faults
+pub mod Stops

@@ -36,6 +36,7 @@ pub fn screen(alloc: Global, view: &View, size: Size) -> Result<Page, AllocError
 {
     let mut page = Page::new(alloc, size);
     push_counts(alloc, &mut page, view)?;
+    push_stop(alloc, &mut page, view)?;
     push_alarms(alloc, &mut page, view)?;
     push_sources(alloc, &mut page, view)?;
     push_levels(alloc, &mut page, view)?;
@@ -60,6 +61,25 @@ fn push_counts(alloc: Global, page: &mut Page, view: &View) -> Result<(), AllocE
         "sacn watch  sources on universes {streams}  datagrams {datagrams}"
     )?;
     page.push_text(alloc, text.as_str(), Ink::Heading)
+}
+
+// For how long this program was stopped, if it was.
+fn push_stop(alloc: Global, page: &mut Page, view: &View) -> Result<(), AllocError>
+    ensures size { page.new.size ≡ page.old.size }
+    ensures fits { FitsOn page.old.size page.old.rows.items
+        → FitsOn page.new.size page.new.rows.items }
+{
+    if view.stopped == 0 {
+        return Ok(());
+    }
+    let mut text = String::new(alloc);
+    let seconds = view.stopped / 1000;
+    let rest = view.stopped % 1000;
+    write!(
+        text,
+        "! not heard for {seconds}.{rest:03} s: this program was stopped"
+    )?;
+    page.push_text(alloc, text.as_str(), Ink::Alarm)
 }
 
 fn push_alarms(alloc: Global, page: &mut Page, view: &View) -> Result<(), AllocError>

@@ -23,6 +23,11 @@ impl<'a, O: Write> Watcher for Follower<'a, O> {
         Ok(())
     }
 
+    fn note_stop(&mut self, now: u64, millis: u64) -> Result<(), WatchFault> {
+        self.tell_stop(now, millis)?;
+        Ok(())
+    }
+
     fn show(&mut self, now: u64) -> Result<(), WatchFault> {
         self.tick(now)?;
         Ok(())

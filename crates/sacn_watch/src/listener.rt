@@ -19,6 +19,10 @@ pub trait Listener: Receiver {
     fn has_ended(&mut self) -> bool
         ensures told { Self.told self.new ≡ Self.told self.old }
         ensures ended { result ≡ true → Ended self.new };
+
+    /// For how many milliseconds this program was stopped, since this was asked last. A clock that goes on meanwhile tells none.
+    fn take_stop(&mut self) -> u64
+        ensures told { Self.told self.new ≡ Self.told self.old };
 }
 
 impl<'a, R: Net + Clock> Listener for UdpReceiver<'a, R> {
@@ -28,6 +32,10 @@ impl<'a, R: Net + Clock> Listener for UdpReceiver<'a, R> {
 
     fn has_ended(&mut self) -> bool {
         self.input_ended()
+    }
+
+    fn take_stop(&mut self) -> u64 {
+        0
     }
 }
 
@@ -43,5 +51,9 @@ impl Listener for MemoryReceiver {
 
     fn has_ended(&mut self) -> bool {
         false
+    }
+
+    fn take_stop(&mut self) -> u64 {
+        0
     }
 }

@@ -99,6 +99,12 @@ impl<'a, O: Write> Watcher for Terminal<'a, O> {
         Ok(())
     }
 
+    fn note_stop(&mut self, _now: u64, millis: u64) -> Result<(), WatchFault> {
+        self.view.stopped = self.view.stopped.saturating_add(millis);
+        self.is_stale = true;
+        Ok(())
+    }
+
     fn show(&mut self, now: u64) -> Result<(), WatchFault> {
         self.is_stale = self.view.tick(now) | self.is_stale;
         if (now < self.next)

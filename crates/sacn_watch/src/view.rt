@@ -26,6 +26,8 @@ pub struct View {
     pub levels: [u8; SLOTS],
     /// For each slot the place of the first source that gives it its level, where that isn't 0.
     pub winners: [Option<usize>; SLOTS],
+    /// The milliseconds for which this program was stopped, in all.
+    pub stopped: u64,
     table: SourceTable,
 }
 
@@ -44,6 +46,7 @@ impl View {
             universe,
             levels: [0; SLOTS],
             winners: [None; SLOTS],
+            stopped: 0,
             table: SourceTable::new(alloc)?,
         })
     }

@@ -24,6 +24,11 @@ pub trait Watcher {
         ensures handed { OnOk result ((calls : List Call) → Handed self.old calls
             → Handed self.new (Take now sender octets.now ∷ calls)) };
 
+    /// Tells that this program was stopped for so many milliseconds. No account changes.
+    fn note_stop(&mut self, now: u64, millis: u64) -> Result<(), WatchFault>
+        ensures handed { OnOk result
+            ((calls : List Call) → Handed self.old calls → Handed self.new calls) };
+
     /// Shows what is to be shown, after all that had come by a moment was taken.
     fn show(&mut self, now: u64) -> Result<(), WatchFault>
         ensures handed { OnOk result
@@ -39,7 +44,8 @@ pub trait Watcher {
 }
 
 /// Hears until a moment, or until the listener has ended, and hands each datagram to a watcher, at the reading of the listener's
-/// clock just before it came. It waits until a datagram is there or the watcher has something to show.
+/// clock just before it came. It waits until a datagram is there or the watcher has something to show. A stop of this program that the
+/// listener knows of is told before the first datagram that is received after it.
 ///
 /// Errors: what the watcher can't do; it is told to end all the same.
 pub fn run_watch<L: Listener, W: Watcher>(
@@ -132,6 +138,7 @@ fn hear<L: Listener, W: Watcher>(
 {
     let receipt = listener.receive(buffer);
     heard.now = receipt.now;
+    tell_stop(listener, watcher, receipt.now)?;
     match receipt.arrival {
         Arrival::Datagram { octets, sender } => {
             let sender = Sender {
@@ -144,4 +151,21 @@ fn hear<L: Listener, W: Watcher>(
         Arrival::Nothing => Ok(false),
         Arrival::Failed => Ok(false),
     }
+}
+
+// Tells for how long this program was stopped, where it was since the listener was asked last.
+fn tell_stop<L: Listener, W: Watcher>(
+    listener: &mut L,
+    watcher: &mut W,
+    now: u64,
+) -> Result<(), WatchFault>
+    ensures told { L.Receiver.told listener.new ≡ L.Receiver.told listener.old }
+    ensures handed { OnOk result ((calls : List Call) → W.Handed watcher.old calls
+        → W.Handed watcher.new calls) }
+{
+    let millis = listener.take_stop();
+    if millis == 0 {
+        return Ok(());
+    }
+    watcher.note_stop(now, millis)
 }
