@@ -41,7 +41,8 @@ node_shows number us n = shows_on us (port_of number n.ports)
 
 -- Octets leave the slots of each universe but the one that is told as expiry alone leaves them.
 abbrev pub SlotsAreKept : Type 0
-SlotsAreKept = (reading : Reading) (now u : ℕ) (c : Core) → universe_changed reading now c ≢ Some u → core_slots (after_reading reading now c) u ≡ core_slots (core_at now c) u
+SlotsAreKept = (reading : Reading) (now u : ℕ) (c : Core) → universe_changed reading now c ≢ Some u →
+    core_slots (after_reading reading now c) u ≡ core_slots (core_at now c) u
 
 -- Where the slots of some universes alone differ, a port that shows none of these has the frame that it had.
 abbrev pub FramesAreKept : Type 0

@@ -27,7 +27,8 @@ abbrev pub table_code : Coded Table
 table_code = code_by (ℕ × List Row) (coded× coded_ℕ (coded_list row_code)) (λ g. (g.universe, g.rows)) (λ p. record { universe = p.0; rows = p.1 }) (λ _. refl)
 
 abbrev pub core_code : Coded Core
-core_code = code_by (ℕ × List Table) (coded× coded_ℕ (coded_list table_code)) (λ n. (n.moment, n.tables)) (λ p. record { moment = p.0; tables = p.1 }) (λ _. refl)
+core_code = code_by (ℕ × List Table) (coded× coded_ℕ (coded_list table_code)) (λ n. (n.moment, n.tables))
+    (λ p. record { moment = p.0; tables = p.1 }) (λ _. refl)
 
 -- ---- a new node: nothing was sent yet, on each of the universes that its ranges name
 

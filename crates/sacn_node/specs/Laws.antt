@@ -16,7 +16,8 @@ AnswersByThePlainRule = (ports : List Port) (call : Call) (earlier : List Call) 
 
 -- the node holds a source on a universe exactly where the plain rule does, with the same number, levels and moment
 abbrev pub HoldsByThePlainRule : Type 0
-HoldsByThePlainRule = (ports : List Port) (calls : List Call) (u : ℕ) (cid : List ℕ) → core_row u cid (after_calls ports calls).core ≡ option_map (row_with cid) (get (holding ports calls u) cid)
+HoldsByThePlainRule = (ports : List Port) (calls : List Call) (u : ℕ) (cid : List ℕ) →
+    core_row u cid (after_calls ports calls).core ≡ option_map (row_with cid) (get (holding ports calls u) cid)
 
 -- the ports stay those of the setup
 abbrev pub KeepsItsPorts : Type 0
@@ -24,8 +25,10 @@ KeepsItsPorts = (ports : List Port) (calls : List Call) → (after_calls ports c
 
 -- the moment in use is the greatest that was handed in, 0 at first
 abbrev pub UsesTheGreatestMoment : Type 0
-UsesTheGreatestMoment = (ports : List Port) (calls : List Call) → ((after_calls ports calls).core.moment ≡ moment_in_use calls) × IsGreatestMoment calls (moment_in_use calls)
+UsesTheGreatestMoment = (ports : List Port) (calls : List Call) →
+    ((after_calls ports calls).core.moment ≡ moment_in_use calls) × IsGreatestMoment calls (moment_in_use calls)
 
 -- the universes are those that some range of a port names, each once, and they rise
 abbrev pub HasTheUniversesOfItsRanges : Type 0
-HasTheUniversesOfItsRanges = (ports : List Port) → Rising (universes ports) × ((u : ℕ) → has_universe ports u ≡ list_any (λ p. list_any (λ r. r.universe == u) p.ranges) ports)
+HasTheUniversesOfItsRanges = (ports : List Port) → Rising (universes ports)
+    × ((u : ℕ) → has_universe ports u ≡ list_any (λ p. list_any (λ r. r.universe == u) p.ranges) ports)

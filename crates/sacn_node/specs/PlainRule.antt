@@ -48,7 +48,8 @@ holding ports calls u = if has_universe ports u then held_after u calls else emp
 -- ---- the answer to a call at t, over what was held before it
 
 abbrev pub reply_at : List Port → ℕ → Reading → (ℕ → Sources) → NodeTaken
-reply_at ports t (Ok (DataPacket d)) held = if has_universe ports d.universe then FromTable (source_row t (packet_of d) (unexpired t (held d.universe))).answer else OtherUniverse
+reply_at ports t (Ok (DataPacket d)) held =
+    if has_universe ports d.universe then FromTable (source_row t (packet_of d) (unexpired t (held d.universe))).answer else OtherUniverse
 reply_at ports t (Ok (PagePacket p)) held = Discovery
 reply_at ports t (Ok SyncPacket) held = Sync
 reply_at ports t (Err fault) held = Refused fault

@@ -16,7 +16,7 @@ use Rattle.sacn_world.specs.Runs.{Ran, ran}
 use Rattle.sacn_world.specs.Laws.{reached}
 use Rattle.sacn_world.proofs.Reaching.{reached_ok, first_of_run}
 use Rattle.sacn_world.proofs.Runs.{step_ok}
-use Rattle.sacn_runs.specs.ConsoleRuns.{requests_by, requests, octets_of_packet, octets_from, refused_with, refused_over, GivesAs, ConsolesRunAsInAWorld}
+use Rattle.sacn_runs.specs.ConsoleRuns.{requests_by, requests, octets_of_packet, octets_from, refused_with, refused_over, RunsAsInItsLoop, ConsolesRunAsInAWorld}
 use Rattle.sacn_runs.proofs.Requests.{Requests, over, gave, refused_count, over-append, gave-append, refused-append, loop_over, loop_gave, loop_refused}
 use Rattle.sacn_runs.proofs.ConsoleEvents.{Did, event_did}
 

@@ -76,7 +76,7 @@ refused_over i (e ∷ es) (a ∷ answers) = refused_with i e a + refused_over i 
 
 -- console i of world w, over events that were answered so and left world v, is the console that gave its link what was due over
 -- these readings
-pub record GivesAs (w v : World) (i : ℕ) (c : Console) (events : List Event) (answers : List Answer) (script : Script) (readings : List ℕ) : Type 0 where
+pub record RunsAsInItsLoop (w v : World) (i : ℕ) (c : Console) (events : List Event) (answers : List Answer) (script : Script) (readings : List ℕ) : Type 0 where
   -- what it sent in the world, octet by octet, is what the loop hands over
   pub sent : octets_from c.show.cid (drop (length w.sent) v.sent) ≡ console_sends c.core script readings
   pub refused : refused_over i events answers ≡ refused_by c.core script readings
@@ -87,7 +87,8 @@ pub record GivesAs (w v : World) (i : ℕ) (c : Console) (events : List Event) (
 -- given the commands and polls of a loop's turns, it sends what the loop hands over. Its core may have been used before.
 abbrev pub ConsolesRunAsInAWorld : Type 0
 ConsolesRunAsInAWorld =
-    (shows : List Desk) (setups : List (List Port)) (earlier events : List Event) (run : Ran) (i : ℕ) (c : Console) (script : Script) (readings : List ℕ) → Apart (map new_console shows) →
+    (shows : List Desk) (setups : List (List Port)) (earlier events : List Event) (run : Ran) (i : ℕ) (c : Console) (script : Script) (readings : List ℕ) →
+    Apart (map new_console shows) →
     let w = reached shows setups earlier in
     ran w events ≡ Some run → slice_get w.consoles i ≡ Some c → requests i events ≡ map Some (run_calls script readings) →
-    GivesAs w run.world i c events run.answers script readings
+    RunsAsInItsLoop w run.world i c events run.answers script readings

@@ -70,7 +70,8 @@ pub record NodesRunAsInAWorld : Type 0 where
   -- From any world on, over any events that it accepts, whatever they are to its other nodes and its consoles: where what comes
   -- to node i is what came in the turns of a loop, the loop writes what the node's looks were answered
   pub runs :
-      (shows : List Desk) (setups : List (List Port)) (earlier events : List Event) (run : Ran) (i : ℕ) (n : Node) (ts : List Turn) → Apart (map new_console shows) →
+      (shows : List Desk) (setups : List (List Port)) (earlier events : List Event) (run : Ran) (i : ℕ) (n : Node) (ts : List Turn) →
+      Apart (map new_console shows) →
       let w = reached shows setups earlier in
       ran w events ≡ Some run → slice_get w.nodes i ≡ Some n → visits w i events ≡ loop_visits (port_numbers n.ports) ts →
       RunsAs w run.world i n events run.answers ts

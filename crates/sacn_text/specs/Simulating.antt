@@ -77,7 +77,8 @@ Ends failed Written world schedule =
 -- a run of the events of both texts that breaks off
 abbrev pub BreaksOff : SimFault → Bool → (List ℕ → Type 0) → List ℕ → List ℕ → Type 0
 BreaksOff fault failed Written world schedule =
-    (content : WorldContent) × (events : List Event) × Reads world schedule content events × Breaks fault failed Written (simulated (world_at_start content) 0 events)
+    (content : WorldContent) × (events : List Event) × Reads world schedule content events
+    × Breaks fault failed Written (simulated (world_at_start content) 0 events)
 
 -- a run of texts up to a fault: nothing is written where one of them is refused
 abbrev pub Stops : SimFault → Bool → (List ℕ → Type 0) → List ℕ → List ℕ → Type 0

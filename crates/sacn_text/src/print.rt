@@ -2,15 +2,15 @@
 
 ghost use Rattle.std.specs.Prelude.{◌≡◌, IfErr, OnOk, None, false};
 ghost use Rattle.sacn_discovery.specs.Collection.{nothing_known};
+ghost use Rattle.sacn_text.specs.Decoding as decoding;
 ghost use Rattle.sacn_text.specs.Decoding.{decoded, octets_of};
-ghost use Rattle.sacn_text.specs.Simulating.{Ends};
-ghost use Rattle.sacn_text.specs.Printing.{Has, StopsDecoding, StopsSimulating};
+ghost use Rattle.sacn_text.specs.Simulating as simulating;
+ghost use Rattle.sacn_text.specs.Printing.{Has, has_failed};
 
 use crate::decode::decode_text;
 use crate::fault::{DecodeFault, SimFault};
 use crate::marked_writer::MarkedWriter;
 use crate::simulate::sim_text;
-use sacn_edge::WriterOut;
 use std::alloc::Global;
 use std::io::Write;
 
@@ -24,6 +24,7 @@ pub struct Printed<W, F> {
 }
 
 /// Prints the texts of the datagrams, up to the first that is no packet: a writer that always tells what it has then has them.
+/// `WriteFailed` comes only where a write to the writer gave an error or took nothing.
 pub fn print_packets<W: Write + Drop>(
     alloc: Global,
     datagrams: &[Vec<u8>],
@@ -33,19 +34,16 @@ pub fn print_packets<W: Write + Drop>(
         (((decoded nothing_known 0 (octets_of datagrams.now)).refused ≡ None) × Has W.contents
         writer result.out.writer (decoded nothing_known 0 (octets_of datagrams.now)).text) }
     ensures err { IfErr result.ended
-        (λ fault. StopsDecoding fault (Has W.contents writer result.out.writer)
-        (decoded nothing_known 0 (octets_of datagrams.now))) }
+        (λ fault. decoding.Stops fault (has_failed result.out) (Has W.contents writer
+        result.out.writer) (decoded nothing_known 0 (octets_of datagrams.now))) }
 {
-    let mut out = WriterOut::new(MarkedWriter::new(writer));
+    let mut out = MarkedWriter::new(writer);
     let ended = decode_text(alloc, datagrams, &mut out);
-    Printed {
-        out: out.writer,
-        ended,
-    }
+    Printed { out, ended }
 }
 
 /// Prints a line for each look of a world that is run by a schedule, up to the first event that the world refuses: a writer that
-/// always tells what it has then has them.
+/// always tells what it has then has them. `WriteFailed` comes only where a write to the writer gave an error or took nothing.
 pub fn print_looks<W: Write + Drop>(
     alloc: Global,
     world: &str,
@@ -53,14 +51,12 @@ pub fn print_looks<W: Write + Drop>(
     writer: W,
 ) -> Printed<W, SimFault>
     ensures ok { OnOk result.ended
-        (Ends false (Has W.contents writer result.out.writer) world.now schedule.now) }
-    ensures err { IfErr result.ended (λ fault.
-        StopsSimulating fault (Has W.contents writer result.out.writer) world.now schedule.now) }
+        (simulating.Ends false (Has W.contents writer result.out.writer) world.now schedule.now) }
+    ensures err { IfErr result.ended
+        (λ fault. simulating.Stops fault (has_failed result.out) (Has W.contents writer
+        result.out.writer) world.now schedule.now) }
 {
-    let mut out = WriterOut::new(MarkedWriter::new(writer));
+    let mut out = MarkedWriter::new(writer);
     let ended = sim_text(alloc, world, schedule, &mut out);
-    Printed {
-        out: out.writer,
-        ended,
-    }
+    Printed { out, ended }
 }

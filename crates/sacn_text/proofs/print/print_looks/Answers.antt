@@ -1,4 +1,3 @@
-use Rattle.std.proofs.Common.{◌∙◌, ap}
 use Rattle.sacn_edge.specs.Additions.{Adds}
 use Rattle.sacn_text.specs.declared.marked_writer.MarkedWriter.{MarkedWriter}
 use Rattle.sacn_text.proofs.Prints.{Told, has, simulates, simulated_all}
@@ -6,16 +5,16 @@ use Rattle.sacn_text.proofs.print.print_looks.Goals as goal
 
 pub returns-clause-ok : goal.returns-clause-ok
 returns-clause-ok g c =
-    let contents = λ (m : MarkedWriter g.row.W.Denot). g.W.Write.contents m.writer in
-    let old = ap (λ (m : MarkedWriter g.row.W.Denot). m.writer) c.new-out.ensures.writer ∙ c.new.ensures.writer in
-    let first = c.new-out.result.writer in
-    let last = c.sim_text-ended.new.out.writer in
-    simulated_all {A = λ xs. Adds (Told contents first) (Told contents last) xs} (has g.W.Write.contents (λ m. m.writer) first last c.args.writer old) c.sim_text-ended.result c.sim_text-ended.new.out.failed c.args.world.now c.args.schedule.now c.sim_text-ended.ensures.ok
+    let contents = g.W.Write.contents in
+    let below = λ (m : MarkedWriter g.row.W.Denot). m.writer in
+    let first = c.new-out.result in
+    let last = c.sim_text-ended.new.out in
+    simulated_all {A = λ xs. Adds (Told contents below first) (Told contents below last) xs} (has contents below first last c.args.writer c.new-out.ensures.writer) c.sim_text-ended.result c.sim_text-ended.new.out.failed c.args.world.now c.args.schedule.now c.sim_text-ended.ensures.ok
 
 pub returns-clause-err : goal.returns-clause-err
 returns-clause-err g c =
-    let contents = λ (m : MarkedWriter g.row.W.Denot). g.W.Write.contents m.writer in
-    let old = ap (λ (m : MarkedWriter g.row.W.Denot). m.writer) c.new-out.ensures.writer ∙ c.new.ensures.writer in
-    let first = c.new-out.result.writer in
-    let last = c.sim_text-ended.new.out.writer in
-    simulates {A = λ xs. Adds (Told contents first) (Told contents last) xs} (has g.W.Write.contents (λ m. m.writer) first last c.args.writer old) c.sim_text-ended.result c.sim_text-ended.new.out.failed c.args.world.now c.args.schedule.now c.sim_text-ended.ensures.err
+    let contents = g.W.Write.contents in
+    let below = λ (m : MarkedWriter g.row.W.Denot). m.writer in
+    let first = c.new-out.result in
+    let last = c.sim_text-ended.new.out in
+    simulates {A = λ xs. Adds (Told contents below first) (Told contents below last) xs} (has contents below first last c.args.writer c.new-out.ensures.writer) c.sim_text-ended.result c.sim_text-ended.new.out.failed c.args.world.now c.args.schedule.now c.sim_text-ended.ensures.err

@@ -1,4 +1,3 @@
-use Rattle.std.proofs.Common.{◌∙◌, ap}
 use Rattle.sacn_discovery.specs.Collection.{nothing_known}
 use Rattle.sacn_edge.specs.Additions.{Adds}
 use Rattle.sacn_text.specs.Decoding.{decoded, octets_of}
@@ -8,16 +7,16 @@ use Rattle.sacn_text.proofs.print.print_packets.Goals as goal
 
 pub returns-clause-ok : goal.returns-clause-ok
 returns-clause-ok g c =
-    let contents = λ (m : MarkedWriter g.row.W.Denot). g.W.Write.contents m.writer in
-    let old = ap (λ (m : MarkedWriter g.row.W.Denot). m.writer) c.new-out.ensures.writer ∙ c.new.ensures.writer in
-    let first = c.new-out.result.writer in
-    let last = c.decode_text-ended.new.out.writer in
-    decoded_all {A = λ xs. Adds (Told contents first) (Told contents last) xs} (has g.W.Write.contents (λ m. m.writer) first last c.args.writer old) _ _ c.decode_text-ended.result (decoded nothing_known 0 (octets_of c.args.datagrams.now)).text c.decode_text-ended.ensures.ok
+    let contents = g.W.Write.contents in
+    let below = λ (m : MarkedWriter g.row.W.Denot). m.writer in
+    let first = c.new-out.result in
+    let last = c.decode_text-ended.new.out in
+    decoded_all {A = λ xs. Adds (Told contents below first) (Told contents below last) xs} (has contents below first last c.args.writer c.new-out.ensures.writer) _ _ c.decode_text-ended.result (decoded nothing_known 0 (octets_of c.args.datagrams.now)).text c.decode_text-ended.ensures.ok
 
 pub returns-clause-err : goal.returns-clause-err
 returns-clause-err g c =
-    let contents = λ (m : MarkedWriter g.row.W.Denot). g.W.Write.contents m.writer in
-    let old = ap (λ (m : MarkedWriter g.row.W.Denot). m.writer) c.new-out.ensures.writer ∙ c.new.ensures.writer in
-    let first = c.new-out.result.writer in
-    let last = c.decode_text-ended.new.out.writer in
-    decodes {A = λ xs. Adds (Told contents first) (Told contents last) xs} (has g.W.Write.contents (λ m. m.writer) first last c.args.writer old) c.decode_text-ended.result c.decode_text-ended.new.out.failed (decoded nothing_known 0 (octets_of c.args.datagrams.now)) c.decode_text-ended.ensures.err
+    let contents = g.W.Write.contents in
+    let below = λ (m : MarkedWriter g.row.W.Denot). m.writer in
+    let first = c.new-out.result in
+    let last = c.decode_text-ended.new.out in
+    decodes {A = λ xs. Adds (Told contents below first) (Told contents below last) xs} (has contents below first last c.args.writer c.new-out.ensures.writer) c.decode_text-ended.result c.decode_text-ended.new.out.failed (decoded nothing_known 0 (octets_of c.args.datagrams.now)) c.decode_text-ended.ensures.err
