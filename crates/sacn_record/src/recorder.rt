@@ -3,7 +3,8 @@
 ghost use Rattle.std.specs.Prelude.{◌≡◌, ◌≤◌, length, OnOk, OnErr};
 ghost use Rattle.std.specs.Io.KnownBytes.{Appends};
 ghost use Rattle.sacn_record.specs.Recordings.{beginning, datagram_block, taken_of};
-ghost use Rattle.sacn_record.specs.Writing.{AppendsFront};
+ghost use Rattle.sacn_record.specs.Laws.{Fits};
+ghost use Rattle.sacn_record.specs.Writing.{AppendsFront, Records};
 
 use crate::blocks::{LONGEST_BEGINNING, LONGEST_BLOCK, put_beginning, put_datagram};
 use crate::heard::Heard;
@@ -26,7 +27,7 @@ pub fn begin<W: Write>(writer: &mut W, program: &str) -> io::Result<()>
     write_octets(writer, octets.as_slice())
 }
 
-/// Writes a datagram that was heard.
+/// Writes a datagram that was heard. What a recording was before is then a recording of this datagram too, as its last.
 ///
 /// Errors: those of the writer, which then has the first octets of the datagram's block, however many.
 pub fn record<W: Write>(writer: &mut W, heard: &Heard<'_>) -> io::Result<()>
@@ -35,6 +36,9 @@ pub fn record<W: Write>(writer: &mut W, heard: &Heard<'_>) -> io::Result<()>
         (datagram_block (taken_of heard.now))) }
     ensures front { OnErr result (AppendsFront (W.contents writer.old) (W.contents writer.new)
         (datagram_block (taken_of heard.now))) }
+    ensures recording { Records result (W.contents writer.old) (W.contents writer.new)
+        (taken_of heard.now) }
+    ensures fits { Fits (taken_of heard.now) }
 {
     let mut octets: ArrayVec<u8, LONGEST_BLOCK> = ArrayVec::new();
     put_datagram(&mut octets, heard);
