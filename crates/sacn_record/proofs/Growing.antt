@@ -32,3 +32,10 @@ pub records_put : {E A : Type 0} (result : Result A E) (old new : Option (List �
     → OnErr result (AppendsFront old new octets) → Records result old new taken
 records_put result old new octets taken is all front =
     records result old new taken (subst (λ (xs : List ℕ). OnOk result (Appends old new xs)) is all) (subst (λ (xs : List ℕ). OnErr result (AppendsFront old new xs)) is front)
+
+-- a recording of nothing yet
+pub begun : {E A : Type 0} (result : Result A E) (old new : Option (List ℕ)) (octets program : List ℕ) → octets ≡ beginning program → OnOk result (Appends old new octets) → old ≡ Some []
+    → OnOk result (new ≡ Some (recording_of program []))
+begun (Ok value) old new octets program is all told =
+    grown [] octets new (subst (λ (o : Option (List ℕ)). Appends o new octets) told all) ∙ ap Some (is ∙ sym (append-nil (beginning program)))
+begun (Err error) old new octets program is all told = tt

@@ -10,8 +10,9 @@ pub mod laws;
 mod packets;
 mod put;
 mod recorder;
-#[cfg(test)]
-mod tests;
 
 pub use heard::{Heard, LONGEST_PAYLOAD, LONGEST_PROGRAM};
 pub use recorder::{begin, record};
+
+#[cfg(test)]
+mod tests;

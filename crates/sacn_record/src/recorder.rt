@@ -1,8 +1,8 @@
 //! Recordings written.
 
-ghost use Rattle.std.specs.Prelude.{◌≡◌, ◌≤◌, length, OnOk, OnErr};
+ghost use Rattle.std.specs.Prelude.{◌≡◌, ◌≤◌, [], length, Some, OnOk, OnErr};
 ghost use Rattle.std.specs.Io.KnownBytes.{Appends};
-ghost use Rattle.sacn_record.specs.Recordings.{beginning, datagram_block, taken_of};
+ghost use Rattle.sacn_record.specs.Recordings.{beginning, datagram_block, recording_of, taken_of};
 ghost use Rattle.sacn_record.specs.Laws.{Fits};
 ghost use Rattle.sacn_record.specs.Writing.{AppendsFront, Records};
 
@@ -11,7 +11,7 @@ use crate::heard::Heard;
 use arrayvec::ArrayVec;
 use std::io::{self, ErrorKind, Write};
 
-/// Writes what stands before the first datagram. `program` names the program that records, with its version, in at most
+/// Writes what stands before the first datagram: the recording of none yet. `program` names the program that records, with its version, in at most
 /// `LONGEST_PROGRAM` octets.
 ///
 /// Errors: those of the writer, which then has the first octets of it, however many.
@@ -21,6 +21,8 @@ pub fn begin<W: Write>(writer: &mut W, program: &str) -> io::Result<()>
         (Appends (W.contents writer.old) (W.contents writer.new) (beginning program.now)) }
     ensures front { OnErr result
         (AppendsFront (W.contents writer.old) (W.contents writer.new) (beginning program.now)) }
+    ensures recording { W.contents writer.old ≡ Some []
+        → OnOk result (W.contents writer.new ≡ Some (recording_of program.now [])) }
 {
     let mut octets: ArrayVec<u8, LONGEST_BEGINNING> = ArrayVec::new();
     put_beginning(&mut octets, program);
