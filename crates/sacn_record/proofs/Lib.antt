@@ -10,3 +10,4 @@ pub mod Pieces
 pub mod Heads
 pub mod Reading
 pub mod Opening
+pub mod Growing

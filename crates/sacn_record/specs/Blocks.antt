@@ -34,4 +34,5 @@ interface_body = little16 228 ++ little16 0 ++ little32 0 ++ option 9 (6 ∷ [])
 -- the first interface, the moment with its high half first, octets kept, octets that there were
 unfoldable pub packet_body : ℕ → List ℕ → List ℕ
 packet_body moment packet =
-    little32 0 ++ little32 (moment / 2 ^ 32) ++ little32 (moment % 2 ^ 32) ++ little32 (length packet) ++ little32 (length packet) ++ packet ++ padding (length packet)
+    little32 0 ++ little32 (moment / 2 ^ 32) ++ little32 (moment % 2 ^ 32) ++ little32 (length packet) ++ little32 (length packet)
+    ++ packet ++ padding (length packet)

@@ -25,7 +25,13 @@ recording_of program all = beginning program ++ flat_map datagram_block all
 
 -- what was heard, of the values in it
 abbrev pub sent_of : Heard → Sent
-sent_of h = record { sender = h.sender; sender_port = h.sender_port; destination = h.destination; destination_port = h.destination_port; payload = h.payload.now }
+sent_of h = record {
+  sender = h.sender;
+  sender_port = h.sender_port;
+  destination = h.destination;
+  destination_port = h.destination_port;
+  payload = h.payload.now;
+}
 
 abbrev pub taken_of : Heard → Taken
 taken_of h = record { moment = h.moment; sent = sent_of h }

@@ -2,6 +2,7 @@
 
 ghost use Rattle.std.specs.Prelude.{◌≡◌, ◌-◌, ◌%◌, ◌≤◌, [], length};
 ghost use Rattle.sacn_record.specs.Blocks.{padding as padding_of};
+ghost use Rattle.sacn_record.specs.Laws.{Fits};
 ghost use Rattle.sacn_record.specs.Recordings.{beginning, datagram_block, taken_of};
 
 use crate::heard::{Heard, LONGEST_PAYLOAD, LONGEST_PROGRAM};
@@ -74,7 +75,8 @@ pub fn put_beginning(out: &mut ArrayVec<u8, LONGEST_BEGINNING>, program: &str)
 pub fn put_datagram(out: &mut ArrayVec<u8, LONGEST_BLOCK>, heard: &Heard<'_>)
     requires payload { length heard.now.payload.now ≤ 2048 }
     requires empty { out.old.items ≡ [] }
-    ensures { out.new.items ≡ datagram_block (taken_of heard.now) }
+    ensures block { out.new.items ≡ datagram_block (taken_of heard.now) }
+    ensures fits { Fits (taken_of heard.now) }
 {
     let len = PACKET_HEAD + heard.payload.len();
     let pad = padding(len);

@@ -13,3 +13,6 @@ mod recorder;
 
 pub use heard::{Heard, LONGEST_PAYLOAD, LONGEST_PROGRAM};
 pub use recorder::{begin, record};
+
+#[cfg(test)]
+mod tests;
