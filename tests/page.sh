@@ -244,7 +244,7 @@ verdict "the source has ended" $?
 verdict "each viewer has its own universe" $? "$(grep -o '"levels":".\{8\}' events.1 | head -n 3)"
 
 # As many viewers as there is room for, and one more.
-ask() { printf 'GET %s HTTP/1.1\r\nHost: 127.0.0.1:%s\r\n\r\n' "$2" "$tcp" >&"$1"; }
+ask() { printf 'GET %s HTTP/1.1\r\nHost: 127.0.0.1:%s\r\n\r\n' "$2" "$tcp" >&"$1" 2>/dev/null; }
 lines=()
 for _ in $(seq 32); do
   exec {line}<>"/dev/tcp/127.0.0.1/$tcp"
@@ -257,6 +257,8 @@ done
 verdict "32 viewers" $? "${#lines[@]}"
 answers "a 33rd viewer" 503 $at/events
 answers "a 33rd that asks for the page" 503 $at/
+# (a connection that is reset ends no script)
+trap '' PIPE
 # (many that ask at once are each told so, and closed as it should be: no connection is reset)
 more=()
 for _ in $(seq 60); do
@@ -279,7 +281,7 @@ for line in "${lines[@]:1}"; do exec {line}>&-; done
 slow=()
 for _ in $(seq 200); do
   exec {line}<>"/dev/tcp/127.0.0.1/$tcp"
-  printf 'GET / HTTP/1.1\r\n' >&"$line"
+  printf 'GET / HTTP/1.1\r\n' >&"$line" 2>/dev/null
   slow+=("$line")
 done
 answers "the page beside 200 half heads" 200 -m 3 $at/

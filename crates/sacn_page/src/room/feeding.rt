@@ -70,15 +70,17 @@ impl<C: Connection + Drop, S: Scene + Drop> Room<C, S> {
             return Some(0);
         };
         let place = self.place_of_feed(eater.named).ok()?;
-        if self.is_due(place, eater.seen, now) {
-            if self.make_event(place, eater.named, now).is_err() {
-                self.feeds.clear();
-                return None;
-            }
-            let _ = self.give(key, place, now)?;
-            return Some(MAX_TURN_OCTETS);
+        // (What was made goes first: so each event comes to all before the next one is made, also where turns are long.)
+        let given = self.give(key, place, now)?;
+        if (given > 0) | !self.is_due(place, eater.seen, now) {
+            return Some(given);
         }
-        self.give(key, place, now)
+        if self.make_event(place, eater.named, now).is_err() {
+            self.feeds.clear();
+            return None;
+        }
+        let _ = self.give(key, place, now)?;
+        Some(MAX_TURN_OCTETS)
     }
 
     // Gives the viewer of a key what it is owed of a feed's event. Returns the octets, or None where the viewer goes.
