@@ -1,4 +1,4 @@
-use Rattle.std.proofs.Common.{◌≡◌, ℕ, ◌+◌, length, set, arith, subst, suc}
+use Rattle.std.proofs.Common.{◌≡◌, ℕ, ◌+◌, set, arith, subst, suc}
 use Rattle.sacn_live.specs.Interfaces.{IsServed}
 use Rattle.sacn_live.proofs.Pairing.{DoneTo, none_done, more_done, all_done}
 use Rattle.sacn_live.proofs.interface.serve_interfaces.Goals as goal
