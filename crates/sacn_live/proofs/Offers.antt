@@ -8,12 +8,12 @@ use Rattle.sacn_live.specs.Hearings.{Hearing}
 use Rattle.sacn_live.specs.GatewayRun.{latest_reading}
 use Rattle.sacn_live.specs.Widgets.{widget_text}
 use Rattle.sacn_live.specs.declared.device.Took.{Took}
-use Rattle.sacn_live.specs.declared.device.Took.TheVariants.{Whole, Later, Failed}
+use Rattle.sacn_live.specs.declared.device.Took.TheVariants.{Whole, Failed}
 use Rattle.sacn_live.specs.declared.device.DeviceFault.{DeviceFault}
 use Rattle.sacn_live.specs.declared.device.Offer.{Offer}
 use Rattle.sacn_live.specs.declared.limits.TheConstants.{REFRESH, RETRY}
-use Rattle.sacn_live.specs.Interfaces.{has_passed, is_due, is_due_after, offered, frame_after, latest_of, AreOffers}
-use Rattle.sacn_live.specs.InterfaceLaws.{WorkingDevicesShowTheirPorts, FailedDevicesAreTriedAgain, IsRested, AreRested, FailedDevicesRest, IsOfATurn, AreOfTurns, OffersAreOfTheirPort}
+use Rattle.sacn_live.specs.Interfaces.{has_passed, is_due, is_due_after, offered, frame_after, latest_of}
+use Rattle.sacn_live.specs.InterfaceLaws.{WorkingDevicesShowTheirPorts, FailedDevicesAreTriedAgain, IsRested, AreRested, FailedDevicesRest, AreOfTurns, OffersAreOfTheirPort}
 
 -- an option's value, or another
 abbrev held : Offer → Option Offer → Offer

@@ -1,5 +1,5 @@
 -- Two lists of as many, of which the first pairs are done.
-use Rattle.std.proofs.Common.{◌≡◌, ℕ, zero, suc, ◌+◌, ◌<◌, List, [], ◌∷◌, length, get_or, set, refl, sym, ap, subst, ◌∙◌, arith}
+use Rattle.std.proofs.Common.{◌≡◌, ℕ, zero, suc, ◌<◌, List, [], ◌∷◌, length, get_or, set, refl, subst, arith}
 use Rattle.std.specs.Prelude.{⊤}
 use Rattle.sacn_live.specs.Interfaces.{Pairwise}
 

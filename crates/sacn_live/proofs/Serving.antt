@@ -1,5 +1,5 @@
 -- What interfaces are offered in one turn more.
-use Rattle.std.proofs.Common.{◌≡◌, ℕ, ◌==◌, Bool, true, false, cond, List, [], ◌∷◌, ◌++◌, map, find, drop, get_or, refl, sym, ap, subst, ◌∙◌, arith, length, Option, Some, None}
+use Rattle.std.proofs.Common.{◌≡◌, ℕ, ◌==◌, true, false, cond, List, [], ◌∷◌, ◌++◌, map, find, drop, get_or, refl, sym, ap, subst, ◌∙◌, arith, length, Option, Some, None}
 use Rattle.std.proofs.lemmas.Bool.{eqb-true}
 use Rattle.sacn_node.specs.Setup.{Port, port_numbers}
 use Rattle.sacn_node.specs.Cores.{Node, node_frame, core_slots}
@@ -8,14 +8,14 @@ use Rattle.sacn_edge.specs.declared.port_lines.PortShown.{PortShown}
 use Rattle.sacn_edge.specs.Additions.{Extends}
 use Rattle.sacn_edge.specs.PortLines.{port_after, later}
 use Rattle.sacn_edge.proofs.NodeLemmas.{numbers, Extends-append}
-use Rattle.sacn_live.specs.Hearings.{Hearing, turns_of}
+use Rattle.sacn_live.specs.Hearings.{Hearing}
 use Rattle.sacn_live.specs.GatewayText.{gateway_after}
 use Rattle.sacn_live.specs.GatewayRun.{latest_reading}
 use Rattle.sacn_live.specs.Widgets.{widget_text}
 use Rattle.sacn_live.specs.declared.device.Took.{Took}
 use Rattle.sacn_live.specs.declared.device.Offer.{Offer}
 use Rattle.sacn_live.specs.declared.interface.Interface.{Interface}
-use Rattle.sacn_live.specs.Interfaces.{is_due, offered, latest_of, frame_after, AreOffers, in_time, IsOffered, AreOffered, Pairwise, last_of, frame_in, IsServed}
+use Rattle.sacn_live.specs.Interfaces.{is_due, offered, latest_of, frame_after, in_time, IsOffered, AreOffered, Pairwise, last_of, frame_in, IsServed}
 use Rattle.sacn_live.proofs.Draining.{ports_kept}
 use Rattle.sacn_live.proofs.Turning.{Extends-none}
 
