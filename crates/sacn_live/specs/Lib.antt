@@ -13,3 +13,4 @@ pub mod DeskSenders
 pub mod Widgets
 pub mod MemoryHearings
 pub mod MemoryReceiver
+pub mod MemorySockets

@@ -21,6 +21,7 @@ pub mod laws;
 pub mod limits;
 mod lines;
 pub mod memory;
+pub mod memory_sockets;
 mod notices;
 mod orders;
 mod receiver;
