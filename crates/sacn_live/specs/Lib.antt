@@ -18,3 +18,4 @@ pub mod MemoryHearings
 pub mod MemoryReceiver
 pub mod MemoryDevice
 pub mod Rooms
+pub mod MemorySockets

@@ -26,6 +26,7 @@ pub mod limits;
 mod lines;
 pub mod memory;
 pub mod memory_device;
+pub mod memory_sockets;
 mod notices;
 mod orders;
 mod output;
