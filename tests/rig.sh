@@ -336,6 +336,24 @@ assert sum(passed) > 0 and len(sources) <= 10 * 13, (sources, passed)
 P
 }
 
+# A gateway and a watch that hear nothing say so once, after five seconds; one that hears something doesn't.
+silence_is_said() {
+  setup 25815 1 >"$work/node.toml"
+  "$sacn" gateway "$work/node.toml" --seconds 7 >/dev/null 2>"$work/silent" &
+  local silent=$!
+  "$sacn" watch --port 25817 --plain --seconds 7 </dev/zero >/dev/null 2>"$work/watch" &
+  local watch=$!
+  setup 25816 1 >"$work/lit.toml"
+  : >"$work/lines"
+  "$sacn" gateway "$work/lit.toml" --seconds 7 >"$work/lines" 2>"$work/said" &
+  local lit=$!
+  ready "$work/lines"
+  python3 -c 'import socket, sys; socket.socket(socket.AF_INET, socket.SOCK_DGRAM).sendto(open(sys.argv[1], "rb").read(), ("127.0.0.1", 25816))' "$top/examples/levels.sacn"
+  wait "$silent" "$watch" "$lit"
+  [ "$(grep -c '^nothing heard for 5 s at 0\.0\.0\.0:25815; .*--join DEVICE$' "$work/silent")" = 1 ] &&
+    [ "$(grep -c '^nothing heard for 5 s at 0\.0\.0\.0:25817; ' "$work/watch")" = 1 ] && ! grep -q '^nothing heard' "$work/said"
+}
+
 Ctrl_C_ends_each_universe() {
   show 25808 1 2 >"$work/show.toml"
   python3 - "$sacn" "$work/show.toml" <<'P'
@@ -497,7 +515,7 @@ P
 
 [ -x "$sacn" ] || { echo "not ok the program is built: $sacn isn't there"; exit 1; }
 tests="a_desk_lights_a_gateway a_script_ends_the_desk a_port_is_shared a_stop_drops_the_backlog
-  a_lost_source_goes_dark an_interface_gets_frames a_stuck_interface_costs_itself_alone an_unread_output_holds_nothing_up Ctrl_C_ends_each_universe bad_words_are_named groups_are_printed a_small_stack_is_enough a_host_that_refuses_stops_no_other"
+  a_lost_source_goes_dark an_interface_gets_frames a_stuck_interface_costs_itself_alone an_unread_output_holds_nothing_up silence_is_said Ctrl_C_ends_each_universe bad_words_are_named groups_are_printed a_small_stack_is_enough a_host_that_refuses_stops_no_other"
 for test in $tests; do
   "$test"
   verdict "$test" $?

@@ -2,6 +2,7 @@
 use crate::watch::{receiver_at, watch_end};
 use sacn_commands::ending::Ending;
 use sacn_commands::live::{of_socket, say_hearing};
+use sacn_live::{Lines, Outputs};
 use sacn_page::{Board, MAX_ALARMS, Pages};
 use sacn_watch::{RunningListener, run_watch};
 use std::io::Write;
@@ -26,7 +27,8 @@ pub fn serve<R: AllocGlobal + Net + Clock, E: Write>(
 ) -> Result<(), Ending> {
     let board = Board::new(rt.alloc(), universe, MAX_ALARMS)?;
     let mut pages = of_socket(Pages::bind(rt, rt.alloc(), place, board), place, err)?;
-    hear(rt, address, place, &mut pages, until, err)
+    let outputs = Outputs::new(rt.alloc(), Lines::Plain)?;
+    hear(rt, address, place, &mut pages, until, (&outputs, err))
 }
 
 // Hears for pages that have their place.
@@ -36,9 +38,10 @@ fn hear<R: Net + Clock, E: Write>(
     place: SocketAddrV4,
     pages: &mut Pages<Board>,
     until: u64,
-    err: &mut E,
+    (outputs, err): (&Outputs, &mut E),
 ) -> Result<(), Ending> {
     let mut receiver = receiver_at(rt, address, err)?;
+    receiver.tend(outputs);
     receiver.wait_beside(pages.descriptor());
     say_hearing(address, receiver.room(), err);
     say_page(place, err);

@@ -35,6 +35,9 @@ pub const MOST_WAITING: u64 = 16_384;
 /// The longest wait after a receive that failed.
 pub const FAILED_WAIT: i32 = 100;
 
+/// How long nothing may come from the start on until that is said.
+pub const SILENT_START: u64 = 5000;
+
 /// How long a message that could come often is held back after the one before.
 pub const SAID_EACH: u64 = 1000;
 

@@ -2,13 +2,13 @@
 use crate::clock::RigClock;
 use crate::drops::Drops;
 use crate::input_end::InputEnd;
-use crate::limits::{FAILED_WAIT, PENDING_WAIT};
+use crate::limits::{FAILED_WAIT, PENDING_WAIT, SILENT_START};
 use crate::outputs::Outputs;
 use crate::receiver::{Arrival, Octets4, Receipt, Receiver};
 use crate::sys::{NO_DESCRIPTOR, bind_shared, room_of, wait_readable};
 use sacn_edge::{BUFFER_OCTETS, Clock};
 use std::alloc::{AllocError, Global};
-use std::io::ErrorKind;
+use std::io::{ErrorKind, Write};
 use std::net::{Net, SocketAddr, SocketAddrV4, UdpSocket};
 use std::os::fd::{AsRawFd, RawFd};
 use std::rt::Clock as MachineClock;
@@ -19,6 +19,7 @@ use std::rt::Clock as MachineClock;
 #[derive(Drop)]
 pub struct UdpReceiver<'a, R> {
     socket: UdpSocket,
+    address: SocketAddrV4,
     clock: RigClock<'a, R>,
     // The latest receive failed: the socket may be readable for ever.
     is_failing: bool,
@@ -28,6 +29,8 @@ pub struct UdpReceiver<'a, R> {
     input: InputEnd,
     // What a wait ends at too, where it can be read.
     beside: RawFd,
+    // Something came, or that nothing does was said.
+    is_noted: bool,
     // What is handed on before a wait.
     outputs: Option<&'a Outputs>,
 }
@@ -41,11 +44,13 @@ impl<'a, R: Net + MachineClock> UdpReceiver<'a, R> {
     ) -> Result<UdpReceiver<'a, R>, ErrorKind> {
         Ok(UdpReceiver {
             socket: bind_shared(rt, address)?,
+            address,
             clock,
             is_failing: false,
             sender_port: 0,
             input: InputEnd::ignored(),
             beside: NO_DESCRIPTOR,
+            is_noted: false,
             outputs: None,
         })
     }
@@ -65,7 +70,8 @@ impl<'a, R: Net + MachineClock> UdpReceiver<'a, R> {
         self.beside = descriptor;
     }
 
-    /// From now on each wait hands on what waits for these outputs, and is short while something does.
+    /// From now on each wait hands on what waits for these outputs, and is short while something does. On standard error it is said, once,
+    /// where nothing came in the first five seconds.
     pub fn tend(&mut self, outputs: &'a Outputs) {
         self.outputs = Some(outputs);
     }
@@ -76,6 +82,22 @@ impl<'a, R: Net + MachineClock> UdpReceiver<'a, R> {
         match self.outputs {
             Some(outputs) if outputs.pump() => millis.min(PENDING_WAIT),
             _ => millis,
+        }
+    }
+
+    /// Says once that nothing came since the start.
+    fn tell_silence(&mut self, now: u64) {
+        if self.is_noted || now < SILENT_START {
+            return;
+        }
+        self.is_noted = true;
+        if let Some(outputs) = self.outputs {
+            let [a, b, c, d] = self.address.ip().octets();
+            let _ = writeln!(
+                outputs.err(),
+                "nothing heard for 5 s at {a}.{b}.{c}.{d}:{}; groups are heard where a device joins them: --join DEVICE",
+                self.address.port()
+            );
         }
     }
 
@@ -121,6 +143,7 @@ impl<'a, R: Net + MachineClock> Receiver for UdpReceiver<'a, R> {
             Ok((octets, sender)) => {
                 let (sender, port) = place_of(sender);
                 self.sender_port = port;
+                self.is_noted = true;
                 Arrival::Datagram { octets, sender }
             }
             Err(error) => match error.kind() {
@@ -130,6 +153,9 @@ impl<'a, R: Net + MachineClock> Receiver for UdpReceiver<'a, R> {
             },
         };
         self.is_failing = arrival == Arrival::Failed;
+        if arrival == Arrival::Nothing {
+            self.tell_silence(now);
+        }
         Receipt { now, arrival }
     }
 }
