@@ -1,7 +1,8 @@
 -- What a watch hears, and what its watcher is handed. Lists of turns, receives and calls have the latest first.
 use Rattle.std.specs.Prelude.{◌≡◌, ℕ, ◌<◌, ◌≤◌, ◌-◌, ◌^◌, ◌⊎◌, ⊤, true, List, [], ◌∷◌, ◌++◌, length, map}
 use Rattle.sacn_live.specs.Hearings.{Hearing, Came, None_there, From, Broken}
-use Rattle.sacn_live.specs.GatewayRun.{all_heard, IsWhole}
+use Rattle.sacn_live.specs.GatewayRun.{all_heard, ends_with_datagram}
+use Rattle.sacn_live.specs.declared.limits.TheConstants.{MAX_BURST}
 use Rattle.sacn_monitor.specs.declared.account.Sender.{Sender}
 use Rattle.sacn_monitor.specs.Histories.{Call, Take, Tick}
 
@@ -48,14 +49,18 @@ calls_by (rs ∷ turns) = Tick (reading_by (rs ∷ turns)) ∷ (calls_in rs ++ c
 
 -- ---- where a watch ends
 
+-- a turn takes all that waits: it ends where no datagram is there any more, or at the greatest number of receives
+abbrev pub TakesAll : List Hearing → Type 0
+TakesAll hs = ends_with_datagram hs ≡ true → length hs ≡ MAX_BURST
+
 -- each turn takes all that waits, and ended before the moment
 abbrev pub AreBefore : ℕ → List (List Receive) → Type 0
 AreBefore until [] = ⊤
-AreBefore until (rs ∷ turns) = (reading_by (rs ∷ turns) < until) × IsWhole (heard_in rs) × AreBefore until turns
+AreBefore until (rs ∷ turns) = (reading_by (rs ∷ turns) < until) × TakesAll (heard_in rs) × AreBefore until turns
 
 -- the last turn is the first that ends at the moment or after it, or its listener has ended; or there were as many turns as 64 bits count
 abbrev pub IsWatch : ℕ → Type 0 → List (List Receive) → Type 0
 IsWatch until Ended [] = ⊥
 IsWatch until Ended (rs ∷ turns) =
-    AreBefore until turns × IsWhole (heard_in rs)
+    AreBefore until turns × TakesAll (heard_in rs)
     × ((until ≤ reading_by (rs ∷ turns)) ⊎ (Ended ⊎ (length (rs ∷ turns) ≡ 2 ^ 64 - 1)))

@@ -2,10 +2,9 @@
 
 ghost use Rattle.std.specs.Prelude.{◌≡◌, ◌∷◌, ◌++◌, [], List, IfOk, OnOk, ⊤};
 ghost use Rattle.sacn_edge.specs.Additions.{Extends};
-ghost use Rattle.sacn_live.specs.GatewayRun.{IsWhole};
 ghost use Rattle.sacn_live.specs.Hearings.{in_order, is_datagram};
 ghost use Rattle.sacn_monitor.specs.Histories.{Call, Take, Tick};
-ghost use Rattle.sacn_watch.specs.Watches.{Receive, heard_in, heard_by, reading_after, reading_by, calls_for, calls_in, calls_by, IsWatch};
+ghost use Rattle.sacn_watch.specs.Watches.{Receive, heard_in, heard_by, reading_after, reading_by, calls_for, calls_in, calls_by, IsWatch, TakesAll};
 
 use crate::fault::WatchFault;
 use crate::listener::Listener;
@@ -112,7 +111,7 @@ fn drain<L: Listener, W: Watcher>(
     ensures { (rs : List Receive)
         × Extends (L.Receiver.told listener.old) (L.Receiver.told listener.new)
         (in_order (heard_in rs)) × (heard.new.now ≡ reading_after heard.old.now rs)
-        × OnOk result (IsWhole (heard_in rs) × ((calls : List Call) → W.Handed watcher.old calls
+        × OnOk result (TakesAll (heard_in rs) × ((calls : List Call) → W.Handed watcher.old calls
         → W.Handed watcher.new (calls_in rs ++ calls))) }
 {
     for _count in 0..MAX_BURST {
