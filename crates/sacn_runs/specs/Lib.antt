@@ -2,3 +2,5 @@ pub mod NodeVisits
 pub mod NodeRuns
 pub mod ConsoleRuns
 pub mod UsedConsoles
+pub mod DeskRuns
+pub mod GatewayRuns
