@@ -10,3 +10,4 @@ pub mod Requests
 pub mod DeskRequests
 pub mod ConsoleEvents
 pub mod ConsoleRunning
+pub mod Staging

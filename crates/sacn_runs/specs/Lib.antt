@@ -4,3 +4,4 @@ pub mod ConsoleRuns
 pub mod UsedConsoles
 pub mod DeskRuns
 pub mod GatewayRuns
+pub mod Stage

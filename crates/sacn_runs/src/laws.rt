@@ -5,9 +5,11 @@ ghost use Rattle.sacn_runs.specs.ConsoleRuns.{ConsolesRunAsInAWorld};
 ghost use Rattle.sacn_runs.specs.UsedConsoles.{SendsGoOnByTheList};
 ghost use Rattle.sacn_runs.specs.DeskRuns.{DesksRunAsInAWorld};
 ghost use Rattle.sacn_runs.specs.GatewayRuns.{GatewaysRunAsInAWorld};
+ghost use Rattle.sacn_runs.specs.Stage.{Stage};
 
 use sacn_console::laws::steps_are_the_list;
 use sacn_live::laws::interfaces_show_their_ports;
+use sacn_world::laws::headline;
 
 /// A node in its loop is a node of a world. From any world on, over any events that it accepts: where the packets that come to
 /// one of its nodes, what comes that is none, and the looks at its ports are, moment by moment, those of a loop's turns, the
@@ -49,5 +51,25 @@ pub fn desks_run_as_in_a_world()
 pub fn gateways_run_as_in_a_world()
     ensures { GatewaysRunAsInAWorld }
 {
+    interfaces_show_their_ports();
+}
+
+/// The stage: from a console's order to the octets of an interface. Of every world of consoles with CIDs of their own, and every
+/// list of events that it accepts (each names a console, node and datagram that there is, no data packet comes twenty or more sends
+/// behind the newest of its stream and life that was delivered to the node, or after one of a later life, and no noise is a packet),
+/// with the answers of its run, the [`headline`](sacn_world::laws::headline) holds, and over any parts of the run:
+///
+/// - where a console is asked exactly what a desk's rounds ask, and isn't started anew, the octets that it sends in the world are
+///   those that [`sacn_live::run_desk`] hands over, so each of its datagrams that is merged was handed over;
+/// - where what comes to a node is exactly what comes in the turns of [`sacn_live::run_gateway`], each packet that an interface is
+///   offered, whatever its device takes, is that of the frame with which a look of the run at its own port was answered at the
+///   packet's moment, and this frame is the merge of exactly the live packets that the node held then, each really sent by the
+///   console with that CID;
+/// - at two such looks at which the same places of the same sources are shown, any two slots that ranges fill from the same slot of
+///   that universe stand with equal levels in the packets of the two interfaces.
+pub fn stage()
+    ensures { Stage }
+{
+    headline();
     interfaces_show_their_ports();
 }
