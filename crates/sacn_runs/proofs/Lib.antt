@@ -4,6 +4,7 @@ pub mod GatewayTurns
 pub mod NodeEvents
 pub mod NodeRunning
 pub mod Places
+pub mod Growing
 pub mod Lights
 pub mod GatewayRunning
 pub mod Requests

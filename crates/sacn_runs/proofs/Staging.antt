@@ -1,12 +1,16 @@
 -- A run of a world lights its stage.
-use Rattle.std.proofs.Common.{◌≡◌, ℕ, zero, suc, ◌<◌, true, false, List, [], ◌∷◌, ◌++◌, map, filter, drop, length, get_or, Some, refl, sym, ap, subst, ◌∙◌, arith, slice_get}
+use Rattle.std.proofs.Common.{◌≡◌, ℕ, zero, suc, ◌<◌, true, false, List, [], ◌∷◌, ◌++◌, map, filter, take, drop, length, get_or, Some, refl, sym, ap, subst, ◌∙◌, arith, append_assoc, slice_get}
 use Rattle.std.specs.Prelude.{Contains, if◌then◌else◌}
-use Rattle.std.proofs.lemmas.Option.{same_Some}
+use Rattle.std.proofs.lemmas.Option.{same_Some, slice_get-get_or}
+use Rattle.std.proofs.lemmas.List.{take-append-drop}
+use Rattle.sacn_framing.specs.FramingText.{nothing}
+use Rattle.sacn_framing.specs.PacketText.{data_text}
 use Rattle.sacn_sources.specs.Order.{same}
 use Rattle.sacn_node.specs.Setup.{Port}
 use Rattle.sacn_schedule.specs.Cids.{Desk}
 use Rattle.sacn_schedule.specs.declared.event.Event.{Event}
 use Rattle.sacn_schedule.specs.declared.event.Event.TheVariants as event
+use Rattle.sacn_live.specs.DeskSends.{desk_sends}
 use Rattle.sacn_live.specs.InterfaceLaws.{OffersAreOfTheirPort}
 use Rattle.sacn_live.specs.Widgets.{widget_text}
 use Rattle.sacn_live.specs.declared.device.Offer.{Offer}
@@ -22,9 +26,10 @@ use Rattle.sacn_world.proofs.Ran.{ran_after}
 use Rattle.sacn_world.proofs.Reaching.{first_of_run, joined, run_answers}
 use Rattle.sacn_world.proofs.Sources.{same-itself}
 use Rattle.sacn_runs.specs.ConsoleRuns.{octets_of_packet, octets_from}
-use Rattle.sacn_runs.specs.Stage.{Part, slot_in, sent_during, IsLit, DesksSendWhatTheirConsolesSend, WhatIsMergedWasHandedOver, EveryPacketOfAnInterfaceIsLit, EqualHoldingsLightEqualSlots, HoldsOfAStage, Stage}
+use Rattle.sacn_runs.specs.Stage.{Part, slot_in, sent_during, IsLit, DesksSendWhatTheirConsolesSend, WhatIsLitWasHandedOver, EveryPacketOfAnInterfaceIsLit, EqualHoldingsLightEqualSlots, HoldsOfAStage, Stage}
 use Rattle.sacn_runs.proofs.ConsoleRunning.{desks_run}
 use Rattle.sacn_runs.proofs.GatewayRunning.{gateways_run}
+use Rattle.sacn_runs.proofs.Growing.{sent_stays, stands_behind}
 use Rattle.sacn_runs.proofs.Places.{stands_left, both_right}
 
 -- ---- a part of a run
@@ -109,11 +114,35 @@ module _ (shows : List Desk) (setups : List (List Port)) (events : List Event) (
       let r = desks_run shows setups d.part.before d.part.during m.part d.i d.console d.rounds apart m.is_part d.is_console d.asked in
       ap (λ (v : World). octets_from d.console.show.cid (drop (length (reached shows setups d.part.before).sent) v.sent)) (sym m.left) ∙ r.sent
 
-  handed_over : WhatIsMergedWasHandedOver shows setups events run.answers
-  handed_over d k x e own =
+  abbrev end : World
+  end = reached shows setups events
+
+  -- what was sent up to an event, or up to the end of a part, stands there at the end
+  at_event : (j k : ℕ) (x : Sent) → slice_get (reached shows setups (take j events)).sent k ≡ Some x → slice_get end.sent k ≡ Some x
+  at_event j k x there =
+      ap (λ es. slice_get (reached shows setups es).sent k) (sym (take-append-drop j events))
+      ∙ ap (λ (v : World). slice_get v.sent k) (joined begun (take j events) (drop j events))
+      ∙ sent_stays (reached shows setups (take j events)) k x there (drop j events)
+
+  at_part : (p : Part events) (k : ℕ) (x : Sent) → slice_get (reached shows setups (p.before ++ p.during)).sent k ≡ Some x → slice_get end.sent k ≡ Some x
+  at_part p k x there =
+      ap (λ es. slice_get (reached shows setups es).sent k) (p.joined ∙ sym (append_assoc p.before p.during p.later))
+      ∙ ap (λ (v : World). slice_get v.sent k) (joined begun (p.before ++ p.during) p.later)
+      ∙ sent_stays (reached shows setups (p.before ++ p.during)) k x there p.later
+
+  handed_over : WhatIsLitWasHandedOver shows setups events run.answers
+  handed_over i port o a u y l d own sent =
+      let v = reached shows setups (d.part.before ++ d.part.during) in
       let cid = d.console.show.cid in
-      subst (λ os. Contains os (octets_of_packet x.packet)) (desks_send d)
-      (found cid (sent_during shows setups events run.answers d.part) k x e (ap (same cid) own ∙ same-itself cid))
+      let s = l.sent_so in
+      let x = get_or v.sent s.number s.datagram in
+      let there = slice_get-get_or v.sent s.number s.datagram sent.1 in
+      let is : x ≡ s.datagram = same_Some x s.datagram (sym (at_part d.part s.number x there) ∙ at_event a.look.index s.number s.datagram s.is_datagram) in
+      let at = stands_behind (length (reached shows setups d.part.before).sent) v.sent s.number x sent.0 there in
+      let mine : same cid x.source ≡ true = ap (λ (z : Sent). same cid z.source) is ∙ ap (same cid) (s.source ∙ own) ∙ same-itself cid in
+      let says : octets_of_packet x.packet ≡ data_text l.data_held nothing = ap (λ (z : Sent). octets_of_packet z.packet) is ∙ ap octets_of_packet s.says in
+      subst (Contains (desk_sends d.console.core d.rounds)) says
+      (subst (λ os. Contains os (octets_of_packet x.packet)) (desks_send d) (found cid (sent_during shows setups events run.answers d.part) at.0 x at.1 mine))
 
   lit_by : (i port : ℕ) (o : Offer) (frame : List ℕ) (j : ℕ) (looked : Looked events run.answers j i port o.now frame) → o.packet ≡ widget_text frame → IsLit shows setups events run.answers i port o
   lit_by i port o frame j looked packet =
@@ -145,7 +174,7 @@ module _ (shows : List Desk) (setups : List (List Port)) (events : List Event) (
       lit_by g.i port o l.frame f.0 (record { event = f.1; answer = f.2 }) l.packet
 
   all_hold : OffersAreOfTheirPort → HoldsOfAStage shows setups events run.answers
-  all_hold of_turns = record { world = holds; desks = desks_send; handed = handed_over; lit = lit of_turns; alike = alike }
+  all_hold of_turns = record { world = holds; desks = desks_send; lit = lit of_turns; handed = handed_over; alike = alike }
 
 pub stage_holds : Headline → OffersAreOfTheirPort → Stage
 stage_holds headline of_turns shows setups events run apart h = all_hold shows setups events run apart h (headline.holds shows setups events run apart h) of_turns

@@ -1,5 +1,8 @@
 -- The stage: what a run of a world says of its desks, of its gateways and of the octets of their interfaces.
 use Rattle.std.specs.Prelude.{◌≡◌, ℕ, ◌<◌, ◌≤◌, List, ◌++◌, map, take, drop, length, get_or, slice_get, Contains, Option, Some}
+use Rattle.sacn_framing.specs.FramingText.{nothing}
+use Rattle.sacn_framing.specs.PacketText.{data_text}
+use Rattle.sacn_slots.specs.Merge.{Shown}
 use Rattle.sacn_universe.specs.declared.limits.TheConstants.{SLOTS}
 use Rattle.sacn_node.specs.Setup.{Port, port_numbers}
 use Rattle.sacn_node.specs.Cores as core
@@ -19,12 +22,12 @@ use Rattle.sacn_world.specs.Members.{SameShown}
 use Rattle.sacn_world.specs.Worlds.{new_console, new_world, Apart}
 use Rattle.sacn_world.specs.Runs.{Ran, ran}
 use Rattle.sacn_world.specs.Laws.{reached, ShowTheSame}
-use Rattle.sacn_world.specs.Origins.{IsMergedFrame}
+use Rattle.sacn_world.specs.Origins.{IsHeldLayer, IsMergedFrame, held_after_expiry}
 use Rattle.sacn_world.specs.Looks.{LookOf, sent_at, held_at_look}
 use Rattle.sacn_world.specs.Headline.{HoldsOfARun}
 use Rattle.sacn_runs.specs.NodeVisits.{visits}
 use Rattle.sacn_runs.specs.NodeRuns.{seen_node}
-use Rattle.sacn_runs.specs.ConsoleRuns.{requests, octets_of_packet, octets_from}
+use Rattle.sacn_runs.specs.ConsoleRuns.{requests, octets_from}
 use Rattle.sacn_runs.specs.DeskRuns.{desk_calls}
 use Rattle.sacn_runs.specs.GatewayRuns.{gateway_visits}
 
@@ -64,6 +67,10 @@ module _ (shows : List Desk) (setups : List (List Port)) (events : List Event) (
   abbrev pub sent_during : Part events → List Sent
   sent_during part = drop (length (reached shows setups part.before).sent) (reached shows setups (part.before ++ part.during)).sent
 
+  -- datagram k of the world is one of them
+  abbrev pub WasSentDuring : Part events → ℕ → Type 0
+  WasSentDuring part k = (length (reached shows setups part.before).sent ≤ k) × (k < length (reached shows setups (part.before ++ part.during)).sent)
+
   -- the core with which a gateway begins its part
   abbrev pub first_of : GatewayInARun → core.Node
   first_of g = seen_node (reached shows setups g.part.before).sent g.node
@@ -83,17 +90,19 @@ module _ (shows : List Desk) (setups : List (List Port)) (events : List Event) (
   abbrev pub DesksSendWhatTheirConsolesSend : Type 0
   DesksSendWhatTheirConsolesSend = (d : DeskInARun) → octets_from d.console.show.cid (sent_during d.part) ≡ desk_sends d.console.core d.rounds
 
-  -- .. so each datagram that came from its console then, as those that are merged, was handed over by the desk
-  abbrev pub WhatIsMergedWasHandedOver : Type 0
-  WhatIsMergedWasHandedOver =
-      (d : DeskInARun) (k : ℕ) (x : Sent) → slice_get (sent_during d.part) k ≡ Some x → x.source ≡ d.console.show.cid →
-      Contains (desk_sends d.console.core d.rounds) (octets_of_packet x.packet)
-
   -- each packet that an interface of a gateway is offered, whatever its device takes, is lit by its own port
   abbrev pub EveryPacketOfAnInterfaceIsLit : Type 0
   EveryPacketOfAnInterfaceIsLit =
       (g : GatewayInARun) (port : ℕ) (latest : Option Offer) (offers : List Offer) (o : Offer) →
       AreOffers (first_of g) g.senders port latest g.turns offers → Contains offers o → IsLit g.i port o
+
+  -- and each live packet that is merged in it, where the console of a desk sent it during the desk's part, is octet by octet a
+  -- datagram that the desk handed over
+  abbrev pub WhatIsLitWasHandedOver : Type 0
+  WhatIsLitWasHandedOver =
+      (i port : ℕ) (o : Offer) (a : IsLit i port o) (u : ℕ) (y : Shown)
+      (l : IsHeldLayer shows (reached shows setups (take a.look.index events)).sent u (held_after_expiry u o.now a.merged.node) y) (d : DeskInARun) →
+      l.hold.source ≡ d.console.show.cid → WasSentDuring d.part l.sent_so.number → Contains (desk_sends d.console.core d.rounds) (data_text l.data_held nothing)
 
   -- equal holdings light equal slots: in the packets of two interfaces, of one gateway or two
   abbrev pub EqualHoldingsLightEqualSlots : Type 0
@@ -108,8 +117,8 @@ module _ (shows : List Desk) (setups : List (List Port)) (events : List Event) (
     -- over, equal holdings show equal slots, and the twenty-first in a row is held
     pub world : HoldsOfARun shows setups events answers
     pub desks : DesksSendWhatTheirConsolesSend
-    pub handed : WhatIsMergedWasHandedOver
     pub lit : EveryPacketOfAnInterfaceIsLit
+    pub handed : WhatIsLitWasHandedOver
     pub alike : EqualHoldingsLightEqualSlots
 
 -- Of every world of consoles with CIDs of their own, and every list of events that it accepts

@@ -60,11 +60,12 @@ pub fn gateways_run_as_in_a_world()
 /// with the answers of its run, the [`headline`](sacn_world::laws::headline) holds, and over any parts of the run:
 ///
 /// - where a console is asked exactly what a desk's rounds ask, and isn't started anew, the octets that it sends in the world are
-///   those that [`sacn_live::run_desk`] hands over, so each of its datagrams that is merged was handed over;
+///   those that [`sacn_live::run_desk`] hands over;
 /// - where what comes to a node is exactly what comes in the turns of [`sacn_live::run_gateway`], each packet that an interface is
 ///   offered, whatever its device takes, is that of the frame with which a look of the run at its own port was answered at the
 ///   packet's moment, and this frame is the merge of exactly the live packets that the node held then, each really sent by the
 ///   console with that CID;
+/// - each of these, where a desk's console sent it in the desk's part, is octet by octet a datagram that the desk handed over;
 /// - at two such looks at which the same places of the same sources are shown, any two slots that ranges fill from the same slot of
 ///   that universe stand with equal levels in the packets of the two interfaces.
 pub fn stage()
