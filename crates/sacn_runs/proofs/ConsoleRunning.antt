@@ -1,24 +1,27 @@
--- A run of a world is the loop of each of its consoles.
-use Rattle.std.proofs.Common.{◌≡◌, ℕ, ◌+◌, List, [], ◌∷◌, ◌++◌, map, filter, length, drop, Option, Some, None, refl, sym, ap, subst, ◌∙◌, arith, append_assoc, append-nil, slice_get}
+-- A run of a world is the loop, or the desk, of each of its consoles.
+use Rattle.std.proofs.Common.{◌≡◌, ℕ, ◌+◌, List, [], ◌∷◌, ◌++◌, map, filter, length, drop, Some, refl, sym, ap, subst, ◌∙◌, append_assoc, append-nil, slice_get}
 use Rattle.std.proofs.lemmas.Option.{same_Some}
 use Rattle.std.proofs.lemmas.List.{drop_at, map-append}
 use Rattle.std.proofs.lemmas.List.Elements.{filter-append}
 use Rattle.sacn_sources.specs.Order.{same}
-use Rattle.sacn_console.specs.Core.{Core}
 use Rattle.sacn_console.specs.Runs.{Call}
+use Rattle.sacn_node.specs.Setup.{Port}
+use Rattle.sacn_schedule.specs.Cids.{Desk}
 use Rattle.sacn_schedule.specs.declared.event.Event.{Event}
-use Rattle.sacn_edge.specs.ConsoleSends.{Script, core_after}
 use Rattle.sacn_edge.specs.SendsByList.{run_calls}
+use Rattle.sacn_world.specs.declared.answer.Answer.{Answer}
 use Rattle.sacn_world.specs.declared.console.Console.{Console}
 use Rattle.sacn_world.specs.Streams.{Sent}
-use Rattle.sacn_world.specs.Worlds.{World, step, left_by, with_core, WorldOk}
+use Rattle.sacn_world.specs.Worlds.{World, left_by, with_core, new_console, Apart, WorldOk}
 use Rattle.sacn_world.specs.Runs.{Ran, ran}
 use Rattle.sacn_world.specs.Laws.{reached}
 use Rattle.sacn_world.proofs.Reaching.{reached_ok, first_of_run}
 use Rattle.sacn_world.proofs.Runs.{step_ok}
-use Rattle.sacn_runs.specs.ConsoleRuns.{requests_by, requests, octets_of_packet, octets_from, refused_with, refused_over, RunsAsInItsLoop, ConsolesRunAsInAWorld}
+use Rattle.sacn_runs.specs.ConsoleRuns.{requests_by, requests, octets_of_packet, octets_from, refused_over, ConsolesRunAsInAWorld}
+use Rattle.sacn_runs.specs.DeskRuns.{desk_calls, DesksRunAsInAWorld}
 use Rattle.sacn_runs.proofs.Requests.{Requests, over, gave, refused_count, over-append, gave-append, refused-append, loop_over, loop_gave, loop_refused}
-use Rattle.sacn_runs.proofs.ConsoleEvents.{Did, event_did}
+use Rattle.sacn_runs.proofs.DeskRequests.{desk_over, desk_gave, desk_refused}
+use Rattle.sacn_runs.proofs.ConsoleEvents.{event_did}
 
 -- the rest of a list of calls is one
 calls_left : (xs ys : Requests) (calls : List Call) → xs ++ ys ≡ map Some calls → (left : List Call) × (ys ≡ map Some left)
@@ -77,20 +80,43 @@ module _ (i : ℕ) where
             ∙ sym (refused-append rs (requests i es) c.core);
       }
 
-pub consoles_run : ConsolesRunAsInAWorld
-consoles_run shows setups earlier events run i c script readings apart h here all =
+-- console i of world w, over events that were answered so and left world v, did what these calls make of its core
+record Asked (w v : World) (i : ℕ) (c : Console) (events : List Event) (answers : List Answer) (calls : List Call) : Type 0 where
+  pub sent : octets_from c.show.cid (drop (length w.sent) v.sent) ≡ gave (map Some calls) c.core
+  pub refused : refused_over i events answers ≡ refused_count (map Some calls) c.core
+  pub left : (d : Console) → slice_get v.consoles i ≡ Some d → d.core ≡ over (map Some calls) c.core
+
+calls_run :
+    (shows : List Desk) (setups : List (List Port)) (earlier events : List Event) (run : Ran) (i : ℕ) (c : Console) (calls : List Call) → Apart (map new_console shows) →
+    ran (reached shows setups earlier) events ≡ Some run → slice_get (reached shows setups earlier).consoles i ≡ Some c → requests i events ≡ map Some calls →
+    Asked (reached shows setups earlier) run.world i c events run.answers calls
+calls_run shows setups earlier events run i c calls apart h here all =
     let w = reached shows setups earlier in
-    let r = run_did i w (reached_ok shows setups earlier apart) c here events run h (run_calls script readings) all in
+    let r = run_did i w (reached_ok shows setups earlier apart) c here events run h calls all in
     record {
       sent =
           ap (λ sent. octets_from c.show.cid (drop (length w.sent) sent)) r.grown
           ∙ ap (octets_from c.show.cid) (drop_at w.sent r.more (length w.sent) refl)
           ∙ r.octets
-          ∙ ap (λ rs. gave rs c.core) all
-          ∙ loop_gave c.core script readings;
-      refused = r.count ∙ ap (λ rs. refused_count rs c.core) all ∙ loop_refused c.core script readings;
-      left = λ d e.
-          ap (λ (x : Console). x.core) (same_Some d _ (sym e ∙ r.there))
-          ∙ ap (λ rs. over rs c.core) all
-          ∙ loop_over c.core script readings;
+          ∙ ap (λ rs. gave rs c.core) all;
+      refused = r.count ∙ ap (λ rs. refused_count rs c.core) all;
+      left = λ d e. ap (λ (x : Console). x.core) (same_Some d _ (sym e ∙ r.there)) ∙ ap (λ rs. over rs c.core) all;
+    }
+
+pub consoles_run : ConsolesRunAsInAWorld
+consoles_run shows setups earlier events run i c script readings apart h here all =
+    let r = calls_run shows setups earlier events run i c (run_calls script readings) apart h here all in
+    record {
+      sent = r.sent ∙ loop_gave c.core script readings;
+      refused = r.refused ∙ loop_refused c.core script readings;
+      left = λ d e. r.left d e ∙ loop_over c.core script readings;
+    }
+
+pub desks_run : DesksRunAsInAWorld
+desks_run shows setups earlier events run i c rounds apart h here all =
+    let r = calls_run shows setups earlier events run i c (desk_calls rounds) apart h here all in
+    record {
+      sent = r.sent ∙ desk_gave c.core rounds;
+      refused = r.refused ∙ desk_refused c.core rounds;
+      left = λ d e. r.left d e ∙ desk_over c.core rounds;
     }

@@ -1,7 +1,14 @@
 pub mod Visits
 pub mod Turns
+pub mod GatewayTurns
 pub mod NodeEvents
 pub mod NodeRunning
+pub mod Places
+pub mod Growing
+pub mod Lights
+pub mod GatewayRunning
 pub mod Requests
+pub mod DeskRequests
 pub mod ConsoleEvents
 pub mod ConsoleRunning
+pub mod Staging

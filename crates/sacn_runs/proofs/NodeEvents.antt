@@ -1,13 +1,11 @@
 -- One event of a world: what it makes of a node is what its visits make of the node's core.
-use Rattle.std.proofs.Common.{◌≡◌, ℕ, max, true, false, List, [], ◌∷◌, ◌++◌, map, Option, Some, None, Ok, Err, refl, sym, ap, subst, ◌∙◌, slice_get}
-use Rattle.std.specs.Prelude.{slice_set, option_map, ◌==◌, if◌then◌else◌}
+use Rattle.std.proofs.Common.{◌≡◌, ℕ, max, Bool, true, false, List, [], ◌∷◌, ◌++◌, Option, Some, None, Ok, Err, refl, sym, ap, subst, ◌∙◌, slice_get}
+use Rattle.std.specs.Prelude.{option_map, ◌==◌, if◌then◌else◌}
 use Rattle.std.proofs.lemmas.Bool.{eqb-true, eqb-false}
-use Rattle.std.proofs.lemmas.Option.{same_Some, slice_get-map, none-some as none_some}
 use Rattle.sacn_framing.specs.declared.packet.Packet.{Packet}
 use Rattle.sacn_framing.specs.declared.packet.Packet.TheVariants.{DataPacket, PagePacket, SyncPacket}
 use Rattle.sacn_framing.specs.PacketReading.{reading_packet}
 use Rattle.sacn_console.specs.declared.command.Command.{Command}
-use Rattle.sacn_console.specs.Shows.{ShowContent}
 use Rattle.sacn_console.specs.Lines as line
 use Rattle.sacn_node.specs.Setup.{Port, universes}
 use Rattle.sacn_node.specs.Cores.{Core, new_core, core_at, core_slots, node_frame}
@@ -22,17 +20,18 @@ use Rattle.sacn_world.specs.declared.fault.WorldFault.{WorldFault}
 use Rattle.sacn_world.specs.declared.console.Console.{Console}
 use Rattle.sacn_world.specs.Streams.{Sent}
 use Rattle.sacn_world.specs.Nodes.{Node, node_of, node_at, frame_of, seen_core}
-use Rattle.sacn_world.specs.Worlds.{World, Outcome, Step, with_console, with_node, order_step, poll_by, poll_step, sent_by, restart_console, come, arrive, deliver_step, answer_to_look, look_step, hear_noise, noise_step, restart_node, step, left_by, NodeOk, WorldOk}
+use Rattle.sacn_world.specs.Worlds.{World, Outcome, Step, with_node, order_step, poll_by, poll_step, sent_by, restart_console, come, arrive, deliver_step, answer_to_look, look_step, hear_noise, noise_step, restart_node, step, left_by, NodeOk, WorldOk}
 use Rattle.sacn_world.proofs.All.{all_get}
 use Rattle.sacn_world.proofs.Changes.{set_same, set_other}
 use Rattle.sacn_world.proofs.Growth.{node_kept}
 use Rattle.sacn_world.proofs.Keeping.{new_seen}
 use Rattle.sacn_world.proofs.NodeSteps.{at_seen, slots_seen}
-use Rattle.sacn_world.proofs.Origin.{Origin}
 use Rattle.sacn_world.proofs.Replies.{numbers_agree}
 use Rattle.sacn_runs.specs.NodeVisits.{Visit, Came, Asked, Began, packet_sent, visits_by}
 use Rattle.sacn_runs.specs.NodeRuns.{moment_with, frame_told, line_with}
-use Rattle.sacn_runs.proofs.Visits.{Showing, node_with, core_after_visit, asked, shown_by, show_all, came_moment}
+use Rattle.sacn_runs.specs.GatewayRuns.{port_look, looks_by}
+use Rattle.sacn_runs.proofs.Visits.{Showing, node_with, core_after_visit, show_all, came_moment}
+use Rattle.sacn_runs.proofs.GatewayTurns.{looked_in}
 
 abbrev answer_of : Step → Answer
 answer_of (Ok o) = o.answer
@@ -203,3 +202,32 @@ module _ (w : World) (ok : WorldOk w) (i : ℕ) (ports : List Port) (own : (n : 
   event_made (event.RestartConsole j first) o h = left_as _ o h (console_anew j first (slice_get w.consoles j))
   event_made (event.RestartNode j) o h = anew_made j o h
   event_made (event.Noise j m octets) o h = noise_made j m (reading_packet octets.items) o h
+
+  -- ---- what a look is answered
+
+  came_looks : (b : Bool) (m : ℕ) (p : Option Packet) → [] ≡ looked_in ports (if b then Came m p ∷ [] else []) s
+  came_looks true m p = refl
+  came_looks false m p = refl
+
+  began_looks : (b : Bool) → [] ≡ looked_in ports (if b then Began ∷ [] else []) s
+  began_looks true = refl
+  began_looks false = refl
+
+  look_looks : (j port m : ℕ) (o : Outcome) → look_step w j port m (slice_get w.nodes j) ≡ Ok o → looks_by i (event.Look j port m) o.answer ≡ looked_in ports (if j == i then Asked m port ∷ [] else []) s
+  look_looks j port m o h =
+      elim (j == i) as (λ b. (j == i) ≡ b → (if b then port_look port m (frame_told o.answer) ∷ [] else []) ≡ looked_in ports (if b then Asked m port ∷ [] else []) s) [
+        | true ↦ λ e.
+            let l = looked port m o (slice_get w.nodes i) refl (ap (λ z. look_step w z port m (slice_get w.nodes z)) (sym (eqb-true j i e)) ∙ h) in
+            ap (λ f. port_look port m f ∷ []) l.1
+        | false ↦ λ e. refl
+      ] refl
+
+  pub event_looked : (e : Event) (o : Outcome) → step w e ≡ Ok o → looks_by i e o.answer ≡ looked_in ports (visits_by w.sent i e) s
+  unfolding step
+  event_looked (event.Order j m k) o h = refl
+  event_looked (event.Poll j m) o h = refl
+  event_looked (event.Deliver k j m) o h = came_looks (j == i) m (packet_sent w.sent k)
+  event_looked (event.Look j port m) o h = look_looks j port m o h
+  event_looked (event.RestartConsole j first) o h = refl
+  event_looked (event.RestartNode j) o h = began_looks (j == i)
+  event_looked (event.Noise j m octets) o h = came_looks (j == i) m None

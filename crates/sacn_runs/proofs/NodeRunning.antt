@@ -8,10 +8,9 @@ use Rattle.sacn_node.specs.Cores.{Core}
 use Rattle.sacn_node.specs.Cores as numbers
 use Rattle.sacn_schedule.specs.Cids.{Desk}
 use Rattle.sacn_schedule.specs.declared.event.Event.{Event}
-use Rattle.sacn_edge.specs.NodeText.{Turn, FrameLine, node_after, lines_after, text_of}
-use Rattle.sacn_world.specs.declared.answer.Answer.{Answer}
+use Rattle.sacn_edge.specs.NodeText.{Turn, node_after, lines_after, text_of}
 use Rattle.sacn_world.specs.Nodes.{Node, seen_core}
-use Rattle.sacn_world.specs.Worlds.{World, step, left_by, new_console, new_world, Apart, WorldOk}
+use Rattle.sacn_world.specs.Worlds.{World, step, left_by, new_world, WorldOk}
 use Rattle.sacn_world.specs.Runs.{Ran, ran}
 use Rattle.sacn_world.specs.Laws.{reached}
 use Rattle.sacn_world.proofs.Keeping.{new_seen}
@@ -20,23 +19,26 @@ use Rattle.sacn_world.proofs.Ran.{ran_after}
 use Rattle.sacn_world.proofs.Reaching.{reached_ok, joined, first_of_run}
 use Rattle.sacn_world.proofs.Runs.{step_ok}
 use Rattle.sacn_runs.specs.NodeVisits.{visits_by, visits, loop_visits}
-use Rattle.sacn_runs.specs.NodeRuns.{moment_with, line_with, lines_shown, seen_node, RunsAs, NodesRunAsInAWorld}
+use Rattle.sacn_runs.specs.NodeRuns.{moment_with, lines_shown, seen_node, RunsAs, NodesRunAsInAWorld}
+use Rattle.sacn_runs.specs.GatewayRuns.{looks}
 use Rattle.sacn_runs.proofs.Visits.{Showing, node_with, show_all, show_all-append}
 use Rattle.sacn_runs.proofs.Turns.{node_kept, loop_so}
-use Rattle.sacn_runs.proofs.NodeEvents.{Sees, event_made}
+use Rattle.sacn_runs.proofs.GatewayTurns.{looked_in, looked_in-append}
+use Rattle.sacn_runs.proofs.NodeEvents.{Sees, event_made, event_looked}
 
 module _ (shows : List ShowContent) (setups : List (List Port)) (i : ℕ) (ports : List Port) (there : slice_get setups i ≡ Some ports) where
-  own : (w : World) → Origin shows setups w → (n : Node) → slice_get w.nodes i ≡ Some n → n.ports ≡ ports
+  pub own : (w : World) → Origin shows setups w → (n : Node) → slice_get w.nodes i ≡ Some n → n.ports ≡ ports
   own w o n e =
       same_Some n.ports ports
       (sym (slice_get-map (λ (x : Node). x.ports) w.nodes i ∙ ap (option_map (λ (x : Node). x.ports)) e) ∙ ap (λ xs. slice_get xs i) o.ports_kept ∙ there)
 
-  record Run (w : World) (events : List Event) (run : Ran) (s : Showing) : Type 0 where
-    lines : lines_shown i s.core.moment events run.answers s.lines ≡ (show_all ports (visits w i events) s).lines
-    sees : Sees run.world i (show_all ports (visits w i events) s).core
+  pub record Run (w : World) (events : List Event) (run : Ran) (s : Showing) : Type 0 where
+    pub lines : lines_shown i s.core.moment events run.answers s.lines ≡ (show_all ports (visits w i events) s).lines
+    pub looks_are : looks i events run.answers ≡ looked_in ports (visits w i events) s
+    pub sees : Sees run.world i (show_all ports (visits w i events) s).core
 
-  run_made : (w : World) → WorldOk w → Origin shows setups w → (events : List Event) (run : Ran) → ran w events ≡ Some run → (s : Showing) → Sees w i s.core → Run w events run s
-  run_made w ok o [] run h s sees = record { lines = refl; sees = subst (λ (r : Ran). Sees r.world i s.core) (same_Some _ run h) sees }
+  pub run_made : (w : World) → WorldOk w → Origin shows setups w → (events : List Event) (run : Ran) → ran w events ≡ Some run → (s : Showing) → Sees w i s.core → Run w events run s
+  run_made w ok o [] run h s sees = record { lines = refl; looks_are = refl; sees = subst (λ (r : Ran). Sees r.world i s.core) (same_Some _ run h) sees }
   run_made w ok o (e ∷ es) run h s sees =
       let f = first_of_run w e es run h in
       let left : left_by w (step w e) ≡ f.outcome.world = ap (left_by w) f.is_outcome in
@@ -53,6 +55,12 @@ module _ (shows : List ShowContent) (setups : List (List Port)) (i : ℕ) (ports
             ∙ ap (λ m. lines_shown i m es f.rest.answers s'.lines) made.moment
             ∙ rest.lines
             ∙ ap (λ (x : Showing). x.lines) all;
+        looks_are =
+            ap (λ answers. looks i (e ∷ es) answers) (sym f.answers)
+            ∙ ap (λ ls. ls ++ looks i es f.rest.answers) (event_looked w ok i ports (own w o) s sees e f.outcome f.is_outcome)
+            ∙ ap (λ ls. looked_in ports (visits_by w.sent i e) s ++ ls) rest.looks_are
+            ∙ ap (λ v. looked_in ports (visits_by w.sent i e) s ++ looked_in ports (visits v i es) s') (sym left)
+            ∙ sym (looked_in-append ports (visits_by w.sent i e) (visits (left_by w (step w e)) i es) s);
         sees = subst (λ (v : World). Sees v i (show_all ports (visits w i (e ∷ es)) s).core) f.world (subst (λ (x : Showing). Sees f.rest.world i x.core) all rest.sees);
       }
 

@@ -7,8 +7,8 @@ use Rattle.sacn_console.specs.declared.command.ConsoleFault.{ConsoleFault}
 use Rattle.sacn_console.specs.Lines.{Datagram}
 use Rattle.sacn_console.specs.Core.{Core, at, after, given, taken, answer, due, after_command, after_poll}
 use Rattle.sacn_console.specs.Due.{Life}
-use Rattle.sacn_console.specs.Runs.{Call, Order, Poll, Answer, Ordered, Polled, core_by, answers, answers_by_list, StepsAreTheList}
-use Rattle.sacn_edge.specs.ConsoleSends.{Script, lines_at, reader_after, ordered, core_after, commanded, refusals, octets_of, sent_at, console_sends, refused_by}
+use Rattle.sacn_console.specs.Runs.{Call, Order, Poll, core_by, answers, answers_by_list, StepsAreTheList}
+use Rattle.sacn_edge.specs.ConsoleSends.{Script, lines_at, reader_after, core_after, commanded, refusals, octets_of, sent_at, console_sends, refused_by}
 use Rattle.sacn_edge.specs.SendsByList.{turn_calls, run_calls, given_in, refused_in}
 use Rattle.sacn_runs.specs.UsedConsoles.{used, SendsGoOnByTheList}
 

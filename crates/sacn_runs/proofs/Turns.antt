@@ -1,7 +1,6 @@
 -- The visits of a loop's turns make the lines that it writes.
-use Rattle.std.proofs.Common.{◌≡◌, ℕ, List, [], ◌∷◌, ◌++◌, map, Option, Some, None, Ok, Err, refl, sym, ap, ◌∙◌}
+use Rattle.std.proofs.Common.{◌≡◌, ℕ, List, [], ◌∷◌, map, Ok, Err, refl, sym, ap, ◌∙◌}
 use Rattle.sacn_framing.specs.PacketReading.{reading_packet}
-use Rattle.sacn_framing.specs.declared.packet.Packet.{Packet}
 use Rattle.sacn_node.specs.Setup.{Port, port_numbers}
 use Rattle.sacn_node.specs.Cores.{Core, Node, core_at, node_frame}
 use Rattle.sacn_node.specs.Readings.{Reading, after_reading}
@@ -9,20 +8,20 @@ use Rattle.sacn_node.specs.Calls.{core_step, step}
 use Rattle.sacn_edge.specs.Hearings.{Heard, Silence, Octets, Fault}
 use Rattle.sacn_edge.specs.NodeText.{Turn, FrameLine, call_at, node_after, with_frame, with_ports, lines_after}
 use Rattle.sacn_edge.proofs.Settling.{turn_settled}
-use Rattle.sacn_runs.specs.NodeVisits.{Visit, Came, Asked, packet_read, packet_heard, turn_visits, loop_visits}
-use Rattle.sacn_runs.proofs.Visits.{Showing, node_with, core_after_visit, asked, shown_by, show_all, show_all-append}
+use Rattle.sacn_runs.specs.NodeVisits.{Asked, packet_read, packet_heard, turn_visits, loop_visits}
+use Rattle.sacn_runs.proofs.Visits.{Showing, node_with, core_after_visit, asked, show_all, show_all-append}
 
 read_so : (now : ℕ) (r : Reading) (c : Core) → core_after_visit now (packet_read r) c ≡ after_reading r now c
 read_so now (Ok p) c = refl
 read_so now (Err fault) c = refl
 
-heard_so : (now : ℕ) (heard : Heard) (c : Core) → core_after_visit now (packet_heard heard) c ≡ core_step (call_at now heard) c
+pub heard_so : (now : ℕ) (heard : Heard) (c : Core) → core_after_visit now (packet_heard heard) c ≡ core_step (call_at now heard) c
 heard_so now Silence c = refl
 heard_so now (Octets octets) c = read_so now (reading_packet octets) c
 heard_so now Fault c = refl
 
 -- asking for frames leaves a core as it is, where all that is lost is dropped
-asked_so : (ports : List Port) (now : ℕ) (numbers : List ℕ) (c : Core) (ls : List FrameLine) → core_at now c ≡ c → show_all ports (map (λ number. Asked now number) numbers) (record { core = c; lines = ls }) ≡ record { core = c; lines = with_ports (node_with ports c) numbers ls }
+pub asked_so : (ports : List Port) (now : ℕ) (numbers : List ℕ) (c : Core) (ls : List FrameLine) → core_at now c ≡ c → show_all ports (map (λ number. Asked now number) numbers) (record { core = c; lines = ls }) ≡ record { core = c; lines = with_ports (node_with ports c) numbers ls }
 asked_so ports now [] c ls settled = refl
 asked_so ports now (p ∷ ps) c ls settled =
     ap (λ (d : Core). show_all ports (map (λ number. Asked now number) ps) (asked ports p d ls)) settled
