@@ -85,7 +85,7 @@ impl Loops {
 
     /// An interface of a port, whose device answers these words and then `whole`.
     fn interface(&mut self, step: &mut Step<'_>) -> Result<(), StepFault> {
-        let port = step.number_to(255) as u8;
+        let port = step.octet();
         let mut answers = Vec::new(step.alloc());
         for word in step.words()? {
             push(&mut answers, answer_of(word)?)?;
