@@ -250,14 +250,15 @@ memory=$(sed -n 's/^VmRSS:[^0-9]*\([0-9]*\).*/\1/p' "/proc/$page/status")
 [ "${memory:-0}" -gt 0 ] && [ "$memory" -lt 20000 ]
 verdict "memory stays small" $? "$memory kB"
 
-# As many viewers as there is room for, none of which asks, and one more.
+# Many connections that ask for nothing keep nobody out, and the one that waited longest is told that there was no room.
 lines=()
-for _ in $(seq 32); do
+for _ in $(seq 200); do
   exec {line}<>"/dev/tcp/127.0.0.1/$tcp" || break
   lines+=("$line")
 done
-sleep 0.3
-answers "a 33rd viewer" 503 "$at/state"
+answers "the state beside 200 who don't ask" 200 -m 10 "$at/state"
+[[ $(timeout 5 cat <&"${lines[0]}" 2>cat.err) == "HTTP/1.1 503 "* ]]
+verdict "the one that waited longest is told" $? "$(cat cat.err)"
 for line in "${lines[@]}"; do exec {line}>&-; done
 for _ in $(seq 100); do [ "$(curl -s -m 10 -o body -w '%{http_code}' "$at/state?at=0")" = 200 ] && break; sleep 0.1; done
 answers "the state once they went" 200 "$at/state?at=0"
