@@ -356,6 +356,7 @@ fi
 port=25821
 # Whether a recording has begun.
 records() {
+  : >tcpdump.err
   timeout 20 tcpdump -i lo -U -w rig.pcap "udp port $port" 2>tcpdump.err &
   recorder=$!
   started+=("$recorder")
