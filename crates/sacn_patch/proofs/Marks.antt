@@ -1,14 +1,13 @@
 -- A universe's frame by the marks of its entries.
-use Rattle.std.proofs.Common.{◌≡◌, ℕ, suc, zero, ◌+◌, ◌-◌, ◌<◌, ◌≤◌, Bool, true, false, ◌&&◌, ◌==◌, nat_le, List, [], ◌∷◌, ◌++◌, length, set, get_or, map, drop, refl, sym, ap, subst, ◌∙◌, arith, inl, inr}
+use Rattle.std.proofs.Common.{◌≡◌, ℕ, suc, zero, ◌+◌, ◌-◌, ◌<◌, ◌≤◌, Bool, true, false, ◌&&◌, ◌==◌, nat_le, List, [], ◌∷◌, ◌++◌, length, set, get_or, drop, refl, sym, ap, subst, ◌∙◌, arith, inl, inr}
 use Rattle.std.proofs.lemmas.Bool.{cases_eq}
 use Rattle.std.proofs.lemmas.Bool.Decides.{nat_tests}
-use Rattle.std.proofs.lemmas.List.{length-append, get_or-map, get_or_append_left, get_or-append_right}
+use Rattle.std.proofs.lemmas.List.{length-append, get_or_append_left, get_or-append_right}
 use Rattle.sacn_patch.specs.declared.part.Part.{Part}
 use Rattle.sacn_patch.specs.declared.part.LevelByte.TheVariants.{High}
-use Rattle.sacn_patch.specs.declared.flat.Mark.{Mark}
-use Rattle.sacn_patch.specs.Parts.{AreOctets}
+use Rattle.sacn_patch.specs.Parts.{AreOctets, octet_place}
 use Rattle.sacn_patch.specs.Patch.{Place}
-use Rattle.sacn_patch.specs.Flat.{Row, AllBelow, AllFrom, IsStart, AreStarts, mark_of}
+use Rattle.sacn_patch.specs.Flat.{Row, AllBelow, AllFrom, IsStart, AreStarts}
 use Rattle.sacn_patch.proofs.Fills.{written, of_universe}
 use Rattle.sacn_patch.proofs.Rows.{step_taken, step_skipped, skipped, outside, higher_out}
 
@@ -22,26 +21,21 @@ never_both : (b : Bool) → (b && false) ≡ false
 never_both true = refl
 never_both false = refl
 
-module _ (level : ℕ → ℕ) (octets slots : List ℕ) (u place : ℕ) (row : Row) (d : Place × Part) (m : Mark) (lt : place < length row) (is : m ≡ mark_of (get_or row place d)) where
+module _ (level : ℕ → ℕ) (octets slots : List ℕ) (u place : ℕ) (row : Row) (d : Place × Part) (slot octet : ℕ) (lt : place < length row) (is : ((get_or row place d).0.1 ≡ slot) × (octet_place (get_or row place d).1 ≡ octet)) where
   abbrev here : Place × Part
   here = get_or row place d
 
-  slot_is : m.slot ≡ here.0.1
-  slot_is = ap (λ (x : Mark). x.slot) is
-
-  -- a slot of the universe shows the octet at its mark
-  pub mark_taken : AreOctets level octets → here.0.0 ≡ u → (nat_le 1 m.slot && nat_le m.slot 512) ≡ true → written level (of_universe u (drop (place + 1) row)) (set slots (m.slot - 1) (get_or octets m.octet 0)) ≡ written level (of_universe u (drop place row)) slots
-  mark_taken are same inside =
-      ap (λ (x : Mark). written level (of_universe u (drop (place + 1) row)) (set slots (x.slot - 1) (get_or octets x.octet 0))) is
+  -- a slot of the universe shows the octet at its place
+  pub entry_taken : AreOctets level octets → here.0.0 ≡ u → (nat_le 1 slot && nat_le slot 512) ≡ true → written level (of_universe u (drop (place + 1) row)) (set slots (slot - 1) (get_or octets octet 0)) ≡ written level (of_universe u (drop place row)) slots
+  entry_taken are same inside =
+      ap (λ (s : ℕ). written level (of_universe u (drop (place + 1) row)) (set slots (s - 1) (get_or octets octet 0))) (sym is.0)
+      ∙ ap (λ (n : ℕ). written level (of_universe u (drop (place + 1) row)) (set slots (here.0.1 - 1) (get_or octets n 0))) (sym is.1)
       ∙ ap (λ (n : ℕ). written level (of_universe u (drop (place + 1) row)) (set slots (here.0.1 - 1) n)) (are here.1)
-      ∙ sym (ap (λ (es : Row). written level es slots) (step_taken u place row d lt (in_it here.0.0 u here.0.1 same (ap (λ (s : ℕ). nat_le 1 s && nat_le s 512) (sym slot_is) ∙ inside))))
+      ∙ sym (ap (λ (es : Row). written level es slots) (step_taken u place row d lt (in_it here.0.0 u here.0.1 same (ap (λ (s : ℕ). nat_le 1 s && nat_le s 512) is.0 ∙ inside))))
 
   -- no other number is a slot
-  pub mark_skipped : (nat_le 1 m.slot && nat_le m.slot 512) ≡ false → written level (of_universe u (drop (place + 1) row)) slots ≡ written level (of_universe u (drop place row)) slots
-  mark_skipped out = ap (λ (es : Row). written level es slots) (step_skipped u place row d lt (ap (λ (b : Bool). here.0.0 == u && b) (ap (λ (s : ℕ). nat_le 1 s && nat_le s 512) (sym slot_is) ∙ out) ∙ never_both (here.0.0 == u)))
-
-pub mark_at : (row : Row) (marks : List Mark) (place : ℕ) (d : Place × Part) (blank : Mark) → marks ≡ map mark_of row → place < length row → get_or marks place blank ≡ mark_of (get_or row place d)
-mark_at row marks place d blank is lt = ap (λ (ms : List Mark). get_or ms place blank) is ∙ get_or-map mark_of row place d blank lt
+  pub entry_skipped : (nat_le 1 slot && nat_le slot 512) ≡ false → written level (of_universe u (drop (place + 1) row)) slots ≡ written level (of_universe u (drop place row)) slots
+  entry_skipped out = ap (λ (es : Row). written level es slots) (step_skipped u place row d lt (ap (λ (b : Bool). here.0.0 == u && b) (ap (λ (s : ℕ). nat_le 1 s && nat_le s 512) is.0 ∙ out) ∙ never_both (here.0.0 == u)))
 
 -- between the starts of a universe and of the next one all entries are the universe's
 pub between : (u start end place : ℕ) (row : Row) (d : Place × Part) → AllFrom u row start → AllBelow (u + 1) row end → end ≤ length row → start ≤ place → place < end → (get_or row place d).0.0 ≡ u

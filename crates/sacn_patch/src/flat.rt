@@ -1,7 +1,7 @@
 //! A patch in one row.
-ghost use Rattle.std.specs.Prelude.{◌≡◌, ◌<◌, ◌≤◌, ◌&&◌, nat_le, ℕ, length, slice_index_or, map, get_or, true, IfOk};
+ghost use Rattle.std.specs.Prelude.{◌≡◌, ◌+◌, ◌*◌, ◌<◌, ◌≤◌, ◌&&◌, nat_le, ℕ, length, slice_index_or, map, get_or, true, IfOk};
 ghost use Rattle.sacn_universe.specs.declared.limits.TheConstants.{SLOTS};
-ghost use Rattle.sacn_patch.specs.Flat.{Row, IsRowOfTree, AllBelow, AllFrom, IsStart, AreStarts, is_within, mark_of};
+ghost use Rattle.sacn_patch.specs.Flat.{Row, IsRowOfTree, AllBelow, AllFrom, IsStart, AreStarts, AreMarks, IsMark, is_within, mark_of, with_octet, with_run};
 
 use crate::level::{LevelOf, RestOf};
 use crate::part::{Part, byte_of, octet_place};
@@ -9,13 +9,20 @@ use sacn_universe::SLOTS;
 use std::alloc::{AllocError, Global};
 use std::marker::Model;
 
-/// What a slot shows, for those that have the octets of all levels in one row.
+/// What a slot shows, for those that have the octets of all levels in one row, and how the entries
+/// behind it go on, so that where channels are patched in a row a run of slots is one copy.
 #[derive(Clone, Copy)]
 pub(crate) struct Mark {
     pub(crate) slot: u16,
+    // So many entries, this one the first, show on slots one after another octets a step apart.
+    pub(crate) run: u8,
+    pub(crate) step: u8,
     // Where the octet stands in that row.
     pub(crate) octet: u32,
 }
+
+// A shorter run is written entry by entry.
+const LEAST_RUN: u8 = 8;
 
 /// A patch that takes no more slots: its entries stand in one row, so that a frame costs little more
 /// than its levels.
@@ -33,8 +40,7 @@ pub struct FlatPatch {
 
 impl Model for FlatPatch {
     ghost use Rattle.sacn_patch.specs.Patch.{Patched, patch_code};
-    ghost use Rattle.std.specs.Prelude.{◌≡◌, map};
-    ghost use Rattle.sacn_patch.specs.Flat.{IsRowOfTree, AreStarts, mark_of};
+    ghost use Rattle.sacn_patch.specs.Flat.{IsRowOfTree, AreStarts, AreMarks};
 
     ghost Value = { Patched };
 
@@ -44,7 +50,7 @@ impl Model for FlatPatch {
 
     ghost view = { λ p. from_entries p.row.items };
 
-    ghost invariant = { λ p. IsRowOfTree p.row.items × (p.marks.items ≡ map mark_of p.row.items) × AreStarts p.row.items p.starts.items };
+    ghost invariant = { λ p. IsRowOfTree p.row.items × AreMarks p.row.items p.marks.items × AreStarts p.row.items p.starts.items };
 }
 
 impl FlatPatch {
@@ -57,7 +63,8 @@ impl FlatPatch {
         requires { IsRowOfTree row.items }
         ensures { IfOk result (λ flat. flat ≡ from_entries row.items) }
     {
-        let marks = marks_of(alloc, &row)?;
+        let mut marks = marks_of(alloc, &row)?;
+        join_runs(&mut marks);
         let starts = starts_of(alloc, &row)?;
         Ok(FlatPatch { row, marks, starts })
     }
@@ -81,7 +88,9 @@ impl FlatPatch {
     }
 
     /// Writes the slots of a universe as `fill` does, of levels whose octets stand in one row: those of
-    /// channel c at 2 c and 2 c + 1, the high one first, and none or 0 outside the channels.
+    /// channel c at 2 c and 2 c + 1, the high one first, and none or 0 outside the channels. Where slots
+    /// one after another show octets one after another, or every second one, it copies them at once,
+    /// which writes what the entries one by one do.
     pub fn fill_octets(&self, universe: u16, octets: &[u8], slots: &mut [u8; SLOTS])
         ensures { (level : ℕ → ℕ) → AreOctets level octets.now
             → slots.new ≡ universe_frame level self.now universe }
@@ -92,13 +101,11 @@ impl FlatPatch {
         let marks = self.marks.as_slice();
         let start = start_in(starts, row, universe as u32);
         let end = start_in(starts, row, universe as u32 + 1);
-        for place in start..end {
+        let mut place = start;
+        while place < end {
             // The marks are those of this row.
             let _row = row;
-            let mark = marks[place];
-            if is_slot(mark.slot) {
-                slots[mark.slot as usize - 1] = octet_at(octets, mark.octet);
-            }
+            place += write_some(octets, marks[place], end - place, slots);
         }
     }
 
@@ -150,6 +157,69 @@ fn octet_at(octets: &[u8], place: u32) -> u8
     }
 }
 
+// Writes what some entries show, that of the mark the first, and says how many: those of a long run
+// at once, else one.
+fn write_some(octets: &[u8], mark: Mark, most: usize, slots: &mut [u8; SLOTS]) -> usize
+    requires run { 1 ≤ mark.run }
+    requires most { 1 ≤ most }
+    ensures some { 1 ≤ result }
+    ensures run { result ≤ mark.run }
+    ensures most { result ≤ most }
+    ensures written { slots.new
+        ≡ with_run octets.now mark.step result mark.slot mark.octet slots.old }
+{
+    if mark.run >= LEAST_RUN && is_slot(mark.slot) {
+        let count = (mark.run as usize).min(most);
+        let slot = mark.slot as usize;
+        let octet = mark.octet as usize;
+        if slot + count <= SLOTS + 1 {
+            if mark.step == 1 && octet + count <= octets.len() {
+                copy_octets(octets, octet, count, slot, slots);
+                return count;
+            }
+            if mark.step == 2 && octet + 2 * count <= octets.len() {
+                copy_high_octets(octets, octet, count, slot, slots);
+                return count;
+            }
+        }
+    }
+    write_one(octets, mark, slots);
+    1
+}
+
+// Writes what the entry of the mark shows.
+fn write_one(octets: &[u8], mark: Mark, slots: &mut [u8; SLOTS])
+    ensures { slots.new ≡ with_octet octets.now mark.slot mark.octet slots.old }
+{
+    if is_slot(mark.slot) {
+        slots[mark.slot as usize - 1] = octet_at(octets, mark.octet);
+    }
+}
+
+// Writes so many octets on slots one after another.
+fn copy_octets(octets: &[u8], octet: usize, count: usize, slot: usize, slots: &mut [u8; SLOTS])
+    requires slot { 1 ≤ slot }
+    requires slots { slot + count ≤ SLOTS + 1 }
+    requires octets { octet + count ≤ length octets.now }
+    ensures { slots.new ≡ with_run octets.now 1 count slot octet slots.old }
+{
+    for done in 0..count {
+        slots[slot - 1 + done] = octets[octet + done];
+    }
+}
+
+// Writes every second of so many octets on slots one after another.
+fn copy_high_octets(octets: &[u8], octet: usize, count: usize, slot: usize, slots: &mut [u8; SLOTS])
+    requires slot { 1 ≤ slot }
+    requires slots { slot + count ≤ SLOTS + 1 }
+    requires octets { octet + 2 * count ≤ length octets.now }
+    ensures { slots.new ≡ with_run octets.now 2 count slot octet slots.old }
+{
+    for done in 0..count {
+        slots[slot - 1 + done] = octets[octet + 2 * done];
+    }
+}
+
 // The mark of each entry.
 fn marks_of(alloc: Global, row: &[((u16, u16), Part)]) -> Result<Vec<Mark>, AllocError>
     ensures { IfOk result (λ v. v.items ≡ map mark_of row.now) }
@@ -158,10 +228,47 @@ fn marks_of(alloc: Global, row: &[((u16, u16), Part)]) -> Result<Vec<Mark>, Allo
     for &(at, part) in row {
         marks.push(Mark {
             slot: at.1,
+            run: 1,
+            step: 0,
             octet: octet_place(part),
         })?;
     }
     Ok(marks)
+}
+
+// Has each mark tell of its run, from the last one back, so that each is looked at once.
+fn join_runs(marks: &mut Vec<Mark>)
+    ensures { (row : Row) → AreMarks row marks.old.items → AreMarks row marks.new.items }
+{
+    for behind in 1..marks.len() {
+        let place = marks.len() - 1 - behind;
+        marks[place] = joined(marks[place], marks[place + 1]);
+    }
+}
+
+// The mark of the entry before the next one, with the next one's run where it is in step with it.
+fn joined(mark: Mark, next: Mark) -> Mark
+    ensures { (row : Row) (place : ℕ) → IsMark row place mark
+        → IsMark row (place + 1) next → IsMark row place result }
+{
+    if next.slot as u32 != mark.slot as u32 + 1 {
+        return mark;
+    }
+    if next.octet < mark.octet || 255 < next.octet - mark.octet {
+        return mark;
+    }
+    let step = (next.octet - mark.octet) as u8;
+    let run = if next.step == step {
+        next.run.saturating_add(1)
+    } else {
+        2
+    };
+    Mark {
+        slot: mark.slot,
+        run,
+        step,
+        octet: mark.octet,
+    }
 }
 
 // Where each universe begins in the row, up to the one after the greatest.

@@ -1,11 +1,11 @@
-use Rattle.std.proofs.Common.{rules, ◌≡◌, ◌<◌, ◌+◌, ◌-◌, List, ℕ, length, replicate, set, map, drop, sym, ap, ◌∙◌, arith}
+use Rattle.std.proofs.Common.{rules, ◌≡◌, ◌<◌, ◌≤◌, ◌+◌, List, ℕ, length, get_or, replicate, drop, ap, ◌∙◌, arith}
 use Rattle.std.specs.FinMap.{from_entries}
 use Rattle.sacn_patch.specs.Patch.{Patched, universe_frame}
-use Rattle.sacn_patch.specs.Flat.{Row, mark_of}
+use Rattle.sacn_patch.specs.Flat.{Row, IsMark}
 use Rattle.sacn_patch.proofs.Fills.{written, of_universe}
 use Rattle.sacn_patch.proofs.Rows.{skip_below, row_written}
-use Rattle.sacn_patch.proofs.Marks.{no_entry, mark_at, mark_taken, mark_skipped, between, none_from, from_later}
-use Rattle.sacn_patch.proofs.flat.FlatPatch.fill_octets.Goals.{then-is_slot, else-is_slot}
+use Rattle.sacn_patch.proofs.Marks.{no_entry, between, none_from, from_later}
+use Rattle.sacn_patch.proofs.Runs.{no_mark, fewer, run_written, mark_there}
 use Rattle.sacn_patch.proofs.flat.FlatPatch.fill_octets.Goals as goal
 
 pub loop-place-init : goal.loop-place-init
@@ -21,20 +21,18 @@ pub loop-place-preserved : goal.loop-place-preserved
 loop-place-preserved c =
     let row = c.as_slice-row.result.now in
     let place = c.loop-place.place in
-    let marks = c.as_slice-marks.ensures.value ∙ c.self.invariant.1 ∙ ap (λ (es : Row). map mark_of es) (sym c.as_slice-row.ensures.value) in
+    let count = c.write_some-place.result in
+    let mark = get_or c.as_slice-marks.result.now place no_mark in
     let within : place < length row = omega (arith, c.loop-place-test.true, c.start_in-end.ensures.2) in
-    let is = mark_at row c.as_slice-marks.result.now place no_entry _ marks within in
-    let same = between c.args.universe c.start_in-start.result c.start_in-end.result place row no_entry c.start_in-start.ensures.1 c.start_in-end.ensures.0 c.start_in-end.ensures.2 c.loop-place.invariant.least c.loop-place-test.true in
+    let is : IsMark row place mark = mark_there c.self.inside.row.items row c.self.inside.marks.items c.as_slice-marks.result.now place no_mark c.self.invariant.1 c.as_slice-row.ensures.value c.as_slice-marks.ensures.value within in
+    let in_step = fewer row mark.step mark.run count place mark.slot mark.octet c.write_some-place.ensures.run is.1 in
+    let same = λ (k : ℕ) (le : place ≤ k) (lt : k < place + count). between c.args.universe c.start_in-start.result c.start_in-end.result k row no_entry c.start_in-start.ensures.1 c.start_in-end.ensures.0 c.start_in-end.ensures.2 (omega (arith, c.loop-place.invariant.least, le)) (omega (arith, lt, c.write_some-place.ensures.most, c.loop-place-test.true)) in
     record {
       least = omega (arith, c.loop-place.invariant.least);
-      told = λ level are. (elim c.if-is_slot.branch [
-        | then-is_slot w ↦
-            ap (λ (slots : List ℕ). written level (of_universe c.args.universe (drop (place + 1) row)) slots) (w.slots-is ∙ ap (λ (n : ℕ). set c.loop-place.slots (_ - 1) n) w.octet_at.ensures)
-            ∙ mark_taken level c.args.octets.now c.loop-place.slots c.args.universe place row no_entry _ within is are same (sym c.is_slot.ensures.slot ∙ w.if-is_slot.true)
-        | else-is_slot w ↦
-            ap (λ (slots : List ℕ). written level (of_universe c.args.universe (drop (place + 1) row)) slots) w.slots-is
-            ∙ mark_skipped level c.args.octets.now c.loop-place.slots c.args.universe place row no_entry _ within is (sym c.is_slot.ensures.slot ∙ w.if-is_slot.false)
-      ]) ∙ c.loop-place.invariant.told level are;
+      told = λ level are.
+          ap (λ (slots : List ℕ). written level (of_universe c.args.universe (drop (place + count) row)) slots) c.write_some-place.ensures.written
+          ∙ run_written level c.args.octets.now c.args.universe row are mark.step count place mark.slot mark.octet c.loop-place.slots no_entry in_step same
+          ∙ c.loop-place.invariant.told level are;
     }
 
 pub returns : goal.returns
