@@ -1,6 +1,7 @@
 //! What is kept of one source of pages.
 
-ghost use Rattle.std.specs.Prelude.{◌≡◌, ◌≤◌, ◌+◌, ◌<◌, ◌==◌, length, replicate, IfOk, None};
+ghost use Rattle.std.specs.Prelude.{◌≡◌, ◌≤◌, ◌+◌, ◌-◌, ◌^◌, ◌<◌, ◌==◌, ◌↔◌, length, min, replicate, IfOk, IsTrue, None};
+ghost use Rattle.std.specs.List.Sorted.{IsStrictlyIncreasing};
 ghost use Rattle.std.specs.Option.{option_map};
 ghost use Rattle.sacn_discovery.specs.SourceViews.{pages_of};
 ghost use Rattle.sacn_discovery.specs.Collection.{first_page, one_more, is_fresh, ascending, joined, list_in};
@@ -98,11 +99,28 @@ fn no_pages(alloc: Global, count: usize) -> Result<Vec<Option<Vec<u16>>>, AllocE
     Ok(pages)
 }
 
-// The numbers of all pages in their order, where every page is there.
+// How many numbers all pages have, where every page is there.
+fn count_of(pages: &[Option<Vec<u16>>]) -> Option<usize>
+    ensures { result ≡ option_map (λ numbers. min (length numbers) (2 ^ 64 - 1)) (joined (pages_of pages.now)) }
+{
+    let mut count: usize = 0;
+    for i in 0..pages.len() {
+        match &pages[i] {
+            Some(numbers) => count = count.saturating_add(numbers.len()),
+            None => return None,
+        }
+    }
+    Some(count)
+}
+
+// The numbers of all pages in their order, where every page is there. Room is taken once, for all of them.
 fn all_numbers(alloc: Global, pages: &[Option<Vec<u16>>]) -> Result<Option<Vec<u16>>, AllocError>
     ensures { IfOk result (λ found. option_map (λ v. v.items) found ≡ joined (pages_of pages.now)) }
 {
-    let mut numbers = Vec::new(alloc);
+    let Some(count) = count_of(pages) else {
+        return Ok(None);
+    };
+    let mut numbers = Vec::with_capacity(alloc, count)?;
     for i in 0..pages.len() {
         match &pages[i] {
             Some(more) => numbers.extend_from_slice(more.as_slice())?,
@@ -112,12 +130,26 @@ fn all_numbers(alloc: Global, pages: &[Option<Vec<u16>>]) -> Result<Option<Vec<u
     Ok(Some(numbers))
 }
 
-// Ascending, each once.
+// Ascending, each once. Numbers that rise already, as those of pages do, are left as they are.
 fn in_order(numbers: Vec<u16>) -> Vec<u16>
     ensures { result.items ≡ ascending numbers.items }
 {
+    if rises(numbers.as_slice()) {
+        return numbers;
+    }
     let mut numbers = numbers;
     numbers.sort_unstable();
     numbers.dedup();
     numbers
+}
+
+// Whether each number is below the next one. It looks at all of them, so that it can look at many at once.
+fn rises(numbers: &[u16]) -> bool
+    ensures { IsTrue result ↔ IsStrictlyIncreasing numbers.now }
+{
+    let mut rises = true;
+    for i in 1..numbers.len() {
+        rises &= numbers[i - 1] < numbers[i];
+    }
+    rises
 }
