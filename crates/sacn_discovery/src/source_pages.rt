@@ -1,10 +1,10 @@
 //! What is kept of one source of pages.
 
-ghost use Rattle.std.specs.Prelude.{◌≡◌, ◌≤◌, ◌+◌, ◌-◌, ◌^◌, ◌<◌, ◌==◌, ◌↔◌, length, min, replicate, IfOk, IsTrue, None};
+ghost use Rattle.std.specs.Prelude.{◌≡◌, ◌≤◌, ◌+◌, ◌-◌, ◌^◌, ◌<◌, ◌==◌, ◌↔◌, length, min, replicate, IfOk, IsTrue, None, Some};
 ghost use Rattle.std.specs.List.Sorted.{IsStrictlyIncreasing};
 ghost use Rattle.std.specs.Option.{option_map};
 ghost use Rattle.sacn_discovery.specs.SourceViews.{pages_of};
-ghost use Rattle.sacn_discovery.specs.Collection.{first_page, one_more, is_fresh, ascending, joined, list_in};
+ghost use Rattle.sacn_discovery.specs.Collection.{first_page, one_more, is_fresh, ascending, joined, list_in, other_than};
 
 use crate::limits::FORGOTTEN_AFTER;
 use std::alloc::{AllocError, Global};
@@ -86,6 +86,29 @@ impl SourcePages {
             None => Ok(None),
         }
     }
+
+    /// That list, where it is another one than this.
+    pub fn other_list(&self, alloc: Global, known: &[u16]) -> Result<Option<Vec<u16>>, AllocError>
+        ensures { IfOk result (λ list. option_map (λ v. v.items) list
+            ≡ other_than known.now (list_in self.now)) }
+    {
+        if self.lists(known) {
+            return Ok(None);
+        }
+        let list = self.list(alloc)?;
+        Ok(another(list, known))
+    }
+
+    // Whether the pages are these numbers, one page behind the other, and these rise: then they are the list,
+    // and it needn't be made to see so.
+    fn lists(&self, known: &[u16]) -> bool
+        ensures { IsTrue result → list_in self.now ≡ Some known.now }
+    {
+        if !are_joined(self.pages.as_slice(), known) {
+            return false;
+        }
+        rises(known)
+    }
 }
 
 // So many places for pages, all empty.
@@ -152,4 +175,39 @@ fn rises(numbers: &[u16]) -> bool
         rises &= numbers[i - 1] < numbers[i];
     }
     rises
+}
+
+// A list, where it is another one than this.
+fn another(list: Option<Vec<u16>>, known: &[u16]) -> Option<Vec<u16>>
+    ensures { option_map (λ v. v.items) result
+        ≡ other_than known.now (option_map (λ v. v.items) list) }
+{
+    match list {
+        Some(list) => {
+            if list.as_slice() == known {
+                return None;
+            }
+            Some(list)
+        }
+        None => None,
+    }
+}
+
+// Whether these numbers are those of all pages in their order.
+fn are_joined(pages: &[Option<Vec<u16>>], known: &[u16]) -> bool
+    ensures { IsTrue result → joined (pages_of pages.now) ≡ Some known.now }
+{
+    let mut at: usize = 0;
+    for i in 0..pages.len() {
+        match &pages[i] {
+            Some(numbers) => {
+                if !known[at..].starts_with(numbers.as_slice()) {
+                    return false;
+                }
+                at += numbers.len();
+            }
+            None => return false,
+        }
+    }
+    at == known.len()
 }
