@@ -12,6 +12,7 @@ mod limits;
 mod monitor;
 mod news;
 mod rate;
+mod register;
 mod rivals;
 mod stream;
 mod tally;
