@@ -14,6 +14,7 @@ mod news;
 mod rate;
 mod register;
 mod rivals;
+mod silence;
 mod stream;
 mod tally;
 

@@ -1,9 +1,8 @@
 //! The monitor.
 
 ghost use Rattle.std.specs.Prelude.{◌≡◌, ◌<◌, ◌^◌, ◌-◌, IfOk, max, length, slice_get, slice_index_or, slice_set, slice_index};
-ghost use Rattle.std.specs.List.{position};
 ghost use Rattle.sacn_monitor.specs.Accounts.{news_of};
-ghost use Rattle.sacn_monitor.specs.Streams.{stream_after, falls_silent};
+ghost use Rattle.sacn_monitor.specs.Streams.{stream_after};
 ghost use Rattle.sacn_monitor.specs.Books.{next_loss};
 ghost use Rattle.sacn_monitor.specs.Rivals.{top_priority, rivals};
 
@@ -12,6 +11,7 @@ use crate::limits::MAX_STREAMS;
 use crate::news::{Event, News, Noted};
 use crate::register::Register;
 use crate::rivals::{rivals, top_priority};
+use crate::silence::next_loss;
 use crate::stream::Stream;
 use crate::tally::Tally;
 use sacn_framing::{DataView, Packet, read_packet};
@@ -85,7 +85,7 @@ impl Monitor {
         ensures book { self.new ≡ after_tick now self.old }
     {
         self.moment = self.moment.max(now);
-        let place = self.silent_place();
+        let place = self.streams.silent_place(self.moment);
         if let Some(at) = place {
             self.tell(at);
         }
@@ -156,13 +156,6 @@ impl Monitor {
         self.streams.place_of(universe, cid)
     }
 
-    // The place of the first stream whose loss is to be told.
-    fn silent_place(&self) -> Option<usize>
-        ensures { result ≡ silent_place self.now.moment self.now.streams }
-    {
-        silent_in(self.streams.as_slice(), self.moment)
-    }
-
     // A packet of the stream at a place.
     fn hear_at(&mut self, at: usize, sender: Sender, packet: &DataView<'_>) -> News
         requires { at < length self.old.streams }
@@ -204,24 +197,4 @@ impl Monitor {
         self.tally.untracked = self.tally.untracked.saturating_add(1);
         Noted::Untracked
     }
-}
-
-// The first moment at which a stream is lost whose loss is still to be told.
-fn next_loss(streams: &[Stream]) -> u64
-    ensures { result ≡ next_loss streams.now }
-{
-    let mut least = u64::MAX;
-    for stream in streams {
-        least = least.min(stream.loss());
-    }
-    least
-}
-
-// The place of the first stream whose loss is to be told.
-fn silent_in(streams: &[Stream], moment: u64) -> Option<usize>
-    ensures { result ≡ position (falls_silent moment) streams.now }
-{
-    streams
-        .iter()
-        .position(|stream| stream.falls_silent(moment))
 }

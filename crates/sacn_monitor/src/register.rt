@@ -4,12 +4,13 @@ ghost use Rattle.std.specs.Prelude.{◌≡◌, ◌<◌, ◌++◌, ◌∷◌, [],
 ghost use Rattle.std.specs.List.{position};
 ghost use Rattle.sacn_monitor.specs.declared.limits.TheConstants.{MAX_STREAMS};
 ghost use Rattle.sacn_monitor.specs.Accounts.{news_of};
-ghost use Rattle.sacn_monitor.specs.Books.{with_told};
+ghost use Rattle.sacn_monitor.specs.Books.{with_told, silent_place};
 ghost use Rattle.sacn_monitor.specs.Streams.{is_of, stream_after};
 
 use crate::account::Sender;
 use crate::limits::{CHAINS, MAX_STREAMS};
 use crate::news::News;
+use crate::silence::{next_loss, silent_place};
 use crate::stream::Stream;
 use sacn_framing::DataView;
 use std::alloc::{AllocError, Global};
@@ -25,12 +26,15 @@ pub(crate) struct Register {
     streams: Vec<Stream>,
     latest: Vec<u16>,
     before: Vec<u16>,
+    /// No loss that is still to be told comes before this moment.
+    quiet_until: u64,
 }
 
 impl Model for Register {
     ghost use Rattle.std.specs.Prelude.{List, map, ◌≤◌, vec_capacity};
     ghost use Rattle.sacn_monitor.specs.declared.stream.Stream.{Stream};
     ghost use Rattle.sacn_monitor.specs.declared.limits.TheConstants.{MAX_STREAMS};
+    ghost use Rattle.sacn_monitor.specs.Books.{next_loss};
     ghost use Rattle.sacn_monitor.specs.Chains.{chain_of, AreChained, AreDistinct};
 
     ghost Value = { List Stream };
@@ -40,7 +44,8 @@ impl Model for Register {
     ghost invariant = { λ r. (MAX_STREAMS ≤ vec_capacity r.streams)
         × (MAX_STREAMS ≤ vec_capacity r.before)
         × AreChained r.latest.items r.before.items (map chain_of r.streams.items)
-        × AreDistinct r.streams.items };
+        × AreDistinct r.streams.items
+        × (r.quiet_until ≤ next_loss r.streams.items) };
 }
 
 impl Register {
@@ -54,6 +59,7 @@ impl Register {
             streams: Vec::with_capacity(alloc, MAX_STREAMS)?,
             latest: vec![in alloc; 0; CHAINS]?,
             before: Vec::with_capacity(alloc, MAX_STREAMS)?,
+            quiet_until: u64::MAX,
         })
     }
 
@@ -98,7 +104,9 @@ impl Register {
         ensures streams { (s : Stream) → self.new ≡ slice_set self.old at
             (stream_after moment sender packet.now (slice_index_or self.old at s)) }
     {
-        self.streams[at].hear(moment, sender, packet)
+        let news = self.streams[at].hear(moment, sender, packet);
+        self.quiet_until = self.quiet_until.min(self.streams[at].loss());
+        news
     }
 
     /// The loss of the stream at a place is told.
@@ -109,6 +117,21 @@ impl Register {
         self.streams[at].told = true;
     }
 
+    /// The place of the first stream that is lost at a moment, and of which that is still to be told. While none can be,
+    /// no stream is looked at.
+    pub(crate) fn silent_place(&mut self, moment: u64) -> Option<usize>
+        ensures place { result ≡ silent_place moment self.old }
+        ensures streams { self.new ≡ self.old }
+    {
+        if moment >= self.quiet_until {
+            self.quiet_until = next_loss(self.streams.as_slice());
+        }
+        if moment < self.quiet_until {
+            return None;
+        }
+        silent_place(self.streams.as_slice(), moment)
+    }
+
     /// A stream more, of a universe and a source that no other has.
     pub(crate) fn admit(&mut self, stream: Stream)
         requires room { length self.old < MAX_STREAMS }
@@ -116,6 +139,7 @@ impl Register {
         ensures { self.new ≡ self.old ++ stream ∷ [] }
     {
         let chain = usize::from(stream.universe) % CHAINS;
+        self.quiet_until = self.quiet_until.min(stream.loss());
         self.before.push_reserved(self.latest[chain]);
         self.streams.push_reserved(stream);
         self.latest[chain] = self.streams.len() as u16;

@@ -1,5 +1,6 @@
-use Rattle.std.proofs.Common.{◌≡◌, replicate}
+use Rattle.std.proofs.Common.{◌≡◌, replicate, ap, arith}
 use Rattle.sacn_monitor.specs.declared.limits.TheConstants.{CHAINS}
+use Rattle.sacn_monitor.specs.Books.{next_loss}
 use Rattle.sacn_monitor.proofs.Admitting.{chained_at_first, distinct_at_first}
 use Rattle.sacn_monitor.proofs.register.Register.new.Goals as goal
 
@@ -11,4 +12,5 @@ invariant_of-result c =
       c.in_ok-with_capacity-2.ensures.capacity,
       chained_at_first c.in_ok-vec.field-0.items c.in_ok-with_capacity-2.field-0.items streams.items empty c.in_ok-with_capacity-2.ensures.items c.in_ok-with_capacity.ensures.items,
       distinct_at_first streams.items c.in_ok-with_capacity.ensures.items,
+      omega (arith, ap next_loss c.in_ok-with_capacity.ensures.items),
     )

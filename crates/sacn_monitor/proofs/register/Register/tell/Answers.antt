@@ -1,5 +1,6 @@
 use Rattle.std.proofs.Common.{ap}
 use Rattle.sacn_monitor.proofs.Admitting.{key_of, changed_chained, changed_distinct}
+use Rattle.sacn_monitor.proofs.Losses.{quiet_told}
 use Rattle.sacn_monitor.specs.Books.{with_told}
 use Rattle.sacn_monitor.proofs.register.Register.tell.Goals as goal
 
@@ -11,4 +12,5 @@ invariant_of-self c =
       c.self.invariant.1,
       changed_chained r.streams.items c.args.at (with_told c.index_mut.result.now) c.index_mut.result.now same r.latest.items r.before.items c.self.invariant.2,
       changed_distinct r.streams.items c.args.at (with_told c.index_mut.result.now) c.index_mut.result.now same c.self.invariant.3,
+      quiet_told r.quiet_until c.args.at c.index_mut.result.now r.streams.items c.self.invariant.4,
     )
