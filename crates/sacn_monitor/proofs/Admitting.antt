@@ -1,5 +1,5 @@
 -- A register stays in chains, and its streams distinct, through what changes it.
-use Rattle.std.proofs.Common.{◌≡◌, ◌≢◌, ◌⊎◌, inl, inr, ℕ, suc, ◌+◌, ◌<◌, ◌≤◌, ◌%◌, ◌&&◌, ◌==◌, cond, ltb, Bool, true, false, List, [], ◌∷◌, ◌++◌, length, map, set, get_or, replicate, None, sym, ap, subst, ◌∙◌, arith}
+use Rattle.std.proofs.Common.{◌≡◌, ◌≢◌, ◌⊎◌, inl, inr, ℕ, suc, ◌+◌, ◌<◌, ◌≤◌, ◌&&◌, ◌==◌, cond, ltb, Bool, true, false, List, [], ◌∷◌, ◌++◌, length, map, set, get_or, replicate, None, sym, ap, subst, ◌∙◌, arith}
 use Rattle.std.specs.List.{position, position_or_len}
 use Rattle.std.specs.Str.{bytes_eq}
 use Rattle.std.proofs.Math.Seq.{map-set_same, get_or-append_seam}
@@ -12,7 +12,7 @@ use Rattle.std.proofs.lemmas.List.Quantifiers.{all_pairs_push}
 use Rattle.sacn_monitor.specs.declared.limits.TheConstants.{CHAINS}
 use Rattle.sacn_monitor.specs.declared.stream.Stream.{Stream}
 use Rattle.sacn_monitor.specs.Streams.{is_of}
-use Rattle.sacn_monitor.specs.Chains.{chain_of, latest_in, AreChained, AreDistinct}
+use Rattle.sacn_monitor.specs.Chains.{chain_by, chain_of, latest_in, AreChained, AreDistinct}
 use Rattle.sacn_monitor.proofs.Chaining.{refused, latest_more}
 
 -- ---- none at first
@@ -50,7 +50,7 @@ module _ (ss : List Stream) (at : ℕ) (y s : Stream) (same : key_of y ≡ key_o
 
   pub changed_chained : (latest before : List ℕ) → AreChained latest before (map chain_of ss) → AreChained latest before (map chain_of (set ss at y))
   changed_chained latest before chained =
-      subst (AreChained latest before) (sym (map-set_same chain_of ss at y s (ap (λ (key : ℕ × List ℕ). key.0 % CHAINS) same))) chained
+      subst (AreChained latest before) (sym (map-set_same chain_of ss at y s (ap (λ (key : ℕ × List ℕ). chain_by key.0 key.1) same))) chained
 
 -- ---- a stream is admitted
 
@@ -109,14 +109,13 @@ module _ (latest before chains : List ℕ) (chain : ℕ) (low : chain < CHAINS) 
 same_chained : {a x b y c z : List ℕ} → a ≡ x → b ≡ y → c ≡ z → AreChained a b c → AreChained x y z
 same_chained {a} {x} {b} {y} {c} {z} e f g known = subst (λ (l : List ℕ). AreChained l y z) e (subst (λ (l : List ℕ). AreChained a l z) f (subst (AreChained a b) g known))
 
-pub admitted_chained : (latest before marks : List ℕ) (ss after : List Stream) (s : Stream) (universe mark count : ℕ) → AreChained latest before (map chain_of ss) → universe ≡ s.universe → mark ≡ get_or latest (universe % CHAINS) mark → marks ≡ before ++ mark ∷ [] → after ≡ ss ++ s ∷ [] → count ≡ length after → AreChained (set latest (universe % CHAINS) count) marks (map chain_of after)
-admitted_chained latest before marks ss after s universe mark count known e at f g counted =
-    let chain : ℕ = universe % CHAINS in
+pub admitted_chained : (latest before marks : List ℕ) (ss after : List Stream) (s : Stream) (chain mark count : ℕ) → AreChained latest before (map chain_of ss) → chain ≡ chain_of s → mark ≡ get_or latest chain mark → marks ≡ before ++ mark ∷ [] → after ≡ ss ++ s ∷ [] → count ≡ length after → AreChained (set latest chain count) marks (map chain_of after)
+admitted_chained latest before marks ss after s chain mark count known e at f g counted =
     let chains : List ℕ = map chain_of ss in
-    let low : chain < CHAINS = omega arith in
+    let low : chain < CHAINS = omega (arith, e) in
     let kept : get_or latest chain 0 ≡ mark = get_or_default latest chain 0 mark (omega (arith, low, known.chained)) ∙ sym at in
     let long : suc (length chains) ≡ count = omega (arith, counted, ap length g, length-append ss (s ∷ []), length-map ss chain_of) in
-    let last : with_one chains chain ≡ map chain_of after = ap (λ (u : ℕ). with_one chains (u % CHAINS)) e ∙ sym (map-append chain_of ss (s ∷ [])) ∙ ap (map chain_of) (sym g) in
+    let last : with_one chains chain ≡ map chain_of after = ap (with_one chains) e ∙ sym (map-append chain_of ss (s ∷ [])) ∙ ap (map chain_of) (sym g) in
     same_chained (ap (set latest chain) long) (ap (with_one before) kept ∙ sym f) last (one_more latest before chains chain low known)
 
 pub admitted_distinct : (ss after : List Stream) (s : Stream) → AreDistinct ss → position (is_of s.universe s.cid) ss ≡ None → after ≡ ss ++ s ∷ [] → AreDistinct after

@@ -1,15 +1,14 @@
 -- Chains lead to every stream, and stay so through what changes a register.
-use Rattle.std.proofs.Common.{◌≡◌, ◌≢◌, ◌⊎◌, inl, inr, ℕ, zero, suc, ◌-◌, ◌<◌, ◌≤◌, ◌%◌, ◌&&◌, ◌==◌, cond, Bool, true, false, List, [], ◌∷◌, ◌++◌, length, map, get_or, Some, None, nat_lt, refl, sym, ap, subst, ◌∙◌, arith}
+use Rattle.std.proofs.Common.{◌≡◌, ◌≢◌, ◌⊎◌, inl, inr, ℕ, zero, suc, ◌-◌, ◌<◌, ◌≤◌, ◌&&◌, ◌==◌, cond, Bool, true, false, List, [], ◌∷◌, ◌++◌, length, map, get_or, Some, None, nat_lt, refl, sym, ap, subst, ◌∙◌, arith}
 use Rattle.std.proofs.lemmas.Bool.{eqb-true, eqb-false, cases_lt, lt-ltb, le-ltb}
 use Rattle.std.proofs.lemmas.List.{get_or_append_left, get_or_default, get_or-map, length-map}
 use Rattle.std.proofs.lemmas.List.Sums.{position_or_len_is}
 use Rattle.std.proofs.lemmas.Slice.Eq.{bytes_eq-Decides}
 use Rattle.std.specs.List.{position, position_or_len}
 use Rattle.std.specs.Str.{bytes_eq}
-use Rattle.sacn_monitor.specs.declared.limits.TheConstants.{CHAINS}
 use Rattle.sacn_monitor.specs.declared.stream.Stream.{Stream}
 use Rattle.sacn_monitor.specs.Streams.{is_of}
-use Rattle.sacn_monitor.specs.Chains.{chain_of, latest_in, AreChained, AreDistinct}
+use Rattle.sacn_monitor.specs.Chains.{chain_by, chain_of, latest_in, AreChained, AreDistinct}
 
 -- ---- a look at all
 
@@ -62,19 +61,21 @@ latest_skips chain (suc n) k chains above below is = skipped_by chain n k chains
 
 -- ---- a walk down a chain
 
--- a walk stands at a mark: every stream of the source on the universe is before it, and it is of the universe's chain
+-- a walk stands at a mark: every stream of the source on the universe is before it, and it is of their chain
 pub record IsDown (universe : ℕ) (cid : List ℕ) (mark : ℕ) (ss : List Stream) : Type 0 where
   pub within : mark ≤ length ss
-  pub on : (place : ℕ) → mark ≡ suc place → get_or (map chain_of ss) place 0 ≡ universe % CHAINS
+  pub on : (place : ℕ) → mark ≡ suc place → get_or (map chain_of ss) place 0 ≡ chain_by universe cid
   pub past : (k : ℕ) (d : Stream) → mark ≤ k → k < length ss → is_of universe cid (get_or ss k d) ≡ false
 
 both : (a b : Bool) → a && b ≡ true → (a ≡ true) × (b ≡ true)
 both true b e = (refl, e)
 both false b e = absurd cc
 
--- a stream of the universe is in the universe's chain
-in_chain : (universe : ℕ) (cid : List ℕ) (s : Stream) → is_of universe cid s ≡ true → chain_of s ≡ universe % CHAINS
-in_chain universe cid s e = ap (λ (u : ℕ). u % CHAINS) (eqb-true s.universe universe (both (s.universe == universe) (bytes_eq s.cid cid) e).0)
+-- a stream of the source on the universe is in their chain
+in_chain : (universe : ℕ) (cid : List ℕ) (s : Stream) → is_of universe cid s ≡ true → chain_of s ≡ chain_by universe cid
+in_chain universe cid s e =
+    let keys = both (s.universe == universe) (bytes_eq s.cid cid) e in
+    ap (λ (u : ℕ). chain_by u s.cid) (eqb-true s.universe universe keys.0) ∙ ap (chain_by universe) ((bytes_eq-Decides s.cid cid).0 keys.1)
 
 false_or : (b : Bool) → (b ≢ true) → b ≡ false
 false_or true other = absurd (other refl)
@@ -83,18 +84,18 @@ false_or false other = refl
 chain_at : (ss : List Stream) (k : ℕ) (d : Stream) → k < length ss → get_or (map chain_of ss) k 0 ≡ chain_of (get_or ss k d)
 chain_at ss k d low = get_or-map chain_of ss k d 0 low
 
-not_of : (universe : ℕ) (cid : List ℕ) (ss : List Stream) (k : ℕ) (d : Stream) → k < length ss → (get_or (map chain_of ss) k 0 ≢ universe % CHAINS) → is_of universe cid (get_or ss k d) ≡ false
+not_of : (universe : ℕ) (cid : List ℕ) (ss : List Stream) (k : ℕ) (d : Stream) → k < length ss → (get_or (map chain_of ss) k 0 ≢ chain_by universe cid) → is_of universe cid (get_or ss k d) ≡ false
 not_of universe cid ss k d low other = false_or (is_of universe cid (get_or ss k d)) (λ e. other (chain_at ss k d low ∙ in_chain universe cid (get_or ss k d) e))
 
 -- to the latest of the first n, where none behind these is the one
-past_by : (universe : ℕ) (cid : List ℕ) (n mark k : ℕ) (d : Stream) (ss : List Stream) → mark ≡ latest_in (universe % CHAINS) n (map chain_of ss) → ((i : ℕ) (s : Stream) → n ≤ i → i < length ss → is_of universe cid (get_or ss i s) ≡ false) → mark ≤ k → k < length ss → (k < n) ⊎ (n ≤ k) → is_of universe cid (get_or ss k d) ≡ false
-past_by universe cid n mark k d ss e past above below (inl front) = not_of universe cid ss k d below (latest_skips (universe % CHAINS) n k (map chain_of ss) (omega (arith, e, above)) front)
+past_by : (universe : ℕ) (cid : List ℕ) (n mark k : ℕ) (d : Stream) (ss : List Stream) → mark ≡ latest_in (chain_by universe cid) n (map chain_of ss) → ((i : ℕ) (s : Stream) → n ≤ i → i < length ss → is_of universe cid (get_or ss i s) ≡ false) → mark ≤ k → k < length ss → (k < n) ⊎ (n ≤ k) → is_of universe cid (get_or ss k d) ≡ false
+past_by universe cid n mark k d ss e past above below (inl front) = not_of universe cid ss k d below (latest_skips (chain_by universe cid) n k (map chain_of ss) (omega (arith, e, above)) front)
 past_by universe cid n mark k d ss e past above below (inr back) = past k d back below
 
-down_to : (universe : ℕ) (cid : List ℕ) (n mark : ℕ) (ss : List Stream) → n ≤ length ss → mark ≡ latest_in (universe % CHAINS) n (map chain_of ss) → ((k : ℕ) (d : Stream) → n ≤ k → k < length ss → is_of universe cid (get_or ss k d) ≡ false) → IsDown universe cid mark ss
+down_to : (universe : ℕ) (cid : List ℕ) (n mark : ℕ) (ss : List Stream) → n ≤ length ss → mark ≡ latest_in (chain_by universe cid) n (map chain_of ss) → ((k : ℕ) (d : Stream) → n ≤ k → k < length ss → is_of universe cid (get_or ss k d) ≡ false) → IsDown universe cid mark ss
 down_to universe cid n mark ss low e past = record {
-  within = omega (arith, e, latest_most (universe % CHAINS) n (map chain_of ss));
-  on = λ place is. latest_is_of (universe % CHAINS) n place (map chain_of ss) (sym e ∙ is);
+  within = omega (arith, e, latest_most (chain_by universe cid) n (map chain_of ss));
+  on = λ place is. latest_is_of (chain_by universe cid) n place (map chain_of ss) (sym e ∙ is);
   past = λ k d above below. past_by universe cid n mark k d ss e past above below (cases_lt k n);
 }
 
@@ -107,9 +108,9 @@ past_here universe cid place k s d ss down other below (inl e) = ap (is_of unive
 past_here universe cid place k s d ss down other below (inr back) = down.past k d back below
 
 module _ (latest before : List ℕ) (ss : List Stream) (chained : AreChained latest before (map chain_of ss)) where
-  pub walk_begins : (universe : ℕ) (cid : List ℕ) (mark : ℕ) → mark ≡ get_or latest (universe % CHAINS) mark → IsDown universe cid mark ss
+  pub walk_begins : (universe : ℕ) (cid : List ℕ) (mark : ℕ) → mark ≡ get_or latest (chain_by universe cid) mark → IsDown universe cid mark ss
   walk_begins universe cid mark e =
-      let chain : ℕ = universe % CHAINS in
+      let chain : ℕ = chain_by universe cid in
       let here : get_or latest chain mark ≡ get_or latest chain 0 = get_or_default latest chain mark 0 (omega (arith, chained.chained)) in
       down_to universe cid (length ss) mark ss (omega arith) (e ∙ here ∙ chained.begins chain (omega arith) ∙ ap (λ (n : ℕ). latest_in chain n (map chain_of ss)) (length-map ss chain_of)) (λ k d back below. absurd (omega (arith, back, below)))
 

@@ -1,14 +1,18 @@
--- Streams in chains, by their universes: each chain leads from its latest stream down to its first. A mark is one more than the place
+-- Streams in chains, by their universes and sources: each chain leads from its latest stream down to its first. A mark is one more than the place
 -- of a stream, and 0 marks none.
-use Rattle.std.specs.Prelude.{◌≡◌, ◌<◌, ◌%◌, ◌==◌, ℕ, zero, suc, false, List, length, get_or, if◌then◌else◌}
+use Rattle.std.specs.Prelude.{◌≡◌, ◌<◌, ◌+◌, ◌*◌, ◌%◌, ◌==◌, ℕ, zero, suc, false, List, length, get_or, if◌then◌else◌}
 use Rattle.std.specs.List.{AllPairs}
 use Rattle.sacn_monitor.specs.declared.limits.TheConstants.{CHAINS}
 use Rattle.sacn_monitor.specs.declared.stream.Stream.{Stream}
 use Rattle.sacn_monitor.specs.Streams.{is_of}
 
+-- the chain of a source on a universe
+abbrev pub chain_by : ℕ → List ℕ → ℕ
+chain_by universe cid = (universe + get_or cid 14 0 * 256 + get_or cid 15 0) % CHAINS
+
 -- the chain that a stream is in
 abbrev pub chain_of : Stream → ℕ
-chain_of s = s.universe % CHAINS
+chain_of s = chain_by s.universe s.cid
 
 -- the mark of the latest of the first n streams that is in a chain
 abbrev pub latest_in : ℕ → ℕ → List ℕ → ℕ

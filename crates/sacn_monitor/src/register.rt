@@ -2,9 +2,10 @@
 
 ghost use Rattle.std.specs.Prelude.{◌≡◌, ◌<◌, ◌++◌, ◌∷◌, [], None, IfOk, length, slice_index_or, slice_set};
 ghost use Rattle.std.specs.List.{position};
-ghost use Rattle.sacn_monitor.specs.declared.limits.TheConstants.{MAX_STREAMS};
+ghost use Rattle.sacn_monitor.specs.declared.limits.TheConstants.{CHAINS, MAX_STREAMS};
 ghost use Rattle.sacn_monitor.specs.Accounts.{news_of};
 ghost use Rattle.sacn_monitor.specs.Books.{with_told, silent_place};
+ghost use Rattle.sacn_monitor.specs.Chains.{chain_by};
 ghost use Rattle.sacn_monitor.specs.Streams.{is_of, stream_after};
 
 use crate::account::Sender;
@@ -18,9 +19,9 @@ use std::marker::Model;
 
 /// Up to `MAX_STREAMS` streams in the order in which they appeared, each once.
 ///
-/// Those whose universes leave the same rest by `CHAINS` are a chain: `latest` has for each chain the mark of its latest
-/// stream, and `before` for each stream the mark of the one before it in its chain. A mark is one more than the place of a
-/// stream, and 0 marks none. So a stream is found among those of its chain, which mostly are the sources of its universe.
+/// They stand in `CHAINS` chains, by their universes and sources: `latest` has for each chain the mark of its latest stream,
+/// and `before` for each stream the mark of the one before it in its chain. A mark is one more than the place of a stream,
+/// and 0 marks none. So a stream is found among those of its chain, which mostly are few.
 #[derive(Drop)]
 pub(crate) struct Register {
     streams: Vec<Stream>,
@@ -79,7 +80,7 @@ impl Register {
     pub(crate) fn place_of(&self, universe: u16, cid: &[u8; 16]) -> Option<usize>
         ensures { result ≡ position (is_of universe cid.now) self.now }
     {
-        let mut mark = self.latest[usize::from(universe) % CHAINS];
+        let mut mark = self.latest[chain_by(universe, cid)];
         while mark > 0 {
             let place = usize::from(mark) - 1;
             if self.streams[place].is_of(universe, cid) {
@@ -138,10 +139,19 @@ impl Register {
         requires unknown { position (is_of stream.universe stream.cid) self.old ≡ None }
         ensures { self.new ≡ self.old ++ stream ∷ [] }
     {
-        let chain = usize::from(stream.universe) % CHAINS;
+        let chain = chain_by(stream.universe, &stream.cid);
         self.quiet_until = self.quiet_until.min(stream.loss());
         self.before.push_reserved(self.latest[chain]);
         self.streams.push_reserved(stream);
         self.latest[chain] = self.streams.len() as u16;
     }
+}
+
+// The chain of a source on a universe. Universes in a row are in chains of their own, and so mostly are sources of one
+// universe, which differ in the last octets of their CIDs.
+fn chain_by(universe: u16, cid: &[u8; 16]) -> usize
+    ensures chain { result ≡ chain_by universe cid.now }
+    ensures low { result < CHAINS }
+{
+    (usize::from(universe) + usize::from(cid[14]) * 256 + usize::from(cid[15])) % CHAINS
 }

@@ -1,8 +1,7 @@
-use Rattle.std.proofs.Common.{◌%◌, ◌-◌, get_or, ap, sym, subst, ◌∙◌, arith, ◌≡◌, ℕ}
+use Rattle.std.proofs.Common.{◌-◌, get_or, ap, sym, ◌∙◌, arith, ℕ}
 use Rattle.std.proofs.lemmas.List.{length-map}
 use Rattle.std.specs.List.{position}
 use Rattle.sacn_monitor.specs.Streams.{is_of}
-use Rattle.sacn_monitor.specs.declared.limits.TheConstants.{CHAINS}
 use Rattle.sacn_monitor.specs.Chains.{chain_of}
 use Rattle.sacn_monitor.proofs.Chaining.{walk_begins, walk_goes_on, walk_falls, walk_ends, walk_finds}
 use Rattle.sacn_monitor.proofs.register.Register.place_of.Goals as goal
@@ -11,7 +10,7 @@ pub loop-mark-init : goal.loop-mark-init
 loop-mark-init c =
     let r = c.self.inside in
     walk_begins r.latest.items r.before.items r.streams.items c.self.invariant.2 c.args.universe c.args.cid.now c.index-mark.result.now
-    (subst (λ (u : ℕ). c.index-mark.result.now ≡ get_or r.latest.items (u % CHAINS) c.index-mark.result.now) c.from.ensures c.index-mark.ensures)
+    (c.index-mark.ensures ∙ ap (λ (k : ℕ). get_or r.latest.items k c.index-mark.result.now) c.chain_by.ensures.chain)
 
 pub index-requires : goal.index-requires
 index-requires c = omega (arith, c.loop-mark.invariant.within)
@@ -29,12 +28,12 @@ index-mark-requires-in-loop-mark c =
 pub loop-mark-smaller : goal.loop-mark-smaller
 loop-mark-smaller c =
     let r = c.self.inside in
-    walk_falls r.latest.items r.before.items r.streams.items c.self.invariant.2 c.args.universe c.args.cid.now c.loop-mark.mark (c.from-place.result - 1) c.index-mark-in-loop-mark.result.now c.loop-mark.invariant c.loop-mark-test.true (omega arith) c.index-mark-in-loop-mark.ensures
+    walk_falls r.latest.items r.before.items r.streams.items c.self.invariant.2 c.args.universe c.args.cid.now c.loop-mark.mark (c.from-place.result - 1) c.index-mark-in-loop-mark.result.now c.loop-mark.invariant (omega arith) (omega arith) c.index-mark-in-loop-mark.ensures
 
 pub loop-mark-preserved : goal.loop-mark-preserved
 loop-mark-preserved c =
     let r = c.self.inside in
-    walk_goes_on r.latest.items r.before.items r.streams.items c.self.invariant.2 c.args.universe c.args.cid.now c.loop-mark.mark (c.from-place.result - 1) c.index-mark-in-loop-mark.result.now c.index.result.now c.loop-mark.invariant c.loop-mark-test.true (omega arith) c.index.ensures (sym c.is_of.ensures ∙ c.if-is_of.false) c.index-mark-in-loop-mark.ensures
+    walk_goes_on r.latest.items r.before.items r.streams.items c.self.invariant.2 c.args.universe c.args.cid.now c.loop-mark.mark (c.from-place.result - 1) c.index-mark-in-loop-mark.result.now c.index.result.now c.loop-mark.invariant (omega arith) (omega arith) c.index.ensures (sym c.is_of.ensures ∙ c.if-is_of.false) c.index-mark-in-loop-mark.ensures
 
 pub returns : goal.returns
 returns c =
