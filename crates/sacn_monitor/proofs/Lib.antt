@@ -1,2 +1,4 @@
+pub mod Admitting
+pub mod Chaining
 pub mod Losses
 pub mod Tracking

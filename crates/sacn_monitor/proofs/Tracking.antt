@@ -1,5 +1,5 @@
 -- The account of a source on a universe is the one that its packets there give.
-use Rattle.std.proofs.Common.{◌≡◌, ℕ, zero, suc, ◌+◌, ◌<◌, ◌≤◌, ◌⊎◌, inl, inr, max, cond, ltb, ◌&&◌, ◌==◌, Bool, true, false, List, [], ◌∷◌, ◌++◌, length, get_or, set, Option, Some, None, Result, Ok, Err, refl, sym, ap, subst, ◌∙◌, arith}
+use Rattle.std.proofs.Common.{◌≡◌, ℕ, zero, suc, ◌<◌, ◌≤◌, ◌⊎◌, inl, inr, max, cond, ltb, ◌&&◌, ◌==◌, Bool, true, false, List, [], ◌∷◌, ◌++◌, length, get_or, set, Option, Some, None, Result, Ok, Err, refl, sym, ap, subst, ◌∙◌, arith}
 use Rattle.std.specs.Prelude.{find, position, slice_get}
 use Rattle.std.specs.Option.{option_map, option_or}
 use Rattle.std.specs.List.{position_or_len}
@@ -8,7 +8,7 @@ use Rattle.std.proofs.lemmas.Bool.{ltb-false, ltb-true, eqb-true}
 use Rattle.std.proofs.lemmas.List.{length-set, length-append}
 use Rattle.std.proofs.lemmas.List.Folds.{find_at, find-set, find_past, find-append}
 use Rattle.std.proofs.lemmas.List.Quantifiers.{position-Some}
-use Rattle.std.proofs.lemmas.Option.{slice_get_past, slice_get_within, slice_get_cases, slice_get-get_or, get_or_from_slice_get}
+use Rattle.std.proofs.lemmas.Option.{slice_get_past, slice_get_within, slice_get_cases, get_or_from_slice_get}
 use Rattle.std.proofs.lemmas.Slice.Eq.{bytes_eq-Decides}
 use Rattle.sacn_root.specs.declared.fault.PacketFault.{PacketFault}
 use Rattle.sacn_framing.specs.Data.{Data}
@@ -19,20 +19,16 @@ use Rattle.sacn_monitor.specs.declared.account.Account.{Account}
 use Rattle.sacn_monitor.specs.declared.account.Sender.{Sender}
 use Rattle.sacn_monitor.specs.declared.stream.Stream.{Stream}
 use Rattle.sacn_monitor.specs.Kinds.{more}
-use Rattle.sacn_monitor.specs.Accounts.{after_packet}
-use Rattle.sacn_monitor.specs.Streams.{is_of, first_stream, stream_after, falls_silent}
+use Rattle.sacn_monitor.specs.Streams.{is_of, first_stream, stream_after}
 use Rattle.sacn_monitor.specs.Books.{Book, with_datagram, after_data, after_read, changed, change_at, with_told, told_at, silent_place}
-use Rattle.sacn_monitor.specs.Histories.{Call, Take, Tick, Arrival, moment_of, moment_in_use, after_calls, step, arrival_of, arrivals, account_with, account_by, account_in, AccountsAreOfTheirPackets, UsesTheGreatestMoment}
+use Rattle.sacn_monitor.proofs.Chaining.{refused}
+use Rattle.sacn_monitor.specs.Histories.{Take, Tick, Arrival, after_calls, arrival_of, arrivals, account_with, account_by, account_in, AccountsAreOfTheirPackets, UsesTheGreatestMoment}
 
 -- ---- places
 
 chosen : (b : Bool) (n i : ℕ) → cond b (Some n) None ≡ Some i → n ≡ i
 chosen true n i e = cc
 chosen false n i e = absurd cc
-
-refused : (b : Bool) (n : ℕ) → cond b (Some n) None ≡ None → b ≡ false
-refused true n e = absurd cc
-refused false n e = refl
 
 find_none : (p : Stream → Bool) (ss : List Stream) → position p ss ≡ None → find p ss ≡ None
 find_none p ss e =

@@ -2,6 +2,7 @@ pub mod Kinds
 pub mod Rates
 pub mod Accounts
 pub mod Streams
+pub mod Chains
 pub mod Tallies
 pub mod Books
 pub mod Histories

@@ -12,7 +12,9 @@ mod limits;
 mod monitor;
 mod news;
 mod rate;
+mod register;
 mod rivals;
+mod silence;
 mod stream;
 mod tally;
 

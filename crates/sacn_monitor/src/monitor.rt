@@ -1,16 +1,17 @@
 //! The monitor.
 
 ghost use Rattle.std.specs.Prelude.{◌≡◌, ◌<◌, ◌^◌, ◌-◌, IfOk, max, length, slice_get, slice_index_or, slice_set, slice_index};
-ghost use Rattle.std.specs.List.{position};
 ghost use Rattle.sacn_monitor.specs.Accounts.{news_of};
-ghost use Rattle.sacn_monitor.specs.Streams.{is_of, stream_after, falls_silent};
+ghost use Rattle.sacn_monitor.specs.Streams.{stream_after};
 ghost use Rattle.sacn_monitor.specs.Books.{next_loss};
 ghost use Rattle.sacn_monitor.specs.Rivals.{top_priority, rivals};
 
 use crate::account::Sender;
 use crate::limits::MAX_STREAMS;
 use crate::news::{Event, News, Noted};
+use crate::register::Register;
 use crate::rivals::{rivals, top_priority};
+use crate::silence::next_loss;
 use crate::stream::Stream;
 use crate::tally::Tally;
 use sacn_framing::{DataView, Packet, read_packet};
@@ -24,34 +25,30 @@ use std::marker::Model;
 /// `new` takes memory.
 #[derive(Drop)]
 pub struct Monitor {
-    streams: Vec<Stream>,
+    streams: Register,
     moment: u64,
     tally: Tally,
 }
 
 impl Model for Monitor {
-    ghost use Rattle.std.specs.Prelude.{◌≤◌, vec_capacity};
     ghost use Rattle.sacn_monitor.specs.Books.{Book};
-    ghost use Rattle.sacn_monitor.specs.declared.limits.TheConstants.{MAX_STREAMS};
 
     ghost Value = { Book };
 
-    ghost view = { λ m. record { streams = m.streams.items; moment = m.moment; tally = m.tally } };
-
-    ghost invariant = { λ m. MAX_STREAMS ≤ vec_capacity m.streams };
+    ghost view = { λ m. record { streams = m.streams; moment = m.moment; tally = m.tally } };
 }
 
 impl Monitor {
     ghost use Rattle.sacn_monitor.specs.Books.{new_book, note_of, after_take, noted_data, after_data, place_of, silent_place, after_tick, with_told, change_at};
 
-    /// A monitor that has heard nothing, with the room for `MAX_STREAMS` streams taken in one request.
+    /// A monitor that has heard nothing, with the room for `MAX_STREAMS` streams taken.
     ///
-    /// Errors: the request was refused.
+    /// Errors: a request for memory was refused.
     pub fn new(alloc: Global) -> Result<Self, AllocError>
         ensures { IfOk result (λ m. m ≡ new_book) }
     {
         Ok(Monitor {
-            streams: Vec::with_capacity(alloc, MAX_STREAMS)?,
+            streams: Register::new(alloc)?,
             moment: 0,
             tally: Tally::none(),
         })
@@ -88,7 +85,7 @@ impl Monitor {
         ensures book { self.new ≡ after_tick now self.old }
     {
         self.moment = self.moment.max(now);
-        let place = self.silent_place();
+        let place = self.streams.silent_place(self.moment);
         if let Some(at) = place {
             self.tell(at);
         }
@@ -156,14 +153,7 @@ impl Monitor {
     fn place_of(&self, universe: u16, cid: &[u8; 16]) -> Option<usize>
         ensures { result ≡ place_of universe cid.now self.now.streams }
     {
-        place_in(self.streams.as_slice(), universe, cid)
-    }
-
-    // The place of the first stream whose loss is to be told.
-    fn silent_place(&self) -> Option<usize>
-        ensures { result ≡ silent_place self.now.moment self.now.streams }
-    {
-        silent_in(self.streams.as_slice(), self.moment)
+        self.streams.place_of(universe, cid)
     }
 
     // A packet of the stream at a place.
@@ -177,8 +167,7 @@ impl Monitor {
                   self.old.moment sender packet.now (slice_index_or self.old.streams at s));
             } }
     {
-        let moment = self.moment;
-        self.streams[at].hear(moment, sender, packet)
+        self.streams.hear(at, self.moment, sender, packet)
     }
 
     // A stream whose loss is told.
@@ -189,51 +178,23 @@ impl Monitor {
               streams = slice_set self.old.streams at (with_told (slice_index_or self.old.streams at s));
             } }
     {
-        self.streams[at].told = true;
+        self.streams.tell(at);
     }
 
     // The first packet of a stream.
     #[tactic(auto, unfolding(crate::specs::Books::noted_data, crate::specs::Books::after_data))]
     fn admit(&mut self, sender: Sender, packet: &DataView<'_>) -> Noted
+        requires { place_of packet.now.universe packet.now.cid self.old.streams ≡ None }
         ensures noted { result ≡ noted_data sender packet.now self.old None }
         ensures book { self.new ≡ after_data sender packet.now self.old None }
     {
         let place = self.streams.len();
         if place < MAX_STREAMS {
             self.streams
-                .push_reserved(Stream::begin(self.moment, sender, packet));
+                .admit(Stream::begin(self.moment, sender, packet));
             return Noted::Heard(place, News::quiet(Event::Appeared));
         }
         self.tally.untracked = self.tally.untracked.saturating_add(1);
         Noted::Untracked
     }
-}
-
-// The first moment at which a stream is lost whose loss is still to be told.
-fn next_loss(streams: &[Stream]) -> u64
-    ensures { result ≡ next_loss streams.now }
-{
-    let mut least = u64::MAX;
-    for stream in streams {
-        least = least.min(stream.loss());
-    }
-    least
-}
-
-// The place of the stream of a source on a universe.
-fn place_in(streams: &[Stream], universe: u16, cid: &[u8; 16]) -> Option<usize>
-    ensures { result ≡ position (is_of universe cid.now) streams.now }
-{
-    streams
-        .iter()
-        .position(|stream| stream.is_of(universe, cid))
-}
-
-// The place of the first stream whose loss is to be told.
-fn silent_in(streams: &[Stream], moment: u64) -> Option<usize>
-    ensures { result ≡ position (falls_silent moment) streams.now }
-{
-    streams
-        .iter()
-        .position(|stream| stream.falls_silent(moment))
 }

@@ -2,7 +2,7 @@ use Rattle.std.proofs.Common.{ap, arith}
 use Rattle.std.proofs.lemmas.List.{drop_all}
 use Rattle.sacn_monitor.specs.Books.{next_loss}
 use Rattle.sacn_monitor.proofs.Losses.{loss_most}
-use Rattle.sacn_monitor.proofs.monitor.next_loss.Goals as goal
+use Rattle.sacn_monitor.proofs.silence.next_loss.Goals as goal
 
 pub loop-stream-init : goal.loop-stream-init
 loop-stream-init c = record {

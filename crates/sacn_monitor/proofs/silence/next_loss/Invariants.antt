@@ -1,6 +1,6 @@
 use Rattle.std.proofs.Common.{◌≡◌, ◌≤◌, ◌-◌, ◌^◌, min, drop}
 use Rattle.sacn_monitor.specs.Books.{next_loss}
-use Rattle.sacn_monitor.proofs.monitor.next_loss.Given as goal
+use Rattle.sacn_monitor.proofs.silence.next_loss.Given as goal
 
 -- the least so far and the least of the rest are the least of all
 abbrev pub invariant-loop-stream : goal.invariant-loop-stream

@@ -1,0 +1,157 @@
+//! The streams of a monitor, found by their chains.
+
+ghost use Rattle.std.specs.Prelude.{◌≡◌, ◌<◌, ◌++◌, ◌∷◌, [], None, IfOk, length, slice_index_or, slice_set};
+ghost use Rattle.std.specs.List.{position};
+ghost use Rattle.sacn_monitor.specs.declared.limits.TheConstants.{CHAINS, MAX_STREAMS};
+ghost use Rattle.sacn_monitor.specs.Accounts.{news_of};
+ghost use Rattle.sacn_monitor.specs.Books.{with_told, silent_place};
+ghost use Rattle.sacn_monitor.specs.Chains.{chain_by};
+ghost use Rattle.sacn_monitor.specs.Streams.{is_of, stream_after};
+
+use crate::account::Sender;
+use crate::limits::{CHAINS, MAX_STREAMS};
+use crate::news::News;
+use crate::silence::{next_loss, silent_place};
+use crate::stream::Stream;
+use sacn_framing::DataView;
+use std::alloc::{AllocError, Global};
+use std::marker::Model;
+
+/// Up to `MAX_STREAMS` streams in the order in which they appeared, each once.
+///
+/// They stand in `CHAINS` chains, by their universes and sources: `latest` has for each chain the mark of its latest stream,
+/// and `before` for each stream the mark of the one before it in its chain. A mark is one more than the place of a stream,
+/// and 0 marks none. So a stream is found among those of its chain, which mostly are few.
+#[derive(Drop)]
+pub(crate) struct Register {
+    streams: Vec<Stream>,
+    latest: Vec<u16>,
+    before: Vec<u16>,
+    /// No loss that is still to be told comes before this moment.
+    quiet_until: u64,
+}
+
+impl Model for Register {
+    ghost use Rattle.std.specs.Prelude.{List, map, ◌≤◌, vec_capacity};
+    ghost use Rattle.sacn_monitor.specs.declared.stream.Stream.{Stream};
+    ghost use Rattle.sacn_monitor.specs.declared.limits.TheConstants.{MAX_STREAMS};
+    ghost use Rattle.sacn_monitor.specs.Books.{next_loss};
+    ghost use Rattle.sacn_monitor.specs.Chains.{chain_of, AreChained, AreDistinct};
+
+    ghost Value = { List Stream };
+
+    ghost view = { λ r. r.streams.items };
+
+    ghost invariant = { λ r. (MAX_STREAMS ≤ vec_capacity r.streams)
+        × (MAX_STREAMS ≤ vec_capacity r.before)
+        × AreChained r.latest.items r.before.items (map chain_of r.streams.items)
+        × AreDistinct r.streams.items
+        × (r.quiet_until ≤ next_loss r.streams.items) };
+}
+
+impl Register {
+    /// No streams, with all its room taken in three requests.
+    ///
+    /// Errors: a request was refused.
+    pub(crate) fn new(alloc: Global) -> Result<Self, AllocError>
+        ensures { IfOk result (λ r. r ≡ []) }
+    {
+        Ok(Register {
+            streams: Vec::with_capacity(alloc, MAX_STREAMS)?,
+            latest: vec![in alloc; 0; CHAINS]?,
+            before: Vec::with_capacity(alloc, MAX_STREAMS)?,
+            quiet_until: u64::MAX,
+        })
+    }
+
+    pub(crate) fn as_slice(&self) -> &[Stream]
+        ensures { result.now ≡ self.now }
+    {
+        self.streams.as_slice()
+    }
+
+    pub(crate) fn len(&self) -> usize
+        ensures { result ≡ length self.now }
+    {
+        self.streams.len()
+    }
+
+    /// The place of the stream of a source on a universe, as a look at all of them in turn finds it.
+    pub(crate) fn place_of(&self, universe: u16, cid: &[u8; 16]) -> Option<usize>
+        ensures { result ≡ position (is_of universe cid.now) self.now }
+    {
+        let mut mark = self.latest[chain_by(universe, cid)];
+        while mark > 0 {
+            let place = usize::from(mark) - 1;
+            if self.streams[place].is_of(universe, cid) {
+                return Some(place);
+            }
+            mark = self.before[place];
+        }
+        None
+    }
+
+    /// A packet of the stream at a place. Returns what it tells that is new.
+    pub(crate) fn hear(
+        &mut self,
+        at: usize,
+        moment: u64,
+        sender: Sender,
+        packet: &DataView<'_>,
+    ) -> News
+        requires { at < length self.old }
+        ensures news { (s : Stream) → result ≡ news_of moment sender packet.now
+            (slice_index_or self.old at s).account }
+        ensures streams { (s : Stream) → self.new ≡ slice_set self.old at
+            (stream_after moment sender packet.now (slice_index_or self.old at s)) }
+    {
+        let news = self.streams[at].hear(moment, sender, packet);
+        self.quiet_until = self.quiet_until.min(self.streams[at].loss());
+        news
+    }
+
+    /// The loss of the stream at a place is told.
+    pub(crate) fn tell(&mut self, at: usize)
+        requires { at < length self.old }
+        ensures { (s : Stream) → self.new ≡ slice_set self.old at (with_told (slice_index_or self.old at s)) }
+    {
+        self.streams[at].told = true;
+    }
+
+    /// The place of the first stream that is lost at a moment, and of which that is still to be told. While none can be,
+    /// no stream is looked at.
+    pub(crate) fn silent_place(&mut self, moment: u64) -> Option<usize>
+        ensures place { result ≡ silent_place moment self.old }
+        ensures streams { self.new ≡ self.old }
+    {
+        if moment >= self.quiet_until {
+            self.quiet_until = next_loss(self.streams.as_slice());
+        }
+        if moment < self.quiet_until {
+            return None;
+        }
+        silent_place(self.streams.as_slice(), moment)
+    }
+
+    /// A stream more, of a universe and a source that no other has.
+    pub(crate) fn admit(&mut self, stream: Stream)
+        requires room { length self.old < MAX_STREAMS }
+        requires unknown { position (is_of stream.universe stream.cid) self.old ≡ None }
+        ensures { self.new ≡ self.old ++ stream ∷ [] }
+    {
+        let chain = chain_by(stream.universe, &stream.cid);
+        self.quiet_until = self.quiet_until.min(stream.loss());
+        self.before.push_reserved(self.latest[chain]);
+        self.streams.push_reserved(stream);
+        self.latest[chain] = self.streams.len() as u16;
+    }
+}
+
+// The chain of a source on a universe. Universes in a row are in chains of their own, and so mostly are sources of one
+// universe, which differ in the last octets of their CIDs.
+fn chain_by(universe: u16, cid: &[u8; 16]) -> usize
+    ensures chain { result ≡ chain_by universe cid.now }
+    ensures low { result < CHAINS }
+{
+    (usize::from(universe) + usize::from(cid[14]) * 256 + usize::from(cid[15])) % CHAINS
+}
