@@ -1,18 +1,23 @@
 //! The line that a look prints.
-ghost use Rattle.std.specs.Prelude.{◌≡◌, drop, string_bytes, IfOk};
+ghost use Rattle.std.specs.Prelude.{◌≡◌, ◌++◌, drop, string_bytes, IfOk, OnOk};
 ghost use Rattle.sacn_text.specs.Looks.{slot_words, slots_words, frame_words, look_top, look_line};
 
 use crate::words::join;
+use itoa::Buffer;
 use std::alloc::{AllocError, Global};
 
-// A slot with its level after a space, nothing where it is dark.
-fn slot_words(alloc: Global, slot: usize, level: u8) -> Result<String, AllocError>
-    ensures { IfOk result (λ text. string_bytes text ≡ slot_words slot level) }
+// Adds a slot with its level after a space, nothing where it is dark. Its digits come from a table, where a formatter would write them
+// into a text of their own.
+fn push_slot(text: &mut Vec<u8>, slot: usize, level: u8) -> Result<(), AllocError>
+    ensures { OnOk result (text.new.items ≡ text.old.items ++ slot_words slot level) }
 {
     if level == 0 {
-        return Ok(String::new(alloc));
+        return Ok(());
     }
-    format!(in alloc; " {slot}@{level}")
+    text.extend_from_slice(b" ")?;
+    text.extend_from_slice(Buffer::new().format(slot).as_bytes())?;
+    text.extend_from_slice(b"@")?;
+    text.extend_from_slice(Buffer::new().format(level).as_bytes())
 }
 
 // The lit slots of a frame, behind its start code.
@@ -21,8 +26,7 @@ fn slots_words(alloc: Global, frame: &[u8; 513]) -> Result<Vec<u8>, AllocError>
 {
     let mut text = Vec::new(alloc);
     for slot in 1..513 {
-        let piece = slot_words(alloc, slot, frame[slot])?;
-        text.extend_from_slice(piece.as_bytes())?;
+        push_slot(&mut text, slot, frame[slot])?;
     }
     Ok(text)
 }

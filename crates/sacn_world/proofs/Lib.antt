@@ -1,3 +1,4 @@
+pub mod SameCids
 pub mod Numbers
 pub mod Sources
 pub mod All

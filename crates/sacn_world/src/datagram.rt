@@ -67,7 +67,7 @@ impl SentDatagram {
         match self.stream {
             None => None,
             Some(stream) => {
-                if is_same(source, &self.source) && stream.universe == universe {
+                if stream.universe == universe && is_same(source, &self.source) {
                     Some(stream.place)
                 } else {
                     None

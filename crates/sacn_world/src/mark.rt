@@ -36,7 +36,7 @@ impl Mark {
     pub(crate) fn is_of(&self, source: &[u8; 16], universe: u16) -> bool
         ensures { result ≡ is_mark_of source.now universe self.now }
     {
-        is_same(source, &self.source) && self.universe == universe
+        self.universe == universe && is_same(source, &self.source)
     }
 
     /// As the first of its stream.
@@ -71,12 +71,12 @@ impl Mark {
     }
 }
 
-/// Whether two CIDs are the same.
-#[tactic(auto, unfolding(sacn_sources::specs::Order::order))]
+/// Whether two CIDs are the same. It compares two numbers of eight octets, where their order would compare octet by octet.
+#[tactic(auto, using(crate::proofs::SameCids::same_octets))]
 pub(crate) fn is_same(a: &[u8; 16], b: &[u8; 16]) -> bool
     ensures { result ≡ same a.now b.now }
 {
-    a.cmp(b).is_eq()
+    a == b
 }
 
 /// The mark of a stream.
