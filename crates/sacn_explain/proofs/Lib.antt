@@ -5,6 +5,7 @@ pub mod PageLists
 pub mod Amounts
 pub mod Rivalry
 mod Padding
+mod Digits
 mod Letters
 mod Runs
 mod Texts
