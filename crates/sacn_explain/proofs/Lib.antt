@@ -12,6 +12,7 @@ mod Texts
 pub mod Telling
 mod RowTexts
 mod Showing
+mod Touching
 mod Hearing
 mod Turns
 mod ListBooks
