@@ -13,6 +13,7 @@ pub mod Telling
 mod RowTexts
 mod Showing
 mod Touching
+mod SlotLines
 mod Hearing
 mod Turns
 mod ListBooks

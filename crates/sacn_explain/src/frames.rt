@@ -1,8 +1,10 @@
 //! The frames of a node's ports.
 
-ghost use Rattle.std.specs.Prelude.{◌≡◌, IfOk, OnOk, map};
+ghost use Rattle.std.specs.Prelude.{◌≡◌, ◌==◌, ℕ, Some, IfOk, OnOk, length, map, not};
 ghost use Rattle.sacn_node.specs.Cores.{core_at};
-ghost use Rattle.sacn_edge.specs.PortLines.{port_after, port_text, ports_text};
+ghost use Rattle.sacn_edge.specs.NodeText.{is_shown};
+ghost use Rattle.sacn_edge.specs.PortLines.{frame_text, port_after, port_text, ports_text, with_last};
+ghost use Rattle.sacn_explain.specs.declared.options.Form.TheVariants.{Json};
 ghost use Rattle.sacn_explain.specs.Causes.{reason_of};
 ghost use Rattle.sacn_explain.specs.Shows.{frame_told, frames_told, port_told};
 ghost use Rattle.sacn_explain.specs.Tellings.{Tells};
@@ -10,10 +12,12 @@ ghost use Rattle.sacn_explain.specs.Touching.{AreCurrentBut, IsCurrentBut};
 
 use crate::cause::Cause;
 use crate::fault::TellFault;
+use crate::options::Form;
 use crate::teller::Teller;
 use crate::touched::Touched;
 use sacn_edge::{PortShown, WriterOut, show};
-use sacn_node::NodeCore;
+use sacn_node::{NoPort, NodeCore};
+use sacn_universe::FRAME_OCTETS;
 use std::alloc::Global;
 use std::io::Write;
 use std::slice;
@@ -80,8 +84,87 @@ fn show_port<O: Write>(
     ensures told { OnOk result (Tells O.contents teller.old teller.new
         (port_told teller.old.form now (reason_of cause.now) core.old shown.old)) }
 {
+    match teller.form {
+        Form::Text => show_line(alloc, core, now, cause, shown, teller),
+        Form::Json => show_slots(core, now, cause, shown, teller),
+    }
+}
+
+// The same for people, with the line that a node's loop writes.
+fn show_line<O: Write>(
+    alloc: Global,
+    core: &mut NodeCore,
+    now: u64,
+    cause: &Cause<'_>,
+    shown: &mut PortShown,
+    teller: &mut Teller<'_, O>,
+) -> Result<(), TellFault>
+    requires settled { core_at now core.old.core ≡ core.old.core }
+    ensures core { core.new ≡ core.old }
+    ensures shown { OnOk result (shown.new ≡ port_after core.old shown.old) }
+    ensures told { OnOk result (Tells O.contents teller.old teller.new
+        (port_told teller.old.form now (reason_of cause.now) core.old shown.old)) }
+{
     let line = line_of_port(alloc, core, now, shown)?;
     tell_frame(now, shown, cause, line.as_slice(), teller)
+}
+
+// The same for programs: an object that has the slots, so that no line is made.
+fn show_slots<O: Write>(
+    core: &mut NodeCore,
+    now: u64,
+    cause: &Cause<'_>,
+    shown: &mut PortShown,
+    teller: &mut Teller<'_, O>,
+) -> Result<(), TellFault>
+    requires settled { core_at now core.old.core ≡ core.old.core }
+    requires form { teller.old.form ≡ Json }
+    ensures core { core.new ≡ core.old }
+    ensures shown { shown.new ≡ port_after core.old shown.old }
+    ensures told { OnOk result (Tells O.contents teller.old teller.new
+        (port_told teller.old.form now (reason_of cause.now) core.old shown.old)) }
+{
+    if renew_port(core, now, shown) {
+        return teller.tell_frame(now, shown, cause, &[]);
+    }
+    Ok(())
+}
+
+// Whether the frame of a port isn't that of its latest line; it is from now on.
+fn renew_port(core: &mut NodeCore, now: u64, shown: &mut PortShown) -> bool
+    requires settled { core_at now core.old.core ≡ core.old.core }
+    ensures core { core.new ≡ core.old }
+    ensures shown { shown.new ≡ port_after core.old shown.old }
+    ensures line { result ≡ not (length (port_text core.old shown.old) == 0) }
+{
+    let mut frame = [0; FRAME_OCTETS];
+    match core.frame(now, shown.port, &mut frame) {
+        Ok(()) => renew(shown, &frame),
+        Err(NoPort) => false,
+    }
+}
+
+// Whether this frame isn't that of a port's latest line; it is from now on.
+fn renew(shown: &mut PortShown, frame: &[u8; FRAME_OCTETS]) -> bool
+    ensures shown { shown.new ≡ with_last shown.old (Some frame.now) }
+    ensures line { (moment : ℕ)
+        → result ≡ not (length (frame_text moment shown.old (Some frame.now)) == 0) }
+{
+    if is_shown(&shown.last, frame) {
+        return false;
+    }
+    shown.last = Some(*frame);
+    true
+}
+
+#[tactic(auto, unfolding(sacn_edge::specs::NodeText::same))]
+fn is_shown(last: &Option<[u8; FRAME_OCTETS]>, frame: &[u8; FRAME_OCTETS]) -> bool
+    ensures { result ≡ is_shown last.now frame.now }
+{
+    match last {
+        Some(last) => last == frame,
+        None => false,
+    }
 }
 
 // Tells a frame of a port, where it has a line.
