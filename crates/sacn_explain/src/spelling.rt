@@ -1,9 +1,10 @@
 //! How names, CIDs and moments are spelled.
 
-ghost use Rattle.std.specs.Prelude.{◌≡◌, ◌≤◌, ◌*◌, ◌++◌, OnOk, length, string_bytes, chars, replicate};
+ghost use Rattle.std.specs.Prelude.{◌≡◌, ◌≤◌, ◌*◌, ◌++◌, OnOk, length, string_bytes, chars, decimal, replicate};
 ghost use Rattle.std.specs.List.{flat_map};
 ghost use Rattle.sacn_explain.specs.Spelling.{flush_left, octets_text, address_text, sender_text, moment_text, escape_text, letter_text, letters_of, name_text};
 
+use itoa::Buffer;
 use sacn_monitor::Sender;
 use std::alloc::AllocError;
 use std::fmt::Write;
@@ -68,6 +69,13 @@ pub fn push_cid(text: &mut String, cid: &[u8; 16]) -> Result<(), AllocError>
     ensures { OnOk result (string_bytes text.new ≡ string_bytes text.old ++ octets_text cid.now) }
 {
     push_digits(text, cid)
+}
+
+/// A number in decimals: the same as a formatter writes, without one.
+pub fn push_decimal(text: &mut String, number: u64) -> Result<(), AllocError>
+    ensures { OnOk result (string_bytes text.new ≡ string_bytes text.old ++ decimal number) }
+{
+    text.push_str(Buffer::new().format(number))
 }
 
 /// An address, a colon and a port.
