@@ -5,12 +5,15 @@ pub mod PageLists
 pub mod Amounts
 pub mod Rivalry
 mod Padding
+mod Digits
 mod Letters
 mod Runs
 mod Texts
 pub mod Telling
 mod RowTexts
 mod Showing
+mod Touching
+mod SlotLines
 mod Hearing
 mod Turns
 mod ListBooks

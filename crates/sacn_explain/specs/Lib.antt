@@ -6,6 +6,7 @@ pub mod Following
 pub mod Story
 pub mod Amounts
 pub mod Staging
+pub mod Touching
 pub mod Contests
 pub mod Spelling
 pub mod Members

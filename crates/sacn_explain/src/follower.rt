@@ -25,7 +25,7 @@ use crate::listings::Listings;
 use crate::options::Options;
 use crate::report::Report;
 use crate::silence::{end_by, next_dark};
-use crate::stage::{Stage, start};
+use crate::stage::Stage;
 use crate::tables;
 use crate::teller::Teller;
 use sacn_monitor::{Monitor, Noted, Sender, Stream, Tally};
@@ -76,7 +76,7 @@ impl<'a, O: Write> Follower<'a, O> {
         let contests = Contests::new(alloc)?;
         let mut teller = Teller::new(alloc, options.form, out);
         let stage = match setup {
-            Some(setup) => Some(start(alloc, setup, &mut teller)?),
+            Some(setup) => Some(Stage::start(alloc, setup, &mut teller)?),
             None => None,
         };
         Ok(Follower {

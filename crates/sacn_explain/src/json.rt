@@ -3,11 +3,10 @@
 ghost use Rattle.std.specs.Prelude.{◌≡◌, ◌++◌, OnOk, string_bytes};
 ghost use Rattle.sacn_explain.specs.Members.{object_front, row_front, number_member, word_member, stream_members, source_members, quoted_address, key_text, sender_members};
 
-use crate::spelling::{push_address, push_cid, push_name};
+use crate::spelling::{push_address, push_cid, push_decimal, push_name};
 use sacn_framing::up_to_nul;
 use sacn_monitor::{Sender, Stream};
 use std::alloc::AllocError;
-use std::fmt::Write;
 
 /// The front of an event's object: the moment and the event's key.
 #[tactic(auto, unfolding(crate::specs::Members::object_front))]
@@ -15,7 +14,11 @@ pub fn begin(text: &mut String, moment: u64, event: &str) -> Result<(), AllocErr
     ensures { OnOk result
         (string_bytes text.new ≡ string_bytes text.old ++ object_front moment event.now) }
 {
-    write!(text, "{{\"ms\":{moment},\"event\":\"{event}\"")
+    text.push_str("{\"ms\":")?;
+    push_decimal(text, moment)?;
+    text.push_str(",\"event\":\"")?;
+    text.push_str(event)?;
+    text.push_str("\"")
 }
 
 /// The front of the object of a table's row.
@@ -23,25 +26,31 @@ pub fn begin(text: &mut String, moment: u64, event: &str) -> Result<(), AllocErr
 pub fn begin_row(text: &mut String, row: &str) -> Result<(), AllocError>
     ensures { OnOk result (string_bytes text.new ≡ string_bytes text.old ++ row_front row.now) }
 {
-    write!(text, "{{\"row\":\"{row}\"")
+    text.push_str("{\"row\":\"")?;
+    text.push_str(row)?;
+    text.push_str("\"")
 }
 
 /// A member that is a number.
-#[tactic(auto, unfolding(crate::specs::Members::number_member))]
+#[tactic(auto, unfolding(crate::specs::Members::number_member, crate::specs::Members::key_text))]
 pub fn push_number(text: &mut String, key: &str, number: u64) -> Result<(), AllocError>
     ensures { OnOk result
         (string_bytes text.new ≡ string_bytes text.old ++ number_member key.now number) }
 {
-    write!(text, ",\"{key}\":{number}")
+    push_key(text, key)?;
+    push_decimal(text, number)
 }
 
 /// A member that is a word.
-#[tactic(auto, unfolding(crate::specs::Members::word_member))]
+#[tactic(auto, unfolding(crate::specs::Members::word_member, crate::specs::Members::key_text))]
 pub fn push_word(text: &mut String, key: &str, word: &str) -> Result<(), AllocError>
     ensures { OnOk result
         (string_bytes text.new ≡ string_bytes text.old ++ word_member key.now word.now) }
 {
-    write!(text, ",\"{key}\":\"{word}\"")
+    push_key(text, key)?;
+    text.push_str("\"")?;
+    text.push_str(word)?;
+    text.push_str("\"")
 }
 
 /// A stream: its universe, CID and name.
@@ -92,5 +101,7 @@ fn push_quoted_address(text: &mut String, address: &[u8; 4]) -> Result<(), Alloc
 pub fn push_key(text: &mut String, key: &str) -> Result<(), AllocError>
     ensures { OnOk result (string_bytes text.new ≡ string_bytes text.old ++ key_text key.now) }
 {
-    write!(text, ",\"{key}\":")
+    text.push_str(",\"")?;
+    text.push_str(key)?;
+    text.push_str("\":")
 }

@@ -8,6 +8,7 @@ mod count;
 mod fault;
 mod follow;
 mod follower;
+mod frames;
 mod json;
 pub mod laws;
 mod lines;
@@ -25,6 +26,7 @@ mod stream_rows;
 mod tables;
 mod teller;
 mod totals;
+mod touched;
 mod words;
 
 pub use fault::ExplainFault;

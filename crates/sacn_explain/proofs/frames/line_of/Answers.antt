@@ -2,7 +2,7 @@ use Rattle.std.proofs.Common.{◌≡◌, ℕ, List, [], ◌++◌, refl, sym, ◌
 use Rattle.std.proofs.lemmas.Option.{same_Some}
 use Rattle.sacn_node.specs.Cores.{Node}
 use Rattle.sacn_edge.specs.PortLines.{ports_text}
-use Rattle.sacn_explain.proofs.stage.line_of.Goals as goal
+use Rattle.sacn_explain.proofs.frames.line_of.Goals as goal
 
 pub returns-in-Ok-clause-lines : goal.returns-in-Ok-clause-lines
 returns-in-Ok-clause-lines c =

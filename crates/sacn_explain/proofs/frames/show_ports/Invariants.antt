@@ -3,7 +3,7 @@ use Rattle.sacn_edge.specs.PortLines.{port_after}
 use Rattle.sacn_explain.specs.Causes.{reason_of}
 use Rattle.sacn_explain.specs.Shows.{frames_told}
 use Rattle.sacn_explain.specs.Tellings.{Tells}
-use Rattle.sacn_explain.proofs.stage.show_ports.Given as goal
+use Rattle.sacn_explain.proofs.frames.show_ports.Given as goal
 
 -- the frames of the ports so far are told, and the rest are as they were
 abbrev pub invariant-loop-shown : goal.invariant-loop-shown
