@@ -17,3 +17,4 @@ mod ListBooks
 mod PageNews
 mod Turning
 mod Waking
+mod Among
