@@ -2,6 +2,7 @@
 use Rattle.std.specs.Prelude.{ℕ, ◌+◌, ◌-◌, nat_lt, max, refl, Bool, false, List, [], ◌∷◌, ◌++◌, filter, map, replicate, slice_set, Option, Some, None, if◌then◌else◌, ◌==◌}
 use Rattle.std.specs.Option.{option_map}
 use Rattle.std.specs.Ordering.{nat_cmp}
+use Rattle.std.specs.Str.{bytes_eq}
 use Rattle.std.specs.Cmp.Lexicographic.{slice_cmp}
 use Rattle.std.specs.FinMap.{FinMap, get, insert, entries, from_sorted}
 use Rattle.std.specs.FinMap as finmap
@@ -86,6 +87,11 @@ list_for (Some known) = list_in known
 
 abbrev pub known_list : State → List ℕ → Option (List ℕ)
 known_list s cid = list_for (get s.sources cid)
+
+-- a list, where it is another one than this
+abbrev pub other_than : List ℕ → Option (List ℕ) → Option (List ℕ)
+other_than known None = None
+other_than known (Some list) = if bytes_eq list known then None else Some list
 
 -- ---- codes
 

@@ -39,7 +39,7 @@ impl Model for Collector {
 
 impl Collector {
     ghost use Rattle.sacn_discovery.specs.Lists.{forgotten};
-    ghost use Rattle.sacn_discovery.specs.Collection.{nothing_known, is_fresh, after_expire, after_take, after_acceptance, goes_on, known_list, with_source, with_page};
+    ghost use Rattle.sacn_discovery.specs.Collection.{nothing_known, is_fresh, after_expire, after_take, after_acceptance, goes_on, known_list, other_than, with_source, with_page};
 
     /// A collector that knows nothing.
     pub fn new(alloc: Global) -> Self
@@ -75,6 +75,24 @@ impl Collector {
     {
         self.expire(now);
         Ok(self.list_at(cid)?)
+    }
+
+    /// The list of a source, as `list_of` gives it, where it is another one than this. Where the pages in their
+    /// order are the known list, none is made.
+    ///
+    /// Errors: OutOfMemory.
+    pub fn other_list(
+        &mut self,
+        now: u64,
+        cid: &[u8; 16],
+        known: &[u16],
+    ) -> Result<Option<Vec<u16>>, DiscoveryFault>
+        ensures list { IfOk result (λ list. option_map (λ v. v.items) list
+            ≡ other_than known.now (known_list (after_expire now self.old) cid.now)) }
+        ensures state { self.new ≡ after_expire now self.old }
+    {
+        self.expire(now);
+        Ok(self.other_at(cid, known)?)
     }
 
     /// Moves the clock, forgets the sources whose latest page is too old, and returns how many those were.
@@ -174,6 +192,17 @@ impl Collector {
     {
         match self.sources.get(cid) {
             Some(heard) => heard.list(self.alloc),
+            None => Ok(None),
+        }
+    }
+
+    // The list of a source, where all its pages are there and it is another one than this.
+    fn other_at(&self, cid: &[u8; 16], known: &[u16]) -> Result<Option<Vec<u16>>, AllocError>
+        ensures { IfOk result (λ list. option_map (λ v. v.items) list
+            ≡ other_than known.now (known_list self.now cid.now)) }
+    {
+        match self.sources.get(cid) {
+            Some(heard) => heard.other_list(self.alloc, known),
             None => Ok(None),
         }
     }

@@ -1,9 +1,10 @@
 //! What is kept of one source of pages.
 
-ghost use Rattle.std.specs.Prelude.{◌≡◌, ◌≤◌, ◌+◌, ◌<◌, ◌==◌, length, replicate, IfOk, None};
+ghost use Rattle.std.specs.Prelude.{◌≡◌, ◌≤◌, ◌+◌, ◌-◌, ◌^◌, ◌<◌, ◌==◌, ◌↔◌, length, min, replicate, IfOk, IsTrue, None, Some};
+ghost use Rattle.std.specs.List.Sorted.{IsStrictlyIncreasing};
 ghost use Rattle.std.specs.Option.{option_map};
 ghost use Rattle.sacn_discovery.specs.SourceViews.{pages_of};
-ghost use Rattle.sacn_discovery.specs.Collection.{first_page, one_more, is_fresh, ascending, joined, list_in};
+ghost use Rattle.sacn_discovery.specs.Collection.{first_page, one_more, is_fresh, ascending, joined, list_in, other_than};
 
 use crate::limits::FORGOTTEN_AFTER;
 use std::alloc::{AllocError, Global};
@@ -85,6 +86,29 @@ impl SourcePages {
             None => Ok(None),
         }
     }
+
+    /// That list, where it is another one than this.
+    pub fn other_list(&self, alloc: Global, known: &[u16]) -> Result<Option<Vec<u16>>, AllocError>
+        ensures { IfOk result (λ list. option_map (λ v. v.items) list
+            ≡ other_than known.now (list_in self.now)) }
+    {
+        if self.lists(known) {
+            return Ok(None);
+        }
+        let list = self.list(alloc)?;
+        Ok(another(list, known))
+    }
+
+    // Whether the pages are these numbers, one page behind the other, and these rise: then they are the list,
+    // and it needn't be made to see so.
+    fn lists(&self, known: &[u16]) -> bool
+        ensures { IsTrue result → list_in self.now ≡ Some known.now }
+    {
+        if !are_joined(self.pages.as_slice(), known) {
+            return false;
+        }
+        rises(known)
+    }
 }
 
 // So many places for pages, all empty.
@@ -98,11 +122,28 @@ fn no_pages(alloc: Global, count: usize) -> Result<Vec<Option<Vec<u16>>>, AllocE
     Ok(pages)
 }
 
-// The numbers of all pages in their order, where every page is there.
+// How many numbers all pages have, where every page is there.
+fn count_of(pages: &[Option<Vec<u16>>]) -> Option<usize>
+    ensures { result ≡ option_map (λ numbers. min (length numbers) (2 ^ 64 - 1)) (joined (pages_of pages.now)) }
+{
+    let mut count: usize = 0;
+    for i in 0..pages.len() {
+        match &pages[i] {
+            Some(numbers) => count = count.saturating_add(numbers.len()),
+            None => return None,
+        }
+    }
+    Some(count)
+}
+
+// The numbers of all pages in their order, where every page is there. Room is taken once, for all of them.
 fn all_numbers(alloc: Global, pages: &[Option<Vec<u16>>]) -> Result<Option<Vec<u16>>, AllocError>
     ensures { IfOk result (λ found. option_map (λ v. v.items) found ≡ joined (pages_of pages.now)) }
 {
-    let mut numbers = Vec::new(alloc);
+    let Some(count) = count_of(pages) else {
+        return Ok(None);
+    };
+    let mut numbers = Vec::with_capacity(alloc, count)?;
     for i in 0..pages.len() {
         match &pages[i] {
             Some(more) => numbers.extend_from_slice(more.as_slice())?,
@@ -112,12 +153,61 @@ fn all_numbers(alloc: Global, pages: &[Option<Vec<u16>>]) -> Result<Option<Vec<u
     Ok(Some(numbers))
 }
 
-// Ascending, each once.
+// Ascending, each once. Numbers that rise already, as those of pages do, are left as they are.
 fn in_order(numbers: Vec<u16>) -> Vec<u16>
     ensures { result.items ≡ ascending numbers.items }
 {
+    if rises(numbers.as_slice()) {
+        return numbers;
+    }
     let mut numbers = numbers;
     numbers.sort_unstable();
     numbers.dedup();
     numbers
+}
+
+// Whether each number is below the next one. It looks at all of them, so that it can look at many at once.
+fn rises(numbers: &[u16]) -> bool
+    ensures { IsTrue result ↔ IsStrictlyIncreasing numbers.now }
+{
+    let mut rises = true;
+    for i in 1..numbers.len() {
+        rises &= numbers[i - 1] < numbers[i];
+    }
+    rises
+}
+
+// A list, where it is another one than this.
+fn another(list: Option<Vec<u16>>, known: &[u16]) -> Option<Vec<u16>>
+    ensures { option_map (λ v. v.items) result
+        ≡ other_than known.now (option_map (λ v. v.items) list) }
+{
+    match list {
+        Some(list) => {
+            if list.as_slice() == known {
+                return None;
+            }
+            Some(list)
+        }
+        None => None,
+    }
+}
+
+// Whether these numbers are those of all pages in their order.
+fn are_joined(pages: &[Option<Vec<u16>>], known: &[u16]) -> bool
+    ensures { IsTrue result → joined (pages_of pages.now) ≡ Some known.now }
+{
+    let mut at: usize = 0;
+    for i in 0..pages.len() {
+        match &pages[i] {
+            Some(numbers) => {
+                if !known[at..].starts_with(numbers.as_slice()) {
+                    return false;
+                }
+                at += numbers.len();
+            }
+            None => return false,
+        }
+    }
+    at == known.len()
 }

@@ -1,5 +1,10 @@
-use Rattle.sacn_discovery.proofs.Ascending.{kept}
+use Rattle.std.proofs.Common.{subst}
+use Rattle.std.specs.List.Sorted.{IsStrictlyIncreasing}
+use Rattle.sacn_discovery.proofs.Ascending.{kept, risen}
 use Rattle.sacn_discovery.proofs.source_pages.in_order.Goals as goal
+
+pub returns-then-rises : goal.returns-then-rises
+returns-then-rises c = risen c.args.numbers.items (subst IsStrictlyIncreasing c.as_slice.ensures.value (c.rises.ensures.0 c.if-rises.true))
 
 pub returns : goal.returns
 returns c = kept c.args.numbers.items c.sort_unstable.new.self.items c.dedup.new.self.items c.sort_unstable.ensures.permutation c.sort_unstable.ensures.sorted c.dedup.ensures.filtered
