@@ -20,3 +20,4 @@ mod ListBooks
 mod PageNews
 mod Turning
 mod Waking
+mod Among

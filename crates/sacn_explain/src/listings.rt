@@ -1,8 +1,9 @@
 //! The universes that sources list (E1.31, 8).
 
-ghost use Rattle.std.specs.Prelude.{◌≡◌, ◌<◌, ◌++◌, ◌∷◌, [], IfErr, IfOk, OnOk, Some, length, map, slice_get, if◌then◌else◌};
+ghost use Rattle.std.specs.Prelude.{◌≡◌, ◌==◌, ◌<◌, ◌++◌, ◌∷◌, ℕ, [], IfErr, IfOk, OnOk, Some, filter, length, map, not, slice_get, if◌then◌else◌};
 ghost use Rattle.std.specs.Str.{bytes_eq};
 ghost use Rattle.std.specs.List.{list_any, position};
+ghost use Rattle.std.specs.List.Sorted.{IsNonDecreasing};
 ghost use Rattle.std.specs.Option.{option_map};
 ghost use Rattle.sacn_explain.specs.Lists.{is_heard, silent, is_unlisted, unlisted};
 ghost use Rattle.sacn_explain.specs.Lines.{kept_list};
@@ -241,14 +242,58 @@ impl Listing {
     }
 }
 
-// Whether a source was heard on a universe.
-fn is_heard(streams: &[Stream], cid: &[u8; 16], universe: u16) -> bool
-    ensures { result ≡ is_heard streams.now cid.now universe }
+// The universes of a source's streams, in the order in which they appeared.
+fn universes_of(alloc: Global, streams: &[Stream], cid: &[u8; 16]) -> Result<Vec<u16>, AllocError>
+    ensures { IfOk result (λ found. found.items
+        ≡ map (λ s. s.universe) (filter (λ s. bytes_eq s.cid cid.now) streams.now)) }
 {
-    streams.iter().any(|stream| (stream.universe == universe) & (stream.cid == *cid))
+    streams
+        .iter()
+        .filter(|heard| heard.cid == *cid)
+        .map(|heard| heard.universe)
+        .collect(alloc)
 }
 
-/// The universes that a source lists, and on which it wasn't heard.
+// The universes on which a source was heard, ascending, so that each is found in a few steps.
+fn heard_universes(
+    alloc: Global,
+    streams: &[Stream],
+    cid: &[u8; 16],
+) -> Result<Vec<u16>, AllocError>
+    ensures ascend { IfOk result (λ heard. IsNonDecreasing heard.items) }
+    ensures members { IfOk result (λ heard. (universe : ℕ)
+        → list_any (λ n. n == universe) heard.items ≡ is_heard streams.now cid.now universe) }
+{
+    let mut heard = universes_of(alloc, streams, cid)?;
+    heard.sort_unstable();
+    Ok(heard)
+}
+
+// Whether a number is among some that ascend.
+fn is_among(numbers: &[u16], number: u16) -> bool
+    requires { IsNonDecreasing numbers.now }
+    ensures { result ≡ list_any (λ n. n == number) numbers.now }
+{
+    numbers.binary_search(&number).is_ok()
+}
+
+// Those of some numbers that aren't among others, which ascend.
+fn others(alloc: Global, numbers: &[u16], heard: &[u16]) -> Result<Vec<u16>, AllocError>
+    requires { IsNonDecreasing heard.now }
+    ensures { IfOk result (λ left. left.items
+        ≡ filter (λ number. not (list_any (λ n. n == number) heard.now)) numbers.now) }
+{
+    let mut left = Vec::new(alloc);
+    for i in 0..numbers.len() {
+        if !is_among(heard, numbers[i]) {
+            left.push(numbers[i])?;
+        }
+    }
+    Ok(left)
+}
+
+/// The universes that a source lists, and on which it wasn't heard. The streams are looked at once, however many
+/// universes are listed.
 pub fn silent_universes(
     alloc: Global,
     streams: &[Stream],
@@ -257,18 +302,18 @@ pub fn silent_universes(
 ) -> Result<Vec<u16>, AllocError>
     ensures { IfOk result (λ found. found.items ≡ silent streams.now cid.now listed.now) }
 {
-    listed
-        .iter()
-        .copied()
-        .filter(|universe| !is_heard(streams, cid, *universe))
-        .collect(alloc)
+    let heard = heard_universes(alloc, streams, cid)?;
+    others(alloc, listed, heard.as_slice())
 }
 
 // Whether it is a stream of a source, on a universe that the source doesn't list.
 fn is_unlisted(stream: &Stream, cid: &[u8; 16], listed: &[u16]) -> bool
     ensures { result ≡ is_unlisted cid.now listed.now stream.now }
 {
-    (stream.cid == *cid) & !listed.contains(&stream.universe)
+    if stream.cid != *cid {
+        return false;
+    }
+    !listed.contains(&stream.universe)
 }
 
 /// The universes on which a source was heard, and that it doesn't list, in the order in which it appeared there.
