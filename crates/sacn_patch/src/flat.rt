@@ -254,7 +254,8 @@ fn joined(mark: Mark, next: Mark) -> Mark
     if next.slot as u32 != mark.slot as u32 + 1 {
         return mark;
     }
-    if next.octet < mark.octet || 255 < next.octet - mark.octet {
+    // Octets further apart aren't copied at once.
+    if next.octet <= mark.octet || 2 < next.octet - mark.octet {
         return mark;
     }
     let step = (next.octet - mark.octet) as u8;
