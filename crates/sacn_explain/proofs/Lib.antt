@@ -18,3 +18,4 @@ mod PageNews
 mod Turning
 mod Waking
 mod Among
+mod KeptAlready
