@@ -21,3 +21,4 @@ mod PageNews
 mod Turning
 mod Waking
 mod Among
+mod KeptAlready

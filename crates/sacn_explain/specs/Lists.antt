@@ -1,8 +1,9 @@
 -- The universes that a source lists, beside those on which it was heard.
-use Rattle.std.specs.Prelude.{ℕ, Bool, not, ◌&&◌, ◌==◌, List, filter, map}
+use Rattle.std.specs.Prelude.{ℕ, Bool, not, ◌&&◌, ◌==◌, List, Option, None, Some, filter, map}
 use Rattle.std.specs.Str.{bytes_eq}
 use Rattle.std.specs.List.{list_any}
 use Rattle.sacn_monitor.specs.declared.stream.Stream.{Stream}
+use Rattle.sacn_discovery.specs.Collection.{other_than}
 
 -- the source of this CID was heard on this universe
 abbrev pub is_heard : List Stream → List ℕ → ℕ → Bool
@@ -19,3 +20,8 @@ is_unlisted cid listed s = bytes_eq s.cid cid && not (list_any (λ universe. uni
 -- heard, and not listed
 abbrev pub unlisted : List Stream → List ℕ → List ℕ → List ℕ
 unlisted streams cid listed = map (λ s. s.universe) (filter (is_unlisted cid listed) streams)
+
+-- a list that came whole, where it is another one than the one that is kept
+abbrev pub beside : Option (List ℕ) → Option (List ℕ) → Option (List ℕ)
+beside None list = list
+beside (Some kept) list = other_than kept list

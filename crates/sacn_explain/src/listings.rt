@@ -4,10 +4,11 @@ ghost use Rattle.std.specs.Prelude.{◌≡◌, ◌==◌, ◌<◌, ◌++◌, ◌�
 ghost use Rattle.std.specs.Str.{bytes_eq};
 ghost use Rattle.std.specs.List.{list_any, position};
 ghost use Rattle.std.specs.List.Sorted.{IsNonDecreasing};
-ghost use Rattle.std.specs.Option.{option_map};
-ghost use Rattle.sacn_explain.specs.Lists.{is_heard, silent, is_unlisted, unlisted};
+ghost use Rattle.std.specs.Option.{option_and_then, option_map};
+ghost use Rattle.sacn_discovery.specs.Collection.{after_expire, known_list};
+ghost use Rattle.sacn_explain.specs.Lists.{beside, is_heard, silent, is_unlisted, unlisted};
 ghost use Rattle.sacn_explain.specs.Lines.{kept_list};
-ghost use Rattle.sacn_explain.specs.ListBooks.{after_heard, after_list, heard_news, list_at, list_book, list_news, news_in, news_of, page_news, put_list, with_list, with_source};
+ghost use Rattle.sacn_explain.specs.ListBooks.{after_heard, after_list, heard_news, list_at, list_book, list_news, news_in, news_of, page_news, put_list, with_list, with_pages, with_source};
 ghost use Rattle.sacn_explain.specs.ListBooks as books;
 ghost use Rattle.sacn_explain.specs.KeptLists.{after_page, collected, is_read, listed_in, listing_of, none_listed};
 
@@ -171,10 +172,26 @@ impl Listings {
     {
         self.collector.take(now, page)?;
         let cid = page.cid();
-        match self.collector.list_of(now, &cid)? {
+        match self.new_list(now, &cid)? {
             Some(universes) => self.keep(&cid, page.name(), universes),
             None => Ok(PageNews::Nothing),
         }
+    }
+
+    // The whole list of a source, where it is another one than the one that is kept, which would tell nothing: then
+    // none is made.
+    fn new_list(&mut self, now: u64, cid: &[u8; 16]) -> Result<Option<Vec<u16>>, DiscoveryFault>
+        ensures list { IfOk result (λ list. option_map (λ v. v.items) list
+            ≡ beside (option_and_then (λ l. l.universes) (list_at cid.now (list_book self.old)))
+            (known_list (after_expire now self.old.collector) cid.now)) }
+        ensures book { list_book self.new
+            ≡ with_pages (after_expire now self.old.collector) (list_book self.old) }
+        ensures listed { listed_in self.new ≡ listed_in self.old }
+        ensures collector { self.new.collector ≡ after_expire now self.old.collector }
+    {
+        let place = self.place_of(cid);
+        let kept = listing_at(&self.known, place);
+        list_beside(&mut self.collector, kept, now, cid)
     }
 
     // A whole list of a source that is known.
@@ -198,6 +215,35 @@ impl Listings {
     }
 }
 
+// What is kept at a place.
+fn listing_at(known: &[Listing], place: Option<usize>) -> Option<&Listing>
+    ensures { option_map (λ l. kept_list l.now) result
+        ≡ option_and_then (λ i. slice_get (map kept_list known.now) i) place }
+{
+    match place {
+        Some(place) => known.get(place),
+        None => None,
+    }
+}
+
+// The whole list of a source, where it is another one than that of this listing.
+fn list_beside(
+    collector: &mut Collector,
+    kept: Option<&Listing>,
+    now: u64,
+    cid: &[u8; 16],
+) -> Result<Option<Vec<u16>>, DiscoveryFault>
+    ensures list { IfOk result (λ list. option_map (λ v. v.items) list
+        ≡ beside (option_and_then (λ l. l.universes) (option_map (λ l. kept_list l.now) kept.entry))
+        (known_list (after_expire now collector.old) cid.now)) }
+    ensures state { collector.new ≡ after_expire now collector.old }
+{
+    match kept {
+        Some(listing) => listing.other_list(collector, now, cid),
+        None => collector.list_of(now, cid),
+    }
+}
+
 // A whole list of the source at a place.
 fn keep_at(
     alloc: Global,
@@ -218,6 +264,24 @@ fn keep_at(
 }
 
 impl Listing {
+    // The whole list of a source, where it is another one than this.
+    fn other_list(
+        &self,
+        collector: &mut Collector,
+        now: u64,
+        cid: &[u8; 16],
+    ) -> Result<Option<Vec<u16>>, DiscoveryFault>
+        ensures list { IfOk result (λ list. option_map (λ v. v.items) list
+            ≡ beside (kept_list self.now).universes
+            (known_list (after_expire now collector.old) cid.now)) }
+        ensures state { collector.new ≡ after_expire now collector.old }
+    {
+        match &self.universes {
+            Some(known) => collector.other_list(now, cid, known.as_slice()),
+            None => collector.list_of(now, cid),
+        }
+    }
+
     // A whole list.
     fn keep(
         &mut self,
