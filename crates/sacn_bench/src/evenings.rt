@@ -9,10 +9,8 @@ use crate::work::Work;
 use sacn_console::limits::MAX_DATAGRAM;
 use sacn_console::{Command, ConsoleCore, read_show};
 use sacn_node::{NodeCore, read_node};
+use sacn_universe::FRAME_OCTETS;
 use std::alloc::{AllocError, Global};
-
-/// The octets of a frame: start code and slots.
-const FRAME: usize = 513;
 
 /// Evenings of consoles of 4, 64 and 1024 universes and of nodes that show 16 universes of 16 sources, or of 2, in a flood of others.
 pub fn evenings(work: &Work, digest: &mut Digest) -> Result<(), WorkFault> {
@@ -100,11 +98,12 @@ fn node(
     digest: &mut Digest,
 ) -> Result<(), WorkFault> {
     let mut text = String::new(work.alloc);
-    push_setup(&mut text, "", 1, 1)?;
+    let mut chance = Chance::new(seed, 5 + u64::from(sources));
+    let first = chance.below(60_000) as u16 + 1;
+    push_setup(&mut text, "", u32::from(first), 1)?;
     let setup = read_node(work.alloc, text.as_str())?;
     let mut core = NodeCore::new(work.alloc, &setup)?;
-    let mut chance = Chance::new(seed, 5);
-    let mut voices = voices(work.alloc, sources, &mut chance)?;
+    let mut voices = voices(work.alloc, first, sources, &mut chance)?;
     let rates = Rates {
         trouble: 12,
         turns: 4,
@@ -117,17 +116,23 @@ fn node(
         let event = rates.event(&mut chance);
         if let Some(voice) = voices.get_mut(at) {
             voice.speak(micros, event, &mut chance);
-            hear(&mut core, micros / 1000, voice, digest)?;
+            hear(&mut core, first, micros / 1000, voice, digest)?;
         }
     }
     Ok(())
 }
 
 // The voices of so many sources on each of 32 universes.
-fn voices(alloc: Global, sources: u16, chance: &mut Chance) -> Result<Vec<Voice>, AllocError> {
+fn voices(
+    alloc: Global,
+    first: u16,
+    sources: u16,
+    chance: &mut Chance,
+) -> Result<Vec<Voice>, AllocError> {
     let mut voices = Vec::new(alloc);
     for source in 0..sources {
-        for universe in 1..=32u16 {
+        for number in 0..32 {
+            let universe = first.saturating_add(number);
             voices.push(Voice::new(u32::from(source), universe, chance))?;
         }
     }
@@ -136,14 +141,15 @@ fn voices(alloc: Global, sources: u16, chance: &mut Chance) -> Result<Vec<Voice>
 
 fn hear(
     core: &mut NodeCore,
+    first: u16,
     now: u64,
     voice: &Voice,
     digest: &mut Digest,
 ) -> Result<(), WorkFault> {
     let change = core.take_and_tell(now, voice.datagram());
     if let Some(universe) = change.universe {
-        let mut frame = [0; FRAME];
-        let port = (universe & 31) as u8;
+        let mut frame = [0; FRAME_OCTETS];
+        let port = (universe.saturating_sub(first) & 15) as u8 + 1;
         digest.count(u64::from(core.frame(now, port, &mut frame).is_ok()))?;
         digest.take(&frame)?;
     }

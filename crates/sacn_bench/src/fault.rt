@@ -15,6 +15,8 @@ pub enum WorkFault {
     OutOfMemory,
     #[error("there is no such workload, or its seed or its rounds are no numbers")]
     Words,
+    #[error("a file of no kind")]
+    NoKind,
     #[error("a recording: {0}")]
     Recording(ExplainFault),
     #[error("a simulation: {0}")]

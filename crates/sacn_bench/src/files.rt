@@ -69,7 +69,7 @@ pub fn files(work: &Work, digest: &mut Digest) -> Result<(), WorkFault> {
 // Checks a file as the command does.
 fn check(work: &Work, name: &str, text: &str, digest: &mut Digest) -> Result<(), WorkFault> {
     let Some(kind) = kind_of(work.alloc, text)? else {
-        return Err(WorkFault::Words);
+        return Err(WorkFault::NoKind);
     };
     let findings = faults_of(work.alloc, kind, text)?;
     write_report(work.alloc, name, kind, &findings, digest)?;

@@ -35,9 +35,13 @@ fn main(rt: HostRuntime) -> ExitCode {
 /// Prints the digest of each job that is asked for; whether all were done.
 fn run(rt: &HostRuntime) -> Result<bool, io::Error> {
     let words: Vec<String> = env::args(rt)?.collect(rt.alloc())?;
-    let mut is_done = true;
+    let asked = match words.get(1) {
+        Some(word) => word.as_str(),
+        None => "",
+    };
+    let mut is_done = (asked == "all") | JOBS.contains(&asked);
     for name in JOBS {
-        if is_asked(words.as_slice(), name) {
+        if (asked == "all") | (asked == name) {
             match digest_of(rt.alloc(), name, words.as_slice()) {
                 Ok(value) => println!(rt; "{name} {value:016x}")?,
                 Err(fault) => {
@@ -48,14 +52,6 @@ fn run(rt: &HostRuntime) -> Result<bool, io::Error> {
         }
     }
     Ok(is_done)
-}
-
-// Whether a job is asked for, by its name or with all.
-fn is_asked(words: &[String], name: &str) -> bool {
-    match words.get(1) {
-        Some(word) => (word.as_str() == name) | (word.as_str() == "all"),
-        None => false,
-    }
 }
 
 fn number_in(words: &[String], place: usize) -> Result<u32, WorkFault> {
@@ -81,7 +77,8 @@ fn digest_of(alloc: Global, name: &str, words: &[String]) -> Result<u64, WorkFau
         "crowd" => tellings::crowd(&work, &mut digest)?,
         "worlds" => worlds::worlds(&work, &mut digest)?,
         "files" => files::files(&work, &mut digest)?,
-        _ => evenings::evenings(&work, &mut digest)?,
+        "evenings" => evenings::evenings(&work, &mut digest)?,
+        _ => return Err(WorkFault::Words),
     }
     Ok(digest.value()?)
 }

@@ -25,7 +25,7 @@ pub struct Venue {
     pub sources: u16,
     /// How many packets are recorded.
     pub packets: u32,
-    /// How many packets a source sends on a universe in each of its periods of 44 a second, as a divisor: 1 for all, 4 for every fourth.
+    /// A source sends on a universe 44 times a second at 1, half as often at 2, and so on.
     pub slowness: u64,
     pub rates: Rates,
     /// The sources that send lists of universes, and the pages of each.

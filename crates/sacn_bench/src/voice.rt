@@ -76,7 +76,7 @@ pub enum Event {
 /// How often one thing happens, of 4096 packets of a source.
 #[derive(Clone, Copy)]
 pub struct Rates {
-    /// Each kind of trouble on the way, a sixth of this.
+    /// Trouble on the way: a half of it numbers that are skipped, and a sixth each packets repeated, late and spoilt.
     pub trouble: u32,
     /// An end, or another priority.
     pub turns: u32,
