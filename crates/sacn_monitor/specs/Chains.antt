@@ -8,7 +8,7 @@ use Rattle.sacn_monitor.specs.Streams.{is_of}
 
 -- the chain of a source on a universe
 abbrev pub chain_by : ℕ → List ℕ → ℕ
-chain_by universe cid = (universe + get_or cid 14 0 * 256 + get_or cid 15 0) % CHAINS
+chain_by universe cid = (universe * 37 + get_or cid 14 0 * 256 + get_or cid 15 0) % CHAINS
 
 -- the chain that a stream is in
 abbrev pub chain_of : Stream → ℕ

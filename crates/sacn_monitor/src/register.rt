@@ -124,13 +124,14 @@ impl Register {
         ensures place { result ≡ silent_place moment self.old }
         ensures streams { self.new ≡ self.old }
     {
-        if moment >= self.quiet_until {
-            self.quiet_until = next_loss(self.streams.as_slice());
-        }
         if moment < self.quiet_until {
             return None;
         }
-        silent_place(self.streams.as_slice(), moment)
+        let place = silent_place(self.streams.as_slice(), moment);
+        if place.is_none() {
+            self.quiet_until = next_loss(self.streams.as_slice());
+        }
+        place
     }
 
     /// A stream more, of a universe and a source that no other has.
@@ -148,10 +149,10 @@ impl Register {
 }
 
 // The chain of a source on a universe. Universes in a row are in chains of their own, and so mostly are sources of one
-// universe, which differ in the last octets of their CIDs.
+// universe, which differ in the last octets of their CIDs; the factor keeps rows of both apart.
 fn chain_by(universe: u16, cid: &[u8; 16]) -> usize
     ensures chain { result ≡ chain_by universe cid.now }
     ensures low { result < CHAINS }
 {
-    (usize::from(universe) + usize::from(cid[14]) * 256 + usize::from(cid[15])) % CHAINS
+    (usize::from(universe) * 37 + usize::from(cid[14]) * 256 + usize::from(cid[15])) % CHAINS
 }

@@ -6,8 +6,7 @@ use crate::words::join;
 use itoa::Buffer;
 use std::alloc::{AllocError, Global};
 
-// Adds a slot with its level after a space, nothing where it is dark. Its digits come from a table, where a formatter would write them
-// into a text of their own.
+// Adds a slot with its level after a space, nothing where it is dark. Its digits come from a table and not from a formatter.
 fn push_slot(text: &mut Vec<u8>, slot: usize, level: u8) -> Result<(), AllocError>
     ensures { OnOk result (text.new.items ≡ text.old.items ++ slot_words slot level) }
 {

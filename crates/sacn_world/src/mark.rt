@@ -71,7 +71,7 @@ impl Mark {
     }
 }
 
-/// Whether two CIDs are the same. It compares two numbers of eight octets, where their order would compare octet by octet.
+/// Whether two CIDs are the same: their octets, all at once.
 #[tactic(auto, using(crate::proofs::SameCids::same_octets))]
 pub(crate) fn is_same(a: &[u8; 16], b: &[u8; 16]) -> bool
     ensures { result ≡ same a.now b.now }
