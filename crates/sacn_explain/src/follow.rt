@@ -57,7 +57,25 @@ pub fn explain<R: BufRead + Drop, O: Write>(
 {
     let mut capture = Capture::open(alloc, capture)?;
     let mut follower = Follower::new(alloc, *options, setup, out)?;
-    let progress = follow(&mut capture, &mut follower, options.port)?;
+    tell_all(&mut capture, &mut follower, options.port)
+}
+
+// Tells a recording to its end, or to what is wrong with it, and then the tables.
+fn tell_all<R: BufRead + Drop, O: Write>(
+    capture: &mut Capture<R>,
+    follower: &mut Follower<'_, O>,
+    port: u16,
+) -> Result<Report, ExplainFault>
+    requires nothing { follower.old.monitor ≡ new_book }
+    requires moment { follower.old.moment ≡ 0 }
+    requires lists { listed_in follower.old.listings ≡ none_listed }
+    requires frames { counts_of capture.old ≡ none_counted }
+    ensures told { IfSome (to_come R.Read.remaining capture.old)
+        (λ told. IfOk result (λ report. IsAccountOf port told report)) }
+    ensures fault { IfSome (to_come R.Read.remaining capture.old)
+        (λ told. IfErr result (λ fault. IsFaultOf told fault)) }
+{
+    let progress = follow(capture, follower, port)?;
     let report = Report {
         frames: capture.counts(),
         tally: *follower.tally(),
