@@ -9,7 +9,7 @@ ghost use Rattle.sacn_monitor.specs.Chains.{chain_by};
 ghost use Rattle.sacn_monitor.specs.Streams.{is_of, stream_after};
 
 use crate::account::Sender;
-use crate::limits::{CHAINS, MAX_STREAMS};
+use crate::limits::{CHAINS, LONGEST_WALK, MAX_STREAMS};
 use crate::news::News;
 use crate::silence::{next_loss, silent_place};
 use crate::stream::Stream;
@@ -21,7 +21,8 @@ use std::marker::Model;
 ///
 /// They stand in `CHAINS` chains, by their universes and sources: `latest` has for each chain the mark of its latest stream,
 /// and `before` for each stream the mark of the one before it in its chain. A mark is one more than the place of a stream,
-/// and 0 marks none. So a stream is found among those of its chain, which mostly are few.
+/// and 0 marks none. So a stream is found among those of its chain, which mostly are few; where a chain is long, a look at all
+/// streams in turn, which costs less a stream, takes over after some steps.
 #[derive(Drop)]
 pub(crate) struct Register {
     streams: Vec<Stream>,
@@ -81,11 +82,16 @@ impl Register {
         ensures { result ≡ position (is_of universe cid.now) self.now }
     {
         let mut mark = self.latest[chain_by(universe, cid)];
+        let mut steps = 0;
         while mark > 0 {
             let place = usize::from(mark) - 1;
             if self.streams[place].is_of(universe, cid) {
                 return Some(place);
             }
+            if steps >= LONGEST_WALK {
+                return place_in(self.streams.as_slice(), universe, cid);
+            }
+            steps += 1;
             mark = self.before[place];
         }
         None
@@ -146,6 +152,16 @@ impl Register {
         self.streams.push_reserved(stream);
         self.latest[chain] = self.streams.len() as u16;
     }
+}
+
+// The place of the stream of a source on a universe, by a look at all in turn: what a chain of any length gives, where it is
+// so long that someone seems to have chosen the sources of it.
+fn place_in(streams: &[Stream], universe: u16, cid: &[u8; 16]) -> Option<usize>
+    ensures { result ≡ position (is_of universe cid.now) streams.now }
+{
+    streams
+        .iter()
+        .position(|stream| stream.is_of(universe, cid))
 }
 
 // The chain of a source on a universe. Universes in a row are in chains of their own, and so mostly are sources of one
