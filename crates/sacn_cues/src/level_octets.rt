@@ -8,18 +8,30 @@ use sacn_patch::MAX_CHANNELS;
 /// The places of the octets of all levels: two for each channel, and two before them.
 pub(crate) const OCTETS: usize = 2 * MAX_CHANNELS as usize + 2;
 
+/// The most channels that are reckoned by the list; beyond, going over all in turn costs less.
+pub(crate) const MOST_LISTED: usize = MAX_CHANNELS as usize / 4 * 3;
+
 /// Room for the octets of all levels after the master, and whether they stand in it.
 #[derive(Drop)]
 pub(crate) struct LevelOctets {
     // Those of channel c at 2 c and 2 c + 1, the high one first, and 0 before them.
     pub(crate) octets: Vec<u8>,
     pub(crate) is_ready: bool,
+    // Room for a list of channels, counted from 0, and how many stand in it, once all were reckoned
+    // and no command has come since. The fade of each other channel is over, and its octets are right
+    // at any later moment: so a reckoning costs the channels that fade, and not all of them.
+    pub(crate) moving: Vec<u16>,
+    pub(crate) listed: Option<usize>,
 }
 
 /// A level after the master.
 pub(crate) fn mastered(level: u16, master: u16) -> u16
     ensures { result ≡ level * master / limits.FULL }
 {
+    // At full, as a master mostly is, the level itself: neither product nor quotient.
+    if master == FULL {
+        return level;
+    }
     (level as u32 * master as u32 / FULL as u32) as u16
 }
 
