@@ -1,11 +1,11 @@
 -- The list of channels that still move, as a reckoning writes it.
-use Rattle.std.proofs.Common.{◌≡◌, ℕ, ◌+◌, ◌*◌, ◌/◌, ◌<◌, ◌≤◌, List, length, set, get_or, sym, ap, ◌∙◌, arith, inl, inr}
+use Rattle.std.proofs.Common.{◌≡◌, ℕ, ◌+◌, ◌-◌, ◌*◌, ◌/◌, ◌<◌, ◌≤◌, List, length, set, get_or, sym, ap, ◌∙◌, arith, inl, inr}
 use Rattle.std.proofs.lemmas.Bool.{cases_eq}
 use Rattle.std.proofs.lemmas.List.{get_or-set_same, get_or-set_other}
 use Rattle.sacn_patch.specs.declared.limits.TheConstants.{MAX_CHANNELS}
 use Rattle.sacn_cues.specs.declared.limits.TheConstants.{FULL}
 use Rattle.sacn_cues.specs.Levels.{Ramp, level_in, IsOver}
-use Rattle.sacn_cues.specs.LevelOctets.{HasLevel, IsPut, AreChannels, IsAbsent}
+use Rattle.sacn_cues.specs.LevelOctets.{HasLevel, IsPut, AreChannels, IsAbsent, IsKept}
 use Rattle.sacn_cues.proofs.Octets.{other_put, own_put}
 
 -- a channel is written behind the first so many, and counted or not
@@ -70,3 +70,16 @@ module _ (fades : List Ramp) (now master i at : ℕ) (blank : Ramp) (same : i �
 
   pub level_then : (later : ℕ) → now ≤ later → IsOver (get_or fades at blank) now → level_in (get_or fades i blank) later * master / FULL ≡ level_in (get_or fades at blank) now * master / FULL
   level_then later le over = ap (λ (k : ℕ). level_in (get_or fades k blank) later * master / FULL) same ∙ ap (λ (n : ℕ). n * master / FULL) (over later le)
+
+-- one channel is listed more, whose fade alone may be another now
+pub one_more_kept : (octets list after : List ℕ) (n at : ℕ) (fades new : List Ramp) (master moment now : ℕ) → 1 ≤ n → n ≤ length list → length list ≡ MAX_CHANNELS → at < MAX_CHANNELS → after ≡ set list (n - 1) at → moment ≤ now → ((i : ℕ) (blank : Ramp) → (i ≡ at → ⊥) → get_or new i blank ≡ get_or fades i blank) → IsKept octets list (n - 1) fades master moment → IsKept octets after n new master now
+one_more_kept octets list after n at fades new master moment now some few long inside written le others kept =
+    let room : n - 1 < length list = omega (arith, some, few) in
+    let least : n - 1 ≤ n = omega arith in
+    let most : n ≤ n - 1 + 1 = omega arith in (
+      omega (arith, few, long),
+      more_channels list after (n - 1) n at room written least most inside kept.1,
+      λ i within none later blank from.
+          let apart : i ≡ at → ⊥ = λ same. none (n - 1) (omega arith) (omega (arith, some)) (own_place list after (n - 1) n at room written least most ∙ sym same) in
+          rw (others i blank apart) (kept.2 i within (absent_before list after (n - 1) n at room written least most i none) later blank (omega (arith, le, from))),
+    )
