@@ -123,3 +123,14 @@ pub length-begun_to : (up down now : ℕ) (targets : Targets) (fades : List Ramp
 length-begun_to up down now targets [] = refl
 length-begun_to up down now [] (fade ∷ fades) = refl
 length-begun_to up down now (target ∷ targets) (fade ∷ fades) = ap suc (length-begun_to up down now targets fades)
+
+-- a channel to which a command gives nothing
+pub as_before : (gives : ℕ → Option Given) (now first : ℕ) (fades : List Ramp) (i : ℕ) (blank : Ramp) → gives (first + i) ≡ None → get_or (all_begun gives now first fades) i blank ≡ get_or fades i blank
+as_before gives now first [] i blank none = refl
+as_before gives now first (fade ∷ fades) zero blank none = let here : first + 0 ≡ first = omega arith in ap (λ (o : Option Given). begun_if_given now o fade) (ap gives (sym here) ∙ none)
+as_before gives now first (fade ∷ fades) (suc i) blank none = let e : suc first + i ≡ first + suc i = omega arith in as_before gives now (suc first) fades i blank (ap gives e ∙ none)
+
+pub unset : (channel level now i : ℕ) (fades : List Ramp) (blank : Ramp) → (i + 1 ≡ channel → ⊥) → get_or (all_begun (set_to channel level) now 1 fades) i blank ≡ get_or fades i blank
+unset channel level now i fades blank apart =
+    let other : (channel == 1 + i) ≡ false = grind (arith, nat_tests, apart) in
+    as_before (set_to channel level) now 1 fades i blank (ap (λ (b : Bool). if b then Some (record { level = level; up = 0; down = 0 }) else None) other)

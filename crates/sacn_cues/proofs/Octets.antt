@@ -24,13 +24,13 @@ module _ (octets new : List ℕ) (at level : ℕ) (room : 2 * at + 3 < length oc
   pub before_put : (k : ℕ) → k < 2 → get_or new k 0 ≡ get_or octets k 0
   before_put k lt = other_place k (λ e. omega (arith, lt, e)) (λ e. omega (arith, lt, e))
 
-  earlier_put : (i x : ℕ) → i < at → HasLevel octets i x → HasLevel new i x
-  earlier_put i x lt has = (
-    other_place (2 * i + 2) (λ e. omega (arith, lt, e)) (λ e. omega (arith, lt, e)) ∙ has.0,
-    other_place (2 * i + 3) (λ e. omega (arith, lt, e)) (λ e. omega (arith, lt, e)) ∙ has.1,
+  pub other_put : (i x : ℕ) → (i ≡ at → ⊥) → HasLevel octets i x → HasLevel new i x
+  other_put i x apart has = (
+    other_place (2 * i + 2) (λ e. apart (omega (arith, e))) (λ e. omega (arith, e)) ∙ has.0,
+    other_place (2 * i + 3) (λ e. omega (arith, e)) (λ e. apart (omega (arith, e))) ∙ has.1,
   )
 
-  own_put : HasLevel new at level
+  pub own_put : HasLevel new at level
   own_put =
       let wide : 2 * at + 3 < length (set octets (2 * at + 2) (level / 256)) = omega (arith, room, length-set octets (2 * at + 2) (level / 256)) in
       let apart : 2 * at + 2 ≡ 2 * at + 3 → ⊥ = λ e. omega (arith, e) in (
@@ -40,13 +40,6 @@ module _ (octets new : List ℕ) (at level : ℕ) (room : 2 * at + 3 < length oc
         ap (λ (xs : List ℕ). get_or xs (2 * at + 3) 0) is
             ∙ get_or-set_same (set octets (2 * at + 2) (level / 256)) (2 * at + 3) (level % 256) 0 wide,
       )
-
-  -- one more level stands in its place
-  pub level_put : (of : ℕ → ℕ) → of at ≡ level → ((i : ℕ) → i < at → HasLevel octets i (of i)) → (i : ℕ) → i < at + 1 → HasLevel new i (of i)
-  level_put of here each i lt = elim (cases_eq i at) [
-    | inl same ↦ rw (same, here) own_put
-    | inr apart ↦ let before : i < at = omega (arith, lt, apart) in earlier_put i (of i) before (each i before)
-  ]
 
 module _ (fades : List Ramp) (now master : ℕ) (octets : List ℕ) where
   abbrev level_there : ℕ → ℕ

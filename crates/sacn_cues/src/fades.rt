@@ -42,13 +42,14 @@ impl Model for Fades {
 }
 
 impl Fades {
+    ghost use Rattle.std.specs.Option.{ForSome};
     ghost use Rattle.std.specs.Prelude.{◌≡◌, ◌≤◌, ◌<◌, true};
     ghost use Rattle.std.specs.Prelude.{◌*◌, ◌/◌};
     ghost use Rattle.sacn_patch.specs.Parts.{AreOctets};
     ghost use Rattle.sacn_cues.specs.declared.level_octets.TheConstants.{OCTETS};
     ghost use Rattle.sacn_cues.specs.declared.limits.TheConstants.{FULL};
     ghost use Rattle.sacn_cues.specs.Levels.{last_moment, StaysLit, StaysAt};
-    ghost use Rattle.sacn_cues.specs.LevelOctets.{IsBlankBefore};
+    ghost use Rattle.sacn_cues.specs.LevelOctets.{IsBlankBefore, IsKept};
 
     /// The fades of channels that all rest at level 0.
     pub(crate) fn new(alloc: Global) -> Result<Fades, AllocError>
@@ -102,16 +103,29 @@ impl Fades {
         self.rest = self.rest.max(now);
     }
 
-    /// Writes the octets of the level of each channel at a moment, after the master.
-    pub(crate) fn fill_octets(&self, now: u64, master: u16, octets: &mut [u8])
+    /// Writes the octets of the levels of all channels at a moment, after the master. The channels whose
+    /// fades aren't over then stand in the list afterwards, and so many are they.
+    pub(crate) fn fill_octets(
+        &self,
+        now: u64,
+        master: u16,
+        octets: &mut [u8],
+        moving: &mut [u16],
+        listed: Option<usize>,
+    ) -> usize
         requires length { length octets.old ≡ OCTETS }
         requires before { IsBlankBefore octets.old }
+        requires room { length moving.old ≡ MAX_CHANNELS }
+        requires listed { ForSome listed
+            (λ count. IsKept octets.old moving.old count self.now.fades master now) }
         ensures length { length octets.new ≡ OCTETS }
         ensures before { IsBlankBefore octets.new }
+        ensures room { length moving.new ≡ MAX_CHANNELS }
         ensures levels { AreOctets
             (λ channel. level_at self.now.fades channel now * master / FULL) octets.new }
+        ensures listed { IsKept octets.new moving.new result self.now.fades master now }
     {
-        fill_octets(&self.fades, now, master, octets);
+        fill_octets(&self.fades, now, master, octets, moving, listed)
     }
 
     /// The level of a channel at a moment, 0 outside the channels.

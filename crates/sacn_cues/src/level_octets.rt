@@ -1,5 +1,6 @@
 //! The levels of all channels at one moment.
-ghost use Rattle.std.specs.Prelude.{◌≡◌, ◌<◌, ◌+◌, ◌*◌, ◌/◌, ◌%◌, length, set};
+ghost use Rattle.std.specs.Prelude.{◌≡◌, ◌≤◌, ◌<◌, ◌+◌, ◌-◌, ◌*◌, ◌/◌, ◌%◌, Some, length, set};
+ghost use Rattle.std.specs.Option.{ForSome};
 ghost use Rattle.sacn_cues.specs.declared.limits.TheConstants as limits;
 
 use crate::limits::FULL;
@@ -8,18 +9,31 @@ use sacn_patch::MAX_CHANNELS;
 /// The places of the octets of all levels: two for each channel, and two before them.
 pub(crate) const OCTETS: usize = 2 * MAX_CHANNELS as usize + 2;
 
+/// The most channels that are reckoned by the list; beyond, going over all in turn costs less.
+pub(crate) const MOST_LISTED: usize = MAX_CHANNELS as usize / 4 * 3;
+
 /// Room for the octets of all levels after the master, and whether they stand in it.
 #[derive(Drop)]
 pub(crate) struct LevelOctets {
     // Those of channel c at 2 c and 2 c + 1, the high one first, and 0 before them.
     pub(crate) octets: Vec<u8>,
     pub(crate) is_ready: bool,
+    // Room for a list of channels, counted from 0, and how many stand in it, once all were reckoned;
+    // only setting one channel leaves it so, which is then listed too. The fade of each other channel
+    // is over and its octets are right at any later moment, so that a reckoning costs the channels
+    // that fade, and not all of them.
+    pub(crate) moving: Vec<u16>,
+    pub(crate) listed: Option<usize>,
 }
 
 /// A level after the master.
 pub(crate) fn mastered(level: u16, master: u16) -> u16
     ensures { result ≡ level * master / limits.FULL }
 {
+    // At full, as a master mostly is, the level itself: neither product nor quotient.
+    if master == FULL {
+        return level;
+    }
     (level as u32 * master as u32 / FULL as u32) as u16
 }
 
@@ -31,4 +45,19 @@ pub(crate) fn put_level(octets: &mut [u8], at: usize, level: u16)
 {
     octets[2 * at + 2] = (level / 256) as u8;
     octets[2 * at + 3] = (level % 256) as u8;
+}
+
+/// Lists one more channel, counted from 0, where a list is kept that has room; so many it has then.
+pub(crate) fn list_more(moving: &mut [u16], listed: Option<usize>, at: u16) -> Option<usize>
+    ensures room { length moving.new ≡ length moving.old }
+    ensures listed { ForSome result (λ count. (listed ≡ Some (count - 1)) × (1 ≤ count)
+        × (count ≤ length moving.old) × (moving.new ≡ set moving.old (count - 1) at)) }
+{
+    match listed {
+        Some(count) if count < moving.len() => {
+            moving[count] = at;
+            Some(count + 1)
+        }
+        _ => None,
+    }
 }
