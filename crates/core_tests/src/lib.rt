@@ -1,5 +1,5 @@
-//! Tests of the source table, the node, the cue player, the patch and the console that no rows say: beside plain programs over
-//! generators, and where requests for memory are refused.
+//! Tests of the source table, the node, the cue player, the patch, the console and the kinds of files that no rows say: beside
+//! plain programs over generators, and where requests for memory are refused.
 #![tactic(auto)]
 
 #[cfg(test)]
@@ -8,6 +8,8 @@ mod console;
 mod cues;
 #[cfg(test)]
 mod faults;
+#[cfg(test)]
+mod kinds;
 #[cfg(test)]
 mod node;
 #[cfg(test)]

@@ -1,6 +1,9 @@
 //! All faults of a file, of which the first is its reader's.
 ghost use Rattle.std.specs.Prelude.{◌≡◌, IsTrue, IfOk, Some};
-ghost use Rattle.sacn_check.specs.Refusals.{refusal, first_refusal};
+ghost use Rattle.toml.specs.View.{table_view};
+ghost use Rattle.sacn_console.specs.ShowReading.{show_in};
+ghost use Rattle.sacn_node.specs.SetupReading.{setup_in};
+ghost use Rattle.sacn_check.specs.Refusals.{refusal, refusal_by, first_refusal};
 
 use crate::document::part_faults;
 use crate::finding::{Fault, Finding, Findings, finding_of};
@@ -10,11 +13,13 @@ use crate::place::{Found, Place};
 use crate::refusal::{Owner, Refusal};
 use crate::rules::Wanted;
 use crate::worlds::world_faults;
-use sacn_console::{ShowFault, read_script, read_show};
+use sacn_console::{ShowFault, read_script, show_of};
 use sacn_files::faults::{FileFault, TextFault};
-use sacn_node::{SetupFault, read_node};
+use sacn_node::{SetupFault, setup_of};
 use sacn_schedule::{WorldTextFault, read_schedule, read_world};
 use std::alloc::{AllocError, Global};
+use toml::Table;
+use toml::de::Error;
 
 /// All faults of a text that should be a file of this kind, at most [`MAX_TOLD`](crate::MAX_TOLD) told and the rest
 /// counted.
@@ -24,39 +29,102 @@ use std::alloc::{AllocError, Global};
 pub fn faults_of(alloc: Global, kind: FileKind, text: &str) -> Result<Findings, AllocError>
     ensures { IfOk result (λ findings. first_refusal findings.told.items ≡ refusal kind text.now) }
 {
-    match refusal_of(alloc, kind, text)? {
-        Some(refusal) => led_by(alloc, refusal, found_by_rules(alloc, kind, text)?),
+    match kind {
+        FileKind::Show => show_faults(alloc, text),
+        FileKind::Setup => setup_faults(alloc, text),
+        FileKind::World => {
+            let refusal = world_refusal(alloc, text)?;
+            all_faults(alloc, refusal, Source::World(text))
+        }
+        FileKind::Script => {
+            let refusal = script_refusal(alloc, text)?;
+            all_faults(alloc, refusal, Source::Lines(kind, text))
+        }
+        FileKind::Schedule => {
+            let refusal = schedule_refusal(alloc, text)?;
+            all_faults(alloc, refusal, Source::Lines(kind, text))
+        }
+    }
+}
+
+/// What the rules look through.
+#[derive(Clone, Copy)]
+enum Source<'a> {
+    /// The document of a show or a setup.
+    Part(Owner, &'a Table),
+    /// The text of a world.
+    World(&'a str),
+    /// The text of a script or a schedule.
+    Lines(FileKind, &'a str),
+}
+
+/// None where the reader refused nothing, and else what the rules find, led by what it refused.
+fn all_faults(
+    alloc: Global,
+    refusal: Option<Refusal>,
+    source: Source<'_>,
+) -> Result<Findings, AllocError>
+    ensures { IfOk result (λ findings. first_refusal findings.told.items ≡ refusal) }
+{
+    match refusal {
+        Some(refusal) => led_by(alloc, refusal, found_by_rules(alloc, source)?),
         None => Ok(Findings::new(alloc)),
     }
 }
 
-/// Why the reader of a kind refuses a text, if it does.
-fn refusal_of(alloc: Global, kind: FileKind, text: &str) -> Result<Option<Refusal>, AllocError>
-    ensures { IfOk result (λ o. o ≡ refusal kind text.now) }
+// The document of a show or a setup is made once, for its reader and for the rules: making it is most of a check. What comes
+// of it is what the reader of the text, and then the rules over a second document of the text, would give.
+
+fn show_faults(alloc: Global, text: &str) -> Result<Findings, AllocError>
+    ensures { IfOk result (λ findings. first_refusal findings.told.items ≡ refusal FileKind.Show text.now) }
 {
-    match kind {
-        FileKind::Show => show_refusal(alloc, text),
-        FileKind::Setup => setup_refusal(alloc, text),
-        FileKind::World => world_refusal(alloc, text),
-        FileKind::Script => script_refusal(alloc, text),
-        FileKind::Schedule => schedule_refusal(alloc, text),
+    match toml::table_from_str(alloc, text) {
+        Ok(table) => {
+            let refusal = show_refusal(alloc, &table)?;
+            all_faults(alloc, refusal, Source::Part(Owner::Show, &table))
+        }
+        Err(error) => {
+            if error.is_memory() {
+                return Err(AllocError);
+            }
+            let found = found_in_syntax(alloc, Owner::Show, text, &error)?;
+            led_by(alloc, Refusal::Show(ShowFault::Toml), found)
+        }
     }
 }
 
-fn show_refusal(alloc: Global, text: &str) -> Result<Option<Refusal>, AllocError>
-    ensures { IfOk result (λ o. o ≡ refusal FileKind.Show text.now) }
+fn setup_faults(alloc: Global, text: &str) -> Result<Findings, AllocError>
+    ensures { IfOk result (λ findings. first_refusal findings.told.items ≡ refusal FileKind.Setup text.now) }
 {
-    match read_show(alloc, text) {
+    match toml::table_from_str(alloc, text) {
+        Ok(table) => {
+            let refusal = setup_refusal(alloc, &table)?;
+            all_faults(alloc, refusal, Source::Part(Owner::Setup, &table))
+        }
+        Err(error) => {
+            if error.is_memory() {
+                return Err(AllocError);
+            }
+            let found = found_in_syntax(alloc, Owner::Setup, text, &error)?;
+            led_by(alloc, Refusal::Setup(SetupFault::Toml), found)
+        }
+    }
+}
+
+fn show_refusal(alloc: Global, table: &Table) -> Result<Option<Refusal>, AllocError>
+    ensures { IfOk result (λ o. o ≡ refusal_by Refusal.Show (show_in (table_view table.now))) }
+{
+    match show_of(alloc, table) {
         Ok(_) => Ok(None),
         Err(ShowFault::OutOfMemory) => Err(AllocError),
         Err(fault) => Ok(Some(Refusal::Show(fault))),
     }
 }
 
-fn setup_refusal(alloc: Global, text: &str) -> Result<Option<Refusal>, AllocError>
-    ensures { IfOk result (λ o. o ≡ refusal FileKind.Setup text.now) }
+fn setup_refusal(alloc: Global, table: &Table) -> Result<Option<Refusal>, AllocError>
+    ensures { IfOk result (λ o. o ≡ refusal_by Refusal.Setup (setup_in (table_view table.now))) }
 {
-    match read_node(alloc, text) {
+    match setup_of(alloc, table) {
         Ok(_) => Ok(None),
         Err(SetupFault::OutOfMemory) => Err(AllocError),
         Err(fault) => Ok(Some(Refusal::Setup(fault))),
@@ -93,47 +161,48 @@ fn schedule_refusal(alloc: Global, text: &str) -> Result<Option<Refusal>, AllocE
     }
 }
 
-/// What the rules of a kind find.
-fn found_by_rules(alloc: Global, kind: FileKind, text: &str) -> Result<Findings, AllocError> {
+/// What the rules find.
+fn found_by_rules(alloc: Global, source: Source<'_>) -> Result<Findings, AllocError> {
     let mut findings = Findings::new(alloc);
-    match kind {
-        FileKind::Show => document_faults(alloc, &mut findings, Owner::Show, text)?,
-        FileKind::Setup => document_faults(alloc, &mut findings, Owner::Setup, text)?,
-        FileKind::World => document_faults(alloc, &mut findings, Owner::World, text)?,
-        FileKind::Script | FileKind::Schedule => {
-            line_faults(alloc, &mut findings, kind, text)?;
-        }
+    match source {
+        Source::Part(owner, table) => part_faults(alloc, &mut findings, owner, table)?,
+        Source::World(text) => world_text_faults(alloc, &mut findings, text)?,
+        Source::Lines(kind, text) => line_faults(alloc, &mut findings, kind, text)?,
     }
     Ok(findings)
 }
 
-fn document_faults(
-    alloc: Global,
-    findings: &mut Findings,
-    owner: Owner,
-    text: &str,
-) -> Result<(), AllocError> {
+fn world_text_faults(alloc: Global, findings: &mut Findings, text: &str) -> Result<(), AllocError> {
     match toml::table_from_str(alloc, text) {
-        Ok(table) => match owner {
-            Owner::World => world_faults(alloc, findings, &table),
-            _ => part_faults(alloc, findings, owner, &table),
-        },
-        Err(error) => match error.span() {
-            Some(span) => syntax_fault(alloc, findings, owner, (text, span.start), error.message()),
-            None => Err(AllocError),
-        },
+        Ok(table) => world_faults(alloc, findings, &table),
+        Err(error) => syntax_fault(alloc, findings, Owner::World, text, &error),
     }
 }
 
-/// The fault of a text that is no document, at this octet.
+/// What is found in a text that is no document.
+fn found_in_syntax(
+    alloc: Global,
+    owner: Owner,
+    text: &str,
+    error: &Error,
+) -> Result<Findings, AllocError> {
+    let mut findings = Findings::new(alloc);
+    syntax_fault(alloc, &mut findings, owner, text, error)?;
+    Ok(findings)
+}
+
+/// The fault of a text that is no document, where the parser stopped, if that wasn't for want of memory.
 fn syntax_fault<'a>(
     alloc: Global,
     findings: &mut Findings,
     owner: Owner,
-    at: (&'a str, usize),
-    message: &'a str,
+    text: &'a str,
+    error: &'a Error,
 ) -> Result<(), AllocError> {
-    let (text, start) = at;
+    let Some(span) = error.span() else {
+        return Err(AllocError);
+    };
+    let start = span.start;
     let (line, column) = position(text.as_bytes(), start);
     findings.take(
         alloc,
@@ -142,7 +211,7 @@ fn syntax_fault<'a>(
             detail: None,
             place: Place::Letter { line, column },
             found: Found::Text(rest_of_line(text, start)),
-            wanted: Wanted::Text(message),
+            wanted: Wanted::Text(error.message()),
         },
     )
 }

@@ -1,9 +1,24 @@
 //! The kinds of files, and how a file's kind is told.
 
+use crate::quick::is_surely_show;
 use sacn_files::lines::said_lines;
 use sacn_files::words::number_in;
 use std::alloc::{AllocError, Global};
 use toml::Table;
+
+pub(crate) const WORLD_KEYS: &[&str] = &["console", "node"];
+
+pub(crate) const SETUP_KEYS: &[&str] = &["port", "udp_port"];
+
+pub(crate) const SHOW_KEYS: &[&str] = &[
+    "cid",
+    "name",
+    "priority",
+    "universes",
+    "send_to",
+    "cue",
+    "patch",
+];
 
 /// The kinds of files that a reader has.
 #[derive(Clone, Copy)]
@@ -19,6 +34,9 @@ pub enum FileKind {
 /// setup if it has `port` or `udp_port`, and a show if it has another key of shows. A text that is no document is a
 /// schedule or a script by its first line that is one of these, and else a show, whose document is told faulty.
 pub fn kind_of(alloc: Global, text: &str) -> Result<Option<FileKind>, AllocError> {
+    if is_surely_show(text) {
+        return Ok(Some(FileKind::Show));
+    }
     match toml::table_from_str(alloc, text) {
         Ok(table) => Ok(document_kind(&table)),
         Err(error) if error.is_memory() => Err(AllocError),
@@ -31,22 +49,11 @@ fn has_one(table: &Table, keys: &[&str]) -> bool {
 }
 
 fn document_kind(table: &Table) -> Option<FileKind> {
-    if has_one(table, &["console", "node"]) {
+    if has_one(table, WORLD_KEYS) {
         Some(FileKind::World)
-    } else if has_one(table, &["port", "udp_port"]) {
+    } else if has_one(table, SETUP_KEYS) {
         Some(FileKind::Setup)
-    } else if has_one(
-        table,
-        &[
-            "cid",
-            "name",
-            "priority",
-            "universes",
-            "send_to",
-            "cue",
-            "patch",
-        ],
-    ) {
+    } else if has_one(table, SHOW_KEYS) {
         Some(FileKind::Show)
     } else {
         None

@@ -11,6 +11,7 @@ mod keys;
 mod kinds;
 mod lines;
 mod place;
+mod quick;
 mod refusal;
 mod report;
 mod rules;
