@@ -22,6 +22,12 @@ const FILES: &[&str] = &[
     "version = 1\nabout = {\nname = \"Desk\",\ncue = 1\n}\nlist = [[1, 2],\n[3]]\n",
     "version = 1\nabout = \"\"\"\nname = 1\n[[cue]] # \"\"\"\n",
     "version = 1\nabout = '''\n[[patch]]\ncid = 2\na'''\n",
+    "\u{feff}port = 1\nname = 1\n",
+    "version = 1\nnames = 1\n",
+    "version = 1\n[cues]\n",
+    "# = 1\n0 go\nname = 1\n",
+    "version = 1\nname = 1\n[ port ]\nnumber = 1\n",
+    "version = 1\n [about]\nname = 1\n",
 ];
 
 /// How many texts are looked at.
@@ -35,6 +41,7 @@ const PHRASES: &[&str] = &[
     "port = 1\n",
     "port",
     "[port]\n",
+    "[ port ]\n",
     "[ [port ] ]\n",
     "\"p\\u006frt\" = 1\n",
     "'console' = 1\n",
@@ -85,20 +92,22 @@ fn has_one(table: &Table, keys: &[&str]) -> bool {
 }
 
 fn document_kind(table: &Table) -> Option<FileKind> {
-    let of_show = [
-        "cid",
-        "name",
-        "priority",
-        "universes",
-        "send_to",
-        "cue",
-        "patch",
-    ];
     if has_one(table, &["console", "node"]) {
         Some(FileKind::World)
     } else if has_one(table, &["port", "udp_port"]) {
         Some(FileKind::Setup)
-    } else if has_one(table, &of_show) {
+    } else if has_one(
+        table,
+        &[
+            "cid",
+            "name",
+            "priority",
+            "universes",
+            "send_to",
+            "cue",
+            "patch",
+        ],
+    ) {
         Some(FileKind::Show)
     } else {
         None
