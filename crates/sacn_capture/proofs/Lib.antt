@@ -7,3 +7,4 @@ pub mod Readings
 pub mod Enough
 pub mod StepAnswers
 pub mod Calls
+pub mod Sightings

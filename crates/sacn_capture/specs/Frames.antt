@@ -1,10 +1,11 @@
 -- A datagram of UDP in a packet of IPv4 (RFC 791, RFC 768).
-use Rattle.std.specs.Prelude.{ℕ, List, [], ◌∷◌, ◌+◌, ◌*◌, ◌/◌, ◌%◌, ◌^◌, ◌==◌, Bool, length, drop, nat_le, slice_index, slice_range, Result}
+use Rattle.std.specs.Prelude.{ℕ, List, [], ◌∷◌, ◌+◌, ◌*◌, ◌/◌, ◌%◌, ◌^◌, ◌==◌, ◌≤◌, Bool, length, drop, nat_le, slice_index, slice_range, Result}
 use Rattle.sacn_capture.specs.declared.links.LinkType.{LinkType}
 use Rattle.sacn_capture.specs.declared.links.Passed.{Passed}
 use Rattle.sacn_capture.specs.declared.links.Passed.TheVariants.{NotIpv4, NotUdp, Fragment, Cut}
 use Rattle.sacn_capture.specs.declared.octets.ByteOrder.TheVariants.{Big}
 use Rattle.sacn_capture.specs.declared.frame.Datagram.{Datagram}
+use Rattle.sacn_capture.specs.declared.frame.Sighting.{Sighting}
 use Rattle.sacn_capture.specs.Check.{checked, ◌>>=◌}
 use Rattle.sacn_capture.specs.Octets.{number16}
 use Rattle.sacn_capture.specs.Links.{place_of}
@@ -61,3 +62,11 @@ reading_datagram link frame = place_of link frame >>= (λ place. reading_packet 
 -- what a datagram shows
 abbrev pub sent_of : Datagram → Sent
 sent_of d = record { sender = d.sender; sender_port = d.sender_port; destination = d.destination; destination_port = d.destination_port; payload = d.payload.now }
+
+-- what a datagram is that was seen among octets, with what it carried by its place
+abbrev pub seen_among : List ℕ → Sighting → Sent
+seen_among octets s = record { sender = s.sender; sender_port = s.sender_port; destination = s.destination; destination_port = s.destination_port; payload = slice_range octets s.begin s.end }
+
+-- what it carried stands within so many octets
+abbrev pub IsWithin : ℕ → Sighting → Type 0
+IsWithin count s = (s.begin ≤ s.end) × (s.end ≤ count)

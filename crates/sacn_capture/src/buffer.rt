@@ -1,16 +1,16 @@
 //! The room that a frame, or the body of a block, is read into.
 
-ghost use Rattle.std.specs.Prelude.{◌≡◌, ◌≤◌, take, vec_len, IfErr, IfOk, OnOk};
+ghost use Rattle.std.specs.Prelude.{◌≡◌, ◌≤◌, length, take, vec_len, IfErr, IfOk, OnOk};
 ghost use Rattle.std.specs.Io.KnownBytes.{Consumes};
 ghost use Rattle.sacn_capture.specs.declared.faults.FaultKind.TheVariants.{OutOfMemory};
 ghost use Rattle.sacn_capture.specs.Check.{map_ok};
 ghost use Rattle.sacn_capture.specs.Files.{octets as so_many};
-ghost use Rattle.sacn_capture.specs.Frames.{sent_of};
+ghost use Rattle.sacn_capture.specs.Frames.{IsWithin, seen_among, sent_of};
 ghost use Rattle.sacn_capture.specs.Inputs.{ReadsInput};
 ghost use Rattle.sacn_capture.specs.Placement.{content_in};
 
 use crate::faults::FaultKind;
-use crate::frame::{Datagram, datagram_in};
+use crate::frame::{Datagram, Sighting, lent, look};
 use crate::input::Input;
 use crate::links::{LinkType, Passed};
 use std::alloc::Global;
@@ -61,11 +61,21 @@ impl Buffer {
         &self.octets[..len]
     }
 
-    /// What stands in a frame.
-    pub fn content(&self, frame: Frame) -> Result<Datagram<'_>, Passed>
-        ensures { map_ok sent_of result ≡ content_in frame self.now.octets.items }
+    /// A look at a frame. What `lent` then gives out of the room is what stands in it.
+    pub fn look(&self, frame: Frame) -> Result<Sighting, Passed>
+        ensures seen { map_ok (seen_among self.now.octets.items) result
+            ≡ content_in frame self.now.octets.items }
+        ensures within { IfOk result (IsWithin 65535) }
     {
-        content_of(frame, &self.octets)
+        look_at(frame, &self.octets)
+    }
+
+    /// The datagram that a look saw.
+    pub fn lent(&self, sighting: Sighting) -> Datagram<'_>
+        requires { IsWithin 65535 sighting }
+        ensures { sent_of result ≡ seen_among self.now.octets.items sighting }
+    {
+        lent(sighting, &self.octets)
     }
 }
 
@@ -85,16 +95,17 @@ fn read_front<R: BufRead>(
     input.fill_front(buffer, len)
 }
 
-// What stands in a frame, which is at the buffer's front where it was kept.
-fn content_of(frame: Frame, buffer: &[u8]) -> Result<Datagram<'_>, Passed>
-    ensures { map_ok sent_of result ≡ content_in frame buffer.now }
+// A look at a frame, which is at the buffer's front where it was kept.
+fn look_at(frame: Frame, buffer: &[u8]) -> Result<Sighting, Passed>
+    ensures seen { map_ok (seen_among buffer.now) result ≡ content_in frame buffer.now }
+    ensures within { IfOk result (IsWithin (length buffer.now)) }
 {
     match frame {
         Frame::Kept(link, len) => {
             if len > buffer.len() {
                 return Err(Passed::TooLong);
             }
-            datagram_in(link, &buffer[..len])
+            look(link, &buffer[..len])
         }
         Frame::LeftOut(passed) => Err(passed),
     }

@@ -44,14 +44,24 @@ impl Counts {
         ensures { self.new ≡ count_frame (passed_of content.now) self.old }
     {
         match content {
-            Ok(_) => self.datagrams = self.datagrams.saturating_add(1),
-            Err(Passed::NotIp) => self.not_ip = self.not_ip.saturating_add(1),
-            Err(Passed::NotIpv4) => self.not_ipv4 = self.not_ipv4.saturating_add(1),
-            Err(Passed::NotUdp) => self.not_udp = self.not_udp.saturating_add(1),
-            Err(Passed::Fragment) => self.fragments = self.fragments.saturating_add(1),
-            Err(Passed::Cut) => self.cut = self.cut.saturating_add(1),
-            Err(Passed::OtherLink) => self.other_links = self.other_links.saturating_add(1),
-            Err(Passed::TooLong) => self.too_long = self.too_long.saturating_add(1),
+            Ok(_) => self.count(None),
+            Err(passed) => self.count(Some(*passed)),
+        }
+    }
+
+    // One more frame, by why it is passed over.
+    pub(crate) fn count(&mut self, passed: Option<Passed>)
+        ensures { self.new ≡ count_frame passed self.old }
+    {
+        match passed {
+            None => self.datagrams = self.datagrams.saturating_add(1),
+            Some(Passed::NotIp) => self.not_ip = self.not_ip.saturating_add(1),
+            Some(Passed::NotIpv4) => self.not_ipv4 = self.not_ipv4.saturating_add(1),
+            Some(Passed::NotUdp) => self.not_udp = self.not_udp.saturating_add(1),
+            Some(Passed::Fragment) => self.fragments = self.fragments.saturating_add(1),
+            Some(Passed::Cut) => self.cut = self.cut.saturating_add(1),
+            Some(Passed::OtherLink) => self.other_links = self.other_links.saturating_add(1),
+            Some(Passed::TooLong) => self.too_long = self.too_long.saturating_add(1),
         }
     }
 }

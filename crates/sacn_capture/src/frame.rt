@@ -1,10 +1,10 @@
 //! A datagram out of a frame.
 
-ghost use Rattle.std.specs.Prelude.{◌≡◌, ◌%◌, ◌^◌, ◌≤◌, ◌==◌, length, not};
+ghost use Rattle.std.specs.Prelude.{◌≡◌, ◌%◌, ◌^◌, ◌≤◌, ◌==◌, IfOk, length, not};
 ghost use Rattle.sacn_capture.specs.Check.{map_ok};
 ghost use Rattle.sacn_capture.specs.Octets.{number16};
 ghost use Rattle.sacn_capture.specs.declared.octets.ByteOrder.TheVariants.{Big};
-ghost use Rattle.sacn_capture.specs.Frames.{sent_of, head_of, reading_packet, reading_datagram};
+ghost use Rattle.sacn_capture.specs.Frames.{IsWithin, head_of, reading_datagram, reading_packet, seen_among, sent_of};
 
 use crate::links::{LinkType, Passed, packet_place};
 use crate::octets::ByteOrder;
@@ -34,6 +34,19 @@ pub struct Datagram<'a> {
     pub payload: &'a [u8],
 }
 
+/// What a look at a frame saw: a datagram, with the place of what it carried. It lends nothing, so a frame that was looked
+/// at can be counted before its datagram is lent, and needs no second look.
+#[derive(Clone, Copy)]
+pub struct Sighting {
+    pub sender: [u8; 4],
+    pub sender_port: u16,
+    pub destination: [u8; 4],
+    pub destination_port: u16,
+    /// Where the octets that it carried begin and end, among those that were looked at.
+    pub begin: usize,
+    pub end: usize,
+}
+
 /// The datagram in a frame of a link.
 ///
 /// Errors: the first test that fails: those of the link (`packet_place`), then those of the packet:
@@ -41,13 +54,43 @@ pub struct Datagram<'a> {
 pub fn datagram_in(link: LinkType, frame: &[u8]) -> Result<Datagram<'_>, Passed>
     ensures { map_ok sent_of result ≡ reading_datagram link frame.now }
 {
-    let place = packet_place(link, frame)?;
-    datagram_of(&frame[place..])
+    let sighting = look(link, frame)?;
+    Ok(lent(sighting, frame))
 }
 
-// The datagram of a packet of IPv4: the checks in their order.
-fn datagram_of(packet: &[u8]) -> Result<Datagram<'_>, Passed>
-    ensures { map_ok sent_of result ≡ reading_packet packet.now }
+/// A look at a frame of a link, for `datagram_in`: what `lent` then gives out of the frame is its datagram.
+#[tactic(auto, using(crate::proofs::Sightings::looked_behind))]
+pub fn look(link: LinkType, frame: &[u8]) -> Result<Sighting, Passed>
+    ensures seen { map_ok (seen_among frame.now) result ≡ reading_datagram link frame.now }
+    ensures within { IfOk result (IsWithin (length frame.now)) }
+{
+    let place = packet_place(link, frame)?;
+    let mut sighting = packet_look(&frame[place..])?;
+    sighting.begin += place;
+    sighting.end += place;
+    Ok(sighting)
+}
+
+/// The datagram that was seen among some octets, lent out of them.
+pub fn lent(sighting: Sighting, octets: &[u8]) -> Datagram<'_>
+    requires { IsWithin (length octets.now) sighting }
+    ensures { sent_of result ≡ seen_among octets.now sighting }
+{
+    let sender = sighting.sender;
+    let destination = sighting.destination;
+    Datagram {
+        sender,
+        sender_port: sighting.sender_port,
+        destination,
+        destination_port: sighting.destination_port,
+        payload: &octets[sighting.begin..sighting.end],
+    }
+}
+
+// A look at a packet of IPv4: the checks in their order.
+fn packet_look(packet: &[u8]) -> Result<Sighting, Passed>
+    ensures seen { map_ok (seen_among packet.now) result ≡ reading_packet packet.now }
+    ensures within { IfOk result (IsWithin (length packet.now)) }
 {
     if packet.len() < MIN_HEAD {
         return Err(Passed::Cut);
@@ -83,12 +126,13 @@ fn datagram_of(packet: &[u8]) -> Result<Datagram<'_>, Passed>
     sender.copy_from_slice(&packet[12..16]);
     let mut destination = [0; 4];
     destination.copy_from_slice(&packet[16..20]);
-    Ok(Datagram {
+    Ok(Sighting {
         sender,
         sender_port: ByteOrder::Big.u16_at(packet, head),
         destination,
         destination_port: ByteOrder::Big.u16_at(packet, head + 2),
-        payload: &packet[head + UDP_HEAD..head + len],
+        begin: head + UDP_HEAD,
+        end: head + len,
     })
 }
 

@@ -12,6 +12,9 @@ use std::io::{BufRead, ErrorKind};
 /// Octets are skipped in pieces of this many.
 const PIECE: u64 = 512;
 
+/// What fills a block up to four octets, with a short option before it, is at most this long.
+const FEW: usize = 16;
+
 /// A reader, and how many octets it has given.
 #[derive(Drop)]
 pub struct Input<R> {
@@ -120,12 +123,18 @@ fn leave_out<R: BufRead>(reader: &mut R, count: u64) -> Result<(), FaultKind>
     Ok(())
 }
 
+// At most a piece. Few octets, as behind most packets of a pcapng file, go to a room of their own size, so that no whole piece is
+// cleared for them; the piece would serve as well.
 fn leave_piece<R: BufRead>(reader: &mut R, count: usize) -> Result<(), FaultKind>
     requires { count ≤ 512 }
     ensures octets { OnOk result
         (LeavesOut (R.Read.remaining reader.old) (R.Read.remaining reader.new) count) }
     ensures short { IfErr result (IsShort (R.Read.remaining reader.old) count) }
 {
+    if count <= FEW {
+        let mut few = [0; FEW];
+        return leave_front(reader, &mut few, count);
+    }
     let mut piece = [0; PIECE as usize];
     leave_front(reader, &mut piece, count)
 }

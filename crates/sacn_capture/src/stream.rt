@@ -6,14 +6,14 @@ ghost use Rattle.std.specs.Io.BufRead.{Rests};
 ghost use Rattle.sacn_capture.specs.contracts.stream.Capture.{the_row};
 ghost use Rattle.sacn_capture.specs.Check.{map_ok};
 ghost use Rattle.sacn_capture.specs.Counting.{none_counted, count_frame};
-ghost use Rattle.sacn_capture.specs.Frames.{sent_of};
+ghost use Rattle.sacn_capture.specs.Frames.{IsWithin, seen_among, sent_of};
 ghost use Rattle.sacn_capture.specs.Placement.{content_in};
 ghost use Rattle.sacn_capture.specs.Streams.{passed_in, Gives, GivesFirst, GivesNext, GivesRecord, IsPcap, Opens, ReadsRecord, StepReads, Steps, counts_of, frame_shown, left_in, place_of_reading, shown_of, stopped_by, to_come};
 
 use crate::buffer::Frame;
 use crate::counts::Counts;
 use crate::faults::{CaptureFault, FaultKind};
-use crate::frame::Datagram;
+use crate::frame::{Datagram, Sighting};
 use crate::links::Passed;
 use crate::pcap::PcapHeader;
 use crate::pieces::Pieces;
@@ -96,8 +96,8 @@ impl<R: BufRead> Capture<R> {
     {
         match self.advance()? {
             Some(frame) => {
-                self.count(frame);
-                Ok(Some(self.record_of(frame)))
+                let seen = self.count(frame);
+                Ok(Some(self.record_of(seen)))
             }
             None => Ok(None),
         }
@@ -180,26 +180,38 @@ impl<R: BufRead> Capture<R> {
         fault
     }
 
-    // One more frame.
-    fn count(&mut self, frame: Frame)
+    // One more frame, and what stands in it: the one look at it counts it, and lends nothing yet.
+    fn count(&mut self, frame: Frame) -> Result<Sighting, Passed>
         ensures pieces { self.new.pieces ≡ self.old.pieces }
         ensures stopped { self.new.stopped ≡ self.old.stopped }
         ensures counts { self.new.counts
             ≡ count_frame (passed_in frame self.old.pieces) self.old.counts }
+        ensures seen { map_ok (seen_among self.old.pieces.buffer.octets.items) result
+            ≡ content_in frame self.old.pieces.buffer.octets.items }
+        ensures within { IfOk result (IsWithin 65535) }
     {
-        let content = self.pieces.buffer.content(frame);
-        self.counts.add(&content);
+        let seen = self.pieces.buffer.look(frame);
+        match seen {
+            Ok(_) => self.counts.count(None),
+            Err(passed) => self.counts.count(Some(passed)),
+        }
+        seen
     }
 
-    // The frame that was read last, with what stands in it.
-    fn record_of(&self, frame: Frame) -> Record<'_>
+    // The frame that was read last, by what a look at it saw.
+    fn record_of(&self, seen: Result<Sighting, Passed>) -> Record<'_>
+        requires { IfOk seen (IsWithin 65535) }
         ensures content { map_ok sent_of result.content
-            ≡ content_in frame self.now.pieces.buffer.octets.items }
+            ≡ map_ok (seen_among self.now.pieces.buffer.octets.items) seen }
         ensures moment { result.moment ≡ self.now.pieces.moment }
     {
+        let content = match seen {
+            Ok(sighting) => Ok(self.pieces.buffer.lent(sighting)),
+            Err(passed) => Err(passed),
+        };
         Record {
             moment: self.pieces.moment,
-            content: self.pieces.buffer.content(frame),
+            content,
         }
     }
 }

@@ -2,7 +2,8 @@ use Rattle.std.proofs.Common.{rules, ℕ, Ok, Some, refl, sym, subst, ap, ◌∙
 use Rattle.std.proofs.lemmas.Result.{err_from_is_err_and}
 use Rattle.sacn_capture.specs.declared.pieces.Pieces.{Pieces}
 use Rattle.sacn_capture.specs.Counting.{count_frame, passed_by}
-use Rattle.sacn_capture.specs.Placement.{content_in}
+use Rattle.sacn_capture.specs.Check.{map_ok}
+use Rattle.sacn_capture.specs.Frames.{seen_among}
 use Rattle.sacn_capture.specs.Recordings.{Shown}
 use Rattle.sacn_capture.specs.Streams.{Gives, ReadsRecord, shown_of, to_come}
 use Rattle.sacn_capture.proofs.StepAnswers.{shown_is, same_to_come}
@@ -20,19 +21,19 @@ returns-in-Some g c =
     let remaining = g.R.Read.remaining in
     let old = remaining c.args.self.now.pieces.input.reader in
     let read = c.advance.new.self in
-    let told = c.count.new.self in
+    let told = c.count-seen.new.self in
     let new = remaining read.pieces.input.reader in
     let frame = c.in-Some.frame in
-    let moment = c.record_of.ensures.moment ∙ ap (λ (p : Pieces _). p.moment) c.count.ensures.pieces in
-    let content = c.record_of.ensures.content ∙ ap (λ (p : Pieces _). content_in frame p.buffer.octets.items) c.count.ensures.pieces in
+    let moment = c.record_of.ensures.moment ∙ ap (λ (p : Pieces _). p.moment) c.count-seen.ensures.pieces in
+    let content = c.record_of.ensures.content ∙ ap (λ (p : Pieces _). map_ok (seen_among p.buffer.octets.items) c.count-seen.result) c.count-seen.ensures.pieces ∙ c.count-seen.ensures.seen in
     let given = subst (λ (s : Shown). Gives (Ok (Some s)) (to_come remaining c.args.self.now) (to_come remaining read)) (shown_is read.pieces frame (shown_of c.record_of.result) (sym moment) (sym content))
     (rw c.in-Some.is at c.in_ok-frame.ensures.told) in (
       (
         refl,
         λ _. tt,
         (
-          subst (λ t. Gives (Ok (Some (shown_of c.record_of.result))) (to_come remaining c.args.self.now) t) (sym (same_to_come remaining told read c.count.ensures.pieces c.count.ensures.stopped)) given,
-          c.count.ensures.counts ∙ (λ i. count_frame (passed_by (sym content i)) (c.in_ok-frame.ensures.counts i)),
+          subst (λ t. Gives (Ok (Some (shown_of c.record_of.result))) (to_come remaining c.args.self.now) t) (sym (same_to_come remaining told read c.count-seen.ensures.pieces c.count-seen.ensures.stopped)) given,
+          c.count-seen.ensures.counts ∙ (λ i. count_frame (passed_by (sym content i)) (c.in_ok-frame.ensures.counts i)),
         ),
       ),
       record {
