@@ -1,4 +1,5 @@
 pub mod Admitting
 pub mod Chaining
+pub mod Leading
 pub mod Losses
 pub mod Tracking
