@@ -1,7 +1,7 @@
 //! A source on a universe.
 
 ghost use Rattle.std.specs.Prelude.{◌≡◌};
-ghost use Rattle.sacn_monitor.specs.Accounts.{news_of};
+ghost use Rattle.sacn_monitor.specs.Accounts.{IsFitted, news_of};
 ghost use Rattle.sacn_monitor.specs.Rivals.{lights};
 ghost use Rattle.sacn_monitor.specs.Streams.{is_of, first_stream, stream_after, loss_of, falls_silent, state_of};
 
@@ -80,13 +80,12 @@ impl Stream {
 
     /// A packet more. Returns what it tells that is new.
     pub(crate) fn hear(&mut self, moment: u64, sender: Sender, packet: &DataView<'_>) -> News
+        requires { IsFitted self.old.account.name }
         ensures news { result ≡ news_of moment sender packet.now self.old.account }
         ensures stream { self.new ≡ stream_after moment sender packet.now self.old }
     {
-        let news = self.account.news(moment, sender, packet);
-        self.account.hear(moment, sender, packet);
         self.told = false;
-        news
+        self.account.hear(moment, sender, packet)
     }
 
     /// The moment at which it is lost if it stays silent, where that wasn't told yet; else `u64::MAX`.
