@@ -1,4 +1,6 @@
 pub mod Admitting
 pub mod Chaining
+pub mod Fitting
+pub mod Leading
 pub mod Losses
 pub mod Tracking

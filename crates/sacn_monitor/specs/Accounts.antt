@@ -1,5 +1,5 @@
 -- What is known of one source on one universe, and what a packet changes in it.
-use Rattle.std.specs.Prelude.{ℕ, ℤ, pos, ◌-◌, ◌+◌, ◌^◌, ◌%◌, min, max, nat_lt, int_lt, Bool, true, false, not, nat_le, List, length, replicate, ◌&&◌, ◌||◌, ◌==◌, Option, Some, None, if◌then◌else◌}
+use Rattle.std.specs.Prelude.{◌≡◌, ℕ, ℤ, pos, ◌-◌, ◌+◌, ◌^◌, ◌%◌, min, max, nat_lt, int_lt, Bool, true, false, not, nat_le, List, length, replicate, ◌&&◌, ◌||◌, ◌==◌, Option, Some, None, if◌then◌else◌}
 use Rattle.std.specs.Str.{bytes_eq}
 use Rattle.std.specs.List.{before_first}
 use Rattle.sacn_framing.specs.Naming.{padded}
@@ -22,6 +22,10 @@ fitted name = if nat_le (length name) 64 then padded name else replicate 64 0
 
 abbrev pub name_of : Data → List ℕ
 name_of d = fitted (before_first (λ octet. octet == 0) d.name)
+
+-- a field as it is kept: what is read from it, fitted, is the field again
+pub record IsFitted (field : List ℕ) : Type 0 where
+  pub again : fitted (before_first (λ octet. octet == 0) field) ≡ field
 
 abbrev pub same_sender : Sender → Sender → Bool
 same_sender a b = bytes_eq a.address b.address && (a.port == b.port)

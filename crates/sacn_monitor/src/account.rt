@@ -1,8 +1,9 @@
 //! What is known of one source on one universe.
 
-ghost use Rattle.std.specs.Prelude.{◌≡◌, ◌≤◌, length};
+ghost use Rattle.std.specs.Prelude.{◌≡◌, ◌≤◌, not, length};
+ghost use Rattle.std.specs.Str.{bytes_eq};
 ghost use Rattle.sacn_framing.specs.Naming.{padded};
-ghost use Rattle.sacn_monitor.specs.Accounts.{same_sender, is_fresh, is_discarded, skipped_by, skipped_at, begins_anew, changed, taken_event, discarded_event, fitted, taken_news, news_of, after_packet, after_taken, after_discarded, first_account};
+ghost use Rattle.sacn_monitor.specs.Accounts.{same_sender, is_fresh, is_discarded, skipped_by, skipped_at, begins_anew, changed, taken_event, discarded_event, fitted, name_of, IsFitted, taken_news, news_of, after_packet, after_taken, after_discarded, first_account};
 
 use crate::kinds::Kinds;
 use crate::news::{Change, Event, News};
@@ -80,40 +81,16 @@ impl Account {
         }
     }
 
-    /// A packet more.
-    pub(crate) fn hear(&mut self, moment: u64, sender: Sender, packet: &DataView<'_>)
-        ensures { self.new ≡ after_packet moment sender packet.now self.old }
+    /// A packet more. Returns what it tells that is new: one decision and one look at its name serve both.
+    pub(crate) fn hear(&mut self, moment: u64, sender: Sender, packet: &DataView<'_>) -> News
+        requires { IsFitted self.old.name }
+        ensures news { result ≡ news_of moment sender packet.now self.old }
+        ensures account { self.new ≡ after_packet moment sender packet.now self.old }
     {
         if self.discards(moment, packet.number()) {
-            self.discard(packet.number());
-        } else {
-            self.take(moment, sender, packet);
+            return News::quiet(self.discard(packet.number()));
         }
-    }
-
-    /// What a packet tells that is new.
-    pub(crate) fn news(&self, moment: u64, sender: Sender, packet: &DataView<'_>) -> News
-        ensures { result ≡ news_of moment sender packet.now self.now }
-    {
-        if self.discards(moment, packet.number()) {
-            return News::quiet(self.discarded_event(packet.number()));
-        }
-        self.taken_news(moment, sender, packet)
-    }
-
-    // What a taken packet tells that is new.
-    #[tactic(auto, unfolding(crate::specs::Accounts::taken_news))]
-    fn taken_news(&self, moment: u64, sender: Sender, packet: &DataView<'_>) -> News
-        ensures { result ≡ taken_news moment sender packet.now self.now }
-    {
-        News {
-            event: self.taken_event(moment, packet.terminated()),
-            skipped: self.skips(moment, packet.number()),
-            began_anew: self.begins_anew(moment, packet.number()),
-            priority: change(self.priority, packet.priority()),
-            renamed: self.name != fitted(packet.name()),
-            moved: !same_sender(&self.sender, &sender),
-        }
+        self.take(moment, sender, packet)
     }
 
     /// Whether the latest taken packet still counts: it came less than 2500 ms ago.
@@ -128,17 +105,6 @@ impl Account {
         ensures { result ≡ is_discarded moment arrived self.now }
     {
         self.is_fresh(moment) & !in_sequence(self.sequence_number, arrived)
-    }
-
-    // The event of a discarded packet.
-    fn discarded_event(&self, arrived: u8) -> Event
-        ensures { result ≡ discarded_event arrived self.now }
-    {
-        if arrived == self.sequence_number {
-            Event::Repeated
-        } else {
-            Event::OutOfSequence
-        }
     }
 
     // The event of a taken packet.
@@ -177,26 +143,38 @@ impl Account {
         self.is_fresh(moment) & (signed_step(self.sequence_number, arrived) < 0)
     }
 
-    // A packet that is discarded.
-    fn discard(&mut self, arrived: u8)
-        ensures { self.new ≡ after_discarded arrived self.old }
+    // A packet that is discarded. Returns its event.
+    fn discard(&mut self, arrived: u8) -> Event
+        ensures event { result ≡ discarded_event arrived self.old }
+        ensures account { self.new ≡ after_discarded arrived self.old }
     {
         if arrived == self.sequence_number {
             self.repeats = self.repeats.saturating_add(1);
+            Event::Repeated
         } else {
             self.late = self.late.saturating_add(1);
+            Event::OutOfSequence
         }
     }
 
-    // A packet that is taken.
-    #[tactic(auto, unfolding(crate::specs::Accounts::after_taken))]
-    fn take(&mut self, moment: u64, sender: Sender, packet: &DataView<'_>)
-        ensures { self.new ≡ after_taken moment sender packet.now self.old }
+    // A packet that is taken. Returns what it tells that is new.
+    #[tactic(auto, unfolding(crate::specs::Accounts::taken_news, crate::specs::Accounts::after_taken))]
+    fn take(&mut self, moment: u64, sender: Sender, packet: &DataView<'_>) -> News
+        requires { IsFitted self.old.name }
+        ensures news { result ≡ taken_news moment sender packet.now self.old }
+        ensures account { self.new ≡ after_taken moment sender packet.now self.old }
     {
         let skipped = self.skips(moment, packet.number());
         let gap = moment.saturating_sub(self.latest);
+        let news = News {
+            event: self.taken_event(moment, packet.terminated()),
+            skipped,
+            began_anew: self.begins_anew(moment, packet.number()),
+            priority: change(self.priority, packet.priority()),
+            renamed: rename(&mut self.name, packet),
+            moved: !same_sender(&self.sender, &sender),
+        };
         self.sender = sender;
-        self.name = fitted(packet.name());
         self.priority = packet.priority();
         self.latest = moment;
         self.sequence_number = packet.number();
@@ -205,6 +183,7 @@ impl Account {
         self.skipped = self.skipped.saturating_add(u64::from(skipped));
         self.greatest_gap = self.greatest_gap.max(gap);
         self.rate.count(moment);
+        news
     }
 }
 
@@ -236,6 +215,34 @@ fn same_sender(a: &Sender, b: &Sender) -> bool
     ensures { result ≡ same_sender a.now b.now }
 {
     (a.address == b.address) & (a.port == b.port)
+}
+
+// A packet's name in place of another. Returns whether it is another one.
+//
+// Mostly the packet's whole field is the kept name to the octet. What is read from that, fitted, is that name again: so one
+// compare of the fields spares the search for the name's end and a write, and gives what `refit` gives.
+fn rename(name: &mut [u8; 64], packet: &DataView<'_>) -> bool
+    requires { IsFitted name.old }
+    ensures renamed { result ≡ not (bytes_eq name.old (name_of packet.now)) }
+    ensures name { name.new ≡ name_of packet.now }
+{
+    if *name == *packet.name_field() {
+        return false;
+    }
+    refit(name, packet)
+}
+
+// The same of any two: the packet's name, fitted, is compared and written. Out of line, so that the test before it is made in
+// the caller.
+#[inline(never)]
+fn refit(name: &mut [u8; 64], packet: &DataView<'_>) -> bool
+    ensures renamed { result ≡ not (bytes_eq name.old (name_of packet.now)) }
+    ensures name { name.new ≡ name_of packet.now }
+{
+    let field = fitted(packet.name());
+    let renamed = *name != field;
+    *name = field;
+    renamed
 }
 
 // A name's octets, and NUL to the end of its field.

@@ -3,7 +3,7 @@
 ghost use Rattle.std.specs.Prelude.{◌≡◌, ◌<◌, ◌++◌, ◌∷◌, [], None, IfOk, length, slice_index_or, slice_set};
 ghost use Rattle.std.specs.List.{position};
 ghost use Rattle.sacn_monitor.specs.declared.limits.TheConstants.{CHAINS, MAX_STREAMS};
-ghost use Rattle.sacn_monitor.specs.Accounts.{news_of};
+ghost use Rattle.sacn_monitor.specs.Accounts.{IsFitted, news_of};
 ghost use Rattle.sacn_monitor.specs.Books.{with_told, silent_place};
 ghost use Rattle.sacn_monitor.specs.Chains.{chain_by};
 ghost use Rattle.sacn_monitor.specs.Streams.{is_of, stream_after};
@@ -36,6 +36,8 @@ impl Model for Register {
     ghost use Rattle.std.specs.Prelude.{List, map, ◌≤◌, vec_capacity};
     ghost use Rattle.sacn_monitor.specs.declared.stream.Stream.{Stream};
     ghost use Rattle.sacn_monitor.specs.declared.limits.TheConstants.{MAX_STREAMS};
+    ghost use Rattle.std.specs.List.{All};
+    ghost use Rattle.sacn_monitor.specs.Accounts.{IsFitted};
     ghost use Rattle.sacn_monitor.specs.Books.{next_loss};
     ghost use Rattle.sacn_monitor.specs.Chains.{chain_of, AreChained, AreDistinct};
 
@@ -47,7 +49,8 @@ impl Model for Register {
         × (MAX_STREAMS ≤ vec_capacity r.before)
         × AreChained r.latest.items r.before.items (map chain_of r.streams.items)
         × AreDistinct r.streams.items
-        × (r.quiet_until ≤ next_loss r.streams.items) };
+        × (r.quiet_until ≤ next_loss r.streams.items)
+        × All (λ s. IsFitted s.account.name) r.streams.items };
 }
 
 impl Register {
@@ -144,6 +147,7 @@ impl Register {
     pub(crate) fn admit(&mut self, stream: Stream)
         requires room { length self.old < MAX_STREAMS }
         requires unknown { position (is_of stream.universe stream.cid) self.old ≡ None }
+        requires fitted { IsFitted stream.account.name }
         ensures { self.new ≡ self.old ++ stream ∷ [] }
     {
         let chain = chain_by(stream.universe, &stream.cid);

@@ -16,12 +16,24 @@ pub(crate) fn top_priority(streams: &[Stream], universe: u16, moment: u64) -> u8
 }
 
 /// How many sources light a universe at the greatest priority there.
+///
+/// The same as a count of those at `top_priority`, by one look at the streams in place of two: where a greater priority is
+/// met, the count begins anew.
 pub(crate) fn rivals(streams: &[Stream], universe: u16, moment: u64) -> usize
     ensures { result ≡ rivals universe moment streams.now }
 {
-    let top = top_priority(streams, universe, moment);
-    streams
-        .iter()
-        .filter(|stream| stream.lights(universe, moment) & (stream.account.priority == top))
-        .count()
+    let mut top: u8 = 0;
+    let mut count: usize = 0;
+    for stream in streams {
+        if stream.lights(universe, moment) {
+            let priority = stream.account.priority;
+            if top < priority {
+                top = priority;
+                count = 1;
+            } else if priority == top {
+                count += 1;
+            }
+        }
+    }
+    count
 }

@@ -1,7 +1,7 @@
 //! A source on a universe.
 
 ghost use Rattle.std.specs.Prelude.{◌≡◌};
-ghost use Rattle.sacn_monitor.specs.Accounts.{news_of};
+ghost use Rattle.sacn_monitor.specs.Accounts.{IsFitted, news_of};
 ghost use Rattle.sacn_monitor.specs.Rivals.{lights};
 ghost use Rattle.sacn_monitor.specs.Streams.{is_of, first_stream, stream_after, loss_of, falls_silent, state_of};
 
@@ -52,10 +52,11 @@ impl Stream {
     pub(crate) fn lights(&self, universe: u16, moment: u64) -> bool
         ensures { result ≡ lights universe moment self.now }
     {
-        (self.universe == universe)
-            & !self.account.ended
-            & self.account.is_fresh(moment)
-            & (self.account.kinds.live > 0)
+        // Most streams are of other universes, and nothing more is asked of these: the same as all four tests at once.
+        if self.universe != universe {
+            return false;
+        }
+        !self.account.ended & self.account.is_fresh(moment) & (self.account.kinds.live > 0)
     }
 
     /// A stream whose first packet this is.
@@ -79,13 +80,12 @@ impl Stream {
 
     /// A packet more. Returns what it tells that is new.
     pub(crate) fn hear(&mut self, moment: u64, sender: Sender, packet: &DataView<'_>) -> News
+        requires { IsFitted self.old.account.name }
         ensures news { result ≡ news_of moment sender packet.now self.old.account }
         ensures stream { self.new ≡ stream_after moment sender packet.now self.old }
     {
-        let news = self.account.news(moment, sender, packet);
-        self.account.hear(moment, sender, packet);
         self.told = false;
-        news
+        self.account.hear(moment, sender, packet)
     }
 
     /// The moment at which it is lost if it stays silent, where that wasn't told yet; else `u64::MAX`.

@@ -1,6 +1,8 @@
-use Rattle.std.proofs.Common.{◌≡◌, replicate, ap, arith}
+use Rattle.std.proofs.Common.{◌≡◌, [], replicate, ap, arith}
+use Rattle.std.proofs.lemmas.List.Elements.{All-nil, All-same}
 use Rattle.sacn_monitor.specs.declared.limits.TheConstants.{CHAINS}
 use Rattle.sacn_monitor.specs.Books.{next_loss}
+use Rattle.sacn_monitor.proofs.Fitting.{HasFitted}
 use Rattle.sacn_monitor.proofs.Admitting.{chained_at_first, distinct_at_first}
 use Rattle.sacn_monitor.proofs.register.Register.new.Goals as goal
 
@@ -13,4 +15,5 @@ invariant_of-result c =
       chained_at_first c.in_ok-vec.field-0.items c.in_ok-with_capacity-2.field-0.items streams.items empty c.in_ok-with_capacity-2.ensures.items c.in_ok-with_capacity.ensures.items,
       distinct_at_first streams.items c.in_ok-with_capacity.ensures.items,
       omega (arith, ap next_loss c.in_ok-with_capacity.ensures.items),
+      All-same HasFitted streams.items [] c.in_ok-with_capacity.ensures.items (All-nil HasFitted),
     )
