@@ -1,4 +1,5 @@
 pub mod Decodes
+mod ShortNumbers
 pub mod Simulates
 pub mod ReadLemmas
 pub mod Prints

@@ -1,22 +1,67 @@
 //! The line that a look prints.
-ghost use Rattle.std.specs.Prelude.{◌≡◌, ◌++◌, drop, string_bytes, IfOk, OnOk};
+ghost use Rattle.std.specs.Prelude.{◌≡◌, ◌<◌, ◌+◌, ◌++◌, drop, string_bytes, IfOk, OnOk};
+ghost use Rattle.std.specs.Fmt.{decimal};
 ghost use Rattle.sacn_text.specs.Looks.{slot_words, slots_words, frame_words, look_top, look_line};
 
 use crate::words::join;
-use itoa::Buffer;
 use std::alloc::{AllocError, Global};
 
-// Adds a slot with its level after a space, nothing where it is dark. Its digits come from a table and not from a formatter.
+/// The octets of the longest words of a frame: 512 slots of three digits, each with a level of three.
+const LIT_OCTETS: usize = 512 * 8;
+
+// A digit.
+fn digit(number: usize) -> u8
+    requires { number < 10 }
+    ensures { result ≡ 48 + number }
+{
+    b'0' + number as u8
+}
+
+// Adds a number below a hundred in decimals.
+#[tactic(auto, using(crate::proofs::ShortNumbers::of_one, crate::proofs::ShortNumbers::of_two))]
+fn push_shorter(text: &mut Vec<u8>, number: usize) -> Result<(), AllocError>
+    requires { number < 100 }
+    ensures { OnOk result (text.new.items ≡ text.old.items ++ decimal number) }
+{
+    if number < 10 {
+        text.push(digit(number))?;
+        return Ok(());
+    }
+    text.push(digit(number / 10))?;
+    text.push(digit(number % 10))?;
+    Ok(())
+}
+
+// Adds a number below a thousand in decimals, digit by digit: what a formatter writes, without the text that it would make first.
+#[tactic(auto, using(crate::proofs::ShortNumbers::of_one, crate::proofs::ShortNumbers::of_more))]
+fn push_short(text: &mut Vec<u8>, number: usize) -> Result<(), AllocError>
+    requires { number < 1000 }
+    ensures { OnOk result (text.new.items ≡ text.old.items ++ decimal number) }
+{
+    if number < 10 {
+        text.push(digit(number))?;
+        return Ok(());
+    }
+    push_shorter(text, number / 10)?;
+    text.push(digit(number % 10))?;
+    Ok(())
+}
+
+// Adds a slot with its level after a space, nothing where it is dark. The first lit one takes the room for all.
 fn push_slot(text: &mut Vec<u8>, slot: usize, level: u8) -> Result<(), AllocError>
+    requires { slot < 1000 }
     ensures { OnOk result (text.new.items ≡ text.old.items ++ slot_words slot level) }
 {
     if level == 0 {
         return Ok(());
     }
-    text.extend_from_slice(b" ")?;
-    text.extend_from_slice(Buffer::new().format(slot).as_bytes())?;
-    text.extend_from_slice(b"@")?;
-    text.extend_from_slice(Buffer::new().format(level).as_bytes())
+    if text.is_empty() {
+        text.reserve(LIT_OCTETS)?;
+    }
+    text.push(b' ')?;
+    push_short(text, slot)?;
+    text.push(b'@')?;
+    push_short(text, usize::from(level))
 }
 
 // The lit slots of a frame, behind its start code.

@@ -77,11 +77,16 @@ fn spaced(alloc: Global, numbers: &[u16]) -> Result<Vec<u8>, AllocError>
     Ok(text)
 }
 
-/// Three texts, joined.
+/// Three texts, joined, in room that is taken at once.
 pub fn join(alloc: Global, first: &[u8], second: &[u8], third: &[u8]) -> Result<Vec<u8>, AllocError>
     ensures { IfOk result (λ text. text.items ≡ first.now ++ second.now ++ third.now) }
 {
-    let mut text = Vec::from_slice(alloc, first)?;
+    let room = first
+        .len()
+        .saturating_add(second.len())
+        .saturating_add(third.len());
+    let mut text = Vec::with_capacity(alloc, room)?;
+    text.extend_from_slice(first)?;
     text.extend_from_slice(second)?;
     text.extend_from_slice(third)?;
     Ok(text)
