@@ -1,8 +1,8 @@
 //! The kinds of files, and how a file's kind is told.
 
 use crate::quick::is_surely_show;
-use sacn_files::lines::said_lines;
-use sacn_files::words::number_in;
+use sacn_files::lines::is_skipped;
+use sacn_files::words::{number_in, put_words};
 use std::alloc::{AllocError, Global};
 use toml::Table;
 
@@ -60,10 +60,16 @@ fn document_kind(table: &Table) -> Option<FileKind> {
     }
 }
 
+// The kind that the first line of some kind tells. The lines behind it aren't looked at, and one vector has the words of
+// each in turn: as by a loop over `said_lines`, which makes those of all lines first.
 fn text_kind(alloc: Global, text: &str) -> Result<FileKind, AllocError> {
-    for line in said_lines(alloc, text)?.as_slice() {
-        if let Some(kind) = line_kind(line.words.as_slice()) {
-            return Ok(kind);
+    let mut words = Vec::new(alloc);
+    for line in text.lines() {
+        put_words(&mut words, line)?;
+        if !is_skipped(words.as_slice()) {
+            if let Some(kind) = line_kind(words.as_slice()) {
+                return Ok(kind);
+            }
         }
     }
     Ok(FileKind::Show)

@@ -5,8 +5,8 @@ ghost use Rattle.sacn_console.specs.Scripts.{none_in, one_in, two_in, command_in
 
 use crate::command::Command;
 use sacn_files::faults::TextFault;
-use sacn_files::lines::said_lines;
-use sacn_files::words::{number_in, short_in};
+use sacn_files::lines::{is_skipped, lines_of};
+use sacn_files::words::{number_in, put_words, short_in};
 use std::alloc::Global;
 
 /// A whole number of sixteen bits.
@@ -122,10 +122,15 @@ fn order_in(line: usize, words: &[&str]) -> Result<(u64, Command), TextFault>
 pub fn read_script(alloc: Global, text: &str) -> Result<Vec<(u64, Command)>, TextFault>
     ensures { Orders result (script_in text.now) }
 {
-    let lines = said_lines(alloc, text)?;
+    let lines = lines_of(alloc, text)?;
+    // One vector has the words of each line in turn, which saves one a line: as by a loop over `said_lines`.
+    let mut words = Vec::new(alloc);
     let mut orders = Vec::new(alloc);
-    for line in lines.as_slice() {
-        orders.push(order_in(line.number, line.words.as_slice())?)?;
+    for i in 0..lines.len() {
+        put_words(&mut words, lines[i])?;
+        if !is_skipped(words.as_slice()) {
+            orders.push(order_in(i + 1, words.as_slice())?)?;
+        }
     }
     Ok(orders)
 }
