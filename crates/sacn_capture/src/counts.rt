@@ -49,7 +49,7 @@ impl Counts {
         }
     }
 
-    // One more frame, by why it is passed over.
+    /// One more frame, by why it is passed over, where it is.
     pub(crate) fn count(&mut self, passed: Option<Passed>)
         ensures { self.new ≡ count_frame passed self.old }
     {

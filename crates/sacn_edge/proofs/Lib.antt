@@ -7,3 +7,4 @@ pub mod MemoryLemmas
 pub mod PlainTexts
 pub mod ListSends
 pub mod Changing
+pub mod DigitBlocks

@@ -9,6 +9,7 @@
 mod changes;
 mod clock;
 mod console_loop;
+mod digits;
 pub mod laws;
 mod line;
 mod link;
@@ -25,6 +26,7 @@ mod writer;
 pub use changes::Changes;
 pub use clock::Clock;
 pub use console_loop::{count as count_send, run_console, send};
+pub use digits::write_digits;
 pub use link::{BUFFER_OCTETS, Link, Received};
 pub use node_loop::{ports_of, run_node};
 pub use out::Out;

@@ -3,6 +3,7 @@ ghost use Rattle.std.specs.Prelude.{◌≡◌, ◌+◌, ◌++◌, ◌≤◌, len
 ghost use Rattle.hex.specs.Hex.{encode_lower};
 ghost use Rattle.sacn_edge.specs.NodeText.{FrameLine, line_text};
 
+use crate::digits::write_digits;
 use arrayvec::ArrayVec;
 use itoa::Buffer;
 use sacn_universe::FRAME_OCTETS;
@@ -26,7 +27,7 @@ fn digits_of(frame: &[u8; FRAME_OCTETS]) -> [u8; FRAME_DIGITS]
     ensures { result ≡ encode_lower frame.now }
 {
     let mut digits = [0; FRAME_DIGITS];
-    let _ = hex::encode_to_slice(frame, &mut digits);
+    write_digits(frame, &mut digits);
     digits
 }
 

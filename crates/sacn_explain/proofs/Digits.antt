@@ -1,5 +1,5 @@
 -- The digits of octets.
-use Rattle.std.proofs.Common.{◌≡◌, ℕ, suc, ◌<◌, nat_lt, inl, inr, ◌/◌, ◌%◌, true, List, [], ◌∷◌, ◌++◌, get_or, slice_index, Result, Ok, Err, is_ok, IsOk, OnOk, if◌then◌else◌, refl, sym, ap, ◌∙◌, arith}
+use Rattle.std.proofs.Common.{◌≡◌, ℕ, suc, ◌<◌, nat_lt, inl, inr, ◌/◌, ◌%◌, true, List, [], ◌∷◌, ◌++◌, get_or, slice_index, Result, Ok, Err, is_ok, OnOk, if◌then◌else◌, refl, sym, ap, ◌∙◌, arith}
 use Rattle.std.specs.Str.{IsUtf8, IsAscii, bytes_eq}
 use Rattle.std.specs.Fmt.{digits}
 use Rattle.std.specs.Cmp.Lexicographic.{bytes_decides}
@@ -35,11 +35,6 @@ lower_ascii i =
 -- and it can be read as text
 pub digits_are_text : (octets : List ℕ) → IsUtf8 (encode_lower octets)
 digits_are_text octets = IsUtf8-from_ascii (encode_lower octets) (IsAscii-encode_with lower_digits octets lower_ascii)
-
--- what a call that works ensures
-pub on_ok : {T E : Type 0} {P : Type 0} (r : Result T E) → IsOk r → OnOk r P → P
-on_ok (Ok x) is p = p
-on_ok (Err e) is p = absurd (cc is)
 
 -- digits that are pushed as text
 pub pushed : {T E : Type 0} (r : Result T E) (old new written octets : List ℕ) → new ≡ (if is_ok r then old ++ written else old) → written ≡ octets_text octets → OnOk r (new ≡ old ++ octets_text octets)

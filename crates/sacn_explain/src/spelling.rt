@@ -5,13 +5,15 @@ ghost use Rattle.std.specs.List.{flat_map};
 ghost use Rattle.sacn_explain.specs.Spelling.{flush_left, octets_text, address_text, sender_text, moment_text, escape_text, letter_text, letters_of, name_text};
 
 use itoa::Buffer;
+use sacn_edge::write_digits;
 use sacn_monitor::Sender;
+use sacn_universe::SLOTS;
 use std::alloc::AllocError;
 use std::fmt::Write;
 use std::str;
 
-/// Octets whose digits are pushed at once.
-const PIECE: usize = 64;
+/// Octets whose digits are pushed at once: the slots of a frame.
+const PIECE: usize = SLOTS;
 
 /// A word of ASCII, left-aligned in so many places.
 pub fn push_left(text: &mut String, word: &str, width: usize) -> Result<(), AllocError>
@@ -57,18 +59,19 @@ fn push_written(text: &mut String, piece: &[u8], digits: &mut [u8]) -> Result<()
     ensures { OnOk result
         (string_bytes text.new ≡ string_bytes text.old ++ octets_text piece.now) }
 {
-    let _ = hex::encode_to_slice(piece, digits);
+    write_digits(piece, digits);
     let Ok(letters) = str::from_utf8(digits) else {
         unreachable!();
     };
     text.push_str(letters)
 }
 
-/// A CID's 32 digits (E1.31, 5.6).
+/// A CID's 32 digits (E1.31, 5.6): the same as `push_digits` writes, by way of an array of their own size.
 pub fn push_cid(text: &mut String, cid: &[u8; 16]) -> Result<(), AllocError>
     ensures { OnOk result (string_bytes text.new ≡ string_bytes text.old ++ octets_text cid.now) }
 {
-    push_digits(text, cid)
+    let mut digits = [0; 32];
+    push_written(text, cid, &mut digits)
 }
 
 /// A number in decimals: the same as a formatter writes, without one.

@@ -23,6 +23,8 @@ use std::marker::Model;
 /// and `before` for each stream the mark of the one before it in its chain. A mark is one more than the place of a stream,
 /// and 0 marks none. So a stream is found among those of its chain, which mostly are few; where a chain is long, a look at all
 /// streams in turn, which costs less a stream, takes over after some steps.
+///
+/// Each name is kept as it is fitted from a packet, so that a packet with that very field has that name.
 #[derive(Drop)]
 pub(crate) struct Register {
     streams: Vec<Stream>,

@@ -7,9 +7,9 @@ use crate::words::join;
 use std::alloc::{AllocError, Global};
 
 /// The octets of the longest words of a frame: 512 slots of three digits, each with a level of three.
-const LIT_OCTETS: usize = 512 * 8;
+const LIT_OCTETS: usize = 4096;
 
-// A digit.
+// The digit of a number below ten.
 fn digit(number: usize) -> u8
     requires { number < 10 }
     ensures { result ≡ 48 + number }

@@ -6,6 +6,6 @@ use Rattle.sacn_explain.proofs.spelling.push_digits.Given as goal
 -- what is written, and then the octets that are left, is all
 abbrev pub invariant-loop-piece : goal.invariant-loop-piece
 invariant-loop-piece l = record {
-  pieces : chunks_size l.piece-iterator ≡ 64;
+  pieces : chunks_size l.piece-iterator ≡ 512;
   text : string_bytes l.text ++ octets_text (chunks_rest l.piece-iterator) ≡ string_bytes l.fn.text ++ octets_text l.octets;
 }
