@@ -7,6 +7,7 @@ mod digest;
 mod evenings;
 mod fault;
 mod files;
+mod fixtures;
 mod page;
 mod tape;
 mod tellings;
@@ -23,7 +24,9 @@ use std::{env, io};
 use work::Work;
 
 /// The jobs.
-const JOBS: [&str; 6] = ["lines", "frames", "crowd", "worlds", "files", "evenings"];
+const JOBS: [&str; 7] = [
+    "lines", "frames", "crowd", "worlds", "files", "evenings", "fixtures",
+];
 
 fn main(rt: HostRuntime) -> ExitCode {
     match run(&rt) {
@@ -78,6 +81,7 @@ fn digest_of(alloc: Global, name: &str, words: &[String]) -> Result<u64, WorkFau
         "worlds" => worlds::worlds(&work, &mut digest)?,
         "files" => files::files(&work, &mut digest)?,
         "evenings" => evenings::evenings(&work, &mut digest)?,
+        "fixtures" => fixtures::fixtures(&work, &mut digest)?,
         _ => return Err(WorkFault::Words),
     }
     Ok(digest.value()?)

@@ -73,7 +73,8 @@ pub fn push_show(
     Ok(())
 }
 
-fn push_cue(
+/// A cue of a show.
+pub fn push_cue(
     text: &mut String,
     chance: &mut Chance,
     plan: &ShowPlan,
