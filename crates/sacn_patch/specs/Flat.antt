@@ -51,6 +51,14 @@ IsMark row place mark = (1 ≤ mark.run) × AreInStep row mark.step mark.run pla
 abbrev pub AreMarks : Row → List Mark → Type 0
 AreMarks row marks = (length marks ≡ length row) × ((place : ℕ) (d : Mark) → place < length row → IsMark row place (slice_index_or marks place d))
 
+-- the entry of the mark stands on a slot, and shows one of so many octets
+abbrev pub IsThere : ℕ → Mark → Type 0
+IsThere octets mark = (1 ≤ mark.slot) × (mark.slot ≤ 512) × (mark.octet < octets)
+
+-- that of each mark does
+abbrev pub AreThere : ℕ → List Mark → Type 0
+AreThere octets marks = (place : ℕ) (d : Mark) → place < length marks → IsThere octets (slice_index_or marks place d)
+
 -- the slots with that octet on one of them, or none where the number is none of a slot
 abbrev pub with_octet : List ℕ → ℕ → ℕ → List ℕ → List ℕ
 with_octet octets slot octet slots = if (nat_le 1 slot && nat_le slot 512) then set slots (slot - 1) (get_or octets octet 0) else slots

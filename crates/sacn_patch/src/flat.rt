@@ -1,7 +1,8 @@
 //! A patch in one row.
 ghost use Rattle.std.specs.Prelude.{◌≡◌, ◌+◌, ◌*◌, ◌<◌, ◌≤◌, ◌&&◌, nat_le, ℕ, length, slice_index_or, map, get_or, true, IfOk};
 ghost use Rattle.sacn_universe.specs.declared.limits.TheConstants.{SLOTS};
-ghost use Rattle.sacn_patch.specs.Flat.{Row, IsRowOfTree, AllBelow, AllFrom, IsStart, AreStarts, AreMarks, IsMark, is_within, mark_of, with_octet, with_run};
+ghost use Rattle.std.specs.Option.{ForSome};
+ghost use Rattle.sacn_patch.specs.Flat.{Row, IsRowOfTree, AllBelow, AllFrom, IsStart, AreStarts, AreMarks, IsMark, IsThere, AreThere, is_within, mark_of, with_octet, with_run};
 
 use crate::level::{LevelOf, RestOf};
 use crate::part::{Part, byte_of, octet_place};
@@ -34,13 +35,16 @@ pub struct FlatPatch {
     row: Vec<((u16, u16), Part)>,
     // For each entry of the row its mark.
     marks: Vec<Mark>,
+    // So many octets have those of all entries, where each entry stands on a slot.
+    reach: Option<usize>,
     // For each universe up to the greatest one where it begins in the row, so that none is searched.
     starts: Vec<usize>,
 }
 
 impl Model for FlatPatch {
     ghost use Rattle.sacn_patch.specs.Patch.{Patched, patch_code};
-    ghost use Rattle.sacn_patch.specs.Flat.{IsRowOfTree, AreStarts, AreMarks};
+    ghost use Rattle.std.specs.Option.{ForSome};
+    ghost use Rattle.sacn_patch.specs.Flat.{IsRowOfTree, AreStarts, AreMarks, AreThere};
 
     ghost Value = { Patched };
 
@@ -50,7 +54,7 @@ impl Model for FlatPatch {
 
     ghost view = { λ p. from_entries p.row.items };
 
-    ghost invariant = { λ p. IsRowOfTree p.row.items × AreMarks p.row.items p.marks.items × AreStarts p.row.items p.starts.items };
+    ghost invariant = { λ p. IsRowOfTree p.row.items × AreMarks p.row.items p.marks.items × AreStarts p.row.items p.starts.items × ForSome p.reach (λ reach. AreThere reach p.marks.items) };
 }
 
 impl FlatPatch {
@@ -65,8 +69,14 @@ impl FlatPatch {
     {
         let mut marks = marks_of(alloc, &row)?;
         join_runs(&mut marks);
+        let reach = reach_of(&marks);
         let starts = starts_of(alloc, &row)?;
-        Ok(FlatPatch { row, marks, starts })
+        Ok(FlatPatch {
+            row,
+            marks,
+            reach,
+            starts,
+        })
     }
 
     /// Writes the slots of a universe as `Patch::fill` does. It asks for a level once for each slot that
@@ -91,6 +101,8 @@ impl FlatPatch {
     /// channel c at 2 c and 2 c + 1, the high one first, and none or 0 outside the channels. Where slots
     /// one after another show octets one after another, or every second one, it copies them at once,
     /// which writes what the entries one by one do.
+    // (Out of line, so that its loop has all registers for itself.)
+    #[inline(never)]
     pub fn fill_octets(&self, universe: u16, octets: &[u8], slots: &mut [u8; SLOTS])
         ensures { (level : ℕ → ℕ) → AreOctets level octets.now
             → slots.new ≡ universe_frame level self.now universe }
@@ -101,11 +113,12 @@ impl FlatPatch {
         let marks = self.marks.as_slice();
         let start = start_in(starts, row, universe as u32);
         let end = start_in(starts, row, universe as u32 + 1);
+        let are_there = are_there(marks, self.reach, octets);
         let mut place = start;
         while place < end {
             // The marks are those of this row.
             let _row = row;
-            place += write_some(octets, marks[place], end - place, slots);
+            place += write_some(octets, marks[place], end - place, are_there, slots);
         }
     }
 
@@ -157,9 +170,46 @@ fn octet_at(octets: &[u8], place: u32) -> u8
     }
 }
 
+// Whether each entry shows one of these octets on a slot.
+fn are_there(marks: &[Mark], reach: Option<usize>, octets: &[u8]) -> bool
+    requires { ForSome reach (λ r. AreThere r marks.now) }
+    ensures { result ≡ true → AreThere (length octets.now) marks.now }
+{
+    match reach {
+        Some(reach) => reach <= octets.len(),
+        None => false,
+    }
+}
+
 // Writes what some entries show, that of the mark the first, and says how many: those of a long run
 // at once, else one.
-fn write_some(octets: &[u8], mark: Mark, most: usize, slots: &mut [u8; SLOTS]) -> usize
+fn write_some(
+    octets: &[u8],
+    mark: Mark,
+    most: usize,
+    is_there: bool,
+    slots: &mut [u8; SLOTS],
+) -> usize
+    requires run { 1 ≤ mark.run }
+    requires most { 1 ≤ most }
+    requires there { is_there ≡ true → IsThere (length octets.now) mark }
+    ensures some { 1 ≤ result }
+    ensures run { result ≤ mark.run }
+    ensures most { result ≤ most }
+    ensures written { slots.new
+        ≡ with_run octets.now mark.step result mark.slot mark.octet slots.old }
+{
+    if mark.run >= LEAST_RUN {
+        return write_run(octets, mark, most, slots);
+    }
+    write_one(octets, mark, is_there, slots);
+    1
+}
+
+// Writes what the entries of a run show, or the first of them where they pass an end. Out of line, so
+// that the loop over single entries stays short.
+#[inline(never)]
+fn write_run(octets: &[u8], mark: Mark, most: usize, slots: &mut [u8; SLOTS]) -> usize
     requires run { 1 ≤ mark.run }
     requires most { 1 ≤ most }
     ensures some { 1 ≤ result }
@@ -168,7 +218,7 @@ fn write_some(octets: &[u8], mark: Mark, most: usize, slots: &mut [u8; SLOTS]) -
     ensures written { slots.new
         ≡ with_run octets.now mark.step result mark.slot mark.octet slots.old }
 {
-    if mark.run >= LEAST_RUN && is_slot(mark.slot) {
+    if is_slot(mark.slot) {
         let count = (mark.run as usize).min(most);
         let slot = mark.slot as usize;
         let octet = mark.octet as usize;
@@ -183,15 +233,19 @@ fn write_some(octets: &[u8], mark: Mark, most: usize, slots: &mut [u8; SLOTS]) -
             }
         }
     }
-    write_one(octets, mark, slots);
+    write_one(octets, mark, false, slots);
     1
 }
 
-// Writes what the entry of the mark shows.
-fn write_one(octets: &[u8], mark: Mark, slots: &mut [u8; SLOTS])
+// Writes what the entry of the mark shows. Where it is known to be there, nothing is asked of it: two
+// loads and a store.
+fn write_one(octets: &[u8], mark: Mark, is_there: bool, slots: &mut [u8; SLOTS])
+    requires { is_there ≡ true → IsThere (length octets.now) mark }
     ensures { slots.new ≡ with_octet octets.now mark.slot mark.octet slots.old }
 {
-    if is_slot(mark.slot) {
+    if is_there {
+        slots[mark.slot as usize - 1] = octets[mark.octet as usize];
+    } else if is_slot(mark.slot) {
         slots[mark.slot as usize - 1] = octet_at(octets, mark.octet);
     }
 }
@@ -270,6 +324,20 @@ fn joined(mark: Mark, next: Mark) -> Mark
         step,
         octet: mark.octet,
     }
+}
+
+// How many octets have those of all entries; None where one stands on no slot.
+fn reach_of(marks: &[Mark]) -> Option<usize>
+    ensures { ForSome result (λ reach. AreThere reach marks.now) }
+{
+    let mut reach = 0;
+    for place in 0..marks.len() {
+        if !is_slot(marks[place].slot) {
+            return None;
+        }
+        reach = reach.max(marks[place].octet as usize + 1);
+    }
+    Some(reach)
 }
 
 // Where each universe begins in the row, up to the one after the greatest.
