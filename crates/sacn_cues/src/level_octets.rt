@@ -9,7 +9,8 @@ use sacn_patch::MAX_CHANNELS;
 /// The places of the octets of all levels: two for each channel, and two before them.
 pub(crate) const OCTETS: usize = 2 * MAX_CHANNELS as usize + 2;
 
-/// The most channels that are reckoned by the list; beyond, going over all in turn costs less.
+/// The most channels that are reckoned by the list. By the list a channel costs more than in turn, so that
+/// beyond about so many going over all costs less.
 pub(crate) const MOST_LISTED: usize = MAX_CHANNELS as usize / 4 * 3;
 
 /// Room for the octets of all levels after the master, and whether they stand in it.
@@ -30,10 +31,6 @@ pub(crate) struct LevelOctets {
 pub(crate) fn mastered(level: u16, master: u16) -> u16
     ensures { result ≡ level * master / limits.FULL }
 {
-    // At full, as a master mostly is, the level itself: neither product nor quotient.
-    if master == FULL {
-        return level;
-    }
     (level as u32 * master as u32 / FULL as u32) as u16
 }
 
