@@ -1,7 +1,7 @@
 """What bench/counts counts: the instructions of each workload, and of calls and commands that no workload makes.
 
-Each run is made by valgrind with the same environment. The C library then copies by the same instructions on every processor that it knows: what it
-chooses by the processor else, valgrind counts otherwise on another machine, and a copy by one long instruction as one of each octet.
+Each run is made by valgrind in one environment, in which the C library doesn't choose by the processor how it copies (PINNED). So counts are alike where the processor has
+AVX2 and where it hasn't, and nothing is copied by one long instruction, which valgrind counts once for each octet.
 """
 import os
 import re

@@ -57,6 +57,11 @@ status=0
 "$top/bench/counts" --file "$room/absent" >"$room/out" 2>"$room/err" || status=$?
 [ "$status" = 2 ] && grep -q 'No such file' "$room/err"
 verdict "no file" $? "status $status, $(head -n 1 "$room/err")"
+python=$(python3 -c 'import sys; print(sys.executable)')
+PATH=$room/none "$python" "$top/bench/counts" --file "$room/whole" >"$room/out" 2>"$room/err"
+status=$?
+[ "$status" = 0 ] && [ "$(grep -cE "^skipped [a-z-]+: valgrind isn't there$" "$room/out")" = "$((end - 4))" ] && [ ! -s "$room/err" ]
+verdict "without valgrind each is skipped by name" $? "$(head -n 1 "$room/out" "$room/err")"
 for words in "--raise lines" "--only nothing" "--anew" "--write --anew --only lines"; do
   status=0
   # shellcheck disable=SC2086
