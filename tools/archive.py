@@ -5,12 +5,14 @@ usage: archive.py [CRATE]     a static library of crates.txt; sacn_c where none 
 
 rt ci leaves each library in its out/ as what it states and its code, without the mark by which rt's other commands take a library for
 their own: so these would prove all of them again. What rt ci does over them for a program is done here for the static library, which rt ci
-proves but never builds: its own crate is proved once more, and nothing below it.
+proves but never builds: its own crate is proved once more, and nothing below it. Where the test command has passed this very tree that is noted, as
+./sacn library notes it, and a later run finds it done.
 
 Status 0: built; 3: what the gate leaves isn't there; else not built.
 """
 import os
 import shutil
+import subprocess
 import sys
 
 TOP = os.path.dirname(os.path.dirname(os.path.realpath(__file__)))
@@ -57,13 +59,34 @@ def build(kit, name):
     return crate.call(rtlib.RATTLE, "build", *words, *made)
 
 
+def output(*words):
+    return subprocess.run(words, stdout=subprocess.PIPE, encoding="utf-8", check=True).stdout.rstrip("\n")
+
+
+def noted(name):
+    """What is noted beside what was built of a crate: of which tree, for which processor and by which kit; nothing where nothing is."""
+    try:
+        with open(f"crates/{name}/out/{name}.tree", encoding="utf-8") as it:
+            return it.read()
+    except OSError:
+        return ""
+
+
 def main(name="sacn_c"):
     kit = kit_folder()
     if not kit:
         say("the kit's command rt isn't on the PATH")
         return 1
     os.chdir(TOP)
-    return build(kit, name)
+    note = f"{output('./sacn', '--tree')}\nx86-64-v2\n{output('rt', 'version')}\n"
+    if noted(name) == note and os.path.isfile(f"crates/{name}/out/lib{name}.a"):
+        return 0
+    status = build(kit, name)
+    # (behind the program's note stands what the gate said)
+    if status == 0 and noted("sacn").startswith(note):
+        with open(f"crates/{name}/out/{name}.tree", "w", encoding="utf-8") as it:
+            it.write(note)
+    return status
 
 
 if __name__ == "__main__":
