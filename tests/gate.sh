@@ -110,3 +110,10 @@ said=$(cd "$room" && env -u CI python3 "$top/tools/gate.py" further 2>&1)
 status=$?
 count "further edits are tried in the same way" '^rt: must-fail sums/adds_four\.edit: refused, as it must be: add::next: '
 count "and those of must-fail are not (status $status)" "^3 passed, $status failed"
+
+# One alone, which kit 13f tries in its own way.
+rm "$crate/further-edits/after_three.edit"
+said=$(cd "$room" && env -u CI python3 "$top/tools/gate.py" further --anew 2>&1)
+status=$?
+count "a further edit that stands alone is refused as well" '^rt: must-fail sums/adds_four\.edit: refused, as it must be: '
+count "and is the only one that is tried (status $status)" "^2 passed, $status failed"

@@ -3,6 +3,7 @@ ghost use Rattle.std.specs.Prelude.{◌≡◌, IsTrue, IfOk, Some};
 ghost use Rattle.toml.specs.View.{table_view};
 ghost use Rattle.sacn_console.specs.ShowReading.{show_in};
 ghost use Rattle.sacn_node.specs.SetupReading.{setup_in};
+ghost use Rattle.sacn_schedule.specs.WorldFile.{world_in};
 ghost use Rattle.sacn_check.specs.Refusals.{refusal, refusal_by, first_refusal};
 
 use crate::document::part_faults;
@@ -12,11 +13,11 @@ use crate::lines::line_faults;
 use crate::place::{Found, Place};
 use crate::refusal::{Owner, Refusal};
 use crate::rules::Wanted;
-use crate::worlds::world_faults;
+use crate::worlds;
 use sacn_console::{ShowFault, read_script, show_of};
 use sacn_files::faults::{FileFault, TextFault};
 use sacn_node::{SetupFault, setup_of};
-use sacn_schedule::{WorldTextFault, read_schedule, read_world};
+use sacn_schedule::{WorldTextFault, read_schedule, world_of};
 use std::alloc::{AllocError, Global};
 use toml::Table;
 use toml::de::Error;
@@ -32,10 +33,7 @@ pub fn faults_of(alloc: Global, kind: FileKind, text: &str) -> Result<Findings, 
     match kind {
         FileKind::Show => show_faults(alloc, text),
         FileKind::Setup => setup_faults(alloc, text),
-        FileKind::World => {
-            let refusal = world_refusal(alloc, text)?;
-            all_faults(alloc, refusal, Source::World(text))
-        }
+        FileKind::World => world_faults(alloc, text),
         FileKind::Script => {
             let refusal = script_refusal(alloc, text)?;
             all_faults(alloc, refusal, Source::Lines(kind, text))
@@ -52,8 +50,8 @@ pub fn faults_of(alloc: Global, kind: FileKind, text: &str) -> Result<Findings, 
 enum Source<'a> {
     /// The document of a show or a setup.
     Part(Owner, &'a Table),
-    /// The text of a world.
-    World(&'a str),
+    /// The document of a world.
+    World(&'a Table),
     /// The text of a script or a schedule.
     Lines(FileKind, &'a str),
 }
@@ -72,7 +70,7 @@ fn all_faults(
     }
 }
 
-// The document of a show or a setup is made once, for its reader and for the rules: making it is most of a check. What comes
+// A document is made once, for its reader and for the rules: making it is most of a check. What comes
 // of it is what the reader of the text, and then the rules over a second document of the text, would give.
 
 fn show_faults(alloc: Global, text: &str) -> Result<Findings, AllocError>
@@ -111,6 +109,24 @@ fn setup_faults(alloc: Global, text: &str) -> Result<Findings, AllocError>
     }
 }
 
+fn world_faults(alloc: Global, text: &str) -> Result<Findings, AllocError>
+    ensures { IfOk result (λ findings. first_refusal findings.told.items ≡ refusal FileKind.World text.now) }
+{
+    match toml::table_from_str(alloc, text) {
+        Ok(table) => {
+            let refusal = world_refusal(alloc, &table)?;
+            all_faults(alloc, refusal, Source::World(&table))
+        }
+        Err(error) => {
+            if error.is_memory() {
+                return Err(AllocError);
+            }
+            let found = found_in_syntax(alloc, Owner::World, text, &error)?;
+            led_by(alloc, Refusal::World(WorldTextFault::Toml), found)
+        }
+    }
+}
+
 fn show_refusal(alloc: Global, table: &Table) -> Result<Option<Refusal>, AllocError>
     ensures { IfOk result (λ o. o ≡ refusal_by Refusal.Show (show_in (table_view table.now))) }
 {
@@ -131,10 +147,10 @@ fn setup_refusal(alloc: Global, table: &Table) -> Result<Option<Refusal>, AllocE
     }
 }
 
-fn world_refusal(alloc: Global, text: &str) -> Result<Option<Refusal>, AllocError>
-    ensures { IfOk result (λ o. o ≡ refusal FileKind.World text.now) }
+fn world_refusal(alloc: Global, table: &Table) -> Result<Option<Refusal>, AllocError>
+    ensures { IfOk result (λ o. o ≡ refusal_by Refusal.World (world_in (table_view table.now))) }
 {
-    match read_world(alloc, text) {
+    match world_of(alloc, table) {
         Ok(_) => Ok(None),
         Err(WorldTextFault::OutOfMemory) => Err(AllocError),
         Err(fault) => Ok(Some(Refusal::World(fault))),
@@ -166,17 +182,10 @@ fn found_by_rules(alloc: Global, source: Source<'_>) -> Result<Findings, AllocEr
     let mut findings = Findings::new(alloc);
     match source {
         Source::Part(owner, table) => part_faults(alloc, &mut findings, owner, table)?,
-        Source::World(text) => world_text_faults(alloc, &mut findings, text)?,
+        Source::World(table) => worlds::world_faults(alloc, &mut findings, table)?,
         Source::Lines(kind, text) => line_faults(alloc, &mut findings, kind, text)?,
     }
     Ok(findings)
-}
-
-fn world_text_faults(alloc: Global, findings: &mut Findings, text: &str) -> Result<(), AllocError> {
-    match toml::table_from_str(alloc, text) {
-        Ok(table) => world_faults(alloc, findings, &table),
-        Err(error) => syntax_fault(alloc, findings, Owner::World, text, &error),
-    }
 }
 
 /// What is found in a text that is no document.

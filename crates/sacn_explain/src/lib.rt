@@ -16,6 +16,7 @@ mod listings;
 mod numbers;
 mod options;
 mod packet_lines;
+mod places;
 mod refusals;
 mod report;
 mod rows;

@@ -1,9 +1,10 @@
 //! How names, CIDs and moments are spelled.
 
-ghost use Rattle.std.specs.Prelude.{◌≡◌, ◌≤◌, ◌*◌, ◌++◌, OnOk, length, string_bytes, chars, decimal, replicate};
+ghost use Rattle.std.specs.Prelude.{◌≡◌, ◌≤◌, ◌*◌, ◌++◌, OnOk, length, string_bytes, chars, decimal, replicate, IsAscii};
 ghost use Rattle.std.specs.List.{flat_map};
 ghost use Rattle.sacn_explain.specs.Spelling.{flush_left, octets_text, address_text, sender_text, moment_text, escape_text, letter_text, letters_of, name_text};
 
+use crate::places::{ROOM, SECONDS, put_address, put_port, put_seconds};
 use itoa::Buffer;
 use sacn_edge::write_digits;
 use sacn_monitor::Sender;
@@ -87,29 +88,42 @@ pub fn push_sender(text: &mut String, sender: &Sender) -> Result<(), AllocError>
     ensures { OnOk result
         (string_bytes text.new ≡ string_bytes text.old ++ sender_text sender.now) }
 {
-    push_address(text, &sender.address)?;
-    let port = sender.port;
-    write!(text, ":{port}")
+    let mut room = [0; ROOM];
+    let colon = put_port(&mut room, sender.port);
+    let start = put_address(&mut room, colon, &sender.address);
+    push_ascii(text, &room[start..])
 }
 
 /// An IPv4 address.
-#[tactic(auto, unfolding(crate::specs::Spelling::address_text))]
 pub fn push_address(text: &mut String, address: &[u8; 4]) -> Result<(), AllocError>
     ensures { OnOk result
         (string_bytes text.new ≡ string_bytes text.old ++ address_text address.now) }
 {
-    let [a, b, c, d] = *address;
-    write!(text, "{a}.{b}.{c}.{d}")
+    let mut room = [0; ROOM];
+    let start = put_address(&mut room, ROOM, address);
+    push_ascii(text, &room[start..])
 }
 
 /// A moment in seconds, with three places behind the point, right-aligned in ten places.
-#[tactic(auto, unfolding(crate::specs::Spelling::moment_text), using(crate::proofs::Padding::right_is, crate::proofs::Padding::zeros_is))]
 pub fn push_moment(text: &mut String, moment: u64) -> Result<(), AllocError>
     ensures { OnOk result (string_bytes text.new ≡ string_bytes text.old ++ moment_text moment) }
 {
     let seconds = moment / 1000;
     let rest = moment % 1000;
-    write!(text, "{seconds:>6}.{rest:03}")
+    let mut room = [b' '; ROOM];
+    let start = put_seconds(&mut room, seconds, rest);
+    push_ascii(text, &room[start.min(SECONDS)..])
+}
+
+/// Letters of ASCII.
+pub(crate) fn push_ascii(text: &mut String, letters: &[u8]) -> Result<(), AllocError>
+    requires { IsAscii letters.now }
+    ensures { OnOk result (string_bytes text.new ≡ string_bytes text.old ++ letters.now) }
+{
+    let Ok(letters) = str::from_utf8(letters) else {
+        unreachable!();
+    };
+    text.push_str(letters)
 }
 
 /// A name between quotes, as JSON writes a string. One that isn't UTF-8 has its octets as characters below 256.

@@ -3,8 +3,9 @@
 ghost use Rattle.std.specs.Prelude.{◌≡◌, ◌++◌, OnOk, string_bytes};
 ghost use Rattle.sacn_explain.specs.Sentences.{line_front, source_text, universe_text, stream_front, presence_words, event_words, moved_words, loss_words, priority_words, skipped_words, refusal_words, refused_words, untracked_words, seconds_text, stop_words, stopped_words};
 
+use crate::places::written_universe;
 use crate::refusals::fault_words;
-use crate::spelling::{push_cid, push_moment, push_name, push_sender};
+use crate::spelling::{push_ascii, push_cid, push_moment, push_name, push_sender};
 use sacn_framing::up_to_nul;
 use sacn_monitor::{Change, Event, News, Sender, Stream};
 use sacn_root::PacketFault;
@@ -33,12 +34,11 @@ pub fn begin_stream(text: &mut String, moment: u64, stream: &Stream) -> Result<(
 }
 
 /// A universe's number, right-aligned in five places.
-#[tactic(auto, unfolding(crate::specs::Sentences::universe_text), using(crate::proofs::Padding::right_is))]
 pub fn push_universe(text: &mut String, universe: u16) -> Result<(), AllocError>
     ensures { OnOk result
         (string_bytes text.new ≡ string_bytes text.old ++ universe_text universe) }
 {
-    write!(text, "universe {universe:>5}  ")
+    push_ascii(text, &written_universe(universe))
 }
 
 /// A source: its CID and name.

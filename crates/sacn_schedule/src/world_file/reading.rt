@@ -115,8 +115,12 @@ fn after_version(alloc: Global, table: &Table) -> Result<Members, WorldTextFault
     value_phase(alloc, table)
 }
 
-/// The world of a table, or the fault of the first phase that fails.
-fn world_of(alloc: Global, table: &Table) -> Result<Members, WorldTextFault>
+/// The world of a table of version 1, or the fault of the first phase that fails; `OutOfMemory` may stand in
+/// place of either where a request for memory is refused.
+pub fn world_of(
+    alloc: Global,
+    table: &Table,
+) -> Result<(Vec<(Show, u8)>, Vec<NodeSetup>), WorldTextFault>
     ensures world { GivesWorld result (world_in (table_view table.now)) }
     ensures different { IfOk result (λ world. HaveOwnCids world.0.items) }
 {
