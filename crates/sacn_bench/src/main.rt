@@ -7,6 +7,8 @@ mod digest;
 mod evenings;
 mod fault;
 mod files;
+mod listers;
+mod lists;
 mod page;
 mod tape;
 mod tellings;
@@ -23,7 +25,9 @@ use std::{env, io};
 use work::Work;
 
 /// The jobs.
-const JOBS: [&str; 6] = ["lines", "frames", "crowd", "worlds", "files", "evenings"];
+const JOBS: [&str; 7] = [
+    "lines", "frames", "crowd", "worlds", "files", "evenings", "lists",
+];
 
 fn main(rt: HostRuntime) -> ExitCode {
     match run(&rt) {
@@ -78,6 +82,7 @@ fn digest_of(alloc: Global, name: &str, words: &[String]) -> Result<u64, WorkFau
         "worlds" => worlds::worlds(&work, &mut digest)?,
         "files" => files::files(&work, &mut digest)?,
         "evenings" => evenings::evenings(&work, &mut digest)?,
+        "lists" => lists::lists(&work, &mut digest)?,
         _ => return Err(WorkFault::Words),
     }
     Ok(digest.value()?)
