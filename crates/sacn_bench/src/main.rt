@@ -8,6 +8,8 @@ mod evenings;
 mod fault;
 mod files;
 mod fixtures;
+mod listers;
+mod lists;
 mod page;
 mod tape;
 mod tellings;
@@ -24,8 +26,8 @@ use std::{env, io};
 use work::Work;
 
 /// The jobs.
-const JOBS: [&str; 7] = [
-    "lines", "frames", "crowd", "worlds", "files", "evenings", "fixtures",
+const JOBS: [&str; 8] = [
+    "lines", "frames", "crowd", "worlds", "files", "evenings", "fixtures", "lists",
 ];
 
 fn main(rt: HostRuntime) -> ExitCode {
@@ -82,6 +84,7 @@ fn digest_of(alloc: Global, name: &str, words: &[String]) -> Result<u64, WorkFau
         "files" => files::files(&work, &mut digest)?,
         "evenings" => evenings::evenings(&work, &mut digest)?,
         "fixtures" => fixtures::fixtures(&work, &mut digest)?,
+        "lists" => lists::lists(&work, &mut digest)?,
         _ => return Err(WorkFault::Words),
     }
     Ok(digest.value()?)

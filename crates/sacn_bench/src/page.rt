@@ -1,4 +1,5 @@
 //! Pages of universe discovery (E1.31, 8), as records of a recording.
+ghost use Rattle.std.specs.Prelude.{◌≤◌};
 
 /// The numbers of a page.
 pub const NUMBERS: usize = 250;
@@ -7,6 +8,17 @@ pub const NUMBERS: usize = 250;
 const LENGTH: usize = 120 + 2 * NUMBERS;
 
 pub const RECORD: usize = 58 + LENGTH;
+
+/// Where the lengths of what a record holds stand: of the datagram in IPv4, of that in UDP, and of the layers from the root on.
+const PACKET_LENGTH: usize = 32;
+
+const DATAGRAM_LENGTH: usize = 54;
+
+const ROOT_LENGTH: usize = 58 + 16;
+
+const FRAMING_LENGTH: usize = 58 + 38;
+
+const LAYER_LENGTH: usize = 58 + 112;
 
 const CID: usize = 58 + 22;
 
@@ -66,4 +78,44 @@ impl Page {
             );
         }
     }
+
+    /// Makes it a page of so many numbers, at most `NUMBERS`, whose record is the first octets of `record`. Returns how many those are.
+    pub fn resize(&mut self, count: usize) -> usize
+        ensures { result ≤ RECORD }
+    {
+        let length = 120 + 2 * count.min(NUMBERS) as u16;
+        let record = &mut self.record;
+        record[8..12].copy_from_slice(&(u32::from(length) + 42).to_le_bytes());
+        record[12..16].copy_from_slice(&(u32::from(length) + 42).to_le_bytes());
+        record[PACKET_LENGTH..PACKET_LENGTH + 2].copy_from_slice(&(length + 28).to_be_bytes());
+        record[DATAGRAM_LENGTH..DATAGRAM_LENGTH + 2].copy_from_slice(&(length + 8).to_be_bytes());
+        record[ROOT_LENGTH..ROOT_LENGTH + 2].copy_from_slice(&layer_of(length - 16));
+        record[FRAMING_LENGTH..FRAMING_LENGTH + 2].copy_from_slice(&layer_of(length - 38));
+        record[LAYER_LENGTH..LAYER_LENGTH + 2].copy_from_slice(&layer_of(length - 112));
+        58 + usize::from(length)
+    }
+
+    /// Makes it a page of this number of so many, of the source of this CID, taken at a moment in microseconds.
+    pub fn head(&mut self, micros: u64, cid: &[u8; 16], number: u8, last: u8) {
+        let record = &mut self.record;
+        let seconds = (1_700_000_000 + micros / 1_000_000 % 1_000_000_000) as u32;
+        record[0..4].copy_from_slice(&seconds.to_le_bytes());
+        record[4..8].copy_from_slice(&((micros % 1_000_000) as u32).to_le_bytes());
+        record[CID..CID + 16].copy_from_slice(cid);
+        record[PAGE] = number;
+        record[PAGE + 1] = last;
+    }
+
+    /// Its number at a place. Behind its last number nothing is written.
+    pub fn put(&mut self, place: usize, universe: u16) {
+        if place < NUMBERS {
+            let at = UNIVERSES + 2 * place;
+            self.record[at..at + 2].copy_from_slice(&universe.to_be_bytes());
+        }
+    }
+}
+
+// The flags and the length of a layer.
+fn layer_of(length: u16) -> [u8; 2] {
+    (0x7000 | length).to_be_bytes()
 }

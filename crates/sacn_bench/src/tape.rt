@@ -6,7 +6,7 @@ use std::alloc::{AllocError, Global};
 use std::io::{self, BufRead, Read};
 
 /// The header of a pcap file: moments in microseconds, frames of Ethernet.
-const HEADER: [u8; 24] = [
+pub const HEADER: [u8; 24] = [
     0xd4, 0xc3, 0xb2, 0xa1, 2, 0, 4, 0, 0, 0, 0, 0, 0, 0, 0, 0, 0, 0, 4, 0, 1, 0, 0, 0,
 ];
 

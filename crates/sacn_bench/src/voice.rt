@@ -131,6 +131,13 @@ impl Voice {
         Voice { record }
     }
 
+    /// Its CID.
+    pub fn cid(&self) -> [u8; 16] {
+        let mut cid = [0; 16];
+        cid.copy_from_slice(&self.record[CID..CID + 16]);
+        cid
+    }
+
     /// Gives it the CID of another voice.
     pub fn share_source(&mut self, other: &Voice) {
         let cid = &other.record[CID..CID + 16];

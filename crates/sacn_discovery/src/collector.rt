@@ -3,9 +3,12 @@
 ghost use Rattle.std.specs.Prelude.{◌≡◌, ◌≤◌, ◌+◌, ◌<◌, IfOk, OnOk, OnErr, Some, true, false, List, length, filter};
 ghost use Rattle.std.specs.Option.{option_map};
 ghost use Rattle.std.specs.FinMap as map;
+ghost use Rattle.sacn_discovery.specs.Storage.{AreSince, HoldsPage};
+ghost use Rattle.sacn_discovery.specs.declared.source_pages.Standing.TheVariants.{Kept, Other, Begins};
 
 use crate::fault::DiscoveryFault;
-use crate::source_pages::SourcePages;
+use crate::limits::FORGOTTEN_AFTER;
+use crate::source_pages::{SourcePages, Standing};
 use sacn_framing::PageView;
 use std::alloc::{AllocError, Global};
 use std::collections::BTreeMap;
@@ -21,6 +24,8 @@ pub struct Collector {
     alloc: Global,
     sources: BTreeMap<[u8; 16], SourcePages>,
     moment: u64,
+    /// No source's latest page came before this moment.
+    earliest: u64,
 }
 
 impl Model for Collector {
@@ -30,11 +35,13 @@ impl Model for Collector {
 
     ghost coded = { state_code };
 
-    ghost use Rattle.sacn_discovery.specs.Storage.{sources_of, AreStored};
+    ghost use Rattle.std.specs.Prelude.{◌≤◌};
+    ghost use Rattle.sacn_discovery.specs.Storage.{sources_of, AreStored, AreSince};
 
     ghost view = { λ c. record { sources = sources_of c.sources.entries; moment = c.moment } };
 
-    ghost invariant = { λ c. AreStored c.sources.entries };
+    ghost invariant = { λ c. AreStored c.sources.entries × (c.earliest ≤ c.moment)
+        × AreSince c.earliest c.sources.entries };
 }
 
 impl Collector {
@@ -49,6 +56,7 @@ impl Collector {
             alloc,
             sources: BTreeMap::new(alloc),
             moment: 0,
+            earliest: 0,
         }
     }
 
@@ -59,9 +67,23 @@ impl Collector {
         ensures ok { OnOk result (self.new ≡ after_take now page.now self.old) }
         ensures err { OnErr result (self.new ≡ after_expire now self.old) }
     {
+        self.take_and_tell(now, page)?;
+        Ok(())
+    }
+
+    /// Keeps a page as `take` does, and says whether the list of its source may be another one than before: not where the page
+    /// is the one that is kept, which costs as little as a look at it.
+    ///
+    /// Errors: OutOfMemory, and then the page isn't kept.
+    pub fn take_and_tell(&mut self, now: u64, page: &PageView<'_>) -> Result<bool, DiscoveryFault>
+        ensures ok { OnOk result (self.new ≡ after_take now page.now self.old) }
+        ensures err { OnErr result (self.new ≡ after_expire now self.old) }
+        ensures same { IfOk result (λ may_differ. may_differ ≡ false
+            → known_list self.new page.now.cid
+            ≡ known_list (after_expire now self.old) page.now.cid) }
+    {
         self.expire(now);
-        let numbers = numbers_of(self.alloc, page)?;
-        self.keep(page, numbers)
+        self.keep(page)
     }
 
     /// The list of a source, ascending and each number once; None where it isn't known, or a page of it
@@ -101,6 +123,22 @@ impl Collector {
         ensures forgotten { result ≡ forgotten now self.old }
         ensures state { self.new ≡ after_expire now self.old }
     {
+        let moment = self.moment.max(now);
+        if moment.saturating_sub(self.earliest) < FORGOTTEN_AFTER {
+            self.moment = moment;
+            return 0;
+        }
+        self.forget(now)
+    }
+
+    // Moves the clock, looks at every source, and forgets those whose latest page is too old. Out of line, so that the test before
+    // it is made in the caller.
+    #[inline(never)]
+    fn forget(&mut self, now: u64) -> usize
+        ensures gone { result + map.len self.new.sources ≡ map.len self.old.sources }
+        ensures forgotten { result ≡ forgotten now self.old }
+        ensures state { self.new ≡ after_expire now self.old }
+    {
         let before = self.count();
         self.moment = self.moment.max(now);
         self.sweep();
@@ -126,20 +164,62 @@ impl Collector {
                 ensures { (result ≡ is_fresh moment heard.old) × (heard.new ≡ heard.old) }
             { heard.is_fresh(moment) },
         );
+        self.earliest = earliest_of(&self.sources, moment);
     }
 
-    // Keeps the numbers of a page.
-    fn keep(&mut self, page: &PageView<'_>, numbers: Vec<u16>) -> Result<(), DiscoveryFault>
-        requires { numbers.items ≡ page.now.numbers }
+    // Keeps the numbers of a page, and says whether the list of its source may be another one than before.
+    fn keep(&mut self, page: &PageView<'_>) -> Result<bool, DiscoveryFault>
         ensures ok { OnOk result (self.new ≡ after_acceptance page.now self.old) }
         ensures err { OnErr result (self.new ≡ self.old) }
+        ensures same { IfOk result (λ may_differ. may_differ ≡ false
+            → known_list self.new page.now.cid ≡ known_list self.old page.now.cid) }
     {
         let cid = page.cid();
-        if self.goes_on(&cid, page.last()) {
-            self.add(&cid, page.page(), page.last(), numbers);
-            return Ok(());
+        match self.standing(&cid, page) {
+            Standing::Kept => {
+                self.renew(&cid, page);
+                Ok(false)
+            }
+            Standing::Other => {
+                let numbers = numbers_of(self.alloc, page)?;
+                self.add(&cid, page.page(), page.last(), numbers);
+                Ok(true)
+            }
+            Standing::Begins => {
+                let numbers = numbers_of(self.alloc, page)?;
+                self.begin(cid, page.page(), page.last(), numbers)?;
+                Ok(true)
+            }
         }
-        self.begin(cid, page.page(), page.last(), numbers)
+    }
+
+    // What a page is beside those that are kept of its source.
+    fn standing(&self, cid: &[u8; 16], page: &PageView<'_>) -> Standing
+        ensures kept { result ≡ Kept
+            → HoldsPage page.now (map.get self.now.sources cid.now) }
+        ensures other { result ≡ Other
+            → goes_on page.now.last (map.get self.now.sources cid.now) ≡ true }
+        ensures begins { result ≡ Begins
+            → goes_on page.now.last (map.get self.now.sources cid.now) ≡ false }
+    {
+        match self.sources.get(cid) {
+            Some(heard) => heard.standing(page),
+            None => Standing::Begins,
+        }
+    }
+
+    // The page that is kept of a source came again.
+    fn renew(&mut self, cid: &[u8; 16], page: &PageView<'_>)
+        requires cid { cid.now ≡ page.now.cid }
+        requires kept { HoldsPage page.now (map.get self.old.sources cid.now) }
+        ensures state { self.new ≡ after_acceptance page.now self.old }
+        ensures same { known_list self.new page.now.cid ≡ known_list self.old page.now.cid }
+    {
+        let moment = self.moment;
+        match self.sources.get_mut(cid) {
+            Some(heard) => heard.renew(moment),
+            None => {}
+        }
     }
 
     // Keeps one page more of a source that has pages of this last page number.
@@ -175,16 +255,6 @@ impl Collector {
         Ok(())
     }
 
-    // Whether the source has pages of this last page number.
-    fn goes_on(&self, cid: &[u8; 16], last: u8) -> bool
-        ensures { result ≡ goes_on last (map.get self.now.sources cid.now) }
-    {
-        match self.sources.get(cid) {
-            Some(heard) => heard.last() == last,
-            None => false,
-        }
-    }
-
     // The list of a source, where all its pages are there.
     fn list_at(&self, cid: &[u8; 16]) -> Result<Option<Vec<u16>>, AllocError>
         ensures { IfOk result
@@ -208,6 +278,19 @@ impl Collector {
     }
 }
 
+// A moment before which no latest page came, at most this one.
+fn earliest_of(sources: &BTreeMap<[u8; 16], SourcePages>, moment: u64) -> u64
+    ensures most { result ≤ moment }
+    ensures since { AreSince result sources.now.entries }
+{
+    let mut earliest = moment;
+    for heard in sources.values() {
+        earliest = earliest.min(heard.moment());
+    }
+    earliest
+}
+
+// The numbers of a page.
 fn numbers_of(alloc: Global, page: &PageView<'_>) -> Result<Vec<u16>, AllocError>
     ensures { IfOk result (λ numbers. numbers.items ≡ page.now.numbers) }
 {

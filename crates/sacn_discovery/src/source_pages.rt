@@ -1,14 +1,28 @@
 //! What is kept of one source of pages.
 
-ghost use Rattle.std.specs.Prelude.{◌≡◌, ◌≤◌, ◌+◌, ◌-◌, ◌^◌, ◌<◌, ◌==◌, ◌↔◌, length, min, replicate, IfOk, IsTrue, None, Some};
+ghost use Rattle.std.specs.Prelude.{◌≡◌, ◌≤◌, ◌+◌, ◌-◌, ◌^◌, ◌<◌, ◌==◌, ◌↔◌, length, min, replicate, slice_set, true, false, IfOk, IsTrue, None, Some};
 ghost use Rattle.std.specs.List.Sorted.{IsStrictlyIncreasing};
 ghost use Rattle.std.specs.Option.{option_map};
 ghost use Rattle.sacn_discovery.specs.SourceViews.{pages_of};
+ghost use Rattle.sacn_discovery.specs.Storage.{HoldsPage};
+ghost use Rattle.sacn_discovery.specs.declared.source_pages.Standing.TheVariants.{Kept, Other, Begins};
 ghost use Rattle.sacn_discovery.specs.Collection.{first_page, one_more, is_fresh, ascending, joined, list_in, other_than};
 
 use crate::limits::FORGOTTEN_AFTER;
+use sacn_framing::PageView;
 use std::alloc::{AllocError, Global};
 use std::marker::Model;
+
+/// What a page is beside those that are kept of its source.
+#[derive(Clone, Copy)]
+pub enum Standing {
+    /// The one that is kept.
+    Kept,
+    /// One more of the same last page number, or other numbers of a page.
+    Other,
+    /// The first of its last page number.
+    Begins,
+}
 
 /// The latest copy of each page, by page number.
 #[derive(Drop)]
@@ -62,11 +76,45 @@ impl SourcePages {
         self.moment = moment;
     }
 
-    /// The number of the last page.
-    pub fn last(&self) -> u8
-        ensures { result ≡ self.now.last }
+    /// A page that is kept came again.
+    pub fn renew(&mut self, now: u64)
+        ensures { self.new ≡ record self.old { moment = now } }
     {
-        self.last
+        self.moment = now;
+    }
+
+    /// What a page is beside those that are kept.
+    pub fn standing(&self, page: &PageView<'_>) -> Standing
+        ensures kept { result ≡ Kept → HoldsPage page.now (Some self.now) }
+        ensures other { result ≡ Other → (self.now.last == page.now.last) ≡ true }
+        ensures begins { result ≡ Begins → (self.now.last == page.now.last) ≡ false }
+    {
+        if self.last != page.last() {
+            return Standing::Begins;
+        }
+        if self.has(page) {
+            return Standing::Kept;
+        }
+        Standing::Other
+    }
+
+    // Whether a page is the kept one.
+    fn has(&self, page: &PageView<'_>) -> bool
+        requires { self.now.last ≡ page.now.last }
+        ensures { IsTrue result
+            → slice_set self.now.pages page.now.page (Some page.now.numbers) ≡ self.now.pages }
+    {
+        match &self.pages[page.page() as usize] {
+            Some(numbers) => has_numbers(page, numbers.as_slice()),
+            None => false,
+        }
+    }
+
+    /// The moment of the latest page.
+    pub fn moment(&self) -> u64
+        ensures { result ≡ self.now.moment }
+    {
+        self.moment
     }
 
     /// Whether the latest page isn't too old.
@@ -111,6 +159,21 @@ impl SourcePages {
     }
 }
 
+// Whether these are the numbers of a page.
+fn has_numbers(page: &PageView<'_>, numbers: &[u16]) -> bool
+    ensures { IsTrue result → numbers.now ≡ page.now.numbers }
+{
+    if numbers.len() != page.count() {
+        return false;
+    }
+    for i in 0..numbers.len() {
+        if numbers[i] != page.number(i) {
+            return false;
+        }
+    }
+    true
+}
+
 // So many places for pages, all empty.
 fn no_pages(alloc: Global, count: usize) -> Result<Vec<Option<Vec<u16>>>, AllocError>
     ensures pages { IfOk result (λ pages. pages.items ≡ replicate count None) }
@@ -145,19 +208,20 @@ fn all_numbers(alloc: Global, pages: &[Option<Vec<u16>>]) -> Result<Option<Vec<u
     };
     let mut numbers = Vec::with_capacity(alloc, count)?;
     for i in 0..pages.len() {
-        match &pages[i] {
-            Some(more) => numbers.extend_from_slice(more.as_slice())?,
-            None => return Ok(None),
+        if let Some(more) = &pages[i] {
+            numbers.extend_from_slice(more.as_slice())?;
         }
     }
     Ok(Some(numbers))
 }
 
-// Ascending, each once. Numbers that rise already, as those of pages do, are left as they are.
+// Ascending, each once. Numbers that rise already, as those of pages do, are left as they are; a look at the first few spares the one
+// at all where they fall.
 fn in_order(numbers: Vec<u16>) -> Vec<u16>
     ensures { result.items ≡ ascending numbers.items }
 {
-    if rises(numbers.as_slice()) {
+    let few = numbers.len().min(8);
+    if rises(&numbers[..few]) && rises(numbers.as_slice()) {
         return numbers;
     }
     let mut numbers = numbers;

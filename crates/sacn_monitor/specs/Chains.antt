@@ -1,14 +1,25 @@
 -- Streams in chains, by their universes and sources: each chain leads from its latest stream down to its first. A mark is one more than the place
 -- of a stream, and 0 marks none.
-use Rattle.std.specs.Prelude.{◌≡◌, ◌<◌, ◌+◌, ◌*◌, ◌%◌, ◌==◌, ℕ, zero, suc, false, List, length, get_or, if◌then◌else◌}
+use Rattle.std.specs.Prelude.{◌≡◌, ◌<◌, ◌+◌, ◌*◌, ◌/◌, ◌%◌, ◌^◌, ◌==◌, ℕ, zero, suc, false, List, length, get_or, if◌then◌else◌}
+use Rattle.std.specs.Int.{w128, from_be_bytes}
 use Rattle.std.specs.List.{AllPairs}
-use Rattle.sacn_monitor.specs.declared.limits.TheConstants.{CHAINS}
+use Rattle.sacn_monitor.specs.declared.limits.TheConstants.{CHAINS, FRONT_FACTOR, BACK_FACTOR, UNIVERSE_FACTOR}
 use Rattle.sacn_monitor.specs.declared.stream.Stream.{Stream}
 use Rattle.sacn_monitor.specs.Streams.{is_of}
 
--- the chain of a source on a universe
+-- a product, and a sum, in 64 bits
+abbrev pub product : ℕ → ℕ → ℕ
+product a b = a * b % 2 ^ 64
+
+abbrev pub total : ℕ → ℕ → ℕ
+total a b = (a + b) % 2 ^ 64
+
+-- the chain of a source, by the number that its CID is, on a universe: the high bits of a sum of products
+abbrev pub chain_by_number : ℕ → ℕ → ℕ
+chain_by_number universe cid = total (total (product (cid / 2 ^ 64) FRONT_FACTOR) (product (cid % 2 ^ 64) BACK_FACTOR)) (product universe UNIVERSE_FACTOR) / 2 ^ 54
+
 abbrev pub chain_by : ℕ → List ℕ → ℕ
-chain_by universe cid = (universe * 37 + get_or cid 14 0 * 256 + get_or cid 15 0) % CHAINS
+chain_by universe cid = chain_by_number universe (from_be_bytes w128 cid)
 
 -- the chain that a stream is in
 abbrev pub chain_of : Stream → ℕ

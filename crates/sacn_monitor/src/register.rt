@@ -9,7 +9,9 @@ ghost use Rattle.sacn_monitor.specs.Chains.{chain_by};
 ghost use Rattle.sacn_monitor.specs.Streams.{is_of, stream_after};
 
 use crate::account::Sender;
-use crate::limits::{CHAINS, LONGEST_WALK, MAX_STREAMS};
+use crate::limits::{
+    BACK_FACTOR, CHAIN_BITS, CHAINS, FRONT_FACTOR, LONGEST_WALK, MAX_STREAMS, UNIVERSE_FACTOR,
+};
 use crate::news::News;
 use crate::silence::{next_loss, silent_place};
 use crate::stream::Stream;
@@ -89,12 +91,12 @@ impl Register {
         let mut mark = self.latest[chain_by(universe, cid)];
         let mut steps = 0;
         while mark > 0 {
+            if steps >= LONGEST_WALK {
+                return place_in(self.streams.as_slice(), universe, cid);
+            }
             let place = usize::from(mark) - 1;
             if self.streams[place].is_of(universe, cid) {
                 return Some(place);
-            }
-            if steps >= LONGEST_WALK {
-                return place_in(self.streams.as_slice(), universe, cid);
             }
             steps += 1;
             mark = self.before[place];
@@ -170,11 +172,16 @@ fn place_in(streams: &[Stream], universe: u16, cid: &[u8; 16]) -> Option<usize>
         .position(|stream| stream.is_of(universe, cid))
 }
 
-// The chain of a source on a universe. Universes in a row are in chains of their own, and so mostly are sources of one
-// universe, which differ in the last octets of their CIDs; the factor keeps rows of both apart.
+// The chain of a source on a universe: the high bits of a product, to which each octet of both adds. So neither rows of universes or
+// of CIDs fall together, in whatever steps, nor the CIDs that one host makes by the time.
 fn chain_by(universe: u16, cid: &[u8; 16]) -> usize
     ensures chain { result ≡ chain_by universe cid.now }
     ensures low { result < CHAINS }
 {
-    (usize::from(universe) * 37 + usize::from(cid[14]) * 256 + usize::from(cid[15])) % CHAINS
+    let number = u128::from_be_bytes(*cid);
+    let front = ((number >> 64) as u64).wrapping_mul(FRONT_FACTOR);
+    let back = ((number % (1 << 64)) as u64).wrapping_mul(BACK_FACTOR);
+    let universe = u64::from(universe).wrapping_mul(UNIVERSE_FACTOR);
+    let mixed = front.wrapping_add(back).wrapping_add(universe);
+    (mixed >> (u64::BITS - CHAIN_BITS)) as usize
 }
