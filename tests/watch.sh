@@ -231,3 +231,15 @@ status=0
 problem=$(COLUMNS=80 ROWS=24 timeout 20 python3 terminal.py drawn 25833 stop bash launcher 2>&1) || status=$?
 [ "$status" = 0 ] && grep -q 'Aff' drawn && [ "$(tail -c 8 drawn)" = $'\x1b[?1049l' ]
 verdict "Ctrl-C under the launcher" $? "status $status $(tail -n 1 <<<"$problem")"
+
+# The launcher tells a watch the terminal's size, whatever it is.
+printf '#!/bin/sh\necho "rows $LINES columns $COLUMNS"\n' >told
+chmod +x told
+printf 'unset LINES COLUMNS\n. "%s/tools/run.sh"\nrun "%s/told" watch\n' "$top" "$room" >sized
+for size in "80 24" "160 50" "20 5"; do
+  read -r columns rows <<<"$size"
+  status=0
+  problem=$(COLUMNS=$columns ROWS=$rows timeout 20 python3 terminal.py drawn 25833 go bash sized 2>&1) || status=$?
+  [ "$status" = 0 ] && grep -q "^rows $rows columns $columns"$'\r$' drawn
+  verdict "the launcher tells the size of a terminal of $columns by $rows" $? "status $status $(head -n 1 drawn) $(tail -n 1 <<<"$problem")"
+done

@@ -145,6 +145,16 @@ join_groups() {
   "$sacn_join" ${lists[@]+"${lists[@]}"} $$ "$device" "${groups[@]}" || exit $?
 }
 
+# Tells a watch how large the terminal at standard output is, which it can't ask.
+size_of_terminal() {
+  local terminal rows columns
+  [ -t 1 ] || return 0
+  # (what runs inside the parentheses has a pipe for its output)
+  exec {terminal}<&1
+  if read -r rows columns < <(stty size <&"$terminal" 2>/dev/null) && [ "$rows" -gt 0 ] && [ "$columns" -gt 0 ]; then export LINES=$rows COLUMNS=$columns; fi
+  exec {terminal}<&-
+}
+
 # Runs the program by its words, and becomes it where nothing has to be done around it.
 run() {
   local program=$1 words=() device has_join
@@ -160,11 +170,7 @@ run() {
   esac
   case ${1-} in
     desk) feed "$program" "$@" ;;
-    # How large the terminal is, which the program can't ask.
-    watch)
-      if [ -t 1 ] && read -r rows columns < <(stty size <&1 2>/dev/null); then export LINES=$rows COLUMNS=$columns; fi
-      feed "$program" "$@"
-      ;;
+    watch) size_of_terminal; feed "$program" "$@" ;;
     explain) if serves "$@"; then feed "$program" "$@"; else exec "$program" "$@"; fi ;;
     *) exec "$program" "$@" ;;
   esac
