@@ -1,7 +1,7 @@
 //! How a file's kind is told, beside the form that reads the document of every text.
 use crate::packet_rows::Numbers;
 use fixtures::texts::{DESK, ONE_PORT};
-use sacn_check::{FileKind, kind_of};
+use sacn_check::{FileKind, is_surely_show, kind_of};
 use sacn_files::lines::said_lines;
 use sacn_files::words::number_in;
 use std::alloc::{AllocError, Global};
@@ -201,11 +201,13 @@ fn number_of(kind: Option<FileKind>) -> usize {
     }
 }
 
-/// Each text has the kind that reading its document gives, and of each kind there are many.
+/// Each text has the kind that reading its document gives, and of each kind there are many. So there are of shows that a look at
+/// the lines alone tells, and of those that it leaves to the document.
 #[test]
 fn kinds_are_those_of_documents(rt: HostRuntime) -> Result<(), Fail> {
     let mut numbers = Numbers { state: 20 };
     let mut counts = [0usize; 6];
+    let mut sure = 0usize;
     for case in 0..CASES {
         let text = text_of(rt.alloc(), &mut numbers)?;
         if let Ok(text) = std::str::from_utf8(text.as_slice()) {
@@ -215,8 +217,17 @@ fn kinds_are_those_of_documents(rt: HostRuntime) -> Result<(), Fail> {
             if let Some(count) = counts.get_mut(read) {
                 *count = count.saturating_add(1);
             }
+            if is_surely_show(text) {
+                sure = sure.saturating_add(1);
+            }
         }
     }
     assert!(rt; counts.iter().all(|count| CASES / 200 < *count));
+    let shows = counts[1];
+    let left = shows.saturating_sub(sure);
+    assert!(rt;
+        CASES / 20 < sure && CASES / 20 < left,
+        "the quick look was sure of {sure} of {shows} shows"
+    );
     Ok(())
 }

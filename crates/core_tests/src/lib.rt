@@ -1,4 +1,4 @@
-//! Tests of the source table, the node, the cue player, the patch, the console and the kinds of files that no rows say: beside
+//! Tests of the source table, the node, the cue player, the patch, the console, the kinds of files and what is found in them that no rows say: beside
 //! plain programs over generators, and where requests for memory are refused.
 #![tactic(auto)]
 
@@ -8,6 +8,8 @@ mod console;
 mod cues;
 #[cfg(test)]
 mod faults;
+#[cfg(test)]
+mod findings;
 #[cfg(test)]
 mod kinds;
 #[cfg(test)]

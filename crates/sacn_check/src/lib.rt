@@ -24,5 +24,6 @@ mod worlds;
 pub use faults::faults_of;
 pub use finding::{Detail, Finding, Findings, MAX_TOLD};
 pub use kinds::{FileKind, kind_of};
+pub use quick::is_surely_show;
 pub use refusal::Refusal;
 pub use report::{ReportFault, write_report, write_unread};

@@ -14,7 +14,7 @@
 use crate::kinds::{SETUP_KEYS, SHOW_KEYS, WORLD_KEYS};
 
 /// Whether a text is a show to [`kind_of`](crate::kind_of), document or not. Where it is not so nothing is known.
-pub(crate) fn is_surely_show(text: &str) -> bool {
+pub fn is_surely_show(text: &str) -> bool {
     lines_are_of_show(text) && !text.contains("\"\"\"") && !text.contains("'''")
 }
 
