@@ -306,16 +306,18 @@ impl Listing {
     }
 }
 
-// The universes of a source's streams, in the order in which they appeared.
+// The universes of a source's streams, in the order in which they appeared. Room is taken once, for those of all streams.
 fn universes_of(alloc: Global, streams: &[Stream], cid: &[u8; 16]) -> Result<Vec<u16>, AllocError>
     ensures { IfOk result (λ found. found.items
         ≡ map (λ s. s.universe) (filter (λ s. bytes_eq s.cid cid.now) streams.now)) }
 {
-    streams
-        .iter()
-        .filter(|heard| heard.cid == *cid)
-        .map(|heard| heard.universe)
-        .collect(alloc)
+    let mut found = Vec::with_capacity(alloc, streams.len())?;
+    for i in 0..streams.len() {
+        if streams[i].cid == *cid {
+            found.push(streams[i].universe)?;
+        }
+    }
+    Ok(found)
 }
 
 // The universes on which a source was heard, ascending, so that each is found in a few steps.

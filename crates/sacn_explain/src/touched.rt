@@ -30,8 +30,7 @@ impl Touched {
         }
     }
 
-    /// And the slots of a universe. Frames are shown after each datagram that may have changed one, so two universes meet where
-    /// that failed alone.
+    /// And the slots of a universe. Where frames are shown after each datagram that may have changed one, no two universes meet.
     fn with(self, universe: u16) -> Self
         ensures { result ≡ with_universe self (Some universe) }
     {
