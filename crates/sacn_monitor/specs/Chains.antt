@@ -14,9 +14,17 @@ product a b = a * b % 2 ^ 64
 abbrev pub total : ℕ → ℕ → ℕ
 total a b = (a + b) % 2 ^ 64
 
--- the chain of a source, by the number that its CID is, on a universe: the high bits of a sum of products
+-- a sum of products, to which all of the number that a CID is and of a universe add
+abbrev pub sum_of : ℕ → ℕ → ℕ
+sum_of universe cid = total (total (product (cid / 2 ^ 64) FRONT_FACTOR) (product (cid % 2 ^ 64) BACK_FACTOR)) (product universe UNIVERSE_FACTOR)
+
+-- the high bits of the product of a number with its own upper half
+abbrev pub chain_in : ℕ → ℕ
+chain_in sum = product sum (sum / 2 ^ 32) / 2 ^ 54
+
+-- the chain of a source, by the number that its CID is, on a universe
 abbrev pub chain_by_number : ℕ → ℕ → ℕ
-chain_by_number universe cid = total (total (product (cid / 2 ^ 64) FRONT_FACTOR) (product (cid % 2 ^ 64) BACK_FACTOR)) (product universe UNIVERSE_FACTOR) / 2 ^ 54
+chain_by_number universe cid = chain_in (sum_of universe cid)
 
 abbrev pub chain_by : ℕ → List ℕ → ℕ
 chain_by universe cid = chain_by_number universe (from_be_bytes w128 cid)

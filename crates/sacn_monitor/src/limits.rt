@@ -9,11 +9,10 @@ pub(crate) const CHAINS: usize = 1024;
 pub(crate) const CHAIN_BITS: u32 = 10;
 
 /// After so many steps down a chain all streams are looked at in turn: of 1024 streams whose chains nobody chose less than one in a
-/// thousand stands so far down.
+/// hundred stands further down.
 pub(crate) const LONGEST_WALK: usize = 5;
 
-/// By what the front half of a CID, its back half and a universe count in the number of a chain: odd numbers, by which rows of either,
-/// grids of both, CIDs by chance and CIDs by the time stand in chains of six at most, tried in steps of 1 to 1024.
+/// By what the front half of a CID, its back half and a universe count in the number of a chain: odd numbers with many ones.
 pub(crate) const FRONT_FACTOR: u64 = 0x587f_d280_3bab_6c39;
 
 pub(crate) const BACK_FACTOR: u64 = 0xad45_f23d_3b1a_11df;

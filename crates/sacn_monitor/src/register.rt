@@ -172,8 +172,9 @@ fn place_in(streams: &[Stream], universe: u16, cid: &[u8; 16]) -> Option<usize>
         .position(|stream| stream.is_of(universe, cid))
 }
 
-// The chain of a source on a universe: the high bits of a product, to which each octet of both adds. So neither rows of universes or
-// of CIDs fall together, in whatever steps, nor the CIDs that one host makes by the time.
+// The chain of a source on a universe: the high bits of the product of a sum with its own upper half. Each octet of both adds to the
+// sum; by the product rows of universes or of CIDs, whatever their steps, and the CIDs that one host makes by the time stand in chains
+// as those by chance do.
 fn chain_by(universe: u16, cid: &[u8; 16]) -> usize
     ensures chain { result ≡ chain_by universe cid.now }
     ensures low { result < CHAINS }
@@ -182,6 +183,7 @@ fn chain_by(universe: u16, cid: &[u8; 16]) -> usize
     let front = ((number >> 64) as u64).wrapping_mul(FRONT_FACTOR);
     let back = ((number % (1 << 64)) as u64).wrapping_mul(BACK_FACTOR);
     let universe = u64::from(universe).wrapping_mul(UNIVERSE_FACTOR);
-    let mixed = front.wrapping_add(back).wrapping_add(universe);
-    (mixed >> (u64::BITS - CHAIN_BITS)) as usize
+    let sum = front.wrapping_add(back).wrapping_add(universe);
+    let chain = sum.wrapping_mul(sum >> 32);
+    (chain >> (u64::BITS - CHAIN_BITS)) as usize
 }
