@@ -15,6 +15,8 @@ from workloads import run_in, workloads
 
 TOP = os.path.dirname(os.path.dirname(os.path.realpath(__file__)))
 SEED, ROUNDS = 1, "1"
+# A run that takes longer than so many seconds is ended: it waits for something that doesn't come.
+LONGEST = 900
 VALGRIND = ["valgrind", "--command-line-only=yes", "--tool=cachegrind", "--cache-sim=no", "--cachegrind-out-file=/dev/null"]
 PINNED = {"GLIBC_TUNABLES": "glibc.cpu.hwcaps=-AVX2,-ERMS", "LC_ALL": "C"}
 # Calls of the C library: the name in bench/calls.c, and how many are made.
@@ -62,15 +64,18 @@ def refs(log):
 class Counter:
     """Runs programs under valgrind, in a folder of its own."""
 
-    def __init__(self, room, program, library):
-        self.room, self.program, self.library = room, program, library
+    def __init__(self, room, program, library, machine):
+        self.room, self.program, self.library, self.machine = room, program, library, machine
 
     def count(self, words, folder=None, given=os.devnull, **more):
         """The instructions of a run that ends well."""
         with tempfile.NamedTemporaryFile(dir=self.room) as log, open(given, "rb") as text:
-            ran = subprocess.run(
-                [*VALGRIND, f"--log-file={log.name}", *words], cwd=folder or self.room, env=environment(more), stdin=text, stdout=subprocess.DEVNULL, stderr=subprocess.PIPE, check=False
-            )
+            try:
+                ran = subprocess.run(
+                    [*VALGRIND, f"--log-file={log.name}", *words], cwd=folder or self.room, env=environment(more), stdin=text, stdout=subprocess.DEVNULL, stderr=subprocess.PIPE, check=False, timeout=LONGEST
+                )
+            except subprocess.TimeoutExpired as late:
+                raise Failed(f"{' '.join(words[:4])}: it didn't end in {LONGEST} s") from late
             if ran.returncode:
                 raise Failed(f"{' '.join(words[:4])}: status {ran.returncode} {ran.stderr.decode(errors='replace')[-200:].strip()}")
             return refs(log.name)
@@ -88,7 +93,7 @@ class Counter:
 
     def call(self, name):
         kind, calls = CALLS[name]
-        if isinstance(self.library, Lacking):
+        if isinstance(self.library, (Lacking, Failed)):
             raise self.library
         return self.each(calls, lambda count: self.count([f"{self.room}/calls", kind, str(count)]))
 
@@ -112,10 +117,9 @@ class Counter:
 
     def still(self, words, **more):
         """Counts a run of the program on a machine that is the same in each run (still.c)."""
-        made = f"{self.room}/still.so"
-        if not os.path.exists(made):
-            raise Lacking("a C compiler isn't there")
-        return self.count([self.program, *words], LD_PRELOAD=made, **more)
+        if isinstance(self.machine, (Lacking, Failed)):
+            raise self.machine
+        return self.count([self.program, *words], LD_PRELOAD=self.machine, **more)
 
 
 def program_of(given):
@@ -137,7 +141,7 @@ def compiler():
 
 
 def compiled(*words):
-    ran = subprocess.run([compiler(), "-O2", "-Wall", "-Wextra", "-Werror", *words], stdout=subprocess.DEVNULL, stderr=subprocess.PIPE, encoding="utf-8", check=False)
+    ran = subprocess.run([compiler(), "-O2", "-Wall", "-Wextra", *words], stdout=subprocess.DEVNULL, stderr=subprocess.PIPE, encoding="utf-8", check=False)
     if ran.returncode:
         raise Failed(f"{' '.join(words)}: {ran.stderr[-400:]}")
 
@@ -157,6 +161,22 @@ def linked(room, prefix):
     return prefix
 
 
+def stilled(room):
+    """Builds what stands between the program and its machine (still.c); a `Lacking` where there is no compiler."""
+    if not compiler():
+        return Lacking("a C compiler isn't there")
+    compiled("-std=gnu11", "-shared", "-fPIC", "-o", f"{room}/still.so", f"{TOP}/bench/still.c")
+    return f"{room}/still.so"
+
+
+def built(build, *words):
+    """What a build gives, or why it gives nothing: that is told of each thing that wants it."""
+    try:
+        return build(*words)
+    except Failed as why:
+        return why
+
+
 def prepared(room, program, prefix):
     """A counter, with all the files that it wants."""
     with open(f"{room}/datagram", "wb") as out:
@@ -165,9 +185,7 @@ def prepared(room, program, prefix):
         out.write(b"".join(packet for _, _, packet in packets.turns(4, 4, 1)))
     with open(f"{room}/recording", "wb") as out:
         out.write(packets.recording(*RECORDED))
-    if compiler():
-        compiled("-std=gnu11", "-shared", "-fPIC", "-o", f"{room}/still.so", f"{TOP}/bench/still.c")
-    return Counter(room, program_of(program), linked(room, prefix))
+    return Counter(room, program_of(program), built(linked, room, prefix), built(stilled, room))
 
 
 def jobs(counter):
