@@ -4,7 +4,7 @@
 
    It wants no privilege and changes nothing of the machine: Linux hands what comes for a group that any socket has joined to every socket that hears
    at all addresses and that port. With --lists it also hears the universe discovery group at a port and joins the group of each universe
-   that a source lists there (E1.31, 8; the group of universe u is 239.255.(u div 256).(u mod 256), E1.31, 9.3.1).
+   that a source lists there, up to a bound (E1.31, 8; the group of universe u is 239.255.(u div 256).(u mod 256), E1.31, 9.3.1).
 
    Once all groups are joined it goes on behind its caller and ends with status 0; a group that can't be joined ends it with a line and status 4. What goes on
    are two processes: one that holds the groups, and one that says so where the first is ended while the process PID lives. */
@@ -26,13 +26,17 @@
 #include <unistd.h>
 
 enum { BAD_WORDS = 2, DEVICE_FAILED = 4, MOST_UNIVERSE = 63999 };
+/* So many universes of lists are joined at most, since anybody may send a list, and twenty of them want a socket. */
+enum { MOST_LISTED = 1024 };
 /* Of a universe discovery packet: the root vector at 18, the framing vector at 40, the list's own length at 112 and vector at 114, its universes from 120. */
 enum { ROOT_VECTOR = 18, FRAMING_VECTOR = 40, LIST_LENGTH = 112, LIST_VECTOR = 114, LIST = 120, MOST_DATAGRAM = 1144 };
 
 static const char *device;
 static unsigned number_of_device;
 static int holder = -1;
-static uint8_t joined[MOST_UNIVERSE + 1];
+/* What became of each universe's group: not wanted yet, joined, or refused, which is told once and tried again at the next list. */
+static enum { UNTRIED, JOINED, REFUSED } groups[MOST_UNIVERSE + 1];
+static int listed;
 
 static int fails(const char *what, const char *help) {
     fprintf(stderr, "sacn-join: %s on %s: %s%s\n", what, device, strerror(errno), help);
@@ -57,16 +61,28 @@ static uint32_t at(const uint8_t *octets, int place, int count) {
     return value;
 }
 
+/* The group of a universe that is listed. */
+static void join_universe(uint32_t universe) {
+    static bool is_told;
+    if (universe < 1 || universe > MOST_UNIVERSE || groups[universe] == JOINED) return;
+    if (listed >= MOST_LISTED) {
+        if (!is_told) fprintf(stderr, "sacn: sources list more than %d universes on %s: no more of them are joined; name those that you want by --universe\n", MOST_LISTED, device);
+        is_told = true;
+        return;
+    }
+    if (join((struct in_addr){htonl(0xefff0000u | universe)})) {
+        groups[universe] = JOINED, listed++;
+        return;
+    }
+    if (groups[universe] == UNTRIED) fprintf(stderr, "sacn: universe %u isn't joined on %s: %s\n", universe, device, strerror(errno));
+    groups[universe] = REFUSED;
+}
+
 static void join_listed(const uint8_t *octets, ssize_t count) {
     if (count < LIST || memcmp(octets + 4, "ASC-E1.17\0\0", 12) || at(octets, ROOT_VECTOR, 4) != 8 || at(octets, FRAMING_VECTOR, 4) != 2 ||
         at(octets, LIST_VECTOR, 4) != 1 || (ssize_t)(at(octets, LIST_LENGTH, 2) & 0x0fff) != count - LIST_LENGTH)
         return;
-    for (int place = LIST; place + 2 <= count; place += 2) {
-        uint32_t universe = at(octets, place, 2);
-        if (universe < 1 || universe > MOST_UNIVERSE || joined[universe]) continue;
-        joined[universe] = 1;
-        if (!join((struct in_addr){htonl(0xefff0000u | universe)})) fprintf(stderr, "sacn-join: universe %u on %s: %s\n", universe, device, strerror(errno));
-    }
+    for (int place = LIST; place + 2 <= count; place += 2) join_universe(at(octets, place, 2));
 }
 
 /* A socket that hears the discovery group alone, so that it takes nothing of what is sent to this machine. */
@@ -111,8 +127,8 @@ int main(int count, char **words) {
     for (char **word = rest + 2; word < end; word++) {
         struct in_addr group;
         if (!inet_aton(*word, &group) || !IN_MULTICAST(ntohl(group.s_addr))) return fprintf(stderr, "sacn-join: %s is no group\n", *word), BAD_WORDS;
-        if (ntohl(group.s_addr) >> 16 == 0xefff && (ntohl(group.s_addr) & 0xffff) <= MOST_UNIVERSE) joined[ntohl(group.s_addr) & 0xffff] = 1;
         if (!join(group)) return fails(*word, ": is the device up, and does it take multicast?");
+        if (ntohl(group.s_addr) >> 16 == 0xefff && (ntohl(group.s_addr) & 0xffff) <= MOST_UNIVERSE) groups[ntohl(group.s_addr) & 0xffff] = JOINED;
     }
     if (has_lists && (heard = lists((uint16_t)atoi(words[2]))) < 0) return fails("the discovery group", "");
     for (int signals[] = {SIGINT, SIGHUP, SIGPIPE}, i = 0; i < 3; i++) signal(signals[i], SIG_IGN);

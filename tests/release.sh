@@ -215,7 +215,36 @@ else
   told "$room/said" '^hears' || fails "a watch that joins" "$(head -n 1 "$room/said")"
   printf 'version = 1\ncid = "00010203-0405-0607-0809-0a0b0c0d0e0f"\nname = "Desk"\nuniverses = [%s 900]\nsend_to = [5568]\n' "$(seq -s , 1 40 | sed 's/$/,/')" >"$room/wide.toml"
   (told "$room/told" 'universe +900 .*appears') | ip netns exec "$far" "$built" desk "$room/wide.toml" --multicast --bind 10.99.0.2 >/dev/null 2>&1
-  if told "$room/told" 'universe +900 .*appears' && [ "$(joined)" = 42 ]; then ok "a watch joins what is listed: 41 universes"; else fails "a watch that joins" "$(joined) groups are joined; $(tail -n 1 "$room/told")"; fi
+  # (the first 128 are joined anyhow, and the group of the lists)
+  if told "$room/told" 'universe +900 .*appears' && [ "$(joined)" = 130 ]; then ok "a watch joins what is listed beside the first 128"; else fails "a watch that joins" "$(joined) groups are joined; $(tail -n 1 "$room/told")"; fi
+  # What follows the standard's layout, to the group of a universe: a packet of a source that lists nothing, or a page of a list of so many universes.
+  cat >"$room/sends.py" <<'P'
+import socket, struct, sys
+kind, universe, count = sys.argv[1], int(sys.argv[2]), int(sys.argv[3])
+out = socket.socket(socket.AF_INET, socket.SOCK_DGRAM)
+out.setsockopt(socket.IPPROTO_IP, socket.IP_MULTICAST_IF, socket.inet_aton("10.99.0.2"))
+def root(vector, layer):
+    return b"\0\x10\0\0ASC-E1.17\0\0\0" + struct.pack(">HI16s", 0x7000 | 22 + len(layer), vector, bytes([7]) * 16) + layer
+if kind == "packet":
+    dmp = struct.pack(">HBBHHHB", 0x7000 | 11 + 512, 2, 0xa1, 0, 1, 513, 0) + bytes(512)
+    layer = struct.pack(">I64sBHBBH", 2, b"Plain", 100, 0, 1, 0, universe) + dmp
+    out.sendto(root(4, struct.pack(">H", 0x7000 | 2 + len(layer)) + layer), (f"239.255.{universe // 256}.{universe % 256}", 5568))
+else:
+    lasts = (count + 511) // 512
+    for page in range(lasts):
+        numbers = range(universe + page * 512, min(universe + count, universe + page * 512 + 512))
+        body = struct.pack(">IBB", 1, page, lasts - 1) + b"".join(struct.pack(">H", it) for it in numbers)
+        layer = struct.pack(">I64sI", 2, b"Lister", 0) + struct.pack(">H", 0x7000 | 2 + len(body)) + body
+        out.sendto(root(8, struct.pack(">H", 0x7000 | 2 + len(layer)) + layer), ("239.255.250.214", 5568))
+P
+  if command -v python3 >/dev/null; then
+    ip netns exec "$far" python3 "$room/sends.py" packet 7 1
+    if told "$room/told" 'universe +7 .*"Plain" +appears'; then ok "a watch hears a source that lists nothing"; else fails "a source that lists nothing" "$(tail -n 1 "$room/told")"; fi
+    ip netns exec "$far" python3 "$room/sends.py" list 2000 3000
+    if told "$room/said" '^sacn: sources list more than 1024 universes on eth0' && [ "$(joined)" = 1153 ] && [ "$(grep -c 'list more than' "$room/said")" = 1 ]; then ok "lists take no more than a bound, which is told once"; else fails "a list of 3000 universes" "$(joined) groups are joined; $(tail -n 1 "$room/said")"; fi
+  else
+    skips "a source that lists nothing" "python3 isn't there"
+  fi
   kill "${running[-1]}"
   wait "${running[-1]}" 2>/dev/null
   unset 'running[-1]'

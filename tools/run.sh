@@ -112,6 +112,9 @@ setup_among() {
   done
 }
 
+# So many universes, from 1 on, a watch joins that is told of none.
+first_universes=128
+
 # Joins the groups that a gateway or a watch wants, for as long as this shell lives or what it becomes.
 join_groups() {
   local program=$1 command=$2 groups=(239.255.250.214) lists=() port universe line
@@ -140,7 +143,11 @@ join_groups() {
       if [[ $universe =~ ^[0-9]{1,5}$ ]]; then groups+=("239.255.$((10#$universe / 256)).$((10#$universe % 256))"); fi
     done
     port=$(given --port "$@" | tail -n 1)
-    if [ "${#groups[@]}" = 1 ]; then lists=(--lists "${port:-5568}"); fi
+    if [ "${#groups[@]}" = 1 ]; then
+      # (few consoles list what they send in the standard's form)
+      lists=(--lists "${port:-5568}")
+      for ((universe = 1; universe <= first_universes; universe++)); do groups+=("239.255.0.$universe"); done
+    fi
   fi
   "$sacn_join" ${lists[@]+"${lists[@]}"} $$ "$device" "${groups[@]}" || exit $?
 }
