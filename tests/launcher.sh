@@ -162,9 +162,17 @@ joins() { local wanted=$1; shift; bare "$@"; [ "$status" = 0 ] && [[ "$(grep '^j
 make_release
 join_words() {
   joins '[0-9]+ lo 239.255.250.214 239.255.0.7 239.255.1.0' watch --universe 7 --join lo --universe=256 && prints "released watch --universe 7 --universe=256" &&
-    joins '--lists 5568 [0-9]+ lo 239.255.250.214' watch --join=lo && joins '--lists 5570 [0-9]+ lo 239.255.250.214' watch --port 5570 --join lo --plain && prints "released watch --port 5570 --plain"
+    joins '--lists 5568 [0-9]+ lo 239.255.250.214( 239.255.0.[0-9]+){128}' watch --join=lo && joins '--lists 5570 [0-9]+ lo 239.255.250.214( 239.255.0.[0-9]+){128}' watch --port 5570 --join lo --plain && prints "released watch --port 5570 --plain"
 }
-check "a watch joins the universes that are named, or the lists" join_words
+check "a watch joins the universes that are named, or the first and the lists" join_words
+# A program that says how much stack it has.
+printf '#!/usr/bin/env bash\necho "stack $(ulimit -S -s)"\n' >"$room/stacked"
+chmod +x "$room/stacked"
+stacked() { (ulimit -S -s "$1" && . "$tree/tools/run.sh" && run "$room/stacked" gateway) >"$room/out" 2>"$room/err" </dev/null; }
+stack_is_raised() { stacked 256 && prints "stack 1024" && stacked 2048 && prints "stack 2048" && [ ! -s "$room/err" ]; }
+check "a stack that is too small is raised, and no other" stack_is_raised
+stack_is_told() { (ulimit -S -s 512; ulimit -H -s 512; . "$tree/tools/run.sh" && run "$room/stacked" gateway) >"$room/out" 2>"$room/err" </dev/null; prints "stack 512" && says "512 kB"; }
+check "one that can't be raised is told" stack_is_told
 join_alone() { bare gateway --join "$tree/crates.txt" --listen 10.0.0.1; [ "$status" = 2 ] && says "hears no group"; }
 check "--join with an address of its own is refused" join_alone
 rm -rf "$tree/release" "$tree/crates/left/proofs" "$tree/crates/apart/src/more.rt"

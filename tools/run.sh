@@ -162,12 +162,26 @@ size_of_terminal() {
   exec {terminal}<&-
 }
 
+# In so much stack, in kB, every command runs, also with a large environment.
+wanted_stack=1024
+
+# Raises a smaller limit of the stack, where the machine lets that be.
+raise_stack() {
+  local limit
+  limit=$(ulimit -S -s)
+  [ "$limit" != unlimited ] && [ "$limit" -lt "$wanted_stack" ] || return 0
+  ulimit -S -s "$wanted_stack" 2>/dev/null ||
+    say "the limit of the stack is $limit kB here and can't be raised (\`ulimit -H -s\`): with less than $wanted_stack the program may end with a segmentation fault"
+}
+
 # Runs the program by its words, and becomes it where nothing has to be done around it.
 run() {
   local program=$1 words=() device has_join
   shift
   # Where standard input is closed, nothing else may get its number.
   [ -e /proc/self/fd/0 ] || exec </dev/null
+  raise_stack
+  if [ $# = 0 ] && [ -t 0 ]; then say "reads one datagram as hexadecimal digits, up to Ctrl-D; \`sacn --help\` lists the commands"; fi
   case ${1-} in
     gateway | watch)
       split_join "$@"
