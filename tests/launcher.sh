@@ -123,10 +123,13 @@ make_release() {
 }
 # (no kit and no Python are there, nor anything beside bash and coreutils)
 mkdir "$room/core"
-for tool in bash env readlink dirname basename uname sha256sum sort paste cut head tail cat mktemp sleep stty; do ln -s "$(command -v "$tool")" "$room/core/$tool"; done
-bare() { PATH=$room/core "$tree/sacn" "$@" >"$room/out" 2>"$room/err" </dev/null; status=$?; }
+for tool in bash env readlink dirname basename uname sha256sum sort paste cut head tail cat mktemp sleep stty mkdir; do ln -s "$(command -v "$tool")" "$room/core/$tool"; done
+bare() { PATH=$room/core HOME=$room/home XDG_STATE_HOME= "$tree/sacn" "$@" >"$room/out" 2>"$room/err" </dev/null; status=$?; }
 released_runs() { anew; make_release; bare gateway x && prints "released gateway x" && says "proved and built elsewhere, from this very tree; ./sacn prove proves" && [ "$(wc -l <"$room/err")" = 1 ]; }
 check "the released program of this very tree runs at once, without a kit, and says so" released_runs
+released_once() { bare gateway x && prints "released gateway x" && [ ! -s "$room/err" ] && rm -r "$room/home" && : >"$room/home" && bare gateway x && says "proved and built elsewhere" && bare gateway x && says "proved and built elsewhere"; }
+check "once on a machine, and each time where that can't be noted" released_once
+rm -f "$room/home"
 released_version() { bare --version && prints "release 9.8.7" && prints "kit rattle-kit-9" && prints "proved and built elsewhere"; }
 check "the version tells that it is the released one" released_version
 proved_goes_first() { launch prove; launch node x; [ "$status" = 0 ] && prints "proved node x" && [ ! -s "$room/err" ] && launch --version && prints "proved and built on this machine"; }
