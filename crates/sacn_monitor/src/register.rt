@@ -174,7 +174,8 @@ fn place_in(streams: &[Stream], universe: u16, cid: &[u8; 16]) -> Option<usize>
 
 // The chain of a source on a universe: the high bits of the product of a sum with its own upper half. Each octet of both adds to the
 // sum; by the product rows of universes or of CIDs, whatever their steps, and the CIDs that one host makes by the time stand in chains
-// as those by chance do.
+// as those by chance do. Out of line: where the CID is read whole for it, comparing it afterwards would go octet by octet.
+#[inline(never)]
 fn chain_by(universe: u16, cid: &[u8; 16]) -> usize
     ensures chain { result ≡ chain_by universe cid.now }
     ensures low { result < CHAINS }
