@@ -108,7 +108,7 @@ count "the last line counts them, and the status says so (status $status)" "^6 p
 
 said=$(cd "$room" && env -u CI python3 "$top/tools/gate.py" further 2>&1)
 status=$?
-count "further edits are tried in the same way" '^rt: must-fail sums/adds_four\.edit: refused, as it must be: add::next: '
+count "further edits are tried in the same way" '^rt: must-fail sums/adds_four\.edit: refused, as it must be: '
 count "and those of must-fail are not (status $status)" "^3 passed, $status failed"
 
 # One alone, which kit 13f tries in its own way.
