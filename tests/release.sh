@@ -148,6 +148,18 @@ else
 fi
 
 # ---- Packages.
+# documents FOLDER: what of the documents there leads nowhere: links, examples, the command of a clone
+documents() {
+  local file folder target
+  for file in "$1"/*.md "$1"/docs/*.md; do
+    folder=$(dirname "$file")
+    grep -oE '\]\([^)]*\)' "$file" | sed -E 's/^\]\(//; s/\)$//; s/#.*//' | while IFS= read -r target; do
+      case $target in '' | http*) ;; *) [ -e "$folder/$target" ] || echo "$file: $target" ;; esac
+    done
+    grep -oE '[^ \`(|]*examples/[a-z0-9]+\.[a-z]+' "$file" | while IFS= read -r target; do [ -e "$room/amd64$target" ] || echo "$file: $target"; done
+    grep -n '\./sacn' "$file" | sed "s#^#$file: #"
+  done
+}
 if [ -z "$is_current" ] || ! command -v dpkg-deb >/dev/null; then
   skips "packages" "no release of this tree, or no dpkg-deb"
 elif ! "$top/sacn" package "$room/packages" >"$room/said" 2>&1; then
@@ -160,6 +172,8 @@ else
   light "from a package" "$room/amd64/usr/bin/sacn" gateway "$room/node.toml"
   if [ ! -s "$room/said" ] || ! grep -q 'sacn:' "$room/said"; then ok "a package's program says nothing of its own"; else fails "a package's program" "$(head -n 1 "$room/said")"; fi
   if [ "$("$room/amd64/usr/bin/sacn" --version | sed -n 2p)" = "release $version" ]; then ok "a package's version"; else fails "a package's version" "$("$room/amd64/usr/bin/sacn" --version | sed -n 2p)"; fi
+  problem=$(documents "$room/amd64/usr/share/doc/sacn")
+  if [ -z "$problem" ]; then ok "a package's documents: links, commands and examples are there"; else fails "a package's documents" "$(head -n 1 <<<"$problem")"; fi
   if [ -n "$has_arm" ]; then
     if [ "$("${arm[@]}" "$room/arm64/usr/lib/sacn/sacn" decode "$top/examples/levels.sacn" | sed -n 2p)" = "cid 00010203-0405-0607-0809-0a0b0c0d0e0f" ]; then ok "the package for arm64"; else fails "the package for arm64" "it decodes otherwise"; fi
   fi

@@ -37,11 +37,19 @@ done
 
 packed() { gzip -9n >"$1"; chmod 644 "$1"; }
 
+# document FILE TO: a document as a package has it. Its command is `sacn`, its examples stand beside it, and a link to what isn't packed is its text alone.
+document() {
+  sed -E -e 's#\./sacn\b#sacn#g' -e 's#(^|[^A-Za-z/])examples/#\1/usr/share/doc/sacn/examples/#g' \
+    -e 's#\]\((((docs/)?(RIG|FILES|PROTOCOL|THEOREMS)\.md|CHANGELOG\.md|(docs/)?page[a-z-]*\.png|https?:|\#)[^)]*)\)#]\x01\1\x02#g' \
+    -e 's#!?\[([^]]*)\]\([^)]*\)#\1#g' -e 's#\x01#(#g; s#\x02#)#g' "$1" >"$2"
+  chmod 644 "$2"
+}
+
 # tree FOLDER PROCESSOR: lays out all but what is Debian's own.
 tree() {
   local root=$1 from=$release/$2-linux
   install -d "$root/usr/bin" "$root/usr/lib/sacn" "$root/usr/share/man/man1" "$root/usr/share/bash-completion/completions" "$root/usr/share/fish/vendor_completions.d" \
-    "$root/usr/share/zsh/vendor-completions" "$root/usr/share/doc/sacn/examples" "$root/lib/systemd/system" "$root/etc/sacn"
+    "$root/usr/share/zsh/vendor-completions" "$root/usr/share/doc/sacn/examples" "$root/usr/share/doc/sacn/docs" "$root/lib/systemd/system" "$root/etc/sacn"
   install -m 755 "$top/packaging/sacn" "$root/usr/bin/sacn"
   install -m 755 "$from/sacn" "$from/sacn-join" "$root/usr/lib/sacn/"
   install -m 644 "$top/tools/run.sh" "$release/RELEASE" "$root/usr/lib/sacn/"
@@ -51,8 +59,10 @@ tree() {
   "$program" completion zsh >"$root/usr/share/zsh/vendor-completions/_sacn"
   install -m 644 "$top"/packaging/*.service "$root/lib/systemd/system/"
   for it in "$top"/examples/*; do if [ -f "$it" ]; then install -m 644 "$it" "$root/usr/share/doc/sacn/examples/"; fi; done
-  install -m 644 "$top/README.md" "$top/docs/RIG.md" "$top/docs/FILES.md" "$top/docs/PROTOCOL.md" "$root/usr/share/doc/sacn/"
-  install -m 644 "$top/CHANGELOG.md" "$root/usr/share/doc/sacn/"
+  for it in README.md CHANGELOG.md docs/{RIG,FILES,PROTOCOL,THEOREMS}.md; do document "$top/$it" "$root/usr/share/doc/sacn/$it"; done
+  # (how this tree is proved is told to who has it)
+  sed -i '/^## How it is proved/,/^## Documents/{/^## Documents/!d}' "$root/usr/share/doc/sacn/README.md"
+  install -m 644 "$top"/docs/page*.png "$root/usr/share/doc/sacn/docs/"
   news sacn | packed "$root/usr/share/doc/sacn/changelog.gz"
   copyright >"$root/usr/share/doc/sacn/copyright"
 }
