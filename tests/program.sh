@@ -102,3 +102,30 @@ ends "a faulty setup is refused before the socket" 3 "refused UnknownKey" /dev/n
 kill "$holder"
 wait "$holder" 2>/dev/null
 holder=
+
+# Every command runs in a stack of 1024 kB, of which the environment takes 200 here.
+large=$(head -c 100000 /dev/zero | tr '\0' x)
+sed "1a udp_port = $((port + 1))" "$examples/node.toml" >"$room/node.toml"
+sed "1a send_to = [$((port + 1))]" "$examples/show.toml" >"$room/show.toml"
+# small INPUT WORD..: a run there ends well
+small() {
+  local input=$1 status=0
+  shift
+  (ulimit -S -s 1024 && LARGE=$large LARGER=$large exec timeout 60 "$sacn" "$@") <"$input" >"$room/out" 2>"$room/err" || status=$?
+  if [ "$status" = 0 ]; then echo "ok program: a small stack: ${1:-no command}"; else echo "not ok program: a small stack: ${*:-no command}: status $status, $(head -n 1 "$room/err")"; fi
+}
+small "$examples/desk.hex"
+small /dev/null decode "$examples/levels.sacn" "$examples/universes.sacn"
+small /dev/null sim "$examples/world.toml" "$examples/schedule.txt"
+small /dev/null console "$room/show.toml" "$examples/script.txt" --turns 1
+small /dev/null node "$room/node.toml" --turns 1
+small /dev/null gateway "$room/node.toml" --seconds 1
+small /dev/null desk "$room/show.toml" --script "$examples/script.txt"
+small /dev/null watch --port "$((port + 1))" --seconds 1
+small /dev/null watch --port "$((port + 1))" --seconds 1 --page "$((port + 2))"
+small /dev/null explain "$examples/ola.pcap" --setup "$room/node.toml" --json
+small /dev/null explain "$examples/ola.pcap" --page "$((port + 2))" --seconds 1
+small /dev/null check "$room/show.toml" "$room/node.toml" "$examples/world.toml"
+small /dev/null groups "$room/node.toml" --device lo
+small /dev/null manual
+small /dev/null completion bash

@@ -165,7 +165,7 @@ if pid == 0:
     os.execvp(words[0], words)
 out = socket.socket(socket.AF_INET, socket.SOCK_DGRAM)
 drawn = b""
-start, number, stopped = time.time(), 0, False
+start, number, stopped, typed = time.time(), 0, False, False
 while True:
     now = time.time() - start
     if now > 15:
@@ -175,6 +175,9 @@ while True:
         out.sendto(data(0xaa, b"Desk", number % 256, b"\xff\x80"), ("127.0.0.1", int(port)))
         out.sendto(data(0xbb, b"\x1b]0;evil\x07\x1b[2Jx", number % 256, b"\x40\x81"), ("127.0.0.1", int(port)))
         number += 1
+    if now > 2 and not typed:
+        typed = True
+        os.write(terminal, os.environ.get("KEYS", "").encode())
     if stop == "stop" and now > 3 and not stopped:
         stopped = True
         os.write(terminal, b"\x03")
@@ -188,6 +191,8 @@ while True:
         drawn += octets
 status = os.waitstatus_to_exitcode(os.waitpid(pid, 0)[1])
 open(path, "wb").write(drawn)
+if not termios.tcgetattr(terminal)[3] & termios.ECHO:
+    sys.exit("the terminal's echo is off afterwards")
 sys.exit(status if 0 <= status < 100 else 99)
 P
 # draws NAME COLUMNS ROWS [VARIABLE=VALUE..]: the screen is drawn and taken away again
@@ -228,9 +233,11 @@ verdict "NO_COLOR" $? "$(tail -n 1 <<<"$problem")"
 # Ctrl-C under the launcher: the terminal is left as it was, and the status is 0.
 printf '. "%s/tools/run.sh"\nrun "%s" watch --port 25833\n' "$top" "$sacn" >launcher
 status=0
-problem=$(COLUMNS=80 ROWS=24 timeout 20 python3 terminal.py drawn 25833 stop bash launcher 2>&1) || status=$?
+problem=$(COLUMNS=80 ROWS=24 KEYS=typed timeout 20 python3 terminal.py drawn 25833 stop bash launcher 2>&1) || status=$?
 [ "$status" = 0 ] && grep -q 'Aff' drawn && [ "$(tail -c 8 drawn)" = $'\x1b[?1049l' ]
 verdict "Ctrl-C under the launcher" $? "status $status $(tail -n 1 <<<"$problem")"
+[ "$status" = 0 ] && ! grep -qE 'typed|\^C' drawn
+verdict "keys that are typed stay off the screen" $? "status $status $(tail -n 1 <<<"$problem")"
 
 # The launcher tells a watch the terminal's size, whatever it is.
 printf '#!/bin/sh\necho "rows $LINES columns $COLUMNS"\n' >told

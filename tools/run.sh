@@ -32,8 +32,9 @@ feed_desk() {
 # then ends what it has lit. A second one changes nothing. What the program waits for is held by this process alone, so that it comes
 # to its end also where this one is killed.
 feed() {
-  local life lives in out pid status since=$SECONDS caught=
+  local life lives in out pid status since=$SECONDS caught= modes=
   trap 'caught=1' INT TERM HUP
+  if [ "$2" = watch ]; then quiet_keys "$@"; fi
   exec {in}<&0
   # A pipe of which both ends are here.
   exec {life}<> <(:)
@@ -52,6 +53,7 @@ feed() {
     [ -n "$caught" ] || break
   done
   { echo >&"$life"; } 2>/dev/null || true
+  if [ -n "$modes" ]; then stty "$modes"; fi
   exit "$status"
 }
 
@@ -150,6 +152,22 @@ join_groups() {
     fi
   fi
   "$sacn_join" ${lists[@]+"${lists[@]}"} $$ "$device" "${groups[@]}" || exit $?
+}
+
+# Whether this shell has its terminal to itself, and not in the background of another job.
+is_in_front() {
+  local stat
+  stat=$(</proc/$$/stat)
+  # (behind the name: state, parent, group, session, terminal, the group in front)
+  read -r -a stat <<<"${stat##*) }"
+  [ "${stat[2]}" = "${stat[5]}" ]
+}
+
+# Keeps typed keys off the screen that a watch draws. What the terminal was told before stands in `modes`, empty where nothing has to be told again.
+quiet_keys() {
+  local word
+  for word in "$@"; do case $word in --plain | --json | --page | --page=*) return 0 ;; esac; done
+  if [ -t 0 ] && [ -t 1 ] && is_in_front && modes=$(stty -g 2>/dev/null); then stty -echo; fi
 }
 
 # Tells a watch how large the terminal at standard output is, which it can't ask.
