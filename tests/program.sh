@@ -129,3 +129,25 @@ small /dev/null check "$room/show.toml" "$room/node.toml" "$examples/world.toml"
 small /dev/null groups "$room/node.toml" --device lo
 small /dev/null manual
 small /dev/null completion bash
+
+# A pipe that nobody reads any more ends what tells people something quietly, and the others as a device that fails.
+# unread STATUS ERRORS WORD..: a run into such a pipe
+unread() {
+  local wanted=$1 said=$2 status=0 gone
+  shift 2
+  (
+    trap '' PIPE
+    exec {gone}> >(:)
+    while { echo >&"$gone"; } 2>/dev/null; do sleep 0.02; done
+    trap - PIPE
+    exec timeout 60 "$sacn" "$@" >&"$gone" {gone}>&-
+  ) </dev/null 2>"$room/err" || status=$?
+  [ "$status" = "$wanted" ] && [ "$(cat "$room/err")" = "$said" ] && echo "ok program: a pipe that nobody reads: $1" ||
+    echo "not ok program: a pipe that nobody reads: $*: status $status, $(head -n 1 "$room/err")"
+}
+unread 0 "" explain "$examples/ola.pcap"
+unread 0 "" explain "$examples/ola.pcap" --json --setup "$examples/node.toml"
+unread 0 "" check "$examples/show.toml" "$examples/node.toml"
+unread 0 "hears 127.0.0.1:$((port + 1))" watch --listen 127.0.0.1 --port "$((port + 1))" --seconds 1
+unread 4 "device write" decode "$examples/levels.sacn"
+unread 4 "device write" manual

@@ -5,6 +5,7 @@ mod check;
 mod explain;
 mod manual;
 mod page;
+mod piped;
 mod program;
 mod recording;
 mod watch;

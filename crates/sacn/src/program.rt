@@ -1,4 +1,5 @@
 //! The program, over any words, input and outputs.
+use crate::piped::Piped;
 use crate::{check, explain, manual, watch};
 use sacn_commands::ending::{DONE, Ending, tell_ending, tell_words};
 use sacn_commands::live;
@@ -63,9 +64,26 @@ fn run_beside<R: AllocGlobal + Files + Env + Net + Clock, O: Write, E: Write>(
         Asked::Gateway(asked) => live::gateway(rt, asked),
         Asked::Desk(asked) => live::desk(rt, asked),
         Asked::Groups { file, device } => live::groups(rt, file, device, out, err),
+        Asked::Manual(form) => manual::print(rt.alloc(), *form, out),
+        asked => {
+            let mut out = Piped::new(out);
+            let told = tell(rt, asked, &mut out, err);
+            out.ending(told)
+        }
+    }
+}
+
+// The same of what people read, some of it to `head` and the like.
+fn tell<R: AllocGlobal + Files + Env + Net + Clock, O: Write, E: Write>(
+    rt: &R,
+    asked: &Asked<'_>,
+    out: &mut O,
+    err: &mut E,
+) -> Result<(), Ending> {
+    match asked {
         Asked::Explain(asked) => explain::tell(rt, asked, out, err),
         Asked::Watch(asked) => watch::watch(rt, asked, out, err),
         Asked::Check(asked) => check::check(rt, asked, out, err),
-        Asked::Manual(form) => manual::print(rt.alloc(), *form, out),
+        _ => Ok(()),
     }
 }

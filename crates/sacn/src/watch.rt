@@ -1,6 +1,7 @@
 //! A network watched.
 use crate::explain::form_of;
 use crate::page::serve;
+use crate::piped::Piped;
 use sacn_commands::ending::Ending;
 use sacn_commands::live::{clock_of, of_socket, say_hearing};
 use sacn_explain::Options;
@@ -62,17 +63,22 @@ fn tell<R: AllocGlobal + Net + Clock>(
         Lines::Plain
     };
     let outputs = Outputs::new(rt.alloc(), lines)?;
-    let run = tell_on(rt, address, asked, until, &outputs);
+    let mut out = Piped::new(outputs.out());
+    let run = tell_on(rt, address, asked, until, &outputs, &mut out);
+    if out.has_gone() {
+        return out.ending(run);
+    }
     outputs.finish(&mut clock);
     run
 }
 
-fn tell_on<R: AllocGlobal + Net + Clock>(
+fn tell_on<R: AllocGlobal + Net + Clock, O: Write>(
     rt: &R,
     address: SocketAddrV4,
     asked: &WatchAsked,
     until: u64,
     outputs: &Outputs,
+    out: &mut O,
 ) -> Result<(), Ending> {
     let mut receiver = receiver_at(rt, address, &mut outputs.err())?;
     receiver.tend(outputs);
@@ -83,13 +89,7 @@ fn tell_on<R: AllocGlobal + Net + Clock>(
         form: form_of(asked.is_json),
     };
     let mut listener = RunningListener::new(receiver);
-    watch_end(watch_lines(
-        rt.alloc(),
-        &mut listener,
-        &options,
-        until,
-        &mut outputs.out(),
-    ))
+    watch_end(watch_lines(rt.alloc(), &mut listener, &options, until, out))
 }
 
 /// Hears at an address, for as long as standard input goes on.
