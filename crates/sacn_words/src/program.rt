@@ -10,7 +10,7 @@ kit rattle-kit-13b logic dac8208d650f15bf
 kit rattle-kit-13f logic dac8208d650f15bf";
 
 /// The day of the manual's latest change.
-const DATE: &str = "2026-11-26";
+const DATE: &str = "2026-11-27";
 
 const USAGE: &str = "sacn [COMMAND]";
 

@@ -1,7 +1,7 @@
 //! The table of the commands and their arguments. Help, manual and completions are made from it.
 use crate::arguments::{
-    FIRST, FLAG, HELP, HELP_LETTER, JOIN, JSON, LISTEN, OPERAND, OPTION, PAGE, SCRIPT_HELP,
-    SECONDS, SETUP, SETUP_HELP, SHOW, TURNS,
+    DESK_SCRIPT_HELP, FIRST, FLAG, HELP, HELP_LETTER, JOIN, JSON, LISTEN, OPERAND, OPTION, PAGE,
+    SCRIPT_HELP, SECONDS, SETUP, SETUP_HELP, SHOW, TURNS,
 };
 use sacn_manual::{Argument, Command, Kind, SHELL_WORDS, SHELLS};
 use std::alloc::{AllocError, Global};
@@ -133,7 +133,7 @@ const DESK: Command<'static> = Command {
         },
         Argument {
             name: "script",
-            help: SCRIPT_HELP,
+            help: DESK_SCRIPT_HELP,
             value: Some("SCRIPT"),
             ..OPTION
         },
