@@ -78,6 +78,8 @@ tells "another port" 0 "" <(printf '%s\n' '{"row":"counts","datagrams":0,"refuse
 grep -vE '"universe":1,' ola.json >other.json
 tells "another universe" 0 "" other.json "$top/examples/ola.pcap" --json --universe 2
 tells "two universes" 0 "" ola.json "$top/examples/ola.pcap" --json --universe 2 --universe 1
+tells "a row of universes" 0 "" ola.json "$top/examples/ola.pcap" --json --universe 1-63999
+tells "a row of other universes" 0 "" other.json "$top/examples/ola.pcap" --json --universe 2-512
 
 # What QLC+ 4.12 sent of a scene that fades in within 200 ms, recorded by tcpdump: sixteen packets, numbered from 1, of which the first two are dark.
 # The moments and slots were read off the octets; the node shows slots 1 to 3. Two packets came in one millisecond, 35.
@@ -127,6 +129,9 @@ tells "port 65536" 2 "error: 65536: Port" empty x --port 65536
 tells "a port with a sign" 2 "error: +1: Port" empty x --port +1
 tells "universe 0" 2 "error: 0: Universe" empty x --universe 0
 tells "universe 64000" 2 "error: 64000: Universe" empty x --universe 64000
+tells "a row that falls" 2 "error: 2-1: Universe" empty x --universe 2-1
+tells "a row without an end" 2 "error: 2-: Universe" empty x --universe 2-
+tells "a row beyond the last universe" 2 "error: 1-64000: Universe" empty x --universe 1-64000
 tells "a universe in words" 2 "error: one: Universe" empty x --universe one
 tells "a setup without a name" 2 "error: *" empty x --setup
 

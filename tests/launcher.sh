@@ -165,6 +165,7 @@ joins() { local wanted=$1; shift; bare "$@"; [ "$status" = 0 ] && [[ "$(grep '^j
 make_release
 join_words() {
   joins '[0-9]+ lo 239.255.250.214 239.255.0.7 239.255.1.0' watch --universe 7 --join lo --universe=256 && prints "released watch --universe 7 --universe=256" &&
+    joins '[0-9]+ lo 239.255.250.214 239.255.0.255 239.255.1.0 239.255.1.1' watch --universe 255-257 --join lo && prints "released watch --universe 255-257" &&
     joins '--lists 5568 [0-9]+ lo 239.255.250.214( 239.255.0.[0-9]+){128}' watch --join=lo && joins '--lists 5570 [0-9]+ lo 239.255.250.214( 239.255.0.[0-9]+){128}' watch --port 5570 --join lo --plain && prints "released watch --port 5570 --plain"
 }
 check "a watch joins the universes that are named, or the first and the lists" join_words

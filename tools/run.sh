@@ -141,8 +141,12 @@ join_groups() {
       if [[ $line =~ (239\.255\.[0-9]+\.[0-9]+) ]]; then groups+=("${BASH_REMATCH[1]}"); fi
     done < <("$program" groups "$(setup_among "$@")" --device lo 2>/dev/null || true)
   else
-    for universe in $(given --universe "$@"); do
-      if [[ $universe =~ ^[0-9]{1,5}$ ]]; then groups+=("239.255.$((10#$universe / 256)).$((10#$universe % 256))"); fi
+    # (the program refuses what is no universe or row of them)
+    for line in $(given --universe "$@"); do
+      [[ $line =~ ^([0-9]{1,5})(-([0-9]{1,5}))?$ ]] || continue
+      for ((universe = 10#${BASH_REMATCH[1]}; universe <= 10#${BASH_REMATCH[3]:-${BASH_REMATCH[1]}} && universe < 64000; universe++)); do
+        groups+=("239.255.$((universe / 256)).$((universe % 256))")
+      done
     done
     port=$(given --port "$@" | tail -n 1)
     if [ "${#groups[@]}" = 1 ]; then

@@ -1,6 +1,6 @@
 //! What the words of a command line ask for.
 use crate::reading::{Fault, Words, refusal};
-use crate::spelled::{destination, host, kind, page, port, sender, universe};
+use crate::spelled::{destination, host, kind, page, port, sender};
 use crate::tree::matches;
 use clap::{ArgMatches, Error};
 use sacn_check::FileKind;
@@ -192,7 +192,7 @@ fn desk<'a>(words: &mut Words<'_, 'a>) -> Asked<'a> {
 
 fn explain<'a>(words: &mut Words<'_, 'a>) -> Asked<'a> {
     let port = words.value("port", port);
-    let universes = words.values("universe", universe);
+    let universes = words.universes();
     words.beside("page", "json");
     words.beside("page", "setup");
     let page = words.value("page", page);
@@ -220,7 +220,7 @@ fn watch<'a>(words: &mut Words<'_, 'a>) -> Asked<'a> {
         listen,
         port,
         page: words.value("page", page),
-        universes: words.values("universe", universe),
+        universes: words.universes(),
         seconds,
         is_json: words.is_given("json"),
         is_plain: words.is_given("plain"),

@@ -1,5 +1,5 @@
 //! What clap matched, read: what a word spells, or else the first of the faults.
-use crate::spelled::{Cause, is_device, widget};
+use crate::spelled::{Cause, is_device, row, widget};
 use crate::table::commands;
 use crate::tree::error_of;
 use clap::parser::ValueSource;
@@ -187,6 +187,18 @@ impl<'m, 'a> Words<'m, 'a> {
             }
         }
         widgets
+    }
+
+    /// Universes, by themselves or in rows.
+    pub fn universes(&mut self) -> Vec<u16> {
+        let rows = self.values("universe", row);
+        let mut universes = Vec::new(self.alloc);
+        for &(first, last) in rows.as_slice() {
+            for universe in first..=last {
+                self.push(&mut universes, universe);
+            }
+        }
+        universes
     }
 
     /// A network device.

@@ -75,11 +75,23 @@ pub fn port(word: &str) -> Result<u16, Cause> {
     }
 }
 
-/// A universe that data may be of (E1.31, 6.2.7).
-pub fn universe(word: &str) -> Result<u16, Cause> {
+// A universe that data may be of (E1.31, 6.2.7).
+fn universe(word: &str) -> Result<u16, Cause> {
     match short_in(word) {
         Some(universe) if (MIN_UNIVERSE <= universe) & (universe <= MAX_UNIVERSE) => Ok(universe),
         _ => Err(Cause::Universe),
+    }
+}
+
+/// A universe, or the first and the last one of a row of them, as `1-512`.
+pub fn row(word: &str) -> Result<(u16, u16), Cause> {
+    let (first, last) = word.split_once('-').unwrap_or((word, word));
+    let first = universe(first)?;
+    let last = universe(last)?;
+    if first <= last {
+        Ok((first, last))
+    } else {
+        Err(Cause::Universe)
     }
 }
 

@@ -196,7 +196,7 @@ const EXPLAIN: Command<'static> = Command {
         },
         Argument {
             name: "universe",
-            help: "A universe whose lines and rows are told; else all",
+            help: "A universe whose lines and rows are told, or a row of them as 1-512; else all",
             value: Some("U"),
             is_repeated: true,
             ..OPTION
@@ -227,7 +227,7 @@ const WATCH: Command<'static> = Command {
         },
         Argument {
             name: "universe",
-            help: "A universe that is told, and the first one shown; else all",
+            help: "A universe that is told, and the first one shown, or a row of them as 1-512; else all",
             value: Some("U"),
             is_repeated: true,
             ..OPTION
