@@ -1,9 +1,7 @@
 //! The levels of all channels at one moment.
 ghost use Rattle.std.specs.Prelude.{◌≡◌, ◌≤◌, ◌<◌, ◌+◌, ◌-◌, ◌*◌, ◌/◌, ◌%◌, Some, length, set};
 ghost use Rattle.std.specs.Option.{ForSome};
-ghost use Rattle.sacn_cues.specs.declared.limits.TheConstants as limits;
 
-use crate::limits::FULL;
 use sacn_patch::MAX_CHANNELS;
 
 /// The places of the octets of all levels: two for each channel, and two before them.
@@ -25,13 +23,6 @@ pub(crate) struct LevelOctets {
     // that fade, and not all of them.
     pub(crate) moving: Vec<u16>,
     pub(crate) listed: Option<usize>,
-}
-
-/// A level after the master.
-pub(crate) fn mastered(level: u16, master: u16) -> u16
-    ensures { result ≡ level * master / limits.FULL }
-{
-    (level as u32 * master as u32 / FULL as u32) as u16
 }
 
 /// Writes the octets of a channel's level; channels count from 0 here.

@@ -7,7 +7,7 @@ use Rattle.sacn_cues.proofs.Movers.{more_channels, one_filled, one_settled, leve
 use Rattle.sacn_cues.proofs.fade.fill_all.Goals as goal
 
 pub loop-at-preserved : goal.loop-at-preserved
-loop-at-preserved c =
+loop-at-preserved g c =
     let inv = c.loop-at.invariant in
     let step = c.fill_one-kept.ensures in
     let list = c.loop-at.moving in

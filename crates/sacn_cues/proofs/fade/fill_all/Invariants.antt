@@ -7,7 +7,7 @@ use Rattle.sacn_cues.specs.LevelOctets.{HasLevel, AreChannels, IsAbsent, IsSettl
 use Rattle.sacn_cues.proofs.fade.fill_all.Given as goal
 
 abbrev pub invariant-loop-at : goal.invariant-loop-at
-invariant-loop-at l = record {
+invariant-loop-at g l = record {
   long : length l.octets ≡ OCTETS;
   before : (k : ℕ) → k < 2 → get_or l.octets k 0 ≡ get_or l.initial.octets k 0;
   room : length l.moving ≡ MAX_CHANNELS;

@@ -7,7 +7,7 @@ use Rattle.sacn_cues.proofs.Movers.{more_channels, one_filled, one_settled, chan
 use Rattle.sacn_cues.proofs.fade.fill_listed.Goals as goal
 
 pub loop-place-preserved : goal.loop-place-preserved
-loop-place-preserved c =
+loop-place-preserved g c =
     let inv = c.loop-place.invariant in
     let step = c.fill_one-kept.ensures in
     let list = c.loop-place.moving in
