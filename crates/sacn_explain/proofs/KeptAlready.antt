@@ -1,37 +1,34 @@
 -- A list that is kept already changes nothing, so it may be left out.
 use Rattle.std.proofs.Common.{◌≡◌, ◌==◌, ℕ, Bool, true, false, cond, List, Option, None, Some, slice_get, slice_set, refl, sym, ap, ◌∙◌}
 use Rattle.std.specs.Bool.{one_answer}
-use Rattle.std.specs.List.{before_first}
 use Rattle.std.specs.Option.{option_and_then}
 use Rattle.std.specs.Str.{bytes_eq}
 use Rattle.std.proofs.lemmas.List.{set-get_or}
 use Rattle.std.proofs.lemmas.Option.{get_or_from_slice_get}
 use Rattle.std.proofs.lemmas.Slice.Eq.{bytes_eq-Decides}
-use Rattle.sacn_framing.specs.Page.{Page as PageFields}
-use Rattle.sacn_discovery.specs.Collection.{State, after_expire, after_take, known_list}
-use Rattle.sacn_explain.specs.KeptLists.{collected}
+use Rattle.sacn_discovery.specs.Collection.{State, known_list}
 use Rattle.sacn_explain.specs.Lines.{KeptList}
 use Rattle.sacn_explain.specs.Lists.{beside}
-use Rattle.sacn_explain.specs.ListBooks.{ListBook, after_heard, after_list, kept_at, is_list, list_at, place_of, put_list, with_list, with_lists, with_pages}
+use Rattle.sacn_explain.specs.ListBooks.{ListBook, after_list, kept_at, is_list, list_at, place_of, put_list, with_list, with_lists, with_pages}
 
-either_way : (a b : List ℕ) → bytes_eq a b ≡ bytes_eq b a
+pub either_way : (a b : List ℕ) → bytes_eq a b ≡ bytes_eq b a
 either_way a b = one_answer (bytes_eq a b) (bytes_eq b a) (bytes_eq-Decides a b) ((λ is. sym ((bytes_eq-Decides b a).0 is)), (λ same. (bytes_eq-Decides b a).1 (sym same)))
 
-abbrev kept_of : Option KeptList → Option (List ℕ)
+abbrev pub kept_of : Option KeptList → Option (List ℕ)
 kept_of q = option_and_then (λ l. l.universes) q
 
-nothing_beside : (kept : Option (List ℕ)) → beside kept None ≡ None
+pub nothing_beside : (kept : Option (List ℕ)) → beside kept None ≡ None
 nothing_beside None = refl
 nothing_beside (Some k) = refl
 
 put_back : {X : Type 0} (xs : List X) (i : ℕ) (x : X) → slice_get xs i ≡ Some x → slice_set xs i x ≡ xs
 put_back xs i x is = ap (λ y. slice_set xs i y) (sym (get_or_from_slice_get xs i x x is)) ∙ set-get_or xs i x
 
-abbrev changed : List ℕ → Option ℕ → ListBook → Option (List ℕ) → ListBook
+abbrev pub changed : List ℕ → Option ℕ → ListBook → Option (List ℕ) → ListBook
 changed name place b None = b
 changed name place b (Some universes) = kept_at name universes place b
 
-changed_is : (cid name : List ℕ) (list : Option (List ℕ)) (b : ListBook) → after_list cid name list b ≡ changed name (place_of cid b) b list
+pub changed_is : (cid name : List ℕ) (list : Option (List ℕ)) (b : ListBook) → after_list cid name list b ≡ changed name (place_of cid b) b list
 changed_is cid name None b = refl
 changed_is cid name (Some universes) b = refl
 
@@ -65,11 +62,8 @@ same_book cid name list b = changed_is cid name (beside (kept_of (list_at cid b)
 left_out : (cid name : List ℕ) (list : Option (List ℕ)) (b : ListBook) (left : Option (List ℕ)) → left ≡ beside (kept_of (list_at cid b)) list → left ≡ None → b ≡ after_list cid name list b
 left_out cid name list b left is none = ap (λ (o : Option (List ℕ)). after_list cid name o b) (sym none ∙ is) ∙ same_book cid name list b
 
--- a page of a source whose list is kept already, or isn't whole
-pub page_left_out : (now : ℕ) (p : PageFields) (b new : ListBook) (pages : State) (cid : List ℕ) (left : Option (List ℕ)) → pages ≡ after_take now p b.pages → cid ≡ p.cid → new ≡ with_pages (after_expire now pages) b → left ≡ beside (kept_of (list_at cid b)) (known_list (after_expire now pages) cid) → left ≡ None → new ≡ after_heard now p b
-page_left_out now p b new pages cid left taken same book is none =
-    let name : List ℕ = before_first (λ octet. octet == 0) p.name in
-    book
-    ∙ left_out cid name (known_list (after_expire now pages) cid) (with_pages (after_expire now pages) b) left is none
-    ∙ ap (λ (s : State). after_list cid name (known_list (after_expire now s) cid) (with_pages (after_expire now s) b)) taken
-    ∙ ap (λ (c : List ℕ). after_list c name (known_list (collected now p b.pages) c) (with_pages (collected now p b.pages) b)) same
+-- the list of a source that is kept already, or isn't whole
+pub list_left_out : (name : List ℕ) (b new : ListBook) (pages : State) (cid same : List ℕ) (left : Option (List ℕ)) → cid ≡ same → new ≡ with_pages pages b → left ≡ beside (kept_of (list_at cid b)) (known_list pages cid) → left ≡ None
+    → new ≡ after_list same name (known_list pages same) (with_pages pages b)
+list_left_out name b new pages cid same left is book there none =
+    book ∙ left_out cid name (known_list pages cid) (with_pages pages b) left there none ∙ ap (λ (c : List ℕ). after_list c name (known_list pages c) (with_pages pages b)) is

@@ -23,3 +23,5 @@ mod Turning
 mod Waking
 mod Among
 mod KeptAlready
+mod FirstPlaces
+mod Told

@@ -26,3 +26,4 @@ pub mod Occurrences
 pub mod Silences
 pub mod ListBooks
 pub mod Datagrams
+pub mod ToldLists

@@ -1,16 +1,14 @@
 //! The universes that sources list (E1.31, 8).
 
-ghost use Rattle.std.specs.Prelude.{◌≡◌, ◌==◌, ◌<◌, ◌++◌, ◌∷◌, ℕ, [], IfErr, IfOk, OnOk, Some, filter, length, map, not, slice_get, if◌then◌else◌};
+ghost use Rattle.std.specs.Prelude.{◌≡◌, ◌==◌, ◌<◌, ◌++◌, ◌∷◌, ℕ, [], IfErr, IfOk, None, OnOk, Some, false, filter, length, map, not, slice_get, true, if◌then◌else◌};
 ghost use Rattle.std.specs.Str.{bytes_eq};
-ghost use Rattle.std.specs.List.{list_any, position};
+ghost use Rattle.std.specs.List.{before_first, list_any, position};
 ghost use Rattle.std.specs.List.Sorted.{IsNonDecreasing};
-ghost use Rattle.std.specs.Option.{option_and_then, option_map};
+ghost use Rattle.std.specs.Option.{is_some, option_and_then, option_map};
 ghost use Rattle.sacn_discovery.specs.Collection.{after_expire, known_list};
 ghost use Rattle.sacn_explain.specs.Lists.{beside, is_heard, silent, is_unlisted, unlisted};
 ghost use Rattle.sacn_explain.specs.Lines.{kept_list};
-ghost use Rattle.sacn_explain.specs.ListBooks.{after_heard, after_list, heard_news, list_at, list_book, list_news, news_in, news_of, page_news, put_list, with_list, with_pages, with_source};
-ghost use Rattle.sacn_explain.specs.ListBooks as books;
-ghost use Rattle.sacn_explain.specs.KeptLists.{after_page, collected, is_read, listed_in, listing_of, none_listed};
+ghost use Rattle.sacn_explain.specs.ToldLists.{AreTold};
 
 use sacn_discovery::{Collector, DiscoveryFault};
 use sacn_framing::PageView;
@@ -52,9 +50,17 @@ pub struct Listings {
     /// Their lists, in the same order.
     known: Vec<Listing>,
     passed: u64,
+    /// Memory was refused behind a page, so that a list that is kept may be another one than the pages give. Else they agree.
+    behind: bool,
+    ghost paired: { length known.items ≡ length sources.items },
+    ghost told: { behind ≡ false → AreTold sources.items (map kept_list known.items) collector },
 }
 
 impl Listings {
+    ghost use Rattle.sacn_explain.specs.ListBooks.{after_heard, after_list, heard_news, list_at, list_book, news_in, page_news, with_pages, with_source};
+    ghost use Rattle.sacn_explain.specs.ListBooks as books;
+    ghost use Rattle.sacn_explain.specs.KeptLists.{after_page, collected, is_read, listed_in, listing_of, none_listed};
+
     /// No list yet.
     pub fn new(alloc: Global) -> Self
         ensures { listed_in result ≡ none_listed }
@@ -65,6 +71,7 @@ impl Listings {
             sources: Vec::new(alloc),
             known: Vec::new(alloc),
             passed: 0,
+            behind: false,
         }
     }
 
@@ -114,34 +121,32 @@ impl Listings {
             then collected now page.now self.old.collector else self.old.collector)) }
     {
         let cid = page.cid();
-        if self.is_known(&cid) {
-            return self.collect(now, page);
+        if let Some(place) = self.place_of(&cid) {
+            return self.collect(place, now, page);
         }
         if self.sources.len() >= MAX_LISTINGS {
             self.passed = self.passed.saturating_add(1);
             return Ok(PageNews::Nothing);
         }
-        self.admit(cid)?;
-        self.collect(now, page)
+        let place = self.admit(cid)?;
+        self.collect(place, now, page)
     }
 
-    // Whether a page of this source came.
-    fn is_known(&self, cid: &[u8; 16]) -> bool
-        ensures { result
+    // The place of a source.
+    fn place_of(&self, cid: &[u8; 16]) -> Option<usize>
+        ensures place { result
+            ≡ position (λ source. bytes_eq source cid.now) self.now.sources.items }
+        ensures known { is_some result
             ≡ list_any (λ source. bytes_eq source cid.now) (listed_in self.now).sources }
     {
-        self.sources.iter().any(|source| *source == *cid)
+        place_in(&self.sources, cid)
     }
 
-    // Its place.
-    fn place_of(&self, cid: &[u8; 16]) -> Option<usize>
-        ensures { result ≡ position (λ source. bytes_eq source cid.now) self.now.sources.items }
-    {
-        self.sources.iter().position(|source| *source == *cid)
-    }
-
-    // A source of which no page came before. Where memory is refused nothing is kept of it.
-    fn admit(&mut self, cid: [u8; 16]) -> Result<(), DiscoveryFault>
+    // The place of a source of which no page came before. Where memory is refused nothing is kept of it.
+    fn admit(&mut self, cid: [u8; 16]) -> Result<usize, DiscoveryFault>
+        requires new { None ≡ position (λ source. bytes_eq source cid) self.old.sources.items }
+        ensures place { IfOk result (λ place. Some place
+            ≡ position (λ source. bytes_eq source cid) self.new.sources.items) }
         ensures sources { OnOk result
             ((listed_in self.new).sources ≡ (listed_in self.old).sources ++ cid ∷ []) }
         ensures passed { self.new.passed ≡ self.old.passed }
@@ -156,13 +161,22 @@ impl Listings {
             name: Vec::new(self.alloc),
             universes: None,
         };
+        let place = self.sources.len();
         self.known.push_reserved(listing);
         self.sources.push_reserved(cid);
-        Ok(())
+        Ok(place)
     }
 
-    // A page of a source that is known.
-    fn collect(&mut self, now: u64, page: &PageView<'_>) -> Result<PageNews, DiscoveryFault>
+    // A page of the source at a place. One that is kept already costs no look at its source's list, unless that may be another
+    // one than the pages give.
+    fn collect(
+        &mut self,
+        place: usize,
+        now: u64,
+        page: &PageView<'_>,
+    ) -> Result<PageNews, DiscoveryFault>
+        requires place { Some place
+            ≡ position (λ source. bytes_eq source page.now.cid) self.old.sources.items }
         ensures news { IfOk result (λ news. news ≡ heard_news now page.now (list_book self.old)) }
         ensures book { OnOk result
             (list_book self.new ≡ after_heard now page.now (list_book self.old)) }
@@ -170,17 +184,55 @@ impl Listings {
         ensures collector { OnOk result
             (self.new.collector ≡ collected now page.now self.old.collector) }
     {
-        self.collector.take(now, page)?;
+        let was_behind = self.behind;
+        self.behind = true;
+        let may_differ = self.collector.take_and_tell(now, page)?;
+        if !(may_differ | was_behind) {
+            self.collector.expire(now);
+            self.behind = false;
+            return Ok(PageNews::Nothing);
+        }
+        let news = self.compare(place, now, page)?;
+        self.behind = was_behind;
+        Ok(news)
+    }
+
+    // A page of the source at a place that the collector has.
+    fn compare(
+        &mut self,
+        place: usize,
+        now: u64,
+        page: &PageView<'_>,
+    ) -> Result<PageNews, DiscoveryFault>
+        requires behind { self.old.behind ≡ true }
+        requires place { Some place
+            ≡ position (λ source. bytes_eq source page.now.cid) self.old.sources.items }
+        ensures news { IfOk result (λ news. news ≡ news_in page.now.cid (known_list (after_expire now
+            self.old.collector) page.now.cid) (list_book self.old)) }
+        ensures book { OnOk result (list_book self.new ≡ after_list page.now.cid (before_first (λ octet.
+            octet == 0) page.now.name) (known_list (after_expire now self.old.collector) page.now.cid)
+            (with_pages (after_expire now self.old.collector) (list_book self.old))) }
+        ensures listed { listed_in self.new ≡ listed_in self.old }
+        ensures collector { OnOk result (self.new.collector ≡ after_expire now self.old.collector) }
+    {
         let cid = page.cid();
-        match self.new_list(now, &cid)? {
-            Some(universes) => self.keep(&cid, page.name(), universes),
+        match self.new_list(place, now, &cid)? {
+            Some(universes) => self.keep(place, &cid, page.name(), universes),
             None => Ok(PageNews::Nothing),
         }
     }
 
-    // The whole list of a source, where it is another one than the one that is kept, which would tell nothing: then
+    // The whole list of the source at a place, where it is another one than the one that is kept, which would tell nothing: then
     // none is made.
-    fn new_list(&mut self, now: u64, cid: &[u8; 16]) -> Result<Option<Vec<u16>>, DiscoveryFault>
+    fn new_list(
+        &mut self,
+        place: usize,
+        now: u64,
+        cid: &[u8; 16],
+    ) -> Result<Option<Vec<u16>>, DiscoveryFault>
+        requires behind { self.old.behind ≡ true }
+        requires place { Some place
+            ≡ position (λ source. bytes_eq source cid.now) self.old.sources.items }
         ensures list { IfOk result (λ list. option_map (λ v. v.items) list
             ≡ beside (option_and_then (λ l. l.universes) (list_at cid.now (list_book self.old)))
             (known_list (after_expire now self.old.collector) cid.now)) }
@@ -188,19 +240,23 @@ impl Listings {
             ≡ with_pages (after_expire now self.old.collector) (list_book self.old) }
         ensures listed { listed_in self.new ≡ listed_in self.old }
         ensures collector { self.new.collector ≡ after_expire now self.old.collector }
+        ensures behind { self.new.behind ≡ true }
     {
-        let place = self.place_of(cid);
         let kept = listing_at(&self.known, place);
         list_beside(&mut self.collector, kept, now, cid)
     }
 
-    // A whole list of a source that is known.
+    // A whole list of the source at a place.
     fn keep(
         &mut self,
+        place: usize,
         cid: &[u8; 16],
         name: &[u8],
         universes: Vec<u16>,
     ) -> Result<PageNews, DiscoveryFault>
+        requires behind { self.old.behind ≡ true }
+        requires place { Some place
+            ≡ position (λ source. bytes_eq source cid.now) self.old.sources.items }
         ensures news { IfOk result
             (λ news. news ≡ news_in cid.now (Some universes.items) (list_book self.old)) }
         ensures book { OnOk result (list_book self.new
@@ -208,22 +264,22 @@ impl Listings {
         ensures listed { listed_in self.new ≡ listed_in self.old }
         ensures collector { self.new.collector ≡ self.old.collector }
     {
-        match self.place_of(cid) {
-            Some(place) => keep_at(self.alloc, &mut self.known, place, name, universes),
-            None => Ok(PageNews::Nothing),
-        }
+        Listing::keep_at(self.alloc, &mut self.known, place, name, universes)
     }
 }
 
-// What is kept at a place.
-fn listing_at(known: &[Listing], place: Option<usize>) -> Option<&Listing>
-    ensures { option_map (λ l. kept_list l.now) result
-        ≡ option_and_then (λ i. slice_get (map kept_list known.now) i) place }
+// The place of a source among some.
+fn place_in(sources: &[[u8; 16]], cid: &[u8; 16]) -> Option<usize>
+    ensures { result ≡ position (λ source. bytes_eq source cid.now) sources.now }
 {
-    match place {
-        Some(place) => known.get(place),
-        None => None,
-    }
+    sources.iter().position(|source| *source == *cid)
+}
+
+// What is kept at a place.
+fn listing_at(known: &[Listing], place: usize) -> Option<&Listing>
+    ensures { option_map (λ l. kept_list l.now) result ≡ slice_get (map kept_list known.now) place }
+{
+    known.get(place)
 }
 
 // The whole list of a source, where it is another one than that of this listing.
@@ -244,26 +300,28 @@ fn list_beside(
     }
 }
 
-// A whole list of the source at a place.
-fn keep_at(
-    alloc: Global,
-    known: &mut [Listing],
-    place: usize,
-    name: &[u8],
-    universes: Vec<u16>,
-) -> Result<PageNews, DiscoveryFault>
-    ensures news { IfOk result
-        (λ news. news ≡ news_of universes.items (slice_get (map kept_list known.old) place)) }
-    ensures lists { OnOk result (map kept_list known.new ≡ put_list name.now universes.items place
-        (map kept_list known.old) (slice_get (map kept_list known.old) place)) }
-{
-    if place >= known.len() {
-        return Ok(PageNews::Nothing);
-    }
-    known[place].keep(alloc, name, universes)
-}
-
 impl Listing {
+    ghost use Rattle.sacn_explain.specs.ListBooks.{list_news, news_of, put_list, with_list};
+
+    // A whole list of the source at a place.
+    fn keep_at(
+        alloc: Global,
+        known: &mut [Listing],
+        place: usize,
+        name: &[u8],
+        universes: Vec<u16>,
+    ) -> Result<PageNews, DiscoveryFault>
+        ensures news { IfOk result
+            (λ news. news ≡ news_of universes.items (slice_get (map kept_list known.old) place)) }
+        ensures lists { OnOk result (map kept_list known.new ≡ put_list name.now universes.items place
+            (map kept_list known.old) (slice_get (map kept_list known.old) place)) }
+    {
+        if place >= known.len() {
+            return Ok(PageNews::Nothing);
+        }
+        known[place].keep(alloc, name, universes)
+    }
+
     // The whole list of a source, where it is another one than this.
     fn other_list(
         &self,

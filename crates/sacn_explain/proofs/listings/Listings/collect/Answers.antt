@@ -1,8 +1,22 @@
-use Rattle.std.proofs.Common.{Option, Vec, Global, ℕ, ap}
-use Rattle.std.specs.Option.{option_map}
+use Rattle.std.proofs.Common.{◌∙◌, refl, sym, subst}
+use Rattle.std.proofs.lemmas.List.{length-map}
+use Rattle.sacn_explain.specs.Lines.{kept_list}
 use Rattle.sacn_explain.specs.ListBooks.{list_book}
-use Rattle.sacn_explain.proofs.KeptAlready.{page_left_out}
+use Rattle.sacn_explain.proofs.Told.{IsTold, again_book, again_told, heard_since, heard_told, neither}
 use Rattle.sacn_explain.proofs.listings.Listings.collect.Goals as goal
 
-pub returns-in-None-clause-book : goal.returns-in-None-clause-book
-returns-in-None-clause-book c = page_left_out c.args.now c.args.page.now (list_book c.args.self.now) (list_book c.new_list.new.self) c.take.new.self c.cid-cid.result _ c.in_ok-take.ensures.ok c.cid-cid.ensures c.new_list.ensures.book c.in_ok-universes.ensures.list (ap (λ (o : Option (Vec ℕ Global)). option_map (λ v. v.items) o) c.in-None.is)
+pub returns-then-not-may_differ-was_behind-clause-book : goal.returns-then-not-may_differ-was_behind-clause-book
+returns-then-not-may_differ-was_behind-clause-book c =
+    let calm = neither c.in_ok-may_differ.may_differ c.args.self.now.behind c.if-not-may_differ-was_behind.true in
+    again_book c.args.now c.args.page.now (list_book c.args.self.now) _ c.take_and_tell.new.self c.expire.new.self c.in_ok-may_differ.ensures.ok c.expire.ensures.state (c.in_ok-may_differ.ensures.same calm.0) refl (c.args.self.now.told calm.1)
+
+pub invariant_of-self-then-not-may_differ-was_behind-clause-told : goal.invariant_of-self-then-not-may_differ-was_behind-clause-told
+invariant_of-self-then-not-may_differ-was_behind-clause-told c = λ _.
+    let calm = neither c.in_ok-may_differ.may_differ c.args.self.now.behind c.if-not-may_differ-was_behind.true in
+    again_told c.args.now c.args.page.now (list_book c.args.self.now) _ c.take_and_tell.new.self c.expire.new.self c.in_ok-may_differ.ensures.ok c.expire.ensures.state (c.in_ok-may_differ.ensures.same calm.0) refl (c.args.self.now.told calm.1)
+    c.args.place (length-map c.args.self.now.known.items kept_list ∙ c.args.self.now.paired) c.requires.place
+
+pub invariant_of-self-2-clause-told : goal.invariant_of-self-2-clause-told
+invariant_of-self-2-clause-told c = λ calm.
+    subst IsTold (sym (heard_since c.args.now c.args.page.now (list_book c.args.self.now) (list_book c.compare.new.self) c.take_and_tell.new.self c.in_ok-may_differ.ensures.ok c.in_ok-news.ensures.book))
+    (heard_told c.args.now c.args.page.now (list_book c.args.self.now) c.args.place (length-map c.args.self.now.known.items kept_list ∙ c.args.self.now.paired) c.requires.place (c.args.self.now.told calm))

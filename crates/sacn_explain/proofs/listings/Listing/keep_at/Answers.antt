@@ -1,5 +1,5 @@
 use Rattle.sacn_explain.proofs.ListBooks.{list_put}
-use Rattle.sacn_explain.proofs.listings.keep_at.Goals as goal
+use Rattle.sacn_explain.proofs.listings.Listing.keep_at.Goals as goal
 
 pub returns-clause-lists : goal.returns-clause-lists
 returns-clause-lists c =
