@@ -3,9 +3,10 @@ use sacn_commands::ending::Ending;
 use std::io::{ErrorKind, Result, Write};
 
 /// An output, and whether its reader has gone.
+#[derive(Drop)]
 pub struct Piped<O> {
     out: O,
-    has_gone: bool,
+    reader_has_gone: bool,
 }
 
 impl<O: Write> Piped<O> {
@@ -13,19 +14,19 @@ impl<O: Write> Piped<O> {
     pub fn new(out: O) -> Self {
         Piped {
             out,
-            has_gone: false,
+            reader_has_gone: false,
         }
     }
 
     /// Whether a write met a pipe that nobody reads.
-    pub fn has_gone(&self) -> bool {
-        self.has_gone
+    pub fn reader_has_gone(&self) -> bool {
+        self.reader_has_gone
     }
 
     /// How a run ends: what nobody reads any more is no failure.
     pub fn ending(&self, told: std::result::Result<(), Ending>) -> std::result::Result<(), Ending> {
         match told {
-            Err(Ending::DeviceWrite) if self.has_gone => Ok(()),
+            Err(Ending::DeviceWrite) if self.reader_has_gone => Ok(()),
             told => told,
         }
     }
@@ -33,7 +34,7 @@ impl<O: Write> Piped<O> {
     // Notes what came of a write.
     fn note<T>(&mut self, written: &Result<T>) {
         if let Err(error) = written {
-            self.has_gone |= error.kind() == ErrorKind::BrokenPipe;
+            self.reader_has_gone |= error.kind() == ErrorKind::BrokenPipe;
         }
     }
 }

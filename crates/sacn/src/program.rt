@@ -65,25 +65,16 @@ fn run_beside<R: AllocGlobal + Files + Env + Net + Clock, O: Write, E: Write>(
         Asked::Desk(asked) => live::desk(rt, asked),
         Asked::Groups { file, device } => live::groups(rt, file, device, out, err),
         Asked::Manual(form) => manual::print(rt.alloc(), *form, out),
-        asked => {
+        Asked::Watch(asked) => watch::watch(rt, asked, out, err),
+        Asked::Explain(asked) => {
             let mut out = Piped::new(out);
-            let told = tell(rt, asked, &mut out, err);
+            let told = explain::tell(rt, asked, &mut out, err);
             out.ending(told)
         }
-    }
-}
-
-// The same of what people read, some of it to `head` and the like.
-fn tell<R: AllocGlobal + Files + Env + Net + Clock, O: Write, E: Write>(
-    rt: &R,
-    asked: &Asked<'_>,
-    out: &mut O,
-    err: &mut E,
-) -> Result<(), Ending> {
-    match asked {
-        Asked::Explain(asked) => explain::tell(rt, asked, out, err),
-        Asked::Watch(asked) => watch::watch(rt, asked, out, err),
-        Asked::Check(asked) => check::check(rt, asked, out, err),
-        _ => Ok(()),
+        Asked::Check(asked) => {
+            let mut out = Piped::new(out);
+            let told = check::check(rt, asked, &mut out, err);
+            out.ending(told)
+        }
     }
 }

@@ -65,7 +65,9 @@ fn tell<R: AllocGlobal + Net + Clock>(
     let outputs = Outputs::new(rt.alloc(), lines)?;
     let mut out = Piped::new(outputs.out());
     let run = tell_on(rt, address, asked, until, &outputs, &mut out);
-    if out.has_gone() {
+    // (nobody is told how many lines wait for a reader that has gone)
+    if out.reader_has_gone() {
+        let _ = outputs.err().flush();
         return out.ending(run);
     }
     outputs.finish(&mut clock);

@@ -24,4 +24,4 @@ mod Waking
 mod Among
 mod KeptAlready
 mod FirstPlaces
-mod Told
+mod PagesAgree

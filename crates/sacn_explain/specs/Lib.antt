@@ -26,4 +26,4 @@ pub mod Occurrences
 pub mod Silences
 pub mod ListBooks
 pub mod Datagrams
-pub mod ToldLists
+pub mod ListsOfPages

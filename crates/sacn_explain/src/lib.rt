@@ -12,6 +12,7 @@ mod frames;
 mod json;
 pub mod laws;
 mod lines;
+mod listed;
 mod listings;
 mod numbers;
 mod options;

@@ -1,19 +1,17 @@
 //! The universes that sources list (E1.31, 8).
 
-ghost use Rattle.std.specs.Prelude.{◌≡◌, ◌==◌, ◌<◌, ◌++◌, ◌∷◌, ℕ, [], IfErr, IfOk, None, OnOk, Some, false, filter, length, map, not, slice_get, true, if◌then◌else◌};
+ghost use Rattle.std.specs.Prelude.{◌≡◌, ◌==◌, ◌<◌, ◌++◌, ◌∷◌, [], IfErr, IfOk, None, OnOk, Some, false, length, map, slice_get, true, if◌then◌else◌};
 ghost use Rattle.std.specs.Str.{bytes_eq};
 ghost use Rattle.std.specs.List.{before_first, list_any, position};
-ghost use Rattle.std.specs.List.Sorted.{IsNonDecreasing};
 ghost use Rattle.std.specs.Option.{is_some, option_and_then, option_map};
 ghost use Rattle.sacn_discovery.specs.Collection.{after_expire, known_list};
-ghost use Rattle.sacn_explain.specs.Lists.{beside, is_heard, silent, is_unlisted, unlisted};
+ghost use Rattle.sacn_explain.specs.Lists.{beside};
 ghost use Rattle.sacn_explain.specs.Lines.{kept_list};
-ghost use Rattle.sacn_explain.specs.ToldLists.{AreTold};
+ghost use Rattle.sacn_explain.specs.ListsOfPages.{AgreeWithPages};
 
 use sacn_discovery::{Collector, DiscoveryFault};
 use sacn_framing::PageView;
-use sacn_monitor::Stream;
-use std::alloc::{AllocError, Global};
+use std::alloc::Global;
 
 /// The most sources whose lists are kept. Pages of further sources are counted alone.
 pub const MAX_LISTINGS: usize = 256;
@@ -50,10 +48,11 @@ pub struct Listings {
     /// Their lists, in the same order.
     known: Vec<Listing>,
     passed: u64,
-    /// Memory was refused behind a page, so that a list that is kept may be another one than the pages give. Else they agree.
+    /// Memory was refused at a page, in the collector or behind it: so a list that is kept may be another one than the pages give.
+    /// Else they agree.
     behind: bool,
     ghost paired: { length known.items ≡ length sources.items },
-    ghost told: { behind ≡ false → AreTold sources.items (map kept_list known.items) collector },
+    ghost agrees: { behind ≡ false → AgreeWithPages sources.items (map kept_list known.items) collector },
 }
 
 impl Listings {
@@ -362,96 +361,4 @@ impl Listing {
         self.universes = Some(universes);
         Ok(news)
     }
-}
-
-// The universes of a source's streams, in the order in which they appeared. Room is taken once, for those of all streams.
-fn universes_of(alloc: Global, streams: &[Stream], cid: &[u8; 16]) -> Result<Vec<u16>, AllocError>
-    ensures { IfOk result (λ found. found.items
-        ≡ map (λ s. s.universe) (filter (λ s. bytes_eq s.cid cid.now) streams.now)) }
-{
-    let mut found = Vec::with_capacity(alloc, streams.len())?;
-    for i in 0..streams.len() {
-        if streams[i].cid == *cid {
-            found.push(streams[i].universe)?;
-        }
-    }
-    Ok(found)
-}
-
-// The universes on which a source was heard, ascending, so that each is found in a few steps.
-fn heard_universes(
-    alloc: Global,
-    streams: &[Stream],
-    cid: &[u8; 16],
-) -> Result<Vec<u16>, AllocError>
-    ensures ascend { IfOk result (λ heard. IsNonDecreasing heard.items) }
-    ensures members { IfOk result (λ heard. (universe : ℕ)
-        → list_any (λ n. n == universe) heard.items ≡ is_heard streams.now cid.now universe) }
-{
-    let mut heard = universes_of(alloc, streams, cid)?;
-    heard.sort_unstable();
-    Ok(heard)
-}
-
-// Whether a number is among some that ascend.
-fn is_among(numbers: &[u16], number: u16) -> bool
-    requires { IsNonDecreasing numbers.now }
-    ensures { result ≡ list_any (λ n. n == number) numbers.now }
-{
-    numbers.binary_search(&number).is_ok()
-}
-
-// Those of some numbers that aren't among others, which ascend.
-fn others(alloc: Global, numbers: &[u16], heard: &[u16]) -> Result<Vec<u16>, AllocError>
-    requires { IsNonDecreasing heard.now }
-    ensures { IfOk result (λ left. left.items
-        ≡ filter (λ number. not (list_any (λ n. n == number) heard.now)) numbers.now) }
-{
-    let mut left = Vec::new(alloc);
-    for i in 0..numbers.len() {
-        if !is_among(heard, numbers[i]) {
-            left.push(numbers[i])?;
-        }
-    }
-    Ok(left)
-}
-
-/// The universes that a source lists, and on which it wasn't heard. The streams are looked at once, however many
-/// universes are listed.
-pub fn silent_universes(
-    alloc: Global,
-    streams: &[Stream],
-    cid: &[u8; 16],
-    listed: &[u16],
-) -> Result<Vec<u16>, AllocError>
-    ensures { IfOk result (λ found. found.items ≡ silent streams.now cid.now listed.now) }
-{
-    let heard = heard_universes(alloc, streams, cid)?;
-    others(alloc, listed, heard.as_slice())
-}
-
-// Whether it is a stream of a source, on a universe that the source doesn't list.
-fn is_unlisted(stream: &Stream, cid: &[u8; 16], listed: &[u16]) -> bool
-    ensures { result ≡ is_unlisted cid.now listed.now stream.now }
-{
-    if stream.cid != *cid {
-        return false;
-    }
-    !listed.contains(&stream.universe)
-}
-
-/// The universes on which a source was heard, and that it doesn't list, in the order in which it appeared there.
-pub fn unlisted_universes(
-    alloc: Global,
-    streams: &[Stream],
-    cid: &[u8; 16],
-    listed: &[u16],
-) -> Result<Vec<u16>, AllocError>
-    ensures { IfOk result (λ found. found.items ≡ unlisted streams.now cid.now listed.now) }
-{
-    streams
-        .iter()
-        .filter(|stream| is_unlisted(stream, cid, listed))
-        .map(|stream| stream.universe)
-        .collect(alloc)
 }

@@ -9,7 +9,8 @@ ghost use Rattle.sacn_explain.specs.Tables.{faults_told, has_refusals, head_told
 
 use crate::count::UniverseCounts;
 use crate::fault::TellFault;
-use crate::listings::{Listing, Listings, silent_universes, unlisted_universes};
+use crate::listed::{silent_universes, unlisted_universes};
+use crate::listings::{Listing, Listings};
 use crate::options::{Form, Options};
 use crate::report::Report;
 use crate::rows::{Lists, list_row, refused_row, universe_row};

@@ -1,5 +1,5 @@
 //! What clap matched, read: what a word spells, or else the first of the faults.
-use crate::spelled::{Cause, is_device, row, widget};
+use crate::spelled::{Cause, is_device, universes, widget};
 use crate::table::commands;
 use crate::tree::error_of;
 use clap::parser::ValueSource;
@@ -189,16 +189,16 @@ impl<'m, 'a> Words<'m, 'a> {
         widgets
     }
 
-    /// Universes, by themselves or in rows.
+    /// Universes, by themselves or from one to another.
     pub fn universes(&mut self) -> Vec<u16> {
-        let rows = self.values("universe", row);
-        let mut universes = Vec::new(self.alloc);
-        for &(first, last) in rows.as_slice() {
+        let named = self.values("universe", universes);
+        let mut all = Vec::new(self.alloc);
+        for &(first, last) in named.as_slice() {
             for universe in first..=last {
-                self.push(&mut universes, universe);
+                self.push(&mut all, universe);
             }
         }
-        universes
+        all
     }
 
     /// A network device.

@@ -83,8 +83,8 @@ fn universe(word: &str) -> Result<u16, Cause> {
     }
 }
 
-/// A universe, or the first and the last one of a row of them, as `1-512`.
-pub fn row(word: &str) -> Result<(u16, u16), Cause> {
+/// A universe, or the first and the last of several, as `1-512`.
+pub fn universes(word: &str) -> Result<(u16, u16), Cause> {
     let (first, last) = word.split_once('-').unwrap_or((word, word));
     let first = universe(first)?;
     let last = universe(last)?;

@@ -196,7 +196,7 @@ const EXPLAIN: Command<'static> = Command {
         },
         Argument {
             name: "universe",
-            help: "A universe whose lines and rows are told, or a row of them as 1-512; else all",
+            help: "A universe, or several as 1-512, whose lines and rows are told; else all",
             value: Some("U"),
             is_repeated: true,
             ..OPTION
@@ -227,7 +227,7 @@ const WATCH: Command<'static> = Command {
         },
         Argument {
             name: "universe",
-            help: "A universe that is told, and the first one shown, or a row of them as 1-512; else all",
+            help: "A universe, or several as 1-512, that is told; the first is shown first; else all",
             value: Some("U"),
             is_repeated: true,
             ..OPTION

@@ -12,5 +12,5 @@ abbrev pub kept_universes : List ℕ → List (List ℕ) → List KeptList → O
 kept_universes cid sources lists = option_and_then (λ l. l.universes) (option_and_then (λ place. slice_get lists place) (position (λ source. bytes_eq source cid) sources))
 
 -- of each source the pages give the list that is kept, or none
-abbrev pub AreTold : List (List ℕ) → List KeptList → State → Type 0
-AreTold sources lists pages = (cid : List ℕ) → beside (kept_universes cid sources lists) (known_list pages cid) ≡ None
+abbrev pub AgreeWithPages : List (List ℕ) → List KeptList → State → Type 0
+AgreeWithPages sources lists pages = (cid : List ℕ) → beside (kept_universes cid sources lists) (known_list pages cid) ≡ None

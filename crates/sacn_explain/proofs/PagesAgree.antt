@@ -20,12 +20,12 @@ use Rattle.sacn_explain.specs.KeptLists.{collected}
 use Rattle.sacn_explain.specs.Lines.{KeptList, kept_list}
 use Rattle.sacn_explain.specs.Lists.{beside}
 use Rattle.sacn_explain.specs.ListBooks.{ListBook, after_heard, after_list, is_list, list_at, no_list, place_of, put_list, whole_list, with_list, with_pages}
-use Rattle.sacn_explain.specs.ToldLists.{AreTold, kept_universes}
+use Rattle.sacn_explain.specs.ListsOfPages.{AgreeWithPages, kept_universes}
 use Rattle.sacn_explain.proofs.FirstPlaces.{found_before, found_last, put_other, put_same}
 use Rattle.sacn_explain.proofs.KeptAlready.{changed, changed_is, either_way, kept_of, list_left_out, nothing_beside}
 
 -- where nothing is known
-pub none_told : (sources : List (List ℕ)) (lists : List KeptList) → AreTold sources lists nothing_known
+pub none_told : (sources : List (List ℕ)) (lists : List KeptList) → AgreeWithPages sources lists nothing_known
 none_told sources lists cid = ap (λ (o : Option Known). beside (kept_universes cid sources lists) (list_for o)) (get-empty (slice_cmp nat_cmp) cid) ∙ nothing_beside (kept_universes cid sources lists)
 
 -- ---- time goes by
@@ -53,7 +53,7 @@ longer lists l i within =
 abbrev universes_in : List KeptList → Option ℕ → Option (List ℕ)
 universes_in ls q = option_and_then (λ l. l.universes) (option_and_then (λ i. slice_get ls i) q)
 
-pub source_told : (cid : List ℕ) (sources : List (List ℕ)) (lists : List KeptList) (pages : State) → length lists ≡ length sources → AreTold sources lists pages → AreTold (sources ++ cid ∷ []) (lists ++ no_list cid ∷ []) pages
+pub source_told : (cid : List ℕ) (sources : List (List ℕ)) (lists : List KeptList) (pages : State) → length lists ≡ length sources → AgreeWithPages sources lists pages → AgreeWithPages (sources ++ cid ∷ []) (lists ++ no_list cid ∷ []) pages
 source_told cid sources lists pages paired told other =
     let test : List ℕ → Bool = λ source. bytes_eq source other in
     ap (λ (k : Option (List ℕ)). beside k (known_list pages other)) (elim (position test sources) as (λ q. position test sources ≡ q → universes_in (lists ++ no_list cid ∷ []) (position test (sources ++ cid ∷ [])) ≡ universes_in lists q) [
@@ -104,7 +104,7 @@ kept_now name universes l =
       | false ↦ λ other. ap (λ (t : Bool). cond t None (Some universes)) ((bytes_eq-Decides universes universes).1 refl)
     ] refl
 
-module _ (now : ℕ) (p : PageFields) (sources : List (List ℕ)) (lists : List KeptList) (pages : State) (told : AreTold sources lists pages) where
+module _ (now : ℕ) (p : PageFields) (sources : List (List ℕ)) (lists : List KeptList) (pages : State) (told : AgreeWithPages sources lists pages) where
   abbrev then_known : List ℕ → Option (List ℕ)
   then_known cid = known_list (collected now p pages) cid
 
@@ -114,7 +114,7 @@ module _ (now : ℕ) (p : PageFields) (sources : List (List ℕ)) (lists : List 
       expired now (after_take now p pages) cid kept (ap (beside kept) (other_source now p pages cid differs) ∙ expired now pages cid kept (told cid))
 
   -- that makes no list whole
-  no_list_told : then_known p.cid ≡ None → AreTold sources lists (collected now p pages)
+  no_list_told : then_known p.cid ≡ None → AgreeWithPages sources lists (collected now p pages)
   no_list_told none cid = elim (bytes_eq cid p.cid) as (λ t. bytes_eq cid p.cid ≡ t → beside (kept_universes cid sources lists) (then_known cid) ≡ None) [
     | true ↦ λ is. ap (beside (kept_universes cid sources lists)) (ap then_known ((bytes_eq-Decides cid p.cid).0 is) ∙ none) ∙ nothing_beside (kept_universes cid sources lists)
     | false ↦ λ other. others cid other
@@ -143,48 +143,48 @@ module _ (now : ℕ) (p : PageFields) (sources : List (List ℕ)) (lists : List 
             let is : bytes_eq cid p.cid ≡ true = (bytes_eq-Decides cid p.cid).1 (same_source sources cid p.cid place (found ∙ ap (λ (n : ℕ). Some n) same) at) in
             absurd (cc (is, other))
 
-    list_told : AreTold sources after (collected now p pages)
+    list_told : AgreeWithPages sources after (collected now p pages)
     list_told cid = elim (bytes_eq cid p.cid) as (λ t. bytes_eq cid p.cid ≡ t → beside (kept_universes cid sources after) (then_known cid) ≡ None) [
       | true ↦ λ is. subst (λ (c : List ℕ). beside (kept_universes c sources after) (then_known c) ≡ None) (sym ((bytes_eq-Decides cid p.cid).0 is)) own
       | false ↦ λ other. ap (λ (k : Option (List ℕ)). beside k (then_known cid)) (elsewhere cid other) ∙ others cid other
     ] refl
 
-abbrev pub IsTold : ListBook → Type 0
-IsTold b = AreTold b.sources b.lists b.pages
+abbrev pub Agrees : ListBook → Type 0
+Agrees b = AgreeWithPages b.sources b.lists b.pages
 
 -- of a source that has this place
-pub heard_told : (now : ℕ) (p : PageFields) (b : ListBook) (place : ℕ) → length b.lists ≡ length b.sources → Some place ≡ place_of p.cid b → IsTold b → IsTold (after_heard now p b)
+pub heard_told : (now : ℕ) (p : PageFields) (b : ListBook) (place : ℕ) → length b.lists ≡ length b.sources → Some place ≡ place_of p.cid b → Agrees b → Agrees (after_heard now p b)
 heard_told now p b place paired at told =
     let name : List ℕ = before_first (λ octet. octet == 0) p.name in
     let then : ListBook = with_pages (collected now p b.pages) b in
     let l : KeptList = get_or b.lists place (no_list []) in
     let within : place < length b.lists = omega (arith, paired, (position-Some (λ source. bytes_eq source p.cid) b.sources place [] (sym at)).0) in
     let there : slice_get b.lists place ≡ Some l = slice_get-get_or b.lists place (no_list []) within in
-    subst IsTold (sym (changed_is p.cid name (whole_list now p b) then ∙ ap (λ (q : Option ℕ). changed name q then (whole_list now p b)) (sym at)))
-    (elim (whole_list now p b) as (λ list. whole_list now p b ≡ list → IsTold (changed name (Some place) then list)) [
+    subst Agrees (sym (changed_is p.cid name (whole_list now p b) then ∙ ap (λ (q : Option ℕ). changed name q then (whole_list now p b)) (sym at)))
+    (elim (whole_list now p b) as (λ list. whole_list now p b ≡ list → Agrees (changed name (Some place) then list)) [
       | None ↦ λ none. no_list_told now p b.sources b.lists b.pages told none
       | Some universes ↦ λ whole.
-          subst (λ (q : Option KeptList). AreTold b.sources (put_list name universes place b.lists q) (collected now p b.pages)) (sym there)
+          subst (λ (q : Option KeptList). AgreeWithPages b.sources (put_list name universes place b.lists q) (collected now p b.pages)) (sym there)
           (list_told now p b.sources b.lists b.pages told place l name universes (sym at) there whole)
     ] refl)
 
 -- ---- a page that is kept already
 
 -- what its source's pages give is kept
-quiet : (now : ℕ) (p : PageFields) (b : ListBook) (taken : State) → known_list taken p.cid ≡ known_list (after_expire now b.pages) p.cid → IsTold b → beside (kept_of (list_at p.cid b)) (known_list (after_expire now taken) p.cid) ≡ None
+quiet : (now : ℕ) (p : PageFields) (b : ListBook) (taken : State) → known_list taken p.cid ≡ known_list (after_expire now b.pages) p.cid → Agrees b → beside (kept_of (list_at p.cid b)) (known_list (after_expire now taken) p.cid) ≡ None
 quiet now p b taken same told =
     let kept : Option (List ℕ) = kept_of (list_at p.cid b) in
     expired now taken p.cid kept (ap (beside kept) same ∙ expired now b.pages p.cid kept (told p.cid))
 
-module _ (now : ℕ) (p : PageFields) (b new : ListBook) (taken last : State) (is : taken ≡ after_take now p b.pages) (again : last ≡ after_expire now taken) (same : known_list taken p.cid ≡ known_list (after_expire now b.pages) p.cid) (book : new ≡ with_pages last b) (told : IsTold b) where
+module _ (now : ℕ) (p : PageFields) (b new : ListBook) (taken last : State) (is : taken ≡ after_take now p b.pages) (again : last ≡ after_expire now taken) (same : known_list taken p.cid ≡ known_list (after_expire now b.pages) p.cid) (book : new ≡ with_pages last b) (told : Agrees b) where
   pub again_book : new ≡ after_heard now p b
   again_book =
       let name : List ℕ = before_first (λ octet. octet == 0) p.name in
       list_left_out name b new (after_expire now taken) p.cid p.cid _ refl (book ∙ ap (λ (s : State). with_pages s b) again) refl (quiet now p b taken same told)
       ∙ ap (λ (s : State). after_list p.cid name (known_list (after_expire now s) p.cid) (with_pages (after_expire now s) b)) is
 
-  pub again_told : (place : ℕ) → length b.lists ≡ length b.sources → Some place ≡ place_of p.cid b → IsTold new
-  again_told place paired at = subst IsTold (sym again_book) (heard_told now p b place paired at told)
+  pub again_told : (place : ℕ) → length b.lists ≡ length b.sources → Some place ≡ place_of p.cid b → Agrees new
+  again_told place paired at = subst Agrees (sym again_book) (heard_told now p b place paired at told)
 
 -- a page that the collector has, and whose list was compared
 pub heard_since : (now : ℕ) (p : PageFields) (b new : ListBook) (taken : State) → taken ≡ after_take now p b.pages

@@ -2,7 +2,7 @@ use Rattle.std.proofs.Common.{◌==◌, ◌∙◌, ℕ, List, sym, ap}
 use Rattle.std.specs.List.{list_any}
 use Rattle.std.proofs.lemmas.List.Sorted.{IsNonDecreasingBy-from_sort, list_any-IsPermutation}
 use Rattle.sacn_explain.proofs.Among.{heard_among}
-use Rattle.sacn_explain.proofs.listings.heard_universes.Goals as goal
+use Rattle.sacn_explain.proofs.listed.heard_universes.Goals as goal
 
 pub returns-clause-ascend : goal.returns-clause-ascend
 returns-clause-ascend c = IsNonDecreasingBy-from_sort (λ x. x) c.sort_unstable.new.self.items c.sort_unstable.ensures.sorted
