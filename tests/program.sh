@@ -103,7 +103,7 @@ kill "$holder"
 wait "$holder" 2>/dev/null
 holder=
 
-# Every command runs in a stack of 1024 kB, of which the environment takes 200 here.
+# Every command runs in a stack of 1024 kB, of which the environment takes 200 here, while a desk sends and a browser asks.
 large=$(head -c 100000 /dev/zero | tr '\0' x)
 sed "1a udp_port = $((port + 1))" "$examples/node.toml" >"$room/node.toml"
 sed "1a send_to = [$((port + 1))]" "$examples/show.toml" >"$room/show.toml"
@@ -114,6 +114,8 @@ small() {
   (ulimit -S -s 1024 && LARGE=$large LARGER=$large exec timeout 60 "$sacn" "$@") <"$input" >"$room/out" 2>"$room/err" || status=$?
   if [ "$status" = 0 ]; then echo "ok program: a small stack: ${1:-no command}"; else echo "not ok program: a small stack: ${*:-no command}: status $status, $(head -n 1 "$room/err")"; fi
 }
+"$sacn" desk "$room/show.toml" --script "$examples/script.txt" --stay </dev/null >"$room/held" 2>&1 &
+holder=$!
 small "$examples/desk.hex"
 small /dev/null decode "$examples/levels.sacn" "$examples/universes.sacn"
 small /dev/null sim "$examples/world.toml" "$examples/schedule.txt"
@@ -122,13 +124,20 @@ small /dev/null node "$room/node.toml" --turns 1
 small /dev/null gateway "$room/node.toml" --seconds 1
 small /dev/null desk "$room/show.toml" --script "$examples/script.txt"
 small /dev/null watch --port "$((port + 1))" --seconds 1
-small /dev/null watch --port "$((port + 1))" --seconds 1 --page "$((port + 2))"
+# A browser asks once, as soon as it is answered.
+(for _ in $(seq 100); do { exec 3<>"/dev/tcp/127.0.0.1/$((port + 2))"; } 2>/dev/null && break; sleep 0.02; done
+  printf 'GET /state HTTP/1.1\r\nHost: 127.0.0.1:%s\r\n\r\n' "$((port + 2))" >&3 && head -c 15 <&3 >"$room/asked") &
+small /dev/null watch --port "$((port + 1))" --seconds 2 --page "$((port + 2))"
+if [ "$(cat "$room/asked")" = "HTTP/1.1 200 OK" ]; then echo "ok program: a small stack: a page is answered"; else echo "not ok program: a small stack: a page: $(cat "$room/asked")"; fi
 small /dev/null explain "$examples/ola.pcap" --setup "$room/node.toml" --json
 small /dev/null explain "$examples/ola.pcap" --page "$((port + 2))" --seconds 1
 small /dev/null check "$room/show.toml" "$room/node.toml" "$examples/world.toml"
 small /dev/null groups "$room/node.toml" --device lo
 small /dev/null manual
 small /dev/null completion bash
+kill "$holder"
+wait "$holder" 2>/dev/null
+holder=
 
 # A pipe that nobody reads any more ends what tells people something quietly, and the others as a device that fails.
 # unread STATUS ERRORS WORD..: a run into such a pipe
@@ -151,3 +160,5 @@ unread 0 "" check "$examples/show.toml" "$examples/node.toml"
 unread 0 "hears 127.0.0.1:$((port + 1))" watch --listen 127.0.0.1 --port "$((port + 1))" --seconds 1
 unread 4 "device write" decode "$examples/levels.sacn"
 unread 4 "device write" manual
+unread 4 "device write" groups "$room/node.toml" --device lo
+unread 4 "device write" console "$room/show.toml" "$examples/script.txt" --turns 1

@@ -148,16 +148,19 @@ else
 fi
 
 # ---- Packages.
-# documents FOLDER: what of the documents there leads nowhere: links, examples, the command of a clone
+# documents FOLDER: what of the documents there leads nowhere: links, examples, commands of a clone
 documents() {
   local file folder target
-  for file in "$1"/*.md "$1"/docs/*.md; do
+  for file in "$1"/README.md "$1"/CHANGELOG.md "$1"/docs/{RIG,FILES,PROTOCOL,THEOREMS}.md; do
+    [ -s "$file" ] || echo "$file isn't there"
     folder=$(dirname "$file")
     grep -oE '\]\([^)]*\)' "$file" | sed -E 's/^\]\(//; s/\)$//; s/#.*//' | while IFS= read -r target; do
       case $target in '' | http*) ;; *) [ -e "$folder/$target" ] || echo "$file: $target" ;; esac
     done
-    grep -oE '[^ \`(|]*examples/[a-z0-9]+\.[a-z]+' "$file" | while IFS= read -r target; do [ -e "$room/amd64$target" ] || echo "$file: $target"; done
-    grep -n '\./sacn' "$file" | sed "s#^#$file: #"
+    # (what is told of earlier releases is as it was)
+    [ "${file##*/}" != CHANGELOG.md ] || continue
+    grep -oE '[^ \`(|]*examples/[a-z0-9.]+' "$file" | while IFS= read -r target; do [ -e "$room/amd64$target" ] || echo "$file: $target"; done
+    grep -nE '\./sacn ([a-oq-z<]|--help)' "$file" | sed "s#^#$file: #"
   done
 }
 if [ -z "$is_current" ] || ! command -v dpkg-deb >/dev/null; then

@@ -238,6 +238,16 @@ problem=$(COLUMNS=80 ROWS=24 KEYS=typed timeout 20 python3 terminal.py drawn 258
 verdict "Ctrl-C under the launcher" $? "status $status $(tail -n 1 <<<"$problem")"
 [ "$status" = 0 ] && ! grep -qE 'typed|\^C' drawn
 verdict "keys that are typed stay off the screen" $? "status $status $(tail -n 1 <<<"$problem")"
+printf '(. "%s/tools/run.sh"; run "%s" watch --port 25833 --seconds 4)\nread -r -t 0.5 left; echo "left <$left>"\n' "$top" "$sacn" >launcher
+status=0
+problem=$(COLUMNS=80 ROWS=24 KEYS=$'rm me\nand me' timeout 20 python3 terminal.py drawn 25833 go bash launcher 2>&1) || status=$?
+[ "$status" = 0 ] && ! grep -qE 'rm|and me' drawn && grep -q 'left <>' drawn
+verdict "what was typed unseen is read away" $? "status $status $(tail -n 1 <<<"$problem") $(tail -c 40 drawn)"
+printf '. "%s/tools/run.sh"\nrun "%s" watch --port 25833\n' "$top" "$sacn" >launcher
+status=0
+problem=$(COLUMNS=80 ROWS=24 KEYS=$'\x1c' timeout 20 python3 terminal.py drawn 25833 go bash launcher 2>&1) || status=$?
+[ "$status" = 0 ] && [ "$(tail -c 8 drawn)" = $'\x1b[?1049l' ]
+verdict "Ctrl-\\ ends it, and gives the terminal back" $? "status $status $(tail -n 1 <<<"$problem")"
 
 # The launcher tells a watch the terminal's size, whatever it is.
 printf '#!/bin/sh\necho "rows $LINES columns $COLUMNS"\n' >told

@@ -37,12 +37,23 @@ done
 
 packed() { gzip -9n >"$1"; chmod 644 "$1"; }
 
-# document FILE TO: a document as a package has it. Its command is `sacn`, its examples stand beside it, and a link to what isn't packed is its text alone.
-document() {
-  sed -E -e 's#\./sacn\b#sacn#g' -e 's#(^|[^A-Za-z/])examples/#\1/usr/share/doc/sacn/examples/#g' \
-    -e 's#\]\((((docs/)?(RIG|FILES|PROTOCOL|THEOREMS)\.md|CHANGELOG\.md|(docs/)?page[a-z-]*\.png|https?:|\#)[^)]*)\)#]\x01\1\x02#g' \
-    -e 's#!?\[([^]]*)\]\([^)]*\)#\1#g' -e 's#\x01#(#g; s#\x02#)#g' "$1" >"$2"
-  chmod 644 "$2"
+# What is packed of the documents in docs/.
+documents="RIG FILES PROTOCOL THEOREMS"
+commands="gateway|desk|watch|explain|check|decode|sim|console|node|groups|manual|completion|--help|<"
+
+# A document on standard input, without links to what isn't packed.
+linked() {
+  sed -E -e "s#\\]\\((((docs/)?(${documents// /|})\\.md|CHANGELOG\\.md|(docs/)?page[a-z-]*\\.png|https?:|\\#)[^)]*)\\)#]\x01\\1\x02#g" \
+    -e 's#!?\[([^]]*)\]\([^)]*\)#\1#g' -e 's#\x01#(#g; s#\x02#)#g'
+}
+
+# The same as it is read beside an installed program: the command is `sacn`, and examples stand in the package.
+installed() { linked | sed -E -e '/^In a clone the command is/d' -e "s#\\./sacn ($commands)#sacn \\1#g" -e 's#(^|[^A-Za-z/])examples/([a-z]+\.[a-z]+)#\1/usr/share/doc/sacn/examples/\2#g'; }
+
+# The README's part for who has no tree.
+readme() {
+  if [ "$(grep -cE '^## (How it is proved and tested|Documents)$' "$top/README.md")" != 2 ]; then say "README.md has other headings than packages know"; exit 1; fi
+  sed '/^## How it is proved/,/^## Documents/{/^## Documents/!d}' "$top/README.md"
 }
 
 # tree FOLDER PROCESSOR: lays out all but what is Debian's own.
@@ -59,9 +70,10 @@ tree() {
   "$program" completion zsh >"$root/usr/share/zsh/vendor-completions/_sacn"
   install -m 644 "$top"/packaging/*.service "$root/lib/systemd/system/"
   for it in "$top"/examples/*; do if [ -f "$it" ]; then install -m 644 "$it" "$root/usr/share/doc/sacn/examples/"; fi; done
-  for it in README.md CHANGELOG.md docs/{RIG,FILES,PROTOCOL,THEOREMS}.md; do document "$top/$it" "$root/usr/share/doc/sacn/$it"; done
-  # (how this tree is proved is told to who has it)
-  sed -i '/^## How it is proved/,/^## Documents/{/^## Documents/!d}' "$root/usr/share/doc/sacn/README.md"
+  readme | installed >"$root/usr/share/doc/sacn/README.md"
+  linked <"$top/CHANGELOG.md" >"$root/usr/share/doc/sacn/CHANGELOG.md"
+  for it in $documents; do installed <"$top/docs/$it.md" >"$root/usr/share/doc/sacn/docs/$it.md"; done
+  chmod 644 "$root"/usr/share/doc/sacn/{,docs/}*.md
   install -m 644 "$top"/docs/page*.png "$root/usr/share/doc/sacn/docs/"
   news sacn | packed "$root/usr/share/doc/sacn/changelog.gz"
   copyright >"$root/usr/share/doc/sacn/copyright"

@@ -14,7 +14,7 @@ is_ordered() {
 # it comes after that second. A line on the pipe says that the desk has ended by itself.
 feed_desk() {
   local copy=
-  trap '' INT TERM HUP
+  trap '' INT TERM HUP QUIT
   exec {life}>&-
   if is_ordered "$@"; then
     cat <&"$in" &
@@ -28,12 +28,12 @@ feed_desk() {
   if [ -n "$copy" ]; then kill -KILL "$copy" 2>/dev/null || true; fi
 }
 
-# Runs a program whose clean end is the end of its standard input: INT, TERM and HUP end its input, and not the program, which
+# Runs a program whose clean end is the end of its standard input: INT, TERM, HUP and QUIT end its input, and not the program, which
 # then ends what it has lit. A second one changes nothing. What the program waits for is held by this process alone, so that it comes
 # to its end also where this one is killed.
 feed() {
   local life lives in out pid status since=$SECONDS caught= modes=
-  trap 'caught=1' INT TERM HUP
+  trap 'caught=1' INT TERM HUP QUIT
   if [ "$2" = watch ]; then quiet_keys "$@"; fi
   exec {in}<&0
   # A pipe of which both ends are here.
@@ -41,11 +41,11 @@ feed() {
   exec {lives}<"/proc/self/fd/$life"
   # (A desk is ordered by its input; a watch only waits for the end of it, whatever stands there.)
   if [ "$2" = desk ]; then exec {out}< <(feed_desk "$@"); else exec {out}<&"$lives"; fi
-  (trap '' INT TERM HUP; exec "$@" <&"$out" {in}<&- {out}<&- {life}<&- {lives}<&-) &
+  (trap '' INT TERM HUP QUIT; exec "$@" <&"$out" {in}<&- {out}<&- {life}<&- {lives}<&-) &
   pid=$!
   exec {out}<&- {in}<&- {lives}<&-
   # (Where it comes twice, the pipe is closed already.)
-  trap 'caught=1; exec {life}>&-' INT TERM HUP
+  trap 'caught=1; exec {life}>&-' INT TERM HUP QUIT
   if [ -n "$caught" ]; then exec {life}>&-; fi
   # (A wait that a signal cuts short is made again: the shell keeps the status of a process that ended meanwhile.)
   while caught= status=0; do
@@ -53,7 +53,7 @@ feed() {
     [ -n "$caught" ] || break
   done
   { echo >&"$life"; } 2>/dev/null || true
-  if [ -n "$modes" ]; then stty "$modes"; fi
+  loud_keys
   exit "$status"
 }
 
@@ -114,8 +114,9 @@ setup_among() {
   done
 }
 
-# So many universes, from 1 on, a watch joins that is told of none.
+# So many universes, from 1 on, a watch joins that is told of none; and so many at most that are named.
 first_universes=128
+most_universes=1024
 
 # Joins the groups that a gateway or a watch wants, for as long as this shell lives or what it becomes.
 join_groups() {
@@ -148,6 +149,10 @@ join_groups() {
         groups+=("239.255.$((universe / 256)).$((universe % 256))")
       done
     done
+    if [ "${#groups[@]}" -gt $((most_universes + 1)) ]; then
+      say "--join: $((${#groups[@]} - 1)) universes are named, and at most $most_universes are joined: name fewer by --universe"
+      exit 2
+    fi
     port=$(given --port "$@" | tail -n 1)
     if [ "${#groups[@]}" = 1 ]; then
       # (few consoles list what they send in the standard's form)
@@ -158,7 +163,7 @@ join_groups() {
   "$sacn_join" ${lists[@]+"${lists[@]}"} $$ "$device" "${groups[@]}" || exit $?
 }
 
-# Whether this shell has its terminal to itself, and not in the background of another job.
+# Whether this shell is in front on its terminal.
 is_in_front() {
   local stat
   stat=$(</proc/$$/stat)
@@ -171,7 +176,14 @@ is_in_front() {
 quiet_keys() {
   local word
   for word in "$@"; do case $word in --plain | --json | --page | --page=*) return 0 ;; esac; done
-  if [ -t 0 ] && [ -t 1 ] && is_in_front && modes=$(stty -g 2>/dev/null); then stty -echo; fi
+  if [ -t 0 ] && [ -t 1 ] && is_in_front && modes=$(stty -g 2>/dev/null); then stty -echo 2>/dev/null || true; fi
+}
+
+# Gives the terminal back as it was, without what was typed unseen; nothing where it is another job's by now, or gone.
+loud_keys() {
+  if [ -z "$modes" ] || ! is_in_front; then return 0; fi
+  if stty -icanon min 0 time 0 2>/dev/null; then dd bs=4096 of=/dev/null 2>/dev/null || true; fi
+  stty "$modes" 2>/dev/null || true
 }
 
 # Tells a watch how large the terminal at standard output is, which it can't ask.
