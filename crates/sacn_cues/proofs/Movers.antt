@@ -6,7 +6,7 @@ use Rattle.sacn_patch.specs.declared.limits.TheConstants.{MAX_CHANNELS}
 use Rattle.sacn_cues.specs.declared.limits.TheConstants.{FULL}
 use Rattle.sacn_cues.specs.Levels.{Ramp, level_in, IsOver}
 use Rattle.sacn_cues.specs.LevelOctets.{HasLevel, IsPut, AreChannels, IsAbsent, IsKept}
-use Rattle.sacn_cues.proofs.Octets.{other_put, own_put}
+use Rattle.sacn_cues.proofs.Octets.{other_put, own_put, put_filled}
 
 -- a channel is written behind the first so many, and counted or not
 module _ (list after : List ℕ) (kept n at : ℕ) (room : kept < length list) (written : after ≡ set list kept at) (least : kept ≤ n) (most : n ≤ kept + 1) where
@@ -31,10 +31,7 @@ module _ (list after : List ℕ) (kept n at : ℕ) (room : kept < length list) (
     own i x same level_is = rw (same, level_is) (own_put octets new at level wide is)
 
     pub one_filled : (i x : ℕ) → (i ≡ at → x ≡ level) → ((i ≡ at → ⊥) → HasLevel octets i x) → HasLevel new i x
-    one_filled i x its has = elim (cases_eq i at) [
-      | inl same ↦ own i x same (its same)
-      | inr apart ↦ other_put octets new at level wide is i x apart (has apart)
-    ]
+    one_filled = put_filled octets new at level wide is
 
     settled_own : (i x : ℕ) → i ≡ at → (n ≡ kept → x ≡ level) → IsAbsent after 0 n i → HasLevel new i x
     settled_own i x same its none = elim (cases_eq n kept) [

@@ -41,6 +41,13 @@ module _ (octets new : List ℕ) (at level : ℕ) (room : 2 * at + 3 < length oc
             ∙ get_or-set_same (set octets (2 * at + 2) (level / 256)) (2 * at + 3) (level % 256) 0 wide,
       )
 
+  -- so that each channel has its level, where the others had theirs
+  pub put_filled : (i x : ℕ) → (i ≡ at → x ≡ level) → ((i ≡ at → ⊥) → HasLevel octets i x) → HasLevel new i x
+  put_filled i x its has = elim (cases_eq i at) [
+    | inl same ↦ rw (same, its same) own_put
+    | inr apart ↦ other_put i x apart (has apart)
+  ]
+
 module _ (fades : List Ramp) (now master : ℕ) (octets : List ℕ) where
   abbrev level_there : ℕ → ℕ
   level_there channel = level_at fades channel now * master / FULL

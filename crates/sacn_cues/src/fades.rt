@@ -9,7 +9,7 @@ ghost use Rattle.sacn_cues.specs.Tracks.{AreTargets};
 
 use crate::channel::is_channel;
 use crate::cue::Cue;
-use crate::fade::{Fade, begin_all, fill_octets, set_one};
+use crate::fade::{Fade, begin_all, fill_octets, fill_plain, set_one};
 use crate::track::Track;
 use sacn_patch::MAX_CHANNELS;
 use std::alloc::{AllocError, Global};
@@ -126,6 +126,18 @@ impl Fades {
         ensures listed { IsKept octets.new moving.new result self.now.fades master now }
     {
         fill_octets(&self.fades, now, master, octets, moving, listed)
+    }
+
+    /// Writes the octets of the levels of all channels at a moment, after the master, and lists none.
+    pub(crate) fn fill_plain(&self, now: u64, master: u16, octets: &mut [u8])
+        requires length { length octets.old ≡ OCTETS }
+        requires before { IsBlankBefore octets.old }
+        ensures length { length octets.new ≡ OCTETS }
+        ensures before { IsBlankBefore octets.new }
+        ensures levels { AreOctets
+            (λ channel. level_at self.now.fades channel now * master / FULL) octets.new }
+    {
+        fill_plain(&self.fades, now, master, octets)
     }
 
     /// The level of a channel at a moment, 0 outside the channels.

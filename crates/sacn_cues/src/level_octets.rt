@@ -11,6 +11,10 @@ pub(crate) const OCTETS: usize = 2 * MAX_CHANNELS as usize + 2;
 /// beyond about so many going over all costs less.
 pub(crate) const MOST_LISTED: usize = MAX_CHANNELS as usize / 4 * 3;
 
+/// So many reckonings in a row go over all channels without a list, where more than `MOST_LISTED` fade: a list costs a little at each
+/// channel, and would be of no use.
+pub(crate) const MOST_PLAIN: u8 = 15;
+
 /// Room for the octets of all levels after the master, and whether they stand in it.
 #[derive(Drop)]
 pub(crate) struct LevelOctets {
@@ -23,6 +27,8 @@ pub(crate) struct LevelOctets {
     // that fade, and not all of them.
     pub(crate) moving: Vec<u16>,
     pub(crate) listed: Option<usize>,
+    // So many reckonings more make no list, unless one is kept.
+    pub(crate) plain: u8,
 }
 
 /// Writes the octets of a channel's level; channels count from 0 here.
@@ -33,6 +39,17 @@ pub(crate) fn put_level(octets: &mut [u8], at: usize, level: u16)
 {
     octets[2 * at + 2] = (level / 256) as u8;
     octets[2 * at + 3] = (level % 256) as u8;
+}
+
+/// How many channels stand in a list that is worth keeping.
+pub(crate) fn worth_keeping(count: usize) -> Option<usize>
+    ensures { ForSome result (λ kept. kept ≡ count) }
+{
+    if count <= MOST_LISTED {
+        Some(count)
+    } else {
+        None
+    }
 }
 
 /// Lists one more channel, counted from 0, where a list is kept that has room; so many it has then.

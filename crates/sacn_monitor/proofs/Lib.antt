@@ -4,3 +4,4 @@ pub mod Fitting
 pub mod Leading
 pub mod Losses
 pub mod Tracking
+mod Cids

@@ -1,6 +1,7 @@
 //! A source on a universe.
 
-ghost use Rattle.std.specs.Prelude.{◌≡◌};
+ghost use Rattle.std.specs.Prelude.{◌≡◌, bytes_eq, drop, take};
+ghost use Rattle.std.specs.Int.{from_be_bytes, w64};
 ghost use Rattle.sacn_monitor.specs.Accounts.{IsFitted, news_of};
 ghost use Rattle.sacn_monitor.specs.Rivals.{lights};
 ghost use Rattle.sacn_monitor.specs.Streams.{is_of, first_stream, stream_after, loss_of, falls_silent, state_of};
@@ -75,7 +76,7 @@ impl Stream {
     pub(crate) fn is_of(&self, universe: u16, cid: &[u8; 16]) -> bool
         ensures { result ≡ is_of universe cid.now self.now }
     {
-        (self.universe == universe) & (self.cid == *cid)
+        (self.universe == universe) & is_same(&self.cid, cid)
     }
 
     /// A packet more. Returns what it tells that is new.
@@ -105,4 +106,27 @@ impl Stream {
     {
         !(self.told | self.account.ended) & !self.account.is_fresh(moment)
     }
+}
+
+// Whether two CIDs are the same: eight octets at once, as a comparison of all octets in turn says it.
+fn is_same(a: &[u8; 16], b: &[u8; 16]) -> bool
+    ensures { result ≡ bytes_eq a.now b.now }
+{
+    (front(a) == front(b)) & (back(a) == back(b))
+}
+
+fn front(cid: &[u8; 16]) -> u64
+    ensures { result ≡ from_be_bytes w64 (take 8 cid.now) }
+{
+    u64::from_be_bytes([
+        cid[0], cid[1], cid[2], cid[3], cid[4], cid[5], cid[6], cid[7],
+    ])
+}
+
+fn back(cid: &[u8; 16]) -> u64
+    ensures { result ≡ from_be_bytes w64 (drop 8 cid.now) }
+{
+    u64::from_be_bytes([
+        cid[8], cid[9], cid[10], cid[11], cid[12], cid[13], cid[14], cid[15],
+    ])
 }

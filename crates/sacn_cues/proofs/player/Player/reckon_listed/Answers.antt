@@ -1,10 +1,9 @@
 use Rattle.std.proofs.Common.{◌≡◌, ℕ, List, length, get_or, subst, sym, ap, ◌∙◌, arith}
 use Rattle.std.proofs.lemmas.List.{with_items_is}
-use Rattle.std.proofs.lemmas.Option.{same_Some}
 use Rattle.sacn_patch.specs.Parts.{octet_place}
 use Rattle.sacn_cues.specs.LevelOctets.{IsKept}
 use Rattle.sacn_cues.specs.Playing.{level_shown}
-use Rattle.sacn_cues.proofs.player.Player.reckon.Goals as goal
+use Rattle.sacn_cues.proofs.player.Player.reckon_listed.Goals as goal
 
 pub invariant_of-self : goal.invariant_of-self
 unfolding level_shown
@@ -19,6 +18,6 @@ invariant_of-self c =
         rw items c.fill_octets-listed.ensures.before,
         λ told part. ap (λ (octets : List ℕ). get_or octets (octet_place part) 0) items ∙ c.fill_octets-listed.ensures.levels part,
         ap length list ∙ c.fill_octets-listed.ensures.room,
-        rw (items, list) (λ count told. subst (λ (n : ℕ). IsKept c.fill_octets-listed.new.octets c.fill_octets-listed.new.moving n c.self.inside.fades.fades c.self.inside.master c.self.inside.moment) (same_Some c.fill_octets-listed.result count told) c.fill_octets-listed.ensures.listed),
+        rw (items, list) (λ count told. subst (λ (n : ℕ). IsKept c.fill_octets-listed.new.octets c.fill_octets-listed.new.moving n c.self.inside.fades.fades c.self.inside.master c.self.inside.moment) (sym (c.worth_keeping-self-inside.ensures count told)) c.fill_octets-listed.ensures.listed),
       ),
     )
