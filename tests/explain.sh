@@ -98,6 +98,25 @@ else
   echo "not ok explain: what a node shows of QLC+: $(diff qlc.frames out | head -n 4 | tr '\n' '|')"
 fi
 
+# What QLC+ 4.12 sent in 23 seconds, 1150 packets of 188 octets in the file: it numbers from 1 to 255 and never sends 0, which is left out behind packets 255, 510,
+# 765 and 1020. That is told as a loss twice, and then once as what it is. In a second file packet 1020, which has number 255, is lost too.
+stream='"universe":1,"cid":"fb3c1065a17f4de29919b6ea5b5a84bc","name":"Q Light Controller Plus - E1.31"'
+{
+  printf '%s\n' "{\"ms\":0,\"event\":\"appeared\",$stream,\"address\":\"10.9.0.1\",\"port\":49165,\"priority\":100}"
+  printf '%s\n' "{\"ms\":5082,\"event\":\"skipped\",$stream,\"count\":1}" "{\"ms\":10202,\"event\":\"skipped\",$stream,\"count\":1}"
+  printf '%s\n' "{\"ms\":15302,\"event\":\"leaves_out\",$stream,\"number\":0}"
+} >turns.json
+sums() { # TAKEN SKIPPED
+  printf '%s\n' "{\"row\":\"source\",$stream,\"address\":\"10.9.0.1\",\"port\":49165,\"state\":\"sending\",\"priority\":100,\"first\":0,\"last\":22982,\"live\":$1,\"preview\":0,\"terminated\":0,\"other\":0,\"skipped\":$2,\"late\":0,\"repeated\":0,\"gap\":112,\"last_second\":50}"
+  printf '%s\n' "{\"row\":\"universe\",\"universe\":1,\"sources\":1,\"sending\":1,\"taken\":$1,\"skipped\":$2,\"discarded\":0}"
+  printf '%s\n' "{\"row\":\"counts\",\"datagrams\":$1,\"refused\":0,\"pages\":0,\"pages_untracked\":0,\"synchronization\":0,\"untracked\":0,\"other_ports\":0,\"other_frames\":0,\"went_back\":0,\"ms\":22982}"
+}
+{ cat turns.json; sums 1150 2; } >left-out.json
+tells "a number that QLC+ leaves out" 0 "" left-out.json "$top/examples/qlcplus-turns.pcap" --json
+{ head -c 191596 "$top/examples/qlcplus-turns.pcap"; tail -c +191785 "$top/examples/qlcplus-turns.pcap"; } >lost.pcap
+{ cat turns.json; printf '%s\n' "{\"ms\":20402,\"event\":\"skipped\",$stream,\"count\":1}"; sums 1149 3; } >lost.json
+tells "a loss beside it" 0 "" lost.json lost.pcap --json
+
 # Faulty recordings: what was told before the fault stays, and the tables follow.
 head -c 1311 "$top/examples/ola.pcap" >cut.pcap
 {

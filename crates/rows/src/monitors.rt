@@ -110,6 +110,9 @@ fn say_news(step: &mut Step<'_>, news: &News) {
     if news.began_anew {
         step.say(&"anew");
     }
+    if let Some(number) = news.leaves_out {
+        step.say(&format_args!("leaves-out {number}"));
+    }
     if let Some(change) = news.priority {
         step.say(&format_args!("priority {} {}", change.from, change.to));
     }

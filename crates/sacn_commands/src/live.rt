@@ -9,7 +9,8 @@ use sacn_edge::{ConsoleReport, Link, WriterOut};
 use sacn_framing::multicast_group;
 use sacn_live::limits::{MAX_ROUNDS, RECEIVE_ROOM};
 use sacn_live::{
-    DISCOVERY_UNIVERSE, DeskOrders, DeskSender, Destinations, Interface, Lines, Origin, Outputs,
+    DISCOVERY_UNIVERSE, DeskOrders, DeskSender, Destinations, Interface, Lines, Opening, Origin,
+    Outputs,
     Plan, RigClock, Span, UdpReceiver, Watch, Widget, guard_standard_descriptors, run_desk,
     run_gateway,
 };
@@ -328,7 +329,7 @@ fn send_show<R: AllocGlobal + Net + Clock, O: Write, E: Write>(
         ttl: asked.ttl,
         universes: plan.universes.len().min(CONSOLE_UNIVERSES) as u16,
     };
-    let mut link = match DeskSender::bind(
+    let sender = match DeskSender::bind(
         rt,
         rt.alloc(),
         origin,
@@ -336,9 +337,10 @@ fn send_show<R: AllocGlobal + Net + Clock, O: Write, E: Write>(
         clock.twin(),
         &mut *err,
     ) {
-        Ok(link) => link,
+        Ok(sender) => sender,
         Err(kind) => return Err(say_socket_fault(SocketAddrV4::new(asked.bind, 0), kind, err)),
     };
+    let mut link = Opening::over(rt.alloc(), sender)?;
     run_orders(rt.alloc(), plan, clock, &mut link, core, out)
 }
 

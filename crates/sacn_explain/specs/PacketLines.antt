@@ -9,7 +9,7 @@ use Rattle.sacn_monitor.specs.declared.stream.Stream.{Stream}
 use Rattle.sacn_explain.specs.declared.options.Form.{Form}
 use Rattle.sacn_explain.specs.declared.options.Form.TheVariants.{Text, Json}
 use Rattle.sacn_explain.specs.Members.{number_member, object_front, sender_members, stream_members}
-use Rattle.sacn_explain.specs.Sentences.{event_key, event_words, line_front, loss_words, moved_words, priority_words, refused_words, skipped_words, stream_front, untracked_words}
+use Rattle.sacn_explain.specs.Sentences.{event_key, event_words, line_front, loss_words, moved_words, omission_words, priority_words, refused_words, skipped_words, stream_front, untracked_words}
 
 -- what a packet says of its source
 abbrev pub event_line : Form → ℕ → Stream → Event → List ℕ
@@ -35,6 +35,11 @@ priority_line Json now s change = object_front now (codes "priority") ++ (stream
 abbrev pub anew_line : Form → ℕ → Stream → List ℕ
 anew_line Text now s = stream_front now s ++ codes "begins its numbers anew"
 anew_line Json now s = object_front now (codes "began_anew") ++ (stream_members s ++ codes "}")
+
+-- it leaves out this number at each turn
+abbrev pub omission_line : Form → ℕ → Stream → ℕ → List ℕ
+omission_line Text now s number = stream_front now s ++ omission_words number
+omission_line Json now s number = object_front now (codes "leaves_out") ++ (stream_members s ++ (number_member (codes "number") number ++ codes "}"))
 
 -- so many of its sequence numbers were skipped
 abbrev pub skipped_line : Form → ℕ → Stream → ℕ → List ℕ

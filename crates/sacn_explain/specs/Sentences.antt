@@ -69,6 +69,9 @@ stop_words millis = codes "not heard for " ++ stopped_words millis
 unfoldable pub priority_words : Change → List ℕ
 priority_words c = codes "priority " ++ (decimal c.to ++ (codes ", before " ++ decimal c.from))
 
+unfoldable pub omission_words : ℕ → List ℕ
+omission_words number = codes "leaves out number " ++ (decimal number ++ codes " at each turn, which isn't counted as skipped")
+
 unfoldable pub skipped_words : ℕ → List ℕ
 skipped_words skipped = if skipped == 1 then codes "skipped 1 number" else codes "skipped " ++ (decimal skipped ++ codes " numbers")
 

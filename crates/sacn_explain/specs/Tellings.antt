@@ -9,7 +9,7 @@ use Rattle.sacn_monitor.specs.declared.stream.Stream.{Stream}
 use Rattle.sacn_explain.specs.declared.options.Form.{Form}
 use Rattle.sacn_explain.specs.declared.options.Form.TheVariants.{Text, Json}
 use Rattle.sacn_explain.specs.declared.teller.Teller.{Teller}
-use Rattle.sacn_explain.specs.PacketLines.{anew_line, event_line, moved_line, priority_line, renamed_line, skipped_line}
+use Rattle.sacn_explain.specs.PacketLines.{anew_line, event_line, moved_line, omission_line, priority_line, renamed_line, skipped_line}
 
 -- the octets of its writer, where these are known, and of its line
 abbrev pub told_octets : {O : Type 0} → (O → Option (List ℕ)) → Teller O → Option (List ℕ)
@@ -43,6 +43,10 @@ abbrev pub priority_told : Form → ℕ → Stream → Option Change → List �
 priority_told form now s None = []
 priority_told form now s (Some change) = with_line_end (priority_line form now s change)
 
+abbrev pub omission_told : Form → ℕ → Stream → Option ℕ → List ℕ
+omission_told form now s None = []
+omission_told form now s (Some number) = with_line_end (omission_line form now s number)
+
 -- all that a packet told, a line for each thing that happened
 abbrev pub news_told : Form → ℕ → Stream → News → List ℕ
 news_told form now s news =
@@ -51,7 +55,8 @@ news_told form now s news =
     ++ (where_so news.renamed (renamed_line form now s)
     ++ (priority_told form now s news.priority
     ++ (where_so news.began_anew (anew_line form now s)
-    ++ where_so (nat_lt 0 news.skipped) (skipped_line form now s news.skipped)))))
+    ++ (omission_told form now s news.leaves_out
+    ++ where_so (nat_lt 0 news.skipped) (skipped_line form now s news.skipped))))))
 
 -- what a node writes of a frame, behind the line of its cause; nothing in JSON, where that line has the slots
 abbrev pub shown_in : Form → List ℕ → List ℕ

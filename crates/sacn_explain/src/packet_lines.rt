@@ -2,7 +2,7 @@
 
 ghost use Rattle.std.specs.Prelude.{◌≡◌, ◌++◌, OnOk, string_bytes};
 ghost use Rattle.sacn_explain.specs.Sentences.{event_key};
-ghost use Rattle.sacn_explain.specs.PacketLines.{event_line, moved_line, renamed_line, priority_line, anew_line, skipped_line, loss_line, refused_line, untracked_line};
+ghost use Rattle.sacn_explain.specs.PacketLines.{event_line, moved_line, renamed_line, priority_line, anew_line, omission_line, skipped_line, loss_line, refused_line, untracked_line};
 
 use crate::options::Form;
 use crate::{json, words};
@@ -136,6 +136,31 @@ pub fn anew_line(text: &mut String, form: Form, now: u64, stream: &Stream) -> Re
         Form::Json => {
             json::begin(text, now, "began_anew")?;
             json::push_stream(text, stream)?;
+            text.push('}')
+        }
+    }
+}
+
+/// A source that leaves out this number at each turn of its numbers.
+pub fn omission_line(
+    text: &mut String,
+    form: Form,
+    now: u64,
+    stream: &Stream,
+    number: u8,
+) -> Result<(), AllocError>
+    ensures { OnOk result (string_bytes text.new
+        ≡ string_bytes text.old ++ omission_line form now stream.now number) }
+{
+    match form {
+        Form::Text => {
+            words::begin_stream(text, now, stream)?;
+            words::push_omission(text, number)
+        }
+        Form::Json => {
+            json::begin(text, now, "leaves_out")?;
+            json::push_stream(text, stream)?;
+            json::push_number(text, "number", u64::from(number))?;
             text.push('}')
         }
     }

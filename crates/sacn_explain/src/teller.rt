@@ -11,8 +11,8 @@ use crate::lines::{frame_line, listing_line, rivals_line, stop_line};
 use crate::listings::Listing;
 use crate::options::Form;
 use crate::packet_lines::{
-    anew_line, event_line, loss_line, moved_line, priority_line, refused_line, renamed_line,
-    skipped_line, untracked_line,
+    anew_line, event_line, loss_line, moved_line, omission_line, priority_line, refused_line,
+    renamed_line, skipped_line, untracked_line,
 };
 use sacn_edge::PortShown;
 use sacn_monitor::{Change, Event, News, Sender, Stream};
@@ -29,7 +29,7 @@ pub struct Teller<'o, O> {
 }
 
 impl<'o, O: Write> Teller<'o, O> {
-    ghost use Rattle.sacn_explain.specs.Tellings.{Tells, with_line_end, event_told, news_told, priority_told, shown_in, where_so};
+    ghost use Rattle.sacn_explain.specs.Tellings.{Tells, with_line_end, event_told, news_told, omission_told, priority_told, shown_in, where_so};
 
     /// A teller that has told nothing.
     pub fn new(alloc: Global, form: Form, out: &'o mut O) -> Self
@@ -66,6 +66,7 @@ impl<'o, O: Write> Teller<'o, O> {
         self.tell_name(now, stream, news.renamed)?;
         self.tell_priority(now, stream, news.priority)?;
         self.tell_restart(now, stream, news.began_anew)?;
+        self.tell_omission(now, stream, news.leaves_out)?;
         self.tell_gap(now, stream, news)
     }
 
@@ -126,6 +127,22 @@ impl<'o, O: Write> Teller<'o, O> {
             return Ok(());
         }
         anew_line(&mut self.line, self.form, now, stream)?;
+        self.write()
+    }
+
+    fn tell_omission(
+        &mut self,
+        now: u64,
+        stream: &Stream,
+        number: Option<u8>,
+    ) -> Result<(), TellFault>
+        ensures { OnOk result (Tells O.contents self.old self.new
+            (omission_told self.old.form now stream.now number)) }
+    {
+        let Some(number) = number else {
+            return Ok(());
+        };
+        omission_line(&mut self.line, self.form, now, stream, number)?;
         self.write()
     }
 

@@ -1,7 +1,7 @@
 //! Things that happen, in words for people.
 
 ghost use Rattle.std.specs.Prelude.{◌≡◌, ◌++◌, OnOk, string_bytes};
-ghost use Rattle.sacn_explain.specs.Sentences.{line_front, source_text, universe_text, stream_front, presence_words, event_words, moved_words, loss_words, priority_words, skipped_words, refusal_words, refused_words, untracked_words, seconds_text, stop_words, stopped_words};
+ghost use Rattle.sacn_explain.specs.Sentences.{line_front, source_text, universe_text, stream_front, presence_words, event_words, moved_words, loss_words, priority_words, omission_words, skipped_words, refusal_words, refused_words, untracked_words, seconds_text, stop_words, stopped_words};
 
 use crate::places::written_universe;
 use crate::refusals::fault_words;
@@ -107,6 +107,18 @@ pub fn push_priority(text: &mut String, change: Change) -> Result<(), AllocError
     let from = change.from;
     let to = change.to;
     write!(text, "priority {to}, before {from}")
+}
+
+/// Which number a source leaves out.
+#[tactic(auto, unfolding(crate::specs::Sentences::omission_words))]
+pub fn push_omission(text: &mut String, number: u8) -> Result<(), AllocError>
+    ensures { OnOk result
+        (string_bytes text.new ≡ string_bytes text.old ++ omission_words number) }
+{
+    write!(
+        text,
+        "leaves out number {number} at each turn, which isn't counted as skipped"
+    )
 }
 
 #[tactic(auto, unfolding(crate::specs::Sentences::skipped_words))]

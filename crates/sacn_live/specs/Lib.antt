@@ -11,6 +11,7 @@ pub mod Groups
 pub mod Sendings
 pub mod Noticing
 pub mod DeskSenders
+pub mod Openings
 pub mod Widgets
 pub mod Interfaces
 pub mod InterfaceLaws

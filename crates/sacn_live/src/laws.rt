@@ -10,6 +10,7 @@
 ghost use Rattle.sacn_live.specs.Fairness.{DeskSendsAreGiven, EachAtMostOnce, EachDueIsGiven, EachOnce, EachReadingEnds, RoundsAreFair, RoundsOfShowsAreFair, SendsAreGiven, ShortRoundsAreFair};
 ghost use Rattle.sacn_live.specs.PlainGateway.{GatewayLinesAreByThePlainRule, GatewayStopsByThePlainRule, GatewayTextIsByThePlainRule};
 ghost use Rattle.sacn_live.specs.InterfaceLaws.{FailedDevicesAreTriedAgain, FailedDevicesRest, OffersAreOfTheirPort, WorkingDevicesShowTheirPorts};
+ghost use Rattle.sacn_live.specs.Openings.{FirstPacketsAreTaken};
 ghost use Rattle.sacn_live.specs.Rooms.{NothingIsCut};
 
 use sacn_node::laws as node;
@@ -69,6 +70,12 @@ pub fn rounds_are_fair()
     ensures shows { RoundsOfShowsAreFair }
     ensures few { RoundsAreFair }
     ensures short { ShortRoundsAreFair }
+{}
+
+/// However an earlier life of a desk ended, and whatever number a receiver holds of it: of each universe it takes the first packet that
+/// a new life sends, behind the copy that opens the stream.
+pub fn first_packets_are_taken()
+    ensures { FirstPacketsAreTaken }
 {}
 
 /// Whatever comes, goes out and is told of the lines that wait for an output: what went out, and then what waits, is the lines that

@@ -15,6 +15,8 @@ use Rattle.sacn_monitor.specs.declared.news.Change.{Change}
 use Rattle.sacn_monitor.specs.declared.news.News.{News}
 use Rattle.sacn_monitor.specs.Kinds.{more, no_packets, with_one_more}
 use Rattle.sacn_monitor.specs.Rates.{first_rate, rate_after}
+use Rattle.sacn_monitor.specs.declared.numbering.Numbering.{Numbering}
+use Rattle.sacn_monitor.specs.Numberings.{first_numbering, lost_in, numbering_after, omission_in}
 
 -- a name's octets, and NUL to the end of its field
 abbrev pub fitted : List ℕ → List ℕ
@@ -38,13 +40,17 @@ is_fresh t a = nat_lt (t - a.latest) NETWORK_DATA_LOSS
 abbrev pub is_discarded : ℕ → ℕ → Account → Bool
 is_discarded t arrived a = is_fresh t a && is_late a.sequence_number arrived
 
--- the numbers that lie between two; none where the second seems to lie behind the first
-abbrev pub skipped_by : ℕ → ℕ → ℕ
-skipped_by held arrived = let ahead = (arrived + 256 - held) % 256 in if nat_lt ahead 128 then ahead - 1 else 0
+-- a packet that is taken at t is the first of a stream: the one before was lost, or had ended
+abbrev pub begins_life : ℕ → Bool → Account → Bool
+begins_life t terminated a = not (is_fresh t a) || (a.ended && not terminated)
 
--- the numbers that a packet skips that is taken at t
-abbrev pub skipped_at : ℕ → ℕ → Account → ℕ
-skipped_at t arrived a = if is_fresh t a then skipped_by a.sequence_number arrived else 0
+-- the packets that were lost before one that is taken
+abbrev pub lost_at : Bool → ℕ → Account → ℕ
+lost_at begins arrived a = if begins then 0 else lost_in a.sequence_number arrived a.numbering
+
+-- how the source numbers its packets, as far as one that is taken tells
+abbrev pub numbering_at : Bool → ℕ → Account → Numbering
+numbering_at begins arrived a = if begins then first_numbering else numbering_after a.sequence_number arrived a.numbering
 
 -- the sender began its numbers anew
 abbrev pub begins_anew : ℕ → ℕ → Account → Bool
@@ -65,7 +71,8 @@ after_taken t sender d a = record {
   sequence_number = d.number;
   ended = d.terminated;
   kinds = with_one_more (kind_of d) a.kinds;
-  skipped = more (skipped_at t d.number a) a.skipped;
+  numbering = numbering_at (begins_life t d.terminated a) d.number a;
+  skipped = more (lost_at (begins_life t d.terminated a) d.number a) a.skipped;
   late = a.late;
   repeats = a.repeats;
   greatest_gap = max a.greatest_gap (t - a.latest);
@@ -85,6 +92,7 @@ first_account t sender d = record {
   sequence_number = d.number;
   ended = d.terminated;
   kinds = with_one_more (kind_of d) no_packets;
+  numbering = first_numbering;
   skipped = 0;
   late = 0;
   repeats = 0;
@@ -95,7 +103,7 @@ first_account t sender d = record {
 -- ---- what it tells that is new
 
 abbrev pub quiet : Event → News
-quiet event = record { event = event; skipped = 0; began_anew = false; priority = None; renamed = false; moved = false }
+quiet event = record { event = event; skipped = 0; began_anew = false; leaves_out = None; priority = None; renamed = false; moved = false }
 
 abbrev pub discarded_event : ℕ → Account → Event
 discarded_event arrived a = if arrived == a.sequence_number then Repeated else OutOfSequence
@@ -110,8 +118,9 @@ changed from to = if from == to then None else Some (record { from = from; to = 
 unfoldable pub taken_news : ℕ → Sender → Data → Account → News
 taken_news t sender d a = record {
   event = taken_event t d.terminated a;
-  skipped = skipped_at t d.number a;
+  skipped = lost_at (begins_life t d.terminated a) d.number a;
   began_anew = begins_anew t d.number a;
+  leaves_out = omission_in a.numbering (numbering_at (begins_life t d.terminated a) d.number a);
   priority = changed a.priority d.priority;
   renamed = not (bytes_eq a.name (name_of d));
   moved = not (same_sender a.sender sender);

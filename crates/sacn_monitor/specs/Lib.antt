@@ -1,5 +1,6 @@
 pub mod Kinds
 pub mod Rates
+pub mod Numberings
 pub mod Accounts
 pub mod Streams
 pub mod Chains

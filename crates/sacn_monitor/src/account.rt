@@ -3,10 +3,11 @@
 ghost use Rattle.std.specs.Prelude.{◌≡◌, ◌≤◌, not, length};
 ghost use Rattle.std.specs.Str.{bytes_eq};
 ghost use Rattle.sacn_framing.specs.Naming.{padded};
-ghost use Rattle.sacn_monitor.specs.Accounts.{same_sender, is_fresh, is_discarded, skipped_by, skipped_at, begins_anew, changed, taken_event, discarded_event, fitted, name_of, IsFitted, taken_news, news_of, after_packet, after_taken, after_discarded, first_account};
+ghost use Rattle.sacn_monitor.specs.Accounts.{same_sender, is_fresh, is_discarded, begins_life, lost_at, numbering_at, begins_anew, changed, taken_event, discarded_event, fitted, name_of, IsFitted, taken_news, news_of, after_packet, after_taken, after_discarded, first_account};
 
 use crate::kinds::Kinds;
 use crate::news::{Change, Event, News};
+use crate::numbering::Numbering;
 use crate::rate::Rate;
 use sacn_framing::DataView;
 use sacn_root::put;
@@ -44,6 +45,8 @@ pub struct Account {
     pub ended: bool,
     /// The taken packets, by kind.
     pub kinds: Kinds,
+    /// How the source numbers its packets.
+    pub numbering: Numbering,
     /// The sequence numbers that taken packets skipped: packets lost on the way.
     pub skipped: u64,
     /// Discarded packets, out of sequence.
@@ -73,6 +76,7 @@ impl Account {
             sequence_number: packet.number(),
             ended: packet.terminated(),
             kinds,
+            numbering: Numbering::first(),
             skipped: 0,
             late: 0,
             repeats: 0,
@@ -125,14 +129,32 @@ impl Account {
         }
     }
 
-    // The numbers that a taken packet skips.
-    fn skips(&self, moment: u64, arrived: u8) -> u8
-        ensures { result ≡ skipped_at moment arrived self.now }
+    // Whether a taken packet is the first of a stream: the one before was lost, or had ended.
+    fn begins_life(&self, moment: u64, terminated: bool) -> bool
+        ensures { result ≡ begins_life moment terminated self.now }
     {
-        if self.is_fresh(moment) {
-            skipped(self.sequence_number, arrived)
-        } else {
+        !self.is_fresh(moment) | (self.ended & !terminated)
+    }
+
+    // The packets that were lost before a taken one.
+    fn lost(&self, begins: bool, arrived: u8) -> u8
+        ensures { result ≡ lost_at begins arrived self.now }
+    {
+        if begins {
             0
+        } else {
+            self.numbering.lost(self.sequence_number, arrived)
+        }
+    }
+
+    // How the source numbers its packets, as far as a taken one tells.
+    fn numbering_at(&self, begins: bool, arrived: u8) -> Numbering
+        ensures { result ≡ numbering_at begins arrived self.now }
+    {
+        if begins {
+            Numbering::first()
+        } else {
+            self.numbering.after(self.sequence_number, arrived)
         }
     }
 
@@ -164,12 +186,15 @@ impl Account {
         ensures news { result ≡ taken_news moment sender packet.now self.old }
         ensures account { self.new ≡ after_taken moment sender packet.now self.old }
     {
-        let skipped = self.skips(moment, packet.number());
+        let begins = self.begins_life(moment, packet.terminated());
+        let skipped = self.lost(begins, packet.number());
+        let numbering = self.numbering_at(begins, packet.number());
         let gap = moment.saturating_sub(self.latest);
         let news = News {
             event: self.taken_event(moment, packet.terminated()),
             skipped,
             began_anew: self.begins_anew(moment, packet.number()),
+            leaves_out: self.numbering.omission(numbering),
             priority: change(self.priority, packet.priority()),
             renamed: rename(&mut self.name, packet),
             moved: !same_sender(&self.sender, &sender),
@@ -180,22 +205,11 @@ impl Account {
         self.sequence_number = packet.number();
         self.ended = packet.terminated();
         self.kinds.count(packet);
+        self.numbering = numbering;
         self.skipped = self.skipped.saturating_add(u64::from(skipped));
         self.greatest_gap = self.greatest_gap.max(gap);
         self.rate.count(moment);
         news
-    }
-}
-
-// The numbers between two that follow one another; none where the second seems to lie behind.
-fn skipped(held: u8, arrived: u8) -> u8
-    ensures { result ≡ skipped_by held arrived }
-{
-    let ahead = arrived.wrapping_sub(held);
-    if ahead < 128 {
-        ahead.saturating_sub(1)
-    } else {
-        0
     }
 }
 

@@ -33,10 +33,12 @@ pub struct Change {
 #[derive(Clone, Copy, Debug, PartialEq, Eq)]
 pub struct News {
     pub event: Event,
-    /// The sequence numbers that were skipped: so many packets are missing.
+    /// The sequence numbers that were skipped: so many packets are missing. One that the source is known to leave out isn't counted.
     pub skipped: u8,
     /// The sequence numbers go back by twenty or more: the sender began them anew (E1.31, 6.7.2).
     pub began_anew: bool,
+    /// The number that the source leaves out at each turn of its numbers, where it is known to from this packet on.
+    pub leaves_out: Option<u8>,
     pub priority: Option<Change>,
     /// The source has another name than before (E1.31, 6.2.2).
     pub renamed: bool,
@@ -53,6 +55,7 @@ impl News {
             event,
             skipped: 0,
             began_anew: false,
+            leaves_out: None,
             priority: None,
             renamed: false,
             moved: false,

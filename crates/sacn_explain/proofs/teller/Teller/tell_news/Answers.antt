@@ -1,7 +1,7 @@
 use Rattle.std.proofs.Common.{nat_lt, ◌++◌}
 use Rattle.sacn_explain.specs.declared.options.Form.{Form}
 use Rattle.sacn_explain.specs.PacketLines.{anew_line, moved_line, renamed_line, skipped_line}
-use Rattle.sacn_explain.specs.Tellings.{priority_told, where_so}
+use Rattle.sacn_explain.specs.Tellings.{omission_told, priority_told, where_so}
 use Rattle.sacn_explain.proofs.Telling.{then}
 use Rattle.sacn_explain.proofs.teller.Teller.tell_news.Goals as goal
 
@@ -15,7 +15,8 @@ returns g c =
     let s = c.args.stream.now in
     let news = c.args.news.now in
     let skipped = λ (form : Form). where_so (nat_lt 0 news.skipped) (skipped_line form now s news.skipped) in
-    let anew = λ (form : Form). where_so news.began_anew (anew_line form now s) ++ skipped form in
+    let omission = λ (form : Form). omission_told form now s news.leaves_out ++ skipped form in
+    let anew = λ (form : Form). where_so news.began_anew (anew_line form now s) ++ omission form in
     let priority = λ (form : Form). priority_told form now s news.priority ++ anew form in
     let renamed = λ (form : Form). where_so news.renamed (renamed_line form now s) ++ priority form in
     let moved = λ (form : Form). where_so news.moved (moved_line form now s) ++ renamed form in
@@ -23,4 +24,5 @@ returns g c =
     (then {O = O} contents r c.tell_event.new.self c.tell_move.new.self end _ renamed c.in_ok-tell_move.ensures
     (then {O = O} contents r c.tell_move.new.self c.tell_name.new.self end _ priority c.in_ok-tell_name.ensures
     (then {O = O} contents r c.tell_name.new.self c.tell_priority.new.self end _ anew c.in_ok-tell_priority.ensures
-    (then {O = O} contents r c.tell_priority.new.self c.tell_restart.new.self end _ skipped c.in_ok-tell_restart.ensures c.tell_gap.ensures))))
+    (then {O = O} contents r c.tell_priority.new.self c.tell_restart.new.self end _ omission c.in_ok-tell_restart.ensures
+    (then {O = O} contents r c.tell_restart.new.self c.tell_omission.new.self end _ skipped c.in_ok-tell_omission.ensures c.tell_gap.ensures)))))

@@ -1,0 +1,124 @@
+//! How a desk opens the stream of a universe.
+ghost use Rattle.std.specs.Prelude.{◌≡◌, ◌≤◌, ◌<◌, length};
+ghost use Rattle.std.specs.Result.{ForOk};
+ghost use Rattle.sacn_edge.specs.ConsoleSends.{Handed};
+ghost use Rattle.sacn_edge.specs.Hearings.{Hands};
+ghost use Rattle.sacn_live.specs.Openings.{IsHanded, begins, begins_by, begun_after, begun_by, begun_of, link_of, none_begun, opening_copy};
+
+use arrayvec::ArrayVec;
+use sacn_console::limits::MAX_DATAGRAM;
+use sacn_edge::{BUFFER_OCTETS, Link, Received};
+use sacn_framing::{Packet, read_packet};
+use std::alloc::{AllocError, Global};
+
+/// So much less than a packet's number is that of the copy that goes before it.
+pub(crate) const OPENING_STEP: u8 = 20;
+
+/// Where the sequence number of a data packet stands (E1.31, 6.7).
+pub(crate) const NUMBER_AT: usize = 111;
+
+/// The numbers that a universe may have, and 0.
+pub(crate) const UNIVERSES: usize = 64_000;
+
+/// A link of a desk that opens each stream so that it is taken whatever came before.
+///
+/// A receiver may still hold the number of an earlier life of this source, which ended less than 2.5 s ago, and discards what seems to
+/// lie up to 19 behind it (E1.31, 6.7.2). So a copy of the first packet of each universe goes before it, with a number less by 20: where the copy is
+/// discarded, the packet itself isn't, and behind the copy it isn't either.
+#[derive(Drop)]
+pub struct Opening<L> {
+    link: L,
+    // For each universe, whether a packet of it went out.
+    begun: Vec<bool>,
+}
+
+impl<L: Link + Drop> Opening<L> {
+    /// Over this link, on which nothing went out.
+    pub fn over(alloc: Global, link: L) -> Result<Self, AllocError>
+        ensures { ForOk result (λ opening. (link_of opening ≡ link) × (begun_of opening ≡ none_begun)) }
+    {
+        let begun = vec![in alloc; false; UNIVERSES]?;
+        Ok(Opening { link, begun })
+    }
+
+    /// Sends a datagram; before it, where it is the first packet of its universe, the copy that opens the stream. Returns
+    /// whether the datagram itself was taken.
+    pub fn send_opened(&mut self, datagram: &[u8]) -> bool
+        ensures sent { (handed : Handed)
+            × Hands (L.told (link_of self.old)) (L.told (link_of self.new)) handed
+            × IsHanded (begins (begun_of self.old) datagram.now) datagram.now result handed }
+        ensures begun { begun_of self.new ≡ begun_after (begun_of self.old) datagram.now }
+    {
+        if self.begins(datagram) {
+            self.send_both(datagram)
+        } else {
+            self.link.send(datagram)
+        }
+    }
+
+    // Whether it is the first packet of its universe, which it is once.
+    fn begins(&mut self, datagram: &[u8]) -> bool
+        ensures link { link_of self.new ≡ link_of self.old }
+        ensures begins { result ≡ begins (begun_of self.old) datagram.now }
+        ensures begun { begun_of self.new ≡ begun_after (begun_of self.old) datagram.now }
+    {
+        if datagram.len() <= NUMBER_AT || datagram.len() > MAX_DATAGRAM {
+            return false;
+        }
+        match read_packet(datagram) {
+            Ok(Packet::DataPacket(packet)) => self.begins_on(packet.universe()),
+            Ok(Packet::PagePacket(_)) => false,
+            Ok(Packet::SyncPacket) => false,
+            Err(_) => false,
+        }
+    }
+
+    fn begins_on(&mut self, universe: u16) -> bool
+        ensures link { link_of self.new ≡ link_of self.old }
+        ensures begins { result ≡ begins_by universe (begun_of self.old) }
+        ensures begun { begun_of self.new ≡ begun_by universe (begun_of self.old) }
+    {
+        let at = universe as usize;
+        if at >= self.begun.len() || self.begun[at] {
+            return false;
+        }
+        self.begun[at] = true;
+        true
+    }
+
+    // The copy, and then the datagram. Returns whether the latter was taken.
+    fn send_both(&mut self, datagram: &[u8]) -> bool
+        requires least { NUMBER_AT < length datagram.now }
+        requires most { length datagram.now ≤ MAX_DATAGRAM }
+        ensures sent { (handed : Handed)
+            × Hands (L.told (link_of self.old)) (L.told (link_of self.new)) handed
+            × IsHanded true datagram.now result handed }
+        ensures begun { begun_of self.new ≡ begun_of self.old }
+    {
+        let copy = copy_of(datagram);
+        let _ = self.link.send(copy.as_slice());
+        self.link.send(datagram)
+    }
+}
+
+// The copy of a packet that opens its stream.
+fn copy_of(datagram: &[u8]) -> ArrayVec<u8, MAX_DATAGRAM>
+    requires least { NUMBER_AT < length datagram.now }
+    requires most { length datagram.now ≤ MAX_DATAGRAM }
+    ensures { result.items ≡ opening_copy datagram.now }
+{
+    let mut copy = ArrayVec::new();
+    let _ = copy.try_extend_from_slice(datagram);
+    copy[NUMBER_AT] = copy[NUMBER_AT].wrapping_sub(OPENING_STEP);
+    copy
+}
+
+impl<L: Link + Drop> Link for Opening<L> {
+    fn receive(&mut self, buffer: &mut [u8; BUFFER_OCTETS]) -> Received {
+        self.link.receive(buffer)
+    }
+
+    fn send(&mut self, datagram: &[u8]) -> bool {
+        self.send_opened(datagram)
+    }
+}

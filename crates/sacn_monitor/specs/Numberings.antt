@@ -1,0 +1,68 @@
+-- How a source numbers its packets: which numbers it loses, and which it leaves out by a rule of its own.
+use Rattle.std.specs.Prelude.{◌≡◌, ◌≢◌, ℕ, ◌<◌, ◌≤◌, ◌-◌, ◌+◌, ◌%◌, min, nat_lt, Bool, true, false, ◌&&◌, ◌==◌, Option, Some, None, if◌then◌else◌}
+use Rattle.sacn_monitor.specs.declared.numbering.Numbering.{Numbering}
+use Rattle.sacn_monitor.specs.declared.numbering.TheConstants.{OMISSION_TURNS, OPENING_STEP}
+
+-- how far one number lies ahead of another, in turns of 256
+abbrev pub ahead_of : ℕ → ℕ → ℕ
+ahead_of held arrived = (arrived + 256 - held) % 256
+
+-- the numbers that lie between two; none where the second seems to lie behind the first
+abbrev pub skipped_by : ℕ → ℕ → ℕ
+skipped_by held arrived = if nat_lt (ahead_of held arrived) 128 then ahead_of held arrived - 1 else 0
+
+-- this number is one of them
+abbrev pub passes_over : ℕ → ℕ → ℕ → Bool
+passes_over held arrived number = nat_lt (ahead_of held arrived) 128 && (nat_lt 0 (ahead_of held number) && nat_lt (ahead_of held number) (ahead_of held arrived))
+
+abbrev pub first_numbering : Numbering
+first_numbering = record { opens = true; left_out = 0; turns = 0 }
+
+-- a stream begins with two copies of a packet, the second of which is so far ahead
+abbrev pub begins : ℕ → ℕ → Numbering → Bool
+begins held arrived n = n.opens && (ahead_of held arrived == OPENING_STEP)
+
+-- the turns in a row that left out the number of n, after a step that doesn't begin one
+abbrev pub turns_after : ℕ → ℕ → Numbering → ℕ
+turns_after held arrived n =
+    if passes_over held arrived n.left_out
+    then min (n.turns + 1) OMISSION_TURNS
+    else if arrived == n.left_out then 0 else n.turns
+
+-- what is known after a step: one number alone that a step passes over may be one that is left out
+abbrev pub numbering_after : ℕ → ℕ → Numbering → Numbering
+numbering_after held arrived n =
+    if n.turns == 0
+    then record { opens = false; left_out = (held + 1) % 256; turns = if skipped_by held arrived == 1 then 1 else 0 }
+    else record { opens = false; left_out = n.left_out; turns = turns_after held arrived n }
+
+-- by a step the source is known to leave out a number that the step passes over
+abbrev pub leaves_out_in : ℕ → ℕ → Numbering → Bool
+leaves_out_in held arrived n = (n.turns == OMISSION_TURNS) && passes_over held arrived n.left_out
+
+-- the packets that a step lost
+abbrev pub lost_in : ℕ → ℕ → Numbering → ℕ
+lost_in held arrived n =
+    if begins held arrived n then 0
+    else if leaves_out_in held arrived (numbering_after held arrived n) then skipped_by held arrived - 1
+    else skipped_by held arrived
+
+-- the number that a source is known to leave out from a step on
+abbrev pub omission_in : Numbering → Numbering → Option ℕ
+omission_in before after = if nat_lt before.turns OMISSION_TURNS && (after.turns == OMISSION_TURNS) then Some after.left_out else None
+
+-- ---- laws
+
+-- the number after this one, by a source that leaves out one
+abbrev pub next_without : ℕ → ℕ → ℕ
+next_without number held = if (held + 1) % 256 == number then (held + 2) % 256 else (held + 1) % 256
+
+-- Once a source is known to leave out a number, it loses nothing as long as it counts so, and stays known.
+abbrev pub AnOmissionIsNoLoss : Type 0
+AnOmissionIsNoLoss = (number held : ℕ) (n : Numbering) → number < 256 → held < 256 → held ≢ number → n.left_out ≡ number → n.turns ≡ OMISSION_TURNS
+    → (lost_in held (next_without number held) n ≡ 0)
+    × (numbering_after held (next_without number held) n ≡ record { opens = false; left_out = number; turns = OMISSION_TURNS })
+
+-- What else a step passes over is lost: all of it, but for one number that the source is known to leave out.
+abbrev pub ALossBesideIsCounted : Type 0
+ALossBesideIsCounted = (held arrived : ℕ) (n : Numbering) → begins held arrived n ≡ false → skipped_by held arrived ≤ lost_in held arrived n + 1

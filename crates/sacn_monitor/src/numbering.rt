@@ -1,0 +1,115 @@
+//! How a source numbers its packets: by which steps, and which number it leaves out.
+
+ghost use Rattle.std.specs.Prelude.{◌≡◌};
+ghost use Rattle.sacn_monitor.specs.Numberings.{first_numbering, begins, lost_in, numbering_after, omission_in, passes_over, skipped_by};
+
+/// A source that has left out the same number so many turns in a row leaves it out by a rule of its own.
+pub(crate) const OMISSION_TURNS: u8 = 3;
+
+/// A sender may begin a stream with two copies of one packet whose numbers stand so far apart: whatever number a
+/// receiver holds of an earlier stream, one of them is in sequence (E1.31, 6.7.2).
+pub(crate) const OPENING_STEP: u8 = 20;
+
+/// What is known of how a source numbers its packets on a universe.
+#[derive(Clone, Copy, PartialEq, Eq)]
+pub struct Numbering {
+    /// The latest taken packet is the first one of its stream.
+    pub opens: bool,
+    /// The number that the source left out at its latest turns, where `turns` isn't 0.
+    pub left_out: u8,
+    /// So many turns in a row it did so: 3 for three or more.
+    pub turns: u8,
+}
+
+impl Numbering {
+    /// That of a stream whose first packet was just taken.
+    pub(crate) fn first() -> Self
+        ensures { result ≡ first_numbering }
+    {
+        Numbering {
+            opens: true,
+            left_out: 0,
+            turns: 0,
+        }
+    }
+
+    /// What is known after the step from one taken number to the next.
+    pub(crate) fn after(self, held: u8, arrived: u8) -> Self
+        ensures { result ≡ numbering_after held arrived self }
+    {
+        if self.turns == 0 {
+            return Numbering {
+                opens: false,
+                left_out: held.wrapping_add(1),
+                turns: u8::from(skipped(held, arrived) == 1),
+            };
+        }
+        if passes_over(held, arrived, self.left_out) {
+            return Numbering {
+                opens: false,
+                left_out: self.left_out,
+                turns: self.turns.saturating_add(1).min(OMISSION_TURNS),
+            };
+        }
+        Numbering {
+            opens: false,
+            left_out: self.left_out,
+            turns: if arrived == self.left_out { 0 } else { self.turns },
+        }
+    }
+
+    /// How many packets were lost in that step. None is where a stream begins so, nor is the number that the source is
+    /// known to leave out.
+    pub(crate) fn lost(self, held: u8, arrived: u8) -> u8
+        ensures { result ≡ lost_in held arrived self }
+    {
+        let skipped = skipped(held, arrived);
+        if skipped == 0 || self.begins(held, arrived) {
+            return 0;
+        }
+        let after = self.after(held, arrived);
+        if after.turns == OMISSION_TURNS && passes_over(held, arrived, after.left_out) {
+            return skipped.saturating_sub(1);
+        }
+        skipped
+    }
+
+    /// The number that the source is known to leave out from this step on, and wasn't before.
+    pub(crate) fn omission(self, after: Self) -> Option<u8>
+        ensures { result ≡ omission_in self after }
+    {
+        if self.turns < OMISSION_TURNS && after.turns == OMISSION_TURNS {
+            Some(after.left_out)
+        } else {
+            None
+        }
+    }
+
+    // Whether a stream begins with this step.
+    fn begins(self, held: u8, arrived: u8) -> bool
+        ensures { result ≡ begins held arrived self }
+    {
+        self.opens & (arrived.wrapping_sub(held) == OPENING_STEP)
+    }
+}
+
+// The numbers between two that follow one another; none where the second seems to lie behind.
+fn skipped(held: u8, arrived: u8) -> u8
+    ensures { result ≡ skipped_by held arrived }
+{
+    let ahead = arrived.wrapping_sub(held);
+    if ahead < 128 {
+        ahead.saturating_sub(1)
+    } else {
+        0
+    }
+}
+
+// Whether a number lies between two that follow one another.
+fn passes_over(held: u8, arrived: u8, number: u8) -> bool
+    ensures { result ≡ passes_over held arrived number }
+{
+    let ahead = arrived.wrapping_sub(held);
+    let place = number.wrapping_sub(held);
+    (ahead < 128) & (0 < place) & (place < ahead)
+}
