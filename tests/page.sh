@@ -304,6 +304,14 @@ verdict "a stop is an alarm, and loses no source" $? "$(grep -o '"alarms":.*' bo
 kill "$desk"
 wait "$desk"
 
+# A desk that died stays among the alarms, whatever comes behind it: forty datagrams that are refused push out one another.
+for _ in $(seq 50); do curl -s -m 5 "$at/state" | grep -qF '"kind":"lost"' && break; sleep 0.1; done
+for _ in $(seq 40); do echo hello >/dev/udp/127.0.0.1/$udp; done
+for _ in $(seq 50); do curl -s -m 5 "$at/state" | grep -qF '"alarms_left_out":' && break; sleep 0.1; done
+answers "the document behind a loss and forty refused datagrams" 200 "$at/state"
+[ "$(grep -o '"kind":"lost"' body | wc -l)" = 1 ] && [ "$(grep -o '"kind":' body | wc -l)" = 32 ] && grep -qE '\],"alarms_left_out":[0-9]+,' body
+verdict "a loss stays in sight" $? "$(grep -o '"alarms":.*' body)"
+
 # As many universes as are merged at once, and one more.
 lines=()
 for universe in $(seq 101 116); do

@@ -7,7 +7,7 @@ use sacn_root::PacketFault;
 use std::alloc::{AllocError, Global};
 use std::fmt::Write;
 
-/// The most alarms of a network that are kept: the latest.
+/// The most alarms of a network that are kept.
 pub const MAX_ALARMS: usize = 32;
 
 /// What happened. A place is that of a source on a universe.
@@ -40,9 +40,11 @@ pub enum Trouble {
 pub struct Alarm {
     pub moment: u64,
     pub trouble: Trouble,
+    // How many there were before it.
+    earlier: u64,
 }
 
-/// The latest alarms, the oldest first.
+/// The latest alarms, the oldest first. A loss is kept before all else, so that the dozens of ends and returns that follow one don't push it out.
 #[derive(Drop)]
 pub struct Alarms {
     latest: Vec<Alarm>,
@@ -62,18 +64,41 @@ impl Alarms {
         }
     }
 
-    /// One more, in place of the oldest where there are as many as are kept.
+    /// One more. Where there are as many as are kept it takes the place of the oldest that is no loss. Where all are losses, a loss takes
+    /// the place of the oldest, and anything else is left out.
     ///
     /// Errors: a growth was refused.
     pub fn add(&mut self, moment: u64, trouble: Trouble) -> Result<(), AllocError> {
-        if self.latest.len() >= self.most {
-            if !self.latest.is_empty() {
-                let _ = self.latest.remove(0);
-            }
+        let earlier = self.count;
+        if self.makes_room(&trouble) {
+            self.latest.push(Alarm {
+                moment,
+                trouble,
+                earlier,
+            })?;
         }
-        self.latest.push(Alarm { moment, trouble })?;
         self.count = self.count.saturating_add(1);
         Ok(())
+    }
+
+    // Leaves out what one more takes the place of. Returns whether that has room then.
+    fn makes_room(&mut self, trouble: &Trouble) -> bool {
+        if self.latest.len() < self.most {
+            return true;
+        }
+        let place = self
+            .latest
+            .iter()
+            .position(|alarm| !alarm.trouble.is_loss());
+        let place = match place {
+            Some(place) => place,
+            None if trouble.is_loss() => 0,
+            None => return false,
+        };
+        if place < self.latest.len() {
+            let _ = self.latest.remove(place);
+        }
+        true
     }
 
     /// How many there were.
@@ -81,18 +106,28 @@ impl Alarms {
         self.count
     }
 
+    /// How many of them aren't kept.
+    pub fn left_out(&self) -> u64 {
+        self.count.saturating_sub(self.latest.len() as u64)
+    }
+
     /// Those behind the first so many, as far as they are kept.
     pub fn after(&self, count: u64) -> &[Alarm] {
         let latest = self.latest.as_slice();
-        let fresh = self.count.saturating_sub(count);
-        match usize::try_from(fresh) {
-            Ok(fresh) if fresh < latest.len() => &latest[latest.len() - fresh..],
-            _ => latest,
+        for place in 0..latest.len() {
+            if latest[place].earlier >= count {
+                return &latest[place..];
+            }
         }
+        &[]
     }
 }
 
 impl Trouble {
+    fn is_loss(&self) -> bool {
+        matches!(self, Trouble::Lost(_))
+    }
+
     // Its word in a document.
     fn kind(&self) -> &'static str {
         match self {

@@ -298,7 +298,11 @@ fn push_alarms(
         comma = ",";
         push_alarm(text, alarm, board.monitor().streams())?;
     }
-    text.push(']')
+    text.push(']')?;
+    match board.alarms().left_out() {
+        0 => Ok(()),
+        count => push_number(text, "alarms_left_out", count),
+    }
 }
 
 fn push_counts(

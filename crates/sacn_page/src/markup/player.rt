@@ -3,8 +3,8 @@
 /// It follows the script of the page.
 pub const PLAYER: &str = r##"
 // A recording: the document of a moment is asked for, one at a time; a later wish takes the place of one that waits.
-const SECOND = 1000, LEAP = 10000, MAX_MARKS = 256;
-const film = { name: '', length: 0, at: 0, universe: null, alarms: [], isKnown: false, isWanted: false, isAsking: false, isLost: false, from: null };
+const SECOND = 1000, LEAP = 10000;
+const film = { name: '', length: 0, at: 0, universe: null, alarms: [], leftOut: 0, isKnown: false, isWanted: false, isAsking: false, isLost: false, from: null };
 
 function spelled(ms) {
   const seconds = Math.floor(ms / SECOND);
@@ -41,7 +41,7 @@ async function ask() {
 // What is known of it as a whole, and its alarms: the state at its end.
 async function learn() {
   const end = await told('/state');
-  Object.assign(film, { name: end.recording.name, length: end.recording.length, alarms: end.alarms, isKnown: true });
+  Object.assign(film, { name: end.recording.name, length: end.recording.length, alarms: end.alarms, leftOut: end.alarms_left_out || 0, isKnown: true });
   film.at = bounded(Math.trunc(Number(asked.get('at'))) || 0, 0, film.length);
   put(part('title'), 'sacn explain');
   put(part('name'), film.name);
@@ -70,8 +70,8 @@ function showMarks() {
     add(part('marks'), 'option').value = String(alarm.ms);
   }
   part('no-alarms').hidden = count > 0;
-  part('most-alarms').hidden = count < MAX_MARKS;
-  put(part('most-alarms'), `These are the latest ${count}.`);
+  part('most-alarms').hidden = film.leftOut === 0;
+  put(part('most-alarms'), leftOutText(film.leftOut));
 }
 function showTime() {
   part('time').value = String(film.at);

@@ -5,10 +5,10 @@
 pub const SCRIPT: &str = r##"<script>
 'use strict';
 // What the program tells, kept as it came: a whole `state`, then `change`s of members. Foreign texts go into text nodes alone.
-const SLOTS = 512, MINUTE = 60000, SILENCE = 3000, COLOURS = 8;
+const SLOTS = 512, MINUTE = 60000, SILENCE = 3000, COLOURS = 8, MAX_ALARMS = 32;
 const isRecording = document.documentElement.dataset.shows === 'recording';
 const part = (id) => document.getElementById(id);
-const known = { ms: 0, universe: null, heard: [], sources: new Map(), levels: new Uint8Array(SLOTS), winners: new Uint16Array(SLOTS), alarms: [], counts: {} };
+const known = { ms: 0, universe: null, heard: [], sources: new Map(), levels: new Uint8Array(SLOTS), winners: new Uint16Array(SLOTS), alarms: [], leftOut: 0, counts: {} };
 const asked = new URLSearchParams(location.hash.slice(1));
 let past = [];
 let slot = bounded(Number(asked.get('slot')) || 1, 1, SLOTS);
@@ -55,8 +55,14 @@ function takeDocument(told) {
     while (past.length > 1 && past[1].ms < told.ms - MINUTE) past.shift();
   }
   if (told.winners !== undefined) hex(told.winners, 4, known.winners);
-  for (const alarm of told.alarms || []) known.alarms.push(alarm);
-  known.alarms = known.alarms.slice(-32);
+  for (const alarm of told.alarms || []) keepAlarm(alarm);
+  if (told.alarms) known.leftOut = told.alarms_left_out || 0;
+}
+
+// As the program keeps them: beyond so many the oldest that is no loss makes room, and a loss for newer losses alone.
+function keepAlarm(alarm) {
+  known.alarms.push(alarm);
+  if (known.alarms.length > MAX_ALARMS) known.alarms.splice(Math.max(0, known.alarms.findIndex((it) => it.kind !== 'lost')), 1);
 }
 
 function open(universe) {
@@ -255,6 +261,7 @@ function showSources() {
 
 const clock = new Intl.DateTimeFormat(undefined, { hour: '2-digit', minute: '2-digit', second: '2-digit' });
 let shownAlarms = [];
+const leftOutText = (count) => `${count.toLocaleString()} earlier ones are left out, losses last.`;
 function showAlarms() {
   if (isRecording) return;
   part('no-alarms').hidden = known.alarms.length > 0;
@@ -266,9 +273,13 @@ function showAlarms() {
     const item = document.createElement('li'), at = add(item, 'time', clock.format(new Date(Date.now() - (now() - alarm.ms))));
     at.title = `${(alarm.ms / 1000).toFixed(1)} s after the watch began`;
     item.append(alarm.text);
+    item.alarm = alarm;
     list.prepend(item);
   }
-  while (list.children.length > known.alarms.length) list.lastChild.remove();
+  const gone = shownAlarms.filter((shown) => !known.alarms.some((alarm) => same(shown, alarm)));
+  if (gone.length > 0) [...list.children].filter((item) => gone.includes(item.alarm)).forEach((item) => item.remove());
+  part('most-alarms').hidden = known.leftOut === 0;
+  put(part('most-alarms'), leftOutText(known.leftOut));
   shownAlarms = known.alarms.slice();
 }
 
