@@ -107,7 +107,7 @@ setup_among() {
   while [ $# != 0 ]; do
     case $1 in
       --listen | --from | --widget | --seconds) shift ;;
-      -*) ;;
+      -?*) ;;
       *) echo "$1"; return ;;
     esac
     [ $# = 0 ] || shift
@@ -118,9 +118,18 @@ setup_among() {
 first_universes=128
 most_universes=1024
 
+# Puts all octets of standard input into a file without a name, which is standard input from then on, so that it can be read twice.
+keep_input() {
+  local copy
+  copy=$(mktemp) || exit 4
+  cat >"$copy"
+  exec <"$copy"
+  rm "$copy"
+}
+
 # Joins the groups that a gateway or a watch wants, for as long as this shell lives or what it becomes.
 join_groups() {
-  local program=$1 command=$2 groups=(239.255.250.214) lists=() port universe line
+  local program=$1 command=$2 groups=(239.255.250.214) lists=() port setup universe line
   shift 2
   line=$(given --listen "$@")
   if [ -n "${line//0.0.0.0/}" ]; then
@@ -137,10 +146,15 @@ join_groups() {
     exit 4
   fi
   if [ "$command" = gateway ]; then
+    setup=$(setup_among "$@")
+    if [ "$setup" = - ]; then
+      keep_input
+      setup=/proc/self/fd/0
+    fi
     # (a faulty setup joins none: the gateway itself tells its fault)
     while read -r line; do
       if [[ $line =~ (239\.255\.[0-9]+\.[0-9]+) ]]; then groups+=("${BASH_REMATCH[1]}"); fi
-    done < <("$program" groups "$(setup_among "$@")" --device lo 2>/dev/null || true)
+    done < <("$program" groups "$setup" --device lo 2>/dev/null || true)
   else
     # (the program refuses what is no universe or row of them)
     for line in $(given --universe "$@"); do
