@@ -169,6 +169,17 @@ join_words() {
     joins '--lists 5568 [0-9]+ lo 239.255.250.214( 239.255.0.[0-9]+){128}' watch --join=lo && joins '--lists 5570 [0-9]+ lo 239.255.250.214( 239.255.0.[0-9]+){128}' watch --port 5570 --join lo --plain && prints "released watch --port 5570 --plain"
 }
 check "a watch joins the universes that are named, or the first and the lists" join_words
+# A program that says what was joined for it.
+printf '#!/usr/bin/env bash\necho "${SACN_JOINED-nothing was joined}"\n' >"$room/joined"
+chmod +x "$room/joined"
+joined() { local wanted=$1; shift; (sacn_join=$tree/release/$arch-linux/sacn-join; . "$tree/tools/run.sh" && SACN_JOINED=x run "$room/joined" "$@") >"$room/out" 2>"$room/err" </dev/null; status=$?; grep -qxF -- "$wanted" "$room/out"; }
+joined_is_told() {
+  joined "lo joined the discovery group, universes 1 to 128 and those that sources list; --universe 1-512 joins others" watch --join lo &&
+    joined "lo joined the discovery group and universe 7; --universe names others" watch --universe 7 --join lo &&
+    joined "lo joined the discovery group and universes 255-257, 600; --universe names others" watch --universe 255-257 --join=lo --universe=600 &&
+    joined "lo joined the discovery group and the setup's universes" gateway x --join lo && joined "nothing was joined" watch && joined "nothing was joined" gateway x
+}
+check "the program is told what was joined for it" joined_is_told
 # A program that says how much stack it has.
 printf '#!/usr/bin/env bash\necho "stack $(ulimit -S -s)"\n' >"$room/stacked"
 chmod +x "$room/stacked"

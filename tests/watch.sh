@@ -142,6 +142,23 @@ stopped go --plain ""
 grep -qE '^ *[0-9]+\.[0-9]{3} s  not heard for [0-9]+\.[0-9]{3} s: this program was stopped$' out
 verdict "a stop in words" $? "$(grep -v universe out | head -n 3)"
 
+# A watch that joined groups and hears nothing says which.
+join=$top/release/$(uname -m)-linux/sacn-join
+if [ -x "$join" ]; then
+  printf '. "%s/tools/run.sh"\nsacn_join=%s\nrun "%s" watch --port 25834 --plain --seconds 6 "$@"\n' "$top" "$join" "$sacn" >silent
+  bash silent --join lo </dev/null >/dev/null 2>first &
+  started+=("$!")
+  bash silent --join lo --universe 600 --universe 1-512 </dev/null >/dev/null 2>named
+  wait "${started[-1]}"
+  advice="is the console on this network, or does it send by unicast to another host?"
+  grep -qxF "nothing heard for 5 s at 0.0.0.0:25834; lo joined the discovery group, universes 1 to 128 and those that sources list; --universe 1-512 joins others; $advice" first
+  verdict "silence after --join" $? "$(tail -n 1 first)"
+  grep -qxF "nothing heard for 5 s at 0.0.0.0:25834; lo joined the discovery group and universes 600, 1-512; --universe names others; $advice" named
+  verdict "silence after --join of universes that are named" $? "$(tail -n 1 named)"
+else
+  echo "skipped watch: silence after --join: there is no sacn-join for this processor"
+fi
+
 if ! command -v python3 >/dev/null; then
   echo "skipped watch: a terminal: no python3"
   exit 0

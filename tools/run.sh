@@ -127,9 +127,9 @@ keep_input() {
   rm "$copy"
 }
 
-# Joins the groups that a gateway or a watch wants, for as long as this shell lives or what it becomes.
+# Joins the groups that a gateway or a watch wants, for as long as this shell lives or what it becomes. What that is the program says where it hears nothing.
 join_groups() {
-  local program=$1 command=$2 groups=(239.255.250.214) lists=() port setup universe line
+  local program=$1 command=$2 groups=(239.255.250.214) lists=() port setup universe line joined
   shift 2
   line=$(given --listen "$@")
   if [ -n "${line//0.0.0.0/}" ]; then
@@ -146,6 +146,7 @@ join_groups() {
     exit 4
   fi
   if [ "$command" = gateway ]; then
+    joined="the discovery group and the setup's universes"
     setup=$(setup_among "$@")
     if [ "$setup" = - ]; then
       keep_input
@@ -167,14 +168,19 @@ join_groups() {
       say "--join: $((${#groups[@]} - 1)) universes are named, and at most $most_universes are joined: name fewer by --universe"
       exit 2
     fi
+    joined=$(given --universe "$@" | paste -s -d ' ')
+    case $joined in *[\ -]*) joined="universes ${joined// /, }" ;; *) joined="universe $joined" ;; esac
+    joined="the discovery group and $joined; --universe names others"
     port=$(given --port "$@" | tail -n 1)
     if [ "${#groups[@]}" = 1 ]; then
       # (few consoles list what they send in the standard's form)
       lists=(--lists "${port:-5568}")
+      joined="the discovery group, universes 1 to $first_universes and those that sources list; --universe 1-512 joins others"
       for ((universe = 1; universe <= first_universes; universe++)); do groups+=("239.255.0.$universe"); done
     fi
   fi
   "$sacn_join" ${lists[@]+"${lists[@]}"} $$ "$device" "${groups[@]}" || exit $?
+  export SACN_JOINED="$device joined $joined"
 }
 
 # Whether this shell is in front on its terminal.
@@ -229,6 +235,7 @@ run() {
   # Where standard input is closed, nothing else may get its number.
   [ -e /proc/self/fd/0 ] || exec </dev/null
   raise_stack
+  unset SACN_JOINED
   if [ $# = 0 ] && [ -t 0 ]; then say "reads one datagram as hexadecimal digits, up to Ctrl-D; \`sacn --help\` lists the commands"; fi
   case ${1-} in
     gateway | watch)

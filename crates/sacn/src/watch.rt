@@ -3,7 +3,7 @@ use crate::explain::form_of;
 use crate::page::serve;
 use crate::piped::Piped;
 use sacn_commands::ending::Ending;
-use sacn_commands::live::{clock_of, of_socket, say_hearing};
+use sacn_commands::live::{clock_of, joined_groups, of_socket, say_hearing};
 use sacn_explain::Options;
 use sacn_files::words::short_in;
 use sacn_live::{Lines, Outputs, UdpReceiver, guard_standard_descriptors, output_is_terminal};
@@ -50,7 +50,7 @@ pub fn watch<R: AllocGlobal + Env + Net + Clock, O: Write, E: Write>(
 }
 
 // Tells what is heard at an address line by line, on standard output. No output that isn't read holds it up.
-fn tell<R: AllocGlobal + Net + Clock>(
+fn tell<R: AllocGlobal + Env + Net + Clock>(
     rt: &R,
     address: SocketAddrV4,
     asked: &WatchAsked,
@@ -64,7 +64,9 @@ fn tell<R: AllocGlobal + Net + Clock>(
     };
     let outputs = Outputs::new(rt.alloc(), lines)?;
     let mut out = Piped::new(outputs.out());
-    let run = tell_on(rt, address, asked, until, &outputs, &mut out);
+    let joined = joined_groups(rt);
+    let outputs_and_groups = (&outputs, joined.as_deref());
+    let run = tell_on(rt, address, asked, until, outputs_and_groups, &mut out);
     // (nobody is told how many lines wait for a reader that has gone)
     if out.reader_has_gone() {
         let _ = outputs.err().flush();
@@ -79,11 +81,11 @@ fn tell_on<R: AllocGlobal + Net + Clock, O: Write>(
     address: SocketAddrV4,
     asked: &WatchAsked,
     until: u64,
-    outputs: &Outputs,
+    (outputs, joined): (&Outputs, Option<&str>),
     out: &mut O,
 ) -> Result<(), Ending> {
     let mut receiver = receiver_at(rt, address, &mut outputs.err())?;
-    receiver.tend(outputs);
+    receiver.tend(outputs, joined);
     say_hearing(address, receiver.room(), &mut outputs.err());
     let options = Options {
         port: asked.port,

@@ -17,6 +17,7 @@ use sacn_live::{
 use sacn_node::{NodeCore, NodeSetup, read_node};
 use sacn_words::{DeskAsked, GatewayAsked, moment_of};
 use std::alloc::Global;
+use std::env::{self, Env};
 use std::io::{ErrorKind, Read, Write};
 use std::net::{Ipv4Addr, Net, SocketAddrV4};
 use std::rt::{Clock, Files};
@@ -73,6 +74,14 @@ pub fn clock_of<'a, R: Clock>(rt: &'a R) -> Result<RigClock<'a, R>, Ending> {
     match RigClock::start(rt) {
         Ok(clock) => Ok(clock),
         Err(_) => Err(Ending::DeviceRead),
+    }
+}
+
+/// What the launcher says that it joined for this command: a device, and groups.
+pub fn joined_groups<R: AllocGlobal + Env>(rt: &R) -> Option<String> {
+    match env::var(rt, "SACN_JOINED") {
+        Ok(joined) if !joined.is_empty() => Some(joined),
+        _ => None,
     }
 }
 
@@ -140,7 +149,7 @@ fn check_widgets<E: Write>(
 }
 
 /// Runs a gateway, which prints its frames on standard output as they change. No output that isn't read holds it up.
-pub fn gateway<R: AllocGlobal + Files + Net + Clock, I: Read + Drop>(
+pub fn gateway<R: AllocGlobal + Files + Env + Net + Clock, I: Read + Drop>(
     rt: &R,
     asked: &GatewayAsked<'_>,
     input: &mut I,
@@ -153,7 +162,7 @@ pub fn gateway<R: AllocGlobal + Files + Net + Clock, I: Read + Drop>(
     run
 }
 
-fn gateway_on<R: AllocGlobal + Files + Net + Clock, I: Read + Drop>(
+fn gateway_on<R: AllocGlobal + Files + Env + Net + Clock, I: Read + Drop>(
     rt: &R,
     asked: &GatewayAsked<'_>,
     input: &mut I,
@@ -162,7 +171,7 @@ fn gateway_on<R: AllocGlobal + Files + Net + Clock, I: Read + Drop>(
     let mut err = outputs.err();
     let setup = of_file(setup_of_word(rt, asked.setup, input), asked.setup, &mut err)?;
     check_widgets(asked.widgets.as_slice(), &setup, &mut err)?;
-    run_setup(rt, asked, &setup, outputs)
+    run_setup(rt, asked, &setup, outputs, joined_groups(rt).as_deref())
 }
 
 // Runs a gateway of a setup. (The check of a function takes much longer the more values it has to drop on its ways out.)
@@ -171,9 +180,10 @@ fn run_setup<R: AllocGlobal + Net + Clock>(
     asked: &GatewayAsked<'_>,
     setup: &NodeSetup,
     outputs: &Outputs,
+    joined: Option<&str>,
 ) -> Result<(), Ending> {
     let mut receiver = receiver_of(rt, asked, setup, &mut outputs.err())?;
-    receiver.tend(outputs);
+    receiver.tend(outputs, joined);
     let mut interfaces = interfaces_of(rt, asked.widgets.as_slice())?;
     let mut watch = Watch::new(outputs.err());
     watch.count_drops(receiver.drops(rt.alloc())?);
