@@ -157,7 +157,7 @@ COMMANDS = {
 def answered(kind, name):
     """What the file's own command says of it."""
     run = subprocess.run([sacn, *COMMANDS[kind](name)], capture_output=True, text=True, check=False)
-    said = run.stderr.strip()
+    said = run.stderr.partition("\n")[0]
     if run.returncode == 3 and not said.startswith("refused step "):
         return said.removeprefix("refused ")
     return "right"

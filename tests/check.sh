@@ -389,6 +389,9 @@ tells "a file that is absent, and one after it" 4 absent bare.toml show.toml <<'
 bare.toml: Kind: no key tells what it is: name it by --as
 show.toml: right: a show
 E
+printf 'show.toml: right: a show\n-: colour: 1: UnknownKey: the keys here are version, udp_port, port\n' >wanted
+printf 'version = 1\ncolour = 1\nport = []\n' | timeout 20 "$sacn" check show.toml - >out 2>err
+[ "${PIPESTATUS[1]}" = 3 ] && cmp -s wanted out && echo "ok check: standard input among files" || echo "not ok check: standard input among files: $(head -n 2 out | tr '\n' '|')"
 tells "no file" 2 </dev/null
 tells "a kind that isn't one" 2 show.toml --as shows </dev/null
 cp show.toml $'odd\x1b[1m.toml'

@@ -43,6 +43,9 @@ run() {
   "$sacn" "$@" <"$input" >out 2>err || ran=$?
 }
 
+# refusal FILE CAUSE: what is said of a file that is refused: the cause alone, and behind it the file's name
+refusal() { printf 'refused %s\nsacn: %s: refused %s\n' "$2" "$1" "$2"; }
+
 # explains NAME [WORD..]: bad words have status 2, an explanation, and no output
 explains() {
   local name=$1
@@ -143,12 +146,34 @@ universes 1
 known 1
 " "" "files are decoded in their order"
 run /dev/null decode sync short sync
-said 3 "sync"$'\n' "refused TooShort"$'\n' "what stands before a refused file is printed"
+said 3 "sync"$'\n' "$(refusal short TooShort)"$'\n' "what stands before a refused file is printed"
 run /dev/null decode sync absent/file
-said 4 "" "device read"$'\n' "all files are read before any is printed"
+said 4 "" "device read"$'\n'"sacn: absent/file: device read"$'\n' "all files are read before any is printed"
 head -c 1048577 /dev/zero >large
 run /dev/null decode large absent/file
-said 3 "" "refused TooLarge"$'\n' "a file has a limit, and the first that is over it is refused"
+said 3 "" "$(refusal large TooLarge)"$'\n' "a file has a limit, and the first that is over it is refused"
+
+# ---- `-` is standard input, where a word is a file that is read.
+run data decode -
+said 0 "$data" "" "a datagram's octets on standard input"
+run list decode sync - data
+said 0 "sync
+page
+cid $cid
+name Desk
+page 0
+last 0
+universes 1
+known 1
+$data" "" "standard input stands among files in its place"
+run short decode sync -
+said 3 "sync"$'\n' "$(refusal - TooShort)"$'\n' "standard input that is refused is named"
+run sync decode ./-
+said 4 "" "device read"$'\n'"sacn: ./-: device read"$'\n' "a file of that name is another"
+cp data ./-
+run sync decode ./-
+said 0 "$data" "" "and is read"
+rm ./-
 
 # ---- Worlds: one console of universe 1, whose cue takes channel 1 on slot 1 to full at once, and one node.
 world="version = 1
@@ -198,7 +223,7 @@ simulates() {
 simulates "looks are printed" "$world" "$schedule" 0 "$lines" ""
 simulates "a refused event ends the run" "$world" "${schedule}deliver 5 0 3500
 look 0 1 3500
-" 3 "$lines" "refused step 8 NoDatagram"$'\n'
+" 3 "$lines" "$(refusal schedule "step 8 NoDatagram")"$'\n'
 simulates "noise expires what a node holds" "$world" "look 0 1 0
 order 0 0 go
 poll 0 0
@@ -228,18 +253,18 @@ poll 0 0
 deliver 0 0 0
 look 0 1 0
 " 0 "0 1 0 1@128"$'\n' ""
-while IFS='|' read -r name text script refusal; do
-  simulates "$name" "$(printf "$text")" "$(printf "$script")" 3 "" "refused $refusal"$'\n'
+while IFS='|' read -r name text script file refusal; do
+  simulates "$name" "$(printf "$text")" "$(printf "$script")" 3 "" "$(refusal "$file" "$refusal")"$'\n'
 done <<'ROWS'
-a world that isn't TOML|version = |%s|Toml
-a world of another version|version = 2\n|%s|Version
-a console without a show|version = 1\n[[console]]\n|%s|MissingKey
-a key that no world has|version = 1\ncolour = 1\n|%s|UnknownKey
-a console's show is refused before the schedule|version = 1\n[[console]]\n[console.show]\nversion = 3\n|jump\n|Console 0 Version
-a node's setup is refused by its number|version = 1\n[[node]]\n[node.setup]\nversion = 1\n[[node]]\n[node.setup]\n|%s|Node 1 MissingKey
-a moment's number that is none|version = 1\n|look 0 300 0\n|line 1 Number
-digits that are none|version = 1\n|\nnoise 0 5 zz\n|line 2 Hex
-a console that isn't there|version = 1\n|# nothing\npoll 0 0\n|step 0 NoConsole
+a world that isn't TOML|version = |%s|world|Toml
+a world of another version|version = 2\n|%s|world|Version
+a console without a show|version = 1\n[[console]]\n|%s|world|MissingKey
+a key that no world has|version = 1\ncolour = 1\n|%s|world|UnknownKey
+a console's show is refused before the schedule|version = 1\n[[console]]\n[console.show]\nversion = 3\n|jump\n|world|Console 0 Version
+a node's setup is refused by its number|version = 1\n[[node]]\n[node.setup]\nversion = 1\n[[node]]\n[node.setup]\n|%s|world|Node 1 MissingKey
+a moment's number that is none|version = 1\n|look 0 300 0\n|schedule|line 1 Number
+digits that are none|version = 1\n|\nnoise 0 5 zz\n|schedule|line 2 Hex
+a console that isn't there|version = 1\n|# nothing\npoll 0 0\n|schedule|step 0 NoConsole
 ROWS
 simulates "two consoles of one CID" "version = 1
 [[console]]
@@ -254,7 +279,16 @@ version = 1
 cid = \"${cid^^}\"
 name = \"Twin\"
 universes = [2]
-" "" 3 "" "refused SameCid"$'\n'
+" "" 3 "" "$(refusal world SameCid)"$'\n'
+printf %s "$world" >world
+printf %s "$schedule" >schedule
+run world sim - schedule
+said 0 "$lines" "" "a world on standard input"
+run schedule sim world -
+said 0 "$lines" "" "a schedule there"
+printf 'poll 9 0\n' >faulty
+run faulty sim world -
+said 3 "" "$(refusal - "step 0 NoConsole")"$'\n' "one that is refused is named"
 if [ -c /dev/full ]; then
   printf %s "$world" >world
   printf 'look 0 1 0\npoll 9 0\n' >schedule
@@ -262,7 +296,7 @@ if [ -c /dev/full ]; then
   said 4 "" "device write"$'\n' "an output that fails is named where a line was written"
   printf 'poll 9 0\nlook 0 1 0\n' >schedule
   full /dev/null sim world schedule
-  said 3 "" "refused step 0 NoConsole"$'\n' "and not where none was"
+  said 3 "" "$(refusal schedule "step 0 NoConsole")"$'\n' "and not where none was"
 fi
 
 # ---- Consoles and nodes on 127.0.0.1, on ports of this run's own. Nobody listens where the console sends.
@@ -288,7 +322,7 @@ said 0 "sent 1 failed 0 refused 1"$'\n' "" "a console counts what it sent"
 while IFS='|' read -r name script refusal; do
   printf "$script" >script
   run /dev/null console show script --turns 1
-  said 3 "" "refused $refusal"$'\n' "$name"
+  said 3 "" "$(refusal script "$refusal")"$'\n' "$name"
 done <<'ROWS'
 an order that isn't|0 jump\n|line 1 UnknownWord
 an order with a word too few|\n0 set 1\n|line 2 WordCount
@@ -298,15 +332,24 @@ ROWS
 printf 'version = 3\n' >other
 printf 'x go\n' >script
 run /dev/null console other script --turns 1
-said 3 "" "refused Version"$'\n' "a show is refused before its script"
+said 3 "" "$(refusal other Version)"$'\n' "a show is refused before its script"
 run /dev/null console other absent/file --turns 1
-said 4 "" "device read"$'\n' "files are read before their texts"
+said 4 "" "device read"$'\n'"sacn: absent/file: device read"$'\n' "files are read before their texts"
+run show console - script --turns 1
+said 3 "" "$(refusal script "line 1 Number")"$'\n' "a show on standard input"
+printf '0 go\n0 end 9\n' >script
+run script console show - --turns 1 --first 255
+said 0 "sent 1 failed 0 refused 1"$'\n' "" "a script there"
 printf 'version = 1\ncolour = 1\n' >setup
 run /dev/null node setup --turns 1
-said 3 "" "refused UnknownKey"$'\n' "a key that no setup has"
+said 3 "" "$(refusal setup UnknownKey)"$'\n' "a key that no setup has"
+run setup node - --turns 1
+said 3 "" "$(refusal - UnknownKey)"$'\n' "a setup on standard input that is refused"
 printf 'version = 1\nudp_port = %s\n[[port]]\nnumber = 1\nuniverse = 1\n' "$port" >setup
 run /dev/null node setup --turns 3
 said 0 "1 0 $(slots 513 00)"$'\n' "" "a node prints its first frame"
+run setup node - --turns 3
+said 0 "1 0 $(slots 513 00)"$'\n' "" "a node of a setup on standard input too"
 ran=0
 : >out
 if [ -c /dev/full ]; then

@@ -135,6 +135,18 @@ tells "a header that is cut" 3 "refused stub octet 0 CutShort" empty stub
 printf '\n\r\r\n\x1c\0\0\0\x4d\x3c\x2b\x1a\1\0\0\0\xff\xff\xff\xff\xff\xff\xff\xff\x1c\0\0\0' >lying
 printf '\6\0\0\0\xfc\xff\xff\xff\0\0\0\0' >>lying
 tells "a block that says 4 GB" 3 "refused lying octet 28 *" <(printf '%s\n' '{"row":"counts","datagrams":0,"refused":0,"pages":0,"pages_untracked":0,"synchronization":0,"untracked":0,"other_ports":0,"other_frames":0,"went_back":0,"ms":0}') lying --json
+# told NAME STATUS WANTED-ERRORS WANTED-OUTPUT WORD..: standard input, which is a pipe, is told so
+told() {
+  local name=$1 wanted=$2 said=$3 output=$4 status=0
+  shift 4
+  cat | timeout 60 "$sacn" explain "$@" >out 2>err || status=$?
+  [ "$status" = "$wanted" ] && [[ $(head -n 1 err) == $said ]] && cmp -s "$output" out && echo "ok explain: $name" || echo "not ok explain: $name: status $status, '$(head -n 1 err)'"
+}
+told "a recording on standard input" 0 "" ola.text - <"$top/examples/ola.pcap"
+told "one that is none is named" 3 "refused - octet 0 NotACapture" empty - <plain
+"$sacn" explain "$top/examples/ola.pcap" --setup "$top/examples/node.toml" </dev/null >frames 2>/dev/null
+told "a setup on standard input" 0 "" frames "$top/examples/ola.pcap" --setup - <"$top/examples/node.toml"
+grep -qE '^ +0.000 s  port +1  at the start$' frames && echo "ok explain: and its frames are told" || echo "not ok explain: a setup's frames: $(head -n 1 frames)"
 tells "a file that is absent" 4 "device read absent" empty absent
 tells "a folder" 4 "device read $room" empty "$room"
 tells "a setup that is absent" 4 "device read absent" empty "$top/examples/ola.pcap" --setup absent

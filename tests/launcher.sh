@@ -169,6 +169,17 @@ join_words() {
     joins '--lists 5568 [0-9]+ lo 239.255.250.214( 239.255.0.[0-9]+){128}' watch --join=lo && joins '--lists 5570 [0-9]+ lo 239.255.250.214( 239.255.0.[0-9]+){128}' watch --port 5570 --join lo --plain && prints "released watch --port 5570 --plain"
 }
 check "a watch joins the universes that are named, or the first and the lists" join_words
+# A program that says what was joined for it.
+printf '#!/usr/bin/env bash\necho "${SACN_JOINED-nothing was joined}"\n' >"$room/joined"
+chmod +x "$room/joined"
+joined() { local wanted=$1; shift; (sacn_join=$tree/release/$arch-linux/sacn-join; . "$tree/tools/run.sh" && SACN_JOINED=x run "$room/joined" "$@") >"$room/out" 2>"$room/err" </dev/null; status=$?; grep -qxF -- "$wanted" "$room/out"; }
+joined_is_told() {
+  joined "lo joined the discovery group, universes 1 to 128 and those that sources list; --universe 1-512 joins others" watch --join lo &&
+    joined "lo joined the discovery group and universe 7; --universe names others" watch --universe 7 --join lo &&
+    joined "lo joined the discovery group and universes 255-257, 600; --universe names others" watch --universe 255-257 --join=lo --universe=600 &&
+    joined "lo joined the discovery group and the setup's universes" gateway x --join lo && joined "nothing was joined" watch && joined "nothing was joined" gateway x
+}
+check "the program is told what was joined for it" joined_is_told
 # A program that says how much stack it has.
 printf '#!/usr/bin/env bash\necho "stack $(ulimit -S -s)"\n' >"$room/stacked"
 chmod +x "$room/stacked"
@@ -177,6 +188,11 @@ stack_is_raised() { stacked 256 && prints "stack 1024" && stacked 2048 && prints
 check "a stack that is too small is raised, and no other" stack_is_raised
 stack_is_told() { (ulimit -S -s 512; ulimit -H -s 512; . "$tree/tools/run.sh" && run "$room/stacked" gateway) >"$room/out" 2>"$room/err" </dev/null; prints "stack 512" && says "512 kB"; }
 check "one that can't be raised is told" stack_is_told
+# A program that says what it reads: a setup that is the number of its universe.
+printf '#!/usr/bin/env bash\nif [ "$1" = groups ]; then echo "ip address add 239.255.0.$(<"$2")/32 dev lo"; else echo "$1 reads $(cat)"; fi\n' >"$room/reads"
+chmod +x "$room/reads"
+joins_by_input() { (sacn_join=$tree/release/$arch-linux/sacn-join; . "$tree/tools/run.sh" && run "$room/reads" gateway - --join lo) >"$room/out" 2>"$room/err" < <(echo 7); prints "gateway reads 7" && grep -qE '^joined [0-9]+ lo 239.255.250.214 239.255.0.7$' "$room/err" && nothing_left; }
+check "a setup on standard input is read to join, and by the gateway" joins_by_input
 join_alone() { bare gateway --join "$tree/crates.txt" --listen 10.0.0.1; [ "$status" = 2 ] && says "hears no group"; }
 check "--join with an address of its own is refused" join_alone
 rm -rf "$tree/release" "$tree/crates/left/proofs" "$tree/crates/apart/src/more.rt"

@@ -336,20 +336,24 @@ assert sum(passed) > 0 and len(sources) <= 10 * 13, (sources, passed)
 P
 }
 
-# A gateway and a watch that hear nothing say so once, after five seconds; one that hears something doesn't.
+# A gateway and a watch that hear nothing say so once, after five seconds, and what was joined where the launcher says it; one that hears something doesn't.
 silence_is_said() {
   setup 25815 1 >"$work/node.toml"
   "$sacn" gateway "$work/node.toml" --seconds 7 >/dev/null 2>"$work/silent" &
   local silent=$!
   "$sacn" watch --port 25817 --plain --seconds 7 </dev/zero >/dev/null 2>"$work/watch" &
   local watch=$!
+  setup 25818 1 >"$work/joined.toml"
+  SACN_JOINED="eth0 joined a group" "$sacn" gateway "$work/joined.toml" --seconds 7 >/dev/null 2>"$work/joined" &
+  local joined=$!
   setup 25816 1 >"$work/lit.toml"
   : >"$work/lines"
   "$sacn" gateway "$work/lit.toml" --seconds 7 >"$work/lines" 2>"$work/said" &
   local lit=$!
   ready "$work/lines"
   python3 -c 'import socket, sys; socket.socket(socket.AF_INET, socket.SOCK_DGRAM).sendto(open(sys.argv[1], "rb").read(), ("127.0.0.1", 25816))' "$top/examples/levels.sacn"
-  wait "$silent" "$watch" "$lit"
+  wait "$silent" "$watch" "$joined" "$lit"
+  grep -qx 'nothing heard for 5 s at 0\.0\.0\.0:25818; eth0 joined a group; is the console on this network, or does it send by unicast to another host?' "$work/joined" || return 1
   [ "$(grep -c '^nothing heard for 5 s at 0\.0\.0\.0:25815; .*--join DEVICE$' "$work/silent")" = 1 ] &&
     [ "$(grep -c '^nothing heard for 5 s at 0\.0\.0\.0:25817; ' "$work/watch")" = 1 ] && ! grep -q '^nothing heard' "$work/said"
 }

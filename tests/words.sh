@@ -90,6 +90,26 @@ refused 2 "error: : Device" groups x --device ""
 refused 2 "error: eth0; true: Device" groups x --device "eth0; true"
 refused 2 "error: *: Device" groups x --device "$(printf 'e%.0s' $(seq 128))"
 
+# Standard input is read once, and where a command has no other use for it.
+refused 2 "error: -: InputTaken" decode - x -
+refused 2 "error: -: InputTaken" sim - -
+refused 2 "error: -: InputTaken" console - - --turns 1
+refused 2 "error: -: InputTaken" check - -
+refused 2 "error: -: InputTaken" explain - --setup -
+refused 2 "error: -: InputTaken" explain - --page 25893
+refused 2 "error: -: InputTaken" desk -
+refused 2 "error: -: InputTaken" desk x --script -
+
+# read_input STATUS WANTED WORD..: a run on standard input ends so
+read_input() {
+  local wanted=$1 said=$2 status=0
+  shift 2
+  timeout 20 "$sacn" "$@" >out 2>err || status=$?
+  if [ "$status" = "$wanted" ] && [ "$(head -n 1 err out | grep -cxF -- "$said")" = 1 ]; then echo "ok words: $* < FILE"; else echo "not ok words: $* < FILE: status $status, '$(head -n 1 err)'"; fi
+}
+read_input 3 "refused - Version" gateway - < <(printf 'version = 3\n')
+read_input 0 "ip address add 239.255.0.1/32 dev eth0 autojoin" groups - --device eth0 <"$top/examples/node.toml"
+
 # Of several faults one is told, the same always.
 refused 2 "error: --seconds takes a number of 1 to 1000000000, in decimal digits" gateway x --listen 300.1.1.1 --seconds +5
 refused 2 "error: 300.1.1.1: Address" gateway x --widget x --from ::1 --listen 300.1.1.1

@@ -46,6 +46,7 @@ feed() {
   exec {out}<&- {in}<&- {lives}<&-
   # (Where it comes twice, the pipe is closed already.)
   trap 'caught=1; exec {life}>&-' INT TERM HUP QUIT
+  if [ "$2" = watch ]; then trap 'caught=1; tell_change_of_size' WINCH; fi
   if [ -n "$caught" ]; then exec {life}>&-; fi
   # (A wait that a signal cuts short is made again: the shell keeps the status of a process that ended meanwhile.)
   while caught= status=0; do
@@ -107,7 +108,7 @@ setup_among() {
   while [ $# != 0 ]; do
     case $1 in
       --listen | --from | --widget | --seconds) shift ;;
-      -*) ;;
+      -?*) ;;
       *) echo "$1"; return ;;
     esac
     [ $# = 0 ] || shift
@@ -118,9 +119,18 @@ setup_among() {
 first_universes=128
 most_universes=1024
 
-# Joins the groups that a gateway or a watch wants, for as long as this shell lives or what it becomes.
+# Puts all octets of standard input into a file without a name, which is standard input from then on, so that it can be read twice.
+keep_input() {
+  local copy
+  copy=$(mktemp) || exit 4
+  cat >"$copy"
+  exec <"$copy"
+  rm "$copy"
+}
+
+# Joins the groups that a gateway or a watch wants, for as long as this shell lives or what it becomes. What that is the program says where it hears nothing.
 join_groups() {
-  local program=$1 command=$2 groups=(239.255.250.214) lists=() port universe line
+  local program=$1 command=$2 groups=(239.255.250.214) lists=() port setup universe line joined
   shift 2
   line=$(given --listen "$@")
   if [ -n "${line//0.0.0.0/}" ]; then
@@ -137,10 +147,16 @@ join_groups() {
     exit 4
   fi
   if [ "$command" = gateway ]; then
+    joined="the discovery group and the setup's universes"
+    setup=$(setup_among "$@")
+    if [ "$setup" = - ]; then
+      keep_input
+      setup=/proc/self/fd/0
+    fi
     # (a faulty setup joins none: the gateway itself tells its fault)
     while read -r line; do
       if [[ $line =~ (239\.255\.[0-9]+\.[0-9]+) ]]; then groups+=("${BASH_REMATCH[1]}"); fi
-    done < <("$program" groups "$(setup_among "$@")" --device lo 2>/dev/null || true)
+    done < <("$program" groups "$setup" --device lo 2>/dev/null || true)
   else
     # (the program refuses what is no universe or row of them)
     for line in $(given --universe "$@"); do
@@ -153,14 +169,19 @@ join_groups() {
       say "--join: $((${#groups[@]} - 1)) universes are named, and at most $most_universes are joined: name fewer by --universe"
       exit 2
     fi
+    joined=$(given --universe "$@" | paste -s -d ' ')
+    case $joined in *[\ -]*) joined="universes ${joined// /, }" ;; *) joined="universe $joined" ;; esac
+    joined="the discovery group and $joined; --universe names others"
     port=$(given --port "$@" | tail -n 1)
     if [ "${#groups[@]}" = 1 ]; then
       # (few consoles list what they send in the standard's form)
       lists=(--lists "${port:-5568}")
+      joined="the discovery group, universes 1 to $first_universes and those that sources list; --universe 1-512 joins others"
       for ((universe = 1; universe <= first_universes; universe++)); do groups+=("239.255.0.$universe"); done
     fi
   fi
   "$sacn_join" ${lists[@]+"${lists[@]}"} $$ "$device" "${groups[@]}" || exit $?
+  export SACN_JOINED="$device joined $joined"
 }
 
 # Whether this shell is in front on its terminal.
@@ -186,14 +207,32 @@ loud_keys() {
   stty "$modes" 2>/dev/null || true
 }
 
-# Tells a watch how large the terminal at standard output is, which it can't ask.
+# The rows and columns of the terminal at standard output, into `rows` and `columns`, where it has any.
 size_of_terminal() {
-  local terminal rows columns
-  [ -t 1 ] || return 0
+  local terminal size=1
   # (what runs inside the parentheses has a pipe for its output)
   exec {terminal}<&1
-  if read -r rows columns < <(stty size <&"$terminal" 2>/dev/null) && [ "$rows" -gt 0 ] && [ "$columns" -gt 0 ]; then export LINES=$rows COLUMNS=$columns; fi
+  if read -r rows columns < <(stty size <&"$terminal" 2>/dev/null) && [ "$rows" -gt 0 ] && [ "$columns" -gt 0 ]; then size=0; fi
   exec {terminal}<&-
+  return "$size"
+}
+
+# Tells a watch how large its terminal is, which it can't ask: now, and in a file without a name at each change of size.
+tell_size() {
+  local rows columns copy
+  unset SACN_SIZE
+  [ -t 1 ] && size_of_terminal || return 0
+  export LINES=$rows COLUMNS=$columns
+  copy=$(mktemp 2>/dev/null) || return 0
+  exec {size_file}<>"$copy"
+  rm "$copy"
+  export SACN_SIZE=/proc/self/fd/$size_file
+}
+
+# Tells it the size that its terminal has now.
+tell_change_of_size() {
+  local rows columns
+  if [ -n "${SACN_SIZE-}" ] && size_of_terminal; then echo "$rows $columns" >"$SACN_SIZE"; fi
 }
 
 # In so much stack, in kB, every command runs, also with a large environment.
@@ -215,6 +254,7 @@ run() {
   # Where standard input is closed, nothing else may get its number.
   [ -e /proc/self/fd/0 ] || exec </dev/null
   raise_stack
+  unset SACN_JOINED
   if [ $# = 0 ] && [ -t 0 ]; then say "reads one datagram as hexadecimal digits, up to Ctrl-D; \`sacn --help\` lists the commands"; fi
   case ${1-} in
     gateway | watch)
@@ -225,7 +265,7 @@ run() {
   esac
   case ${1-} in
     desk) feed "$program" "$@" ;;
-    watch) size_of_terminal; feed "$program" "$@" ;;
+    watch) tell_size; feed "$program" "$@" ;;
     explain) if serves "$@"; then feed "$program" "$@"; else exec "$program" "$@"; fi ;;
     *) exec "$program" "$@" ;;
   esac

@@ -1,22 +1,23 @@
 //! Files checked.
 use sacn_check::{FileKind, ReportFault, faults_of, kind_of, write_report, write_unread};
 use sacn_commands::ending::{DEVICE_FAILED, DONE, Ending, REFUSED, of_write};
-use sacn_commands::files::text_of_file;
+use sacn_commands::files::text_of_word;
 use sacn_words::CheckAsked;
 use std::alloc::{AllocError, Global};
-use std::io::Write;
+use std::io::{Read, Write};
 use std::rt::Files;
 
 /// Checks the files in their order; each is told, whatever the others are.
-pub fn check<R: AllocGlobal + Files, O: Write, E: Write>(
+pub fn check<R: AllocGlobal + Files, I: Read + Drop, O: Write, E: Write>(
     rt: &R,
     asked: &CheckAsked<'_>,
+    input: &mut I,
     out: &mut O,
     err: &mut E,
 ) -> Result<(), Ending> {
     let mut worst = DONE;
     for path in asked.files.as_slice() {
-        worst = worst.max(check_file(rt, path, asked.kind, out, err)?);
+        worst = worst.max(check_file(rt, path, asked.kind, input, out, err)?);
     }
     of_write(out.flush())?;
     match worst {
@@ -26,15 +27,16 @@ pub fn check<R: AllocGlobal + Files, O: Write, E: Write>(
 }
 
 // Checks a file, and returns the status that it gives.
-fn check_file<R: AllocGlobal + Files, O: Write, E: Write>(
+fn check_file<R: AllocGlobal + Files, I: Read + Drop, O: Write, E: Write>(
     rt: &R,
     path: &str,
     kind: Option<FileKind>,
+    input: &mut I,
     out: &mut O,
     err: &mut E,
 ) -> Result<u8, Ending> {
     let alloc = rt.alloc();
-    match text_of_file(rt, path) {
+    match text_of_word(rt, path, input) {
         Ok(text) => check_text(alloc, path, kind, text.as_str(), out),
         Err(Ending::TooLarge) => {
             let wanted = "a file has at most 1048576 octets";

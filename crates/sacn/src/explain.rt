@@ -2,14 +2,15 @@
 use crate::recording::serve;
 use sacn_capture::{CaptureFault, FaultKind};
 use sacn_commands::ending::{DEVICE_FAILED, Ending, REFUSED, of_write};
-use sacn_commands::live::{of_file, setup_of_file};
+use sacn_commands::live::setup_of_word;
+use sacn_commands::naming::of_file;
 use sacn_explain::{ExplainFault, Form, Options, explain};
 use sacn_live::SACN_PORT;
 use sacn_node::NodeSetup;
-use sacn_words::ExplainAsked;
+use sacn_words::{ExplainAsked, STANDARD_INPUT};
 use std::alloc::Global;
 use std::fs;
-use std::io::{BufRead, BufReader, BufWriter, Write};
+use std::io::{BufRead, BufReader, BufWriter, Read, Write};
 use std::net::Net;
 use std::rt::{Clock, Files};
 
@@ -41,9 +42,10 @@ pub fn form_of(is_json: bool) -> Form {
 }
 
 /// Tells a recording, or serves a page of it.
-pub fn tell<R: AllocGlobal + Files + Net + Clock, O: Write, E: Write>(
+pub fn tell<R: AllocGlobal + Files + Net + Clock, I: Read + Drop, O: Write, E: Write>(
     rt: &R,
     asked: &ExplainAsked<'_>,
+    input: &mut I,
     out: &mut O,
     err: &mut E,
 ) -> Result<(), Ending> {
@@ -51,26 +53,42 @@ pub fn tell<R: AllocGlobal + Files + Net + Clock, O: Write, E: Write>(
         return serve(rt, asked, place, err);
     }
     match asked.setup {
-        None => tell_file(rt, asked, None, out, err),
+        None => tell_word(rt, asked, None, input, out, err),
         Some(path) => {
-            let setup = of_file(setup_of_file(rt, path), path, err)?;
-            tell_file(rt, asked, Some(&setup), out, err)
+            let setup = of_file(setup_of_word(rt, path, input), path, err)?;
+            tell_word(rt, asked, Some(&setup), input, out, err)
         }
     }
 }
 
-fn tell_file<R: AllocGlobal + Files, O: Write, E: Write>(
+// Tells a recording in a file, or on standard input.
+fn tell_word<R: AllocGlobal + Files, I: Read + Drop, O: Write, E: Write>(
     rt: &R,
     asked: &ExplainAsked<'_>,
     setup: Option<&NodeSetup>,
+    input: &mut I,
     out: &mut O,
     err: &mut E,
 ) -> Result<(), Ending> {
+    if asked.capture == STANDARD_INPUT {
+        return tell_input(rt.alloc(), asked, setup, input, out, err);
+    }
     let Ok(file) = fs::open(rt, asked.capture) else {
         return Err(say_unread(asked.capture, err));
     };
-    match BufReader::with_capacity(rt.alloc(), ROOM, file) {
-        Ok(reader) => tell_to_lines(rt.alloc(), reader, asked, setup, out, err),
+    tell_input(rt.alloc(), asked, setup, file, out, err)
+}
+
+fn tell_input<I: Read + Drop, O: Write, E: Write>(
+    alloc: Global,
+    asked: &ExplainAsked<'_>,
+    setup: Option<&NodeSetup>,
+    input: I,
+    out: &mut O,
+    err: &mut E,
+) -> Result<(), Ending> {
+    match BufReader::with_capacity(alloc, ROOM, input) {
+        Ok(reader) => tell_to_lines(alloc, reader, asked, setup, out, err),
         Err(_) => Err(Ending::OutOfMemory),
     }
 }

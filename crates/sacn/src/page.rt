@@ -1,10 +1,11 @@
 //! A watch that browsers see.
 use crate::watch::{receiver_at, watch_end};
 use sacn_commands::ending::Ending;
-use sacn_commands::live::{of_socket, say_hearing};
+use sacn_commands::live::{joined_groups, of_socket, say_hearing};
 use sacn_live::{Lines, Outputs};
 use sacn_page::{Board, MAX_ALARMS, Pages};
 use sacn_watch::{RunningListener, run_watch};
+use std::env::Env;
 use std::io::Write;
 use std::net::{Net, SocketAddrV4};
 use std::rt::Clock;
@@ -17,7 +18,7 @@ pub fn say_page<E: Write>(place: SocketAddrV4, err: &mut E) {
 
 /// Hears at an address until a moment in milliseconds, and serves a page of it. A viewer that names no universe is shown this
 /// one, else the first heard.
-pub fn serve<R: AllocGlobal + Net + Clock, E: Write>(
+pub fn serve<R: AllocGlobal + Env + Net + Clock, E: Write>(
     rt: &R,
     address: SocketAddrV4,
     place: SocketAddrV4,
@@ -28,7 +29,9 @@ pub fn serve<R: AllocGlobal + Net + Clock, E: Write>(
     let board = Board::new(rt.alloc(), universe, MAX_ALARMS)?;
     let mut pages = of_socket(Pages::bind(rt, rt.alloc(), place, board), place, err)?;
     let outputs = Outputs::new(rt.alloc(), Lines::Plain)?;
-    hear(rt, address, place, &mut pages, until, (&outputs, err))
+    let joined = joined_groups(rt);
+    let outputs = (&outputs, joined.as_deref());
+    hear(rt, address, place, &mut pages, until, outputs, err)
 }
 
 // Hears for pages that have their place.
@@ -38,10 +41,11 @@ fn hear<R: Net + Clock, E: Write>(
     place: SocketAddrV4,
     pages: &mut Pages<Board>,
     until: u64,
-    (outputs, err): (&Outputs, &mut E),
+    (outputs, joined): (&Outputs, Option<&str>),
+    err: &mut E,
 ) -> Result<(), Ending> {
     let mut receiver = receiver_at(rt, address, err)?;
-    receiver.tend(outputs);
+    receiver.tend(outputs, joined);
     receiver.wait_beside(pages.descriptor());
     say_hearing(address, receiver.room(), err);
     say_page(place, err);

@@ -33,22 +33,25 @@ pub fn run_program<
 fn run<R: AllocGlobal + Files + Env + Net + Clock, I: Read + Drop, O: Write + Drop, E: Write>(
     rt: &R,
     asked: Asked<'_>,
-    input: I,
+    mut input: I,
     mut out: O,
     err: &mut E,
 ) -> Result<(), Ending> {
     match asked {
         Asked::Datagram => decode_input(rt.alloc(), input, out),
-        Asked::Decode(files) => decode_files(rt, files.as_slice(), out),
-        Asked::Simulate { world, schedule } => simulate(rt, world, schedule, out),
-        asked => run_beside(rt, &asked, &mut out, err),
+        Asked::Decode(files) => decode_files(rt, files.as_slice(), &mut input, out, err),
+        Asked::Simulate { world, schedule } => {
+            simulate(rt, (world, schedule), &mut input, out, err)
+        }
+        asked => run_beside(rt, &asked, &mut input, &mut out, err),
     }
 }
 
-// The same of what else there is, over an output that isn't its own: nothing is left to drop here, which would make the check take much longer.
-fn run_beside<R: AllocGlobal + Files + Env + Net + Clock, O: Write, E: Write>(
+// The same of what else there is, over an input and an output that aren't its own: nothing is left to drop here, which would make the check take much longer.
+fn run_beside<R: AllocGlobal + Files + Env + Net + Clock, I: Read + Drop, O: Write, E: Write>(
     rt: &R,
     asked: &Asked<'_>,
+    input: &mut I,
     out: &mut O,
     err: &mut E,
 ) -> Result<(), Ending> {
@@ -59,21 +62,21 @@ fn run_beside<R: AllocGlobal + Files + Env + Net + Clock, O: Write, E: Write>(
             script,
             turns,
             first,
-        } => console_of_files(rt, (*show, *script), *first, *turns, out),
-        Asked::Node { setup, turns } => node_of_file(rt, setup, *turns, out),
-        Asked::Gateway(asked) => live::gateway(rt, asked),
+        } => console_of_files(rt, (*show, *script), *first, *turns, input, out, err),
+        Asked::Node { setup, turns } => node_of_file(rt, setup, *turns, input, out, err),
+        Asked::Gateway(asked) => live::gateway(rt, asked, input),
         Asked::Desk(asked) => live::desk(rt, asked),
-        Asked::Groups { file, device } => live::groups(rt, file, device, out, err),
+        Asked::Groups { file, device } => live::groups(rt, (*file, *device), input, out, err),
         Asked::Manual(form) => manual::print(rt.alloc(), *form, out),
         Asked::Watch(asked) => watch::watch(rt, asked, out, err),
         Asked::Explain(asked) => {
             let mut out = Piped::new(out);
-            let told = explain::tell(rt, asked, &mut out, err);
+            let told = explain::tell(rt, asked, input, &mut out, err);
             out.ending(told)
         }
         Asked::Check(asked) => {
             let mut out = Piped::new(out);
-            let told = check::check(rt, asked, &mut out, err);
+            let told = check::check(rt, asked, input, &mut out, err);
             out.ending(told)
         }
     }

@@ -29,7 +29,7 @@ pub const REFUSED: u8 = 3;
 pub const DEVICE_FAILED: u8 = 4;
 
 /// Why a run ends before its work is done.
-#[derive(Drop)]
+#[derive(Clone, Copy)]
 pub enum Ending {
     OutOfMemory,
     TooLarge,

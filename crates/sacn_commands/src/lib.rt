@@ -7,5 +7,6 @@
 pub mod ending;
 pub mod files;
 pub mod live;
+pub mod naming;
 pub mod network;
 pub mod printing;

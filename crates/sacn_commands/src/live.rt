@@ -1,10 +1,11 @@
 //! Gateways and desks that run a rig, and what they and the other commands say of files and sockets.
-use crate::ending::{BAD_WORDS, DEVICE_FAILED, Ending, REFUSED, of_write};
-use crate::files::text_of_file;
+use crate::ending::{BAD_WORDS, DEVICE_FAILED, Ending, of_write};
+use crate::files::{text_of_file, text_of_word};
+use crate::naming::of_file;
 use crate::network::tell;
 use sacn_check::{FileKind, kind_of};
 use sacn_console::limits::CONSOLE_UNIVERSES;
-use sacn_console::{Command, ConsoleCore, Show, TextFault, read_script, read_show};
+use sacn_console::{Command, ConsoleCore, Show, read_script, read_show};
 use sacn_edge::{ConsoleReport, Link, WriterOut};
 use sacn_framing::multicast_group;
 use sacn_live::limits::{MAX_ROUNDS, RECEIVE_ROOM};
@@ -17,42 +18,10 @@ use sacn_live::{
 use sacn_node::{NodeCore, NodeSetup, read_node};
 use sacn_words::{DeskAsked, GatewayAsked, moment_of};
 use std::alloc::Global;
-use std::io::{ErrorKind, Write};
+use std::env::{self, Env};
+use std::io::{ErrorKind, Read, Write};
 use std::net::{Ipv4Addr, Net, SocketAddrV4};
 use std::rt::{Clock, Files};
-
-// Says the fault of a file with its name, and returns how the run ends.
-fn say_file_fault<E: Write>(path: &str, ending: Ending, err: &mut E) -> Ending {
-    let (line, status) = match ending {
-        Ending::DeviceRead => (writeln!(err, "device read {path}"), DEVICE_FAILED),
-        Ending::TooLarge => (writeln!(err, "refused {path} TooLarge"), REFUSED),
-        Ending::NotText => (writeln!(err, "refused {path} NotText"), REFUSED),
-        Ending::Show(fault) => (writeln!(err, "refused {path} {fault:?}"), REFUSED),
-        Ending::Setup(fault) => (writeln!(err, "refused {path} {fault:?}"), REFUSED),
-        Ending::Line(fault) => (say_line_fault(path, fault, err), REFUSED),
-        other => return other,
-    };
-    let _ = line;
-    Ending::Said(status)
-}
-
-fn say_line_fault<E: Write>(path: &str, fault: TextFault, err: &mut E) -> std::io::Result<()> {
-    match fault {
-        TextFault::OutOfMemory => writeln!(err, "refused {path} OutOfMemory"),
-        TextFault::UnknownWord(line) => writeln!(err, "refused {path} line {line} UnknownWord"),
-        TextFault::WordCount(line) => writeln!(err, "refused {path} line {line} WordCount"),
-        TextFault::Number(line) => writeln!(err, "refused {path} line {line} Number"),
-        TextFault::Hex(line) => writeln!(err, "refused {path} line {line} Hex"),
-    }
-}
-
-/// What was read from a file, whose fault is said with its name.
-pub fn of_file<T, E: Write>(read: Result<T, Ending>, path: &str, err: &mut E) -> Result<T, Ending> {
-    match read {
-        Ok(value) => Ok(value),
-        Err(ending) => Err(say_file_fault(path, ending, err)),
-    }
-}
 
 /// Says why the machine refused a socket, and returns how the run ends.
 pub fn say_socket_fault<E: Write>(address: SocketAddrV4, kind: ErrorKind, err: &mut E) -> Ending {
@@ -79,8 +48,12 @@ pub fn of_socket<T, E: Write>(
 }
 
 /// The setup in a file.
-pub fn setup_of_file<R: AllocGlobal + Files>(rt: &R, path: &str) -> Result<NodeSetup, Ending> {
-    let text = text_of_file(rt, path)?;
+pub fn setup_of_word<R: AllocGlobal + Files, I: Read + Drop>(
+    rt: &R,
+    word: &str,
+    input: &mut I,
+) -> Result<NodeSetup, Ending> {
+    let text = text_of_word(rt, word, input)?;
     Ok(read_node(rt.alloc(), text.as_str())?)
 }
 
@@ -102,6 +75,14 @@ pub fn clock_of<'a, R: Clock>(rt: &'a R) -> Result<RigClock<'a, R>, Ending> {
     match RigClock::start(rt) {
         Ok(clock) => Ok(clock),
         Err(_) => Err(Ending::DeviceRead),
+    }
+}
+
+/// What the launcher says that it joined for this command: a device, and groups.
+pub fn joined_groups<R: AllocGlobal + Env>(rt: &R) -> Option<String> {
+    match env::var(rt, "SACN_JOINED") {
+        Ok(joined) if !joined.is_empty() => Some(joined),
+        _ => None,
     }
 }
 
@@ -169,27 +150,29 @@ fn check_widgets<E: Write>(
 }
 
 /// Runs a gateway, which prints its frames on standard output as they change. No output that isn't read holds it up.
-pub fn gateway<R: AllocGlobal + Files + Net + Clock>(
+pub fn gateway<R: AllocGlobal + Files + Env + Net + Clock, I: Read + Drop>(
     rt: &R,
     asked: &GatewayAsked<'_>,
+    input: &mut I,
 ) -> Result<(), Ending> {
     guard_standard_descriptors();
     let mut clock = clock_of(rt)?;
     let outputs = Outputs::new(rt.alloc(), Lines::Frames)?;
-    let run = gateway_on(rt, asked, &outputs);
+    let run = gateway_on(rt, asked, input, &outputs);
     outputs.finish(&mut clock);
     run
 }
 
-fn gateway_on<R: AllocGlobal + Files + Net + Clock>(
+fn gateway_on<R: AllocGlobal + Files + Env + Net + Clock, I: Read + Drop>(
     rt: &R,
     asked: &GatewayAsked<'_>,
+    input: &mut I,
     outputs: &Outputs,
 ) -> Result<(), Ending> {
     let mut err = outputs.err();
-    let setup = of_file(setup_of_file(rt, asked.setup), asked.setup, &mut err)?;
+    let setup = of_file(setup_of_word(rt, asked.setup, input), asked.setup, &mut err)?;
     check_widgets(asked.widgets.as_slice(), &setup, &mut err)?;
-    run_setup(rt, asked, &setup, outputs)
+    run_setup(rt, asked, &setup, outputs, joined_groups(rt).as_deref())
 }
 
 // Runs a gateway of a setup. (The check of a function takes much longer the more values it has to drop on its ways out.)
@@ -198,9 +181,10 @@ fn run_setup<R: AllocGlobal + Net + Clock>(
     asked: &GatewayAsked<'_>,
     setup: &NodeSetup,
     outputs: &Outputs,
+    joined: Option<&str>,
 ) -> Result<(), Ending> {
     let mut receiver = receiver_of(rt, asked, setup, &mut outputs.err())?;
-    receiver.tend(outputs);
+    receiver.tend(outputs, joined);
     let mut interfaces = interfaces_of(rt, asked.widgets.as_slice())?;
     let mut watch = Watch::new(outputs.err());
     watch.count_drops(receiver.drops(rt.alloc())?);
@@ -362,8 +346,12 @@ fn run_orders<R: Clock, L: Link, O: Write>(
 }
 
 // The universes of a setup or of a show.
-fn universes_of_file<R: AllocGlobal + Files>(rt: &R, path: &str) -> Result<Vec<u16>, Ending> {
-    let text = text_of_file(rt, path)?;
+fn universes_of_word<R: AllocGlobal + Files, I: Read + Drop>(
+    rt: &R,
+    word: &str,
+    input: &mut I,
+) -> Result<Vec<u16>, Ending> {
+    let text = text_of_word(rt, word, input)?;
     match kind_of(rt.alloc(), text.as_str())? {
         Some(FileKind::Show) => {
             let show = read_show(rt.alloc(), text.as_str())?;
@@ -374,14 +362,14 @@ fn universes_of_file<R: AllocGlobal + Files>(rt: &R, path: &str) -> Result<Vec<u
 }
 
 /// Prints the commands by which a device joins the groups of a file's universes, and that of discovery.
-pub fn groups<R: AllocGlobal + Files, O: Write, E: Write>(
+pub fn groups<R: AllocGlobal + Files, I: Read + Drop, O: Write, E: Write>(
     rt: &R,
-    path: &str,
-    device: &str,
+    (path, device): (&str, &str),
+    input: &mut I,
     out: &mut O,
     err: &mut E,
 ) -> Result<(), Ending> {
-    let mut universes = of_file(universes_of_file(rt, path), path, err)?;
+    let mut universes = of_file(universes_of_word(rt, path, input), path, err)?;
     universes.push(DISCOVERY_UNIVERSE)?;
     for universe in universes.as_slice() {
         let [a, b, c, d] = multicast_group(*universe);

@@ -1,26 +1,35 @@
 //! A console and a node on 127.0.0.1.
 use crate::ending::{Ending, of_write};
-use crate::files::text_of_file;
+use crate::files::text_of_word;
+use crate::naming::of_named;
 use sacn_console::{Command, ConsoleCore, Show, read_script, read_show};
 use sacn_edge::{
     ConsoleReport, SystemClock, UdpLink, WriterOut, print_report, run_console, run_node,
 };
 use sacn_node::{NodeCore, read_node};
-use std::io::Write;
+use std::io::{Read, Write};
 use std::net::Net;
 use std::rt::{Clock, Files};
 
 /// Runs a console of a show's file, as a script's file orders.
-pub fn console_of_files<R: AllocGlobal + Files + Net + Clock, O: Write>(
+pub fn console_of_files<R: AllocGlobal + Files + Net + Clock, I: Read + Drop, O: Write, E: Write>(
     rt: &R,
     (show, script): (&str, &str),
     first: u8,
     turns: u64,
+    input: &mut I,
     out: &mut O,
+    err: &mut E,
 ) -> Result<(), Ending> {
-    let show = text_of_file(rt, show)?;
-    let script = text_of_file(rt, script)?;
-    console(rt, (show.as_str(), script.as_str()), first, turns, out)
+    let show_text = of_named(text_of_word(rt, show, input), show, err)?;
+    let script_text = of_named(text_of_word(rt, script, input), script, err)?;
+    let texts = (show_text.as_str(), script_text.as_str());
+    let ended = console(rt, texts, first, turns, out);
+    let path = match ended {
+        Err(Ending::Line(_)) => script,
+        _ => show,
+    };
+    of_named(ended, path, err)
 }
 
 // Runs a console of a show for so many turns, gives it the orders of a script, and prints what came of it.
@@ -68,14 +77,16 @@ pub fn tell<O: Write>(report: &ConsoleReport, out: &mut O) -> Result<(), Ending>
 }
 
 /// Runs a node of a setup's file.
-pub fn node_of_file<R: AllocGlobal + Files + Net + Clock, O: Write>(
+pub fn node_of_file<R: AllocGlobal + Files + Net + Clock, I: Read + Drop, O: Write, E: Write>(
     rt: &R,
     setup: &str,
     turns: u64,
+    input: &mut I,
     out: &mut O,
+    err: &mut E,
 ) -> Result<(), Ending> {
-    let setup = text_of_file(rt, setup)?;
-    node(rt, setup.as_str(), turns, out)
+    let text = of_named(text_of_word(rt, setup, input), setup, err)?;
+    of_named(node(rt, text.as_str(), turns, out), setup, err)
 }
 
 // Runs a node of a setup for so many turns, which prints its frames as they change.

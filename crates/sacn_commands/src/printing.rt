@@ -1,8 +1,10 @@
 //! Datagrams decoded, and worlds simulated. What prints owns the output, and promises what it then has.
 use crate::ending::{Ending, of_write};
-use crate::files::{octets_of_files, text_of_file};
+use crate::files::{octets_of_words, text_of_word};
+use crate::naming::of_named;
 use sacn_text::{
-    MAX_FILE_OCTETS, Printed, octets_of_digits, print_looks, print_packets, read_limited,
+    DecodeFault, MAX_FILE_OCTETS, Printed, octets_of_digits, print_looks, print_packets,
+    read_limited,
 };
 use std::alloc::Global;
 use std::io::{Read, Write};
@@ -18,27 +20,49 @@ pub fn decode_input<I: Read + Drop, O: Write + Drop>(
     finish(print_packets(alloc, datagrams.as_slice(), out))
 }
 
-/// Decodes files of one datagram each.
-pub fn decode_files<R: AllocGlobal + Files, O: Write + Drop>(
+/// Decodes files of one datagram each. One that is refused is said with its name.
+pub fn decode_files<R: AllocGlobal + Files, I: Read + Drop, O: Write + Drop, E: Write>(
     rt: &R,
     files: &[&str],
+    input: &mut I,
     out: O,
+    err: &mut E,
 ) -> Result<(), Ending> {
-    let datagrams = octets_of_files(rt, files)?;
-    finish(print_packets(rt.alloc(), datagrams.as_slice(), out))
+    let datagrams = octets_of_words(rt, files, input, err)?;
+    let printed = print_packets(rt.alloc(), datagrams.as_slice(), out);
+    let refused = refused_file(files, &printed.ended);
+    let ended = finish(printed);
+    match refused {
+        Some(path) => of_named(ended, path, err),
+        None => ended,
+    }
 }
 
-/// Runs a world by a schedule.
-pub fn simulate<R: AllocGlobal + Files, O: Write + Drop>(
+// The file whose datagram is no packet.
+fn refused_file<'a>(files: &[&'a str], ended: &Result<(), DecodeFault>) -> Option<&'a str> {
+    match ended {
+        Err(DecodeFault::Refused(at, _)) => files.get(*at).copied(),
+        _ => None,
+    }
+}
+
+/// Runs a world by a schedule. The file that is refused is said with its name.
+pub fn simulate<R: AllocGlobal + Files, I: Read + Drop, O: Write + Drop, E: Write>(
     rt: &R,
-    world: &str,
-    schedule: &str,
+    (world, schedule): (&str, &str),
+    input: &mut I,
     out: O,
+    err: &mut E,
 ) -> Result<(), Ending> {
-    let world = text_of_file(rt, world)?;
-    let schedule = text_of_file(rt, schedule)?;
-    let printed = print_looks(rt.alloc(), world.as_str(), schedule.as_str(), out);
-    finish(printed)
+    let world_text = of_named(text_of_word(rt, world, input), world, err)?;
+    let schedule_text = of_named(text_of_word(rt, schedule, input), schedule, err)?;
+    let printed = print_looks(rt.alloc(), world_text.as_str(), schedule_text.as_str(), out);
+    let ended = finish(printed);
+    let path = match ended {
+        Err(Ending::World(_)) => world,
+        _ => schedule,
+    };
+    of_named(ended, path, err)
 }
 
 // The one datagram on standard input.

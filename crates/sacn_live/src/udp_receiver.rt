@@ -33,6 +33,8 @@ pub struct UdpReceiver<'a, R> {
     is_noted: bool,
     // What is handed on before a wait.
     outputs: Option<&'a Outputs>,
+    // The groups that were joined, in words.
+    joined: Option<&'a str>,
 }
 
 impl<'a, R: Net + MachineClock> UdpReceiver<'a, R> {
@@ -52,6 +54,7 @@ impl<'a, R: Net + MachineClock> UdpReceiver<'a, R> {
             beside: NO_DESCRIPTOR,
             is_noted: false,
             outputs: None,
+            joined: None,
         })
     }
 
@@ -71,9 +74,10 @@ impl<'a, R: Net + MachineClock> UdpReceiver<'a, R> {
     }
 
     /// From now on each wait hands on what waits for these outputs, and is short while something does. On standard error it is said, once,
-    /// where nothing came in the first five seconds.
-    pub fn tend(&mut self, outputs: &'a Outputs) {
+    /// where nothing came in the first five seconds, with the groups that were joined in these words.
+    pub fn tend(&mut self, outputs: &'a Outputs, joined: Option<&'a str>) {
         self.outputs = Some(outputs);
+        self.joined = joined;
     }
 
     /// The most milliseconds of a wait up to this moment.
@@ -92,12 +96,7 @@ impl<'a, R: Net + MachineClock> UdpReceiver<'a, R> {
         }
         self.is_noted = true;
         if let Some(outputs) = self.outputs {
-            let [a, b, c, d] = self.address.ip().octets();
-            let _ = writeln!(
-                outputs.err(),
-                "nothing heard for 5 s at {a}.{b}.{c}.{d}:{}; groups are heard where a device joins them: --join DEVICE",
-                self.address.port()
-            );
+            say_silence(self.address, self.joined, &mut outputs.err());
         }
     }
 
@@ -115,6 +114,23 @@ impl<'a, R: Net + MachineClock> UdpReceiver<'a, R> {
     pub fn room(&self) -> Option<u32> {
         room_of(&self.socket)
     }
+}
+
+// Says that nothing came, and why that may be.
+fn say_silence<E: Write>(address: SocketAddrV4, joined: Option<&str>, err: &mut E) {
+    let [a, b, c, d] = address.ip().octets();
+    let port = address.port();
+    let _ = write!(err, "nothing heard for 5 s at {a}.{b}.{c}.{d}:{port}; ");
+    let _ = match joined {
+        None => writeln!(
+            err,
+            "groups are heard where a device joins them: --join DEVICE"
+        ),
+        Some(joined) => writeln!(
+            err,
+            "{joined}; is the console on this network, or does it send by unicast to another host?"
+        ),
+    };
 }
 
 /// The IPv4 address and the UDP port of a sender.

@@ -132,8 +132,8 @@ fn console<'a>(words: &mut Words<'_, 'a>) -> Asked<'a> {
     Asked::Console {
         turns: words.number("turns"),
         first: words.octet("first"),
-        show: words.text("SHOW"),
-        script: words.text("SCRIPT"),
+        show: words.file("SHOW"),
+        script: words.file("SCRIPT"),
     }
 }
 
@@ -144,7 +144,7 @@ fn gateway<'a>(words: &mut Words<'_, 'a>) -> Asked<'a> {
         listen: words.value("listen", host).unwrap_or(Ipv4Addr::UNSPECIFIED),
         from: words.values("from", sender),
         widgets: words.widgets(),
-        setup: words.text("SETUP"),
+        setup: words.file("SETUP"),
     })
 }
 
@@ -178,13 +178,15 @@ fn desk<'a>(words: &mut Words<'_, 'a>) -> Asked<'a> {
     let ttl = time_to_live(words, to.as_slice());
     words.without("stay", "script");
     words.beside("to", "multicast");
+    // (its orders are there)
+    words.take_input();
     Asked::Desk(DeskAsked {
         bind: words.value("bind", host).unwrap_or(Ipv4Addr::UNSPECIFIED),
-        show: words.text("SHOW"),
+        show: words.file("SHOW"),
         to,
         is_multicast: words.is_given("multicast"),
         ttl,
-        script: words.word("script"),
+        script: words.optional_file("script"),
         first,
         stays: words.is_given("stay"),
     })
@@ -198,9 +200,13 @@ fn explain<'a>(words: &mut Words<'_, 'a>) -> Asked<'a> {
     let page = words.value("page", page);
     let seconds = words.seconds();
     words.without("seconds", "page");
+    if page.is_some() {
+        // (its end is the page's)
+        words.take_input();
+    }
     Asked::Explain(ExplainAsked {
-        capture: words.text("CAPTURE"),
-        setup: words.word("setup"),
+        capture: words.file("CAPTURE"),
+        setup: words.optional_file("setup"),
         port,
         universes,
         is_json: words.is_given("json"),
@@ -231,19 +237,19 @@ fn watch<'a>(words: &mut Words<'_, 'a>) -> Asked<'a> {
 fn asked_of<'a>(command: &str, words: &mut Words<'_, 'a>) -> Asked<'a> {
     match command {
         "sim" => Asked::Simulate {
-            world: words.text("WORLD"),
-            schedule: words.text("SCHEDULE"),
+            world: words.file("WORLD"),
+            schedule: words.file("SCHEDULE"),
         },
         "console" => console(words),
         "node" => Asked::Node {
             turns: words.number("turns"),
-            setup: words.text("SETUP"),
+            setup: words.file("SETUP"),
         },
         "gateway" => gateway(words),
         "desk" => desk(words),
         "groups" => Asked::Groups {
             device: words.device(),
-            file: words.text("FILE"),
+            file: words.file("FILE"),
         },
         "explain" => explain(words),
         "watch" => watch(words),

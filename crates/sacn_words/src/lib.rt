@@ -13,3 +13,4 @@ pub use asked::{
     Asked, CheckAsked, DeskAsked, ExplainAsked, GatewayAsked, WatchAsked, moment_of, parse,
 };
 pub use program::manual_text;
+pub use reading::STANDARD_INPUT;

@@ -34,6 +34,9 @@ pub const NOTES: &str = "Examples, in a clone of the repository:
   ./sacn watch --seconds 60
   ./sacn check examples/show.toml
 
+A file that is named - is standard input; ./- is a file of that name. A desk has its orders
+there, and explain --page its end: these read no file from it.
+
 docs/FILES.md tells what stands in the files, and what is printed.
 
 Exit status: 0; 2 bad words; 3 refused input; 4 a device failed.";

@@ -7,6 +7,9 @@ use clap::{ArgMatches, Error};
 use sacn_manual::{Command, Kind};
 use std::alloc::{AllocError, Global};
 
+/// The word for standard input where a file is read. A file of this name is `./-`.
+pub const STANDARD_INPUT: &str = "-";
+
 /// What is wrong with words that clap lets pass.
 #[derive(Clone, Copy)]
 pub enum Fault<'a> {
@@ -30,6 +33,8 @@ pub struct Words<'m, 'a> {
     alloc: Global,
     matches: &'m ArgMatches<'a>,
     fault: Option<Fault<'a>>,
+    // Standard input has its use.
+    input_is_taken: bool,
 }
 
 impl<'m, 'a> Words<'m, 'a> {
@@ -38,6 +43,7 @@ impl<'m, 'a> Words<'m, 'a> {
             alloc,
             matches,
             fault: None,
+            input_is_taken: false,
         }
     }
 
@@ -162,12 +168,43 @@ impl<'m, 'a> Words<'m, 'a> {
         }
     }
 
+    /// Standard input has a use beside files.
+    pub fn take_input(&mut self) {
+        self.input_is_taken = true;
+    }
+
+    // Notes that a file is read.
+    fn note_file(&mut self, path: &'a str) {
+        if path != STANDARD_INPUT {
+            return;
+        }
+        if self.input_is_taken {
+            self.refuse(Fault::Word(path, Cause::InputTaken));
+        }
+        self.input_is_taken = true;
+    }
+
+    /// A file that clap saw to it that is given.
+    pub fn file(&mut self, name: &str) -> &'a str {
+        let path = self.text(name);
+        self.note_file(path);
+        path
+    }
+
+    /// A file that may be given.
+    pub fn optional_file(&mut self, name: &str) -> Option<&'a str> {
+        let path = self.word(name)?;
+        self.note_file(path);
+        Some(path)
+    }
+
     /// Files.
     pub fn paths(&mut self) -> Vec<&'a str> {
         let mut paths = Vec::new(self.alloc);
         let matches = self.matches;
         if let Some(words) = matches.get_strs("FILE") {
             for word in words {
+                self.note_file(word);
                 self.push(&mut paths, *word);
             }
         }

@@ -14,6 +14,8 @@ pub enum Cause {
     Widget,
     Device,
     Kind,
+    /// Free: standard input is read once, and some commands have another use for it.
+    InputTaken,
 }
 
 impl Cause {
@@ -25,6 +27,7 @@ impl Cause {
             Cause::Widget => "Widget",
             Cause::Device => "Device",
             Cause::Kind => "Kind",
+            Cause::InputTaken => "InputTaken",
         }
     }
 }
