@@ -1,6 +1,9 @@
 //! UDP sockets of the machine that a desk sends from. None of them waits.
 use crate::hold::Hold;
-use crate::limits::{GROUPS_ROOM, HELD_ROOM, HOST_OCTETS, HOST_ROOM};
+use crate::limits::{
+    GROUPS_ROOM, HELD_ROOM, HOST_OCTETS, HOST_ROOM, LOOKED_AGAIN, LOOKED_EACH, SILENT_TRIED_EACH,
+};
+use crate::neighbours::Neighbours;
 use crate::sockets::Sockets;
 use crate::sys::{send_now, set_send_room};
 use std::alloc::Global;
@@ -13,6 +16,10 @@ struct HostSocket {
     socket: UdpSocket,
     hold: Hold,
     room: i32,
+    // Where the latest datagram went.
+    host: Option<Ipv4Addr>,
+    // Where the host doesn't answer: the reading at which a datagram was last sent all the same.
+    silent: Option<u64>,
 }
 
 impl HostSocket {
@@ -26,10 +33,52 @@ impl HostSocket {
             socket,
             hold: Hold::new(),
             room,
+            host: None,
+            silent: None,
         })
     }
 
     fn send(&mut self, to: SocketAddrV4, now: u64, datagram: &[u8]) -> Result<(), ErrorKind> {
+        self.host = Some(*to.ip());
+        match self.silent {
+            Some(tried) => {
+                if now.saturating_sub(tried) < SILENT_TRIED_EACH {
+                    return Err(ErrorKind::TimedOut);
+                }
+                self.silent = Some(now);
+                self.send_silent(to, datagram)
+            }
+            None => self.send_unless_held(to, now, datagram),
+        }
+    }
+
+    /// Sends a datagram to a host that doesn't answer: the machine keeps it, and asks for the host.
+    fn send_silent(&self, to: SocketAddrV4, datagram: &[u8]) -> Result<(), ErrorKind> {
+        match send_now(&self.socket, datagram, to) {
+            Ok(()) => Err(ErrorKind::TimedOut),
+            Err(ErrorKind::WouldBlock) => Err(ErrorKind::TimedOut),
+            Err(kind) => Err(kind),
+        }
+    }
+
+    /// Notes whether the host answers. What the table doesn't have stays as it was.
+    fn learn(&mut self, neighbours: &Neighbours, now: u64) {
+        let Some(host) = self.host else {
+            return;
+        };
+        match neighbours.is_known(host) {
+            Some(true) => self.silent = None,
+            Some(false) => self.silent = Some(self.silent.unwrap_or(now)),
+            None => {}
+        }
+    }
+
+    fn send_unless_held(
+        &mut self,
+        to: SocketAddrV4,
+        now: u64,
+        datagram: &[u8],
+    ) -> Result<(), ErrorKind> {
         if self.hold.holds(now) {
             return Err(ErrorKind::WouldBlock);
         }
@@ -50,10 +99,18 @@ impl HostSocket {
 /// A socket of its own for each destination. They tell nothing.
 ///
 /// A destination that took nothing for a while is tried seldom, until it takes datagrams again: each try of a full socket is a call
-/// of the machine.
+/// of the machine. A host that hasn't said its hardware address is sent one a second, until it does.
 #[derive(Drop)]
 pub struct UdpSockets {
     sockets: Vec<HostSocket>,
+    neighbours: Neighbours,
+    // When the table of neighbours was read last.
+    looked: u64,
+}
+
+/// Whether the machine asks for the hardware address of such a host.
+fn is_asked_for(host: &Ipv4Addr) -> bool {
+    !host.is_loopback() && !host.is_multicast()
 }
 
 impl UdpSockets {
@@ -74,7 +131,7 @@ impl UdpSockets {
                 return Err(ErrorKind::OutOfMemory);
             }
         }
-        Ok(UdpSockets { sockets })
+        UdpSockets::over(alloc, sockets)
     }
 
     /// A socket from this address to groups, which are reached over so many routers.
@@ -90,8 +147,53 @@ impl UdpSockets {
         }
         let mut sockets = Vec::new(alloc);
         match sockets.push(socket) {
-            Ok(()) => Ok(UdpSockets { sockets }),
+            Ok(()) => UdpSockets::over(alloc, sockets),
             Err(_) => Err(ErrorKind::OutOfMemory),
+        }
+    }
+
+    fn over(alloc: Global, sockets: Vec<HostSocket>) -> Result<UdpSockets, ErrorKind> {
+        match Neighbours::new(alloc) {
+            Ok(neighbours) => Ok(UdpSockets {
+                sockets,
+                neighbours,
+                looked: 0,
+            }),
+            Err(_) => Err(ErrorKind::OutOfMemory),
+        }
+    }
+
+    /// Looks which hosts answer, where the latest look is so long ago. Returns whether it did.
+    fn look(&mut self, now: u64, each: u64) -> bool {
+        if now.saturating_sub(self.looked) < each {
+            return false;
+        }
+        self.looked = now;
+        self.neighbours.read();
+        for socket in self.sockets.as_mut_slice().iter_mut() {
+            socket.learn(&self.neighbours, now);
+        }
+        true
+    }
+
+    fn send_at(
+        &mut self,
+        place: usize,
+        to: SocketAddrV4,
+        now: u64,
+        datagram: &[u8],
+    ) -> Result<(), ErrorKind> {
+        match self.sockets.get_mut(place) {
+            Some(socket) => socket.send(to, now, datagram),
+            None => Err(ErrorKind::NotFound),
+        }
+    }
+
+    /// Whether the host at a place is known not to answer.
+    fn is_silent(&self, place: usize) -> bool {
+        match self.sockets.get(place) {
+            Some(socket) => socket.silent.is_some(),
+            None => false,
         }
     }
 }
@@ -104,9 +206,18 @@ impl Sockets for UdpSockets {
         now: u64,
         datagram: &[u8],
     ) -> Result<(), ErrorKind> {
-        match self.sockets.get_mut(place) {
-            Some(socket) => socket.send(to, now, datagram),
-            None => Err(ErrorKind::NotFound),
+        if !is_asked_for(to.ip()) {
+            return self.send_at(place, to, now, datagram);
         }
+        self.look(now, LOOKED_EACH);
+        let sent = self.send_at(place, to, now, datagram);
+        // (a socket is full in no time once its host is off)
+        if sent == Err(ErrorKind::WouldBlock)
+            && self.look(now, LOOKED_AGAIN)
+            && self.is_silent(place)
+        {
+            return Err(ErrorKind::TimedOut);
+        }
+        sent
     }
 }
