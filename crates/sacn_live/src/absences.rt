@@ -83,10 +83,13 @@ fn write_names<E: Write>(hosts: &[Host], news: News, now: u64, err: &mut E) -> u
     let mut count = 0;
     for place in 0..hosts.len() {
         let address = hosts[place].address;
+        if !hosts[place].has(news, now) {
+            continue;
+        }
         let is_written = hosts[..place]
             .iter()
             .any(|it| it.address == address && it.has(news, now));
-        if is_written || !hosts[place].has(news, now) {
+        if is_written {
             continue;
         }
         let between = if count == 0 { "" } else { ", " };

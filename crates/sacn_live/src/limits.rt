@@ -85,6 +85,9 @@ pub const LOOKED_AGAIN: u64 = 20;
 /// How often a datagram is sent to a host that doesn't answer, so that the machine asks for it again.
 pub const SILENT_TRIED_EACH: u64 = 1000;
 
+/// How long the table doesn't have it until nothing is known of it any more: it has been tried again, and so would be in the table.
+pub const SILENT_GONE: u64 = 3000;
+
 /// How long a host doesn't answer until that is said: the machine asks for it three times in three seconds, and then gives up.
 pub const SILENT_FOR: u64 = 3100;
 

@@ -12,7 +12,8 @@ const TABLE: &[u8] = b"/proc/net/arp";
 /// A host in the table.
 #[derive(Clone, Copy)]
 struct Neighbour {
-    address: Ipv4Addr,
+    /// Its address as a number.
+    bits: u32,
     /// It said its hardware address, or the machine was told it. Where it isn't so, the machine asks for it, or gave that up.
     is_known: bool,
 }
@@ -27,7 +28,10 @@ fn neighbour_in(line: &str) -> Option<Neighbour> {
         "0x6" => true,
         _ => return None,
     };
-    Some(Neighbour { address, is_known })
+    Some(Neighbour {
+        bits: address.to_bits(),
+        is_known,
+    })
 }
 
 /// The hosts in the table when it was read last.
@@ -66,9 +70,10 @@ impl Neighbours {
 
     /// Whether a host has said its hardware address, on any of the networks; None where the table doesn't have it.
     pub(crate) fn is_known(&self, host: Ipv4Addr) -> Option<bool> {
+        let bits = host.to_bits();
         let mut found = None;
         for neighbour in self.list.as_slice() {
-            if neighbour.address == host {
+            if neighbour.bits == bits {
                 if neighbour.is_known {
                     return Some(true);
                 }

@@ -1,7 +1,8 @@
 //! UDP sockets of the machine that a desk sends from. None of them waits.
 use crate::hold::Hold;
 use crate::limits::{
-    GROUPS_ROOM, HELD_ROOM, HOST_OCTETS, HOST_ROOM, LOOKED_AGAIN, LOOKED_EACH, SILENT_TRIED_EACH,
+    GROUPS_ROOM, HELD_ROOM, HOST_OCTETS, HOST_ROOM, LOOKED_AGAIN, LOOKED_EACH, SILENT_GONE,
+    SILENT_TRIED_EACH,
 };
 use crate::neighbours::Neighbours;
 use crate::sockets::Sockets;
@@ -9,6 +10,30 @@ use crate::sys::{send_now, set_send_room};
 use std::alloc::Global;
 use std::io::ErrorKind;
 use std::net::{Ipv4Addr, Net, SocketAddrV4, UdpSocket};
+
+/// What is kept of a host that doesn't answer.
+#[derive(Clone, Copy)]
+struct Silence {
+    /// The reading at which a datagram was last sent to it all the same.
+    tried: u64,
+    /// The reading at which the table of neighbours last had it.
+    seen: u64,
+}
+
+impl Silence {
+    /// After a look at the table, which has the host without its hardware address, or doesn't have it. None where the table hasn't had it
+    /// for so long that other ways may lead to it.
+    fn after(self, now: u64, is_seen: bool) -> Option<Silence> {
+        if is_seen {
+            let tried = self.tried;
+            Some(Silence { tried, seen: now })
+        } else if now.saturating_sub(self.seen) < SILENT_GONE {
+            Some(self)
+        } else {
+            None
+        }
+    }
+}
 
 /// A destination's socket, and whether it is tried.
 #[derive(Drop)]
@@ -18,8 +43,7 @@ struct HostSocket {
     room: i32,
     // Where the latest datagram went.
     host: Option<Ipv4Addr>,
-    // Where the host doesn't answer: the reading at which a datagram was last sent all the same.
-    silent: Option<u64>,
+    silence: Option<Silence>,
 }
 
 impl HostSocket {
@@ -34,22 +58,21 @@ impl HostSocket {
             hold: Hold::new(),
             room,
             host: None,
-            silent: None,
+            silence: None,
         })
     }
 
     fn send(&mut self, to: SocketAddrV4, now: u64, datagram: &[u8]) -> Result<(), ErrorKind> {
         self.host = Some(*to.ip());
-        match self.silent {
-            Some(tried) => {
-                if now.saturating_sub(tried) < SILENT_TRIED_EACH {
-                    return Err(ErrorKind::TimedOut);
-                }
-                self.silent = Some(now);
-                self.send_silent(to, datagram)
-            }
-            None => self.send_unless_held(to, now, datagram),
+        let Some(silence) = self.silence else {
+            return self.send_unless_held(to, now, datagram);
+        };
+        if now.saturating_sub(silence.tried) < SILENT_TRIED_EACH {
+            return Err(ErrorKind::TimedOut);
         }
+        let seen = silence.seen;
+        self.silence = Some(Silence { tried: now, seen });
+        self.send_silent(to, datagram)
     }
 
     /// Sends a datagram to a host that doesn't answer: the machine keeps it, and asks for the host.
@@ -61,16 +84,26 @@ impl HostSocket {
         }
     }
 
-    /// Notes whether the host answers. What the table doesn't have stays as it was.
+    /// Notes whether the host answers.
     fn learn(&mut self, neighbours: &Neighbours, now: u64) {
         let Some(host) = self.host else {
             return;
         };
-        match neighbours.is_known(host) {
-            Some(true) => self.silent = None,
-            Some(false) => self.silent = Some(self.silent.unwrap_or(now)),
-            None => {}
-        }
+        let earlier = self.silence;
+        self.silence = match neighbours.is_known(host) {
+            Some(true) => None,
+            Some(false) => {
+                let first = Silence {
+                    tried: now,
+                    seen: now,
+                };
+                earlier.unwrap_or(first).after(now, true)
+            }
+            None => match earlier {
+                Some(silence) => silence.after(now, false),
+                None => None,
+            },
+        };
     }
 
     fn send_unless_held(
@@ -192,7 +225,7 @@ impl UdpSockets {
     /// Whether the host at a place is known not to answer.
     fn is_silent(&self, place: usize) -> bool {
         match self.sockets.get(place) {
-            Some(socket) => socket.silent.is_some(),
+            Some(socket) => socket.silence.is_some(),
             None => false,
         }
     }
