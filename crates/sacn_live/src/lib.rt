@@ -4,6 +4,7 @@
 //! sockets, clock and standard input tell nothing: what they bring is tested.
 #![tactic(auto)]
 
+mod absences;
 mod address;
 mod backlog;
 mod clock;
@@ -27,6 +28,7 @@ mod lines;
 pub mod memory;
 pub mod memory_device;
 pub mod memory_sockets;
+mod neighbours;
 mod notices;
 mod opening;
 mod orders;

@@ -75,3 +75,21 @@ pub const TRIED_EACH: u64 = 10;
 
 /// A destination takes datagrams again where it takes more than so many in a row.
 pub const TAKEN_AGAIN: u32 = 8;
+
+/// How often a desk that sends looks in the machine's table of neighbours.
+pub const LOOKED_EACH: u64 = 100;
+
+/// How soon it looks again where a host's socket is full.
+pub const LOOKED_AGAIN: u64 = 20;
+
+/// How often a datagram is sent to a host that doesn't answer, so that the machine asks for it again.
+pub const SILENT_TRIED_EACH: u64 = 1000;
+
+/// How long the table doesn't have it until nothing is known of it any more: it has been tried again, and so would be in the table.
+pub const SILENT_GONE: u64 = 3000;
+
+/// How long a host doesn't answer until that is said: the machine asks for it three times in three seconds, and then gives up.
+pub const SILENT_FOR: u64 = 3100;
+
+/// How often it is said of one that still doesn't.
+pub const ABSENT_EACH: u64 = 60_000;

@@ -3,6 +3,7 @@ ghost use Rattle.std.specs.Prelude.{◌≡◌, ◌<◌, ◌≤◌, ◌+◌, ◌-
 ghost use Rattle.sacn_live.specs.declared.limits.TheConstants.{SAID_EACH};
 ghost use Rattle.sacn_live.specs.Noticing.{said_failures, IsSeldom};
 
+use crate::absences::Absences;
 use crate::limits::{SAID_EACH, TAKEN_AGAIN};
 use std::alloc::{AllocError, Global};
 use std::io::{ErrorKind, Write};
@@ -96,6 +97,7 @@ impl Notice {
 #[derive(Drop)]
 pub(crate) struct Notices<E> {
     list: Vec<Notice>,
+    absences: Absences,
     err: E,
 }
 
@@ -107,10 +109,15 @@ impl<E: Write + Drop> Notices<E> {
         err: E,
     ) -> Result<Notices<E>, AllocError> {
         let list = vec![in alloc; Notice::new(); destinations]?;
-        Ok(Notices { list, err })
+        let absences = Absences::new(alloc, destinations)?;
+        Ok(Notices {
+            list,
+            absences,
+            err,
+        })
     }
 
-    /// Notes a send to the destination at a place, and says what is to be said of it.
+    /// Notes a send to the destination at a place, and says what is to be said of it. Of one whose host doesn't answer that alone is said.
     pub(crate) fn note(
         &mut self,
         place: usize,
@@ -118,6 +125,11 @@ impl<E: Write + Drop> Notices<E> {
         now: u64,
         answer: Result<(), ErrorKind>,
     ) {
+        self.absences
+            .note(place, *to.ip(), now, answer, &mut self.err);
+        if answer == Err(ErrorKind::TimedOut) {
+            return;
+        }
         let Some(notice) = self.list.get_mut(place) else {
             return;
         };

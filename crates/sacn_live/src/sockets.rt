@@ -12,7 +12,7 @@ pub trait Sockets {
     ghost told: { Self → Option (List Sending) } = { λ _. None };
 
     /// Sends a datagram to the destination at a place, from 0, at a reading of the clock in milliseconds, without waiting. The
-    /// error says why it isn't taken; `WouldBlock` where it can't be taken now.
+    /// error says why it isn't taken; `WouldBlock` where it can't be taken now, `TimedOut` where the host doesn't answer on its network.
     fn send(
         &mut self,
         place: usize,
