@@ -11,9 +11,8 @@ use sacn_framing::multicast_group;
 use sacn_live::limits::{MAX_ROUNDS, RECEIVE_ROOM};
 use sacn_live::{
     DISCOVERY_UNIVERSE, DeskOrders, DeskSender, Destinations, Interface, Lines, Opening, Origin,
-    Outputs,
-    Plan, RigClock, Span, UdpReceiver, Watch, Widget, guard_standard_descriptors, run_desk,
-    run_gateway,
+    Outputs, Plan, RigClock, Span, UdpReceiver, Watch, Widget, guard_standard_descriptors,
+    run_desk, run_gateway,
 };
 use sacn_node::{NodeCore, NodeSetup, read_node};
 use sacn_words::{DeskAsked, GatewayAsked, moment_of};

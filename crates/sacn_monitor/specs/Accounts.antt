@@ -1,5 +1,5 @@
 -- What is known of one source on one universe, and what a packet changes in it.
-use Rattle.std.specs.Prelude.{◌≡◌, ℕ, ℤ, pos, ◌-◌, ◌+◌, ◌^◌, ◌%◌, min, max, nat_lt, int_lt, Bool, true, false, not, nat_le, List, length, replicate, ◌&&◌, ◌||◌, ◌==◌, Option, Some, None, if◌then◌else◌}
+use Rattle.std.specs.Prelude.{◌≡◌, ℕ, pos, ◌-◌, max, nat_lt, int_lt, Bool, true, false, not, nat_le, List, length, replicate, ◌&&◌, ◌||◌, ◌==◌, Option, Some, None, if◌then◌else◌}
 use Rattle.std.specs.Str.{bytes_eq}
 use Rattle.std.specs.List.{before_first}
 use Rattle.sacn_framing.specs.Naming.{padded}

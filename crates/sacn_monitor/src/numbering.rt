@@ -54,7 +54,11 @@ impl Numbering {
         Numbering {
             opens: false,
             left_out: self.left_out,
-            turns: if arrived == self.left_out { 0 } else { self.turns },
+            turns: if arrived == self.left_out {
+                0
+            } else {
+                self.turns
+            },
         }
     }
 
