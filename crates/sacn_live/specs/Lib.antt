@@ -10,6 +10,7 @@ pub mod Gathering
 pub mod Groups
 pub mod Sendings
 pub mod Noticing
+pub mod Presences
 pub mod DeskSenders
 pub mod Openings
 pub mod Widgets

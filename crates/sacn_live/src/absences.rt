@@ -1,4 +1,7 @@
 //! Which hosts don't answer, and what is said of them.
+ghost use Rattle.std.specs.Prelude.{◌<◌, length};
+ghost use Rattle.sacn_live.specs.Presences.{HasReason};
+
 use crate::limits::{ABSENT_EACH, SAID_EACH, SILENT_FOR};
 use std::alloc::{AllocError, Global};
 use std::io::{ErrorKind, Write};
@@ -8,9 +11,9 @@ use std::net::Ipv4Addr;
 #[derive(Clone, Copy, PartialEq, Eq)]
 enum News {
     /// It doesn't answer.
-    Absent,
+    NoAnswer,
     /// It answers, after the other was said.
-    Answers,
+    Answer,
 }
 
 /// Whether a host answers, as far as that is known. Readings are in milliseconds.
@@ -45,21 +48,23 @@ impl Presence {
     }
 
     /// What is to be said at a reading.
-    fn news(self, now: u64) -> Option<News> {
+    fn news(self, now: u64) -> Option<News>
+        ensures reason { HasReason now self result }
+    {
         let is_due = match self {
             Presence::Answers => false,
             Presence::Silent(since) => now.saturating_sub(since) >= SILENT_FOR,
             Presence::Absent(said) => now.saturating_sub(said) >= ABSENT_EACH,
-            Presence::Back(_) => return Some(News::Answers),
+            Presence::Back(_) => return Some(News::Answer),
         };
-        if is_due { Some(News::Absent) } else { None }
+        if is_due { Some(News::NoAnswer) } else { None }
     }
 
     /// After what was to be said at a reading was said.
     fn told(self, now: u64) -> Presence {
         match self.news(now) {
-            Some(News::Absent) => Presence::Absent(now),
-            Some(News::Answers) => Presence::Answers,
+            Some(News::NoAnswer) => Presence::Absent(now),
+            Some(News::Answer) => Presence::Answers,
             None => self,
         }
     }
@@ -78,24 +83,27 @@ impl Host {
     }
 }
 
+/// Whether this is to be said of the host at a place, and of no earlier one with its address.
+fn is_named(hosts: &[Host], place: usize, news: News, now: u64) -> bool
+    requires { place < length hosts.now }
+{
+    let host = hosts[place];
+    host.has(news, now)
+        && !hosts[..place]
+            .iter()
+            .any(|it| it.address == host.address && it.has(news, now))
+}
+
 /// Writes the addresses of the hosts of which this is to be said, a comma between. Returns how many.
 fn write_names<E: Write>(hosts: &[Host], news: News, now: u64, err: &mut E) -> usize {
-    let mut count = 0;
+    let mut count: usize = 0;
     for place in 0..hosts.len() {
-        let address = hosts[place].address;
-        if !hosts[place].has(news, now) {
-            continue;
+        if is_named(hosts, place, news, now) {
+            let between = if count == 0 { "" } else { ", " };
+            let [a, b, c, d] = hosts[place].address.octets();
+            let _ = write!(err, "{between}{a}.{b}.{c}.{d}");
+            count = count.saturating_add(1);
         }
-        let is_written = hosts[..place]
-            .iter()
-            .any(|it| it.address == address && it.has(news, now));
-        if is_written {
-            continue;
-        }
-        let between = if count == 0 { "" } else { ", " };
-        let [a, b, c, d] = address.octets();
-        let _ = write!(err, "{between}{a}.{b}.{c}.{d}");
-        count += 1;
     }
     count
 }
@@ -104,14 +112,14 @@ fn write_names<E: Write>(hosts: &[Host], news: News, now: u64, err: &mut E) -> u
 fn say<E: Write>(hosts: &[Host], news: News, now: u64, err: &mut E) {
     let count = write_names(hosts, news, now, err);
     let words = match news {
-        News::Absent => {
+        News::NoAnswer => {
             if count == 1 {
                 "doesn't answer on this network: is it on?"
             } else {
                 "don't answer on this network: are they on?"
             }
         }
-        News::Answers => {
+        News::Answer => {
             if count == 1 {
                 "answers now"
             } else {
@@ -164,8 +172,8 @@ impl Absences {
     }
 
     fn say<E: Write>(&mut self, now: u64, err: &mut E) {
-        say(self.hosts.as_slice(), News::Answers, now, err);
-        say(self.hosts.as_slice(), News::Absent, now, err);
+        say(self.hosts.as_slice(), News::Answer, now, err);
+        say(self.hosts.as_slice(), News::NoAnswer, now, err);
         for host in self.hosts.as_mut_slice().iter_mut() {
             host.presence = host.presence.told(now);
         }

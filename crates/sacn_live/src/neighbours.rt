@@ -52,7 +52,7 @@ impl Neighbours {
         })
     }
 
-    /// Reads the table. Where the machine doesn't tell it, there are no hosts.
+    /// Reads the table. Where the machine doesn't tell it, there are no hosts; those for which there is no memory are left out.
     pub(crate) fn read(&mut self) {
         self.list.clear();
         let Some(count) = read_start(TABLE, self.table.as_mut_slice()) else {
