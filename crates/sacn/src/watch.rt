@@ -2,20 +2,17 @@
 use crate::explain::form_of;
 use crate::page::serve;
 use crate::piped::Piped;
+use crate::screen::show;
 use sacn_commands::ending::Ending;
 use sacn_commands::live::{clock_of, joined_groups, of_socket, say_hearing};
 use sacn_explain::Options;
-use sacn_files::words::short_in;
 use sacn_live::{Lines, Outputs, UdpReceiver, guard_standard_descriptors, output_is_terminal};
-use sacn_watch::{Listener, RunningListener, Size, WatchFault, watch_lines, watch_terminal};
+use sacn_watch::{RunningListener, WatchFault, watch_lines};
 use sacn_words::{WatchAsked, moment_of};
-use std::env::{self, Env};
+use std::env::Env;
 use std::io::Write;
 use std::net::{Net, SocketAddrV4};
-use std::rt::Clock;
-
-/// The most columns and rows that a terminal is taken to have.
-const MAX_EXTENT: u16 = 1000;
+use std::rt::{Clock, Files};
 
 /// What came of a watch, where its fault ends the run.
 pub fn watch_end(told: Result<(), WatchFault>) -> Result<(), Ending> {
@@ -27,7 +24,7 @@ pub fn watch_end(told: Result<(), WatchFault>) -> Result<(), Ending> {
 }
 
 /// Watches a network.
-pub fn watch<R: AllocGlobal + Env + Net + Clock, O: Write, E: Write>(
+pub fn watch<R: AllocGlobal + Files + Env + Net + Clock, O: Write, E: Write>(
     rt: &R,
     asked: &WatchAsked,
     out: &mut O,
@@ -106,48 +103,4 @@ pub fn receiver_at<'a, R: Net + Clock, E: Write>(
     let mut receiver = of_socket(bound, address, err)?;
     receiver.wait_for_input();
     Ok(receiver)
-}
-
-// Shows what a receiver hears on a terminal.
-fn show<R: AllocGlobal + Env, L: Listener, O: Write>(
-    rt: &R,
-    listener: &mut L,
-    asked: &WatchAsked,
-    until: u64,
-    out: &mut O,
-) -> Result<(), WatchFault> {
-    let size = Size {
-        width: extent(rt, "COLUMNS", 80),
-        height: extent(rt, "LINES", 24),
-    };
-    let universe = asked.universes.first().copied();
-    let has_colours = !is_set(rt, "NO_COLOR");
-    watch_terminal(
-        rt.alloc(),
-        listener,
-        universe,
-        size,
-        has_colours,
-        until,
-        out,
-    )
-}
-
-// Whether a variable of the environment says something.
-fn is_set<R: AllocGlobal + Env>(rt: &R, name: &str) -> bool {
-    match env::var(rt, name) {
-        Ok(value) => !value.is_empty(),
-        Err(_) => false,
-    }
-}
-
-// A number of columns or rows in the environment, or this one where none is there.
-fn extent<R: AllocGlobal + Env>(rt: &R, name: &str, otherwise: usize) -> usize {
-    match env::var(rt, name) {
-        Ok(value) => match short_in(value.as_str()) {
-            Some(number) if (number > 0) & (number <= MAX_EXTENT) => usize::from(number),
-            _ => otherwise,
-        },
-        Err(_) => otherwise,
-    }
 }

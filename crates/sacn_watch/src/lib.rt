@@ -16,7 +16,7 @@ pub use fault::WatchFault;
 pub use layout::screen;
 pub use listener::Listener;
 pub use page::{Cell, Ink, Page, Row, Size, is_shown, printable};
-pub use run::{watch_lines, watch_terminal};
+pub use run::watch_lines;
 pub use running::{MOST_BETWEEN, RunningClock, RunningListener};
 pub use terminal::{MIN_WAIT, Terminal};
 pub use view::View;

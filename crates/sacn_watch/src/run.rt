@@ -1,4 +1,4 @@
-//! Watches of each kind.
+//! A watch of lines.
 
 ghost use Rattle.std.specs.Prelude.{List, OnOk};
 ghost use Rattle.sacn_edge.specs.Additions.{Extends};
@@ -6,8 +6,6 @@ ghost use Rattle.sacn_watch.specs.Watches.{Receive, heard_by, IsWatch};
 
 use crate::fault::WatchFault;
 use crate::listener::Listener;
-use crate::page::Size;
-use crate::terminal::Terminal;
 use crate::watch::run_watch;
 use sacn_explain::{Follower, Options};
 use std::alloc::Global;
@@ -29,24 +27,4 @@ pub fn watch_lines<L: Listener, O: Write>(
 {
     let mut follower = Follower::new(alloc, *options, None, out)?;
     run_watch(listener, &mut follower, until)
-}
-
-/// Shows what a listener hears until a moment in milliseconds, on a terminal.
-///
-/// Errors: OutOfMemory; Device where the terminal can't be written.
-pub fn watch_terminal<L: Listener, O: Write>(
-    alloc: Global,
-    listener: &mut L,
-    universe: Option<u16>,
-    size: Size,
-    has_colours: bool,
-    until: u64,
-    out: &mut O,
-) -> Result<(), WatchFault>
-    ensures { (turns : List (List Receive))
-        × Extends (L.Receiver.told listener.old) (L.Receiver.told listener.new) (heard_by turns)
-        × OnOk result (IsWatch until (L.Ended listener.new) turns) }
-{
-    let mut terminal = Terminal::new(alloc, universe, size, has_colours, out)?;
-    run_watch(listener, &mut terminal, until)
 }

@@ -38,6 +38,8 @@ pub struct Terminal<'a, O> {
     next: u64,
     /// Something came since.
     is_stale: bool,
+    /// The size is another one than that of what was drawn last.
+    is_resized: bool,
 }
 
 impl<'a, O: Write> Terminal<'a, O> {
@@ -66,7 +68,20 @@ impl<'a, O: Write> Terminal<'a, O> {
             drawn: String::new(alloc),
             next: 0,
             is_stale: true,
+            is_resized: false,
         })
+    }
+
+    /// The terminal has this size from now on: where it is another, all is drawn anew.
+    pub fn resize(&mut self, size: Size)
+        ensures size { self.new.size ≡ size }
+        ensures view { self.new.view ≡ self.old.view }
+    {
+        if (size.width != self.size.width) | (size.height != self.size.height) {
+            self.is_stale = true;
+            self.is_resized = true;
+        }
+        self.size = size;
     }
 
     // Draws the screen where it isn't the one that was drawn last.
@@ -79,11 +94,12 @@ impl<'a, O: Write> Terminal<'a, O> {
         if self.drawn.len() == 0 {
             self.out.write_all(BEGIN)?;
         }
-        if text.as_str() != self.drawn.as_str() {
+        if self.is_resized | (text.as_str() != self.drawn.as_str()) {
             self.out.write_all(text.as_bytes())?;
             self.out.flush()?;
             self.drawn = text;
         }
+        self.is_resized = false;
         Ok(())
     }
 }
