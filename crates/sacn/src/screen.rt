@@ -87,21 +87,39 @@ pub fn show<R: AllocGlobal + Files + Env, L: Listener, O: Write>(
     until: u64,
     out: &mut O,
 ) -> Result<(), WatchFault> {
+    let size_file = variable(rt, "SACN_SIZE");
+    let size_path = size_file.as_deref();
     let sums_stay = Cell::new(false);
     let mut sums = Sums::new(rt.alloc(), &sums_stay);
-    let size_file = variable(rt, "SACN_SIZE");
-    let mut screen = Screen {
+    show_screen(
         rt,
-        terminal: terminal_of(rt, asked, &mut *out)?,
-        follower: Follower::new(rt.alloc(), options_of(asked), None, &mut sums)?,
-        sums_stay: &sums_stay,
-        size_path: size_file.as_deref(),
-        next_look: 0,
-    };
-    run_watch(listener, &mut screen, until)?;
+        listener,
+        (asked, until),
+        (size_path, &mut *out),
+        (&mut sums, &sums_stay),
+    )?;
     out.write_all(sums.octets())?;
     out.flush()?;
     Ok(())
+}
+
+// Shows the screen, and leaves the tables in the sums.
+fn show_screen<'a, 's, R: AllocGlobal + Files + Env, L: Listener, O: Write>(
+    rt: &'a R,
+    listener: &mut L,
+    (asked, until): (&'a WatchAsked, u64),
+    (size_path, out): (Option<&'a str>, &'a mut O),
+    (sums, sums_stay): (&'a mut Sums<'s>, &'a Cell<bool>),
+) -> Result<(), WatchFault> {
+    let mut screen = Screen {
+        rt,
+        terminal: terminal_of(rt, asked, out)?,
+        follower: Follower::new(rt.alloc(), options_of(asked), None, sums)?,
+        sums_stay,
+        size_path,
+        next_look: 0,
+    };
+    run_watch(listener, &mut screen, until)
 }
 
 // The accounts are of all universes, or of those that are asked for.
