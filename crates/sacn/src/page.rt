@@ -35,13 +35,13 @@ pub fn serve<R: AllocGlobal + Env + Net + Clock, E: Write>(
 }
 
 // Hears for pages that have their place.
-fn hear<R: Net + Clock, E: Write>(
-    rt: &R,
+fn hear<'a, R: Net + Clock, E: Write>(
+    rt: &'a R,
     address: SocketAddrV4,
     place: SocketAddrV4,
     pages: &mut Pages<Board>,
     until: u64,
-    (outputs, joined): (&Outputs, Option<&str>),
+    (outputs, joined): (&'a Outputs, Option<&'a str>),
     err: &mut E,
 ) -> Result<(), Ending> {
     let mut receiver = receiver_at(rt, address, err)?;

@@ -73,12 +73,12 @@ fn tell<R: AllocGlobal + Env + Net + Clock>(
     run
 }
 
-fn tell_on<R: AllocGlobal + Net + Clock, O: Write>(
-    rt: &R,
+fn tell_on<'a, R: AllocGlobal + Net + Clock, O: Write>(
+    rt: &'a R,
     address: SocketAddrV4,
     asked: &WatchAsked,
     until: u64,
-    (outputs, joined): (&Outputs, Option<&str>),
+    (outputs, joined): (&'a Outputs, Option<&'a str>),
     out: &mut O,
 ) -> Result<(), Ending> {
     let mut receiver = receiver_at(rt, address, &mut outputs.err())?;

@@ -175,12 +175,12 @@ fn gateway_on<R: AllocGlobal + Files + Env + Net + Clock, I: Read + Drop>(
 }
 
 // Runs a gateway of a setup. (The check of a function takes much longer the more values it has to drop on its ways out.)
-fn run_setup<R: AllocGlobal + Net + Clock>(
-    rt: &R,
+fn run_setup<'a, R: AllocGlobal + Net + Clock>(
+    rt: &'a R,
     asked: &GatewayAsked<'_>,
     setup: &NodeSetup,
-    outputs: &Outputs,
-    joined: Option<&str>,
+    outputs: &'a Outputs,
+    joined: Option<&'a str>,
 ) -> Result<(), Ending> {
     let mut receiver = receiver_of(rt, asked, setup, &mut outputs.err())?;
     receiver.tend(outputs, joined);
