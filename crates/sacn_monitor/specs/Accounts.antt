@@ -16,7 +16,8 @@ use Rattle.sacn_monitor.specs.declared.news.News.{News}
 use Rattle.sacn_monitor.specs.Kinds.{more, no_packets, with_one_more}
 use Rattle.sacn_monitor.specs.Rates.{first_rate, rate_after}
 use Rattle.sacn_monitor.specs.declared.numbering.Numbering.{Numbering}
-use Rattle.sacn_monitor.specs.Numberings.{first_numbering, lost_in, numbering_after, omission_in}
+use Rattle.sacn_monitor.specs.declared.numbering.TheConstants.{OPENING_STEP}
+use Rattle.sacn_monitor.specs.Numberings.{ahead_of, first_numbering, lost_in, numbering_after, omission_in}
 
 -- a name's octets, and NUL to the end of its field
 abbrev pub fitted : List ℕ → List ℕ
@@ -44,9 +45,13 @@ is_discarded t arrived a = is_fresh t a && is_late a.sequence_number arrived
 abbrev pub begins_life : ℕ → Bool → Account → Bool
 begins_life t terminated a = not (is_fresh t a) || (a.ended && not terminated)
 
--- the packets that were lost before one that is taken
-abbrev pub lost_at : Bool → ℕ → Account → ℕ
-lost_at begins arrived a = if begins then 0 else lost_in a.sequence_number arrived a.numbering
+-- it doesn't go on from the number before: that was lost, or ended a stream and lies so far behind that another one more likely begins its numbers
+abbrev pub begins_apart : ℕ → Bool → ℕ → Account → Bool
+begins_apart t terminated arrived a = not (is_fresh t a) || ((a.ended && not terminated) && nat_le OPENING_STEP (ahead_of a.sequence_number arrived))
+
+-- the packets that were lost before one that is taken at t
+abbrev pub lost_at : ℕ → Bool → ℕ → Account → ℕ
+lost_at t terminated arrived a = if begins_apart t terminated arrived a then 0 else lost_in a.sequence_number arrived a.numbering
 
 -- how the source numbers its packets, as far as one that is taken tells
 abbrev pub numbering_at : Bool → ℕ → Account → Numbering
@@ -72,7 +77,7 @@ after_taken t sender d a = record {
   ended = d.terminated;
   kinds = with_one_more (kind_of d) a.kinds;
   numbering = numbering_at (begins_life t d.terminated a) d.number a;
-  skipped = more (lost_at (begins_life t d.terminated a) d.number a) a.skipped;
+  skipped = more (lost_at t d.terminated d.number a) a.skipped;
   late = a.late;
   repeats = a.repeats;
   greatest_gap = max a.greatest_gap (t - a.latest);
@@ -118,7 +123,7 @@ changed from to = if from == to then None else Some (record { from = from; to = 
 unfoldable pub taken_news : ℕ → Sender → Data → Account → News
 taken_news t sender d a = record {
   event = taken_event t d.terminated a;
-  skipped = lost_at (begins_life t d.terminated a) d.number a;
+  skipped = lost_at t d.terminated d.number a;
   began_anew = begins_anew t d.number a;
   leaves_out = omission_in a.numbering (numbering_at (begins_life t d.terminated a) d.number a);
   priority = changed a.priority d.priority;

@@ -3,11 +3,11 @@
 ghost use Rattle.std.specs.Prelude.{◌≡◌, ◌≤◌, not, length};
 ghost use Rattle.std.specs.Str.{bytes_eq};
 ghost use Rattle.sacn_framing.specs.Naming.{padded};
-ghost use Rattle.sacn_monitor.specs.Accounts.{same_sender, is_fresh, is_discarded, begins_life, lost_at, numbering_at, begins_anew, changed, taken_event, discarded_event, fitted, name_of, IsFitted, taken_news, news_of, after_packet, after_taken, after_discarded, first_account};
+ghost use Rattle.sacn_monitor.specs.Accounts.{same_sender, is_fresh, is_discarded, begins_apart, begins_life, lost_at, numbering_at, begins_anew, changed, taken_event, discarded_event, fitted, name_of, IsFitted, taken_news, news_of, after_packet, after_taken, after_discarded, first_account};
 
 use crate::kinds::Kinds;
 use crate::news::{Change, Event, News};
-use crate::numbering::Numbering;
+use crate::numbering::{Numbering, OPENING_STEP};
 use crate::rate::Rate;
 use sacn_framing::DataView;
 use sacn_root::put;
@@ -136,11 +136,20 @@ impl Account {
         !self.is_fresh(moment) | (self.ended & !terminated)
     }
 
-    // The packets that were lost before a taken one.
-    fn lost(&self, begins: bool, arrived: u8) -> u8
-        ensures { result ≡ lost_at begins arrived self.now }
+    // Whether a taken packet doesn't go on from the number before: that was lost, or ended a stream and lies so far behind that
+    // another one more likely begins its numbers.
+    fn begins_apart(&self, moment: u64, terminated: bool, arrived: u8) -> bool
+        ensures { result ≡ begins_apart moment terminated arrived self.now }
     {
-        if begins {
+        let ahead = arrived.wrapping_sub(self.sequence_number);
+        !self.is_fresh(moment) | (self.ended & !terminated & (ahead >= OPENING_STEP))
+    }
+
+    // The packets that were lost before a taken one.
+    fn lost(&self, moment: u64, terminated: bool, arrived: u8) -> u8
+        ensures { result ≡ lost_at moment terminated arrived self.now }
+    {
+        if self.begins_apart(moment, terminated, arrived) {
             0
         } else {
             self.numbering.lost(self.sequence_number, arrived)
@@ -187,7 +196,7 @@ impl Account {
         ensures account { self.new ≡ after_taken moment sender packet.now self.old }
     {
         let begins = self.begins_life(moment, packet.terminated());
-        let skipped = self.lost(begins, packet.number());
+        let skipped = self.lost(moment, packet.terminated(), packet.number());
         let numbering = self.numbering_at(begins, packet.number());
         let gap = moment.saturating_sub(self.latest);
         let news = News {
