@@ -46,8 +46,11 @@ feed() {
   exec {out}<&- {in}<&- {lives}<&-
   # (Where it comes twice, the pipe is closed already.)
   trap 'caught=1; exec {life}>&-' INT TERM HUP QUIT
-  if [ "$2" = watch ]; then trap 'caught=1; tell_change_of_size' WINCH; fi
   if [ -n "$caught" ]; then exec {life}>&-; fi
+  if [ "$2" = watch ]; then
+    trap 'caught=1; tell_change_of_size' WINCH
+    tell_change_of_size
+  fi
   # (A wait that a signal cuts short is made again: the shell keeps the status of a process that ended meanwhile.)
   while caught= status=0; do
     wait "$pid" || status=$?
@@ -119,11 +122,12 @@ setup_among() {
 first_universes=128
 most_universes=1024
 
-# Puts all octets of standard input into a file without a name, which is standard input from then on, so that it can be read twice.
+# Puts standard input, as far as the program reads it, into a file without a name, which is standard input from then on, so that it can be read twice.
 keep_input() {
   local copy
   copy=$(mktemp) || exit 4
-  cat >"$copy"
+  # (one octet more than the program takes)
+  head -c 1048577 >"$copy"
   exec <"$copy"
   rm "$copy"
 }

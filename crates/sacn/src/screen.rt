@@ -74,6 +74,8 @@ impl<'a, 's, R: AllocGlobal + Files, O: Write> Watcher for Screen<'a, 's, R, O> 
 
     fn end(&mut self, now: u64) -> Result<(), WatchFault> {
         self.terminal.end(now)?;
+        // (a loss that isn't told by now is no part of the tables)
+        self.follower.tick(now)?;
         self.sums_stay.set(true);
         self.follower.end(now)
     }

@@ -54,12 +54,13 @@ pub const RETRY: u64 = 1000;
 pub const LATER_WAIT: u64 = 25;
 /// The longest wait of a watch while lines wait for an output, in milliseconds.
 pub const PENDING_WAIT: i32 = 100;
-/// The room for datagrams that wait in a host's socket, in octets, that the machine is asked for; it gives twice as much. That is less than
-/// waits for a host whose hardware address isn't known (212,992), so the socket of an absent host is full before anything of it is lost.
+/// The least room for datagrams that wait in a host's socket, in octets, that the machine is asked for; it gives twice as much. That is less
+/// than waits for a host whose hardware address isn't known (212,992).
 pub const HOST_ROOM: i32 = 98_304;
 
-/// The room that one datagram of 512 slots takes, asked for as above.
-pub const HOST_OCTETS: i32 = 640;
+/// The room for what is sent at once on one universe, asked for as above: two datagrams of 512 slots, since a stream's first packet goes
+/// behind its copy.
+pub const HOST_OCTETS: i32 = 1280;
 
 /// The same for a socket that sends to groups.
 pub const GROUPS_ROOM: i32 = 4_194_304;

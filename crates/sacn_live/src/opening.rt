@@ -11,10 +11,10 @@ use sacn_edge::{BUFFER_OCTETS, Link, Received};
 use sacn_framing::{Packet, read_packet};
 use std::alloc::{AllocError, Global};
 
-/// So much less than a packet's number is that of the copy that goes before it.
+/// So much less than a packet's number is that of the copy that goes before it (a monitor knows it as `sacn_monitor`'s constant of this name).
 pub(crate) const OPENING_STEP: u8 = 20;
 
-/// Where the sequence number of a data packet stands (E1.31, 6.7).
+/// Where the sequence number of a data packet stands (E1.31, 6.2.5).
 pub(crate) const NUMBER_AT: usize = 111;
 
 /// The numbers that a universe may have, and 0.

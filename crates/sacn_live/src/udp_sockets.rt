@@ -147,7 +147,7 @@ fn is_asked_for(host: &Ipv4Addr) -> bool {
 }
 
 impl UdpSockets {
-    /// Sockets from this address to so many hosts, each with room for a datagram of each of so many universes. The error is the
+    /// Sockets from this address to so many hosts, each with room for two datagrams of each of so many universes. The error is the
     /// machine's where it refuses one.
     pub fn to_hosts<R: Net>(
         rt: &R,

@@ -1,11 +1,15 @@
 -- How a source numbers its packets: which numbers it loses, and which it leaves out by a rule of its own.
-use Rattle.std.specs.Prelude.{◌≡◌, ◌≢◌, ℕ, ◌<◌, ◌≤◌, ◌-◌, ◌+◌, ◌%◌, min, nat_lt, Bool, true, false, ◌&&◌, ◌==◌, Option, Some, None, if◌then◌else◌}
+use Rattle.std.specs.Prelude.{◌≡◌, ◌≢◌, ℕ, ◌<◌, ◌≤◌, ◌-◌, ◌+◌, ◌%◌, min, nat_le, nat_lt, Bool, true, false, ◌&&◌, ◌==◌, Option, Some, None, if◌then◌else◌}
 use Rattle.sacn_monitor.specs.declared.numbering.Numbering.{Numbering}
 use Rattle.sacn_monitor.specs.declared.numbering.TheConstants.{OMISSION_TURNS, OPENING_STEP}
 
 -- how far one number lies ahead of another, in turns of 256
 abbrev pub ahead_of : ℕ → ℕ → ℕ
 ahead_of held arrived = (arrived + 256 - held) % 256
+
+-- the second of two numbers seems to lie behind the first
+abbrev pub goes_back : ℕ → ℕ → Bool
+goes_back held arrived = nat_le 128 (ahead_of held arrived)
 
 -- the numbers that lie between two; none where the second seems to lie behind the first
 abbrev pub skipped_by : ℕ → ℕ → ℕ
@@ -18,7 +22,7 @@ passes_over held arrived number = nat_lt (ahead_of held arrived) 128 && (nat_lt 
 abbrev pub first_numbering : Numbering
 first_numbering = record { opens = true; left_out = 0; turns = 0 }
 
--- a stream begins with two copies of a packet, the second of which is so far ahead
+-- a stream, or numbers that begin anew, begin with two copies of a packet, the second of which is so far ahead
 abbrev pub begins : ℕ → ℕ → Numbering → Bool
 begins held arrived n = n.opens && (ahead_of held arrived == OPENING_STEP)
 
@@ -33,8 +37,8 @@ turns_after held arrived n =
 abbrev pub numbering_after : ℕ → ℕ → Numbering → Numbering
 numbering_after held arrived n =
     if n.turns == 0
-    then record { opens = false; left_out = (held + 1) % 256; turns = if skipped_by held arrived == 1 then 1 else 0 }
-    else record { opens = false; left_out = n.left_out; turns = turns_after held arrived n }
+    then record { opens = goes_back held arrived; left_out = (held + 1) % 256; turns = if skipped_by held arrived == 1 then 1 else 0 }
+    else record { opens = goes_back held arrived; left_out = n.left_out; turns = turns_after held arrived n }
 
 -- by a step the source is known to leave out a number that the step passes over
 abbrev pub leaves_out_in : ℕ → ℕ → Numbering → Bool

@@ -1,7 +1,7 @@
 //! How a source numbers its packets: by which steps, and which number it leaves out.
 
 ghost use Rattle.std.specs.Prelude.{◌≡◌};
-ghost use Rattle.sacn_monitor.specs.Numberings.{first_numbering, begins, lost_in, numbering_after, omission_in, passes_over, skipped_by};
+ghost use Rattle.sacn_monitor.specs.Numberings.{first_numbering, begins, goes_back, lost_in, numbering_after, omission_in, passes_over, skipped_by};
 
 /// A source that has left out the same number so many turns in a row leaves it out by a rule of its own.
 pub(crate) const OMISSION_TURNS: u8 = 3;
@@ -13,7 +13,7 @@ pub(crate) const OPENING_STEP: u8 = 20;
 /// What is known of how a source numbers its packets on a universe.
 #[derive(Clone, Copy, PartialEq, Eq)]
 pub struct Numbering {
-    /// The latest taken packet is the first one of its stream.
+    /// The latest taken packet is the first one of its stream, or begins the numbers anew.
     pub opens: bool,
     /// The number that the source left out at its latest turns, where `turns` isn't 0.
     pub left_out: u8,
@@ -37,22 +37,23 @@ impl Numbering {
     pub(crate) fn after(self, held: u8, arrived: u8) -> Self
         ensures { result ≡ numbering_after held arrived self }
     {
+        let opens = goes_back(held, arrived);
         if self.turns == 0 {
             return Numbering {
-                opens: false,
+                opens,
                 left_out: held.wrapping_add(1),
                 turns: u8::from(skipped(held, arrived) == 1),
             };
         }
         if passes_over(held, arrived, self.left_out) {
             return Numbering {
-                opens: false,
+                opens,
                 left_out: self.left_out,
                 turns: self.turns.saturating_add(1).min(OMISSION_TURNS),
             };
         }
         Numbering {
-            opens: false,
+            opens,
             left_out: self.left_out,
             turns: if arrived == self.left_out {
                 0
@@ -95,6 +96,13 @@ impl Numbering {
     {
         self.opens & (arrived.wrapping_sub(held) == OPENING_STEP)
     }
+}
+
+// Whether the second of two numbers seems to lie behind the first.
+fn goes_back(held: u8, arrived: u8) -> bool
+    ensures { result ≡ goes_back held arrived }
+{
+    arrived.wrapping_sub(held) >= 128
 }
 
 // The numbers between two that follow one another; none where the second seems to lie behind.

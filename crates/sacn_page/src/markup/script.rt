@@ -261,7 +261,7 @@ function showSources() {
 
 const clock = new Intl.DateTimeFormat(undefined, { hour: '2-digit', minute: '2-digit', second: '2-digit' });
 let shownAlarms = [];
-const leftOutText = (count) => `${count.toLocaleString()} earlier ones are left out, losses last.`;
+const leftOutText = (count) => `${count.toLocaleString()} more aren't kept: a loss gives way only to newer losses.`;
 function showAlarms() {
   if (isRecording) return;
   part('no-alarms').hidden = known.alarms.length > 0;
@@ -276,8 +276,7 @@ function showAlarms() {
     item.alarm = alarm;
     list.prepend(item);
   }
-  const gone = shownAlarms.filter((shown) => !known.alarms.some((alarm) => same(shown, alarm)));
-  if (gone.length > 0) [...list.children].filter((item) => gone.includes(item.alarm)).forEach((item) => item.remove());
+  for (const item of [...list.children]) if (!known.alarms.some((alarm) => same(alarm, item.alarm))) item.remove();
   part('most-alarms').hidden = known.leftOut === 0;
   put(part('most-alarms'), leftOutText(known.leftOut));
   shownAlarms = known.alarms.slice();
