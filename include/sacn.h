@@ -454,7 +454,7 @@ struct sacn_news {
     uint8_t noted;
     /* enum sacn_event; where the packet is discarded all that follows is 0 */
     uint8_t event;
-    /* The sequence numbers that were skipped. */
+    /* The sequence numbers that were skipped, as far as that is a loss: not one that the source leaves out at each turn of its numbers. */
     uint8_t skipped;
     /* 1 where the sender began its numbers anew; has another name than before; sends from another address or port. */
     uint8_t began_anew;
