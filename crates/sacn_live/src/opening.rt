@@ -1,6 +1,6 @@
 //! How a desk opens the stream of a universe.
-ghost use Rattle.std.specs.Prelude.{◌≡◌, ◌≤◌, ◌<◌, length};
-ghost use Rattle.std.specs.Result.{ForOk};
+ghost use Rattle.std.specs.Prelude.{◌≡◌, ◌≤◌, ◌<◌, length, true};
+ghost use Rattle.std.specs.Result.{IfOk};
 ghost use Rattle.sacn_edge.specs.ConsoleSends.{Handed};
 ghost use Rattle.sacn_edge.specs.Hearings.{Hands};
 ghost use Rattle.sacn_live.specs.Openings.{IsHanded, begins, begins_by, begun_after, begun_by, begun_of, link_of, none_begun, opening_copy};
@@ -35,7 +35,7 @@ pub struct Opening<L> {
 impl<L: Link + Drop> Opening<L> {
     /// Over this link, on which nothing went out.
     pub fn over(alloc: Global, link: L) -> Result<Self, AllocError>
-        ensures { ForOk result (λ opening. (link_of opening ≡ link) × (begun_of opening ≡ none_begun)) }
+        ensures { IfOk result (λ opening. (link_of opening ≡ link) × (begun_of opening ≡ none_begun)) }
     {
         let begun = vec![in alloc; false; UNIVERSES]?;
         Ok(Opening { link, begun })
