@@ -323,8 +323,20 @@ fn send_show<R: AllocGlobal + Net + Clock, O: Write, E: Write>(
         Ok(sender) => sender,
         Err(kind) => return Err(say_socket_fault(SocketAddrV4::new(asked.bind, 0), kind, err)),
     };
-    let mut link = Opening::over(rt.alloc(), sender)?;
-    run_orders(rt.alloc(), plan, clock, &mut link, core, out)
+    run_opened(rt.alloc(), plan, clock, sender, core, out)
+}
+
+// Runs a desk that opens each stream so that it is taken whatever came before.
+fn run_opened<R: Clock, L: Link + Drop, O: Write>(
+    alloc: Global,
+    plan: Plan<'_>,
+    clock: RigClock<'_, R>,
+    sender: L,
+    core: &mut ConsoleCore,
+    out: &mut O,
+) -> Result<ConsoleReport, Ending> {
+    let mut link = Opening::over(alloc, sender)?;
+    run_orders(alloc, plan, clock, &mut link, core, out)
 }
 
 // Runs a desk by this plan and standard input.
