@@ -8,8 +8,6 @@ mod page;
 mod piped;
 mod program;
 mod recording;
-mod screen;
-mod sums;
 mod watch;
 
 use sacn_commands::ending;
