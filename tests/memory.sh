@@ -30,7 +30,7 @@ each_refused() {
     [ -s "$room/told" ] || break
     if [ "$status" = 0 ] && cmp -s "$room/out" "$room/all"; then
       whole=$((whole + 1))
-    elif [ "$status" = "$wanted" ] && [ "$(cat "$room/err")" = "$said" ] && [ "$(head -c "$(stat -c %s "$room/out")" "$room/all" | cmp - "$room/out" 2>&1)" = "" ]; then
+    elif [ "$status" = "$wanted" ] && [ "$(head -n 1 "$room/err")" = "$said" ] && [ "$(head -c "$(stat -c %s "$room/out")" "$room/all" | cmp - "$room/out" 2>&1)" = "" ]; then
       refused=$((refused + 1))
     else
       echo "not ok memory: $name: with request $at refused: status $status, '$(head -n 1 "$room/err")'"
