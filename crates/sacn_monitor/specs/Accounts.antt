@@ -16,8 +16,9 @@ use Rattle.sacn_monitor.specs.declared.news.News.{News}
 use Rattle.sacn_monitor.specs.Kinds.{more, no_packets, with_one_more}
 use Rattle.sacn_monitor.specs.Rates.{first_rate, rate_after}
 use Rattle.sacn_monitor.specs.declared.numbering.Numbering.{Numbering}
+use Rattle.sacn_monitor.specs.declared.numbering.NumberNews.{NumberNews}
 use Rattle.sacn_monitor.specs.declared.numbering.TheConstants.{OPENING_STEP}
-use Rattle.sacn_monitor.specs.Numberings.{ahead_of, first_numbering, lost_in, numbering_after, omission_in}
+use Rattle.sacn_monitor.specs.Numberings.{ahead_of, first_numbering, is_settled, lost_in, numbering_after, omission_in}
 
 -- a name's octets, and NUL to the end of its field
 abbrev pub fitted : List ℕ → List ℕ
@@ -60,6 +61,22 @@ numbering_at begins arrived a = if begins then first_numbering else numbering_af
 -- the sender began its numbers anew
 abbrev pub begins_anew : ℕ → ℕ → Account → Bool
 begins_anew t arrived a = is_fresh t a && int_lt (step a.sequence_number arrived) (pos 0)
+
+-- a packet that is taken at t has the next number of a stream that goes on, and nothing else is awaited of it
+abbrev pub is_next : ℕ → ℕ → Account → Bool
+is_next t arrived a = (ahead_of a.sequence_number arrived == 1) && is_settled a.numbering && not a.ended && is_fresh t a
+
+-- what the number of a packet that is taken at t tells
+abbrev pub number_news : ℕ → Bool → ℕ → Account → NumberNews
+number_news t terminated arrived a = record {
+  skipped = lost_at t terminated arrived a;
+  began_anew = begins_anew t arrived a;
+  leaves_out = omission_in a.numbering (numbering_at (begins_life t terminated a) arrived a);
+}
+
+-- and how the source numbers its packets from then on
+abbrev pub renumbered : ℕ → Bool → ℕ → Account → Account
+renumbered t terminated arrived a = record a { numbering = numbering_at (begins_life t terminated a) arrived a }
 
 -- ---- a packet after others
 

@@ -1,6 +1,7 @@
 -- How a source numbers its packets: which numbers it loses, and which it leaves out by a rule of its own.
-use Rattle.std.specs.Prelude.{◌≡◌, ◌≢◌, ℕ, ◌<◌, ◌≤◌, ◌-◌, ◌+◌, ◌%◌, min, nat_le, nat_lt, Bool, true, false, ◌&&◌, ◌==◌, Option, Some, None, if◌then◌else◌}
+use Rattle.std.specs.Prelude.{◌≡◌, ◌≢◌, ℕ, ◌<◌, ◌≤◌, ◌-◌, ◌+◌, ◌%◌, min, nat_le, nat_lt, Bool, true, false, not, ◌&&◌, ◌==◌, Option, Some, None, if◌then◌else◌}
 use Rattle.sacn_monitor.specs.declared.numbering.Numbering.{Numbering}
+use Rattle.sacn_monitor.specs.declared.numbering.NumberNews.{NumberNews}
 use Rattle.sacn_monitor.specs.declared.numbering.TheConstants.{OMISSION_TURNS, OPENING_STEP}
 
 -- how far one number lies ahead of another, in turns of 256
@@ -22,11 +23,22 @@ passes_over held arrived number = nat_lt (ahead_of held arrived) 128 && (nat_lt 
 abbrev pub first_numbering : Numbering
 first_numbering = record { opens = true; left_out = 0; turns = 0 }
 
+abbrev pub no_number_news : NumberNews
+no_number_news = record { skipped = 0; began_anew = false; leaves_out = None }
+
+-- no first packets are awaited, nor is a number known that may be left out
+abbrev pub is_settled : Numbering → Bool
+is_settled n = not n.opens && (n.turns == 0)
+
 -- a stream, or numbers that begin anew, begin with two copies of a packet, the second of which is so far ahead
 abbrev pub begins : ℕ → ℕ → Numbering → Bool
 begins held arrived n = n.opens && (ahead_of held arrived == OPENING_STEP)
 
--- the turns in a row that left out the number of n, after a step that doesn't begin one
+-- a step passes over one number alone, where none is known that may be left out
+abbrev pub meets_one : ℕ → ℕ → Numbering → Bool
+meets_one held arrived n = (n.turns == 0) && (skipped_by held arrived == 1)
+
+-- the turns in a row that left out the number of n, after a step at which that number is known
 abbrev pub turns_after : ℕ → ℕ → Numbering → ℕ
 turns_after held arrived n =
     if passes_over held arrived n.left_out
@@ -35,10 +47,11 @@ turns_after held arrived n =
 
 -- what is known after a step: one number alone that a step passes over may be one that is left out
 abbrev pub numbering_after : ℕ → ℕ → Numbering → Numbering
-numbering_after held arrived n =
-    if n.turns == 0
-    then record { opens = goes_back held arrived; left_out = (held + 1) % 256; turns = if skipped_by held arrived == 1 then 1 else 0 }
-    else record { opens = goes_back held arrived; left_out = n.left_out; turns = turns_after held arrived n }
+numbering_after held arrived n = record {
+  opens = goes_back held arrived;
+  left_out = if meets_one held arrived n then (held + 1) % 256 else n.left_out;
+  turns = if meets_one held arrived n then 1 else if n.turns == 0 then 0 else turns_after held arrived n;
+}
 
 -- by a step the source is known to leave out a number that the step passes over
 abbrev pub leaves_out_in : ℕ → ℕ → Numbering → Bool

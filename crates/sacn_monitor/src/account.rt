@@ -3,11 +3,11 @@
 ghost use Rattle.std.specs.Prelude.{◌≡◌, ◌≤◌, not, length};
 ghost use Rattle.std.specs.Str.{bytes_eq};
 ghost use Rattle.sacn_framing.specs.Naming.{padded};
-ghost use Rattle.sacn_monitor.specs.Accounts.{same_sender, is_fresh, is_discarded, begins_apart, begins_life, lost_at, numbering_at, begins_anew, changed, taken_event, discarded_event, fitted, name_of, IsFitted, taken_news, news_of, after_packet, after_taken, after_discarded, first_account};
+ghost use Rattle.sacn_monitor.specs.Accounts.{same_sender, is_fresh, is_discarded, begins_apart, begins_life, lost_at, numbering_at, renumbered, number_news, begins_anew, changed, taken_event, discarded_event, is_next, fitted, name_of, IsFitted, taken_news, news_of, after_packet, after_taken, after_discarded, first_account};
 
 use crate::kinds::Kinds;
 use crate::news::{Change, Event, News};
-use crate::numbering::{Numbering, OPENING_STEP};
+use crate::numbering::{NumberNews, Numbering, OPENING_STEP};
 use crate::rate::Rate;
 use sacn_framing::DataView;
 use sacn_root::put;
@@ -174,6 +174,46 @@ impl Account {
         self.is_fresh(moment) & (signed_step(self.sequence_number, arrived) < 0)
     }
 
+    // What a taken packet's number tells. Mostly it is the next one in turn, which tells nothing and changes nothing: the same
+    // as `step` makes of it.
+    fn number(&mut self, moment: u64, terminated: bool, arrived: u8) -> NumberNews
+        ensures news { result ≡ number_news moment terminated arrived self.old }
+        ensures account { self.new ≡ renumbered moment terminated arrived self.old }
+    {
+        if self.is_next(moment, arrived) {
+            NumberNews::none()
+        } else {
+            self.step(moment, terminated, arrived)
+        }
+    }
+
+    // Whether a taken packet has the next number of a stream that goes on, and nothing else is awaited of it.
+    fn is_next(&self, moment: u64, arrived: u8) -> bool
+        ensures { result ≡ is_next moment arrived self.now }
+    {
+        (arrived.wrapping_sub(self.sequence_number) == 1)
+            & self.numbering.is_settled()
+            & !self.ended
+            & self.is_fresh(moment)
+    }
+
+    // What any taken packet's number tells. Out of line, so that the test before it is made in the caller.
+    #[inline(never)]
+    fn step(&mut self, moment: u64, terminated: bool, arrived: u8) -> NumberNews
+        ensures news { result ≡ number_news moment terminated arrived self.old }
+        ensures account { self.new ≡ renumbered moment terminated arrived self.old }
+    {
+        let begins = self.begins_life(moment, terminated);
+        let numbering = self.numbering_at(begins, arrived);
+        let news = NumberNews {
+            skipped: self.lost(moment, terminated, arrived),
+            began_anew: self.begins_anew(moment, arrived),
+            leaves_out: self.numbering.omission(numbering),
+        };
+        self.numbering = numbering;
+        news
+    }
+
     // A packet that is discarded. Returns its event.
     fn discard(&mut self, arrived: u8) -> Event
         ensures event { result ≡ discarded_event arrived self.old }
@@ -195,15 +235,13 @@ impl Account {
         ensures news { result ≡ taken_news moment sender packet.now self.old }
         ensures account { self.new ≡ after_taken moment sender packet.now self.old }
     {
-        let begins = self.begins_life(moment, packet.terminated());
-        let skipped = self.lost(moment, packet.terminated(), packet.number());
-        let numbering = self.numbering_at(begins, packet.number());
+        let number = self.number(moment, packet.terminated(), packet.number());
         let gap = moment.saturating_sub(self.latest);
         let news = News {
             event: self.taken_event(moment, packet.terminated()),
-            skipped,
-            began_anew: self.begins_anew(moment, packet.number()),
-            leaves_out: self.numbering.omission(numbering),
+            skipped: number.skipped,
+            began_anew: number.began_anew,
+            leaves_out: number.leaves_out,
             priority: change(self.priority, packet.priority()),
             renamed: rename(&mut self.name, packet),
             moved: !same_sender(&self.sender, &sender),
@@ -214,8 +252,7 @@ impl Account {
         self.sequence_number = packet.number();
         self.ended = packet.terminated();
         self.kinds.count(packet);
-        self.numbering = numbering;
-        self.skipped = self.skipped.saturating_add(u64::from(skipped));
+        self.skipped = self.skipped.saturating_add(u64::from(number.skipped));
         self.greatest_gap = self.greatest_gap.max(gap);
         self.rate.count(moment);
         news

@@ -1,7 +1,7 @@
 //! How a source numbers its packets: by which steps, and which number it leaves out.
 
-ghost use Rattle.std.specs.Prelude.{◌≡◌};
-ghost use Rattle.sacn_monitor.specs.Numberings.{first_numbering, begins, goes_back, lost_in, numbering_after, omission_in, passes_over, skipped_by};
+ghost use Rattle.std.specs.Prelude.{◌≡◌, ◌==◌, if◌then◌else◌};
+ghost use Rattle.sacn_monitor.specs.Numberings.{first_numbering, begins, goes_back, is_settled, lost_in, no_number_news, numbering_after, omission_in, passes_over, skipped_by, turns_after};
 
 /// A source that has left out the same number so many turns in a row leaves it out by a rule of its own.
 pub(crate) const OMISSION_TURNS: u8 = 3;
@@ -21,6 +21,27 @@ pub struct Numbering {
     pub turns: u8,
 }
 
+/// What a taken packet's number tells, as `News` has it.
+#[derive(Clone, Copy)]
+pub(crate) struct NumberNews {
+    pub(crate) skipped: u8,
+    pub(crate) began_anew: bool,
+    pub(crate) leaves_out: Option<u8>,
+}
+
+impl NumberNews {
+    /// That of the next number in turn.
+    pub(crate) fn none() -> Self
+        ensures { result ≡ no_number_news }
+    {
+        NumberNews {
+            skipped: 0,
+            began_anew: false,
+            leaves_out: None,
+        }
+    }
+}
+
 impl Numbering {
     /// That of a stream whose first packet was just taken.
     pub(crate) fn first() -> Self
@@ -38,29 +59,42 @@ impl Numbering {
         ensures { result ≡ numbering_after held arrived self }
     {
         let opens = goes_back(held, arrived);
-        if self.turns == 0 {
+        if self.turns == 0 && skipped(held, arrived) == 1 {
             return Numbering {
                 opens,
                 left_out: held.wrapping_add(1),
-                turns: u8::from(skipped(held, arrived) == 1),
-            };
-        }
-        if passes_over(held, arrived, self.left_out) {
-            return Numbering {
-                opens,
-                left_out: self.left_out,
-                turns: self.turns.saturating_add(1).min(OMISSION_TURNS),
+                turns: 1,
             };
         }
         Numbering {
             opens,
             left_out: self.left_out,
-            turns: if arrived == self.left_out {
-                0
-            } else {
-                self.turns
-            },
+            turns: self.turns_after(held, arrived),
         }
+    }
+
+    // The turns in a row that left out the number, after a step.
+    fn turns_after(self, held: u8, arrived: u8) -> u8
+        ensures { result ≡ if self.turns == 0 then 0 else turns_after held arrived self }
+    {
+        if self.turns == 0 {
+            return 0;
+        }
+        if passes_over(held, arrived, self.left_out) {
+            return self.turns.saturating_add(1).min(OMISSION_TURNS);
+        }
+        if arrived == self.left_out {
+            0
+        } else {
+            self.turns
+        }
+    }
+
+    /// Whether a step to the very next number changes nothing of it.
+    pub(crate) fn is_settled(self) -> bool
+        ensures { result ≡ is_settled self }
+    {
+        !self.opens & (self.turns == 0)
     }
 
     /// How many packets were lost in that step. None is where a stream begins so, nor is the number that the source is
