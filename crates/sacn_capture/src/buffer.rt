@@ -95,7 +95,9 @@ fn read_front<R: BufRead>(
     input.fill_front(buffer, len)
 }
 
-// A look at a frame, which is at the buffer's front where it was kept.
+// A look at a frame, which is at the buffer's front where it was kept. In line, once in the reading of a file and once in that of
+// standard input.
+#[inline(always)]
 fn look_at(frame: Frame, buffer: &[u8]) -> Result<Sighting, Passed>
     ensures seen { map_ok (seen_among buffer.now) result ≡ content_in frame buffer.now }
     ensures within { IfOk result (IsWithin (length buffer.now)) }
