@@ -116,6 +116,16 @@ done
 rows=$(grep -cvE '^ *(#|$)' "$top/bench/workloads.txt")
 "$top/bench/run" "$room/old" "$room/new" >"$room/out" 2>"$room/err" && [ "$(wc -l <"$room/out")" = "$((rows + 1))" ]
 verdict "two checkouts of one source are run" $? "$(head -n 1 "$room/err")"
+# (a program that says something more behind the words of one workload)
+words=$(awk '$1 == "lists" { $1 = $2 = ""; print $3 }' "$top/bench/workloads.txt")
+printf '#!/bin/sh\necho "$@"\ncase $1 in %s) echo more ;; esac\n' "$words" >"$room/new/crates/sacn_bench/out/sacn_bench"
+status=0
+"$top/bench/run" "$room/old" "$room/new" >"$room/out" 2>"$room/err" || status=$?
+[ "$status" = 1 ] && grep -qF "the outputs differ" "$room/err"
+verdict "another output ends the run" $? "status $status, $(head -n 1 "$room/err")"
+"$top/bench/run" --other lists "$room/old" "$room/new" >"$room/out" 2>"$room/err" && grep -q '^lists .* another text$' "$room/out" && [ "$(grep -c 'another text' "$room/out")" = 1 ]
+verdict "a workload that may tell another text is marked" $? "$(head -n 1 "$room/err")"
+cp "$room/old/crates/sacn_bench/out/sacn_bench" "$room/new/crates/sacn_bench/out/sacn_bench"
 # other NAME FILE: the run ends before it begins, and names the file
 other() {
   local status=0

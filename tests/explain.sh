@@ -65,7 +65,7 @@ E
 cat >ola.json <<'E'
 {"ms":0,"event":"appeared","universe":1,"cid":"0102030405060708090a0b0c0d0e0f10","name":"OLA Server","address":"10.77.0.1","port":5568,"priority":100}
 {"ms":2412,"event":"ended","universe":1,"cid":"0102030405060708090a0b0c0d0e0f10","name":"OLA Server","address":"10.77.0.1","port":5568,"priority":100}
-{"ms":5970,"event":"refused","address":"10.77.0.1","port":5568,"fault":8}
+{"ms":5970,"event":"refused","address":"10.77.0.1","port":5568,"fault":8,"name":"FramingVector"}
 {"row":"source","universe":1,"cid":"0102030405060708090a0b0c0d0e0f10","name":"OLA Server","address":"10.77.0.1","port":5568,"state":"ended","priority":100,"first":0,"last":2412,"live":3,"preview":0,"terminated":3,"other":0,"skipped":0,"late":0,"repeated":0,"gap":1544,"last_second":0}
 {"row":"universe","universe":1,"sources":1,"sending":0,"taken":6,"skipped":0,"discarded":0}
 {"row":"refused","fault":8,"name":"FramingVector","count":1}
@@ -307,7 +307,7 @@ cat >events.json <<E
 {"ms":800,"event":"no_rivals","universe":1,"sources":1,"priority":120}
 {"ms":1000,"event":"lists","cid":"$B","name":"Spare","universes":[1,3,4,5]}
 {"ms":1200,"event":"relists","cid":"$B","name":"Spare","universes":[1,7]}
-{"ms":1400,"event":"refused","address":"10.0.0.9","port":5000,"fault":1}
+{"ms":1400,"event":"refused","address":"10.0.0.9","port":5000,"fault":1,"name":"TooShort"}
 {"row":"list","cid":"$B","name":"Spare","universes":[1,7],"silent":[7],"unlisted":[2]}
 {"row":"refused","fault":1,"name":"TooShort","count":1}
 E

@@ -8,7 +8,8 @@ use Rattle.sacn_monitor.specs.declared.news.Event.{Event}
 use Rattle.sacn_monitor.specs.declared.stream.Stream.{Stream}
 use Rattle.sacn_explain.specs.declared.options.Form.{Form}
 use Rattle.sacn_explain.specs.declared.options.Form.TheVariants.{Text, Json}
-use Rattle.sacn_explain.specs.Members.{number_member, object_front, sender_members, stream_members}
+use Rattle.sacn_explain.specs.Members.{number_member, object_front, sender_members, stream_members, word_member}
+use Rattle.sacn_explain.specs.Refusals.{fault_name}
 use Rattle.sacn_explain.specs.Sentences.{event_key, event_words, line_front, loss_words, moved_words, omission_words, priority_words, refused_words, skipped_words, stream_front, untracked_words}
 
 -- what a packet says of its source
@@ -54,7 +55,9 @@ loss_line Json now s = object_front now (codes "lost") ++ (stream_members s ++ (
 -- a datagram is no packet
 abbrev pub refused_line : Form → ℕ → Sender → PacketFault → List ℕ
 refused_line Text now sender fault = line_front now ++ refused_words sender fault
-refused_line Json now sender fault = object_front now (codes "refused") ++ (sender_members sender ++ (number_member (codes "fault") (fault_number fault) ++ codes "}"))
+refused_line Json now sender fault =
+    object_front now (codes "refused") ++ (sender_members sender
+    ++ (number_member (codes "fault") (fault_number fault) ++ (word_member (codes "name") (fault_name fault) ++ codes "}")))
 
 -- there is no room for the source of a packet
 abbrev pub untracked_line : Form → ℕ → Sender → List ℕ

@@ -5,6 +5,7 @@ ghost use Rattle.sacn_explain.specs.Sentences.{event_key};
 ghost use Rattle.sacn_explain.specs.PacketLines.{event_line, moved_line, renamed_line, priority_line, anew_line, omission_line, skipped_line, loss_line, refused_line, untracked_line};
 
 use crate::options::Form;
+use crate::refusals::fault_name;
 use crate::{json, words};
 use sacn_monitor::{Change, Event, News, Sender, Stream};
 use sacn_root::PacketFault;
@@ -230,6 +231,7 @@ pub fn refused_line(
             json::begin(text, now, "refused")?;
             json::push_sender(text, sender)?;
             json::push_number(text, "fault", u64::from(fault.number()))?;
+            json::push_word(text, "name", fault_name(fault))?;
             text.push('}')
         }
     }
