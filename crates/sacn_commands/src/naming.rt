@@ -1,6 +1,8 @@
 //! Faults of files, said with the name of the file.
 use crate::ending::{DEVICE_FAILED, Ending, REFUSED, tell_ending};
-use sacn_console::TextFault;
+use sacn_console::{ShowFault, TextFault};
+use sacn_node::SetupFault;
+use sacn_world::WorldTextFault;
 use std::io::Write;
 
 // Says the fault of a file with its name, and returns how the run ends.
@@ -36,12 +38,19 @@ pub fn of_file<T, E: Write>(read: Result<T, Ending>, path: &str, err: &mut E) ->
     }
 }
 
-// Whether an ending is of what stands in a file, or of reading it.
+// Whether an ending is of what stands in a file, or of reading it: not where memory ran out, nor of what comes behind the file.
 fn is_of_file(ending: Ending) -> bool {
-    !matches!(
-        ending,
-        Ending::OutOfMemory | Ending::DeviceWrite | Ending::DeviceSocket | Ending::Said(_)
-    )
+    match ending {
+        Ending::OutOfMemory
+        | Ending::Show(ShowFault::OutOfMemory)
+        | Ending::Setup(SetupFault::OutOfMemory)
+        | Ending::Line(TextFault::OutOfMemory)
+        | Ending::World(WorldTextFault::OutOfMemory)
+        | Ending::DeviceWrite
+        | Ending::DeviceSocket
+        | Ending::Said(_) => false,
+        _ => true,
+    }
 }
 
 /// What came of a file where the line that refuses it is promised without its name: that is on a line behind it, as
