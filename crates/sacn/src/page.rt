@@ -29,8 +29,7 @@ pub fn serve<R: AllocGlobal + Env + Net + Clock, E: Write>(
     let board = Board::new(rt.alloc(), universe, MAX_ALARMS)?;
     let mut pages = of_socket(Pages::bind(rt, rt.alloc(), place, board), place, err)?;
     let outputs = Outputs::new(rt.alloc(), Lines::Plain)?;
-    let joined = joined_groups(rt);
-    let outputs = (&outputs, joined.as_deref());
+    let outputs = (&outputs, joined_groups(rt));
     hear(rt, address, place, &mut pages, until, outputs, err)
 }
 
@@ -41,7 +40,7 @@ fn hear<'a, R: Net + Clock, E: Write>(
     place: SocketAddrV4,
     pages: &mut Pages<Board>,
     until: u64,
-    (outputs, joined): (&'a Outputs, Option<&'a str>),
+    (outputs, joined): (&'a Outputs, Option<String>),
     err: &mut E,
 ) -> Result<(), Ending> {
     let mut receiver = receiver_at(rt, address, err)?;

@@ -171,7 +171,7 @@ fn gateway_on<R: AllocGlobal + Files + Env + Net + Clock, I: Read + Drop>(
     let mut err = outputs.err();
     let setup = of_file(setup_of_word(rt, asked.setup, input), asked.setup, &mut err)?;
     check_widgets(asked.widgets.as_slice(), &setup, &mut err)?;
-    run_setup(rt, asked, &setup, outputs, joined_groups(rt).as_deref())
+    run_setup(rt, asked, &setup, outputs, joined_groups(rt))
 }
 
 // Runs a gateway of a setup. (The check of a function takes much longer the more values it has to drop on its ways out.)
@@ -180,7 +180,7 @@ fn run_setup<'a, R: AllocGlobal + Net + Clock>(
     asked: &GatewayAsked<'_>,
     setup: &NodeSetup,
     outputs: &'a Outputs,
-    joined: Option<&'a str>,
+    joined: Option<String>,
 ) -> Result<(), Ending> {
     let mut receiver = receiver_of(rt, asked, setup, &mut outputs.err())?;
     receiver.tend(outputs, joined);

@@ -65,7 +65,7 @@ pub use outputs::{Outlet, Outputs};
 pub use receiver::{Arrival, Octets4, Receipt, Receiver};
 pub use sockets::Sockets;
 pub use sys::{guard_standard_descriptors, output_is_terminal};
-pub use udp_receiver::UdpReceiver;
+pub use udp_receiver::{UdpReceiver, say_silence};
 pub use udp_sockets::UdpSockets;
 pub use watch::Watch;
 pub use widget::{Widget, widget_packet};

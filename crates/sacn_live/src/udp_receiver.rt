@@ -34,7 +34,7 @@ pub struct UdpReceiver<'a, R> {
     // What is handed on before a wait.
     outputs: Option<&'a Outputs>,
     // The groups that were joined, in words.
-    joined: Option<&'a str>,
+    joined: Option<String>,
 }
 
 impl<'a, R: Net + MachineClock> UdpReceiver<'a, R> {
@@ -75,7 +75,7 @@ impl<'a, R: Net + MachineClock> UdpReceiver<'a, R> {
 
     /// From now on each wait hands on what waits for these outputs, and is short while something does. On standard error it is said, once,
     /// where nothing came in the first five seconds, with the groups that were joined in these words.
-    pub fn tend(&mut self, outputs: &'a Outputs, joined: Option<&'a str>) {
+    pub fn tend(&mut self, outputs: &'a Outputs, joined: Option<String>) {
         self.outputs = Some(outputs);
         self.joined = joined;
     }
@@ -96,7 +96,7 @@ impl<'a, R: Net + MachineClock> UdpReceiver<'a, R> {
         }
         self.is_noted = true;
         if let Some(outputs) = self.outputs {
-            say_silence(self.address, self.joined, &mut outputs.err());
+            say_silence(self.address, self.joined.as_deref(), &mut outputs.err());
         }
     }
 
@@ -116,8 +116,8 @@ impl<'a, R: Net + MachineClock> UdpReceiver<'a, R> {
     }
 }
 
-// Says that nothing came, and why that may be.
-fn say_silence<E: Write>(address: SocketAddrV4, joined: Option<&str>, err: &mut E) {
+/// Says that nothing came at an address since the start, and why that may be.
+pub fn say_silence<E: Write>(address: SocketAddrV4, joined: Option<&str>, err: &mut E) {
     let [a, b, c, d] = address.ip().octets();
     let port = address.port();
     let _ = write!(err, "nothing heard for 5 s at {a}.{b}.{c}.{d}:{port}; ");
