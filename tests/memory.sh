@@ -30,7 +30,7 @@ each_refused() {
     [ -s "$room/told" ] || break
     if [ "$status" = 0 ] && cmp -s "$room/out" "$room/all"; then
       whole=$((whole + 1))
-    elif [ "$status" = "$wanted" ] && [ "$(head -n 1 "$room/err")" = "$said" ] && [ "$(head -c "$(stat -c %s "$room/out")" "$room/all" | cmp - "$room/out" 2>&1)" = "" ]; then
+    elif [ "$status" = "$wanted" ] && [ "$(cat "$room/err")" = "$said" ] && [ "$(head -c "$(stat -c %s "$room/out")" "$room/all" | cmp - "$room/out" 2>&1)" = "" ]; then
       refused=$((refused + 1))
     else
       echo "not ok memory: $name: with request $at refused: status $status, '$(head -n 1 "$room/err")'"
@@ -55,3 +55,34 @@ each_refused "sacn console" 3 "refused OutOfMemory" /dev/null "$sacn" console "$
 # (on a port of its own, since another receiver may have the usual one)
 { echo "udp_port = 26968"; cat "$examples/node.toml"; } >"$room/node.toml"
 each_refused "sacn node" 3 "refused OutOfMemory" /dev/null "$sacn" node "$room/node.toml" --turns 1
+
+# in_small_spaces NAME PROGRAM [WORD..]: in an address space that is too small it ends as a refused request does, and never by a signal. (What is smaller still
+# the machine's loader refuses, with 127.)
+in_small_spaces() {
+  local name=$1 size status refused=0 whole=0
+  shift
+  if [ ! -x "$1" ]; then
+    echo "skipped memory: $name: it isn't built"
+    return
+  fi
+  for size in $(seq 3000 50 6400); do
+    status=0
+    # shellcheck disable=SC2016
+    timeout 10 bash -c 'ulimit -v "$1" && shift && exec "$@"' small "$size" "$@" </dev/null >/dev/null 2>"$room/err" || status=$?
+    case $status in
+      0) whole=$((whole + 1)) ;;
+      127) ;;
+      3) [ "$(tail -n 1 "$room/err")" = "refused OutOfMemory" ] && refused=$((refused + 1)) || status=other ;;
+      *) status=other ;;
+    esac
+    if [ "$status" = other ]; then
+      echo "not ok memory: $name: it doesn't end as it should in $size kB: $(tail -n 1 "$room/err")"
+      return
+    fi
+    [ "$whole" -lt 3 ] || break
+  done
+  if [ "$refused" -gt 0 ] && [ "$whole" -gt 0 ]; then echo "ok memory: $name"; else echo "not ok memory: $name: $refused refused, $whole went on"; fi
+}
+in_small_spaces "a watch in a small address space" "$sacn" watch --plain --port 26969 --seconds 1
+in_small_spaces "a page in a small address space" "$sacn" watch --page 127.0.0.1:26970 --port 26969 --seconds 1
+in_small_spaces "a recording told in a small address space" "$sacn" explain "$examples/ola.pcap"

@@ -10,7 +10,9 @@ if [ ! -x "$sacn" ]; then
 fi
 room=$(mktemp -d)
 started=()
+pane() { tmux -L "sacn-$$" "$@" 2>/dev/null; }
 cleanup() {
+  pane kill-server
   for pid in "${started[@]:-}"; do [ -z "$pid" ] || kill "$pid" 2>/dev/null; done
   rm -rf "$room"
 }
@@ -142,17 +144,21 @@ stopped go --plain ""
 grep -qE '^ *[0-9]+\.[0-9]{3} s  not heard for [0-9]+\.[0-9]{3} s: this program was stopped$' out
 verdict "a stop in words" $? "$(grep -v universe out | head -n 3)"
 
-# A watch that serves a page, joined groups and hears nothing says which.
+# A watch that joined groups and hears nothing says which, as lines and beside a page.
 join=$top/release/$(uname -m)-linux/sacn-join
 if [ -x "$join" ]; then
   printf '. "%s/tools/run.sh"\nsacn_join=%s\nrun "%s" watch --port 25834 --seconds 6 "$@"\n' "$top" "$join" "$sacn" >silent
   bash silent --page 127.0.0.1:25836 --join lo </dev/null >/dev/null 2>first &
   started+=("$!")
+  bash silent --plain --join lo </dev/null >/dev/null 2>lines &
+  started+=("$!")
   bash silent --page 127.0.0.1:25837 --join lo --universe 600 --universe 1-512 </dev/null >/dev/null 2>named
-  wait "${started[-1]}"
+  wait "${started[-1]}" "${started[-2]}"
   advice="is the console on this network, or does it send by unicast to another host?"
   grep -qxF "nothing heard for 5 s at 0.0.0.0:25834; lo joined the discovery group, universes 1 to 128 and those that sources list; --universe 1-512 joins others; $advice" first
   verdict "silence after --join" $? "$(tail -n 1 first)"
+  grep -qxF "nothing heard for 5 s at 0.0.0.0:25834; lo joined the discovery group, universes 1 to 128 and those that sources list; --universe 1-512 joins others; $advice" lines
+  verdict "silence after --join of a watch of lines" $? "$(tail -n 1 lines)"
   grep -qxF "nothing heard for 5 s at 0.0.0.0:25834; lo joined the discovery group and universes 600, 1-512; --universe names others; $advice" named
   verdict "silence after --join of universes that are named" $? "$(tail -n 1 named)"
 else
@@ -223,8 +229,11 @@ columns, rows, status = map(int, sys.argv[1:])
 text = open("drawn", "rb").read().decode()
 begin, end = "\x1b[?1049h\x1b[?25l\x1b[?7l\x1b[2J", "\x1b[0m\x1b[?7h\x1b[?25h\x1b[?1049l"
 assert status == 0, f"status {status}"
-assert text.count(begin) == 1 and text.endswith(end), "the terminal isn't as it was"
-inner = text[text.index(begin) + len(begin):-len(end)]
+assert text.count(begin) == 1 and text.count(end) == 1, "the terminal isn't as it was"
+inner, left = text[text.index(begin) + len(begin):].split(end)
+left = left.replace("\r\n", "\n")
+assert re.match(r"sacn watch  sources on universes [0-9]+  datagrams [0-9]+\n", left) and re.search(r"\nA        1 (sending|lost) ", left), "no rows at the end"
+assert not re.search(r"[\x00-\x09\x0b-\x1f\x7f-\x9f]", left), "a control letter in these rows"
 places = re.findall(r"\x1b\[(\d+);1H((?:[^\x1b]|\x1b\[[0-9;]*m)*)", inner)
 letters = [re.sub(r"\x1b\[[0-9;]*m", "", row) for _, row in places]
 assert all(0 < int(at) <= rows for at, _ in places), "a row past the end"
@@ -251,7 +260,9 @@ verdict "NO_COLOR" $? "$(tail -n 1 <<<"$problem")"
 printf '. "%s/tools/run.sh"\nrun "%s" watch --port 25833\n' "$top" "$sacn" >launcher
 status=0
 problem=$(COLUMNS=80 ROWS=24 KEYS=typed timeout 20 python3 terminal.py drawn 25833 stop bash launcher 2>&1) || status=$?
-[ "$status" = 0 ] && grep -q 'Aff' drawn && [ "$(tail -c 8 drawn)" = $'\x1b[?1049l' ]
+# (what stands below the last screen)
+below() { tr -d '\r' <drawn | awk 'seen { print } index($0, "\033[?1049l") { seen = 1 }'; }
+[ "$status" = 0 ] && grep -q 'Aff' drawn && below | grep -q '^sacn watch ' && below | grep -qE '^A +1 ' && ! below | grep -q $'\x1b'
 verdict "Ctrl-C under the launcher" $? "status $status $(tail -n 1 <<<"$problem")"
 [ "$status" = 0 ] && ! grep -qE 'typed|\^C' drawn
 verdict "keys that are typed stay off the screen" $? "status $status $(tail -n 1 <<<"$problem")"
@@ -263,7 +274,7 @@ verdict "what was typed unseen is read away" $? "status $status $(tail -n 1 <<<"
 printf '. "%s/tools/run.sh"\nrun "%s" watch --port 25833\n' "$top" "$sacn" >launcher
 status=0
 problem=$(COLUMNS=80 ROWS=24 KEYS=$'\x1c' timeout 20 python3 terminal.py drawn 25833 go bash launcher 2>&1) || status=$?
-[ "$status" = 0 ] && [ "$(tail -c 8 drawn)" = $'\x1b[?1049l' ]
+[ "$status" = 0 ] && below | grep -q '^sacn watch ' && ! below | grep -q $'\x1b'
 verdict "Ctrl-\\ ends it, and gives the terminal back" $? "status $status $(tail -n 1 <<<"$problem")"
 
 # The launcher tells a watch the terminal's size, whatever it is.
@@ -277,3 +288,61 @@ for size in "80 24" "160 50" "20 5"; do
   [ "$status" = 0 ] && grep -q "^rows $rows columns $columns"$'\r$' drawn
   verdict "the launcher tells the size of a terminal of $columns by $rows" $? "status $status $(head -n 1 drawn) $(tail -n 1 <<<"$problem")"
 done
+
+# A terminal that is resized: the screen follows it, and all its rows stay behind.
+if ! command -v tmux >/dev/null; then
+  echo "skipped watch: a terminal that is resized: no tmux"
+  exit 0
+fi
+sed "s/^universes = .*/universes = [$(seq -s ', ' 40)]/; s/25831/25835/" show.toml >many.toml
+printf 'unset LINES COLUMNS\n. "%s/tools/run.sh"\n(run "%s" watch --port 25835)\necho "status $?"\nread -r\n' "$top" "$sacn" >resized
+pane -f /dev/null new-session -d -s resized -x 160 -y 50 bash resized
+printf 'unset LINES COLUMNS\n. "%s/tools/run.sh"\nrun "%s" watch --port 25838\n' "$top" "$sacn" >unheard
+pane new-session -d -s unheard -x 80 -y 24 bash unheard
+# (nothing can be written to the folder for files that pass, as on a disk that is full)
+printf 'unset LINES COLUMNS\nset -eu\nmount -t tmpfs -o size=4k none "%s/full"\nhead -c 4096 /dev/zero >"%s/full/all"\nexport TMPDIR="%s/full"\n. "%s/tools/run.sh"\n(run "%s" watch --port 25839) && status=0 || status=$?\nstty -a | grep -oE -e "-?echo\\b" | head -n 1\necho "status $status"\nread -r\n' \
+  "$room" "$room" "$room" "$top" "$sacn" >full.sh
+mkdir full
+if unshare -m true 2>/dev/null; then pane new-session -d -s full -x 80 -y 24 unshare -m bash full.sh; fi
+"$sacn" desk many.toml --script stay.txt --stay </dev/null >desk.out 2>&1 &
+started+=("$!")
+# shows ROWS ROW PATTERN [SESSION]: within ten seconds a screen of so many rows has such a row there
+shows() {
+  for _ in $(seq 100); do
+    pane capture-pane -p -t "${4-resized}" >shown
+    [ "$(wc -l <shown)" = "$1" ] && sed -n "$2p" shown | grep -qE -- "$3" && return 0
+    sleep 0.1
+  done
+  return 1
+}
+shows 50 43 '^N +[0-9]+ sending ' && shows 50 45 '^universe [0-9]+: slots above 0'
+verdict "a terminal of 160 by 50" $? "$(sed -n 43,45p shown)"
+pane resize-window -t resized -x 80 -y 24
+shows 24 21 '^  and 23 more$' && shows 24 23 '^universe [0-9]+: slots above 0'
+verdict "it is resized to 80 by 24" $? "$(tail -n 2 shown)"
+pane resize-window -t resized -x 20 -y 5
+shows 5 4 '^A +[0-9]+ sending' && shows 5 5 '^  and 39 more'
+verdict "and to 20 by 5" $? "$(cat shown)"
+pane resize-window -t resized -x 160 -y 50
+shows 50 43 '^N +[0-9]+ sending ' && shows 50 45 '^universe [0-9]+: slots above 0'
+verdict "and back" $? "$(sed -n 43,45p shown)"
+pane send-keys -t resized C-c
+# stays PATTERN [SESSION]: within ten seconds such a line stands on the terminal, or above what is seen of it
+stays() {
+  for _ in $(seq 100); do pane capture-pane -p -t "${2-resized}" -S - >shown; grep -qE -- "$1" shown && return 0; sleep 0.1; done
+  return 1
+}
+stays '^status 0$' && stays '^sacn watch  sources on universes 40 ' && stays '^A +1 sending ' && stays '^N +40 sending '
+verdict "all its rows stay on the terminal" $? "$(tail -n 3 shown)"
+shows 24 4 '^nothing heard for 5 s at 0\.0\.0\.0:25838$' unheard && shows 24 5 '^groups are heard where a device joins them: --join DEVICE$' unheard
+verdict "a screen on which nothing is heard says so" $? "$(sed -n 4,5p shown)"
+if pane has-session -t full; then
+  shows 24 1 '^sacn watch ' full
+  pane resize-window -t full -x 60 -y 20
+  shows 20 1 '^sacn watch ' full
+  pane send-keys -t full C-c
+  stays '^status 0$' full && stays '^sacn watch  sources on universes 0 ' full && stays '^echo$' full
+  verdict "a size that can't be written is none, and ends nothing" $? "$(tail -n 3 shown)"
+else
+  echo "skipped watch: a size that can't be written: no namespaces of mounts can be made here"
+fi

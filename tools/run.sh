@@ -46,6 +46,8 @@ feed() {
   exec {out}<&- {in}<&- {lives}<&-
   # (Where it comes twice, the pipe is closed already.)
   trap 'caught=1; exec {life}>&-' INT TERM HUP QUIT
+  # (The terminal may have another size by now, and after a stop, where the job in front was told.)
+  if [ "$2" = watch ]; then trap 'caught=1; tell_change_of_size' WINCH CONT; tell_change_of_size; fi
   if [ -n "$caught" ]; then exec {life}>&-; fi
   # (A wait that a signal cuts short is made again: the shell keeps the status of a process that ended meanwhile.)
   while caught= status=0; do
@@ -207,14 +209,33 @@ loud_keys() {
   stty "$modes" 2>/dev/null || true
 }
 
-# Tells a watch how large the terminal at standard output is, which it can't ask.
+# The rows and columns of the terminal at standard output, into `rows` and `columns`, where it has any.
 size_of_terminal() {
-  local terminal rows columns
-  [ -t 1 ] || return 0
+  local terminal size=1
   # (what runs inside the parentheses has a pipe for its output)
   exec {terminal}<&1
-  if read -r rows columns < <(stty size <&"$terminal" 2>/dev/null) && [ "$rows" -gt 0 ] && [ "$columns" -gt 0 ]; then export LINES=$rows COLUMNS=$columns; fi
+  if read -r rows columns < <(stty size <&"$terminal" 2>/dev/null) && [ "$rows" -gt 0 ] && [ "$columns" -gt 0 ]; then size=0; fi
   exec {terminal}<&-
+  return "$size"
+}
+
+# Tells a watch how large its terminal is, which it can't ask: now, and in a file without a name at each change of size.
+tell_size() {
+  local rows columns copy
+  unset SACN_SIZE
+  [ -t 1 ] || return 0
+  # (a terminal may have none yet)
+  if size_of_terminal; then export LINES=$rows COLUMNS=$columns; fi
+  copy=$(mktemp 2>/dev/null) || return 0
+  exec {size_file}<>"$copy"
+  rm -f "$copy"
+  export SACN_SIZE=/proc/self/fd/$size_file
+}
+
+# Tells it the size that its terminal has now, where that can be written.
+tell_change_of_size() {
+  local rows columns
+  if [ -n "${SACN_SIZE-}" ] && size_of_terminal; then { echo "$rows $columns" >"$SACN_SIZE"; } 2>/dev/null || true; fi
 }
 
 # In so much stack, in kB, every command runs, also with a large environment.
@@ -247,7 +268,7 @@ run() {
   esac
   case ${1-} in
     desk) feed "$program" "$@" ;;
-    watch) size_of_terminal; feed "$program" "$@" ;;
+    watch) tell_size; feed "$program" "$@" ;;
     explain) if serves "$@"; then feed "$program" "$@"; else exec "$program" "$@"; fi ;;
     *) exec "$program" "$@" ;;
   esac

@@ -8,6 +8,8 @@ mod page;
 mod piped;
 mod program;
 mod recording;
+mod room;
+mod screen;
 mod watch;
 
 use sacn_commands::ending;

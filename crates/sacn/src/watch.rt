@@ -2,20 +2,18 @@
 use crate::explain::form_of;
 use crate::page::serve;
 use crate::piped::Piped;
+use crate::room::ask_for_room;
+use crate::screen::show;
 use sacn_commands::ending::Ending;
-use sacn_commands::live::{clock_of, of_socket, say_hearing};
+use sacn_commands::live::{clock_of, joined_groups, of_socket, say_hearing};
 use sacn_explain::Options;
-use sacn_files::words::short_in;
 use sacn_live::{Lines, Outputs, UdpReceiver, guard_standard_descriptors, output_is_terminal};
-use sacn_watch::{Listener, RunningListener, Size, WatchFault, watch_lines, watch_terminal};
+use sacn_watch::{RunningListener, WatchFault, watch_lines};
 use sacn_words::{WatchAsked, moment_of};
-use std::env::{self, Env};
+use std::env::Env;
 use std::io::Write;
 use std::net::{Net, SocketAddrV4};
-use std::rt::Clock;
-
-/// The most columns and rows that a terminal is taken to have.
-const MAX_EXTENT: u16 = 1000;
+use std::rt::{Clock, Files};
 
 /// What came of a watch, where its fault ends the run.
 pub fn watch_end(told: Result<(), WatchFault>) -> Result<(), Ending> {
@@ -27,13 +25,14 @@ pub fn watch_end(told: Result<(), WatchFault>) -> Result<(), Ending> {
 }
 
 /// Watches a network.
-pub fn watch<R: AllocGlobal + Env + Net + Clock, O: Write, E: Write>(
+pub fn watch<R: AllocGlobal + Files + Env + Net + Clock, O: Write, E: Write>(
     rt: &R,
     asked: &WatchAsked,
     out: &mut O,
     err: &mut E,
 ) -> Result<(), Ending> {
     guard_standard_descriptors();
+    ask_for_room(rt.alloc())?;
     let address = SocketAddrV4::new(asked.listen, asked.port);
     let until = moment_of(asked.seconds);
     if let Some(place) = asked.page {
@@ -50,7 +49,7 @@ pub fn watch<R: AllocGlobal + Env + Net + Clock, O: Write, E: Write>(
 }
 
 // Tells what is heard at an address line by line, on standard output. No output that isn't read holds it up.
-fn tell<R: AllocGlobal + Net + Clock>(
+fn tell<R: AllocGlobal + Env + Net + Clock>(
     rt: &R,
     address: SocketAddrV4,
     asked: &WatchAsked,
@@ -64,7 +63,8 @@ fn tell<R: AllocGlobal + Net + Clock>(
     };
     let outputs = Outputs::new(rt.alloc(), lines)?;
     let mut out = Piped::new(outputs.out());
-    let run = tell_on(rt, address, asked, until, &outputs, &mut out);
+    let told = (&outputs, joined_groups(rt));
+    let run = tell_on(rt, address, asked, until, told, &mut out);
     // (nobody is told how many lines wait for a reader that has gone)
     if out.reader_has_gone() {
         let _ = outputs.err().flush();
@@ -74,16 +74,16 @@ fn tell<R: AllocGlobal + Net + Clock>(
     run
 }
 
-fn tell_on<R: AllocGlobal + Net + Clock, O: Write>(
-    rt: &R,
+fn tell_on<'a, R: AllocGlobal + Net + Clock, O: Write>(
+    rt: &'a R,
     address: SocketAddrV4,
     asked: &WatchAsked,
     until: u64,
-    outputs: &Outputs,
+    (outputs, joined): (&'a Outputs, Option<String>),
     out: &mut O,
 ) -> Result<(), Ending> {
     let mut receiver = receiver_at(rt, address, &mut outputs.err())?;
-    receiver.tend(outputs, None);
+    receiver.tend(outputs, joined);
     say_hearing(address, receiver.room(), &mut outputs.err());
     let options = Options {
         port: asked.port,
@@ -104,48 +104,4 @@ pub fn receiver_at<'a, R: Net + Clock, E: Write>(
     let mut receiver = of_socket(bound, address, err)?;
     receiver.wait_for_input();
     Ok(receiver)
-}
-
-// Shows what a receiver hears on a terminal.
-fn show<R: AllocGlobal + Env, L: Listener, O: Write>(
-    rt: &R,
-    listener: &mut L,
-    asked: &WatchAsked,
-    until: u64,
-    out: &mut O,
-) -> Result<(), WatchFault> {
-    let size = Size {
-        width: extent(rt, "COLUMNS", 80),
-        height: extent(rt, "LINES", 24),
-    };
-    let universe = asked.universes.first().copied();
-    let has_colours = !is_set(rt, "NO_COLOR");
-    watch_terminal(
-        rt.alloc(),
-        listener,
-        universe,
-        size,
-        has_colours,
-        until,
-        out,
-    )
-}
-
-// Whether a variable of the environment says something.
-fn is_set<R: AllocGlobal + Env>(rt: &R, name: &str) -> bool {
-    match env::var(rt, name) {
-        Ok(value) => !value.is_empty(),
-        Err(_) => false,
-    }
-}
-
-// A number of columns or rows in the environment, or this one where none is there.
-fn extent<R: AllocGlobal + Env>(rt: &R, name: &str, otherwise: usize) -> usize {
-    match env::var(rt, name) {
-        Ok(value) => match short_in(value.as_str()) {
-            Some(number) if (number > 0) & (number <= MAX_EXTENT) => usize::from(number),
-            _ => otherwise,
-        },
-        Err(_) => otherwise,
-    }
 }

@@ -3,11 +3,11 @@
 ghost use Rattle.std.specs.Prelude.{◌≡◌, IfOk};
 ghost use Rattle.sacn_watch.specs.Pages.{FitsOn};
 
+use crate::levels::{lit_rows, push_levels};
 use crate::page::{Ink, Page, Row, Size};
 use crate::view::View;
 use sacn_framing::up_to_nul;
 use sacn_monitor::{Account, State, Stream};
-use sacn_universe::SLOTS;
 use std::alloc::{AllocError, Global};
 use std::fmt::Write;
 use std::str;
@@ -15,19 +15,18 @@ use std::str;
 /// The most rows of alarms.
 const MAX_ALARMS: usize = 6;
 
+/// Where fewer rows are left below the alarms, the sources take all of them.
+const MIN_SHARED: usize = 8;
+
 /// The columns of a name.
 const NAME_COLUMNS: usize = 20;
-
-/// The columns before the levels of a row, and those of each level.
-const HEAD_COLUMNS: usize = 5;
-
-const LEVEL_COLUMNS: usize = 4;
 
 const SOURCE_HEAD: &str = "  universe state   prio  rate   lost  late name                 address";
 
 /// The screen of a view, at a terminal of this size: alarms, the sources on universes, and the levels of one universe, each
-/// after the letter of the source that gives it. Rows are cut at the terminal's edge, and rows below its end are left out: there are
-/// never more rows than the terminal has, and each is as wide as it.
+/// after the letter of the source that gives it. Where not all sources fit above the levels, those of that universe come first, the
+/// levels keep up to half of the rows, and how many of each there are more is said. Rows are cut at the terminal's edge, and rows
+/// below its end are left out: there are never more rows than the terminal has, and each is as wide as it.
 ///
 /// Errors: a growth was refused.
 pub fn screen(alloc: Global, view: &View, size: Size) -> Result<Page, AllocError>
@@ -44,7 +43,7 @@ pub fn screen(alloc: Global, view: &View, size: Size) -> Result<Page, AllocError
 }
 
 // The letter of the source at a place.
-fn letter_of(place: usize) -> u32 {
+pub(crate) fn letter_of(place: usize) -> u32 {
     'A' as u32 + (place % 26) as u32
 }
 
@@ -97,12 +96,40 @@ fn push_alarms(alloc: Global, page: &mut Page, view: &View) -> Result<(), AllocE
     for stream in view.monitor.streams() {
         text.clear();
         push_alarm(&mut text, view, stream)?;
-        if (text.len() > 0) & (count < MAX_ALARMS) {
-            count += 1;
-            page.push_text(alloc, text.as_str(), Ink::Alarm)?;
+        if text.len() > 0 {
+            count = count.saturating_add(1);
+            if count <= MAX_ALARMS {
+                page.push_text(alloc, text.as_str(), Ink::Alarm)?;
+            }
         }
     }
-    Ok(())
+    push_more(
+        alloc,
+        page,
+        "!",
+        count.saturating_sub(MAX_ALARMS),
+        Ink::Alarm,
+    )
+}
+
+// Says how many rows more there would be, where there would be any.
+pub(crate) fn push_more(
+    alloc: Global,
+    page: &mut Page,
+    front: &str,
+    count: usize,
+    ink: Ink,
+) -> Result<(), AllocError>
+    ensures size { page.new.size ≡ page.old.size }
+    ensures fits { FitsOn page.old.size page.old.rows.items
+        → FitsOn page.new.size page.new.rows.items }
+{
+    if count == 0 {
+        return Ok(());
+    }
+    let mut text = String::new(alloc);
+    write!(text, "{front} and {count} more")?;
+    page.push_text(alloc, text.as_str(), ink)
 }
 
 // What is wrong with a source on a universe, if anything is.
@@ -148,17 +175,77 @@ fn push_sources(alloc: Global, page: &mut Page, view: &View) -> Result<(), Alloc
 {
     page.push_text(alloc, "", Ink::Plain)?;
     page.push_text(alloc, SOURCE_HEAD, Ink::Heading)?;
+    let count = view.monitor.streams().len();
+    let room = room_for_sources(page, view);
+    if count <= room {
+        let _ = push_sources_of(alloc, page, view, Part::All, count)?;
+        return Ok(());
+    }
+    let room = room.saturating_sub(1);
+    let first = push_sources_of(alloc, page, view, Part::Shown, room)?;
+    let room = room.saturating_sub(first);
+    let others = push_sources_of(alloc, page, view, Part::Others, room)?;
+    let left = count.saturating_sub(first).saturating_sub(others);
+    push_more(alloc, page, " ", left, Ink::Plain)
+}
+
+// How many rows of sources there is room for.
+fn room_for_sources(page: &Page, view: &View) -> usize {
+    let left = page.size.height.saturating_sub(page.rows.len());
+    if left < MIN_SHARED {
+        return left;
+    }
+    let levels = match view.universe {
+        Some(_) => lit_rows(view, page.size.width).saturating_add(2),
+        None => 0,
+    };
+    left.saturating_sub(levels.min(left / 2))
+}
+
+// Which sources: all, those of the universe whose levels are shown, or the others.
+#[derive(Clone, Copy)]
+enum Part {
+    All,
+    Shown,
+    Others,
+}
+
+// Whether a source on a universe is of a part.
+fn is_of(view: &View, stream: &Stream, part: Part) -> bool {
+    match part {
+        Part::All => true,
+        Part::Shown => view.universe == Some(stream.universe),
+        Part::Others => view.universe != Some(stream.universe),
+    }
+}
+
+// A row for each source of a part, up to so many. Returns how many rows these are.
+fn push_sources_of(
+    alloc: Global,
+    page: &mut Page,
+    view: &View,
+    part: Part,
+    room: usize,
+) -> Result<usize, AllocError>
+    ensures size { page.new.size ≡ page.old.size }
+    ensures fits { FitsOn page.old.size page.old.rows.items
+        → FitsOn page.new.size page.new.rows.items }
+{
     let streams = view.monitor.streams();
     let mut text = String::new(alloc);
+    let mut count = 0_usize;
     for place in 0..streams.len() {
-        text.clear();
-        push_source(&mut text, &streams[place], view.monitor.moment())?;
-        let mut row = Row::new(alloc, page.size.width);
-        row.put(letter_of(place), Ink::Source(place))?;
-        row.put_text(text.as_str(), Ink::Source(place))?;
-        page.push(row)?;
+        if count < room && is_of(view, &streams[place], part) {
+            count += 1;
+            text.clear();
+            push_source(&mut text, &streams[place], view.monitor.moment())?;
+            let mut row = Row::new(alloc, page.size.width);
+            row.put(letter_of(place), Ink::Source(place))?;
+            row.put_text(text.as_str(), Ink::Source(place))?;
+            page.push(row)?;
+        }
     }
-    Ok(())
+    Ok(count)
 }
 
 fn state_word(state: State) -> &'static str {
@@ -209,98 +296,4 @@ fn push_name(text: &mut String, account: &Account) -> Result<(), AllocError> {
         text.push(' ')?;
     }
     Ok(())
-}
-
-// How many levels stand in a row.
-fn levels_in(width: usize) -> usize {
-    let room = width.saturating_sub(HEAD_COLUMNS) / LEVEL_COLUMNS;
-    if room >= 32 {
-        32
-    } else if room >= 16 {
-        16
-    } else {
-        8
-    }
-}
-
-fn push_levels(alloc: Global, page: &mut Page, view: &View) -> Result<(), AllocError>
-    ensures size { page.new.size ≡ page.old.size }
-    ensures fits { FitsOn page.old.size page.old.rows.items
-        → FitsOn page.new.size page.new.rows.items }
-{
-    let Some(universe) = view.universe else {
-        return Ok(());
-    };
-    let mut text = String::new(alloc);
-    write!(
-        text,
-        "universe {universe}: slots above 0, the source's letter and the level, 00 to ff"
-    )?;
-    page.push_text(alloc, "", Ink::Plain)?;
-    page.push_text(alloc, text.as_str(), Ink::Heading)?;
-    let count = levels_in(page.size.width);
-    for number in 0..SLOTS / 8 {
-        let first = number.saturating_mul(count);
-        if first < SLOTS && is_lit(view, first, count) {
-            text.clear();
-            let slot = first + 1;
-            write!(text, "{slot:>4} ")?;
-            let row = level_row(alloc, view, text.as_str(), first, count, page.size.width)?;
-            page.push(row)?;
-        }
-    }
-    Ok(())
-}
-
-// Whether a slot of a row is above 0.
-fn is_lit(view: &View, first: usize, count: usize) -> bool {
-    view.levels
-        .iter()
-        .skip(first)
-        .take(count)
-        .any(|level| *level > 0)
-}
-
-fn level_row(
-    alloc: Global,
-    view: &View,
-    head: &str,
-    first: usize,
-    count: usize,
-    width: usize,
-) -> Result<Row, AllocError>
-    ensures { IfOk result (λ row. row.width ≡ width) }
-{
-    let mut row = Row::new(alloc, width);
-    row.put_text(head, Ink::Plain)?;
-    for slot in first..first.saturating_add(count).min(SLOTS) {
-        match view.winners[slot] {
-            Some(place) => put_level(
-                &mut row,
-                letter_of(place),
-                view.levels[slot],
-                Ink::Source(place),
-            )?,
-            None => put_level(&mut row, '.' as u32, view.levels[slot], Ink::Plain)?,
-        }
-    }
-    Ok(row)
-}
-
-// A letter, two digits and a space.
-fn put_level(row: &mut Row, letter: u32, level: u8, ink: Ink) -> Result<(), AllocError>
-    ensures { row.new.width ≡ row.old.width }
-{
-    row.put(letter, ink)?;
-    row.put(digit(level / 16), ink)?;
-    row.put(digit(level % 16), ink)?;
-    row.put(' ' as u32, Ink::Plain)
-}
-
-fn digit(number: u8) -> u32 {
-    if number < 10 {
-        '0' as u32 + u32::from(number)
-    } else {
-        'a' as u32 + u32::from(number) - 10
-    }
 }

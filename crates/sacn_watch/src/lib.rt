@@ -3,11 +3,13 @@
 
 mod fault;
 mod layout;
+mod levels;
 mod lines;
 mod listener;
 mod page;
 mod run;
 mod running;
+mod sized_screen;
 mod terminal;
 mod view;
 mod watch;
@@ -18,6 +20,7 @@ pub use listener::Listener;
 pub use page::{Cell, Ink, Page, Row, Size, is_shown, printable};
 pub use run::{watch_lines, watch_terminal};
 pub use running::{MOST_BETWEEN, RunningClock, RunningListener};
+pub use sized_screen::{Screen, Sizes};
 pub use terminal::{MIN_WAIT, Terminal};
 pub use view::View;
 pub use watch::{Watcher, run_watch};

@@ -166,6 +166,16 @@ impl Page {
         self.push(row)
     }
 
+    /// Its rows as lines, without inks.
+    pub fn lines(&self, alloc: Global) -> Result<String, AllocError> {
+        let mut text = String::new(alloc);
+        for row in self.rows.iter() {
+            push_row(&mut text, row, false)?;
+            text.push('\n')?;
+        }
+        Ok(text)
+    }
+
     /// The text that draws the page over whatever a terminal shows, in colours or without them.
     pub fn text(&self, alloc: Global, has_colours: bool) -> Result<String, AllocError>
         ensures { IfOk result (λ text. string_bytes text

@@ -6,8 +6,7 @@ ghost use Rattle.sacn_watch.specs.Watches.{Receive, heard_by, IsWatch};
 
 use crate::fault::WatchFault;
 use crate::listener::Listener;
-use crate::page::Size;
-use crate::terminal::Terminal;
+use crate::sized_screen::{Screen, Sizes};
 use crate::watch::run_watch;
 use sacn_explain::{Follower, Options};
 use std::alloc::Global;
@@ -31,22 +30,17 @@ pub fn watch_lines<L: Listener, O: Write>(
     run_watch(listener, &mut follower, until)
 }
 
-/// Shows what a listener hears until a moment in milliseconds, on a terminal.
+/// Shows what a listener hears until a moment in milliseconds on a screen, whose rows stay as lines at its end.
 ///
 /// Errors: OutOfMemory; Device where the terminal can't be written.
-pub fn watch_terminal<L: Listener, O: Write>(
-    alloc: Global,
+pub fn watch_terminal<L: Listener, O: Write, Z: Sizes>(
     listener: &mut L,
-    universe: Option<u16>,
-    size: Size,
-    has_colours: bool,
+    screen: &mut Screen<'_, O, Z>,
     until: u64,
-    out: &mut O,
 ) -> Result<(), WatchFault>
     ensures { (turns : List (List Receive))
         × Extends (L.Receiver.told listener.old) (L.Receiver.told listener.new) (heard_by turns)
         × OnOk result (IsWatch until (L.Ended listener.new) turns) }
 {
-    let mut terminal = Terminal::new(alloc, universe, size, has_colours, out)?;
-    run_watch(listener, &mut terminal, until)
+    run_watch(listener, screen, until)
 }

@@ -1,19 +1,23 @@
 //! A screen on a terminal.
 
 ghost use Rattle.std.specs.Prelude.{◌≡◌, [], IfOk};
+ghost use Rattle.sacn_watch.specs.Pages.{FitsOn};
 ghost use Rattle.sacn_watch.specs.Screens.{IsShowing, wake_of};
 
 use crate::fault::WatchFault;
 use crate::layout::screen;
-use crate::page::Size;
+use crate::page::{Ink, Page, Size};
 use crate::view::View;
 use crate::watch::Watcher;
 use sacn_monitor::Sender;
-use std::alloc::Global;
+use std::alloc::{AllocError, Global};
 use std::io::Write;
 
 /// The least milliseconds between two drawings.
 pub const MIN_WAIT: u64 = 250;
+
+/// The columns of a row that is left as a line: those of a source's row, and 16 levels.
+const LINE_COLUMNS: usize = 100;
 
 /// The milliseconds after which rates are looked at anew.
 const SECOND: u64 = 1000;
@@ -40,6 +44,8 @@ pub struct Terminal<'a, O> {
     is_stale: bool,
     /// The size is another one than that of what was drawn last.
     is_resized: bool,
+    /// What is said while nothing came; empty until it is time.
+    silence: String,
 }
 
 impl<'a, O: Write> Terminal<'a, O> {
@@ -69,6 +75,7 @@ impl<'a, O: Write> Terminal<'a, O> {
             next: 0,
             is_stale: true,
             is_resized: false,
+            silence: String::new(alloc),
         })
     }
 
@@ -84,12 +91,55 @@ impl<'a, O: Write> Terminal<'a, O> {
         self.size = size;
     }
 
+    /// From now on this is said while nothing came; each part up to a semicolon begins a row.
+    pub fn note_silence(&mut self, words: String)
+        ensures view { self.new.view ≡ self.old.view }
+    {
+        self.silence = words;
+        self.is_stale = true;
+    }
+
+    /// Writes all rows of what it shows, also those for which the screen had no room, as lines.
+    pub fn leave(&mut self, now: u64) -> Result<(), WatchFault>
+        ensures { self.new.view.monitor ≡ self.old.view.monitor }
+    {
+        if self.drawn.len() == 0 {
+            return Ok(());
+        }
+        self.view.refresh(now);
+        let size = Size {
+            width: LINE_COLUMNS,
+            height: usize::MAX,
+        };
+        let page = screen(self.alloc, &self.view, size)?;
+        let text = page.lines(self.alloc)?;
+        self.out.write_all(text.as_bytes())?;
+        self.out.flush()?;
+        Ok(())
+    }
+
+    // What is said of silence, while nothing came.
+    fn push_silence(&self, page: &mut Page) -> Result<(), AllocError>
+        ensures size { page.new.size ≡ page.old.size }
+        ensures fits { FitsOn page.old.size page.old.rows.items
+            → FitsOn page.new.size page.new.rows.items }
+    {
+        if self.view.monitor.tally().datagrams > 0 {
+            return Ok(());
+        }
+        for part in self.silence.split(';') {
+            push_words(self.alloc, page, part)?;
+        }
+        Ok(())
+    }
+
     // Draws the screen where it isn't the one that was drawn last.
     fn draw(&mut self, now: u64) -> Result<(), WatchFault>
         ensures { self.new.view.monitor ≡ self.old.view.monitor }
     {
         self.view.refresh(now);
-        let page = screen(self.alloc, &self.view, self.size)?;
+        let mut page = screen(self.alloc, &self.view, self.size)?;
+        self.push_silence(&mut page)?;
         let text = page.text(self.alloc, self.has_colours)?;
         if self.drawn.len() == 0 {
             self.out.write_all(BEGIN)?;
@@ -154,4 +204,24 @@ impl<'a, O: Write> Watcher for Terminal<'a, O> {
         }
         Ok(())
     }
+}
+
+// Words, in as many rows as they need.
+fn push_words(alloc: Global, page: &mut Page, words: &str) -> Result<(), AllocError>
+    ensures size { page.new.size ≡ page.old.size }
+    ensures fits { FitsOn page.old.size page.old.rows.items
+        → FitsOn page.new.size page.new.rows.items }
+{
+    let mut row = String::new(alloc);
+    for word in words.split(' ') {
+        if row.len().saturating_add(word.len()) >= page.size.width && row.len() > 0 {
+            page.push_text(alloc, row.as_str(), Ink::Alarm)?;
+            row.clear();
+        }
+        if row.len() > 0 {
+            row.push(' ')?;
+        }
+        row.push_str(word)?;
+    }
+    page.push_text(alloc, row.as_str(), Ink::Alarm)
 }

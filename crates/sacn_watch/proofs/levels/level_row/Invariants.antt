@@ -1,5 +1,5 @@
 use Rattle.std.proofs.Common.{◌≡◌}
-use Rattle.sacn_watch.proofs.layout.level_row.Given as goal
+use Rattle.sacn_watch.proofs.levels.level_row.Given as goal
 
 -- the row stays as wide as it was
 abbrev pub invariant-loop-slot : goal.invariant-loop-slot

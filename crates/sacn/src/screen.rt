@@ -1,0 +1,123 @@
+//! A watch on a terminal.
+use sacn_commands::files::text_of_file;
+use sacn_commands::live::joined_groups;
+use sacn_files::words::short_in;
+use sacn_live::say_silence;
+use sacn_watch::{Listener, MIN_WAIT, Screen, Size, Sizes, Terminal, WatchFault, watch_terminal};
+use sacn_words::WatchAsked;
+use std::alloc::{Alloc, AllocError};
+use std::env::{self, Env};
+use std::io::Write;
+use std::net::SocketAddrV4;
+use std::rt::Files;
+use std::str;
+
+/// The most columns and rows that a terminal is taken to have.
+const MAX_EXTENT: u16 = 1000;
+
+/// Where the launcher keeps the size: in a file without a name, which is one of the program's descriptors.
+const DESCRIPTORS: &str = "/proc/self/fd/";
+
+/// The size that the launcher keeps in a file, `ROWS COLUMNS`, where it does.
+#[derive(Drop)]
+struct KeptSize<'r, 'p, R> {
+    rt: &'r R,
+    path: Option<&'p str>,
+    /// The file isn't looked at before this moment.
+    next: u64,
+}
+
+impl<'r, 'p, R: AllocGlobal + Files> Sizes for KeptSize<'r, 'p, R> {
+    fn size(&mut self, now: u64) -> Option<Size> {
+        let path = self.path?;
+        if now < self.next {
+            return None;
+        }
+        self.next = now.saturating_add(MIN_WAIT);
+        match text_of_file(self.rt, path) {
+            Ok(text) => size_in(text.as_str()),
+            Err(_) => None,
+        }
+    }
+}
+
+/// Shows what a listener hears until a moment in milliseconds, on a terminal.
+pub fn show<R: AllocGlobal + Files + Env, L: Listener, O: Write>(
+    rt: &R,
+    listener: &mut L,
+    asked: &WatchAsked,
+    until: u64,
+    out: &mut O,
+) -> Result<(), WatchFault> {
+    let size_file = variable(rt, "SACN_SIZE");
+    let path = match size_file.as_deref() {
+        Some(path) if path.starts_with(DESCRIPTORS) => Some(path),
+        _ => None,
+    };
+    let sizes = KeptSize { rt, path, next: 0 };
+    let terminal = terminal_of(rt, asked, out)?;
+    let mut screen = Screen::new(terminal, sizes, silence_of(rt, asked)?);
+    watch_terminal(listener, &mut screen, until)
+}
+
+// What is said where nothing comes to the address.
+fn silence_of<R: AllocGlobal + Env>(rt: &R, asked: &WatchAsked) -> Result<String, AllocError> {
+    let address = SocketAddrV4::new(asked.listen, asked.port);
+    let joined = joined_groups(rt);
+    let mut said: Vec<u8> = Vec::new(rt.alloc());
+    say_silence(address, joined.as_deref(), &mut said);
+    let mut words = String::new(rt.alloc());
+    if let Ok(text) = str::from_utf8(said.as_slice()) {
+        words.push_str(text.trim_end())?;
+    }
+    Ok(words)
+}
+
+// A terminal of the size that the environment says.
+fn terminal_of<'a, R: AllocGlobal + Env, O: Write>(
+    rt: &R,
+    asked: &WatchAsked,
+    out: &'a mut O,
+) -> Result<Terminal<'a, O>, WatchFault> {
+    let size = Size {
+        width: extent(rt, "COLUMNS", 80),
+        height: extent(rt, "LINES", 24),
+    };
+    let universe = asked.universes.first().copied();
+    let has_colours = variable(rt, "NO_COLOR").is_none();
+    Terminal::new(rt.alloc(), universe, size, has_colours, out)
+}
+
+// What a variable of the environment says, where it says something.
+fn variable<R: AllocGlobal + Env>(rt: &R, name: &str) -> Option<String> {
+    match env::var(rt, name) {
+        Ok(value) if !value.is_empty() => Some(value),
+        _ => None,
+    }
+}
+
+// A number of columns or rows.
+fn extent_of(word: &str) -> Option<usize> {
+    match short_in(word) {
+        Some(number) if (number > 0) & (number <= MAX_EXTENT) => Some(usize::from(number)),
+        _ => None,
+    }
+}
+
+// A number of columns or rows in the environment, or this one where none is there.
+fn extent<R: AllocGlobal + Env>(rt: &R, name: &str, otherwise: usize) -> usize {
+    match variable(rt, name) {
+        Some(word) => extent_of(word.as_str()).unwrap_or(otherwise),
+        None => otherwise,
+    }
+}
+
+// The size that a line says: rows, a space, columns.
+fn size_in(text: &str) -> Option<Size> {
+    let line = text.strip_suffix('\n')?;
+    let (rows, columns) = line.split_once(' ')?;
+    Some(Size {
+        width: extent_of(columns)?,
+        height: extent_of(rows)?,
+    })
+}

@@ -1,0 +1,10 @@
+use Rattle.std.proofs.Common.{◌≡◌}
+use Rattle.sacn_watch.specs.Pages.{FitsOn}
+use Rattle.sacn_watch.proofs.levels.push_level_rows.Given as goal
+
+-- the rows so far fit the terminal
+abbrev pub invariant-loop-number : goal.invariant-loop-number
+invariant-loop-number l = record {
+  size : l.page.size ≡ l.fn.page.size;
+  fits : FitsOn l.fn.page.size l.fn.page.rows.items → FitsOn l.page.size l.page.rows.items;
+}
