@@ -1,30 +1,28 @@
 #!/usr/bin/env python3
 """Looks at the page of a watch: first with 32 viewers, one of which never reads, while 200 universes come at 44 packets a second; then in a headless Chromium,
-against a desk on loopback; then at the page of a recording, moved by its keys, its alarms and its button. Prints 'ok NAME', 'not ok NAME: why' or 'skipped NAME: why' for each look.
+against a desk on loopback; then at 30 universes, of which two have alarms; then at the page of a recording, moved by its keys, its alarms and its button. Prints 'ok NAME', 'not ok NAME: why' or 'skipped NAME: why' for each look.
 
 usage: browser.py SACN [PICTURES]
 
-SACN is the built program; where PICTURES names a folder, pictures of the page are put there. Chromium and its driver (Debian's chromium and
-chromium-driver) are spoken to by the WebDriver protocol, so no library is needed.
+SACN is the built program; where PICTURES names a folder, pictures of the page are put there.
 """
-import base64
 import json
 import os
 import shutil
 import signal
 import socket
 import struct
-import subprocess
 import sys
 import tempfile
 import threading
 import time
 import urllib.request
+from chromium import Browser, are_seen, packet, start, started, verdict
 
 SACN = sys.argv[1]
 PICTURES = sys.argv[2] if len(sys.argv) > 2 else None
 ROOM = tempfile.mkdtemp()
-UDP, PAGE, DRIVER = 25841, 25842, 25843
+UDP, PAGE = 25841, 25842
 NAME = "<img src=x onerror=document.title='owned'>"
 SHOW = f"""version = 1
 cid = "00010203-0405-0607-0809-0a0b0c0d0e0f"
@@ -48,77 +46,20 @@ channel = 2
 universe = 1
 slot = 512
 """
-started = []
-
-
-def verdict(name, is_well, why=""):
-    print(f"ok browser: {name}" if is_well else f"not ok browser: {name}: {why}", flush=True)
-
-
-def start(*words, **how):
-    process = subprocess.Popen(words, **{"stdin": subprocess.PIPE, "stdout": subprocess.DEVNULL, "stderr": subprocess.DEVNULL, **how})
-    started.append(process)
-    return process
-
-
-class Browser:
-    """A session of headless Chromium."""
-
-    def __init__(self, *arguments):
-        start("chromedriver", f"--port={DRIVER}")
-        for _ in range(100):
-            try:
-                self.call("GET", "/status")
-                break
-            except OSError:
-                time.sleep(0.1)
-        options = {"args": ["--headless=new", "--no-sandbox", "--disable-gpu", "--hide-scrollbars", *arguments], "binary": shutil.which("chromium")}
-        wanted = {"browserName": "chrome", "goog:chromeOptions": options, "goog:loggingPrefs": {"browser": "ALL"}}
-        self.session = f"/session/{self.call('POST', '/session', {'capabilities': {'alwaysMatch': wanted}})['sessionId']}"
-
-    def call(self, method, path, body=None):
-        data = None if body is None else json.dumps(body).encode()
-        request = urllib.request.Request(f"http://127.0.0.1:{DRIVER}{path}", data, {"Content-Type": "application/json"}, method=method)
-        with urllib.request.urlopen(request, timeout=60) as answer:
-            return json.loads(answer.read())["value"]
-
-    def ask(self, method, path, body=None):
-        return self.call(method, self.session + path, body)
-
-    def open(self, url):
-        self.ask("POST", "/url", {"url": url})
-
-    def js(self, code):
-        return self.ask("POST", "/execute/sync", {"script": code, "args": []})
-
-    def size(self, width, height):
-        self.ask("POST", "/window/rect", {"width": width, "height": height})
-
-    def press(self, *keys):
-        actions = [{"type": kind, "value": key} for key in keys for kind in ("keyDown", "keyUp")]
-        self.ask("POST", "/actions", {"actions": [{"type": "key", "id": "keys", "actions": actions}]})
-
-    def picture(self, name):
-        self.js("scrollTo(0, 0)")
-        if PICTURES:
-            with open(f"{PICTURES}/{name}.png", "wb") as out:
-                out.write(base64.b64decode(self.ask("GET", "/screenshot")))
-
-    def until(self, code, seconds):
-        """The seconds until an expression holds, or None where it doesn't in so many."""
-        begin = time.monotonic()
-        while time.monotonic() - begin < seconds:
-            if self.js(f"return {code}"):
-                return time.monotonic() - begin
-            time.sleep(0.02)
-        return None
-
-
-def packet(universe, number, name=b"Crowd", options=0):
-    """A data packet of 512 slots (E1.31, 5, 6.2 and 7)."""
-    root = bytes.fromhex("001000004153432d45312e3137000000726e00000004") + bytes(range(16))
-    framing = bytes.fromhex("725800000002") + name.ljust(64, b"\0") + bytes([100, 0, 0, number % 256, options]) + universe.to_bytes(2, "big")
-    return root + framing + bytes.fromhex("720b02a1000000010201") + bytes([0]) + bytes([number % 256]) * 512
+MANY = f"""version = 1
+cid = "10010203-0405-0607-0809-0a0b0c0d0e0f"
+name = "Front of house"
+universes = {list(range(1, 31))}
+send_to = [{UDP}]
+[[cue]]
+number = 1
+fade = 0
+levels = [[1, 65535]]
+[[patch]]
+channel = 1
+universe = 30
+slot = 1
+"""
 
 
 def document():
@@ -263,6 +204,51 @@ def parted(browser, watch):
     browser.picture("page-parted")
 
 
+TILES = "[...document.querySelectorAll('#universes li')]"
+MARKED = f"{TILES}.filter((tile) => [...tile.querySelectorAll('[title=alarm]')].some((mark) => mark.getClientRects().length)).map((tile) => parseInt(tile.textContent))"
+NAMED = f"{TILES}.filter((tile) => / alarm,/.test(tile.firstChild.getAttribute('aria-label'))).map((tile) => parseInt(tile.textContent))"
+
+
+def unscrolled(browser, width, height, levels):
+    """A window of 30 universes as it is before anything in it is scrolled: the newest alarm, levels, and the tile of the chosen universe."""
+    browser.view(width, height)
+    browser.until(f"innerWidth == {width} && innerHeight == {height}", 5)
+    browser.picture(f"many-{width}")
+    wanted = {"alarm": are_seen("#alarms li", 1), "levels": are_seen("#grid .slot", levels), "tile": are_seen("#universes [aria-current=true]", 1)}
+    took = browser.until(" && ".join(wanted.values()), 5)
+    unseen = [name for name, code in wanted.items() if not browser.js(f"return {code}")]
+    verdict(f"30 universes in {width} x {height}: an alarm, {levels} levels and the chosen tile are seen", took is not None, f"unseen: {unseen} in {browser.js('return [innerWidth, innerHeight]')}")
+
+
+def many(browser):
+    """30 universes of a desk, the last of them chosen, and a console that loses packets on two."""
+    with open(f"{ROOM}/many.toml", "w", encoding="utf-8") as out:
+        out.write(MANY)
+    watch = start(SACN, "watch", "--port", str(UDP), "--page", str(PAGE))
+    answered()
+    browser.open("about:blank")
+    browser.open(f"http://127.0.0.1:{PAGE}/#universe=30")
+    desk = start(SACN, "desk", f"{ROOM}/many.toml")
+    desk.stdin.write(b"go\n")
+    desk.stdin.flush()
+    is_lit = browser.until(f"{TILES}.length == 30 && document.querySelector('#slot-1 b').textContent == '255'", 5)
+    seen = [browser.js(f"return {code}") for code in (MARKED, NAMED)]
+    sender = socket.socket(socket.AF_INET, socket.SOCK_DGRAM)
+    for turn in range(8):
+        for universe in (3, 17):
+            sender.sendto(packet(universe, 5 * turn), ("127.0.0.1", UDP))
+    is_told = browser.until("document.querySelectorAll('#alarms li').length >= 14", 5)
+    seen += [browser.js(f"return {code}") for code in (MARKED, NAMED)]
+    verdict("30 universes are shown, and alarms", is_lit is not None and is_told is not None, f"{is_lit} {is_told}")
+    verdict("the tiles that have a mark are those of the universes that alarms name", seen == [[], [], [3, 17], [3, 17]], f"{seen}")
+    unscrolled(browser, 1280, 900, 100)
+    unscrolled(browser, 360, 740, 28)
+    browser.view(0, 0)
+    for process in (watch, desk):
+        process.kill()
+        process.wait()
+
+
 def record(path):
     """A recording of 20 s (pcap of Ethernet): universe 1 twice a second, and universe 2 from 5 s to 12 s, where its stream ends."""
     packets = []
@@ -332,11 +318,16 @@ def sought(browser):
         if browser.until(f"{MOMENT} == '{moment}' && {ROWS} == {rows} && ({rows} == 1 || {second}.textContent == '{state}')", 3) is None:
             wrong.append((keys, browser.js(f"return [{MOMENT}, {ROWS}]")))
     verdict("keys move a recording, and its sources with it", not wrong, f"{wrong}")
-    before = browser.js("return [...document.querySelectorAll('#alarms li')].map((it) => [it.textContent, it.classList.contains('later')])")
-    verdict("an alarm to come stands there", before == [["0:12.000universe 2: Spare ended its stream", True]], f"{before}")
+    told = browser.js("return [...document.querySelectorAll('#alarms li')].map((it) => [it.textContent, it.classList.contains('later')])")
+    verdict("an alarm to come stands there", told == [["0:12.000universe 2: Spare ended its stream", True]], f"{told}")
+    browser.press(KEYS["later"])
+    browser.until(f"{MOMENT} == '0:10.000' && {ROWS} == 2", 3)
+    before = browser.js(f"return [{TILES}.length, {MARKED}]")
     browser.js("document.querySelector('#alarms button').click()")
     took = browser.until(f"{MOMENT} == '0:12.000' && {ROWS} == 2 && !document.querySelector('#alarms .later')", 3)
     verdict("an alarm's button goes to its moment", took is not None)
+    marked = browser.js(f"return {MARKED}")
+    verdict("an alarm marks its universe's tile from its moment on", [before, marked] == [[2, []], [2]], f"{before} {marked}")
     time.sleep(1.5)
     still = browser.js(f"return [{MOMENT}, document.getElementById('banner').hidden]")
     verdict("nothing moves that wasn't told to, and no connection is lost", still == ["0:12.000", True], f"{still}")
@@ -366,9 +357,10 @@ def main():
     with open(f"{ROOM}/show.toml", "w", encoding="utf-8") as out:
         out.write(SHOW)
     watch = start(SACN, "watch", "--port", str(UDP), "--page", str(PAGE))
-    browser = Browser()
+    browser = Browser(PICTURES)
     try:
         shown(browser, watch)
+        many(browser)
         recorded(browser)
     finally:
         browser.call("DELETE", browser.session)

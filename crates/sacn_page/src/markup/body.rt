@@ -26,6 +26,21 @@ pub const BODY: &str = r##"</head>
     <ul id="universes"></ul>
     <p id="no-universes" class="note">Nothing heard yet.</p>
   </section>
+  <section id="alarms-part" aria-labelledby="alarms-head">
+    <h2 id="alarms-head">Alarms</h2>
+    <ol id="alarms" aria-live="polite" aria-relevant="additions" tabindex="0" aria-labelledby="alarms-head"></ol>
+    <p id="no-alarms" class="note">None.</p>
+    <p id="most-alarms" class="note" hidden></p>
+  </section>
+  <section id="levels-part" aria-labelledby="levels-head">
+    <h2 id="levels-head">Levels <span id="levels-of" class="note"></span> <button id="unit" type="button" aria-pressed="false">percent</button></h2>
+    <div id="grid" role="listbox" tabindex="0" aria-labelledby="levels-head" aria-describedby="keys"></div>
+    <p id="keys" class="note">Arrow keys, Home, End, Page Up and Page Down choose a slot; a letter and a colour say which source gives it its level.</p>
+  </section>
+  <section id="slot-part" aria-labelledby="slot-head">
+    <h2 id="slot-head">Slot <span id="slot-number">1</span> <span id="slot-level" class="note"></span></h2>
+    <canvas id="graph" role="img" aria-label="The level of the chosen slot over the last minute"></canvas>
+  </section>
   <section id="sources-part" aria-labelledby="sources-head">
     <h2 id="sources-head">Sources</h2>
     <div class="scroll" tabindex="0" role="region" aria-labelledby="sources-head">
@@ -39,21 +54,6 @@ pub const BODY: &str = r##"</head>
         <tbody id="sources"></tbody>
       </table>
     </div>
-  </section>
-  <section id="slot-part" aria-labelledby="slot-head">
-    <h2 id="slot-head">Slot <span id="slot-number">1</span> <span id="slot-level" class="note"></span></h2>
-    <canvas id="graph" role="img" aria-label="The level of the chosen slot over the last minute"></canvas>
-  </section>
-  <section id="alarms-part" aria-labelledby="alarms-head">
-    <h2 id="alarms-head">Alarms</h2>
-    <ol id="alarms" aria-live="polite" aria-relevant="additions" tabindex="0" aria-labelledby="alarms-head"></ol>
-    <p id="no-alarms" class="note">None.</p>
-    <p id="most-alarms" class="note" hidden></p>
-  </section>
-  <section id="levels-part" aria-labelledby="levels-head">
-    <h2 id="levels-head">Levels <span id="levels-of" class="note"></span> <button id="unit" type="button" aria-pressed="false">percent</button></h2>
-    <div id="grid" role="listbox" tabindex="0" aria-labelledby="levels-head" aria-describedby="keys"></div>
-    <p id="keys" class="note">Arrow keys, Home, End, Page Up and Page Down choose a slot; a letter and a colour say which source gives it its level.</p>
   </section>
 </main>
 "##;

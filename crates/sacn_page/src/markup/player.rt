@@ -73,12 +73,17 @@ function showMarks() {
   part('most-alarms').hidden = film.leftOut === 0;
   put(part('most-alarms'), leftOutText(film.leftOut));
 }
+let latestAlarm;
 function showTime() {
   part('time').value = String(film.at);
   part('time').setAttribute('aria-valuetext', spelled(film.at));
   put(part('moment'), spelled(film.at));
-  for (const item of part('alarms').children) item.classList.toggle('later', Number(item.dataset.at) > film.at);
+  const items = [...part('alarms').children];
+  for (const item of items) item.classList.toggle('later', Number(item.dataset.at) > film.at);
+  const latest = items.findLast((item) => !item.classList.contains('later')) || items[0];
+  if (latest !== latestAlarm) { latestAlarm = latest; showLatest(); }
 }
+function showLatest() { if (latestAlarm) showIn(part('alarms'), latestAlarm); }
 function showAt(ms) {
   film.at = bounded(Math.round(ms), 0, film.length);
   showTime();
@@ -133,6 +138,8 @@ makeGrid();
 showSlot();
 const universeAsked = asked.has('universe') ? bounded(Math.trunc(Number(asked.get('universe'))) || 1, 1, 63999) : null;
 open(universeAsked);
+let widthShown = innerWidth;
+addEventListener('resize', () => { if (innerWidth !== widthShown) { widthShown = innerWidth; showChoice(); showLatest(); } });
 if (isRecording) {
   part('time-part').hidden = false;
   beat();

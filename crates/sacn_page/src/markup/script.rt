@@ -5,7 +5,7 @@
 pub const SCRIPT: &str = r##"<script>
 'use strict';
 // What the program tells, kept as it came: a whole `state`, then `change`s of members. Foreign texts go into text nodes alone.
-const SLOTS = 512, MINUTE = 60000, SILENCE = 3000, COLOURS = 8, MAX_ALARMS = 32;
+const SLOTS = 512, MINUTE = 60000, SILENCE = 3000, COLOURS = 8, MAX_ALARMS = 32, RIM = 5;
 const isRecording = document.documentElement.dataset.shows === 'recording';
 const part = (id) => document.getElementById(id);
 const known = { ms: 0, universe: null, heard: [], sources: new Map(), levels: new Uint8Array(SLOTS), winners: new Uint16Array(SLOTS), alarms: [], leftOut: 0, counts: {} };
@@ -20,6 +20,12 @@ function bounded(n, low, high) { return Math.min(high, Math.max(low, n)); }
 function now() { return known.ms + (performance.now() - heardAt); }
 function hex(text, digits, into) { for (let i = 0; i < into.length; i++) into[i] = parseInt(text.substr(i * digits, digits), 16); }
 function put(element, text) { if (element.textContent !== text) element.textContent = text; }
+// Scrolls a block, and not the page, until an item of it is in view with its rim, where focus is drawn.
+function showIn(block, item) {
+  const seen = block.getBoundingClientRect(), wanted = item.getBoundingClientRect();
+  const above = seen.top - wanted.top + RIM, below = wanted.bottom - seen.bottom + RIM;
+  if (above > 0) block.scrollTop -= above; else if (below > 0) block.scrollTop += below;
+}
 function add(parent, name, text, kind) {
   const element = document.createElement(name);
   if (text !== undefined) element.textContent = text;
@@ -79,7 +85,8 @@ function open(universe) {
   events.addEventListener('change', (event) => {
     const told = JSON.parse(event.data);
     takeDocument(told);
-    if (told.sources || told.heard) { showUniverses(); showSources(); }
+    if (told.sources || told.heard || told.alarms) showUniverses();
+    if (told.sources || told.heard) showSources();
     if (told.levels !== undefined || told.winners !== undefined || told.sources) showLevels();
     if (told.alarms) showAlarms();
     showCounts();
@@ -95,8 +102,15 @@ function showCounts() {
   document.title = (known.universe === null ? '' : `universe ${known.universe} - `) + (isRecording ? `${film.name} - sacn explain` : 'sacn watch');
 }
 
+// The universes that alarms name, of a recording those up to its moment: an alarm about one begins with its number, and a name comes behind.
+function alarmedUniverses() {
+  const alarms = isRecording ? film.alarms.filter((alarm) => alarm.ms <= film.at) : known.alarms;
+  return new Set(alarms.map((alarm) => Number(/^universe (\d+): /.exec(alarm.text)?.[1])));
+}
 const universeButtons = new Map();
+let choiceShown = '';
 function showUniverses() {
+  const alarmed = alarmedUniverses();
   part('no-universes').hidden = known.heard.length > 0;
   for (const [universe, item] of universeButtons) if (!known.heard.includes(universe)) { item.remove(); universeButtons.delete(universe); }
   for (const universe of known.heard) {
@@ -104,6 +118,7 @@ function showUniverses() {
       const item = document.createElement('li'), button = add(item, 'button');
       button.type = 'button';
       add(button, 'b', String(universe));
+      add(button, 'strong', '!', 'mark').title = 'alarm';
       add(button, 'span');
       button.addEventListener('click', () => { remember(universe); open(universe); });
       universeButtons.set(universe, item);
@@ -113,8 +128,16 @@ function showUniverses() {
     const button = universeButtons.get(universe).firstChild, winners = winnersOf(universe);
     put(button.lastChild, winners.length ? winners.map((s) => s.name || 'no name').join(', ') : 'nobody');
     button.setAttribute('aria-current', String(universe === known.universe));
-    button.setAttribute('aria-label', `Universe ${universe}, followed: ${button.lastChild.textContent}`);
+    button.lastChild.title = button.lastChild.textContent;
+    button.children[1].hidden = !alarmed.has(universe);
+    button.setAttribute('aria-label', `Universe ${universe},${alarmed.has(universe) ? ' alarm,' : ''} followed: ${button.lastChild.textContent}`);
   }
+  const choice = `${known.universe} of ${known.heard.length}`;
+  if (choice !== choiceShown) { choiceShown = choice; showChoice(); }
+}
+function showChoice() {
+  const item = universeButtons.get(known.universe);
+  if (item) showIn(part('universes'), item);
 }
 
 const cells = [];

@@ -21,25 +21,28 @@ h2 { font-size: 1rem; margin: 0 0 .5rem; display: flex; flex-wrap: wrap; gap: .5
 main { display: grid; gap: .75rem; padding: .75rem; grid-template-columns: minmax(0, 1fr); max-width: 2560px; margin: 0 auto; }
 section { background: var(--panel); border: 1px solid var(--line); border-radius: 8px; padding: .75rem; min-width: 0; }
 @media (min-width: 1100px) {
-  main { grid-template-columns: minmax(0, 2fr) minmax(22rem, 1fr); align-items: start; }
-  #time-part, #universes-part, #sources-part { grid-column: 1 / -1; }
-  #levels-part { grid-column: 1; grid-row: 3 / span 3; } [data-shows=recording] #levels-part { grid-row: 4 / span 3; }
-  #slot-part, #alarms-part { grid-column: 2; }
+  main { grid-template: "universes universes" auto "levels alarms" auto "levels slot" 1fr "sources sources" auto / minmax(0, 2fr) minmax(22rem, 1fr); align-items: start; }
+  [data-shows=recording] main { grid-template: "time time" auto "universes universes" auto "levels alarms" auto "levels slot" 1fr "sources sources" auto / minmax(0, 2fr) minmax(22rem, 1fr); }
+  #time-part { grid-area: time; } #universes-part { grid-area: universes; } #alarms-part { grid-area: alarms; }
+  #levels-part { grid-area: levels; } #slot-part { grid-area: slot; } #sources-part { grid-area: sources; }
 }
-#time-part { position: sticky; top: 0; z-index: 2; } #time-part p { margin: .4rem 0 0; }
+p { margin: .75rem 0 0; } #time-part { position: sticky; top: 0; z-index: 2; }
 #time-row { display: flex; gap: .75rem; align-items: center; } #time { flex: 1; min-width: 0; accent-color: var(--focus); height: 1.8rem; margin: 0; }
 #moment, #length { font-variant-numeric: tabular-nums; } #play { min-width: 4.5rem; text-align: center; } #name { overflow-wrap: anywhere; }
-@media (max-width: 700px) { #time-keys { display: none; } }
 [data-shows=recording] #graph { display: none; } #alarms button { width: 100%; overflow-wrap: anywhere; } #alarms .later button { color: var(--dim); }
 .stale main { opacity: .45; filter: grayscale(1); }
 button { font: inherit; color: inherit; background: var(--ground); border: 1px solid var(--line); border-radius: 6px; padding: .3rem .6rem; cursor: pointer; text-align: left; }
 button[aria-current=true], button[aria-pressed=true] { border-color: var(--focus); box-shadow: inset 0 0 0 1px var(--focus); }
 :focus-visible { outline: 3px solid var(--focus); outline-offset: 1px; }
-#universes { display: flex; flex-wrap: wrap; gap: .4rem; list-style: none; margin: 0; padding: 0; max-height: 14rem; overflow: auto; }
-#universes b { font-variant-numeric: tabular-nums; } #universes button { max-width: 20rem; overflow: hidden; text-overflow: ellipsis; white-space: nowrap; }
+#universes { display: flex; flex-wrap: wrap; gap: .4rem; list-style: none; }
+#universes, #alarms, #grid { overflow: auto; margin: -5px; padding: 5px; scroll-padding: 5px; }
+#universes:empty, #alarms:empty { margin: 0; padding: 0; } #no-universes, #no-alarms { margin: 0; }
+#universes { max-height: 8.25rem; } #universes li { max-width: 14rem; } #universes li:only-child { max-width: 100%; }
+#universes b { font-variant-numeric: tabular-nums; } #universes button { max-width: 100%; overflow: hidden; text-overflow: ellipsis; white-space: nowrap; }
 #universes span { color: var(--dim); margin-left: .4rem; }
-#grid { display: grid; grid-template-columns: repeat(auto-fill, minmax(2.6rem, 1fr)); gap: 2px; }
-.slot { position: relative; height: 2.7rem; border: 1px solid var(--line); border-radius: 3px; overflow: hidden; cursor: pointer; font-variant-numeric: tabular-nums; }
+.mark { margin-left: .4rem; padding: 0 .45em; border: 1px solid var(--warn); border-radius: 4px; background: var(--warn-ground); color: var(--warn); }
+#grid { display: grid; grid-template-columns: repeat(auto-fill, minmax(2.6rem, 1fr)); gap: 2px; max-height: max(14rem, 50vh); }
+.slot { position: relative; height: 2.3rem; border: 1px solid var(--line); border-radius: 3px; overflow: hidden; cursor: pointer; font-variant-numeric: tabular-nums; }
 .slot i { position: absolute; left: 0; right: 0; bottom: 0; height: calc(var(--level, 0) * 1%); background: var(--colour, var(--none)); opacity: .38; }
 .slot small { position: absolute; left: 3px; top: 1px; font-size: .62rem; color: var(--dim); }
 .slot em { position: absolute; right: 3px; top: 1px; font-size: .62rem; font-style: normal; font-weight: 700; color: var(--colour, var(--none)); }
@@ -57,8 +60,13 @@ td.number, th.number { text-align: right; } td.name { max-width: 22rem; overflow
 tr.gone { color: var(--dim); } tr.gone td.state { font-weight: 700; } tr.gone .letter { opacity: .4; }
 .letter { display: inline-block; min-width: 1.5em; text-align: center; border-radius: 4px; color: var(--panel); background: var(--colour); font-weight: 700; }
 .over { color: var(--warn); font-weight: 700; }
-#alarms { list-style: none; margin: 0; padding: 0; max-height: 20rem; overflow: auto; }
+#alarms { list-style: none; max-height: 7rem; }
 #alarms li { padding: .2rem 0; border-bottom: 1px solid var(--line); overflow-wrap: anywhere; }
 #alarms time { color: var(--dim); margin-right: .6rem; font-variant-numeric: tabular-nums; }
+@media (max-width: 700px) {
+  header { padding: .4rem .75rem; row-gap: 0; } main { gap: .5rem; padding: .5rem; } section { padding: .5rem; } h2 { margin-bottom: .3rem; }
+  #universes { max-height: 5.75rem; } #universes li { max-width: calc(50% - .2rem); } #time-keys { display: none; }
+}
+@media (min-width: 1100px) { #alarms { max-height: clamp(6.25rem, 50vh - 12rem, 20rem); } }
 </style>
 "##;
