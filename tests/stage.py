@@ -1,4 +1,4 @@
-"""What light.py and tools/blocks.py stand on: programs, packets, sockets that note when something came, terminals that stand for interfaces, and namespaces."""
+"""What light.py, ola.py and tools/blocks.py stand on: programs, packets, sockets that note when something came, terminals that stand for interfaces, and namespaces."""
 import ctypes
 import fcntl
 import os
