@@ -261,7 +261,7 @@ printf '. "%s/tools/run.sh"\nrun "%s" watch --port 25833\n' "$top" "$sacn" >laun
 status=0
 problem=$(COLUMNS=80 ROWS=24 KEYS=typed timeout 20 python3 terminal.py drawn 25833 stop bash launcher 2>&1) || status=$?
 # (what stands below the last screen)
-below() { tr -d '\r' <drawn | awk 'seen { print } index($0, "\033[?1049l") { seen = 1 }'; }
+below() { tr -d '\r' <drawn | awk -v end=$'\033[?1049l' '{ at = index($0, end) } seen { print } at && !seen { print substr($0, at + length(end)); seen = 1 }'; }
 [ "$status" = 0 ] && grep -q 'Aff' drawn && below | grep -q '^sacn watch ' && below | grep -qE '^A +1 ' && ! below | grep -q $'\x1b'
 verdict "Ctrl-C under the launcher" $? "status $status $(tail -n 1 <<<"$problem")"
 [ "$status" = 0 ] && ! grep -qE 'typed|\^C' drawn
