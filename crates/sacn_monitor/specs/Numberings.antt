@@ -38,11 +38,11 @@ begins held arrived n = n.opens && (ahead_of held arrived == OPENING_STEP)
 abbrev pub meets_one : ℕ → ℕ → Numbering → Bool
 meets_one held arrived n = (n.turns == 0) && (skipped_by held arrived == 1)
 
--- the turns in a row that left out the number of n, after a step at which that number is known
+-- the turns in a row that left out the number of n, after a step; none where no number is known
 abbrev pub turns_after : ℕ → ℕ → Numbering → ℕ
 turns_after held arrived n =
-    if passes_over held arrived n.left_out
-    then min (n.turns + 1) OMISSION_TURNS
+    if n.turns == 0 then 0
+    else if passes_over held arrived n.left_out then min (n.turns + 1) OMISSION_TURNS
     else if arrived == n.left_out then 0 else n.turns
 
 -- what is known after a step: one number alone that a step passes over may be one that is left out
@@ -50,7 +50,7 @@ abbrev pub numbering_after : ℕ → ℕ → Numbering → Numbering
 numbering_after held arrived n = record {
   opens = goes_back held arrived;
   left_out = if meets_one held arrived n then (held + 1) % 256 else n.left_out;
-  turns = if meets_one held arrived n then 1 else if n.turns == 0 then 0 else turns_after held arrived n;
+  turns = if meets_one held arrived n then 1 else turns_after held arrived n;
 }
 
 -- by a step the source is known to leave out a number that the step passes over

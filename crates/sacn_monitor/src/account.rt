@@ -175,15 +175,15 @@ impl Account {
     }
 
     // What a taken packet's number tells. Mostly it is the next one in turn, which tells nothing and changes nothing: the same
-    // as `step` makes of it.
-    fn number(&mut self, moment: u64, terminated: bool, arrived: u8) -> NumberNews
+    // as `note_any_number` makes of it.
+    fn note_number(&mut self, moment: u64, terminated: bool, arrived: u8) -> NumberNews
         ensures news { result ≡ number_news moment terminated arrived self.old }
         ensures account { self.new ≡ renumbered moment terminated arrived self.old }
     {
         if self.is_next(moment, arrived) {
             NumberNews::none()
         } else {
-            self.step(moment, terminated, arrived)
+            self.note_any_number(moment, terminated, arrived)
         }
     }
 
@@ -199,7 +199,7 @@ impl Account {
 
     // What any taken packet's number tells. Out of line, so that the test before it is made in the caller.
     #[inline(never)]
-    fn step(&mut self, moment: u64, terminated: bool, arrived: u8) -> NumberNews
+    fn note_any_number(&mut self, moment: u64, terminated: bool, arrived: u8) -> NumberNews
         ensures news { result ≡ number_news moment terminated arrived self.old }
         ensures account { self.new ≡ renumbered moment terminated arrived self.old }
     {
@@ -235,7 +235,7 @@ impl Account {
         ensures news { result ≡ taken_news moment sender packet.now self.old }
         ensures account { self.new ≡ after_taken moment sender packet.now self.old }
     {
-        let number = self.number(moment, packet.terminated(), packet.number());
+        let number = self.note_number(moment, packet.terminated(), packet.number());
         let gap = moment.saturating_sub(self.latest);
         let news = News {
             event: self.taken_event(moment, packet.terminated()),

@@ -1,6 +1,6 @@
 //! How a source numbers its packets: by which steps, and which number it leaves out.
 
-ghost use Rattle.std.specs.Prelude.{◌≡◌, ◌==◌, if◌then◌else◌};
+ghost use Rattle.std.specs.Prelude.{◌≡◌};
 ghost use Rattle.sacn_monitor.specs.Numberings.{first_numbering, begins, goes_back, is_settled, lost_in, no_number_news, numbering_after, omission_in, passes_over, skipped_by, turns_after};
 
 /// A source that has left out the same number so many turns in a row leaves it out by a rule of its own.
@@ -75,7 +75,7 @@ impl Numbering {
 
     // The turns in a row that left out the number, after a step.
     fn turns_after(self, held: u8, arrived: u8) -> u8
-        ensures { result ≡ if self.turns == 0 then 0 else turns_after held arrived self }
+        ensures { result ≡ turns_after held arrived self }
     {
         if self.turns == 0 {
             return 0;
