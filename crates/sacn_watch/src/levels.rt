@@ -95,11 +95,13 @@ fn push_level_rows(
 
 // Whether a slot of a row is above 0.
 fn is_lit(view: &View, first: usize, count: usize) -> bool {
-    view.levels
-        .iter()
-        .skip(first)
-        .take(count)
-        .any(|level| *level > 0)
+    first < SLOTS
+        && view
+            .levels
+            .iter()
+            .skip(first)
+            .take(count)
+            .any(|level| *level > 0)
 }
 
 fn level_row(
