@@ -9,7 +9,7 @@ pub(crate) const OCTETS: usize = 2 * MAX_CHANNELS as usize + 2;
 
 /// The most channels that are reckoned by the list. By the list a channel costs more than in turn, so that
 /// beyond about so many going over all costs less.
-pub(crate) const MOST_LISTED: usize = MAX_CHANNELS as usize / 16 * 9;
+pub(crate) const MOST_LISTED: usize = MAX_CHANNELS as usize / 4 * 3;
 
 /// So many reckonings in a row go over all channels without a list, where more than `MOST_LISTED` fade: a list costs a little at each
 /// channel, and would be of no use.
