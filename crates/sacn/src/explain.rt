@@ -1,6 +1,5 @@
 //! Recordings told.
 use crate::recording::serve;
-use crate::room::ask_for_room;
 use sacn_capture::{CaptureFault, FaultKind};
 use sacn_commands::ending::{DEVICE_FAILED, Ending, REFUSED, of_write};
 use sacn_commands::live::setup_of_word;
@@ -50,7 +49,6 @@ pub fn tell<R: AllocGlobal + Files + Net + Clock, I: Read + Drop, O: Write, E: W
     out: &mut O,
     err: &mut E,
 ) -> Result<(), Ending> {
-    ask_for_room(rt.alloc())?;
     if let Some(place) = asked.page {
         return serve(rt, asked, place, err);
     }

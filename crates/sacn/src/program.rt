@@ -1,5 +1,6 @@
 //! The program, over any words, input and outputs.
 use crate::piped::Piped;
+use crate::room::ask_for_room;
 use crate::{check, explain, manual, watch};
 use sacn_commands::ending::{DONE, Ending, tell_ending, tell_words};
 use sacn_commands::live;
@@ -19,6 +20,10 @@ pub fn run_program<
     O: Write + Drop,
     E: Write + Drop,
 >(rt: &R, words: &[String], input: I, mut out: O, mut err: E) -> u8 {
+    // (first of all, since reading the words takes room too)
+    if ask_for_room(rt.alloc()).is_err() {
+        return tell_ending(Ending::OutOfMemory, &mut err);
+    }
     let asked = match parse(rt.alloc(), words) {
         Ok(asked) => asked,
         Err(error) => return tell_words(rt.alloc(), error, &mut out, &mut err),

@@ -1,7 +1,7 @@
 //! Whether there is room to begin.
 use std::alloc::{AllocError, Global};
 
-/// What a watch or an account takes at its beginning, memory and stack together, in octets: less than so many.
+/// What a run takes at its beginning, memory and stack together, in octets: less than so many.
 const BEGINNING: usize = 1 << 20;
 
 /// Asks for as much as a beginning takes, and gives it back. Where the machine hasn't that much, this is told before the stack,

@@ -2,7 +2,6 @@
 use crate::explain::form_of;
 use crate::page::serve;
 use crate::piped::Piped;
-use crate::room::ask_for_room;
 use crate::screen::show;
 use sacn_commands::ending::Ending;
 use sacn_commands::live::{clock_of, joined_groups, of_socket, say_hearing};
@@ -32,7 +31,6 @@ pub fn watch<R: AllocGlobal + Files + Env + Net + Clock, O: Write, E: Write>(
     err: &mut E,
 ) -> Result<(), Ending> {
     guard_standard_descriptors();
-    ask_for_room(rt.alloc())?;
     let address = SocketAddrV4::new(asked.listen, asked.port);
     let until = moment_of(asked.seconds);
     if let Some(place) = asked.page {
