@@ -5,10 +5,10 @@ use crate::step::{Step, StepFault};
 use crate::tellers::{ListOrders, Tally};
 use sacn_console::{Command, ConsoleCore, read_script, read_show};
 use sacn_edge::memory::{Incoming as Bringing, ListClock, MemoryLink};
-use sacn_edge::{ConsoleReport, WriterOut, run_console, run_node};
+use sacn_edge::{ConsoleReport, Link, WriterOut, run_console, run_node};
 use sacn_live::memory::{Incoming, MemoryReceiver};
 use sacn_live::memory_device::MemoryDevice;
-use sacn_live::{DeviceFault, Interface, Octets4, Span, Took, run_desk, run_gateway};
+use sacn_live::{DeviceFault, Interface, Octets4, Opening, Span, Took, run_desk, run_gateway};
 use sacn_node::{NodeCore, read_node};
 use std::alloc::Global;
 use std::mem;
@@ -59,6 +59,7 @@ impl Loops {
             "gateway" => self.gateway(step),
             "console" => self.console(step),
             "desk" => self.desk(step),
+            "opened" => self.opened(step),
             "datagram" => {
                 self.say_datagram(step);
                 Ok(())
@@ -196,16 +197,32 @@ impl Loops {
     }
 
     fn desk(&mut self, step: &mut Step<'_>) -> Result<(), StepFault> {
-        let readings = readings_in(step)?;
         let mut link = self.link(step.alloc(), None)?;
+        self.run(step, &mut link)?;
+        self.keep(step, &link)
+    }
+
+    /// A desk that opens its streams.
+    fn opened(&mut self, step: &mut Step<'_>) -> Result<(), StepFault> {
+        let link = self.link(step.alloc(), None)?;
+        let Ok(mut opening) = Opening::over(step.alloc(), link) else {
+            return Err(StepFault::Memory);
+        };
+        self.run(step, &mut opening)?;
+        self.keep(step, opening.link())
+    }
+
+    /// Runs a desk over a link.
+    fn run<L: Link>(&mut self, step: &mut Step<'_>, link: &mut L) -> Result<(), StepFault> {
+        let readings = readings_in(step)?;
         let mut core = console_of(step)?;
         let list = mem::replace(&mut self.orders, Vec::new(step.alloc()));
         let mut orders = ListOrders::new(list, readings.len());
         let mut clock = ListClock::new(readings);
-        let report = run_desk(&mut link, &mut clock, &mut orders, &mut core, 1000);
+        let report = run_desk(link, &mut clock, &mut orders, &mut core, 1000);
         step.say(&format_args!("accepted {}", orders.accepted));
         say_report(step, &report);
-        self.keep(step, &link)
+        Ok(())
     }
 
     /// Keeps what was handed over.

@@ -41,6 +41,13 @@ impl<L: Link + Drop> Opening<L> {
         Ok(Opening { link, begun })
     }
 
+    /// The link below.
+    pub fn link(&self) -> &L
+        ensures { result.now ≡ link_of self.now }
+    {
+        &self.link
+    }
+
     /// Sends a datagram; before it, where it is the first packet of its universe, the copy that opens the stream. Returns
     /// whether the datagram itself was taken.
     pub fn send_opened(&mut self, datagram: &[u8]) -> bool
