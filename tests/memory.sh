@@ -57,7 +57,7 @@ each_refused "sacn console" 3 "refused OutOfMemory" /dev/null "$sacn" console "$
 each_refused "sacn node" 3 "refused OutOfMemory" /dev/null "$sacn" node "$room/node.toml" --turns 1
 
 # in_small_spaces NAME PROGRAM [WORD..]: in an address space that is too small it ends as a refused request does, and never by a signal. (What is smaller still
-# the machine's loader refuses, with 127. A watch of whose space so little is left that its words can't be read still ends by one.)
+# the machine's loader refuses, with 127.)
 in_small_spaces() {
   local name=$1 size status refused=0 whole=0
   shift
@@ -83,4 +83,6 @@ in_small_spaces() {
   done
   if [ "$refused" -gt 0 ] && [ "$whole" -gt 0 ]; then echo "ok memory: $name"; else echo "not ok memory: $name: $refused refused, $whole went on"; fi
 }
+in_small_spaces "a watch in a small address space" "$sacn" watch --plain --port 26969 --seconds 1
+in_small_spaces "a page in a small address space" "$sacn" watch --page 127.0.0.1:26970 --port 26969 --seconds 1
 in_small_spaces "a recording told in a small address space" "$sacn" explain "$examples/ola.pcap"
