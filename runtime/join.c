@@ -33,7 +33,8 @@ enum { ROOT_VECTOR = 18, FRAMING_VECTOR = 40, LIST_LENGTH = 112, LIST_VECTOR = 1
 
 static const char *device;
 static unsigned number_of_device;
-static int holder = -1;
+/* The socket that takes the next groups, and how many it has. */
+static int holder = -1, held;
 /* What became of each universe's group: not wanted yet, joined, or refused, which is told once and tried again at the next list. */
 static enum { UNTRIED, JOINED, REFUSED } groups[MOST_UNIVERSE + 1];
 static int listed;
@@ -46,13 +47,13 @@ static int fails(const char *what, const char *help) {
 /* Joins a group. A socket takes a limited number of them (20 where nobody changed it): then the next socket begins. */
 static bool join(struct in_addr group) {
     const struct ip_mreqn wanted = {.imr_multiaddr = group, .imr_ifindex = (int)number_of_device};
-    for (int try = 0; try < 2; try++) {
+    for (;;) {
         if (holder < 0 && (holder = socket(AF_INET, SOCK_DGRAM | SOCK_CLOEXEC, 0)) < 0) return false;
-        if (!setsockopt(holder, IPPROTO_IP, IP_ADD_MEMBERSHIP, &wanted, sizeof wanted) || errno == EADDRINUSE) return true;
-        if (errno != ENOBUFS || try) return false;
-        holder = -1; /* (the full one stays open) */
+        if (!setsockopt(holder, IPPROTO_IP, IP_ADD_MEMBERSHIP, &wanted, sizeof wanted)) return held++, true;
+        if (errno == EADDRINUSE) return true;
+        if (errno != ENOBUFS || !held) return false; /* (one that takes not even a first group isn't full) */
+        holder = -1, held = 0; /* (the full one stays open) */
     }
-    return false;
 }
 
 static uint32_t at(const uint8_t *octets, int place, int count) {

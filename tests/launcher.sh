@@ -130,6 +130,8 @@ check "the released program of this very tree runs at once, without a kit, and s
 released_once() { bare gateway x && prints "released gateway x" && [ ! -s "$room/err" ] && rm -r "$room/home" && : >"$room/home" && bare gateway x && says "proved and built elsewhere" && bare gateway x && says "proved and built elsewhere"; }
 check "once on a machine, and each time where that can't be noted" released_once
 rm -f "$room/home"
+alone_on_a_terminal() { script -qec "$tree/sacn" /dev/null >"$room/out" 2>"$room/err" </dev/null; status=$?; prints "reads one datagram as hexadecimal digits, up to Ctrl-D" && bare && ! says "reads one datagram"; }
+if command -v script >/dev/null; then check "alone on a terminal it says what it reads" alone_on_a_terminal; else echo "skipped launcher: alone on a terminal: no script"; fi
 released_version() { bare --version && prints "release 9.8.7" && prints "kit rattle-kit-9" && prints "proved and built elsewhere"; }
 check "the version tells that it is the released one" released_version
 proved_goes_first() { launch prove; launch node x; [ "$status" = 0 ] && prints "proved node x" && [ ! -s "$room/err" ] && launch --version && prints "proved and built on this machine"; }

@@ -8,7 +8,7 @@ top=$(cd "$(dirname "$(readlink -f "$0")")/.." && pwd)
 export SACN=${SACN:-$top/crates/sacn/out/sacn}
 looks=("two_hosts_are_absent twenty_hosts_are_absent answers_that_nobody_reads a_stopped_terminal an_interface_comes_back"
   "frames_that_nobody_reads source_lines_that_nobody_reads source_lines_are_few interfaces_that_nobody_reads a_stopped_watch a_killed_launcher"
-  "a_page_beyond_its_connections half_heads another_life_lights_at_once hosts_are_off_while_a_universe_rests most_hosts_are_off_at_16_universes
+  "a_page_beyond_its_connections half_heads another_life_lights_at_once one_life_follows_another hosts_are_off_while_a_universe_rests most_hosts_are_off_at_16_universes
   most_hosts_are_off_at_170_universes"
   "most_hosts_are_off_at_1024_universes"
   "a_flood")

@@ -172,6 +172,13 @@ else
   ok "packages: $(cd "$room/packages" && echo *)"
   dpkg-deb -x "$room/packages/sacn_${version}_amd64.deb" "$room/amd64"
   dpkg-deb -x "$room/packages/sacn_${version}_arm64.deb" "$room/arm64"
+  # (where no folder is named they come into the tree)
+  if ! git -C "$top" rev-parse >/dev/null 2>&1; then
+    skips "git and packages" "this tree is no repository"
+  else
+    seen=$(ls "$room/packages" | git -C "$top" check-ignore --stdin -n -v | grep '^::')
+    if [ -z "$seen" ]; then ok "git sees no package"; else fails "git and packages" "$(head -n 1 <<<"$seen")"; fi
+  fi
   light "from a package" "$room/amd64/usr/bin/sacn" gateway "$room/node.toml"
   if [ ! -s "$room/said" ] || ! grep -q 'sacn:' "$room/said"; then ok "a package's program says nothing of its own"; else fails "a package's program" "$(head -n 1 "$room/said")"; fi
   if [ "$("$room/amd64/usr/bin/sacn" --version | sed -n 2p)" = "release $version" ]; then ok "a package's version"; else fails "a package's version" "$("$room/amd64/usr/bin/sacn" --version | sed -n 2p)"; fi
@@ -269,6 +276,26 @@ P
   unset 'running[-1]'
   for _ in $(seq 100); do [ "$(joined)" = 0 ] && break; sleep 0.05; done
   if [ "$(joined)" = 0 ]; then ok "the groups are left at its end"; else fails "the groups at its end" "$(joined) are still joined"; fi
+  # A device that doesn't say that it takes multicast; and a group that the machine refuses for a while.
+  ip -n "$near" link set eth0 multicast off
+  ip netns exec "$near" bash "$room/run" watch --join eth0 --plain --seconds 60 >"$room/told" 2>"$room/said" </dev/null &
+  running+=($!)
+  told "$room/said" '^hears' || fails "a watch on a device without multicast" "$(head -n 1 "$room/said")"
+  if command -v python3 >/dev/null; then
+    ip netns exec "$far" python3 "$room/sends.py" packet 7 1
+    if told "$room/told" 'universe +7 .*"Plain" +appears'; then ok "a device without multicast is heard all the same"; else fails "a device without multicast" "$(tail -n 1 "$room/said")"; fi
+    ip netns exec "$near" sysctl -qw net.ipv4.igmp_max_memberships=0
+    for _ in 1 2 3; do ip netns exec "$far" python3 "$room/sends.py" list 2000 600; done
+    told "$room/said" "universe 2599 isn't joined on eth0: No buffer space available" || fails "groups that are refused" "$(tail -n 1 "$room/said")"
+    holds=$(for it in $(pgrep -f "$room/sacn-join"); do ls "/proc/$it/fd" | wc -l; done | sort -n | tail -n 1)
+    ip netns exec "$near" sysctl -qw net.ipv4.igmp_max_memberships=20
+    ip netns exec "$far" python3 "$room/sends.py" list 2000 600
+    for _ in $(seq 100); do [ "$(joined)" = 729 ] && break; sleep 0.05; done
+    if [ "$(joined)" = 729 ] && [ "$(grep -c "isn't joined" "$room/said")" = 600 ] && [ "$holds" -lt 20 ]; then ok "groups that are refused are told once, tried again, and take no descriptors"; else fails "groups that are refused" "$(joined) are joined, $holds descriptors; $(tail -n 1 "$room/said")"; fi
+  fi
+  kill "${running[-1]}"
+  wait "${running[-1]}" 2>/dev/null
+  unset 'running[-1]'
   ip netns exec "$near" bash "$room/run" watch --join nosuch --seconds 5 >/dev/null 2>"$room/said" </dev/null
   if [ $? = 4 ] && grep -q 'no groups on nosuch: No such device' "$room/said"; then ok "a device that isn't there is named"; else fails "a device that isn't there" "$(head -n 1 "$room/said")"; fi
   ip -n "$near" route del default
