@@ -39,7 +39,7 @@ whole_root octets root reads =
       size = omega (arith, ap (λ (r : Root). length r.body) h.1, length-take (16 + length_of octets 16 - 38) (drop 38 octets), length-drop 38 octets, whole, least);
     }
 
-pub data_shown : (octets : List ℕ) (root : Root) (f : Framing) (dmp : Dmp) → ReadsRoot octets root → reading_framing root.body ≡ Ok f → reading_dmp f.body ≡ Ok dmp → data_of root f dmp ≡ data_in octets
+data_shown : (octets : List ℕ) (root : Root) (f : Framing) (dmp : Dmp) → ReadsRoot octets root → reading_framing root.body ≡ Ok f → reading_dmp f.body ≡ Ok dmp → data_of root f dmp ≡ data_in octets
 data_shown octets root f dmp reads in_framing in_dmp =
     let same : root_at octets ≡ root = (whole_root octets root reads).same in
     let inner : framing_at root.body ≡ f = (all_passed (framing_checks root.body) (framing_at root.body) f in_framing).1 in
@@ -78,11 +78,3 @@ data_is octets root f dmp reads in_framing in_dmp =
     ap (λ (x : Result Framing PacketFault). x >>= λ g. reading_dmp g.body >>= λ d. Ok (DataPacket (data_of root g d))) in_framing
     ∙ ap (λ (x : Result Dmp PacketFault). x >>= λ d. Ok (DataPacket (data_of root f d))) in_dmp
     ∙ ap (λ (d : Data). Ok (DataPacket d)) (data_shown octets root f dmp reads in_framing in_dmp)
-
-pub page_is : (octets : List ℕ) (root : Root) (vector : ℕ) (layer : PageLayer) → ReadsRoot octets root → reading_extended_vector root.body ≡ Ok vector → eqb vector 1 ≡ false → reading_page root.body ≡ Ok layer → reading_extended root ≡ Ok (PagePacket (page_in octets))
-unfolding reading_extended
-page_is octets root vector layer reads in_vector other in_page =
-    ap (λ (x : Result ℕ PacketFault). x >>= λ v. cond (eqb v 1) (Ok SyncPacket) (reading_page root.body >>= λ q. Ok (PagePacket (page_of root q)))) in_vector
-    ∙ ap (λ (b : Bool). cond b (Ok SyncPacket) (reading_page root.body >>= λ q. Ok (PagePacket (page_of root q)))) other
-    ∙ ap (λ (x : Result PageLayer PacketFault). x >>= λ q. Ok (PagePacket (page_of root q))) in_page
-    ∙ ap (λ (p : Page). Ok (PagePacket p)) (page_shown octets root layer reads in_page)

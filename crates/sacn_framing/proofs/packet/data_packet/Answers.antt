@@ -1,27 +1,30 @@
-use Rattle.std.proofs.Common.{sym, subst}
+use Rattle.std.proofs.Common.{sym, arith}
+use Rattle.std.proofs.lemmas.Result.{err_from_is_err_and}
 use Rattle.sacn_root.specs.RootText.{root_of}
-use Rattle.sacn_dmp.specs.DmpText.{dmp_of}
-use Rattle.sacn_framing.specs.Data.{Data, IsData}
-use Rattle.sacn_framing.specs.FramingText.{framing_of}
-use Rattle.sacn_framing.proofs.Packets.{joined}
-use Rattle.sacn_framing.proofs.ViewOctets.{data_shown, data_laid_out, data_is}
+use Rattle.sacn_root.proofs.Root.{body_bytes, root_only}
+use Rattle.sacn_framing.specs.DataLayers.{data_in}
+use Rattle.sacn_framing.specs.declared.packet.Packet.TheVariants.{DataPacket}
+use Rattle.sacn_framing.proofs.Packets.{data_found}
+use Rattle.sacn_framing.proofs.LayersChecked.{framing_refused, dmp_refused, data_passed}
 use Rattle.sacn_framing.proofs.packet.data_packet.Goals as goal
+
+pub returns-in_err-body : goal.returns-in_err-body
+returns-in_err-body c =
+    let p = err_from_is_err_and c.from_residual.result c.from_residual.ensures.1 in
+    rw (p.1, p.2) (framing_refused (root_of c.args.root) c.in_err-body.field-0.0 c.in_err-body.ensures)
+
+pub returns-in_err-check_dmp : goal.returns-in_err-check_dmp
+returns-in_err-check_dmp c =
+    let p = err_from_is_err_and c.from_residual-in_err-check_dmp.result c.from_residual-in_err-check_dmp.ensures.1 in
+    rw (p.1, p.2) (dmp_refused (root_of c.args.root) c.in_ok-body.body.now c.in_err-check_dmp.field-0.0 c.in_ok-body.ensures c.in_err-check_dmp.ensures)
 
 pub invariant_of-result : goal.invariant_of-result
 invariant_of-result c =
     let octets = c.args.octets.now in
     let root = root_of c.args.root in
-    let f = framing_of c.in_ok-framing.framing in
-    let dmp = dmp_of c.in_ok-_dmp._dmp in
-    let in_framing = sym c.in_ok-framing.ensures.exact in
-    let in_dmp = sym c.in_ok-_dmp.ensures.exact in
-    let found = c.in_ok-_dmp.ensures.found in
-    let is = joined octets root f dmp c.requires.vector c.requires.begins c.in_ok-framing.ensures.found found.0 found.1 in
-    record {
-      is_data = subst (λ (d : Data). IsData d) (data_shown octets root f dmp c.requires.begins in_framing in_dmp) is.is_data;
-      laid_out = data_laid_out octets root f dmp c.requires.begins in_framing in_dmp;
-    }
+    let fits = body_bytes octets root (λ i. omega (arith, c.type_inv.octets i)) (root_only octets root c.requires.begins) in
+    let passed = data_passed octets root c.in_ok-body.body.now c.requires.begins c.in_ok-body.ensures c.in_ok-check_dmp.ensures in
+    record { is_data = (data_found octets root (DataPacket (data_in octets)) fits c.requires.vector c.requires.begins passed.0).is_data; laid_out = passed.1 }
 
 pub returns : goal.returns
-returns c =
-    sym (data_is c.args.octets.now (root_of c.args.root) (framing_of c.in_ok-framing.framing) (dmp_of c.in_ok-_dmp._dmp) c.requires.begins (sym c.in_ok-framing.ensures.exact) (sym c.in_ok-_dmp.ensures.exact))
+returns c = sym (data_passed c.args.octets.now (root_of c.args.root) c.in_ok-body.body.now c.requires.begins c.in_ok-body.ensures c.in_ok-check_dmp.ensures).0
