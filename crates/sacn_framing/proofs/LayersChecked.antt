@@ -1,5 +1,5 @@
 -- What the checks of a packet's layers answer alone, and what is then read of the packet.
-use Rattle.std.proofs.Common.{◌≡◌, ℕ, Bool, false, true, cond, eqb, List, [], ◌∷◌, drop, Result, Ok, Err, sym, ap, subst, inl, inr, ◌∙◌}
+use Rattle.std.proofs.Common.{◌≡◌, ℕ, Bool, false, cond, eqb, List, [], ◌∷◌, drop, Result, Ok, Err, sym, ap, subst, inl, inr, ◌∙◌}
 use Rattle.sacn_root.specs.declared.fault.PacketFault.{PacketFault}
 use Rattle.sacn_universe.specs.Results.{◌>>=◌}
 use Rattle.sacn_root.specs.Check.{Check, checked}

@@ -1,5 +1,5 @@
 -- What the octets of a packet show is what was read of them.
-use Rattle.std.proofs.Common.{◌≡◌, ℕ, ◌+◌, ◌-◌, ◌≤◌, ◌%◌, Bool, false, cond, eqb, List, length, drop, Result, Ok, refl, sym, ap, ◌∙◌, arith}
+use Rattle.std.proofs.Common.{◌≡◌, ℕ, ◌+◌, ◌-◌, ◌≤◌, ◌%◌, List, length, drop, Result, Ok, refl, sym, ap, ◌∙◌, arith}
 use Rattle.std.proofs.lemmas.Bool.{leb-true, eqb-true}
 use Rattle.std.proofs.lemmas.List.{length-take, length-drop}
 use Rattle.sacn_root.specs.declared.fault.PacketFault.{PacketFault}
@@ -12,13 +12,12 @@ use Rattle.sacn_root.proofs.Root.{root_only}
 use Rattle.sacn_dmp.specs.DmpText.{Dmp}
 use Rattle.sacn_dmp.specs.DmpReading.{reading_dmp, dmp_checks, dmp_at}
 use Rattle.sacn_framing.specs.Data.{Data}
-use Rattle.sacn_framing.specs.Page.{Page}
 use Rattle.sacn_framing.specs.FramingText.{Framing}
-use Rattle.sacn_framing.specs.declared.packet.Packet.TheVariants.{DataPacket, PagePacket, SyncPacket}
-use Rattle.sacn_framing.specs.PacketReading.{reading_data, reading_extended}
+use Rattle.sacn_framing.specs.declared.packet.Packet.TheVariants.{DataPacket}
+use Rattle.sacn_framing.specs.PacketReading.{reading_data}
 use Rattle.sacn_framing.specs.FramingReading.{reading_framing, framing_checks, framing_at}
 use Rattle.sacn_framing.specs.PageText.{PageLayer}
-use Rattle.sacn_framing.specs.PageReading.{reading_extended_vector, reading_page, page_checks, page_at}
+use Rattle.sacn_framing.specs.PageReading.{reading_page, page_checks, page_at}
 use Rattle.sacn_framing.specs.DataLayers.{data_of, data_in, IsLaidOut}
 use Rattle.sacn_framing.specs.PageLayers.{page_of, page_in, IsPageLaidOut}
 
