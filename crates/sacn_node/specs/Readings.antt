@@ -1,15 +1,11 @@
 -- What octets do to a node core, by their one reading.
-use Rattle.std.specs.Prelude.{ℕ, Result, Ok, Err}
-use Rattle.sacn_root.specs.declared.fault.PacketFault.{PacketFault}
-use Rattle.sacn_framing.specs.declared.packet.Packet.{Packet}
+use Rattle.std.specs.Prelude.{ℕ, Ok, Err}
 use Rattle.sacn_framing.specs.declared.packet.Packet.TheVariants.{DataPacket, PagePacket, SyncPacket}
+pub use Rattle.sacn_framing.specs.PacketReading.{Reading}
 use Rattle.sacn_sources.specs.Packets.{packet_of}
 use Rattle.sacn_node.specs.declared.answer.NodeTaken.{NodeTaken}
 use Rattle.sacn_node.specs.declared.answer.NodeTaken.TheVariants.{Discovery, Sync, Refused}
 use Rattle.sacn_node.specs.Cores.{Core, core_reply, core_after, core_at}
-
-abbrev pub Reading : Type 0
-Reading = Result Packet PacketFault
 
 abbrev pub reply_to : Reading → ℕ → Core → NodeTaken
 reply_to (Ok (DataPacket d)) now n = core_reply d.universe (packet_of d) now n
