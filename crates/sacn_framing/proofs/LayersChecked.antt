@@ -55,8 +55,7 @@ data_passed octets root body reads whole e =
     let framing = framing_passed root.body body whole in
     let inner : checking_dmp (drop 77 root.body) ≡ Ok tt = ap checking_dmp framing.1 ∙ sym e in
     let dmp : reading_dmp (drop 77 root.body) ≡ Ok (dmp_at (drop 77 root.body)) =
-    checked_is (dmp_checks (drop 77 root.body)) (dmp_at (drop 77 root.body)) (all_passed (dmp_checks (drop 77 root.body)) tt tt inner).0 in
-    (
+    checked_is (dmp_checks (drop 77 root.body)) (dmp_at (drop 77 root.body)) (all_passed (dmp_checks (drop 77 root.body)) tt tt inner).0 in (
       data_is octets root (framing_at root.body) (dmp_at (drop 77 root.body)) reads framing.0 dmp,
       data_laid_out octets root (framing_at root.body) (dmp_at (drop 77 root.body)) reads framing.0 dmp,
     )
