@@ -18,6 +18,11 @@ abbrev pub packet_status : Result Packet PacketFault → ℕ
 packet_status (Ok packet) = 0
 packet_status (Err fault) = fault_number fault
 
+-- what is read, with a fault's number in its place
+abbrev pub packet_or_status : Result Packet PacketFault → Result Packet ℕ
+packet_or_status (Ok packet) = Ok packet
+packet_or_status (Err fault) = Err (fault_number fault)
+
 -- a bit, as C has it
 abbrev pub bit_of : Bool → ℕ
 bit_of true = 1

@@ -9,10 +9,11 @@ ghost use Rattle.sacn_border.specs.Kinds.{of_collector};
 ghost use Rattle.sacn_border.specs.declared.status.TheConstants.{DONE, OUT_OF_MEMORY, WRONG_HANDLE};
 
 use crate::held_value::Held;
+use crate::reading::packet_at;
 use crate::rooms::put_list;
 use crate::status::{DONE, OUT_OF_MEMORY, RANGE, WRONG_HANDLE};
 use sacn_discovery::Collector;
-use sacn_framing::{Packet, read_packet};
+use sacn_framing::Packet;
 use std::alloc::Global;
 
 /// A collector that knows nothing, as `Collector::new`.
@@ -37,13 +38,13 @@ fn take_into(collector: &mut Collector, now: u64, octets: &[u8]) -> u32
     ensures collector { collector.new
         ≡ collected result now (reading_packet octets.now) collector.old }
 {
-    match read_packet(octets) {
+    match packet_at(octets) {
         Ok(Packet::PagePacket(page)) => match collector.take(now, &page) {
             Ok(()) => DONE,
             Err(_) => OUT_OF_MEMORY,
         },
         Ok(_) => DONE,
-        Err(fault) => u32::from(fault.number()),
+        Err(status) => status,
     }
 }
 

@@ -13,6 +13,7 @@ pub mod node;
 mod numbers;
 pub mod packets;
 pub mod pages;
+mod reading;
 mod rooms;
 pub mod sources;
 pub mod state;

@@ -11,9 +11,10 @@ ghost use Rattle.sacn_monitor.specs.Accounts.{fitted};
 ghost use Rattle.sacn_border.specs.Packets.{packet_status, write_status, Tells, AskFor, fields_with, fields_after, ShowsFrame, bit_of, text_of, written};
 ghost use Rattle.sacn_border.specs.declared.status.TheConstants.{DONE};
 
+use crate::reading::packet_at;
 use crate::status::DONE;
 use sacn_framing::{
-    DataFields, DataView, Packet, PageView, multicast_group, read_packet, up_to_nul, write_data,
+    DataFields, DataView, Packet, PageView, multicast_group, up_to_nul, write_data,
 };
 use sacn_root::{PacketFault, put};
 use sacn_sequence::in_sequence;
@@ -80,7 +81,7 @@ pub fn read_fields(octets: &[u8], packet: &mut PacketFields) -> u32
     // What was read can be written again.
     ensures again { IfOk (reading_packet octets.now) (λ p. AskFor p packet.new) }
 {
-    match read_packet(octets) {
+    match packet_at(octets) {
         Ok(Packet::DataPacket(data)) => {
             put_data(&data, packet);
             DONE
@@ -93,7 +94,7 @@ pub fn read_fields(octets: &[u8], packet: &mut PacketFields) -> u32
             packet.kind = 3;
             DONE
         }
-        Err(fault) => u32::from(fault.number()),
+        Err(status) => status,
     }
 }
 
@@ -113,7 +114,7 @@ pub fn read_data(octets: &[u8], packet: &mut PacketFields, frame: &mut [u8; 513]
     ensures frame { IfOk (reading_packet octets.now) (ShowsFrame frame.old frame.new) }
     ensures unwritten { IfErr (reading_packet octets.now) (λ fault. frame.new ≡ frame.old) }
 {
-    match read_packet(octets) {
+    match packet_at(octets) {
         Ok(Packet::DataPacket(data)) => {
             put_data(&data, packet);
             data.frame_into(frame);
@@ -127,7 +128,7 @@ pub fn read_data(octets: &[u8], packet: &mut PacketFields, frame: &mut [u8; 513]
             packet.kind = 3;
             DONE
         }
-        Err(fault) => u32::from(fault.number()),
+        Err(status) => status,
     }
 }
 

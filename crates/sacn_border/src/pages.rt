@@ -10,9 +10,10 @@ ghost use Rattle.sacn_border.specs.Rooms.{room_status, room_with};
 ghost use Rattle.sacn_border.specs.declared.status.TheConstants.{DONE, RANGE};
 
 use crate::packets::PacketFields;
+use crate::reading::packet_at;
 use crate::status::{DONE, LENGTH, RANGE};
 use sacn_discovery::{page_count, write_page};
-use sacn_framing::{Packet, PageView, read_packet};
+use sacn_framing::{Packet, PageView};
 
 /// Reads the universe numbers of a page as they came, to the front of a room, and tells how many there are. The status is the fault of octets
 /// that are no packet, `RANGE` where the packet is no page, and `LENGTH` where there is too little room.
@@ -21,10 +22,10 @@ pub fn read_universes(octets: &[u8], universes: &mut [u16], count: &mut usize) -
     ensures count { count.new ≡ universes_count count.old (reading_packet octets.now) }
     ensures room { universes.new ≡ universes_room universes.old (reading_packet octets.now) }
 {
-    match read_packet(octets) {
+    match packet_at(octets) {
         Ok(Packet::PagePacket(page)) => put_universes(&page, universes, count),
         Ok(_) => RANGE,
-        Err(fault) => u32::from(fault.number()),
+        Err(status) => status,
     }
 }
 

@@ -13,8 +13,9 @@ ghost use Rattle.sacn_border.specs.declared.status.TheConstants.{DONE, RANGE, WR
 
 use crate::held_value::Held;
 use crate::numbers::taken_number;
+use crate::reading::packet_at;
 use crate::status::{DONE, RANGE, WRONG_HANDLE};
-use sacn_framing::{Packet, read_packet};
+use sacn_framing::Packet;
 use sacn_slots::Levels;
 use sacn_sources::{HeldView, SourceTable, TableFault};
 use std::alloc::Global;
@@ -42,7 +43,7 @@ fn take_into(table: &mut SourceTable, now: u64, octets: &[u8], taken: &mut u8) -
     ensures taken { taken.new ≡ source_number now (reading_packet octets.now) table.old }
     ensures table { table.new ≡ after_reading now (reading_packet octets.now) table.old }
 {
-    match read_packet(octets) {
+    match packet_at(octets) {
         Ok(Packet::DataPacket(packet)) => {
             *taken = taken_number(table.take(now, &packet));
             DONE
@@ -55,9 +56,9 @@ fn take_into(table: &mut SourceTable, now: u64, octets: &[u8], taken: &mut u8) -
             *taken = 9;
             DONE
         }
-        Err(fault) => {
+        Err(status) => {
             *taken = 0;
-            u32::from(fault.number())
+            status
         }
     }
 }
