@@ -15,7 +15,8 @@ use Rattle.sacn_console.specs.declared.limits.TheConstants.{TERMINATIONS}
 use Rattle.sacn_console.proofs.Frames.{settled}
 use Rattle.sacn_console.specs.Lines.{Page, Packet, Paged, Gave, Accepted, line_in, is_stopped, line_sent, line_after}
 use Rattle.sacn_universe.specs.Universe.{Rising}
-use Rattle.sacn_console.specs.Core.{Core, CoreOk, taken, answer, is_of, end_answer, start_answer, universes_of, packet_with, packet_of, packet_at, packet_text, line_at, no_line, standing, after, over, size}
+use Rattle.sacn_console.specs.Core.{Core, CoreOk, taken, answer, is_of, end_answer, start_answer, universes_of, packet_with, packet_of, packet_at, packet_text, line_at, no_line, standing, after, over, size, due_datagram}
+use Rattle.sacn_console.specs.declared.console.DueDatagram.{DueDatagram}
 use Rattle.sacn_console.specs.declared.line.Begun.{Begun}
 use Rattle.sacn_console.specs.declared.sender.Sender.{Sender}
 use Rattle.sacn_console.specs.declared.line.UniverseLine.{UniverseLine}
@@ -190,6 +191,15 @@ packet_over v c i x f out new e lt is fe ne =
     let n2 : new ≡ packet_text (packet_with v.sender x (frame v.lights x.universe v.moment)) ++ drop 638 out = rw (← fe) ne in
     let n3 : new ≡ packet_text (packet_at v i) ++ drop (size (Packet (packet_at v i))) out = rw (packet_len v.sender v.lights v.moment (line_at v i), ← here) n2 in
     rw (← e) n3
+
+pub packet_told : (v c : Core) (i : ℕ) (x : UniverseLine) (len : ℕ) → v ≡ c → i < length c.lines → x ≡ slice_index_or v.lines i x → len ≡ 638 → ◌≡◌ {A = DueDatagram} (record { len = len; universe = Some x.universe }) (due_datagram (Packet (packet_at c i)))
+unfolding packet_with
+packet_told v c i x len e lt is l =
+    let lt2 : i < length v.lines = rw e lt in
+    let here : x ≡ line_at v i = get_or_read v.lines i x lt2 is no_line in
+    let its : x.universe ≡ (line_at c i).universe = ap (λ (y : UniverseLine). y.universe) here ∙ ap (λ (k : Core). (line_at k i).universe) e in
+    let long : len ≡ size (Packet (packet_at c i)) = l ∙ sym (packet_len c.sender c.lights c.moment (line_at c i)) in
+    λ j. record { len = long j; universe = Some (its j) }
 
 -- ---- commands
 

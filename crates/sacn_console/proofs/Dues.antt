@@ -1,8 +1,10 @@
 -- Which datagram is due, by cases.
-use Rattle.std.proofs.Common.{◌≡◌, ℕ, ◌+◌, ◌-◌, ◌/◌, ◌<◌, ◌≤◌, true, false, ◌==◌, List, length, slice_index_or, find, Option, Some, None, MatchOption, is_some, min, max, suc, zero, refl, arith, nat_lt, nat_le}
+use Rattle.std.proofs.Common.{◌≡◌, ℕ, ◌+◌, ◌-◌, ◌/◌, ◌<◌, ◌≤◌, true, false, ◌==◌, List, length, slice_index_or, find, Option, Some, None, MatchOption, is_some, min, max, suc, zero, refl, ap, arith, nat_lt, nat_le}
 use Rattle.std.specs.Option.{option_map}
-use Rattle.sacn_console.specs.Lines.{Packet, Paged, line_due}
-use Rattle.sacn_console.specs.Core.{Core, at, is_of, packet_at, line_at, no_line, line_found, page_due, standing, due}
+use Rattle.std.proofs.lemmas.Option.{same_Some}
+use Rattle.sacn_console.specs.Lines.{Datagram, Page, Packet, Paged, line_due}
+use Rattle.sacn_console.specs.Core.{Core, at, is_of, packet_at, line_at, no_line, line_found, page_due, standing, due, size, due_datagram, page_of_len}
+use Rattle.sacn_console.specs.declared.console.DueDatagram.{DueDatagram}
 use Rattle.sacn_console.specs.Lights.{Lights, frame}
 use Rattle.sacn_discovery.specs.Pages.{page_count}
 use Rattle.sacn_console.specs.Wakes.{last_moment}
@@ -136,3 +138,17 @@ comes_later m b w last lt e = omega (arith, lt, e)
 
 pub pages_ahead : (v c : Core) (w : ℕ) (b : Begun) → v ≡ c → v.moment - b.moment < DISCOVERY_INTERVAL → w ≡ min (b.moment + DISCOVERY_INTERVAL) last_moment → min (c.moment + 1) last_moment ≤ w
 pages_ahead v c w b e lt we = rw (← e) (comes_later v.moment b.moment w last_moment lt we)
+
+-- ---- what is said of a datagram
+
+pub len_told : (o : Option Datagram) (t : DueDatagram) → Some t ≡ option_map due_datagram o → Some t.len ≡ option_map size o
+len_told None t e = absurd (cc)
+len_told (Some d) t e = ap (λ (s : DueDatagram). Some s.len) (same_Some t (due_datagram d) e)
+
+pub none_told : (o : Option Datagram) → None ≡ option_map due_datagram o → None ≡ option_map size o
+none_told None e = refl
+none_told (Some d) e = absurd (cc)
+
+pub page_told : (o : Option Page) → option_map page_of_len (option_map size (option_map Paged o)) ≡ option_map due_datagram (option_map Paged o)
+page_told None = refl
+page_told (Some p) = refl

@@ -13,6 +13,7 @@ use Rattle.sacn_console.specs.Lights.{Lights, frame, lights_at, player_command, 
 use Rattle.sacn_universe.specs.Universe.{IsUniverse, IsPriority, Rising}
 use Rattle.sacn_console.specs.declared.limits.TheConstants.{CONSOLE_UNIVERSES, DISCOVERY_INTERVAL}
 use Rattle.sacn_console.specs.Lines.{Page, Datagram, Packet, Paged, Deed, Accepted, Gave, line_due, line_after, is_ending, is_stopped}
+use Rattle.sacn_console.specs.declared.console.DueDatagram.{DueDatagram}
 use Rattle.sacn_console.specs.declared.sender.Sender.{Sender}
 use Rattle.sacn_console.specs.declared.command.Command.{Command}
 use Rattle.sacn_console.specs.declared.command.Command.TheVariants.{EndUniverse, StartUniverse}
@@ -45,6 +46,19 @@ text sender (Paged p) = page_text (page_of_list p.list p.page sender.cid sender.
 abbrev pub size : Datagram → ℕ
 size (Packet d) = 126 + length d.slots
 size (Paged p) = 120 + 2 * length (numbers_on p.list p.page)
+
+-- the universe of a data packet; a page has none
+abbrev pub universe_of : Datagram → Option ℕ
+universe_of (Packet d) = Some d.universe
+universe_of (Paged p) = None
+
+-- what is said of a datagram beside its octets
+abbrev pub due_datagram : Datagram → DueDatagram
+due_datagram d = record { len = size d; universe = universe_of d }
+
+-- what is said of a page of so many octets
+abbrev pub page_of_len : ℕ → DueDatagram
+page_of_len len = record { len = len; universe = None }
 
 -- the octets after a poll: the datagram at the front, the others as they were
 abbrev pub over : Sender → Option Datagram → List ℕ → List ℕ

@@ -36,6 +36,13 @@ pub struct ConsoleCore {
     moment: u64,
 }
 
+/// A datagram that was due: its octets' number, 120 to 1144, and its universe, 1 to 63999; None for a discovery page.
+#[derive(Clone, Copy)]
+pub struct DueDatagram {
+    pub len: usize,
+    pub universe: Option<u16>,
+}
+
 impl Model for ConsoleCore {
     ghost use Rattle.sacn_console.specs.Core.{Core};
     ghost use Rattle.sacn_console.specs.Wakes.{Sound};
@@ -62,7 +69,7 @@ impl ConsoleCore {
     ghost use Rattle.sacn_console.specs.Due.{life_of};
     ghost use Rattle.sacn_console.specs.Runs.{core_by};
     ghost use Rattle.sacn_universe.specs.Universe.{Rising};
-    ghost use Rattle.sacn_console.specs.Core.{Core, universes_of, taken, is_of, end_answer, start_answer, line_found, line_at, packet_at, page_due, standing, due, IsLawful, at, after, after_poll, after_command, given, answer, over, size, text};
+    ghost use Rattle.sacn_console.specs.Core.{Core, universes_of, taken, is_of, end_answer, start_answer, line_found, line_at, packet_at, page_due, standing, due, due_datagram, IsLawful, at, after, after_poll, after_command, given, answer, over, size, text};
     ghost use Rattle.sacn_console.specs.Lines.{line_in, Datagram, Packet, Paged, Gave, Accepted, Page};
     ghost use Rattle.sacn_console.specs.declared.line.UniverseLine.{UniverseLine as KeptLine};
     ghost use Rattle.sacn_console.specs.declared.show.fault.ShowFault.TheVariants.{OutOfMemory};
@@ -97,6 +104,24 @@ impl ConsoleCore {
     /// as they were.
     pub fn poll(&mut self, now: u64, out: &mut [u8; MAX_DATAGRAM]) -> Option<usize>
         ensures answer { result ≡ option_map size (due (at now self.old)) }
+        ensures octets { out.new ≡ over self.old.sender (due (at now self.old)) out.old }
+        ensures core { self.new ≡ after_poll now self.old }
+        ensures lawful { (d : Datagram) → due (at now self.old) ≡ Some d
+            → IsLawful self.old.sender d }
+    {
+        match self.poll_with_universe(now, out) {
+            Some(given) => Some(given.len),
+            None => None,
+        }
+    }
+
+    /// Does what `poll` does, and says of which universe the datagram is.
+    pub fn poll_with_universe(
+        &mut self,
+        now: u64,
+        out: &mut [u8; MAX_DATAGRAM],
+    ) -> Option<DueDatagram>
+        ensures answer { result ≡ option_map due_datagram (due (at now self.old)) }
         ensures octets { out.new ≡ over self.old.sender (due (at now self.old)) out.old }
         ensures core { self.new ≡ after_poll now self.old }
         ensures lawful { (d : Datagram) → due (at now self.old) ≡ Some d

@@ -13,7 +13,7 @@ mod show;
 mod waking;
 
 pub use command::{Command, ConsoleFault};
-pub use console::ConsoleCore;
+pub use console::{ConsoleCore, DueDatagram};
 pub use limits::CONSOLE_UNIVERSES;
 pub use line::{Begun, Look, Run, State, UniverseLine};
 pub use sacn_files::faults::TextFault;

@@ -1,8 +1,9 @@
 //! What a console gives, and when it next has to.
 ghost use Rattle.std.specs.Prelude.{◌≡◌, ◌<◌, ◌≤◌, ◌++◌, length, drop};
-ghost use Rattle.sacn_console.specs.Core.{packet_text, packet_with};
+ghost use Rattle.std.specs.Option.{option_map};
+ghost use Rattle.sacn_console.specs.Core.{packet_text, packet_with, page_of_len};
 
-use super::ConsoleCore;
+use super::{ConsoleCore, DueDatagram};
 use crate::limits::{DISCOVERY_INTERVAL, MAX_DATAGRAM};
 use crate::line::{Begun, UniverseLine};
 use crate::lines::{first_due, list_standing};
@@ -19,7 +20,7 @@ impl ConsoleCore {
     ghost use Rattle.sacn_discovery.specs.Pages.{page_count as pages_of};
     ghost use Rattle.sacn_console.specs.Wakes.{last_moment};
     ghost use Rattle.sacn_console.specs.Lights.{frame};
-    ghost use Rattle.sacn_console.specs.Core.{line_found, line_at, packet_at, page_due, standing, due, at, after, given, over, size};
+    ghost use Rattle.sacn_console.specs.Core.{line_found, line_at, packet_at, page_due, standing, due, due_datagram, at, after, given, over, size};
     ghost use Rattle.sacn_console.specs.Lines.{Packet, Paged, Gave};
 
     /// The first moment at which something can be due as long as no command comes: 0 where something
@@ -86,18 +87,18 @@ impl ConsoleCore {
     }
 
     // Gives the datagram that is due at the moment in use.
-    pub(super) fn give(&mut self, out: &mut [u8; MAX_DATAGRAM]) -> Option<usize>
-        ensures answer { result ≡ option_map size (due self.old) }
+    pub(super) fn give(&mut self, out: &mut [u8; MAX_DATAGRAM]) -> Option<DueDatagram>
+        ensures answer { result ≡ option_map due_datagram (due self.old) }
         ensures octets { out.new ≡ over self.old.sender (due self.old) out.old }
         ensures core { self.new ≡ given (due self.old) self.old }
     {
         if self.moment < self.wakes.least() {
-            return self.give_page(out);
+            return page_of_len(self.give_page(out));
         }
         let mut slots = [0; SLOTS];
         match self.due_place(&mut slots) {
             Some(place) => Some(self.give_packet(place, &slots, out)),
-            None => self.give_page(out),
+            None => page_of_len(self.give_page(out)),
         }
     }
 
@@ -129,11 +130,11 @@ impl ConsoleCore {
         place: usize,
         slots: &[u8; SLOTS],
         out: &mut [u8; MAX_DATAGRAM],
-    ) -> usize
+    ) -> DueDatagram
         requires there { place < length self.old.lines }
         requires frame { slots.now
             ≡ frame self.old.lights (line_at self.old place).universe self.old.moment }
-        ensures answer { result ≡ size (Packet (packet_at self.old place)) }
+        ensures answer { result ≡ due_datagram (Packet (packet_at self.old place)) }
         ensures octets { out.new
             ≡ over self.old.sender (Some (Packet (packet_at self.old place))) out.old }
         ensures core { self.new
@@ -141,12 +142,16 @@ impl ConsoleCore {
     {
         let moment = self.moment;
         let line = &mut self.lines[place];
+        let universe = line.universe;
         let len = write_packet(&self.sender, line, slots, out);
         line.note_packet(moment, slots);
         let wake = line.wake_sent(self.player.is_still());
         self.wakes.put(place, wake);
         self.wakes.pass(place);
-        len
+        DueDatagram {
+            len,
+            universe: Some(universe),
+        }
     }
 
     // The next page of the cycle, or the first of a new one.
@@ -224,6 +229,19 @@ impl ConsoleCore {
             &self.sender.name,
             out,
         )
+    }
+}
+
+// The page of so many octets, if there is one.
+fn page_of_len(len: Option<usize>) -> Option<DueDatagram>
+    ensures { result ≡ option_map page_of_len len }
+{
+    match len {
+        Some(len) => Some(DueDatagram {
+            len,
+            universe: None,
+        }),
+        None => None,
     }
 }
 

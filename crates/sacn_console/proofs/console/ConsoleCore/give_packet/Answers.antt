@@ -1,8 +1,6 @@
-use Rattle.std.proofs.Common.{sym, ◌∙◌}
-use Rattle.sacn_console.specs.Core.{line_at}
 use Rattle.sacn_console.proofs.WakeLists.{wakes_sent, place_in}
 use Rattle.sacn_console.proofs.Wakes.{sent_wakes}
-use Rattle.sacn_console.proofs.Changes.{core_given, ok_given, universe_ok, packet_len, packet_over, frame_read}
+use Rattle.sacn_console.proofs.Changes.{core_given, ok_given, universe_ok, packet_told, packet_over, frame_read}
 use Rattle.sacn_console.proofs.console.ConsoleCore.give_packet.Goals as goal
 
 pub write_packet-len-requires-clause-least : goal.write_packet-len-requires-clause-least
@@ -19,7 +17,7 @@ invariant_of-self c = record {
 }
 
 pub returns-clause-answer : goal.returns-clause-answer
-returns-clause-answer c = c.write_packet-len.ensures.len ∙ sym (packet_len c.args.self.now.sender c.args.self.now.lights c.args.self.now.moment (line_at c.args.self.now c.args.place))
+returns-clause-answer c = packet_told _ _ c.args.place _ _ c.self.view_is c.requires.there c.index_mut-line.ensures.value c.write_packet-len.ensures.len
 
 pub returns-clause-octets : goal.returns-clause-octets
 returns-clause-octets c =
