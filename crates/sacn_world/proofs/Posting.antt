@@ -15,6 +15,7 @@ use Rattle.sacn_framing.specs.declared.packet.Packet.TheVariants.{DataPacket, Pa
 use Rattle.sacn_discovery.specs.Pages.{page_of_list}
 use Rattle.sacn_sources.specs.Order.{same}
 use Rattle.sacn_console.specs.declared.sender.Sender.{Sender}
+use Rattle.sacn_console.specs.declared.console.DueDatagram.{DueDatagram}
 use Rattle.sacn_console.specs.Lines as line
 use Rattle.sacn_console.specs.Core as console
 use Rattle.sacn_world.specs.declared.answer.Answer.TheVariants as answered
@@ -66,6 +67,16 @@ poll_read data' page' sender d out old ok lo ll e =
     let t : take (console.size d) out ≡ text = ap (take (console.size d)) e ∙ take_at text (drop (console.size d) old) (console.size d) len in
     ap reading_packet (t ∙ sym (append-nil text)) ∙ text_read data' page' sender d ok
 
+-- the universe of a data packet; what is none has none
+abbrev universe_in : Packet → Option ℕ
+universe_in (DataPacket d) = Some d.universe
+universe_in (PagePacket p) = None
+universe_in SyncPacket = None
+
+universe_said : (sender : Sender) (d : line.Datagram) → console.universe_of d ≡ universe_in (said_by sender d)
+universe_said sender (line.Packet d) = refl
+universe_said sender (line.Paged p) = refl
+
 -- ---- what a world keeps, with a datagram more
 
 pub filed_is : (s : List ℕ) (u : ℕ) (f : SentDatagram) (sent : List Sent) (k : ℕ) → (p : Packet) → (seen_sent f).packet ≡ p → f.stream ≡ stream_in sent k f.source p → is_filed s u f ≡ is_of s u (seen_sent f)
@@ -99,14 +110,14 @@ module _ (cs : List Console) (fs : List SentDatagram) (ws : List Watch) (keeps :
   stream_stays k g e (PagePacket p) = refl
   stream_stays k g e SyncPacket = refl
 
-  stream_new : (s : List ℕ) (p : Packet) → stream_next fs s p ≡ stream_in (sent ++ x ∷ []) (length fs) s p
+  stream_new : (s : List ℕ) (p : Packet) → stream_next fs s (universe_in p) ≡ stream_in (sent ++ x ∷ []) (length fs) s p
   stream_new s (DataPacket d) =
       let len : length fs ≡ length sent = sym (length-map fs seen_sent) in
       ap (λ q. Some (record { universe = d.universe; place = q })) (counted s d.universe ∙ sym (next_place s d.universe sent x) ∙ ap (λ n. place_of s d.universe n (sent ++ x ∷ [])) (sym len))
   stream_new s (PagePacket p) = refl
   stream_new s SyncPacket = refl
 
-  datagram_ok : (sent' : List Sent) → sent' ≡ sent ++ x ∷ [] → reading_packet f.octets.items ≡ Ok x.packet → f.stream ≡ stream_next fs f.source x.packet → (k : ℕ) (g : SentDatagram) → slice_get (fs ++ f ∷ []) k ≡ Some g → DatagramOk sent' k g
+  datagram_ok : (sent' : List Sent) → sent' ≡ sent ++ x ∷ [] → reading_packet f.octets.items ≡ Ok x.packet → f.stream ≡ stream_next fs f.source (universe_in x.packet) → (k : ℕ) (g : SentDatagram) → slice_get (fs ++ f ∷ []) k ≡ Some g → DatagramOk sent' k g
   datagram_ok sent' es read at' k g e = subst (λ ss. DatagramOk ss k g) (sym es) (elim (pushed_cases fs k f g e) [
     | inl h ↦ let d = keeps.datagrams k g h in record { read = d.read; stream = d.stream ∙ stream_stays k g h (seen_sent g).packet }
     | inr h ↦ subst (λ (y : SentDatagram). DatagramOk (sent ++ x ∷ []) k y) (sym h.1) (record { read = read; stream = at' ∙ stream_new f.source x.packet ∙ ap (λ n. stream_in (sent ++ x ∷ []) n f.source x.packet) (sym h.0) })
@@ -146,7 +157,7 @@ module _ (cs : List Console) (fs : List SentDatagram) (ws : List Watch) (keeps :
   idle_done e core ek =
       console_done cs fs ws keeps v is (Poll i m) answered.Idle i (with_core c core) (poll_step_is None e ∙ (λ j. Ok (record { answer = answered.Idle; world = with_console w i (with_core c (sym ek j)) })))
 
-  pub sent_done : (d : line.Datagram) → console.due (console.at m c.core) ≡ Some d → (core : console.Core) → core ≡ console.after_poll m c.core → (f : SentDatagram) → f.source ≡ c.show.cid → f.life ≡ c.life → f.first ≡ c.first → reading_packet f.octets.items ≡ Ok (said_by c.core.sender d) → f.stream ≡ stream_next fs f.source (said (reading_packet f.octets.items)) → Done v (Poll i m) (answered.Sent (length fs)) (slice_set cs i (with_core c core)) (fs ++ f ∷ []) ws
+  pub sent_done : (d : line.Datagram) → console.due (console.at m c.core) ≡ Some d → (core : console.Core) → core ≡ console.after_poll m c.core → (f : SentDatagram) → f.source ≡ c.show.cid → f.life ≡ c.life → f.first ≡ c.first → reading_packet f.octets.items ≡ Ok (said_by c.core.sender d) → f.stream ≡ stream_next fs f.source (console.universe_of d) → Done v (Poll i m) (answered.Sent (length fs)) (slice_set cs i (with_core c core)) (fs ++ f ∷ []) ws
   sent_done d e core ek f es el ef read at' =
       let said' : (seen_sent f).packet ≡ said_by c.core.sender d = ap said read in
       let fx : seen_sent f ≡ sent_by c d = λ j. record { source = es j; life = el j; first = ef j; packet = said' j } in
@@ -155,11 +166,12 @@ module _ (cs : List Console) (fs : List SentDatagram) (ws : List Watch) (keeps :
       let h : step w (Poll i m) ≡ Ok (record { answer = answered.Sent (length fs); world = seen_world (slice_set cs i (with_core c core)) (fs ++ f ∷ []) ws }) =
       poll_step_is (Some d) e ∙ (λ j. Ok (record { answer = answered.Sent (len j); world = record { consoles = slice_set cs i (with_core c (sym ek j)); sent = sym all j; nodes = map node_by_places ws } })) in
       let read' : reading_packet f.octets.items ≡ Ok (seen_sent f).packet = read ∙ ap Ok (sym said') in
+      let next : f.stream ≡ stream_next fs f.source (universe_in (seen_sent f).packet) = at' ∙ ap (stream_next fs f.source) (universe_said c.core.sender d ∙ ap universe_in (sym said')) in
       record {
         step = turned cs fs ws keeps v is (Poll i m) _ h;
         kept = record {
           ok = ok_after cs fs ws keeps v is (Poll i m) _ h;
-          datagrams = datagram_ok cs fs ws keeps f (map seen_sent (fs ++ f ∷ [])) (pushed cs fs ws keeps f) read' at';
+          datagrams = datagram_ok cs fs ws keeps f (map seen_sent (fs ++ f ∷ [])) (pushed cs fs ws keeps f) read' next;
           nodes = subst (λ ss. AllByRecursion (WatchOk ss) ws) (sym (pushed cs fs ws keeps f)) (watches_kept cs fs ws keeps f ws keeps.ok.nodes keeps.nodes);
         };
       }
@@ -171,25 +183,26 @@ pub idle_as : {v : World} {e : Event} {cs : List Console} {ws : List Watch} {fs 
 idle_as {v = v} {e = e} {cs = cs} {ws = ws} d ef = subst (λ hs. Done v e answered.Idle cs hs ws) ef d
 
 -- nothing was due
-pub none_due : (o : Option line.Datagram) → option_map console.size o ≡ None → o ≡ None
+pub none_due : (o : Option line.Datagram) → option_map console.due_datagram o ≡ None → o ≡ None
 none_due None e = refl
 none_due (Some d) e = absurd (cc)
 
-pub due_fits : (sender : Sender) (o : Option line.Datagram) (len : ℕ) → option_map console.size o ≡ Some len → ((d : line.Datagram) → o ≡ Some d → console.IsLawful sender d) → len ≤ 1144
-due_fits sender o len e lawful =
-    let d = mapped console.size o len e in
+pub due_fits : (sender : Sender) (o : Option line.Datagram) (given : DueDatagram) → option_map console.due_datagram o ≡ Some given → ((d : line.Datagram) → o ≡ Some d → console.IsLawful sender d) → given.len ≤ 1144
+due_fits sender o given e lawful =
+    let d = mapped console.due_datagram o given e in
     let f = fits_buffer sender d.0 (lawful d.0 d.1) in
-    omega (arith, f, d.2)
+    let long : console.size d.0 ≡ given.len = ap (λ (g : DueDatagram). g.len) d.2 in
+    omega (arith, f, long)
 
 -- what was due is sent
-pub posted_done : WrittenIsRead → WrittenPageIsRead → (cs : List Console) (fs : List SentDatagram) (ws : List Watch) → Kept cs fs ws → (v : World) → seen_world cs fs ws ≡ v → (i m : ℕ) (c : Console) → slice_get cs i ≡ Some c → (len : ℕ) (out old : List ℕ) (core : console.Core) (z : Console) (octets : Vec ℕ Global) (f : SentDatagram) → option_map console.size (console.due (console.at m c.core)) ≡ Some len → out ≡ console.over c.core.sender (console.due (console.at m c.core)) old → ((d : line.Datagram) → console.due (console.at m c.core) ≡ Some d → console.IsLawful c.core.sender d) → length out ≡ 1144 → length old ≡ 1144 → core ≡ console.after_poll m c.core → octets.items ≡ take len out → slice_get (slice_set cs i (with_core c core)) i ≡ Some z → f ≡ sent_datagram z fs octets → Done v (Poll i m) (answered.Sent (length fs)) (slice_set cs i (with_core c core)) (fs ++ f ∷ []) ws
-posted_done data' page' cs fs ws keeps v is i m c ec len out old core z octets f el eo lawful lo ll ek eoct ez ef =
+pub posted_done : WrittenIsRead → WrittenPageIsRead → (cs : List Console) (fs : List SentDatagram) (ws : List Watch) → Kept cs fs ws → (v : World) → seen_world cs fs ws ≡ v → (i m : ℕ) (c : Console) → slice_get cs i ≡ Some c → (given : DueDatagram) (out old : List ℕ) (core : console.Core) (z : Console) (octets : Vec ℕ Global) (f : SentDatagram) → option_map console.due_datagram (console.due (console.at m c.core)) ≡ Some given → out ≡ console.over c.core.sender (console.due (console.at m c.core)) old → ((d : line.Datagram) → console.due (console.at m c.core) ≡ Some d → console.IsLawful c.core.sender d) → length out ≡ 1144 → length old ≡ 1144 → core ≡ console.after_poll m c.core → octets.items ≡ take given.len out → slice_get (slice_set cs i (with_core c core)) i ≡ Some z → f ≡ sent_datagram z fs given.universe octets → Done v (Poll i m) (answered.Sent (length fs)) (slice_set cs i (with_core c core)) (fs ++ f ∷ []) ws
+posted_done data' page' cs fs ws keeps v is i m c ec given out old core z octets f el eo lawful lo ll ek eoct ez ef =
     let o = console.due (console.at m c.core) in
-    let d = mapped console.size o len el in
+    let d = mapped console.due_datagram o given el in
     let eout : out ≡ console.text c.core.sender d.0 ++ drop (console.size d.0) old = eo ∙ ap (λ x. console.over c.core.sender x old) d.1 in
     let read : reading_packet octets.items ≡ Ok (said_by c.core.sender d.0) =
-    ap reading_packet (eoct ∙ ap (λ n. take n out) (sym d.2)) ∙ poll_read data' page' c.core.sender d.0 out old (lawful d.0 d.1) lo ll eout in
+    ap reading_packet (eoct ∙ ap (λ (g : DueDatagram). take g.len out) (sym d.2)) ∙ poll_read data' page' c.core.sender d.0 out old (lawful d.0 d.1) lo ll eout in
     let same' : with_core c core ≡ z = set_same cs i (with_core c core) z ez in
-    let fc : f ≡ sent_datagram c fs octets = ef ∙ ap (λ (y : Console). sent_datagram y fs octets) (sym same') in
+    let fc : f ≡ sent_datagram c fs given.universe octets = ef ∙ ap (λ (y : Console). sent_datagram y fs given.universe octets) (sym same') in
     subst (λ (g : SentDatagram). Done v (Poll i m) (answered.Sent (length fs)) (slice_set cs i (with_core c core)) (fs ++ g ∷ []) ws) (sym fc)
-    (sent_done cs fs ws keeps v is i m c ec d.0 d.1 core ek (sent_datagram c fs octets) refl refl refl read refl)
+    (sent_done cs fs ws keeps v is i m c ec d.0 d.1 core ek (sent_datagram c fs given.universe octets) refl refl refl read (ap (λ (g : DueDatagram). stream_next fs c.show.cid g.universe) (sym d.2)))

@@ -64,18 +64,17 @@ abbrev pub AreFiled : List SentDatagram → Type 0
 AreFiled fs = (k : ℕ) (f : SentDatagram) (i : InStream) → slice_get fs k ≡ Some f → f.stream ≡ Some i →
     i.place ≡ count_by (is_filed f.source i.universe) (take k fs)
 
--- where octets of the source s that are sent next stand
-abbrev pub stream_next : List SentDatagram → List ℕ → Packet → Option InStream
-stream_next fs s (DataPacket d) = Some (record { universe = d.universe; place = count_by (is_filed s d.universe) fs })
-stream_next fs s (PagePacket p) = None
-stream_next fs s SyncPacket = None
+-- where a datagram of the source s that is sent next stands: a data packet of a universe, or a page
+abbrev pub stream_next : List SentDatagram → List ℕ → Option ℕ → Option InStream
+stream_next fs s (Some u) = Some (record { universe = u; place = count_by (is_filed s u) fs })
+stream_next fs s None = None
 
 -- octets of a console as a datagram that is sent next
-abbrev pub sent_datagram : Console → List SentDatagram → Vec ℕ Global → SentDatagram
-sent_datagram c fs octets = record {
+abbrev pub sent_datagram : Console → List SentDatagram → Option ℕ → Vec ℕ Global → SentDatagram
+sent_datagram c fs universe octets = record {
   source = c.show.cid;
   life = c.life;
   first = c.first;
-  stream = stream_next fs c.show.cid (said (reading_packet octets.items));
+  stream = stream_next fs c.show.cid universe;
   octets = octets;
 }

@@ -50,13 +50,18 @@ impl Console {
         Ok(())
     }
 
-    /// These octets as a datagram of this console, which is sent next.
-    pub(crate) fn sent_datagram(&self, sent: &[SentDatagram], octets: Vec<u8>) -> SentDatagram
+    /// These octets as a datagram of this console, which is sent next; of a data packet with its universe.
+    pub(crate) fn sent_datagram(
+        &self,
+        sent: &[SentDatagram],
+        universe: Option<u16>,
+        octets: Vec<u8>,
+    ) -> SentDatagram
         requires filed { AreFiled sent.now }
-        ensures { result ≡ sent_datagram self.now sent.now octets }
+        ensures { result ≡ sent_datagram self.now sent.now universe octets }
     {
         let source = self.show.cid();
-        let stream = stream_next(sent, &source, octets.as_slice());
+        let stream = stream_next(sent, &source, universe);
         SentDatagram {
             source,
             life: self.life,

@@ -1,14 +1,12 @@
 //! A datagram that was sent.
 
 ghost use Rattle.std.specs.Prelude.{◌≡◌, ◌≤◌, ◌<◌, Some, None, count_by};
-ghost use Rattle.sacn_framing.specs.PacketReading.{reading_packet};
-ghost use Rattle.sacn_world.specs.Wire.{came_of, refusal_by, said, is_filed, place_in, AreFiled, stream_next};
+ghost use Rattle.sacn_world.specs.Wire.{came_of, refusal_by, is_filed, place_in, AreFiled, stream_next};
 ghost use Rattle.sacn_world.specs.Watches.{Watch};
 
 use crate::fault::WorldFault;
 use crate::mark::{Mark, is_same};
 use crate::world_node::WorldNode;
-use sacn_framing::{Packet, read_packet};
 
 /// The stream's universe, and the place in it.
 #[derive(Clone, Copy)]
@@ -77,23 +75,22 @@ impl SentDatagram {
     }
 }
 
-/// Where octets of this source that are sent next stand: a data packet in its stream, right after those that were sent there.
+/// Where a datagram of this source that is sent next stands: a data packet of a universe in its stream, right after those that were
+/// sent there; a page in none.
 pub(crate) fn stream_next(
     sent: &[SentDatagram],
     source: &[u8; 16],
-    octets: &[u8],
+    universe: Option<u16>,
 ) -> Option<InStream>
     requires filed { AreFiled sent.now }
-    ensures { result ≡ stream_next sent.now source.now (said (reading_packet octets.now)) }
+    ensures { result ≡ stream_next sent.now source.now universe }
 {
-    match read_packet(octets) {
-        Ok(Packet::DataPacket(packet)) => Some(InStream {
-            universe: packet.universe(),
-            place: count_filed(sent, source, packet.universe()),
+    match universe {
+        Some(universe) => Some(InStream {
+            universe,
+            place: count_filed(sent, source, universe),
         }),
-        Ok(Packet::PagePacket(_)) => None,
-        Ok(Packet::SyncPacket) => None,
-        Err(_) => None,
+        None => None,
     }
 }
 

@@ -176,12 +176,19 @@ impl World {
             return Err(WorldFault::OutOfMemory);
         };
         let mut out = [0; MAX_DATAGRAM];
-        let Some(len) = self.consoles[console].core.poll(now, &mut out) else {
+        let Some(given) = self.consoles[console]
+            .core
+            .poll_with_universe(now, &mut out)
+        else {
             return Ok(Answer::Idle);
         };
-        let octets = in_own_length(self.alloc, room, &out, len);
+        let octets = in_own_length(self.alloc, room, &out, given.len);
         let place = self.sent.len();
-        let datagram = self.consoles[console].sent_datagram(self.sent.as_slice(), octets);
+        let datagram = self.consoles[console].sent_datagram(
+            self.sent.as_slice(),
+            given.universe,
+            octets,
+        );
         self.sent.push_reserved(datagram);
         Ok(Answer::Sent(place))
     }

@@ -28,25 +28,25 @@ returns-in_default-reserve c =
       ap (λ fs. seen_world s.consoles.items fs s.nodes.items) c.in_default-reserve.ensures.items ∙ c.self.view_is,
     )
 
-pub invariant_of-self-in_default-poll : goal.invariant_of-self-in_default-poll
-invariant_of-self-in_default-poll c =
+pub invariant_of-self-in_default-poll_with_universe : goal.invariant_of-self-in_default-poll_with_universe
+invariant_of-self-in_default-poll_with_universe c =
     let s = c.self.inside in
     let y : Console = c.index_mut.result.now in
     let ey = slice_get_read s.consoles.items s.consoles.len c.args.console y (search rules) (omega arith) c.index_mut.ensures.value in
-    let none = none_due _ (sym c.in_default-poll.ensures.answer) in
-    (idle_as (idle_done s.consoles.items s.sent.items s.nodes.items c.self.invariant c.args.self.now c.self.view_is c.args.console c.args.now y ey none c.poll.new.self c.in_default-poll.ensures.core) (sym c.in-Ok-reserve.ensures.items)).kept
+    let none = none_due _ (sym c.in_default-poll_with_universe.ensures.answer) in
+    (idle_as (idle_done s.consoles.items s.sent.items s.nodes.items c.self.invariant c.args.self.now c.self.view_is c.args.console c.args.now y ey none c.poll_with_universe.new.self c.in_default-poll_with_universe.ensures.core) (sym c.in-Ok-reserve.ensures.items)).kept
 
-pub returns-in_default-poll : goal.returns-in_default-poll
-returns-in_default-poll c =
+pub returns-in_default-poll_with_universe : goal.returns-in_default-poll_with_universe
+returns-in_default-poll_with_universe c =
     let s = c.self.inside in
     let y : Console = c.index_mut.result.now in
     let ey = slice_get_read s.consoles.items s.consoles.len c.args.console y (search rules) (omega arith) c.index_mut.ensures.value in
-    let none = none_due _ (sym c.in_default-poll.ensures.answer) in
-    (idle_as (idle_done s.consoles.items s.sent.items s.nodes.items c.self.invariant c.args.self.now c.self.view_is c.args.console c.args.now y ey none c.poll.new.self c.in_default-poll.ensures.core) (sym c.in-Ok-reserve.ensures.items)).step
+    let none = none_due _ (sym c.in_default-poll_with_universe.ensures.answer) in
+    (idle_as (idle_done s.consoles.items s.sent.items s.nodes.items c.self.invariant c.args.self.now c.self.view_is c.args.console c.args.now y ey none c.poll_with_universe.new.self c.in_default-poll_with_universe.ensures.core) (sym c.in-Ok-reserve.ensures.items)).step
 
 pub in_own_length-octets-requires-clause-len : goal.in_own_length-octets-requires-clause-len
 in_own_length-octets-requires-clause-len c =
-    due_fits c.index_mut.result.now.core.sender _ c.in-Some.len (sym c.in-Some.ensures.answer) c.in-Some.ensures.lawful
+    due_fits c.index_mut.result.now.core.sender _ c.in-Some.given (sym c.in-Some.ensures.answer) c.in-Some.ensures.lawful
 
 pub invariant_of-self-2 : goal.invariant_of-self-2
 invariant_of-self-2 c =
@@ -56,8 +56,8 @@ invariant_of-self-2 c =
     let z : Console = c.index.result.now in
     let ez = slice_get_read _ s.consoles.len c.args.console z (search rules) (omega arith) c.index.ensures in
     let f : SentDatagram = c.sent_datagram-datagram.result in
-    let ef = c.sent_datagram-datagram.ensures ∙ ap (λ fs. Rattle.sacn_world.specs.Wire.sent_datagram z fs c.in_own_length-octets.result) (c.as_slice.ensures.value ∙ c.in-Ok-reserve.ensures.items) in
-    let d = posted_done c.written_is_read.ensures c.written_page_is_read.ensures s.consoles.items s.sent.items s.nodes.items c.self.invariant c.args.self.now c.self.view_is c.args.console c.args.now y ey c.in-Some.len c.poll.new.out _ c.poll.new.self z c.in_own_length-octets.result f (sym c.in-Some.ensures.answer) c.in-Some.ensures.octets c.in-Some.ensures.lawful (omega arith) refl c.in-Some.ensures.core c.in_own_length-octets.ensures ez ef in
+    let ef = c.sent_datagram-datagram.ensures ∙ ap (λ fs. Rattle.sacn_world.specs.Wire.sent_datagram z fs c.in-Some.given.universe c.in_own_length-octets.result) (c.as_slice.ensures.value ∙ c.in-Ok-reserve.ensures.items) in
+    let d = posted_done c.written_is_read.ensures c.written_page_is_read.ensures s.consoles.items s.sent.items s.nodes.items c.self.invariant c.args.self.now c.self.view_is c.args.console c.args.now y ey c.in-Some.given c.poll_with_universe.new.out _ c.poll_with_universe.new.self z c.in_own_length-octets.result f (sym c.in-Some.ensures.answer) c.in-Some.ensures.octets c.in-Some.ensures.lawful (omega arith) refl c.in-Some.ensures.core c.in_own_length-octets.ensures ez ef in
     (done_as d (sym (c.push_reserved.ensures.items ∙ ap (λ fs. fs ++ f ∷ []) c.in-Ok-reserve.ensures.items)) refl).kept
 
 pub returns : goal.returns
@@ -68,8 +68,8 @@ returns c =
     let z : Console = c.index.result.now in
     let ez = slice_get_read _ s.consoles.len c.args.console z (search rules) (omega arith) c.index.ensures in
     let f : SentDatagram = c.sent_datagram-datagram.result in
-    let ef = c.sent_datagram-datagram.ensures ∙ ap (λ fs. Rattle.sacn_world.specs.Wire.sent_datagram z fs c.in_own_length-octets.result) (c.as_slice.ensures.value ∙ c.in-Ok-reserve.ensures.items) in
-    let d = posted_done c.written_is_read.ensures c.written_page_is_read.ensures s.consoles.items s.sent.items s.nodes.items c.self.invariant c.args.self.now c.self.view_is c.args.console c.args.now y ey c.in-Some.len c.poll.new.out _ c.poll.new.self z c.in_own_length-octets.result f (sym c.in-Some.ensures.answer) c.in-Some.ensures.octets c.in-Some.ensures.lawful (omega arith) refl c.in-Some.ensures.core c.in_own_length-octets.ensures ez ef in
+    let ef = c.sent_datagram-datagram.ensures ∙ ap (λ fs. Rattle.sacn_world.specs.Wire.sent_datagram z fs c.in-Some.given.universe c.in_own_length-octets.result) (c.as_slice.ensures.value ∙ c.in-Ok-reserve.ensures.items) in
+    let d = posted_done c.written_is_read.ensures c.written_page_is_read.ensures s.consoles.items s.sent.items s.nodes.items c.self.invariant c.args.self.now c.self.view_is c.args.console c.args.now y ey c.in-Some.given c.poll_with_universe.new.out _ c.poll_with_universe.new.self z c.in_own_length-octets.result f (sym c.in-Some.ensures.answer) c.in-Some.ensures.octets c.in-Some.ensures.lawful (omega arith) refl c.in-Some.ensures.core c.in_own_length-octets.ensures ez ef in
     (done_as d (sym (c.push_reserved.ensures.items ∙ ap (λ fs. fs ++ f ∷ []) c.in-Ok-reserve.ensures.items)) (omega (arith, c.len-place.ensures, c.in-Ok-reserve.ensures.len))).step
 
 pub sent_datagram-datagram-requires : goal.sent_datagram-datagram-requires
