@@ -1,7 +1,6 @@
-//! Values at the edge: addresses in words, groups, an interface's packets, and lines that come in pieces.
-use crate::datagram::datagram_in;
+//! Values at the edge: addresses in words, an interface's packets, and lines that come in pieces.
 use crate::step::{Step, StepFault};
-use sacn_live::{Gathered, LineBuffer, destination_of, group_for, host_of, widget_packet};
+use sacn_live::{Gathered, LineBuffer, destination_of, host_of, widget_packet};
 use std::alloc::Global;
 
 /// A line that is being gathered.
@@ -33,13 +32,6 @@ impl Edges {
                 Ok(destination) => step.say(&destination.port()),
                 Err(fault) => step.say_name(&fault),
             },
-            "group" => {
-                let datagram = datagram_in(step)?;
-                match group_for(datagram.as_slice()) {
-                    Some(group) => step.say_octets(&group),
-                    None => step.say(&"none"),
-                }
-            }
             "widget" => {
                 let mut frame = [0; 513];
                 frame[1] = step.octet();

@@ -5,10 +5,12 @@ use crate::step::{Step, StepFault};
 use crate::tellers::{ListOrders, Tally};
 use sacn_console::{Command, ConsoleCore, read_script, read_show};
 use sacn_edge::memory::{Incoming as Bringing, ListClock, MemoryLink};
-use sacn_edge::{ConsoleReport, Link, WriterOut, run_console, run_node};
+use sacn_edge::{ConsoleReport, WriterOut, run_console, run_node};
 use sacn_live::memory::{Incoming, MemoryReceiver};
 use sacn_live::memory_device::MemoryDevice;
-use sacn_live::{DeviceFault, Interface, Octets4, Opening, Span, Took, run_desk, run_gateway};
+use sacn_live::{
+    DeskLink, DeviceFault, Interface, Octets4, Opening, Span, Took, run_desk, run_gateway,
+};
 use sacn_node::{NodeCore, read_node};
 use std::alloc::Global;
 use std::mem;
@@ -213,7 +215,7 @@ impl Loops {
     }
 
     /// Runs a desk over a link.
-    fn run<L: Link>(&mut self, step: &mut Step<'_>, link: &mut L) -> Result<(), StepFault> {
+    fn run<L: DeskLink>(&mut self, step: &mut Step<'_>, link: &mut L) -> Result<(), StepFault> {
         let readings = readings_in(step)?;
         let mut core = console_of(step)?;
         let list = mem::replace(&mut self.orders, Vec::new(step.alloc()));

@@ -6,12 +6,12 @@ use crate::network::tell;
 use sacn_check::{FileKind, kind_of};
 use sacn_console::limits::CONSOLE_UNIVERSES;
 use sacn_console::{Command, ConsoleCore, Show, read_script, read_show};
-use sacn_edge::{ConsoleReport, Link, WriterOut};
+use sacn_edge::{ConsoleReport, WriterOut};
 use sacn_framing::multicast_group;
 use sacn_live::limits::{MAX_ROUNDS, RECEIVE_ROOM};
 use sacn_live::{
-    DISCOVERY_UNIVERSE, DeskOrders, DeskSender, Destinations, Interface, Lines, Opening, Origin,
-    Outputs, Plan, RigClock, Span, UdpReceiver, Watch, Widget, guard_standard_descriptors,
+    DISCOVERY_UNIVERSE, DeskLink, DeskOrders, DeskSender, Destinations, Interface, Lines, Opening,
+    Origin, Outputs, Plan, RigClock, Span, UdpReceiver, Watch, Widget, guard_standard_descriptors,
     run_desk, run_gateway,
 };
 use sacn_node::{NodeCore, NodeSetup, read_node};
@@ -327,7 +327,7 @@ fn send_show<R: AllocGlobal + Net + Clock, O: Write, E: Write>(
 }
 
 // Runs a desk that opens each stream so that it is taken whatever came before.
-fn run_opened<R: Clock, L: Link + Drop, O: Write>(
+fn run_opened<R: Clock, L: DeskLink + Drop, O: Write>(
     alloc: Global,
     plan: Plan<'_>,
     clock: RigClock<'_, R>,
@@ -340,7 +340,7 @@ fn run_opened<R: Clock, L: Link + Drop, O: Write>(
 }
 
 // Runs a desk by this plan and standard input.
-fn run_orders<R: Clock, L: Link, O: Write>(
+fn run_orders<R: Clock, L: DeskLink, O: Write>(
     alloc: Global,
     plan: Plan<'_>,
     mut clock: RigClock<'_, R>,

@@ -11,3 +11,5 @@ mod FairEnds
 mod FairDesks
 mod Gone
 mod SendingLists
+mod Handing
+mod Copies

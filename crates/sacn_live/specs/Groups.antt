@@ -6,6 +6,18 @@ use Rattle.sacn_framing.specs.declared.packet.Packet.TheVariants.{DataPacket, Pa
 use Rattle.sacn_root.specs.declared.fault.PacketFault.{PacketFault}
 use Rattle.sacn_live.specs.declared.destinations.TheConstants.{DISCOVERY_UNIVERSE}
 
+-- what is told of a datagram that is read so: of a data packet its universe, of a page that it has none; of others nothing
+abbrev pub universe_read : Result Packet PacketFault → Option (Option ℕ)
+universe_read (Ok (DataPacket d)) = Some (Some d.universe)
+universe_read (Ok (PagePacket p)) = Some None
+universe_read (Ok SyncPacket) = None
+universe_read (Err fault) = None
+
+-- the group of a data packet of this universe, or of a page
+abbrev pub group_told : Option ℕ → List ℕ
+group_told (Some universe) = group_of universe
+group_told None = group_of DISCOVERY_UNIVERSE
+
 -- a data packet goes to the group of its universe, and a page to that of discovery
 abbrev pub destination_by : Result Packet PacketFault → Option (List ℕ)
 destination_by (Ok (DataPacket d)) = Some (group_of d.universe)

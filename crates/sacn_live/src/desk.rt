@@ -1,18 +1,21 @@
 //! The desk's loop.
-ghost use Rattle.std.specs.Prelude.{◌≡◌, ◌≤◌, ◌<◌, ◌+◌, ◌-◌, ◌^◌, ◌++◌, ◌∷◌, [], List, ℕ, Bool, length, None, is_ok, if◌then◌else◌};
-ghost use Rattle.sacn_console.specs.Core.{due, at, answer, after_command};
+ghost use Rattle.std.specs.Prelude.{◌≡◌, ◌≤◌, ◌<◌, ◌+◌, ◌-◌, ◌^◌, ◌++◌, ◌∷◌, [], List, ℕ, Bool, length, take, Some, None, is_ok, is_some, if◌then◌else◌};
+ghost use Rattle.sacn_framing.specs.PacketReading.{reading_packet};
+ghost use Rattle.sacn_console.specs.Core.{due, at, answer, after_command, after_poll};
 ghost use Rattle.sacn_console.specs.declared.command.Command.{Command as Order};
 ghost use Rattle.sacn_edge.specs.Additions.{Extends};
 ghost use Rattle.sacn_edge.specs.Hearings.{Hands};
-ghost use Rattle.sacn_edge.specs.ConsoleSends.{Handed, datagrams, sends_report};
+ghost use Rattle.sacn_edge.specs.ConsoleSends.{Handed, datagrams, handed_of, sends_report, sent_at};
+ghost use Rattle.sacn_live.specs.Groups.{universe_read};
 ghost use Rattle.sacn_live.specs.declared.limits.TheConstants.{IDLE_WAIT, MAX_POLLS, MAX_ROUNDS, MAX_ORDERS};
 ghost use Rattle.sacn_live.specs.DeskSends.{Round, Answered, ordered, polled, sends, given, asked_last, refusals, desk_after, desk_sends, desk_refusals, talk, readings, AreQuiet, IsRun};
 
+use crate::desk_link::DeskLink;
 use crate::limits::{IDLE_WAIT, MAX_ORDERS, MAX_POLLS};
 use crate::orders::Orders;
 use sacn_console::limits::MAX_DATAGRAM;
-use sacn_console::{Command, ConsoleCore};
-use sacn_edge::{Clock, ConsoleReport, Link, count_send, send};
+use sacn_console::{Command, ConsoleCore, DueDatagram};
+use sacn_edge::{Clock, ConsoleReport, count_send};
 
 /// Gives the core an order, and its answer to where the order came from. Returns how many were refused, 0 or 1.
 fn give<O: Orders>(orders: &mut O, core: &mut ConsoleCore, now: u64, command: Command) -> u64
@@ -44,8 +47,37 @@ fn order<O: Orders>(orders: &mut O, core: &mut ConsoleCore, now: u64) -> u64
     refused
 }
 
+/// Hands over the front of these octets.
+fn hand<L: DeskLink>(link: &mut L, octets: &[u8; MAX_DATAGRAM], given: DueDatagram) -> bool
+    requires len { given.len ≤ MAX_DATAGRAM }
+    requires read { universe_read (reading_packet (take given.len octets.now))
+        ≡ Some given.universe }
+    ensures { Hands (L.told link.old) (L.told link.new)
+        ((take given.len octets.now, result) ∷ []) }
+{
+    link.send_of(given.universe, &octets[..given.len])
+}
+
+/// Sends what is due, and returns whether the send succeeded; None where nothing is due.
+fn send<L: DeskLink>(
+    link: &mut L,
+    core: &mut ConsoleCore,
+    now: u64,
+    octets: &mut [u8; MAX_DATAGRAM],
+) -> Option<bool>
+    ensures due { is_some result ≡ is_some (due (at now core.old)) }
+    ensures link { Hands (L.told link.old) (L.told link.new)
+        (handed_of (sent_at now core.old) result) }
+    ensures core { core.new ≡ after_poll now core.old }
+{
+    match core.poll_with_universe(now, octets) {
+        Some(given) => Some(hand(link, octets, given)),
+        None => None,
+    }
+}
+
 /// Sends what is due at a reading, until nothing is. It polls at least once.
-fn send_due<L: Link>(
+fn send_due<L: DeskLink>(
     link: &mut L,
     core: &mut ConsoleCore,
     now: u64,
@@ -86,7 +118,7 @@ fn next_wait(core: &mut ConsoleCore, now: u64) -> u64
 /// more, or after so many rounds.
 ///
 /// The result counts the sends that succeeded, those that failed, and the orders that the core refused.
-pub fn run_desk<L: Link, C: Clock, O: Orders>(
+pub fn run_desk<L: DeskLink, C: Clock, O: Orders>(
     link: &mut L,
     clock: &mut C,
     orders: &mut O,

@@ -1,14 +1,17 @@
 //! A link over sockets to any hosts, or to the groups of universes.
-ghost use Rattle.std.specs.Prelude.{◌≡◌, ◌≤◌, ◌==◌, List, [], ◌∷◌, length};
+ghost use Rattle.std.specs.Prelude.{◌≡◌, ◌≤◌, ◌==◌, List, [], ◌∷◌, length, Some};
+ghost use Rattle.sacn_framing.specs.PacketReading.{reading_packet};
 ghost use Rattle.sacn_edge.specs.Additions.{Extends};
+ghost use Rattle.sacn_live.specs.Groups.{universe_read};
 ghost use Rattle.sacn_live.specs.Sendings.{Sending, sending, receivers, failures, AllCarry, IsSentTo};
 
 use crate::clock::RigClock;
-use crate::destinations::{Destinations, group_address, group_for};
+use crate::desk_link::DeskLink;
+use crate::destinations::{Destinations, group_address, group_of};
 use crate::notices::Notices;
 use crate::sockets::Sockets;
 use crate::udp_sockets::UdpSockets;
-use sacn_edge::{BUFFER_OCTETS, Clock, Link, Received};
+use sacn_edge::Clock;
 use std::alloc::Global;
 use std::io::{ErrorKind, Write};
 use std::net::{Ipv4Addr, Net, SocketAddrV4};
@@ -50,27 +53,26 @@ fn send_each<S: Sockets, E: Write + Drop>(
     failed
 }
 
-/// Sends a datagram where it goes. Returns how many sends failed.
+/// Sends a data packet of this universe, or, by None, a discovery page, where it goes. Returns how many sends failed.
 fn send_where<S: Sockets, E: Write + Drop>(
     sockets: &mut S,
     notices: &mut Notices<E>,
     destinations: &Destinations,
     now: u64,
+    universe: Option<u16>,
     datagram: &[u8],
 ) -> usize
+    requires { universe_read (reading_packet datagram.now) ≡ Some universe }
     ensures { (ss : List Sending) × Extends (S.told sockets.old) (S.told sockets.new) ss
         × IsSentTo destinations.now datagram.now (receivers ss)
         × AllCarry datagram.now ss × (result ≡ failures ss) }
 {
     match destinations {
         Destinations::Hosts(hosts) => send_each(sockets, notices, hosts.as_slice(), now, datagram),
-        Destinations::Groups => match group_for(datagram) {
-            Some(group) => {
-                let to = [group_address(group)];
-                send_each(sockets, notices, &to, now, datagram)
-            }
-            None => 0,
-        },
+        Destinations::Groups => {
+            let to = [group_address(group_of(universe))];
+            send_each(sockets, notices, &to, now, datagram)
+        }
     }
 }
 
@@ -92,7 +94,7 @@ pub struct Origin {
     pub universes: u16,
 }
 
-/// A link that sends, and receives nothing. It tells nothing; what its sockets tell is stated at `send_datagram`.
+/// What sends the datagrams of a desk. It tells nothing; what its sockets tell is stated at `send_datagram`.
 ///
 /// Failures are said on an output, at most once a second for each destination, and once where one takes datagrams again.
 #[derive(Drop)]
@@ -106,9 +108,10 @@ pub struct DeskSender<S, C, E> {
 impl<S: Sockets, C: Clock, E: Write + Drop> DeskSender<S, C, E> {
     ghost use Rattle.sacn_live.specs.DeskSenders.{sockets_of, destinations_of};
 
-    /// Sends a datagram once to each destination, in their order, also after one that failed; or once to the group of its universe, a
-    /// page to that of discovery, and nowhere where it is neither. Returns whether no send failed.
-    pub fn send_datagram(&mut self, datagram: &[u8]) -> bool
+    /// Sends a data packet of this universe, or, by None, a discovery page: once to each destination, in their order, also after one
+    /// that failed; or once to the group of its universe, a page to that of discovery. Returns whether no send failed.
+    pub fn send_datagram(&mut self, universe: Option<u16>, datagram: &[u8]) -> bool
+        requires { universe_read (reading_packet datagram.now) ≡ Some universe }
         ensures sent { (ss : List Sending)
             × Extends (S.told (sockets_of self.old)) (S.told (sockets_of self.new)) ss
             × IsSentTo (destinations_of self.old) datagram.now (receivers ss)
@@ -121,6 +124,7 @@ impl<S: Sockets, C: Clock, E: Write + Drop> DeskSender<S, C, E> {
             &mut self.notices,
             &self.destinations,
             now,
+            universe,
             datagram,
         );
         failed == 0
@@ -157,12 +161,8 @@ impl<'a, R: Net + MachineClock, E: Write + Drop> DeskSender<UdpSockets, RigClock
     }
 }
 
-impl<S: Sockets, C: Clock, E: Write + Drop> Link for DeskSender<S, C, E> {
-    fn receive(&mut self, _buffer: &mut [u8; BUFFER_OCTETS]) -> Received {
-        Received::Nothing
-    }
-
-    fn send(&mut self, datagram: &[u8]) -> bool {
-        self.send_datagram(datagram)
+impl<S: Sockets, C: Clock, E: Write + Drop> DeskLink for DeskSender<S, C, E> {
+    fn send_of(&mut self, universe: Option<u16>, datagram: &[u8]) -> bool {
+        self.send_datagram(universe, datagram)
     }
 }

@@ -1,11 +1,10 @@
 //! Where a desk sends.
 ghost use Rattle.std.specs.Prelude.{◌≡◌};
-ghost use Rattle.sacn_framing.specs.PacketReading.{reading_packet};
-ghost use Rattle.sacn_live.specs.Groups.{destination_by};
+ghost use Rattle.sacn_live.specs.Groups.{group_told};
 ghost use Rattle.sacn_live.specs.Sendings.{IsGroupAddress};
 
 use crate::address::SACN_PORT;
-use sacn_framing::{Packet, multicast_group, read_packet};
+use sacn_framing::multicast_group;
 use std::net::{Ipv4Addr, SocketAddrV4};
 
 /// The most destinations of a desk.
@@ -23,15 +22,13 @@ pub enum Destinations {
     Groups,
 }
 
-/// The group that a datagram goes to: that of its universe, or that of discovery for a page; None where it is neither.
-pub fn group_for(datagram: &[u8]) -> Option<[u8; 4]>
-    ensures { result ≡ destination_by (reading_packet datagram.now) }
+/// The group that a data packet of this universe goes to, or, by None, a discovery page.
+pub(crate) fn group_of(universe: Option<u16>) -> [u8; 4]
+    ensures { result ≡ group_told universe }
 {
-    match read_packet(datagram) {
-        Ok(Packet::DataPacket(packet)) => Some(multicast_group(packet.universe())),
-        Ok(Packet::PagePacket(_)) => Some(multicast_group(DISCOVERY_UNIVERSE)),
-        Ok(Packet::SyncPacket) => None,
-        Err(_) => None,
+    match universe {
+        Some(universe) => multicast_group(universe),
+        None => multicast_group(DISCOVERY_UNIVERSE),
     }
 }
 

@@ -1,14 +1,15 @@
 //! How a desk opens the stream of a universe.
-ghost use Rattle.std.specs.Prelude.{◌≡◌, ◌≤◌, ◌<◌, length, true};
+ghost use Rattle.std.specs.Prelude.{◌≡◌, ◌≤◌, ◌<◌, length, true, Some};
 ghost use Rattle.std.specs.Result.{IfOk};
 ghost use Rattle.sacn_edge.specs.ConsoleSends.{Handed};
 ghost use Rattle.sacn_edge.specs.Hearings.{Hands};
+ghost use Rattle.sacn_framing.specs.PacketReading.{reading_packet};
+ghost use Rattle.sacn_live.specs.Groups.{universe_read};
 ghost use Rattle.sacn_live.specs.Openings.{IsHanded, begins, begins_by, begun_after, begun_by, begun_of, link_of, none_begun, opening_copy};
 
+use crate::desk_link::DeskLink;
 use arrayvec::ArrayVec;
 use sacn_console::limits::MAX_DATAGRAM;
-use sacn_edge::{BUFFER_OCTETS, Link, Received};
-use sacn_framing::{Packet, read_packet};
 use std::alloc::{AllocError, Global};
 
 /// So much less than a packet's number is that of the copy that goes before it (a monitor knows it as `sacn_monitor`'s constant of this name).
@@ -32,7 +33,7 @@ pub struct Opening<L> {
     begun: Vec<bool>,
 }
 
-impl<L: Link + Drop> Opening<L> {
+impl<L: DeskLink + Drop> Opening<L> {
     /// Over this link, on which nothing went out.
     pub fn over(alloc: Global, link: L) -> Result<Self, AllocError>
         ensures { IfOk result (λ opening. (link_of opening ≡ link) × (begun_of opening ≡ none_begun)) }
@@ -48,23 +49,25 @@ impl<L: Link + Drop> Opening<L> {
         &self.link
     }
 
-    /// Sends a datagram; before it, where it is the first packet of its universe, the copy that opens the stream. Returns
-    /// whether the datagram itself was taken.
-    pub fn send_opened(&mut self, datagram: &[u8]) -> bool
+    /// Sends a data packet of this universe, or, by None, a discovery page; before it, where it is the first packet of its universe,
+    /// the copy that opens the stream. Returns whether the datagram itself was taken.
+    pub fn send_opened(&mut self, universe: Option<u16>, datagram: &[u8]) -> bool
+        requires { universe_read (reading_packet datagram.now) ≡ Some universe }
         ensures sent { (handed : Handed)
             × Hands (L.told (link_of self.old)) (L.told (link_of self.new)) handed
             × IsHanded (begins (begun_of self.old) datagram.now) datagram.now result handed }
         ensures begun { begun_of self.new ≡ begun_after (begun_of self.old) datagram.now }
     {
-        if self.begins(datagram) {
-            self.send_both(datagram)
+        if self.begins(universe, datagram) {
+            self.send_both(universe, datagram)
         } else {
-            self.link.send(datagram)
+            self.link.send_of(universe, datagram)
         }
     }
 
     // Whether it is the first packet of its universe, which it is once.
-    fn begins(&mut self, datagram: &[u8]) -> bool
+    fn begins(&mut self, universe: Option<u16>, datagram: &[u8]) -> bool
+        requires { universe_read (reading_packet datagram.now) ≡ Some universe }
         ensures link { link_of self.new ≡ link_of self.old }
         ensures begins { result ≡ begins (begun_of self.old) datagram.now }
         ensures begun { begun_of self.new ≡ begun_after (begun_of self.old) datagram.now }
@@ -72,11 +75,9 @@ impl<L: Link + Drop> Opening<L> {
         if datagram.len() <= NUMBER_AT || datagram.len() > MAX_DATAGRAM {
             return false;
         }
-        match read_packet(datagram) {
-            Ok(Packet::DataPacket(packet)) => self.begins_on(packet.universe()),
-            Ok(Packet::PagePacket(_)) => false,
-            Ok(Packet::SyncPacket) => false,
-            Err(_) => false,
+        match universe {
+            Some(universe) => self.begins_on(universe),
+            None => false,
         }
     }
 
@@ -94,7 +95,9 @@ impl<L: Link + Drop> Opening<L> {
     }
 
     // The copy, and then the datagram. Returns whether the latter was taken.
-    fn send_both(&mut self, datagram: &[u8]) -> bool
+    fn send_both(&mut self, universe: Option<u16>, datagram: &[u8]) -> bool
+        requires read { universe_read (reading_packet datagram.now) ≡ Some universe }
+        requires copy { universe_read (reading_packet (opening_copy datagram.now)) ≡ Some universe }
         requires least { NUMBER_AT < length datagram.now }
         requires most { length datagram.now ≤ MAX_DATAGRAM }
         ensures sent { (handed : Handed)
@@ -103,8 +106,8 @@ impl<L: Link + Drop> Opening<L> {
         ensures begun { begun_of self.new ≡ begun_of self.old }
     {
         let copy = copy_of(datagram);
-        let _ = self.link.send(copy.as_slice());
-        self.link.send(datagram)
+        let _ = self.link.send_of(universe, copy.as_slice());
+        self.link.send_of(universe, datagram)
     }
 }
 
@@ -120,12 +123,8 @@ fn copy_of(datagram: &[u8]) -> ArrayVec<u8, MAX_DATAGRAM>
     copy
 }
 
-impl<L: Link + Drop> Link for Opening<L> {
-    fn receive(&mut self, buffer: &mut [u8; BUFFER_OCTETS]) -> Received {
-        self.link.receive(buffer)
-    }
-
-    fn send(&mut self, datagram: &[u8]) -> bool {
-        self.send_opened(datagram)
+impl<L: DeskLink + Drop> DeskLink for Opening<L> {
+    fn send_of(&mut self, universe: Option<u16>, datagram: &[u8]) -> bool {
+        self.send_opened(universe, datagram)
     }
 }

@@ -15,7 +15,7 @@ invariant-loop-round g l = record {
       × (length rs ≡ l._round)
       × Extends (g.C.Clock.readings l.fn.clock) (g.C.Clock.readings l.clock) (readings rs)
       × Extends (g.O.Orders.told l.fn.orders) (g.O.Orders.told l.orders) (talk l.fn.core rs)
-      × Hands (g.L.Link.told l.fn.link) (g.L.Link.told l.link) handed
+      × Hands (g.L.DeskLink.told l.fn.link) (g.L.DeskLink.told l.link) handed
       × (datagrams handed ≡ desk_sends l.fn.core rs)
       × (l.core ≡ desk_after l.fn.core rs)
       × AreQuiet l.fn.core rs

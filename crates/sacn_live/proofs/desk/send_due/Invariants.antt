@@ -11,7 +11,7 @@ invariant-loop-count g l = record {
   refused : l.report.refused ≡ l.fn.report.refused;
   run :
       (handed : Handed)
-      × Hands (g.L.Link.told l.fn.link) (g.L.Link.told l.link) handed
+      × Hands (g.L.DeskLink.told l.fn.link) (g.L.DeskLink.told l.link) handed
       × (datagrams handed ≡ sends l.now l._count l.fn.core)
       × (l.core ≡ polled l.now l._count l.fn.core)
       × ((earlier : Handed) (refused : ℕ) → l.fn.report ≡ sends_report earlier refused → l.report ≡ sends_report (earlier ++ handed) refused);

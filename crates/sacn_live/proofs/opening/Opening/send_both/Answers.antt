@@ -7,9 +7,9 @@ use Rattle.sacn_live.proofs.opening.Opening.send_both.Goals as goal
 pub returns-clause-sent : goal.returns-clause-sent
 returns-clause-sent g c =
     let copy : c.as_slice.result.now ≡ opening_copy c.args.datagram.now = c.as_slice.ensures.value ∙ c.copy_of-copy.ensures in
-    let first : Handed = (c.as_slice.result.now, c.send.result) ∷ [] in
-    let second : Handed = (c.args.datagram.now, c.send-2.result) ∷ [] in (
-      (c.as_slice.result.now, c.send.result) ∷ (c.args.datagram.now, c.send-2.result) ∷ [],
-      Hands-append _ _ _ first second c.send.ensures.told c.send-2.ensures.told,
-      (c.send.result, ap (λ (octets : List ℕ). let all : Handed = (octets, c.send.result) ∷ (c.args.datagram.now, c.send-2.result) ∷ [] in all) copy),
+    let first : Handed = (c.as_slice.result.now, c.send_of.result) ∷ [] in
+    let second : Handed = (c.args.datagram.now, c.send_of-2.result) ∷ [] in (
+      (c.as_slice.result.now, c.send_of.result) ∷ (c.args.datagram.now, c.send_of-2.result) ∷ [],
+      Hands-append _ _ _ first second c.send_of.ensures.told c.send_of-2.ensures.told,
+      (c.send_of.result, ap (λ (octets : List ℕ). let all : Handed = (octets, c.send_of.result) ∷ (c.args.datagram.now, c.send_of-2.result) ∷ [] in all) copy),
     )
