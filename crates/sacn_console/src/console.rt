@@ -36,10 +36,12 @@ pub struct ConsoleCore {
     moment: u64,
 }
 
-/// A datagram that was due: its octets' number, 120 to 1144, and its universe, 1 to 63999; None for a discovery page.
+/// What a poll says of the datagram that it gives.
 #[derive(Clone, Copy)]
 pub struct DueDatagram {
+    /// How many octets it has, 120 to 1144.
     pub len: usize,
+    /// The universe of a data packet, 1 to 63999; None for a discovery page.
     pub universe: Option<u16>,
 }
 
@@ -115,7 +117,7 @@ impl ConsoleCore {
         }
     }
 
-    /// Does what `poll` does, and says of which universe the datagram is.
+    /// Does what `poll` does, and says also of which universe the datagram is.
     pub fn poll_with_universe(
         &mut self,
         now: u64,

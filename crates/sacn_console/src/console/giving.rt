@@ -15,7 +15,6 @@ use sacn_universe::SLOTS;
 
 impl ConsoleCore {
     ghost use Rattle.std.specs.Prelude.{Some, None, MatchOption, ℕ, is_some, true, ◌+◌, min};
-    ghost use Rattle.std.specs.Option.{option_map};
     ghost use Rattle.sacn_cues.specs.Playing.{is_still};
     ghost use Rattle.sacn_discovery.specs.Pages.{page_count as pages_of};
     ghost use Rattle.sacn_console.specs.Wakes.{last_moment};
