@@ -82,6 +82,23 @@ def sinking_crates():
             yield f"docs/ARCHITECTURE.md doesn't say what {name} is"
 
 
+def lost_steps():
+    """Functions and types that docs/ARCHITECTURE.md names on a way, and that aren't in the file to which they lead; and ways of more than nine steps."""
+    ways = [it.partition("\n") for it in re.split(r"^## ", prose_of("docs/ARCHITECTURE.md"), flags=re.M)]
+    ways = [(title, text) for title, _, text in ways if " way to " in title or title.endswith(" way")]
+    if len(ways) != 3:
+        yield f"docs/ARCHITECTURE.md has {len(ways)} ways"
+    for title, text in ways:
+        steps = re.findall(r"^\d+\. ", text, re.M)
+        if not 1 <= len(steps) <= 9:
+            yield f"{title} has {len(steps)} steps"
+        for word, path in re.findall(r"\[`([\w:]+)`\]\(\.\./([^)]+)\)", text):
+            kind, _, name = word.rpartition("::")
+            code = text_of(path)
+            if not re.search(rf"\b(fn|struct) {name}\b", code) or (kind and not re.search(rf"\b(struct|impl\b[^\n]*) {kind}\b", code)):
+                yield f"{title}: {word} isn't in {path}"
+
+
 def long_readme():
     size = os.path.getsize("README.md")
     if size > README_OCTETS:
@@ -101,6 +118,7 @@ LOOKS = {
     "links between documents lead somewhere": broken_links,
     "files that documents name are there": lacking_files,
     "each crate names only crates above it, and is told": sinking_crates,
+    "each step of the three ways is there": lost_steps,
     "the README is short": long_readme,
 }
 
