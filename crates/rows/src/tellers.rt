@@ -2,6 +2,7 @@
 use crate::step::Step;
 use sacn_console::{Command, ConsoleCore, ConsoleFault};
 use sacn_edge::ConsoleReport;
+use sacn_framing::Reading;
 use sacn_live::{DeviceFault, Notes, Octets4, Orders, PassedOver};
 use sacn_node::NodeTaken;
 
@@ -35,7 +36,13 @@ impl Tally {
 }
 
 impl Notes for Tally {
-    fn note_taken(&mut self, _now: u64, _sender: Octets4, _octets: &[u8], _taken: NodeTaken) {
+    fn note_taken(
+        &mut self,
+        _now: u64,
+        _sender: Octets4,
+        _reading: &Reading<'_>,
+        _taken: NodeTaken,
+    ) {
         self.taken = self.taken.saturating_add(1);
     }
 

@@ -1,13 +1,26 @@
-//! A packet of a datagram, or the status of one that is none.
+//! What a datagram is read as, and the status of one that is no packet.
 ghost use Rattle.std.specs.Prelude.{◌≡◌, IfOk, Ok};
 ghost use Rattle.sacn_framing.specs.PacketReading.{reading_packet};
 ghost use Rattle.sacn_framing.specs.PacketText.{Reads};
 ghost use Rattle.sacn_framing.specs.declared.packet.Packet.{Packet};
 ghost use Rattle.sacn_border.specs.Packets.{packet_or_status};
 
-use sacn_framing::{Packet, read_packet};
+use sacn_framing::{Packet, Reading, read_packet};
 
-/// The packet at the front of the octets, as `sacn_framing::read_packet`: what each call here that reads octets itself goes by.
+/// What the octets are read as: the door of every call here that reads octets itself.
+#[inline(always)]
+pub(crate) fn reading_of(octets: &[u8]) -> Reading<'_>
+    // What is read stands there.
+    ensures found { IfOk (reading_packet octets.now) (Reads octets.now) }
+    // What stands there is read.
+    ensures only { (packet : Packet) → Reads octets.now packet
+        → reading_packet octets.now ≡ Ok packet }
+    ensures exact { result ≡ reading_packet octets.now }
+{
+    read_packet(octets)
+}
+
+/// The packet at the front of the octets.
 ///
 /// Errors: the fault's number, which C is told as the status.
 #[inline(always)]
@@ -19,7 +32,7 @@ pub(crate) fn packet_at(octets: &[u8]) -> Result<Packet<'_>, u32>
         → reading_packet octets.now ≡ Ok packet }
     ensures exact { result ≡ packet_or_status (reading_packet octets.now) }
 {
-    match read_packet(octets) {
+    match reading_of(octets) {
         Ok(packet) => Ok(packet),
         Err(fault) => Err(u32::from(fault.number())),
     }

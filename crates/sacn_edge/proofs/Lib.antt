@@ -6,5 +6,4 @@ pub mod ConsoleLemmas
 pub mod MemoryLemmas
 pub mod PlainTexts
 pub mod ListSends
-pub mod Changing
 pub mod DigitBlocks

@@ -3,7 +3,6 @@ pub mod Writers
 pub mod Hearings
 pub mod NodeText
 pub mod PortLines
-pub mod PortChanges
 pub mod NodeRun
 pub mod ConsoleSends
 pub mod MemoryItems

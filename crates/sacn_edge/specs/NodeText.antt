@@ -1,12 +1,11 @@
 -- What a node writes over what a link brought and a clock read (profile). Lists of turns and lines have the latest first.
-use Rattle.std.specs.Prelude.{ℕ, ◌==◌, Bool, false, List, [], ◌∷◌, ◌++◌, codes, if◌then◌else◌, Option, None, Some}
-use Rattle.std.specs.Bool.{nat_eq}
-use Rattle.std.specs.Cmp.Lexicographic.{pointwise}
+use Rattle.std.specs.Prelude.{ℕ, ◌==◌, List, [], ◌∷◌, ◌++◌, codes, if◌then◌else◌, Option, None, Some}
 use Rattle.std.specs.Fmt.{decimal}
 use Rattle.hex.specs.Hex.{encode_lower}
 use Rattle.sacn_node.specs.Setup.{port_numbers}
 use Rattle.sacn_node.specs.Cores.{Node, node_frame}
 use Rattle.sacn_node.specs.Calls.{Call, Take, Tick, step}
+use Rattle.sacn_node.specs.Showings.{is_shown}
 use Rattle.sacn_edge.specs.Hearings.{Heard, Silence, Octets, Fault}
 
 -- a turn: what the clock read, and what the receive brought
@@ -36,17 +35,10 @@ pub record FrameLine : Type 0 where
 unfoldable pub line_text : FrameLine → List ℕ
 line_text l = decimal l.port ++ codes " " ++ decimal l.moment ++ codes " " ++ encode_lower l.frame ++ codes "\n"
 
-unfoldable pub same : List ℕ → List ℕ → Bool
-same a b = pointwise nat_eq a b
-
 -- the frame of the latest line of a port
 abbrev pub last_frame : ℕ → List FrameLine → Option (List ℕ)
 last_frame port [] = None
 last_frame port (l ∷ ls) = if l.port == port then Some l.frame else last_frame port ls
-
-abbrev pub is_shown : Option (List ℕ) → List ℕ → Bool
-is_shown None frame = false
-is_shown (Some last) frame = same last frame
 
 -- the lines, with one more where this frame of a port differs from that of its latest line, or it has none
 abbrev pub with_frame : ℕ → ℕ → Option (List ℕ) → List FrameLine → List FrameLine

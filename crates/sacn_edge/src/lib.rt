@@ -6,7 +6,6 @@
 //! as a socket or a terminal of the machine, makes no clause false and none useful.
 #![tactic(auto)]
 
-mod changes;
 mod clock;
 mod console_loop;
 mod digits;
@@ -23,14 +22,14 @@ mod text;
 mod udp;
 mod writer;
 
-pub use changes::Changes;
 pub use clock::Clock;
 pub use console_loop::{count as count_send, run_console, send};
 pub use digits::write_digits;
+pub use line::{LINE_OCTETS, line_of};
 pub use link::{BUFFER_OCTETS, Link, Received};
-pub use node_loop::{ports_of, run_node};
+pub use node_loop::run_node;
 pub use out::Out;
-pub use port_lines::{PortShown, show, show_changed};
+pub use port_lines::write_ports;
 pub use report::{ConsoleReport, NodeReport, print_report};
 pub use system::SystemClock;
 pub use text::{WriteFailed, write_text};

@@ -33,11 +33,7 @@ fn digits_of(frame: &[u8; FRAME_OCTETS]) -> [u8; FRAME_DIGITS]
 
 /// The line of a frame of a port: the port, the moment and the frame's lower case digits, a space between, and LF.
 #[tactic(auto, unfolding(crate::specs::NodeText::line_text))]
-pub(crate) fn line_of(
-    port: u8,
-    moment: u64,
-    frame: &[u8; FRAME_OCTETS],
-) -> ArrayVec<u8, LINE_OCTETS>
+pub fn line_of(port: u8, moment: u64, frame: &[u8; FRAME_OCTETS]) -> ArrayVec<u8, LINE_OCTETS>
     ensures { result.items
         ≡ line_text (record { port = port; moment = moment; frame = frame.now }) }
 {

@@ -1,24 +1,20 @@
 //! The node's loop.
-ghost use Rattle.std.specs.Prelude.{◌≡◌, ◌≤◌, ◌<◌, ◌+◌, ◌-◌, ◌^◌, ◌∷◌, [], List, length, false, true, map, ℕ, if◌then◌else◌, OnOk, IfOk, OnErr};
-ghost use Rattle.std.specs.List.Sorted.{IsStrictlyIncreasing};
-ghost use Rattle.sacn_node.specs.Setup.{port_numbers};
+ghost use Rattle.std.specs.Prelude.{◌≡◌, ◌≤◌, ◌<◌, ◌+◌, ◌-◌, ◌^◌, ◌∷◌, [], List, length, false, true, ℕ, if◌then◌else◌, OnOk, IfOk, OnErr};
 ghost use Rattle.sacn_node.specs.Calls.{step};
+ghost use Rattle.sacn_node.specs.Showings.{IsShowing, ports_of};
 ghost use Rattle.sacn_edge.specs.Additions.{Adds, Extends};
 ghost use Rattle.sacn_edge.specs.Hearings.{Hears, heard_of, is_datagram, is_failure};
 ghost use Rattle.sacn_edge.specs.NodeText.{Turn, call_at, node_after, node_text};
 ghost use Rattle.sacn_edge.specs.NodeRun.{Turned, report_of, StopsIn};
-ghost use Rattle.sacn_edge.specs.PortLines.{unshown};
-ghost use Rattle.sacn_edge.specs.PortChanges.{Grows, IsTold};
 
-use crate::changes::Changes;
 use crate::clock::Clock;
 use crate::link::{BUFFER_OCTETS, Link, Received};
 use crate::out::Out;
-use crate::port_lines::{PortShown, show_changed};
+use crate::port_lines::write_ports;
 use crate::report::NodeReport;
 use crate::text::WriteFailed;
-use arrayvec::ArrayVec;
-use sacn_node::{MAX_PORTS, NodeCore};
+use sacn_framing::read_packet;
+use sacn_node::{NodeCore, Showing};
 
 /// What a turn read and received.
 #[derive(Clone, Copy)]
@@ -27,31 +23,35 @@ struct Hearing {
     received: Received,
 }
 
-/// Reads the clock, receives once, and gives the node what came; where nothing did, its clock is moved. Notes what that may
-/// have changed.
+/// Reads the clock, receives once, and gives the node what came; where nothing did, its clock is moved.
 fn hear<L: Link, C: Clock>(
     link: &mut L,
     clock: &mut C,
     core: &mut NodeCore,
-    changes: &mut Changes,
+    showing: &mut Showing,
     buffer: &mut [u8; BUFFER_OCTETS],
 ) -> Hearing
+    requires { IsShowing showing.old core.old }
     ensures clock { Extends (C.readings clock.old) (C.readings clock.new) (result.now ∷ []) }
     ensures link { Hears (L.told link.old) (L.told link.new)
         (heard_of result.received buffer.new ∷ []) }
     ensures core { core.new
         ≡ step (call_at result.now (heard_of result.received buffer.new)) core.old }
-    ensures grows { Grows changes.old changes.new }
-    ensures told { IsTold changes.new core.old.core core.new.core }
+    ensures showing { IsShowing showing.new core.new }
+    ensures ports { ports_of showing.new ≡ ports_of showing.old }
 {
     let now = clock.now();
     let received = link.receive(buffer);
     match received {
         Received::Datagram(len) => {
-            changes.take(core, now, &buffer[..len]);
+            showing.take(core, now, &read_packet(&buffer[..len]));
         }
-        Received::Nothing => changes.tick(core, now),
-        Received::Failed => changes.tick(core, now),
+        Received::Nothing => {
+            showing.tick(core, now);
+        }
+        Received::Failed => {
+            showing.tick(core, now);
+        }
     }
     Hearing { now, received }
 }
@@ -71,21 +71,6 @@ fn count(report: &mut NodeReport, received: Received)
         Received::Nothing => {}
         Received::Failed => report.failed += 1,
     }
-}
-
-/// The ports of a node, for none of which a line was written.
-pub fn ports_of(core: &NodeCore) -> ArrayVec<PortShown, MAX_PORTS>
-    ensures ports { result.items ≡ map unshown (port_numbers core.now.ports) }
-    ensures rising { IsStrictlyIncreasing (port_numbers core.now.ports) }
-{
-    let mut ports = ArrayVec::new();
-    for port in core.port_numbers() {
-        ports.push(PortShown {
-            port: *port,
-            last: None,
-        });
-    }
-    ports
 }
 
 /// Runs a node for so many turns. In each it reads the clock, receives once, and gives a datagram that came
@@ -121,14 +106,13 @@ pub fn run_node<L: Link, C: Clock, O: Out>(
         received: 0,
         failed: 0,
     };
-    let mut ports = ports_of(core);
-    let mut changes = Changes::all();
+    let mut showing = Showing::new(core);
     let mut buffer = [0; BUFFER_OCTETS];
     for _turn in 0..turns {
-        let hearing = hear(link, clock, core, &mut changes, &mut buffer);
+        let hearing = hear(link, clock, core, &mut showing, &mut buffer);
         count(&mut report, hearing.received);
-        show_changed(out, core, hearing.now, &changes, ports.as_mut_slice())?;
-        changes.clear();
+        showing.look(core);
+        write_ports(out, core.moment(), showing.ports())?;
     }
     Ok(report)
 }

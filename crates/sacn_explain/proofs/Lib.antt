@@ -12,13 +12,9 @@ mod Runs
 mod Texts
 pub mod Telling
 mod RowTexts
-mod Showing
-mod Touching
-mod SlotLines
 mod Hearing
 mod Turns
 mod ListBooks
-mod PageNews
 mod Turning
 mod Waking
 mod Among

@@ -2,6 +2,7 @@
 use Rattle.std.proofs.Common.{◌≡◌, ◌≤◌, ◌<◌, arith, min, ℕ, Bool, List, [], ◌∷◌, ◌++◌, Option, None, Some, Result, refl, ap, subst, ◌∙◌}
 use Rattle.std.specs.Prelude.{IfSome}
 use Rattle.sacn_node.specs.Cores.{core_lost}
+use Rattle.sacn_node.specs.Readings.{Reading}
 use Rattle.sacn_root.specs.declared.fault.PacketFault.{PacketFault}
 use Rattle.sacn_framing.specs.declared.packet.Packet.{Packet}
 use Rattle.sacn_framing.specs.PacketReading.{reading_packet}
@@ -30,13 +31,13 @@ same_datagram sender r contests f g v w b c l m n k form wanted book lists noted
     ∙ ap (λ (x : ListBook). datagram_told g w contests c sender x r n) lists
     ∙ ap (λ (x : Noted). datagram_told g w contests c sender m r x) noted_as
 
-same_shown : (octets : List ℕ) (f g : Form) (b c : Book) (n k : Noted) (s t : Option Staged) → f ≡ g → b ≡ c → n ≡ k → s ≡ t
-    → turn_shown f b.moment octets (cause_among b.streams n) s ≡ turn_shown g c.moment octets (cause_among c.streams k) t
-same_shown octets f g b c n k s t form book noted_as stage =
-    ap (λ (x : Form). turn_shown x b.moment octets (cause_among b.streams n) s) form
-    ∙ ap (λ (x : Book). turn_shown g x.moment octets (cause_among x.streams n) s) book
-    ∙ ap (λ (x : Noted). turn_shown g c.moment octets (cause_among c.streams x) s) noted_as
-    ∙ ap (λ (x : Option Staged). turn_shown g c.moment octets (cause_among c.streams k) x) stage
+same_shown : (r : Reading) (f g : Form) (b c : Book) (n k : Noted) (s t : Option Staged) → f ≡ g → b ≡ c → n ≡ k → s ≡ t
+    → turn_shown f b.moment r (cause_among b.streams n) s ≡ turn_shown g c.moment r (cause_among c.streams k) t
+same_shown r f g b c n k s t form book noted_as stage =
+    ap (λ (x : Form). turn_shown x b.moment r (cause_among b.streams n) s) form
+    ∙ ap (λ (x : Book). turn_shown g x.moment r (cause_among x.streams n) s) book
+    ∙ ap (λ (x : Noted). turn_shown g c.moment r (cause_among c.streams x) s) noted_as
+    ∙ ap (λ (x : Option Staged). turn_shown g c.moment r (cause_among c.streams k) x) stage
 
 -- a node that has lost none, as it stands
 none_lost : (m : ℕ) (o : Option Stage) → IfSome o (λ s. core_lost m s.core.core ≡ 0) → IfSome (staged o) (λ s. core_lost m s.node.core ≡ 0)
@@ -75,15 +76,15 @@ module _ {O : Type 0} (contents : O → Option (List ℕ)) where
       → n ≡ note_of m sender octets ticked.monitor → book ≡ after_take m sender octets ticked.monitor
       → Tells contents ticked.teller said.teller (datagram_told ticked.teller.form ticked.options.universes.now ticked.contests book sender (list_book ticked.listings) (reading_packet octets) n)
       → said.stage ≡ ticked.stage → said.monitor ≡ book
-      → Tells contents said.teller new.teller (turn_shown said.teller.form said.monitor.moment octets (cause_among said.monitor.streams n) (staged said.stage))
-      → staged new.stage ≡ after_turn said.monitor.moment octets (staged said.stage) → TellsTurn contents t sender octets old new
+      → Tells contents said.teller new.teller (turn_shown said.teller.form said.monitor.moment (reading_packet octets) (cause_among said.monitor.streams n) (staged said.stage))
+      → staged new.stage ≡ after_turn said.monitor.moment (reading_packet octets) (staged said.stage) → TellsTurn contents t sender octets old new
   turn_told t m sender octets old ticked said new n book moment some quiet all options listings noted_is book_is tells stage monitor shows after =
       let noted_as = noted_is ∙ ap (λ (k : ℕ). note_of k sender octets ticked.monitor) moment in
       let book_as = book_is ∙ ap (λ (k : ℕ). after_take k sender octets ticked.monitor) moment in
       let first = same_datagram sender (reading_packet octets) ticked.contests ticked.teller.form old.teller.form ticked.options.universes.now old.options.universes.now
       book (after_take t sender octets ticked.monitor) (list_book ticked.listings) (list_book old.listings) n (note_of t sender octets ticked.monitor)
       some.told.form (ap (λ o. o.universes.now) options) book_as (ap list_book listings) noted_as in
-      let then = same_shown octets said.teller.form old.teller.form said.monitor (after_take t sender octets ticked.monitor) n (note_of t sender octets ticked.monitor) (staged said.stage) (staged ticked.stage)
+      let then = same_shown (reading_packet octets) said.teller.form old.teller.form said.monitor (after_take t sender octets ticked.monitor) n (note_of t sender octets ticked.monitor) (staged said.stage) (staged ticked.stage)
       (tells.form ∙ some.told.form) (monitor ∙ book_as) noted_as (ap staged stage) in
       record {
         ends = some.ends;
@@ -96,6 +97,6 @@ module _ {O : Type 0} (contents : O → Option (List ℕ)) where
             (both {O = O} contents ticked.teller said.teller new.teller _ _
             (subst (λ (text : List ℕ). Tells {O = O} contents ticked.teller said.teller text) first tells)
             (subst (λ (text : List ℕ). Tells {O = O} contents said.teller new.teller text) then shows));
-        staged_after = after ∙ ap (λ (b : Book). after_turn b.moment octets (staged said.stage)) (monitor ∙ book_as)
-            ∙ ap (after_turn (after_take t sender octets ticked.monitor).moment octets) (ap staged stage);
+        staged_after = after ∙ ap (λ (b : Book). after_turn b.moment (reading_packet octets) (staged said.stage)) (monitor ∙ book_as)
+            ∙ ap (after_turn (after_take t sender octets ticked.monitor).moment (reading_packet octets)) (ap staged stage);
       }

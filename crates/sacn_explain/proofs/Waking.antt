@@ -24,14 +24,14 @@ use Rattle.sacn_monitor.specs.Accounts.{is_discarded, after_discarded, after_tak
 use Rattle.sacn_monitor.specs.Kinds.{more}
 use Rattle.sacn_monitor.specs.Streams.{falls_silent, first_stream, loss_of, stream_after}
 use Rattle.sacn_monitor.specs.Books.{Book, after_data, after_read, after_take, after_tick, changed, with_datagram, next_loss, silent_place, with_told, told_at, untracked}
-use Rattle.sacn_node.specs.Calls.{step, Take}
+use Rattle.sacn_node.specs.declared.port_frame.PortFrame.{PortFrame}
 use Rattle.sacn_node.specs.Cores.{Core, Node, Table, change_rows, core_lost, rows_kept_all, rows_lost_all}
 use Rattle.sacn_node.specs.Readings.{Reading, after_reading}
-use Rattle.sacn_edge.specs.declared.port_lines.PortShown.{PortShown}
+use Rattle.sacn_node.specs.Showings.{ports_of}
 use Rattle.sacn_explain.specs.declared.follower.Follower.{Follower}
 use Rattle.sacn_explain.specs.declared.stage.Stage.{Stage}
 use Rattle.sacn_explain.specs.Following.{after_ticks, IsTicked}
-use Rattle.sacn_explain.specs.Shows.{Staged, after_turn, all_shown, staged, turned}
+use Rattle.sacn_explain.specs.Shows.{Staged, after_turn, all_shown, staged, turned, with_reading}
 use Rattle.sacn_explain.specs.Staging.{may_change_frames}
 use Rattle.sacn_explain.specs.Silences.{AreToldLost, EndsNothingBefore, WakesInTime}
 
@@ -317,36 +317,33 @@ module _ (now m : ℕ) (c : Core) (soon : m < now + 2500) (none : core_lost m c 
   reading_loses_none (Ok SyncPacket) = none_lost (max t m) (rows_kept_all t c.tables) kept_on
   reading_loses_none (Err fault) = none_lost (max t m) (rows_kept_all t c.tables) kept_on
 
-take_loses_none : (now m : ℕ) (octets : List ℕ) (n : Node) → m < now + 2500 → core_lost m n.core ≡ 0 → core_lost m (step (Take now octets) n).core ≡ 0
-take_loses_none now m octets n soon none = reading_loses_none now m n.core soon none (reading_packet octets)
-
 -- ---- a node on the stage
 
-abbrev as_is : Node → List PortShown → Staged
+abbrev as_is : Node → List PortFrame → Staged
 as_is n ports = record { node = n; ports = ports }
 
-turned_node_by : (b : Bool) (n : Node) (ports : List PortShown) → (cond b (all_shown n ports) (as_is n ports)).node ≡ n
+turned_node_by : (b : Bool) (n : Node) (ports : List PortFrame) → (cond b (all_shown n ports) (as_is n ports)).node ≡ n
 turned_node_by true n ports = refl
 turned_node_by false n ports = refl
 
-turned_node : (now : ℕ) (octets : List ℕ) (s : Staged) → (turned now octets s).node ≡ step (Take now octets) s.node
-turned_node now octets s = turned_node_by (may_change_frames now octets s.node.core) (step (Take now octets) s.node) s.ports
+turned_node : (now : ℕ) (reading : Reading) (s : Staged) → (turned now reading s).node ≡ with_reading now reading s.node
+turned_node now reading s = turned_node_by (may_change_frames now reading s.node.core) (with_reading now reading s.node) s.ports
 
 abbrev node_in : Node → Option Staged → Node
 node_in d None = d
 node_in d (Some s) = s.node
 
-turn_loses_none : (now m : ℕ) (octets : List ℕ) (o n : Option Stage) → m < now + 2500 → staged n ≡ after_turn now octets (staged o) → IfSome o (λ s. core_lost m s.core.core ≡ 0) → IfSome n (λ s. core_lost m s.core.core ≡ 0)
-turn_loses_none now m octets o None soon is none = tt
-turn_loses_none now m octets None (Some s) soon is none = absurd cc
-turn_loses_none now m octets (Some r) (Some s) soon is none =
-    let node : s.core ≡ step (Take now octets) r.core = ap (node_in s.core) is ∙ turned_node now octets (as_is r.core r.ports.items) in
-    subst (λ (x : Node). core_lost m x.core ≡ 0) (sym node) (take_loses_none now m octets r.core soon none)
+turn_loses_none : (now m : ℕ) (reading : Reading) (o n : Option Stage) → m < now + 2500 → staged n ≡ after_turn now reading (staged o) → IfSome o (λ s. core_lost m s.core.core ≡ 0) → IfSome n (λ s. core_lost m s.core.core ≡ 0)
+turn_loses_none now m reading o None soon is none = tt
+turn_loses_none now m reading None (Some s) soon is none = absurd cc
+turn_loses_none now m reading (Some r) (Some s) soon is none =
+    let node : s.core ≡ with_reading now reading r.core = ap (node_in s.core) is ∙ turned_node now reading (as_is r.core (ports_of r.showing)) in
+    subst (λ (x : Node). core_lost m x.core ≡ 0) (sym node) (reading_loses_none now m r.core.core soon none reading)
 
 -- ---- a follower after a datagram
 
 module _ (sender : Sender) (octets : List ℕ) (w t : ℕ) (book after : Book) (o n : Option Stage) (taken_is : after ≡ after_take t sender octets book)
-    (before : EndsNothingBefore w t book o) (lost : AreToldLost book.moment book.streams) (turned_is : staged n ≡ after_turn after.moment octets (staged o)) where
+    (before : EndsNothingBefore w t book o) (lost : AreToldLost book.moment book.streams) (turned_is : staged n ≡ after_turn after.moment (reading_packet octets) (staged o)) where
   most : w ≤ 2 ^ 64 - 1
   most = let soon = before.soon in omega (arith, soon)
 
@@ -359,7 +356,7 @@ module _ (sender : Sender) (octets : List ℕ) (w t : ℕ) (book after : Book) (
   ends_nothing : EndsNothingBefore w t after n
   ends_nothing = record {
     losses = losses_after w after.moment after.streams most all_after;
-    dark = λ m below. turn_loses_none after.moment m octets o n (let soon = before.soon in omega (arith, soon, below, moment_after)) turned_is (before.dark m below);
+    dark = λ m below. turn_loses_none after.moment m (reading_packet octets) o n (let soon = before.soon in omega (arith, soon, below, moment_after)) turned_is (before.dark m below);
     soon = before.soon;
   }
 
@@ -367,14 +364,14 @@ module _ (sender : Sender) (octets : List ℕ) (w t : ℕ) (book after : Book) (
   lost_after = told_lost w after.moment after.streams all_after
 
 pub taken_in_time : {O : Type 0} (sender : Sender) (octets : List ℕ) (ticked said new : Follower O) (book : Book) → WakesInTime ticked → book ≡ after_take ticked.moment sender octets ticked.monitor
-    → said.stage ≡ ticked.stage → said.monitor ≡ book → said.moment ≡ ticked.moment → said.wake ≡ ticked.wake → staged new.stage ≡ after_turn said.monitor.moment octets (staged said.stage)
+    → said.stage ≡ ticked.stage → said.monitor ≡ book → said.moment ≡ ticked.moment → said.wake ≡ ticked.wake → staged new.stage ≡ after_turn said.monitor.moment (reading_packet octets) (staged said.stage)
     → new.monitor ≡ said.monitor → new.moment ≡ said.moment → new.wake ≡ said.wake → WakesInTime new
 taken_in_time sender octets ticked said new book in_time book_is stage monitor moment wake turned_is last_monitor last_moment last_wake =
     let w = ticked.wake in
     let t = ticked.moment in
     let taken_is : new.monitor ≡ after_take t sender octets ticked.monitor = last_monitor ∙ monitor ∙ book_is in
-    let shows : staged new.stage ≡ after_turn new.monitor.moment octets (staged ticked.stage)
-    = turned_is ∙ ap (λ (b : Book). after_turn b.moment octets (staged said.stage)) (sym last_monitor) ∙ ap (λ (o : Option Stage). after_turn new.monitor.moment octets (staged o)) stage in
+    let shows : staged new.stage ≡ after_turn new.monitor.moment (reading_packet octets) (staged ticked.stage)
+    = turned_is ∙ ap (λ (b : Book). after_turn b.moment (reading_packet octets) (staged said.stage)) (sym last_monitor) ∙ ap (λ (o : Option Stage). after_turn new.monitor.moment (reading_packet octets) (staged o)) stage in
     let before = ends_nothing sender octets w t ticked.monitor new.monitor ticked.stage new.stage taken_is in_time.nothing_before in_time.lost shows in
     record {
       nothing_before = subst (λ (k : ℕ). EndsNothingBefore k new.moment new.monitor new.stage) (sym (last_wake ∙ wake))

@@ -36,7 +36,7 @@ lists_after now reading (Heard place news) b = b
 
 abbrev pub told_then : Form → List ℕ → Sender → List ℕ → ListBook → Noted → Contests → Book → Option Staged → List ℕ
 told_then form wanted sender octets lists n c b s =
-    datagram_told form wanted c b sender lists (reading_packet octets) n ++ turn_shown form b.moment octets (cause_among b.streams n) s
+    datagram_told form wanted c b sender lists (reading_packet octets) n ++ turn_shown form b.moment (reading_packet octets) (cause_among b.streams n) s
 
 -- what is told in a call: what ended by then, and then what the datagram tells a monitor that was told of these losses
 pub record TellsTurn {O : Type 0} (contents : O → Option (List ℕ)) (t : ℕ) (sender : Sender) (octets : List ℕ) (old new : Follower O) : Type 0 where
@@ -49,4 +49,4 @@ pub record TellsTurn {O : Type 0} (contents : O → Option (List ℕ)) (t : ℕ)
   pub told : Tells contents old.teller new.teller
       (ended ++ told_then old.teller.form old.options.universes.now sender octets (list_book old.listings)
       (note_of t sender octets scene.book) scene.contests (after_take t sender octets scene.book) scene.stage)
-  pub staged_after : staged new.stage ≡ after_turn (after_take t sender octets scene.book).moment octets scene.stage
+  pub staged_after : staged new.stage ≡ after_turn (after_take t sender octets scene.book).moment (reading_packet octets) scene.stage

@@ -2,7 +2,7 @@
 use Rattle.std.specs.Prelude.{ℕ, ◌==◌, nat_le, List, [], ◌++◌, codes, decimal, drop, Option, None, Some, if◌then◌else◌}
 use Rattle.std.specs.Str.{bytes_eq}
 use Rattle.std.specs.Option.{option_map}
-use Rattle.sacn_edge.specs.declared.port_lines.PortShown.{PortShown}
+use Rattle.sacn_node.specs.declared.port_frame.PortFrame.{PortFrame}
 use Rattle.sacn_explain.specs.declared.listings.Listing.{Listing}
 use Rattle.sacn_explain.specs.declared.options.Form.{Form}
 use Rattle.sacn_explain.specs.declared.options.Form.TheVariants.{Text, Json}
@@ -71,6 +71,6 @@ unfoldable pub slots_member : Option (List ℕ) → List ℕ
 slots_member frame = key_text (codes "slots") ++ (codes "\"" ++ (slot_digits frame ++ codes "\""))
 
 -- why a frame of a port is another one, and as JSON its slots
-abbrev pub frame_line : Form → ℕ → PortShown → Reason → List ℕ
-frame_line Text now shown reason = line_front now ++ (port_text shown.port ++ cause_words reason)
-frame_line Json now shown reason = object_front now (codes "frame") ++ (number_member (codes "port") shown.port ++ (cause_members reason ++ (slots_member shown.last ++ codes "}")))
+abbrev pub frame_line : Form → ℕ → PortFrame → Reason → List ℕ
+frame_line Text now port reason = line_front now ++ (port_text port.port ++ cause_words reason)
+frame_line Json now port reason = object_front now (codes "frame") ++ (number_member (codes "port") port.port ++ (cause_members reason ++ (slots_member port.last ++ codes "}")))

@@ -1,8 +1,7 @@
 -- What a datagram may change of a node's frames.
-use Rattle.std.specs.Prelude.{ℕ, Bool, true, false, not, ◌||◌, ◌==◌, List}
-use Rattle.sacn_framing.specs.PacketReading.{reading_packet}
-use Rattle.sacn_node.specs.Cores.{Core, core_at, core_lost}
-use Rattle.sacn_node.specs.Readings.{reply_to}
+use Rattle.std.specs.Prelude.{ℕ, Bool, true, false, not, ◌||◌, ◌==◌}
+use Rattle.sacn_node.specs.Cores.{Core, core_lost}
+use Rattle.sacn_node.specs.Readings.{Reading, reply_to}
 use Rattle.sacn_node.specs.declared.answer.NodeTaken.{NodeTaken}
 use Rattle.sacn_node.specs.declared.answer.NodeTaken.TheVariants.{FromTable, OtherUniverse, Discovery, Sync, Refused}
 
@@ -15,5 +14,5 @@ is_for_table Sync = false
 is_for_table (Refused fault) = false
 
 -- a source is lost by then, or it is such a packet
-abbrev pub may_change_frames : ℕ → List ℕ → Core → Bool
-may_change_frames now octets c = is_for_table (reply_to (reading_packet octets) now (core_at now c)) || not (core_lost now c == 0)
+abbrev pub may_change_frames : ℕ → Reading → Core → Bool
+may_change_frames now reading c = is_for_table (reply_to reading now c) || not (core_lost now c == 0)

@@ -28,6 +28,7 @@ use crate::silence::{end_by, next_dark};
 use crate::stage::Stage;
 use crate::tables;
 use crate::teller::Teller;
+use sacn_framing::{Reading, read_packet};
 use sacn_monitor::{Monitor, Noted, Sender, Stream, Tally};
 use sacn_node::NodeSetup;
 use sacn_sources::NETWORK_DATA_LOSS;
@@ -95,7 +96,6 @@ impl<'a, O: Write> Follower<'a, O> {
     /// accounts are then those that the monitor has after this datagram, once.
     ///
     /// Errors: OutOfMemory; Device where a line can't be written.
-    #[tactic(auto, using(crate::proofs::PageLists::take_listed))]
     pub fn take(&mut self, now: u64, sender: Sender, octets: &[u8]) -> Result<(), ExplainFault>
         ensures moment { self.new.moment ≡ max self.old.moment now }
         ensures told { OnOk result
@@ -108,9 +108,10 @@ impl<'a, O: Write> Follower<'a, O> {
         ensures fault { IfErr result IsOfTelling }
     {
         self.tick(now)?;
-        let noted = self.monitor.take(self.moment, sender, octets);
-        self.tell(&sender, octets, noted)?;
-        self.show_turn(octets, noted)?;
+        let reading = read_packet(octets);
+        let noted = self.monitor.take(self.moment, sender, &reading);
+        self.tell(&sender, &reading, noted)?;
+        self.show_turn(&reading, noted)?;
         Ok(())
     }
 
@@ -296,12 +297,12 @@ impl<'a, O: Write> Follower<'a, O> {
     }
 
     // The frames of the node after a datagram.
-    fn show_turn(&mut self, octets: &[u8], noted: Noted) -> Result<(), TellFault>
+    fn show_turn(&mut self, reading: &Reading<'_>, noted: Noted) -> Result<(), TellFault>
         ensures told { OnOk result (Tells O.contents self.old.teller self.new.teller
-            (turn_shown self.old.teller.form self.old.monitor.moment octets.now
+            (turn_shown self.old.teller.form self.old.monitor.moment reading.now
             (cause_among self.old.monitor.streams noted) (staged self.old.stage))) }
         ensures stage { OnOk result (staged self.new.stage
-            ≡ after_turn self.old.monitor.moment octets.now (staged self.old.stage)) }
+            ≡ after_turn self.old.monitor.moment reading.now (staged self.old.stage)) }
         ensures monitor { self.new.monitor ≡ self.old.monitor }
         ensures moment { self.new.moment ≡ self.old.moment }
         ensures wake { self.new.wake ≡ self.old.wake }
@@ -311,7 +312,7 @@ impl<'a, O: Write> Follower<'a, O> {
         let Some(stage) = &mut self.stage else {
             return Ok(());
         };
-        if !stage.take(now, octets) {
+        if !stage.take(now, reading) {
             return Ok(());
         }
         let cause = cause_of(self.monitor.streams(), noted);

@@ -28,7 +28,6 @@ mod stream_rows;
 mod tables;
 mod teller;
 mod totals;
-mod touched;
 mod words;
 
 pub use fault::ExplainFault;

@@ -12,7 +12,7 @@ use crate::numbers::{push_numbers, push_ranges};
 use crate::options::Form;
 use crate::spelling::push_digits;
 use crate::{json, words};
-use sacn_edge::PortShown;
+use sacn_node::PortFrame;
 use std::alloc::AllocError;
 use std::fmt::Write;
 
@@ -165,24 +165,24 @@ pub fn frame_line(
     text: &mut String,
     form: Form,
     now: u64,
-    shown: &PortShown,
+    port: &PortFrame,
     cause: &Cause<'_>,
 ) -> Result<(), AllocError>
     ensures { OnOk result (string_bytes text.new
-        ≡ string_bytes text.old ++ frame_line form now shown.now (reason_of cause.now)) }
+        ≡ string_bytes text.old ++ frame_line form now port.now (reason_of cause.now)) }
 {
-    let port = shown.port;
+    let number = port.port;
     match form {
         Form::Text => {
             words::begin(text, now)?;
-            push_port(text, port)?;
+            push_port(text, number)?;
             push_cause(text, cause)
         }
         Form::Json => {
             json::begin(text, now, "frame")?;
-            json::push_number(text, "port", u64::from(port))?;
+            json::push_number(text, "port", u64::from(number))?;
             push_cause_members(text, cause)?;
-            push_slots_member(text, shown)?;
+            push_slots_member(text, port)?;
             text.push('}')
         }
     }
@@ -196,22 +196,22 @@ fn push_port(text: &mut String, port: u8) -> Result<(), AllocError>
 }
 
 #[tactic(auto, unfolding(crate::specs::Lines::slots_member))]
-fn push_slots_member(text: &mut String, shown: &PortShown) -> Result<(), AllocError>
+fn push_slots_member(text: &mut String, port: &PortFrame) -> Result<(), AllocError>
     ensures { OnOk result
-        (string_bytes text.new ≡ string_bytes text.old ++ slots_member shown.now.last) }
+        (string_bytes text.new ≡ string_bytes text.old ++ slots_member port.now.last) }
 {
     json::push_key(text, "slots")?;
     text.push('"')?;
-    push_slots(text, shown)?;
+    push_slots(text, port)?;
     text.push('"')
 }
 
 // The digits of a frame's slots, two for each.
-fn push_slots(text: &mut String, shown: &PortShown) -> Result<(), AllocError>
+fn push_slots(text: &mut String, port: &PortFrame) -> Result<(), AllocError>
     ensures { OnOk result
-        (string_bytes text.new ≡ string_bytes text.old ++ slot_digits shown.now.last) }
+        (string_bytes text.new ≡ string_bytes text.old ++ slot_digits port.now.last) }
 {
-    match &shown.last {
+    match &port.last {
         Some(frame) => push_digits(text, frame.split_at(1).1),
         None => Ok(()),
     }

@@ -14,8 +14,8 @@ use crate::packet_lines::{
     anew_line, event_line, loss_line, moved_line, omission_line, priority_line, refused_line,
     renamed_line, skipped_line, untracked_line,
 };
-use sacn_edge::PortShown;
 use sacn_monitor::{Change, Event, News, Sender, Stream};
+use sacn_node::PortFrame;
 use sacn_root::PacketFault;
 use std::alloc::Global;
 use std::io::Write;
@@ -252,14 +252,14 @@ impl<'o, O: Write> Teller<'o, O> {
     pub fn tell_frame(
         &mut self,
         now: u64,
-        shown: &PortShown,
+        port: &PortFrame,
         cause: &Cause<'_>,
         line: &[u8],
     ) -> Result<(), TellFault>
         ensures { OnOk result (Tells O.contents self.old self.new (with_line_end (frame_line self.old.form
-            now shown.now (reason_of cause.now)) ++ shown_in self.old.form line.now)) }
+            now port.now (reason_of cause.now)) ++ shown_in self.old.form line.now)) }
     {
-        frame_line(&mut self.line, self.form, now, shown, cause)?;
+        frame_line(&mut self.line, self.form, now, port, cause)?;
         self.write()?;
         self.pass(line)
     }

@@ -1,19 +1,13 @@
 -- One receive after another in a turn of a gateway.
-use Rattle.std.proofs.Common.{◌≡◌, ℕ, ◌-◌, ◌<◌, ◌==◌, ◌||◌, nat_lt, Bool, true, false, not, List, [], ◌∷◌, length, refl, sym, ap, subst, ◌∙◌, arith}
+use Rattle.std.proofs.Common.{◌≡◌, ℕ, ◌-◌, ◌<◌, ◌==◌, ◌||◌, nat_lt, Bool, true, false, not, List, [], ◌∷◌, length, refl, sym, ap, ◌∙◌, arith}
 use Rattle.std.proofs.lemmas.Bool.{ne_eqb, eq-eqb}
-use Rattle.sacn_node.specs.Cores.{Node, core_at}
+use Rattle.sacn_node.specs.Cores.{Node}
 use Rattle.sacn_node.specs.Calls.{step}
-use Rattle.sacn_edge.specs.Hearings.{Heard}
 use Rattle.sacn_edge.specs.NodeText.{call_at, node_after}
-use Rattle.sacn_edge.proofs.Settling.{turn_settled}
 use Rattle.sacn_live.specs.declared.backlog.Backlog.{Backlog}
 use Rattle.sacn_live.specs.Hearings.{Hearing, Came, turns_of, heard_of, backlog_after, backlog_with}
 use Rattle.sacn_live.specs.GatewayRun.{ends_with_datagram, latest_reading, first_reading, has_ended}
 use Rattle.sacn_live.specs.declared.limits.TheConstants.{MAX_BURST, TURN_SPAN}
-
--- after a call at a moment nothing more is lost at it
-pub settled_by : (now : ℕ) (h : Heard) (old new : Node) → new ≡ step (call_at now h) old → core_at now new.core ≡ new.core
-settled_by now h old new is = subst (λ (m : Node). core_at now m.core ≡ m.core) (sym is) (turn_settled now h old.core)
 
 -- one hearing more
 pub node_more : (senders : List (List ℕ)) (start waits : Backlog) (now : ℕ) (came : Came) (hs : List Hearing) (first old new : Node)

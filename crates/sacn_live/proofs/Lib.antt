@@ -3,6 +3,7 @@ mod Turning
 mod PlainLines
 mod Pairing
 mod Serving
+mod WidgetParts
 mod Offers
 mod Rounding
 mod Fair

@@ -2,8 +2,8 @@
 use Rattle.std.proofs.Common.{◌≡◌, ℕ, ◌+◌, ◌-◌, ◌<◌, ◌≤◌, ◌||◌, nat_lt, Bool, true, false, not, cond, true≢false, List, [], ◌∷◌, ◌++◌, refl, sym, ap, subst, ◌∙◌, arith, Option, Some, None}
 use Rattle.std.proofs.lemmas.Bool.{ltb-true, ltb-false}
 use Rattle.sacn_node.specs.Cores.{Node}
-use Rattle.sacn_edge.specs.NodeText.{same}
-use Rattle.sacn_edge.proofs.PortLineLemmas.{shown_last}
+use Rattle.sacn_node.specs.Showings.{same}
+use Rattle.sacn_node.proofs.Looks.{same_is}
 use Rattle.sacn_live.specs.Hearings.{Hearing}
 use Rattle.sacn_live.specs.GatewayRun.{latest_reading}
 use Rattle.sacn_live.specs.Widgets.{widget_text}
@@ -40,17 +40,10 @@ neither : (a b : Bool) → (not a || b) ≡ false → (a ≡ true) × (b ≡ fal
 neither true b is = (refl, is)
 neither false b is = absurd (true≢false is)
 
-same_packet : (a b : List ℕ) → same a b ≡ true → a ≡ b
-same_packet a b is = ap packet_in (shown_last (Some a) b is)
-  where
-    packet_in : Option (List ℕ) → List ℕ
-    packet_in None = []
-    packet_in (Some c) = c
-
 whole_stays : (o : Offer) (now : ℕ) (packet : List ℕ) → is_due (Some o) now packet ≡ false → o.took ≡ Whole → (o.packet ≡ packet) × (now < o.now + REFRESH)
 whole_stays o now packet none took =
     let parts = neither (same o.packet packet) (has_passed REFRESH o.now now) (sym (ap (λ (t : Took). is_due_after t (not (same o.packet packet)) o.now now) took) ∙ none) in
-    (same_packet o.packet packet parts.0, not_passed REFRESH o.now now (omega arith) parts.1)
+    (same_is o.packet packet parts.0, not_passed REFRESH o.now now (omega arith) parts.1)
 
 failed_stays : (o : Offer) (now : ℕ) (packet : List ℕ) (fault : DeviceFault) → is_due (Some o) now packet ≡ false → o.took ≡ Failed fault → now < o.now + RETRY
 failed_stays o now packet fault none took =

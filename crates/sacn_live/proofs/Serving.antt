@@ -4,9 +4,10 @@ use Rattle.std.proofs.lemmas.Bool.{eqb-true}
 use Rattle.sacn_node.specs.Setup.{Port, port_numbers}
 use Rattle.sacn_node.specs.Cores.{Node, node_frame, core_slots}
 use Rattle.sacn_node.specs.Ports.{port_of, frame_on}
-use Rattle.sacn_edge.specs.declared.port_lines.PortShown.{PortShown}
+use Rattle.sacn_node.specs.declared.port_frame.PortFrame.{PortFrame}
+use Rattle.sacn_node.specs.Showings.{port_after, with_found}
+use Rattle.sacn_node.proofs.Looks.{numbers_after}
 use Rattle.sacn_edge.specs.Additions.{Extends}
-use Rattle.sacn_edge.specs.PortLines.{port_after, later}
 use Rattle.sacn_edge.proofs.NodeLemmas.{numbers, Extends-append}
 use Rattle.sacn_live.specs.Hearings.{Hearing}
 use Rattle.sacn_live.specs.GatewayText.{gateway_after}
@@ -19,34 +20,38 @@ use Rattle.sacn_live.specs.Interfaces.{is_due, offered, latest_of, frame_after, 
 use Rattle.sacn_live.proofs.Draining.{ports_kept}
 use Rattle.sacn_live.proofs.Turning.{Extends-none}
 
--- ---- the frame of a port among what is shown
+-- ---- the frame of a port among those of the latest look
 
 module _ (n : Node) (port : ℕ) where
-  abbrev shown : List PortShown → Option (List ℕ)
-  shown ss = last_of (find (λ (s : PortShown). s.port == port) (map (port_after n) ss))
+  abbrev shown : List PortFrame → Option (List ℕ)
+  shown ss = last_of (find (λ (s : PortFrame). s.port == port) (map (port_after n) ss))
 
   abbrev found : List Port → Option (List ℕ)
   found ps = frame_on (core_slots n.core) (port_of port ps)
 
-  own : (s : PortShown) (p : Port) (ps : List Port) → s.port ≡ p.number → (s.port == port) ≡ true → node_frame port n ≡ found (p ∷ ps) → later s.last (node_frame s.port n) ≡ found (p ∷ ps)
+  number_after : (s : PortFrame) → (port_after n s).port ≡ s.port
+  number_after s = ap (λ l. get_or l 0 0) (numbers_after n (s ∷ []))
+
+  own : (s : PortFrame) (p : Port) (ps : List Port) → s.port ≡ p.number → (s.port == port) ≡ true → node_frame port n ≡ found (p ∷ ps) → (port_after n s).last ≡ found (p ∷ ps)
   own s p ps head here all =
       let is : found (p ∷ ps) ≡ frame_on (core_slots n.core) (Some p) = ap (λ b. frame_on (core_slots n.core) (cond b (Some p) (port_of port ps))) (ap (λ k. k == port) (sym head) ∙ here) in
-      ap (λ k. later s.last (node_frame k n)) (eqb-true s.port port here) ∙ ap (later s.last) (all ∙ is) ∙ sym is
+      ap (λ k. (with_found s (node_frame k n)).last) (eqb-true s.port port here) ∙ ap (λ f. (with_found s f).last) (all ∙ is) ∙ sym is
 
-  past : (s : PortShown) (p : Port) (ps : List Port) → s.port ≡ p.number → (s.port == port) ≡ false → found (p ∷ ps) ≡ found ps
+  past : (s : PortFrame) (p : Port) (ps : List Port) → s.port ≡ p.number → (s.port == port) ≡ false → found (p ∷ ps) ≡ found ps
   past s p ps head other = ap (λ b. frame_on (core_slots n.core) (cond b (Some p) (port_of port ps))) (ap (λ k. k == port) (sym head) ∙ other)
 
-  shown_same : (ss : List PortShown) (ps : List Port) → numbers ss ≡ port_numbers ps → node_frame port n ≡ found ps → shown ss ≡ found ps
+  shown_same : (ss : List PortFrame) (ps : List Port) → numbers ss ≡ port_numbers ps → node_frame port n ≡ found ps → shown ss ≡ found ps
   shown_same [] [] same all = refl
   shown_same [] (p ∷ ps) same all = absurd (omega (arith, ap length same))
   shown_same (s ∷ ss) [] same all = absurd (omega (arith, ap length same))
   shown_same (s ∷ ss) (p ∷ ps) same all =
       let head : s.port ≡ p.number = ap (λ l. get_or l 0 0) same in
       let tail : numbers ss ≡ port_numbers ps = ap (drop 1) same in
-      elim (s.port == port) as (λ b. (s.port == port) ≡ b → last_of (cond b (Some (port_after n s)) (find (λ (s : PortShown). s.port == port) (map (port_after n) ss))) ≡ found (p ∷ ps)) [
+      ap (λ k. last_of (cond (k == port) (Some (port_after n s)) (find (λ (s : PortFrame). s.port == port) (map (port_after n) ss)))) (number_after s)
+      ∙ (elim (s.port == port) as (λ b. (s.port == port) ≡ b → last_of (cond b (Some (port_after n s)) (find (λ (s : PortFrame). s.port == port) (map (port_after n) ss))) ≡ found (p ∷ ps)) [
         | true ↦ λ here. own s p ps head here all
         | false ↦ λ other. shown_same ss ps tail (all ∙ past s p ps head other) ∙ sym (past s p ps head other)
-      ] refl
+      ] refl)
 
 -- a gateway's node keeps its ports
 gateway_ports : (first : Node) (senders : List (List ℕ)) (turns : List (List Hearing)) → (gateway_after first senders turns).node.ports ≡ first.ports
@@ -55,7 +60,7 @@ gateway_ports first senders (hs ∷ turns) =
     ports_kept senders (gateway_after first senders turns).waits hs (gateway_after first senders turns).node (gateway_after first senders (hs ∷ turns)).node refl
     ∙ gateway_ports first senders turns
 
-pub frame_is : (first n : Node) (senders : List (List ℕ)) (hs : List Hearing) (turns : List (List Hearing)) (ss : List PortShown) (port : ℕ)
+pub frame_is : (first n : Node) (senders : List (List ℕ)) (hs : List Hearing) (turns : List (List Hearing)) (ss : List PortFrame) (port : ℕ)
     → n ≡ (gateway_after first senders (hs ∷ turns)).node → numbers ss ≡ port_numbers first.ports
     → frame_in port (map (port_after n) ss) ≡ frame_after first senders port (hs ∷ turns)
 frame_is first n senders hs turns ss port is ports_own =
@@ -88,7 +93,7 @@ not_offered told first senders [] = tt
 not_offered told first senders (i ∷ is) = ((refl, [], refl, Extends-none (told i.device), refl), not_offered told first senders is)
 
 -- one turn more of a gateway, which ends at this reading with these frames
-module _ {D : Type 0} (told : D → Option (List Offer)) (first : Node) (senders : List (List ℕ)) (hs : List Hearing) (turns : List (List Hearing)) (now : ℕ) (ports : List PortShown) (at : now ≡ latest_reading hs) (frames : (port : ℕ) → frame_in port ports ≡ frame_after first senders port (hs ∷ turns)) where
+module _ {D : Type 0} (told : D → Option (List Offer)) (first : Node) (senders : List (List ℕ)) (hs : List Hearing) (turns : List (List Hearing)) (now : ℕ) (ports : List PortFrame) (at : now ≡ latest_reading hs) (frames : (port : ℕ) → frame_in port ports ≡ frame_after first senders port (hs ∷ turns)) where
   one_more : (old mid new : Interface D) → IsOffered told first senders turns old mid → IsServed told now ports mid new → IsOffered told first senders (hs ∷ turns) old new
   one_more old mid new sofar served =
       let took = served.1 in

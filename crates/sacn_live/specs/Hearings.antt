@@ -1,8 +1,9 @@
 -- What a gateway hears, and what of it goes to its node. Lists of hearings have the latest first.
 use Rattle.std.specs.Prelude.{◌≤◌, ◌||◌, ◌==◌, length, ℕ, Bool, true, false, not, List, [], ◌∷◌, ◌++◌, take, ⊤, if◌then◌else◌}
 use Rattle.std.specs.List.{list_any}
+use Rattle.sacn_node.specs.Showings.{same}
 use Rattle.sacn_edge.specs.Hearings.{Heard, Silence, Octets, Fault}
-use Rattle.sacn_edge.specs.NodeText.{Turn, same}
+use Rattle.sacn_edge.specs.NodeText.{Turn}
 use Rattle.sacn_live.specs.declared.receiver.Arrival.{Arrival}
 use Rattle.sacn_live.specs.declared.receiver.Arrival.TheVariants.{Nothing, Datagram, Failed}
 use Rattle.sacn_live.specs.declared.receiver.Receipt.{Receipt}

@@ -1,9 +1,9 @@
 -- What interfaces are offered, and when. Lists of turns and offers have the latest first.
 use Rattle.std.specs.Prelude.{◌≡◌, ℕ, ◌+◌, ◌-◌, ◌==◌, ◌||◌, ◌++◌, min, Bool, true, not, nat_lt, find, List, [], ◌∷◌, Option, None, Some, ⊤, if◌then◌else◌}
 use Rattle.sacn_node.specs.Cores.{Node, node_frame}
-use Rattle.sacn_edge.specs.declared.port_lines.PortShown.{PortShown}
+use Rattle.sacn_node.specs.declared.port_frame.PortFrame.{PortFrame}
+use Rattle.sacn_node.specs.Showings.{same}
 use Rattle.sacn_edge.specs.Additions.{Extends}
-use Rattle.sacn_edge.specs.NodeText.{same}
 use Rattle.sacn_live.specs.Hearings.{Hearing}
 use Rattle.sacn_live.specs.GatewayText.{gateway_after}
 use Rattle.sacn_live.specs.GatewayRun.{latest_reading}
@@ -84,16 +84,16 @@ AreOffered told first senders turns old new = Pairwise (IsOffered told first sen
 
 -- ---- one turn
 
--- the frame of a port among what is shown
-abbrev pub last_of : Option PortShown → Option (List ℕ)
+-- the frame of a port among some
+abbrev pub last_of : Option PortFrame → Option (List ℕ)
 last_of None = None
-last_of (Some s) = s.last
+last_of (Some p) = p.last
 
-abbrev pub frame_in : ℕ → List PortShown → Option (List ℕ)
-frame_in port ports = last_of (find (λ s. s.port == port) ports)
+abbrev pub frame_in : ℕ → List PortFrame → Option (List ℕ)
+frame_in port ports = last_of (find (λ p. p.port == port) ports)
 
 -- an interface after one turn that ends at this reading
-abbrev pub IsServed : {D : Type 0} → (D → Option (List Offer)) → ℕ → List PortShown → Interface D → Interface D → Type 0
+abbrev pub IsServed : {D : Type 0} → (D → Option (List Offer)) → ℕ → List PortFrame → Interface D → Interface D → Type 0
 IsServed told now ports old new =
     (new.port ≡ old.port)
     × (took : Took)

@@ -1,9 +1,9 @@
 //! The gateway's loop.
 ghost use Rattle.std.specs.Prelude.{◌≡◌, ℕ, ◌≤◌, ◌<◌, ◌+◌, ◌-◌, ◌||◌, not, nat_lt, ◌∷◌, [], List, length, false, true, OnOk, OnErr};
-ghost use Rattle.sacn_node.specs.Cores.{core_at, core_lost};
+ghost use Rattle.sacn_node.specs.Cores.{core_lost};
+ghost use Rattle.sacn_node.specs.Showings.{IsShowing, ports_of};
 ghost use Rattle.sacn_edge.specs.Additions.{Adds, Extends};
 ghost use Rattle.sacn_edge.specs.NodeText.{node_after};
-ghost use Rattle.sacn_edge.specs.PortChanges.{Grows, IsTold};
 ghost use Rattle.sacn_live.specs.Hearings.{Hearing, turns_of, backlog_after, in_order};
 ghost use Rattle.sacn_live.specs.GatewayText.{gateway_after, gateway_text};
 ghost use Rattle.sacn_live.specs.declared.limits.TheConstants.{LONGEST_WAIT, TURN_SPAN};
@@ -16,8 +16,8 @@ use crate::hearing::{Notes, hear};
 use crate::interface::{Interface, first_wake, serve_interfaces};
 use crate::limits::{LONGEST_WAIT, MAX_BURST, TURN_SPAN};
 use crate::receiver::{Octets4, Receiver};
-use sacn_edge::{BUFFER_OCTETS, Changes, Out, WriteFailed, ports_of, show_changed};
-use sacn_node::NodeCore;
+use sacn_edge::{BUFFER_OCTETS, Out, WriteFailed, write_ports};
+use sacn_node::{NodeCore, Showing};
 
 /// How long a gateway runs: at most so many turns, and no turn after the first that ends at the moment or later.
 #[derive(Clone, Copy)]
@@ -45,22 +45,22 @@ fn is_over(is_more: bool, now: u64, first: u64) -> bool
 fn drain<G: Receiver, N: Notes>(
     receiver: &mut G,
     core: &mut NodeCore,
-    changes: &mut Changes,
+    showing: &mut Showing,
     notes: &mut N,
     senders: &[Octets4],
     waits: Backlog,
     buffer: &mut [u8; BUFFER_OCTETS],
 ) -> Drained
+    requires { IsShowing showing.old core.old }
     ensures heard { (hs : List Hearing) × IsWhole hs
         × Extends (G.told receiver.old) (G.told receiver.new) (in_order hs)
         × (core.new ≡ node_after core.old (turns_of senders.now waits hs))
         × (result.waits ≡ backlog_after waits hs)
         × (result.now ≡ latest_reading hs) }
-    ensures settled { core_at result.now core.new.core ≡ core.new.core }
-    ensures grows { Grows changes.old changes.new }
-    ensures changed { IsTold changes.new core.old.core core.new.core }
+    ensures showing { IsShowing showing.new core.new }
+    ensures ports { ports_of showing.new ≡ ports_of showing.old }
 {
-    let mut step = hear(receiver, core, changes, notes, senders, waits, buffer);
+    let mut step = hear(receiver, core, showing, notes, senders, waits, buffer);
     let first = step.now;
     for _count in 1..MAX_BURST {
         if is_over(step.is_more, step.now, first) {
@@ -69,7 +69,7 @@ fn drain<G: Receiver, N: Notes>(
                 waits: step.waits,
             };
         }
-        step = hear(receiver, core, changes, notes, senders, step.waits, buffer);
+        step = hear(receiver, core, showing, notes, senders, step.waits, buffer);
     }
     Drained {
         now: step.now,
@@ -133,8 +133,7 @@ pub fn run_gateway<G: Receiver, N: Notes, O: Out, D: Device>(
         × AreOffered D.told core.old senders.now turns interfaces.old interfaces.new) }
     ensures failed { OnErr result (O.failed out.new ≡ true) }
 {
-    let mut ports = ports_of(core);
-    let mut changes = Changes::all();
+    let mut showing = Showing::new(core);
     let mut buffer = [0; BUFFER_OCTETS];
     let mut waits = Backlog::none(0);
     let mut wake = 0;
@@ -143,7 +142,7 @@ pub fn run_gateway<G: Receiver, N: Notes, O: Out, D: Device>(
         let drained = drain(
             receiver,
             core,
-            &mut changes,
+            &mut showing,
             notes,
             senders,
             waits,
@@ -151,9 +150,10 @@ pub fn run_gateway<G: Receiver, N: Notes, O: Out, D: Device>(
         );
         waits = drained.waits;
         let now = drained.now;
-        show_changed(out, core, now, &changes, ports.as_mut_slice())?;
-        changes.clear();
-        serve_interfaces(interfaces, now, ports.as_slice(), notes);
+        showing.look(core);
+        let ports = showing.ports();
+        write_ports(out, core.moment(), ports)?;
+        serve_interfaces(interfaces, now, ports, notes);
         notes.note_turn(now);
         if now >= span.until {
             return Ok(());

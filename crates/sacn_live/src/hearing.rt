@@ -2,17 +2,18 @@
 ghost use Rattle.std.specs.Prelude.{◌≡◌, ◌≤◌, ◌||◌, not, [], ◌∷◌, map, is_some};
 ghost use Rattle.std.specs.List.{list_any};
 ghost use Rattle.sacn_node.specs.Calls.{step};
+ghost use Rattle.sacn_node.specs.Showings.{IsShowing, ports_of, same};
 ghost use Rattle.sacn_edge.specs.Additions.{Extends};
-ghost use Rattle.sacn_edge.specs.NodeText.{call_at, same};
-ghost use Rattle.sacn_edge.specs.PortChanges.{Grows, IsTold};
+ghost use Rattle.sacn_edge.specs.NodeText.{call_at};
 ghost use Rattle.sacn_live.specs.Backlogs.{is_late};
 ghost use Rattle.sacn_live.specs.Hearings.{hearing_in, From, came_of, is_admitted, is_datagram, heard_of, backlog_with};
 
 use crate::backlog::Backlog;
 use crate::device::DeviceFault;
 use crate::receiver::{Arrival, Octets4, Receiver};
-use sacn_edge::{BUFFER_OCTETS, Changes};
-use sacn_node::{NodeCore, NodeTaken};
+use sacn_edge::BUFFER_OCTETS;
+use sacn_framing::{Reading, read_packet};
+use sacn_node::{NodeCore, NodeTaken, Showing};
 
 /// Why a datagram doesn't go to the node.
 #[derive(Clone, Copy)]
@@ -26,8 +27,8 @@ pub enum PassedOver {
 /// What looks on while a gateway runs, for diagnosis. Nothing that it does changes the gateway's text, nor what interfaces
 /// are offered.
 pub trait Notes {
-    /// A datagram went to the node.
-    fn note_taken(&mut self, now: u64, sender: Octets4, octets: &[u8], taken: NodeTaken);
+    /// A datagram went to the node, with what it was read as.
+    fn note_taken(&mut self, now: u64, sender: Octets4, reading: &Reading<'_>, taken: NodeTaken);
 
     /// A datagram didn't.
     fn note_passed_over(&mut self, now: u64, sender: Octets4, why: PassedOver);
@@ -53,7 +54,7 @@ pub(crate) struct Step {
     pub(crate) is_more: bool,
 }
 
-#[tactic(auto, unfolding(sacn_edge::specs::NodeText::same))]
+#[tactic(auto, unfolding(sacn_node::specs::Showings::same))]
 fn is_same(a: &Octets4, b: &Octets4) -> bool
     ensures { result ≡ same a.now b.now }
 {
@@ -91,7 +92,7 @@ fn why_passed(senders: &[Octets4], waits: Backlog, now: u64, sender: &Octets4) -
 /// Gives the node what came at a reading, where it goes there.
 fn give<N: Notes>(
     core: &mut NodeCore,
-    changes: &mut Changes,
+    showing: &mut Showing,
     notes: &mut N,
     senders: &[Octets4],
     waits: Backlog,
@@ -99,19 +100,21 @@ fn give<N: Notes>(
     sender: Octets4,
     octets: &[u8],
 )
-    ensures grows { Grows changes.old changes.new }
-    ensures changed { IsTold changes.new core.old.core core.new.core }
+    requires { IsShowing showing.old core.old }
     ensures core { core.new
         ≡ step (call_at now (heard_of senders.now waits now (From sender octets.now))) core.old }
+    ensures showing { IsShowing showing.new core.new }
+    ensures ports { ports_of showing.new ≡ ports_of showing.old }
 {
     match why_passed(senders, waits, now, &sender) {
         None => {
-            let taken = changes.take(core, now, octets);
-            notes.note_taken(now, sender, octets, taken);
+            let reading = read_packet(octets);
+            let taken = showing.take(core, now, &reading).taken;
+            notes.note_taken(now, sender, &reading, taken);
         }
         Some(why) => {
             notes.note_passed_over(now, sender, why);
-            changes.tick(core, now);
+            showing.tick(core, now);
         }
     }
 }
@@ -120,20 +123,21 @@ fn give<N: Notes>(
 pub(crate) fn hear<G: Receiver, N: Notes>(
     receiver: &mut G,
     core: &mut NodeCore,
-    changes: &mut Changes,
+    showing: &mut Showing,
     notes: &mut N,
     senders: &[Octets4],
     waits: Backlog,
     buffer: &mut [u8; BUFFER_OCTETS],
 ) -> Step
+    requires { IsShowing showing.old core.old }
     ensures told { Extends (G.told receiver.old) (G.told receiver.new)
         (hearing_in result.now result.arrival buffer.new ∷ []) }
     ensures core { core.new ≡ step (call_at result.now
         (heard_of senders.now waits result.now (came_of result.arrival buffer.new))) core.old }
     ensures waits { result.waits
         ≡ backlog_with waits result.now (came_of result.arrival buffer.new) }
-    ensures grows { Grows changes.old changes.new }
-    ensures changed { IsTold changes.new core.old.core core.new.core }
+    ensures showing { IsShowing showing.new core.new }
+    ensures ports { ports_of showing.new ≡ ports_of showing.old }
     ensures more { result.is_more ≡ is_datagram (came_of result.arrival buffer.new) }
 {
     let receipt = receiver.receive(buffer);
@@ -143,7 +147,7 @@ pub(crate) fn hear<G: Receiver, N: Notes>(
         Arrival::Datagram { octets, sender } => {
             give(
                 core,
-                changes,
+                showing,
                 notes,
                 senders,
                 waits,
@@ -159,7 +163,7 @@ pub(crate) fn hear<G: Receiver, N: Notes>(
             }
         }
         Arrival::Nothing => {
-            changes.tick(core, now);
+            showing.tick(core, now);
             Step {
                 now,
                 arrival,
@@ -169,7 +173,7 @@ pub(crate) fn hear<G: Receiver, N: Notes>(
         }
         Arrival::Failed => {
             notes.note_failure(now);
-            changes.tick(core, now);
+            showing.tick(core, now);
             Step {
                 now,
                 arrival,

@@ -1,13 +1,14 @@
 //! Interfaces: each has a device that shows the frames of a port.
 ghost use Rattle.std.specs.Prelude.{◌≡◌, None};
-ghost use Rattle.sacn_edge.specs.NodeText.{same};
+ghost use Rattle.std.specs.Option.{option_map};
+ghost use Rattle.sacn_live.specs.Widgets.{widget_text};
 ghost use Rattle.sacn_live.specs.Interfaces.{has_passed, is_due, frame_in, IsServed, Pairwise, due_before, earliest};
 
-use crate::device::{Device, DeviceFault, Offer, Took, WIDGET_OCTETS};
+use crate::device::{Device, DeviceFault, Offer, Took};
 use crate::hearing::Notes;
 use crate::limits::{LATER_WAIT, REFRESH, RETRY};
-use crate::widget::widget_packet;
-use sacn_edge::PortShown;
+use crate::widget::{is_packet_of, widget_packet};
+use sacn_node::PortFrame;
 use sacn_universe::FRAME_OCTETS;
 
 /// A device that shows the frames of a port, by its name, and the latest packet that it was offered.
@@ -52,34 +53,29 @@ fn has_passed(wait: u64, since: u64, now: u64) -> bool
     now.saturating_sub(since) >= wait
 }
 
-#[tactic(auto, unfolding(sacn_edge::specs::NodeText::same))]
-fn is_same(a: &[u8; WIDGET_OCTETS], b: &[u8; WIDGET_OCTETS]) -> bool
-    ensures { result ≡ same a.now b.now }
-{
-    a == b
-}
-
-/// Whether a packet is due after the latest offer.
-fn is_due(latest: &Option<Offer>, now: u64, packet: &[u8; WIDGET_OCTETS]) -> bool
-    ensures { result ≡ is_due latest.now now packet.now }
+/// Whether the packet of a frame is due after the latest offer.
+fn is_due(latest: &Option<Offer>, now: u64, frame: &[u8; FRAME_OCTETS]) -> bool
+    ensures { result ≡ is_due latest.now now (widget_text frame.now) }
 {
     match latest {
         None => true,
         Some(offer) => match offer.took {
-            Took::Whole => !is_same(&offer.packet, packet) || has_passed(REFRESH, offer.now, now),
+            Took::Whole => {
+                !is_packet_of(&offer.packet, frame) || has_passed(REFRESH, offer.now, now)
+            }
             Took::Later => true,
             Took::Failed(_) => has_passed(RETRY, offer.now, now),
         },
     }
 }
 
-/// The frame of a port; None where there is no such port, or nothing was shown on it.
-fn frame_of(ports: &[PortShown], port: u8) -> Option<[u8; FRAME_OCTETS]>
-    ensures { result ≡ frame_in port ports.now }
+/// The frame of a port; None where there is no such port, or it wasn't looked at.
+fn frame_of(ports: &[PortFrame], port: u8) -> Option<&[u8; FRAME_OCTETS]>
+    ensures { option_map (λ f. f.now) result ≡ frame_in port ports.now }
 {
-    for shown in ports {
-        if shown.port == port {
-            return shown.last;
+    for one in ports {
+        if one.port == port {
+            return one.last.as_ref();
         }
     }
     None
@@ -108,7 +104,7 @@ fn note<N: Notes>(
 fn serve<D: Device, N: Notes>(
     interface: &mut Interface<'_, D>,
     now: u64,
-    ports: &[PortShown],
+    ports: &[PortFrame],
     notes: &mut N,
 )
     ensures { IsServed D.told now ports.now interface.old interface.new }
@@ -116,8 +112,8 @@ fn serve<D: Device, N: Notes>(
     let Some(frame) = frame_of(ports, interface.port) else {
         return;
     };
-    let packet = widget_packet(&frame);
-    if is_due(&interface.latest, now, &packet) {
+    if is_due(&interface.latest, now, frame) {
+        let packet = widget_packet(frame);
         let took = interface.device.take(now, &packet);
         interface.latest = Some(Offer { now, packet, took });
         note(
@@ -134,7 +130,7 @@ fn serve<D: Device, N: Notes>(
 pub(crate) fn serve_interfaces<D: Device, N: Notes>(
     interfaces: &mut [Interface<'_, D>],
     now: u64,
-    ports: &[PortShown],
+    ports: &[PortFrame],
     notes: &mut N,
 )
     ensures { Pairwise (IsServed D.told now ports.now) interfaces.old interfaces.new }

@@ -5,7 +5,7 @@ use crate::drops::Drops;
 use crate::hearing::{Notes, PassedOver};
 use crate::receiver::Octets4;
 use crate::sources::Sources;
-use sacn_framing::{DataView, Packet, read_packet};
+use sacn_framing::{DataView, Packet, Reading};
 use sacn_node::NodeTaken;
 use sacn_root::PacketFault;
 use sacn_sources::Taken;
@@ -79,11 +79,11 @@ impl<E: Write> Watch<E> {
 }
 
 impl<E: Write> Notes for Watch<E> {
-    fn note_taken(&mut self, now: u64, sender: Octets4, octets: &[u8], taken: NodeTaken) {
+    fn note_taken(&mut self, now: u64, sender: Octets4, reading: &Reading<'_>, taken: NodeTaken) {
         match taken {
             NodeTaken::FromTable(taken) => {
-                if let Ok(Packet::DataPacket(packet)) = read_packet(octets) {
-                    self.note_from_table(now, sender, &packet, taken);
+                if let Ok(Packet::DataPacket(packet)) = reading {
+                    self.note_from_table(now, sender, packet, taken);
                 }
             }
             NodeTaken::Refused(fault) => self.counts.count(fault_name(fault)),

@@ -1,5 +1,6 @@
 //! Interfaces that speak the protocol of the DMX USB Pro.
 ghost use Rattle.std.specs.Prelude.{◌≡◌};
+ghost use Rattle.sacn_node.specs.Showings.{same};
 ghost use Rattle.sacn_live.specs.Widgets.{widget_text};
 
 use crate::device::{Device, DeviceFault, Took, WIDGET_OCTETS};
@@ -8,19 +9,38 @@ use sacn_universe::FRAME_OCTETS;
 use std::io::ErrorKind;
 use std::os::fd::OwnedFd;
 
+/// The start octet, the label "send DMX packet", and the frame's length from its low octet on.
+const START: [u8; 4] = [0x7e, 6, 1, 2];
+
+/// The end octet.
+const END: u8 = 0xe7;
+
 /// The packet of a frame: the start octet, the label "send DMX packet", the frame's length from its low octet on, the
 /// frame, which is a start code and 512 slots, and the end octet.
 pub fn widget_packet(frame: &[u8; FRAME_OCTETS]) -> [u8; WIDGET_OCTETS]
     ensures { result ≡ widget_text frame.now }
 {
     let mut packet = [0; WIDGET_OCTETS];
-    packet[..4].copy_from_slice(&[0x7e, 6, 1, 2]);
+    packet[..4].copy_from_slice(&START);
     packet[4..517].copy_from_slice(frame);
-    packet[517] = 0xe7;
+    packet[517] = END;
     packet
 }
 
-fn is_same(a: &[u8; WIDGET_OCTETS], b: &[u8; WIDGET_OCTETS]) -> bool {
+/// Whether a packet is that of a frame, which isn't made for that.
+pub(crate) fn is_packet_of(packet: &[u8; WIDGET_OCTETS], frame: &[u8; FRAME_OCTETS]) -> bool
+    ensures { result ≡ same packet.now (widget_text frame.now) }
+{
+    let begins = is_same(&packet[..4], &START);
+    let carries = is_same(&packet[4..517], frame);
+    let ends = is_same(&packet[517..], &[END]);
+    begins & carries & ends
+}
+
+#[tactic(auto, unfolding(sacn_node::specs::Showings::same))]
+fn is_same(a: &[u8], b: &[u8]) -> bool
+    ensures { result ≡ same a.now b.now }
+{
     a == b
 }
 

@@ -57,7 +57,7 @@ unfoldable pub after_data : Sender → Data → Book → Option ℕ → Book
 after_data sender d b None = if nat_lt (length b.streams) MAX_STREAMS then record b { streams = b.streams ++ first_stream b.moment sender d ∷ [] } else untracked b
 after_data sender d b (Some i) = record b { streams = change_at (stream_after b.moment sender d) i b.streams }
 
--- ---- a datagram
+-- ---- a datagram, by its one reading
 
 abbrev pub noted_packet : Sender → Book → Result Packet PacketFault → Noted
 noted_packet sender b (Ok (DataPacket d)) = noted_data sender d b (place_of d.universe d.cid b.streams)

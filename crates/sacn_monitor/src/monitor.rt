@@ -14,7 +14,7 @@ use crate::rivals::{rivals, top_priority};
 use crate::silence::next_loss;
 use crate::stream::Stream;
 use crate::tally::Tally;
-use sacn_framing::{DataView, Packet, read_packet};
+use sacn_framing::{DataView, Packet, Reading};
 use std::alloc::{AllocError, Global};
 use std::marker::Model;
 
@@ -39,7 +39,7 @@ impl Model for Monitor {
 }
 
 impl Monitor {
-    ghost use Rattle.sacn_monitor.specs.Books.{new_book, note_of, after_take, noted_data, after_data, place_of, silent_place, after_tick, with_told, change_at};
+    ghost use Rattle.sacn_monitor.specs.Books.{new_book, with_datagram, noted_packet, after_read, noted_data, after_data, place_of, silent_place, after_tick, with_told, change_at};
 
     /// A monitor that has heard nothing, with the room for `MAX_STREAMS` streams taken.
     ///
@@ -54,15 +54,17 @@ impl Monitor {
         })
     }
 
-    /// Takes a datagram that came at a moment, in milliseconds, and returns what it told that is new.
-    pub fn take(&mut self, now: u64, sender: Sender, octets: &[u8]) -> Noted
-        ensures noted { result ≡ note_of now sender octets.now self.old }
-        ensures book { self.new ≡ after_take now sender octets.now self.old }
+    /// Takes what a datagram was read as that came at a moment, in milliseconds, and returns what it told that is new.
+    pub fn take(&mut self, now: u64, sender: Sender, reading: &Reading<'_>) -> Noted
+        ensures noted { result
+            ≡ noted_packet sender (with_datagram now self.old) reading.now }
+        ensures book { self.new
+            ≡ after_read sender (with_datagram now self.old) reading.now }
     {
         self.moment = self.moment.max(now);
         self.tally.datagrams = self.tally.datagrams.saturating_add(1);
-        match read_packet(octets) {
-            Ok(Packet::DataPacket(packet)) => self.hear(sender, &packet),
+        match reading {
+            Ok(Packet::DataPacket(packet)) => self.hear(sender, packet),
             Ok(Packet::PagePacket(_)) => {
                 self.tally.pages = self.tally.pages.saturating_add(1);
                 Noted::Page
@@ -72,8 +74,8 @@ impl Monitor {
                 Noted::Sync
             }
             Err(fault) => {
-                self.tally.refuse(fault);
-                Noted::Refused(fault)
+                self.tally.refuse(*fault);
+                Noted::Refused(*fault)
             }
         }
     }

@@ -9,7 +9,7 @@ use crate::ports::{NodePort, copy_numbers, copy_ports, fill_frame, find_port, sh
 use crate::setup::{NodeSetup, universes_of};
 use crate::tables::Tables;
 use arrayvec::ArrayVec;
-use sacn_framing::{Packet, read_packet};
+use sacn_framing::{Packet, Reading, read_packet};
 use sacn_sources::{HeldView, TableFault};
 use sacn_universe::FRAME_OCTETS;
 use std::alloc::Global;
@@ -71,39 +71,23 @@ impl NodeCore {
           core = after_reading (reading_packet octets.now) now self.old.core;
         } }
     {
-        match read_packet(octets) {
-            Ok(Packet::DataPacket(packet)) => self.tables.take(now, &packet),
-            Ok(Packet::PagePacket(_)) => {
-                self.tables.expire(now);
-                NodeTaken::Discovery
-            }
-            Ok(Packet::SyncPacket) => {
-                self.tables.expire(now);
-                NodeTaken::Sync
-            }
-            Err(fault) => {
-                self.tables.expire(now);
-                NodeTaken::Refused(fault)
-            }
-        }
+        self.take_reading(now, &read_packet(octets)).taken
     }
 
-    /// Takes a datagram as `take` does, and says what it may have changed of what the node shows: where no source was lost at
-    /// this moment, the slots of `universe` alone.
-    pub fn take_and_tell(&mut self, now: u64, octets: &[u8]) -> NodeChange
-        ensures taken { result.taken ≡ reply_to (reading_packet octets.now) now self.old.core }
+    /// Takes what a datagram was read as, as `take` does, and says what it may have changed of what the node shows: where no
+    /// source was lost at this moment, the slots of `universe` alone.
+    pub fn take_reading(&mut self, now: u64, reading: &Reading<'_>) -> NodeChange
+        ensures taken { result.taken ≡ reply_to reading.now now self.old.core }
         ensures lost { result.lost ≡ core_lost now self.old.core }
-        ensures universe { result.universe
-            ≡ universe_changed (reading_packet octets.now) now self.old.core }
-        ensures core { self.new ≡ record self.old {
-          core = after_reading (reading_packet octets.now) now self.old.core;
-        } }
+        ensures universe { result.universe ≡ universe_changed reading.now now self.old.core }
+        ensures core { self.new
+            ≡ record self.old { core = after_reading reading.now now self.old.core } }
     {
-        match read_packet(octets) {
-            Ok(Packet::DataPacket(packet)) => self.tables.take_and_tell(now, &packet),
+        match reading {
+            Ok(Packet::DataPacket(packet)) => self.tables.take(now, packet),
             Ok(Packet::PagePacket(_)) => self.pass(now, NodeTaken::Discovery),
             Ok(Packet::SyncPacket) => self.pass(now, NodeTaken::Sync),
-            Err(fault) => self.pass(now, NodeTaken::Refused(fault)),
+            Err(fault) => self.pass(now, NodeTaken::Refused(*fault)),
         }
     }
 
@@ -150,7 +134,21 @@ impl NodeCore {
         ensures unchanged { OnErr result (frame.new ≡ frame.old) }
     {
         self.tables.expire(now);
+        self.frame_now(port, frame)
+    }
+
+    /// Writes the frame of a port at the moment in use, as `frame` does.
+    pub(crate) fn frame_now(
+        &mut self,
+        port: u8,
+        frame: &mut [u8; FRAME_OCTETS],
+    ) -> Result<(), NoPort>
+        ensures frame { node_frame port self.old ≡ (if is_ok result then Some frame.new else None) }
+        ensures core { self.new ≡ self.old }
+        ensures unchanged { OnErr result (frame.new ≡ frame.old) }
+    {
         let port = find_port(&self.ports, port).ok_or(NoPort)?;
+        self.tables.tell_settled();
         fill_frame(&mut self.tables, port.ranges(), frame);
         Ok(())
     }

@@ -82,18 +82,8 @@ impl Tables {
         self.sweep(now)
     }
 
-    /// Takes a data packet.
-    pub(crate) fn take(&mut self, now: u64, packet: &DataView<'_>) -> NodeTaken
-        ensures answer { result
-            ≡ core_reply packet.now.universe (packet_of packet.now) now self.old }
-        ensures core { self.new
-            ≡ core_after packet.now.universe (packet_of packet.now) now self.old }
-    {
-        self.take_and_tell(now, packet).taken
-    }
-
     /// Takes a data packet, and says what it may have changed.
-    pub(crate) fn take_and_tell(&mut self, now: u64, packet: &DataView<'_>) -> NodeChange
+    pub(crate) fn take(&mut self, now: u64, packet: &DataView<'_>) -> NodeChange
         ensures taken { result.taken
             ≡ core_reply packet.now.universe (packet_of packet.now) now self.old }
         ensures lost { result.lost ≡ core_lost now self.old }
@@ -112,6 +102,13 @@ impl Tables {
             ),
             Err(_) => change_by(NodeTaken::OtherUniverse, lost, universe),
         }
+    }
+
+    // Each call with a moment drops what is lost at it, so nothing is lost at the moment in use. This costs nothing.
+    pub(crate) fn tell_settled(&self)
+        ensures { core_at self.now.moment self.now ≡ self.now }
+    {
+        let _moment = self.moment;
     }
 
     /// The first moment at which a source that is held is lost, if no packet comes, and `None` where there is none.

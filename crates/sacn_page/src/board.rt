@@ -61,13 +61,14 @@ impl Board {
             (IsTaken now sender octets.now self.old.monitor self.new.monitor) }
     {
         self.catch_up(now)?;
-        match self.monitor.take(now, sender, octets) {
+        let reading = read_packet(octets);
+        match self.monitor.take(now, sender, &reading) {
             Noted::Refused(fault) => self.alarms.add(now, Trouble::Refused(sender, fault))?,
             Noted::Heard(place, news) => self.note(now, place, &news)?,
             _ => {}
         }
-        match read_packet(octets) {
-            Ok(Packet::DataPacket(packet)) => self.light(now, &packet),
+        match &reading {
+            Ok(Packet::DataPacket(packet)) => self.light(now, packet),
             _ => Ok(()),
         }
     }

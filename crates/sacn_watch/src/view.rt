@@ -60,9 +60,10 @@ impl View {
             (record { universe = self.old.universe; sources = self.old.table }) }
     {
         self.tick(now);
-        let _ = self.monitor.take(now, sender, octets);
-        match read_packet(octets) {
-            Ok(Packet::DataPacket(packet)) => self.take_levels(now, &packet),
+        let reading = read_packet(octets);
+        let _ = self.monitor.take(now, sender, &reading);
+        match &reading {
+            Ok(Packet::DataPacket(packet)) => self.take_levels(now, packet),
             Ok(Packet::PagePacket(_)) => {}
             Ok(Packet::SyncPacket) => {}
             Err(_) => {}

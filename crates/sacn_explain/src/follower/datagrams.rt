@@ -1,7 +1,6 @@
 //! What a datagram tells, by what it was.
 
 ghost use Rattle.std.specs.Prelude.{◌≡◌, ◌==◌, ℕ, OnOk, slice_get, if◌then◌else◌};
-ghost use Rattle.sacn_framing.specs.PacketReading.{reading_packet};
 ghost use Rattle.sacn_explain.specs.Contests.{is_noted};
 ghost use Rattle.sacn_explain.specs.Datagrams.{datagram_told, lists_after};
 ghost use Rattle.sacn_explain.specs.Occurrences.{is_contested, noted_told, packet_told, rivals_told, stirred_told};
@@ -14,7 +13,7 @@ use super::Follower;
 use crate::contests::stirs;
 use crate::fault::TellFault;
 use crate::listings::PageNews;
-use sacn_framing::{Packet, read_packet};
+use sacn_framing::{Packet, Reading};
 use sacn_monitor::{News, Noted, Sender};
 use std::io::Write;
 
@@ -23,24 +22,24 @@ impl<'a, O: Write> Follower<'a, O> {
     pub(super) fn tell(
         &mut self,
         sender: &Sender,
-        octets: &[u8],
+        reading: &Reading<'_>,
         noted: Noted,
     ) -> Result<(), TellFault>
         ensures told { OnOk result (Tells O.contents self.old.teller self.new.teller (datagram_told
             self.old.teller.form self.old.options.universes.now self.old.contests self.old.monitor
-            sender.now (list_book self.old.listings) (reading_packet octets.now) noted)) }
+            sender.now (list_book self.old.listings) reading.now noted)) }
         ensures lists { OnOk result
             (list_book self.new.listings ≡ lists_after self.old.monitor.moment
-            (reading_packet octets.now) noted (list_book self.old.listings)) }
+            reading.now noted (list_book self.old.listings)) }
         ensures stage { self.new.stage ≡ self.old.stage }
         ensures monitor { self.new.monitor ≡ self.old.monitor }
         ensures moment { self.new.moment ≡ self.old.moment }
         ensures wake { self.new.wake ≡ self.old.wake }
         ensures listed { OnOk result (listed_in self.new.listings
-            ≡ after_noted noted (reading_packet octets.now) (listed_in self.old.listings)) }
+            ≡ after_noted noted reading.now (listed_in self.old.listings)) }
     {
         match noted {
-            Noted::Page => self.tell_page(octets),
+            Noted::Page => self.tell_page(reading),
             _ => self.tell_noted(sender, noted),
         }
     }
@@ -130,24 +129,24 @@ impl<'a, O: Write> Follower<'a, O> {
     }
 
     // The list of a source, where it is another one than before.
-    fn tell_page(&mut self, octets: &[u8]) -> Result<(), TellFault>
+    fn tell_page(&mut self, reading: &Reading<'_>) -> Result<(), TellFault>
         ensures told { OnOk result (Tells O.contents self.old.teller self.new.teller
-            (page_told self.old.teller.form self.old.monitor.moment (reading_packet octets.now)
+            (page_told self.old.teller.form self.old.monitor.moment reading.now
             (list_book self.old.listings))) }
         ensures lists { OnOk result (list_book self.new.listings ≡ books.after_read
-            self.old.monitor.moment (reading_packet octets.now) (list_book self.old.listings)) }
+            self.old.monitor.moment reading.now (list_book self.old.listings)) }
         ensures stage { self.new.stage ≡ self.old.stage }
         ensures monitor { self.new.monitor ≡ self.old.monitor }
         ensures moment { self.new.moment ≡ self.old.moment }
         ensures wake { self.new.wake ≡ self.old.wake }
         ensures listed { OnOk result (listed_in self.new.listings
-            ≡ after_reading (reading_packet octets.now) (listed_in self.old.listings)) }
+            ≡ after_reading reading.now (listed_in self.old.listings)) }
     {
-        let Ok(Packet::PagePacket(page)) = read_packet(octets) else {
+        let Ok(Packet::PagePacket(page)) = reading else {
             return Ok(());
         };
         let now = self.monitor.moment();
-        let event = match self.listings.take(now, &page)? {
+        let event = match self.listings.take(now, page)? {
             PageNews::Nothing => return Ok(()),
             PageNews::Appears => "lists",
             PageNews::Changes => "relists",

@@ -1,20 +1,17 @@
-use Rattle.std.proofs.Common.{arith, ◌-◌, ◌||◌, not, nat_lt, ◌∷◌, [], refl, sym}
+use Rattle.std.proofs.Common.{arith, ◌-◌, ◌||◌, not, nat_lt, ◌∷◌, [], refl, sym, ◌∙◌}
 use Rattle.sacn_edge.proofs.NodeLemmas.{Extends-append}
-use Rattle.sacn_edge.proofs.Changing.{grown, more_told}
-use Rattle.sacn_live.specs.Hearings.{hearing_in, came_of, heard_of, in_order}
+use Rattle.sacn_live.specs.Hearings.{hearing_in, came_of, in_order}
 use Rattle.sacn_live.specs.declared.limits.TheConstants.{TURN_SPAN}
-use Rattle.sacn_live.proofs.Draining.{settled_by, node_more, backlog_more, ended_is, ended_over, ended_full, goes_on}
+use Rattle.sacn_live.proofs.Draining.{node_more, backlog_more, ended_is, ended_over, ended_full, goes_on}
 use Rattle.sacn_live.proofs.gateway.drain.Goals as goal
 
 pub loop-count-init : goal.loop-count-init
 loop-count-init g c =
     let r = c.hear-step.result in
     let e = c.hear-step.ensures in
-    let came = came_of r.arrival c.hear-step.new.buffer in
     record {
-      settled = settled_by r.now (heard_of c.args.senders.now c.args.waits r.now came) c.args.core.now c.hear-step.new.core e.core;
-      grows = e.grows;
-      changed = e.changed;
+      showing = e.showing;
+      ports = e.ports;
       run = (hearing_in r.now r.arrival c.hear-step.new.buffer, [], refl, sym e.more, e.told, e.core, e.waits, refl, refl, tt);
     }
 
@@ -25,14 +22,11 @@ returns-then-is_over-clause-heard g c =
     let ended = ended_is hs c.loop-count.step.is_more c.loop-count.step.now c.hear-step.result.now run.3 run.7 run.8 in
     (hs, (ended_over (not c.loop-count.step.is_more || not (nat_lt (c.loop-count.step.now - c.hear-step.result.now) TURN_SPAN)) c.is_over.result hs ended c.is_over.ensures c.if-is_over.true, run.9), run.4, run.5, run.6, run.7)
 
-pub returns-then-is_over-clause-settled : goal.returns-then-is_over-clause-settled
-returns-then-is_over-clause-settled g c = c.loop-count.invariant.settled
+pub returns-then-is_over-clause-showing : goal.returns-then-is_over-clause-showing
+returns-then-is_over-clause-showing g c = c.loop-count.invariant.showing
 
-pub returns-then-is_over-clause-grows : goal.returns-then-is_over-clause-grows
-returns-then-is_over-clause-grows g c = c.loop-count.invariant.grows
-
-pub returns-then-is_over-clause-changed : goal.returns-then-is_over-clause-changed
-returns-then-is_over-clause-changed g c = c.loop-count.invariant.changed
+pub returns-then-is_over-clause-ports : goal.returns-then-is_over-clause-ports
+returns-then-is_over-clause-ports g c = c.loop-count.invariant.ports
 
 pub loop-count-preserved : goal.loop-count-preserved
 loop-count-preserved g c =
@@ -45,9 +39,8 @@ loop-count-preserved g c =
     let hs = run.0 ∷ run.1 in
     let ended = ended_is hs c.loop-count.step.is_more c.loop-count.step.now c.hear-step.result.now run.3 run.7 run.8 in
     record {
-      settled = settled_by r.now (heard_of c.args.senders.now c.loop-count.step.waits r.now came) old new.core e.core;
-      grows = grown c.args.changes.now c.loop-count.changes new.changes c.loop-count.invariant.grows e.grows;
-      changed = more_told c.loop-count.changes new.changes c.args.core.now.core old.core new.core.core e.grows c.loop-count.invariant.changed e.changed;
+      showing = e.showing;
+      ports = e.ports ∙ c.loop-count.invariant.ports;
       run = (
         hearing_in r.now r.arrival new.buffer,
         hs,
@@ -69,11 +62,8 @@ returns-clause-heard g c =
     let ended = ended_is hs c.loop-count.step.is_more c.loop-count.step.now c.hear-step.result.now run.3 run.7 run.8 in
     (hs, (ended_full _ hs ended (omega (arith, run.2, c.loop-count-test.false, c.loop-count.auto._count-end)), run.9), run.4, run.5, run.6, run.7)
 
-pub returns-clause-settled : goal.returns-clause-settled
-returns-clause-settled g c = c.loop-count.invariant.settled
+pub returns-clause-showing : goal.returns-clause-showing
+returns-clause-showing g c = c.loop-count.invariant.showing
 
-pub returns-clause-grows : goal.returns-clause-grows
-returns-clause-grows g c = c.loop-count.invariant.grows
-
-pub returns-clause-changed : goal.returns-clause-changed
-returns-clause-changed g c = c.loop-count.invariant.changed
+pub returns-clause-ports : goal.returns-clause-ports
+returns-clause-ports g c = c.loop-count.invariant.ports

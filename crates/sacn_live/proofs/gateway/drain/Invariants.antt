@@ -1,8 +1,7 @@
 use Rattle.std.proofs.Common.{◌≡◌, List, ◌∷◌, length}
-use Rattle.sacn_node.specs.Cores.{core_at}
+use Rattle.sacn_node.specs.Showings.{IsShowing, ports_of}
 use Rattle.sacn_edge.specs.Additions.{Extends}
 use Rattle.sacn_edge.specs.NodeText.{node_after}
-use Rattle.sacn_edge.specs.PortChanges.{Grows, IsTold}
 use Rattle.sacn_live.specs.Hearings.{Hearing, turns_of, backlog_after, in_order, is_datagram}
 use Rattle.sacn_live.specs.GatewayRun.{first_reading, GoesOn}
 use Rattle.sacn_live.proofs.gateway.drain.Given as goal
@@ -10,9 +9,8 @@ use Rattle.sacn_live.proofs.gateway.drain.Given as goal
 -- what was heard so far is with the node
 abbrev pub invariant-loop-count : goal.invariant-loop-count
 invariant-loop-count g l = record {
-  settled : core_at l.step.now l.core.core ≡ l.core.core;
-  grows : Grows l.fn.changes l.changes;
-  changed : IsTold l.changes l.fn.core.core l.core.core;
+  showing : IsShowing l.showing l.core;
+  ports : ports_of l.showing ≡ ports_of l.fn.showing;
   run :
       (h : Hearing) × (hs : List Hearing)
       × (length (h ∷ hs) ≡ l._count)

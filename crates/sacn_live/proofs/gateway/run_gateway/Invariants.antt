@@ -1,7 +1,7 @@
 use Rattle.std.proofs.Common.{◌≡◌, List, length, false}
 use Rattle.sacn_node.specs.Setup.{port_numbers}
+use Rattle.sacn_node.specs.Showings.{IsShowing, ports_of}
 use Rattle.sacn_edge.specs.Additions.{Adds, Extends}
-use Rattle.sacn_edge.specs.PortChanges.{AreCurrentBut}
 use Rattle.sacn_edge.proofs.NodeLemmas.{Distinct, numbers, Remembers}
 use Rattle.sacn_live.specs.Hearings.{Hearing}
 use Rattle.sacn_live.specs.GatewayText.{gateway_after, gateway_text, gateway_lines}
@@ -14,7 +14,7 @@ abbrev pub invariant-loop-turn : goal.invariant-loop-turn
 invariant-loop-turn g l = record {
   works : g.O.Out.failed l.out ≡ false;
   distinct : Distinct (port_numbers l.fn.core.ports);
-  current : AreCurrentBut l.changes l.core l.ports.items;
+  showing : IsShowing l.showing l.core;
   run :
       (turns : List (List Hearing))
       × (length turns ≡ l._turn)
@@ -24,7 +24,7 @@ invariant-loop-turn g l = record {
       × Adds (g.O.Out.Tells l.fn.out) (g.O.Out.Tells l.out) (gateway_text l.fn.core l.senders turns)
       × (l.core ≡ (gateway_after l.fn.core l.senders turns).node)
       × (l.waits ≡ (gateway_after l.fn.core l.senders turns).waits)
-      × (numbers l.ports.items ≡ port_numbers l.fn.core.ports)
-      × Remembers (gateway_lines l.fn.core l.senders turns) l.ports.items
+      × (numbers (ports_of l.showing) ≡ port_numbers l.fn.core.ports)
+      × Remembers (gateway_lines l.fn.core l.senders turns) (ports_of l.showing)
       × AreOffered g.D.Device.told l.fn.core l.senders turns l.fn.interfaces l.interfaces;
 }

@@ -1,5 +1,6 @@
 use Rattle.std.proofs.Common.{◌∙◌, ap, sym, List}
 use Rattle.sacn_monitor.specs.declared.stream.Stream.{Stream}
+use Rattle.sacn_node.specs.Showings.{ports_of}
 use Rattle.sacn_explain.specs.Causes.{cause_among, reason_of}
 use Rattle.sacn_explain.proofs.Turns.{still_staged, turn_staged, turn_told}
 use Rattle.sacn_explain.proofs.follower.Follower.show_turn.Goals as goal
@@ -9,7 +10,7 @@ returns-then-not-take-clause-stage g c =
     let now = c.args.self.now.monitor.moment in
     let answer = rw c.moment-now.ensures at c.if-not-take.ensures.answer in
     let core = rw c.moment-now.ensures at c.take.ensures.core in
-    still_staged now c.args.octets.now c.args.self.now.stage c.in-Some.stage c.in-Some.is c.take.new.self.core c.take.new.self.ports.items (sym answer) core (ap (λ p. p.items) c.take.ensures.ports)
+    still_staged now c.args.reading.now c.args.self.now.stage c.in-Some.stage c.in-Some.is c.take.new.self.core (ports_of c.take.new.self.showing) (sym answer) core c.take.ensures.ports
 
 pub returns-clause-told : goal.returns-clause-told
 returns-clause-told g c =
@@ -19,8 +20,8 @@ returns-clause-told g c =
     let last = rw c.moment-now.ensures at c.show.ensures.core in
     let told = rw c.moment-now.ensures at c.show.ensures.told in
     let why = c.cause_of-cause.ensures ∙ ap (λ (ss : List Stream). cause_among ss c.args.noted) c.streams.ensures in
-    turn_told now c.args.octets.now c.args.self.now.stage c.in-Some.stage c.in-Some.is c.show.result c.take.new.self.core c.show.new.self.core c.take.new.self.ports.items (sym answer) core last
-    (ap (λ p. p.items) c.take.ensures.ports) g.O.Write.contents c.args.self.now.teller c.show.new.teller (reason_of c.cause_of-cause.result) (cause_among c.args.self.now.monitor.streams c.args.noted) why told
+    turn_told now c.args.reading.now c.args.self.now.stage c.in-Some.stage c.in-Some.is c.show.result c.take.new.self.core c.show.new.self.core (ports_of c.take.new.self.showing) (sym answer) core last
+    c.take.ensures.ports g.O.Write.contents c.args.self.now.teller c.show.new.teller (reason_of c.cause_of-cause.result) (cause_among c.args.self.now.monitor.streams c.args.noted) why told
 
 pub returns-clause-stage : goal.returns-clause-stage
 returns-clause-stage g c =
@@ -28,5 +29,5 @@ returns-clause-stage g c =
     let answer = rw c.moment-now.ensures at c.if-not-take.ensures.answer in
     let core = rw c.moment-now.ensures at c.take.ensures.core in
     let last = rw c.moment-now.ensures at c.show.ensures.core in
-    turn_staged now c.args.octets.now c.args.self.now.stage c.in-Some.stage c.in-Some.is c.show.result c.take.new.self.core c.show.new.self.core c.take.new.self.ports.items (sym answer) core last
-    (ap (λ p. p.items) c.take.ensures.ports) c.show.new.self.ports.items c.show.ensures.ports
+    turn_staged now c.args.reading.now c.args.self.now.stage c.in-Some.stage c.in-Some.is c.show.result c.take.new.self.core c.show.new.self.core (ports_of c.take.new.self.showing) (sym answer) core last
+    c.take.ensures.ports (ports_of c.show.new.self.showing) c.show.ensures.ports
