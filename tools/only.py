@@ -87,7 +87,7 @@ def main(words):
         sys.exit(__doc__)
     root = next(it for it in ("src/main.rt", "src/lib.rt") if os.path.exists(f"{TOP}/crates/{name}/{it}"))
     logic = ["--antt-project", f"{KIT}/rattle/logic/antt-project.json", "--logic-built", f"{KIT}/logic_built", "--links", f"{name}=", "--jobs", "2"]
-    asked = [word for it in functions for word in ("--only", it)]
+    asked = [] if "--start" in flags else [word for it in functions for word in ("--only", it)]
     return subprocess.call([f"{KIT}/bin/rattle", "check", "--crate-name", name, root, *crates.words(name), *logic, *asked, *flags], cwd=f"{TOP}/crates/{name}")
 
 

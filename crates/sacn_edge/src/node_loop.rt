@@ -1,7 +1,7 @@
 //! The node's loop.
 ghost use Rattle.std.specs.Prelude.{◌≡◌, ◌≤◌, ◌<◌, ◌+◌, ◌-◌, ◌^◌, ◌∷◌, [], List, length, false, true, ℕ, if◌then◌else◌, OnOk, IfOk, OnErr};
 ghost use Rattle.sacn_node.specs.Calls.{step};
-ghost use Rattle.sacn_node.specs.Showings.{IsShowing, ports_of};
+ghost use Rattle.sacn_node.specs.Showings.{IsShowingOf, ports_of};
 ghost use Rattle.sacn_edge.specs.Additions.{Adds, Extends};
 ghost use Rattle.sacn_edge.specs.Hearings.{Hears, heard_of, is_datagram, is_failure};
 ghost use Rattle.sacn_edge.specs.NodeText.{Turn, call_at, node_after, node_text};
@@ -31,13 +31,13 @@ fn hear<L: Link, C: Clock>(
     showing: &mut Showing,
     buffer: &mut [u8; BUFFER_OCTETS],
 ) -> Hearing
-    requires { IsShowing showing.old core.old }
+    requires { IsShowingOf showing.old core.old }
     ensures clock { Extends (C.readings clock.old) (C.readings clock.new) (result.now ∷ []) }
     ensures link { Hears (L.told link.old) (L.told link.new)
         (heard_of result.received buffer.new ∷ []) }
     ensures core { core.new
         ≡ step (call_at result.now (heard_of result.received buffer.new)) core.old }
-    ensures showing { IsShowing showing.new core.new }
+    ensures showing { IsShowingOf showing.new core.new }
     ensures ports { ports_of showing.new ≡ ports_of showing.old }
 {
     let now = clock.now();

@@ -1,7 +1,7 @@
 -- The node after a datagram, whose frames are told.
 use Rattle.std.proofs.Common.{◌≡◌, ℕ, true, false, List, map, Option, Some, Result, Ok, Err, OnOk, ap, subst, ◌∙◌}
 use Rattle.sacn_node.specs.declared.port_frame.PortFrame.{PortFrame}
-use Rattle.sacn_node.specs.Calls.{step, Tick}
+use Rattle.sacn_node.specs.Calls.{step, Tick, with_reading}
 use Rattle.sacn_node.specs.Cores.{Core, Node}
 use Rattle.sacn_node.specs.Readings.{Reading}
 use Rattle.sacn_node.specs.Showings.{port_after, ports_of}
@@ -9,7 +9,7 @@ use Rattle.sacn_node.proofs.Settled.{reading_settled}
 use Rattle.sacn_explain.specs.declared.stage.Stage.{Stage}
 use Rattle.sacn_explain.specs.declared.teller.Teller.{Teller}
 use Rattle.sacn_explain.specs.Causes.{Reason}
-use Rattle.sacn_explain.specs.Shows.{Staged, after_turn, frames_told, staged, turn_shown, with_reading}
+use Rattle.sacn_explain.specs.Shows.{Staged, after_turn, frames_told, staged, turn_shown}
 use Rattle.sacn_explain.specs.Staging.{may_change_frames}
 use Rattle.sacn_explain.specs.Tellings.{Tells}
 

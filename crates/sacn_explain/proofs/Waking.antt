@@ -26,12 +26,13 @@ use Rattle.sacn_monitor.specs.Streams.{falls_silent, first_stream, loss_of, stre
 use Rattle.sacn_monitor.specs.Books.{Book, after_data, after_read, after_take, after_tick, changed, with_datagram, next_loss, silent_place, with_told, told_at, untracked}
 use Rattle.sacn_node.specs.declared.port_frame.PortFrame.{PortFrame}
 use Rattle.sacn_node.specs.Cores.{Core, Node, Table, change_rows, core_lost, rows_kept_all, rows_lost_all}
+use Rattle.sacn_node.specs.Calls.{with_reading}
 use Rattle.sacn_node.specs.Readings.{Reading, after_reading}
 use Rattle.sacn_node.specs.Showings.{ports_of}
 use Rattle.sacn_explain.specs.declared.follower.Follower.{Follower}
 use Rattle.sacn_explain.specs.declared.stage.Stage.{Stage}
 use Rattle.sacn_explain.specs.Following.{after_ticks, IsTicked}
-use Rattle.sacn_explain.specs.Shows.{Staged, after_turn, all_shown, staged, turned, with_reading}
+use Rattle.sacn_explain.specs.Shows.{Staged, after_turn, all_shown, staged, turned}
 use Rattle.sacn_explain.specs.Staging.{may_change_frames}
 use Rattle.sacn_explain.specs.Silences.{AreToldLost, EndsNothingBefore, WakesInTime}
 

@@ -6,7 +6,6 @@ pub mod Following
 pub mod Story
 pub mod Amounts
 pub mod Staging
-pub mod Stages
 pub mod Contests
 pub mod Spelling
 pub mod Members

@@ -2,9 +2,9 @@
 use Rattle.std.specs.Prelude.{ℕ, List, [], ◌++◌, map, Option, None, Some, if◌then◌else◌}
 use Rattle.std.specs.List.{flat_map}
 use Rattle.sacn_node.specs.declared.port_frame.PortFrame.{PortFrame}
-use Rattle.sacn_node.specs.Calls.{step, Tick}
+use Rattle.sacn_node.specs.Calls.{step, Tick, with_reading}
 use Rattle.sacn_node.specs.Cores.{Node, new_node}
-use Rattle.sacn_node.specs.Readings.{Reading, after_reading}
+use Rattle.sacn_node.specs.Readings.{Reading}
 use Rattle.sacn_node.specs.Setup.{Port, port_numbers}
 use Rattle.sacn_node.specs.Showings.{port_after, ports_of, unseen}
 use Rattle.sacn_edge.specs.PortLines.{frame_text}
@@ -56,9 +56,6 @@ after_loss at None = None
 after_loss at (Some s) = Some (all_shown (step (Tick at) s.node) s.ports)
 
 -- ---- after a datagram, by what it was read as: the frames of the node that has taken it, where it may have changed one
-
-abbrev pub with_reading : ℕ → Reading → Node → Node
-with_reading now reading n = record { ports = n.ports; core = after_reading reading now n.core }
 
 abbrev pub turn_shown : Form → ℕ → Reading → Reason → Option Staged → List ℕ
 turn_shown form now reading reason None = []

@@ -1,7 +1,6 @@
 //! The frames of a node.
 
-ghost use Rattle.sacn_node.specs.Showings.{IsShowing};
-ghost use Rattle.sacn_explain.specs.Stages.{IsShowing-prop};
+ghost use Rattle.sacn_node.specs.Showings.{IsShowingOf, IsShowingOf-prop};
 
 use crate::cause::Cause;
 use crate::fault::TellFault;
@@ -17,17 +16,17 @@ use std::io::Write;
 pub struct Stage {
     core: NodeCore,
     showing: Showing,
-    ghost current: { IsShowing showing core } by { IsShowing-prop showing core },
+    ghost current: { IsShowingOf showing core } by { IsShowingOf-prop showing core },
 }
 
 impl Stage {
     ghost use Rattle.std.specs.Prelude.{◌≡◌, ◌<◌, ◌≤◌, ◌-◌, ◌^◌, ℕ, IfOk, OnOk, map};
-    ghost use Rattle.sacn_node.specs.Calls.{step, Tick};
+    ghost use Rattle.sacn_node.specs.Calls.{step, Tick, with_reading};
     ghost use Rattle.sacn_node.specs.Cores.{new_node, core_lost};
     ghost use Rattle.sacn_node.specs.Setup.{port_numbers};
     ghost use Rattle.sacn_node.specs.Showings.{port_after, ports_of, unseen};
     ghost use Rattle.sacn_explain.specs.Causes.{reason_of};
-    ghost use Rattle.sacn_explain.specs.Shows.{frames_told, start_told, started_node, with_reading};
+    ghost use Rattle.sacn_explain.specs.Shows.{frames_told, start_told, started_node};
     ghost use Rattle.sacn_explain.specs.Staging.{may_change_frames};
     ghost use Rattle.sacn_explain.specs.Tellings.{Tells};
 

@@ -1,7 +1,7 @@
 //! The gateway's loop.
 ghost use Rattle.std.specs.Prelude.{◌≡◌, ℕ, ◌≤◌, ◌<◌, ◌+◌, ◌-◌, ◌||◌, not, nat_lt, ◌∷◌, [], List, length, false, true, OnOk, OnErr};
 ghost use Rattle.sacn_node.specs.Cores.{core_lost};
-ghost use Rattle.sacn_node.specs.Showings.{IsShowing, ports_of};
+ghost use Rattle.sacn_node.specs.Showings.{IsShowingOf, ports_of};
 ghost use Rattle.sacn_edge.specs.Additions.{Adds, Extends};
 ghost use Rattle.sacn_edge.specs.NodeText.{node_after};
 ghost use Rattle.sacn_live.specs.Hearings.{Hearing, turns_of, backlog_after, in_order};
@@ -51,13 +51,13 @@ fn drain<G: Receiver, N: Notes>(
     waits: Backlog,
     buffer: &mut [u8; BUFFER_OCTETS],
 ) -> Drained
-    requires { IsShowing showing.old core.old }
+    requires { IsShowingOf showing.old core.old }
     ensures heard { (hs : List Hearing) × IsWhole hs
         × Extends (G.told receiver.old) (G.told receiver.new) (in_order hs)
         × (core.new ≡ node_after core.old (turns_of senders.now waits hs))
         × (result.waits ≡ backlog_after waits hs)
         × (result.now ≡ latest_reading hs) }
-    ensures showing { IsShowing showing.new core.new }
+    ensures showing { IsShowingOf showing.new core.new }
     ensures ports { ports_of showing.new ≡ ports_of showing.old }
 {
     let mut step = hear(receiver, core, showing, notes, senders, waits, buffer);

@@ -2,7 +2,7 @@
 ghost use Rattle.std.specs.Prelude.{◌≡◌, ◌≤◌, ◌||◌, not, [], ◌∷◌, map, is_some};
 ghost use Rattle.std.specs.List.{list_any};
 ghost use Rattle.sacn_node.specs.Calls.{step};
-ghost use Rattle.sacn_node.specs.Showings.{IsShowing, ports_of, same};
+ghost use Rattle.sacn_node.specs.Showings.{IsShowingOf, ports_of, same};
 ghost use Rattle.sacn_edge.specs.Additions.{Extends};
 ghost use Rattle.sacn_edge.specs.NodeText.{call_at};
 ghost use Rattle.sacn_live.specs.Backlogs.{is_late};
@@ -100,10 +100,10 @@ fn give<N: Notes>(
     sender: Octets4,
     octets: &[u8],
 )
-    requires { IsShowing showing.old core.old }
+    requires { IsShowingOf showing.old core.old }
     ensures core { core.new
         ≡ step (call_at now (heard_of senders.now waits now (From sender octets.now))) core.old }
-    ensures showing { IsShowing showing.new core.new }
+    ensures showing { IsShowingOf showing.new core.new }
     ensures ports { ports_of showing.new ≡ ports_of showing.old }
 {
     match why_passed(senders, waits, now, &sender) {
@@ -129,14 +129,14 @@ pub(crate) fn hear<G: Receiver, N: Notes>(
     waits: Backlog,
     buffer: &mut [u8; BUFFER_OCTETS],
 ) -> Step
-    requires { IsShowing showing.old core.old }
+    requires { IsShowingOf showing.old core.old }
     ensures told { Extends (G.told receiver.old) (G.told receiver.new)
         (hearing_in result.now result.arrival buffer.new ∷ []) }
     ensures core { core.new ≡ step (call_at result.now
         (heard_of senders.now waits result.now (came_of result.arrival buffer.new))) core.old }
     ensures waits { result.waits
         ≡ backlog_with waits result.now (came_of result.arrival buffer.new) }
-    ensures showing { IsShowing showing.new core.new }
+    ensures showing { IsShowingOf showing.new core.new }
     ensures ports { ports_of showing.new ≡ ports_of showing.old }
     ensures more { result.is_more ≡ is_datagram (came_of result.arrival buffer.new) }
 {

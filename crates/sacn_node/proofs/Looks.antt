@@ -2,16 +2,16 @@
 use Rattle.std.proofs.Common.{◌≡◌, ℕ, ◌==◌, Bool, true, false, not, ◌||◌, List, [], ◌∷◌, ◌++◌, length, take, drop, map, get_or, zero, suc, ◌<◌, Option, None, Some, IfSome, refl, sym, ap, subst, ◌∙◌, arith}
 use Rattle.std.specs.Cmp.Lexicographic.{bytes_decides}
 use Rattle.std.specs.List.{list_any}
-use Rattle.std.proofs.lemmas.List.{take_at}
+use Rattle.std.proofs.lemmas.List.{take_at, length-map}
 use Rattle.sacn_node.specs.declared.setup.SlotRange.{SlotRange}
 use Rattle.sacn_node.specs.declared.showing.Showing.{Showing}
 use Rattle.sacn_node.specs.declared.port_frame.PortFrame.{PortFrame}
 use Rattle.sacn_node.specs.Setup.{Port, port_numbers}
 use Rattle.sacn_node.specs.Ports.{port_of}
-use Rattle.sacn_node.specs.Cores.{Core, Node, core_at, core_lost, core_slots, node_frame}
+use Rattle.sacn_node.specs.Cores.{Core, Node, core_lost, core_slots, node_frame}
 use Rattle.sacn_node.specs.Readings.{Reading, after_reading}
 use Rattle.sacn_node.specs.Changes.{universe_changed, shows_on, node_shows}
-use Rattle.sacn_node.specs.Showings.{same, is_shown, unseen, with_found, port_after, ports_of, changes_universe, concerns, IsCurrent, AreCurrentBut, IsShowing}
+use Rattle.sacn_node.specs.Showings.{same, is_shown, unseen, with_found, port_after, ports_of, changes_universe, concerns, IsCurrent, AreCurrentBut, IsShowingOf}
 use Rattle.sacn_node.proofs.StableFrames.{slots_are_kept, frames_are_kept, neither}
 use Rattle.sacn_node.proofs.Settled.{tick_told}
 
@@ -82,7 +82,7 @@ module _ (s t : Showing) (n m : Node) (ports : m.ports ≡ n.ports) (all : t.all
   still_current [] current = tt
   still_current (p ∷ ps) current = (one_current p current.0, still_current ps current.1)
 
-  pub still_showing : ports_of t ≡ ports_of s → IsShowing s n → IsShowing t m
+  pub still_showing : ports_of t ≡ ports_of s → IsShowingOf s n → IsShowingOf t m
   still_showing kept showing = record {
     numbers = ap (λ (ps : List PortFrame). map (λ p. p.port) ps) kept ∙ showing.numbers ∙ ap port_numbers (sym ports);
     current = subst (AreCurrentBut t.all t.universes.items m) (sym kept) (still_current (ports_of s) showing.current);
@@ -130,9 +130,9 @@ looked_current universes n (p ∷ ps) =
     let q = port_after n p in
     ((λ quiet. subst (λ k. (with_found q (node_frame k n)).last ≡ q.last) (sym (number_after p (node_frame p.port n))) (last_again p q (node_frame p.port n) refl)), looked_current universes n ps)
 
-pub looked : (s t : Showing) (n m : Node) → m ≡ n → ports_of t ≡ map (port_after n) (ports_of s) → t.all ≡ false → IsShowing s n → IsShowing t m
+pub looked : (s t : Showing) (n m : Node) → m ≡ n → ports_of t ≡ map (port_after n) (ports_of s) → t.all ≡ false → IsShowingOf s n → IsShowingOf t m
 looked s t n m same is none showing =
-    subst (λ (m : Node). IsShowing t m) (sym same) (record {
+    subst (λ (m : Node). IsShowingOf t m) (sym same) (record {
       numbers = ap (λ (ps : List PortFrame). map (λ p. p.port) ps) is ∙ numbers_after n (ports_of s) ∙ showing.numbers;
       current = subst (λ all. AreCurrentBut all t.universes.items n (ports_of t)) (sym none) (subst (AreCurrentBut false t.universes.items n) (sym is) (looked_current t.universes.items n (ports_of s)));
     })
@@ -147,3 +147,28 @@ current_at all universes n (p ∷ ps) (suc i) d lt current = current_at all univ
 -- a slice that is lent and written back
 pub put_back : {X : Type 0} (xs ws : List X) → length ws ≡ length xs → take (length xs) (ws ++ drop (length ws) xs) ≡ ws
 put_back xs ws same = take_at ws (drop (length ws) xs) (length xs) same
+
+-- ---- a look where nothing is noted
+
+one_of_none : (rs : List SlotRange) → list_any (λ r. list_any (λ v. v == r.universe) []) rs ≡ false
+one_of_none [] = refl
+one_of_none (r ∷ rs) = one_of_none rs
+
+shows_none : (o : Option Port) → shows_on [] o ≡ false
+shows_none None = refl
+shows_none (Some p) = one_of_none p.ranges
+
+nothing_noted : (n : Node) (ps : List PortFrame) → AreCurrentBut false [] n ps → map (λ p. with_found p None) ps ≡ map (port_after n) ps
+nothing_noted n [] current = refl
+nothing_noted n (p ∷ ps) current = λ i. stays_current p (node_frame p.port n) (current.0 (shows_none (port_of p.port n.ports))) i ∷ nothing_noted n ps current.1 i
+
+nothing_new : (all : Bool) (us : List ℕ) (n : Node) (ps : List PortFrame) → all ≡ false → us ≡ [] → AreCurrentBut all us n ps → map (λ p. with_found p None) ps ≡ map (port_after n) ps
+nothing_new all us n ps none empty current =
+    nothing_noted n ps (subst (λ us. AreCurrentBut false us n ps) empty (subst (λ all. AreCurrentBut all us n ps) none current))
+
+-- of ports that were lent, without their news, and written back
+pub news_forgotten : (old lent new : List PortFrame) (all : Bool) (us : List ℕ) (n : Node) → lent ≡ old → new ≡ map (λ p. with_found p None) lent → all ≡ false → us ≡ [] → AreCurrentBut all us n old
+    → take (length old) (new ++ drop (length new) old) ≡ map (port_after n) old
+news_forgotten old lent new all us n same is none empty current =
+    let made : new ≡ map (λ p. with_found p None) old = is ∙ ap (map (λ p. with_found p None)) same in
+    put_back old new (ap length made ∙ length-map old (λ p. with_found p None)) ∙ made ∙ nothing_new all us n old none empty current

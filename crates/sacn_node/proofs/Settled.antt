@@ -1,19 +1,17 @@
 -- After a call at a moment, nothing more is lost at it.
-use Rattle.std.proofs.Common.{filter, Bool, sym, suc, length, ◌+◌, ◌≤◌, ◌==◌, ◌≡◌, ℕ, max, true, false, cond, List, [], ◌∷◌, refl, ap, ◌∙◌, arith, nat_eq, Option, Some, None, Ok, Err}
+use Rattle.std.proofs.Common.{filter, Bool, sym, suc, length, ◌+◌, ◌≤◌, ◌==◌, ◌≡◌, ℕ, max, true, false, cond, List, [], ◌∷◌, refl, ap, ◌∙◌, arith, nat_eq, Some, Ok, Err}
 use Rattle.std.specs.declared.cmp.Ordering.TheVariants.{Less, Equal, Greater}
 use Rattle.std.proofs.lemmas.Bool.{lt-ltb, eqb-true}
 use Rattle.std.proofs.lemmas.List.Sums.{sum_by-cons}
 use Rattle.std.specs.Prelude.{nat_lt, ◌-◌, ⊤}
 use Rattle.sacn_sources.specs.declared.answer.Taken.{Taken}
 use Rattle.sacn_sources.specs.declared.answer.Taken.TheVariants.{Held, Observed, EndedNow, OutOfSequence, SourcesExceeded, UnknownIgnored}
-use Rattle.sacn_framing.specs.PacketReading.{reading_packet}
 use Rattle.sacn_framing.specs.declared.packet.Packet.TheVariants.{DataPacket, PagePacket, SyncPacket}
 use Rattle.sacn_sources.specs.Order.{order, same, by_order}
 use Rattle.sacn_sources.specs.Packets.{packet_of}
 use Rattle.sacn_sources.specs.Rows.{Row, Packet, row_renewed, rows_kept, rows_lost, row_of, put_row, row_live, row_ended, row_observed, rows_after, observed, take_row, taken}
-use Rattle.sacn_node.specs.Cores.{Table, Core, Node, rows_lost_all, core_lost, rows_kept_all, change_rows, core_at, core_slots, slots_on, table_of}
+use Rattle.sacn_node.specs.Cores.{Table, Core, rows_lost_all, core_lost, rows_kept_all, change_rows, core_at, core_slots, slots_on, table_of}
 use Rattle.sacn_node.specs.Readings.{Reading, after_reading}
-use Rattle.sacn_node.specs.Calls.{step, Take, Tick}
 
 abbrev Renewed : ℕ → List Row → Type 0
 Renewed t [] = ⊤
@@ -129,25 +127,6 @@ tables_kept t (g ∷ gs) none =
 
 pub none_lost : (now lost : ℕ) (c : Core) → lost ≡ core_lost now c → (lost == 0) ≡ true → (core_at now c).tables ≡ c.tables
 none_lost now lost c counted none = tables_kept (max c.moment now) c.tables (sym counted ∙ eqb-true lost 0 none)
-
--- ---- a datagram, once what is lost at its moment was dropped
-
-core_twice : (c : Core) (now : ℕ) (read : ℕ → List Table → Core) → read (max (max c.moment now) now) (rows_kept_all (max (max c.moment now) now) (rows_kept_all (max c.moment now) c.tables)) ≡ read (max c.moment now) (rows_kept_all (max c.moment now) c.tables)
-core_twice c now read =
-    let t = max c.moment now in
-    ap (λ k. read k (rows_kept_all k (rows_kept_all t c.tables))) (max_twice c.moment now)
-    ∙ ap (read t) (kept_all t (rows_kept_all t c.tables) (all_kept t c.tables))
-
-pub reading_later : (reading : Reading) (c : Core) (now : ℕ) → after_reading reading now (core_at now c) ≡ after_reading reading now c
-reading_later (Ok (DataPacket d)) c now = core_twice c now (λ k gs. record { moment = k; tables = change_rows d.universe (take_row (packet_of d) k) gs })
-reading_later (Ok (PagePacket p)) c now = expired c now
-reading_later (Ok SyncPacket) c now = expired c now
-reading_later (Err fault) c now = expired c now
-
-pub take_later : (octets : List ℕ) (now : ℕ) (old ticked : Node) → ticked ≡ step (Tick now) old → step (Take now octets) ticked ≡ step (Take now octets) old
-take_later octets now old ticked is =
-    ap (step (Take now octets)) is
-    ∙ ap (λ (c : Core). let n : Node = record { ports = old.ports; core = c } in n) (reading_later (reading_packet octets) old.core now)
 
 -- where nothing is lost, expiry changes no slots
 pub tick_told : (now lost u : ℕ) (old : Core) → lost ≡ core_lost now old → lost ≡ 0 → core_slots (core_at now old) u ≡ core_slots old u

@@ -4,7 +4,7 @@ use Rattle.sacn_framing.specs.PacketReading.{reading_packet}
 use Rattle.sacn_node.specs.declared.answer.NodeTaken.{NodeTaken}
 use Rattle.sacn_node.specs.Setup.{Port}
 use Rattle.sacn_node.specs.Cores.{Core, Node, new_node, core_at, core_lost, node_frame}
-use Rattle.sacn_node.specs.Readings.{reply_to, after_reading}
+use Rattle.sacn_node.specs.Readings.{Reading, reply_to, after_reading}
 
 -- a call, with the moment that it hands in: a datagram's octets, expiry alone, or the frame of a port
 pub data Call : Type 0 where
@@ -36,6 +36,10 @@ abbrev pub answer_to : Call → Node → Answer
 answer_to (Take now octets) n = Replied (reply_to (reading_packet octets) now n.core)
 answer_to (Tick now) n = Lost (core_lost now n.core)
 answer_to (Frame now port) n = Shown (node_frame port (step (Frame now port) n))
+
+-- a node that was given what a datagram was read as
+abbrev pub with_reading : ℕ → Reading → Node → Node
+with_reading now reading n = record { ports = n.ports; core = after_reading reading now n.core }
 
 -- the value that a history leaves, from that of `new`
 abbrev pub after_calls : List Port → List Call → Node

@@ -1,6 +1,7 @@
 -- What a node shows on its ports, look by look, and what may have changed since the latest look.
 use Rattle.std.specs.Prelude.{◌≡◌, ◌==◌, ◌||◌, ℕ, Bool, false, not, List, [], ◌∷◌, map, Option, None, Some, ⊤}
 use Rattle.std.specs.Bool.{nat_eq}
+use Rattle.std.specs.Coded.{Coded-set, coded_ℕ, coded_list, coded_option, ×_prop, →_prop, Unit-prop}
 use Rattle.std.specs.Cmp.Lexicographic.{pointwise}
 use Rattle.std.specs.List.{list_any}
 use Rattle.sacn_node.specs.declared.showing.Showing.{Showing}
@@ -55,6 +56,17 @@ AreCurrentBut all universes n [] = ⊤
 AreCurrentBut all universes n (p ∷ ps) = (concerns all universes n p.port ≡ false → IsCurrent n p) × AreCurrentBut all universes n ps
 
 -- the ports are those of the node, and what is noted is all that changed since the latest look
-pub record IsShowing (s : Showing) (n : Node) : Type 0 where
+pub record IsShowingOf (s : Showing) (n : Node) : Type 0 where
   pub numbers : map (λ p. p.port) s.ports.items ≡ port_numbers n.ports
   pub current : AreCurrentBut s.all s.universes.items n s.ports.items
+
+-- which is said in one way at most
+AreCurrentBut-prop : (all : Bool) (universes : List ℕ) (n : Node) (ps : List PortFrame) → IsProp (AreCurrentBut all universes n ps)
+AreCurrentBut-prop all universes n [] = Unit-prop
+AreCurrentBut-prop all universes n (p ∷ ps) = ×_prop (→_prop (Coded-set (coded_option (coded_list coded_ℕ)) _ _)) (AreCurrentBut-prop all universes n ps)
+
+pub IsShowingOf-prop : (s : Showing) (n : Node) → IsProp (IsShowingOf s n)
+IsShowingOf-prop s n x y = λ i. record {
+  numbers = Coded-set (coded_list coded_ℕ) _ _ x.numbers y.numbers i;
+  current = AreCurrentBut-prop s.all s.universes.items n s.ports.items x.current y.current i;
+}

@@ -47,6 +47,7 @@ impl NodeCore {
     ghost use Rattle.sacn_framing.specs.PacketReading.{reading_packet};
     ghost use Rattle.sacn_node.specs.Setup.{port_numbers};
     ghost use Rattle.sacn_node.specs.Cores.{new_node, core_at, core_lost, core_row, node_frame};
+    ghost use Rattle.sacn_node.specs.Calls.{with_reading};
     ghost use Rattle.sacn_node.specs.Changes.{universe_changed, node_shows};
     ghost use Rattle.sacn_node.specs.Readings.{reply_to, after_reading};
 
@@ -71,17 +72,29 @@ impl NodeCore {
           core = after_reading (reading_packet octets.now) now self.old.core;
         } }
     {
-        self.take_reading(now, &read_packet(octets)).taken
+        self.take_and_tell(now, octets).taken
     }
 
-    /// Takes what a datagram was read as, as `take` does, and says what it may have changed of what the node shows: where no
-    /// source was lost at this moment, the slots of `universe` alone.
+    /// Takes a datagram as `take` does, and says what it may have changed of what the node shows: where no source was lost at
+    /// this moment, the slots of `universe` alone.
+    pub fn take_and_tell(&mut self, now: u64, octets: &[u8]) -> NodeChange
+        ensures taken { result.taken ≡ reply_to (reading_packet octets.now) now self.old.core }
+        ensures lost { result.lost ≡ core_lost now self.old.core }
+        ensures universe { result.universe
+            ≡ universe_changed (reading_packet octets.now) now self.old.core }
+        ensures core { self.new ≡ record self.old {
+          core = after_reading (reading_packet octets.now) now self.old.core;
+        } }
+    {
+        self.take_reading(now, &read_packet(octets))
+    }
+
+    /// Takes what a datagram was read as. `take_and_tell` is this call over octets.
     pub fn take_reading(&mut self, now: u64, reading: &Reading<'_>) -> NodeChange
         ensures taken { result.taken ≡ reply_to reading.now now self.old.core }
         ensures lost { result.lost ≡ core_lost now self.old.core }
         ensures universe { result.universe ≡ universe_changed reading.now now self.old.core }
-        ensures core { self.new
-            ≡ record self.old { core = after_reading reading.now now self.old.core } }
+        ensures core { self.new ≡ with_reading now reading.now self.old }
     {
         match reading {
             Ok(Packet::DataPacket(packet)) => self.tables.take(now, packet),

@@ -1,5 +1,5 @@
 //! A port of a node, and the frame of the latest look.
-ghost use Rattle.std.specs.Prelude.{◌≡◌, ◌==◌, not, false, Some, None, if◌then◌else◌};
+ghost use Rattle.std.specs.Prelude.{◌≡◌, false, Some, None, if◌then◌else◌};
 ghost use Rattle.std.specs.Option.{option_map};
 ghost use Rattle.sacn_node.specs.Showings.{IsCurrent, is_shown, port_after, with_found};
 
@@ -10,7 +10,7 @@ use sacn_universe::FRAME_OCTETS;
 /// A port of a node, and its frame at the latest look.
 #[derive(Clone, Copy, Default)]
 pub struct PortFrame {
-    /// The port's number.
+    /// The port's number: 1 to 255.
     pub port: u8,
     /// A start code and 512 slots; None before the first look.
     pub last: Option<[u8; FRAME_OCTETS]>,

@@ -3,6 +3,7 @@
 ghost use Rattle.std.specs.Prelude.{◌≡◌, ◌==◌, ◌+◌, ◌≤◌, ◌<◌, ℕ, true, false, length, slice_index, All, IfOk, IfSome, List, [], ◌∷◌};
 ghost use Rattle.std.specs.Option.{option_map};
 ghost use Rattle.std.specs.List.{list_any};
+ghost use Rattle.std.specs.List.Sorted.{IsStrictlyIncreasing};
 ghost use Rattle.sacn_universe.specs.declared.limits.TheConstants.{SLOTS, FRAME_OCTETS};
 ghost use Rattle.sacn_node.specs.Cores.{core_at, core_slots};
 ghost use Rattle.sacn_node.specs.Setup.{port_numbers};
@@ -81,8 +82,21 @@ pub(crate) fn copy_numbers(ports: &[PortSetup]) -> ArrayVec<u8, MAX_PORTS>
     numbers
 }
 
-/// The port of this number.
+/// The port of this number, of ports whose numbers rise.
+///
+/// It equals `search_port`: where the numbers are 1, 2, 3 .., as of most nodes, each stands at the place before its number.
 pub(crate) fn find_port(ports: &[NodePort], number: u8) -> Option<&NodePort>
+    requires { IsStrictlyIncreasing (port_numbers ports.now) }
+    ensures { port_of number ports.now ≡ option_map (λ p. p.now) result }
+{
+    match ports.get(usize::from(number.saturating_sub(1))) {
+        Some(port) if port.number() == number => Some(port),
+        _ => search_port(ports, number),
+    }
+}
+
+/// The first port of this number.
+fn search_port(ports: &[NodePort], number: u8) -> Option<&NodePort>
     ensures { port_of number ports.now ≡ option_map (λ p. p.now) result }
 {
     for port in ports {

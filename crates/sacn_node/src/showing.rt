@@ -1,12 +1,13 @@
 //! What a node shows on its ports.
-ghost use Rattle.std.specs.Prelude.{◌≡◌, ◌==◌, ℕ, [], ◌∷◌, false, true, map, IfSome};
+ghost use Rattle.std.specs.Prelude.{◌≡◌, ◌==◌, ℕ, [], false, true, None, map, IfSome};
 ghost use Rattle.std.specs.List.{list_any};
 ghost use Rattle.std.specs.List.Sorted.{IsStrictlyIncreasing};
 ghost use Rattle.sacn_node.specs.Setup.{port_numbers};
 ghost use Rattle.sacn_node.specs.Cores.{core_lost};
-ghost use Rattle.sacn_node.specs.Calls.{step, Tick};
-ghost use Rattle.sacn_node.specs.Readings.{after_reading, reply_to};
-ghost use Rattle.sacn_node.specs.Showings.{AreCurrentBut, IsShowing, changes_universe, concerns, port_after, ports_of, unseen};
+ghost use Rattle.sacn_node.specs.Calls.{step, Tick, with_reading};
+ghost use Rattle.sacn_node.specs.Readings.{reply_to};
+ghost use Rattle.sacn_node.specs.Changes.{universe_changed};
+ghost use Rattle.sacn_node.specs.Showings.{AreCurrentBut, IsShowingOf, changes_universe, concerns, port_after, ports_of, unseen, with_found};
 
 use crate::answer::NodeChange;
 use crate::limits::{MAX_PORTS, MAX_UNIVERSES};
@@ -33,7 +34,7 @@ impl Showing {
     pub fn new(core: &NodeCore) -> Self
         ensures ports { ports_of result ≡ map unseen (port_numbers core.now.ports) }
         ensures rising { IsStrictlyIncreasing (port_numbers core.now.ports) }
-        ensures showing { IsShowing result core.now }
+        ensures showing { IsShowingOf result core.now }
     {
         Showing {
             ports: unseen_ports(core),
@@ -49,15 +50,15 @@ impl Showing {
         self.ports.as_slice()
     }
 
-    /// Gives the node what a datagram was read as, and notes what that may have changed.
+    /// Gives the node what a datagram was read as, notes what that may have changed, and returns it.
     pub fn take(&mut self, core: &mut NodeCore, now: u64, reading: &Reading<'_>) -> NodeChange
-        requires { IsShowing self.old core.old }
+        requires { IsShowingOf self.old core.old }
         ensures taken { result.taken ≡ reply_to reading.now now core.old.core }
         ensures lost { result.lost ≡ core_lost now core.old.core }
-        ensures core { core.new
-            ≡ record core.old { core = after_reading reading.now now core.old.core } }
+        ensures universe { result.universe ≡ universe_changed reading.now now core.old.core }
+        ensures core { core.new ≡ with_reading now reading.now core.old }
         ensures ports { ports_of self.new ≡ ports_of self.old }
-        ensures showing { IsShowing self.new core.new }
+        ensures showing { IsShowingOf self.new core.new }
     {
         let change = core.take_reading(now, reading);
         self.add_lost(change.lost);
@@ -67,26 +68,30 @@ impl Showing {
 
     /// Moves the node's clock, and notes what that may have changed. Returns how many sources were lost.
     pub fn tick(&mut self, core: &mut NodeCore, now: u64) -> usize
-        requires { IsShowing self.old core.old }
+        requires { IsShowingOf self.old core.old }
         ensures lost { result ≡ core_lost now core.old.core }
         ensures core { core.new ≡ step (Tick now) core.old }
         ensures ports { ports_of self.new ≡ ports_of self.old }
-        ensures showing { IsShowing self.new core.new }
+        ensures showing { IsShowingOf self.new core.new }
     {
         let lost = core.tick(now);
         self.add_lost(lost);
         lost
     }
 
-    /// Looks at the node's ports: each frame that may have changed is made, and compared with that of the look before. Then
-    /// nothing is noted.
+    /// Looks at the node's ports: each frame that may have changed is made, and compared with that of the look before. A port
+    /// of which nothing is noted has no new frame. Then nothing is noted.
     pub fn look(&mut self, core: &mut NodeCore)
-        requires { IsShowing self.old core.old }
+        requires { IsShowingOf self.old core.old }
         ensures ports { ports_of self.new ≡ map (port_after core.old) (ports_of self.old) }
         ensures core { core.new ≡ core.old }
-        ensures showing { IsShowing self.new core.new }
+        ensures showing { IsShowingOf self.new core.new }
         ensures nothing { (u : ℕ) → changes_universe self.new u ≡ false }
     {
+        if !self.is_noted() {
+            forget_news(self.ports.as_mut_slice());
+            return;
+        }
         look_at(
             self.ports.as_mut_slice(),
             core,
@@ -95,6 +100,13 @@ impl Showing {
         );
         self.all = false;
         self.universes.clear();
+    }
+
+    /// Whether a frame may have changed since the latest look.
+    fn is_noted(&self) -> bool
+        ensures { result ≡ false → (self.now.all ≡ false) × (self.now.universes.items ≡ []) }
+    {
+        self.all || !self.universes.is_empty()
     }
 
     /// Notes that so many sources were lost.
@@ -169,6 +181,15 @@ fn may_differ(core: &NodeCore, all: bool, universes: &[u16], port: u8) -> bool
     all || core.shows(port, universes)
 }
 
+/// Notes that no port has a new frame.
+fn forget_news(ports: &mut [PortFrame])
+    ensures { ports.new ≡ map (λ p. with_found p None) ports.old }
+{
+    for port in ports.iter_mut() {
+        port.is_new = false;
+    }
+}
+
 /// Looks at each of these ports.
 fn look_at(ports: &mut [PortFrame], core: &mut NodeCore, all: bool, universes: &[u16])
     requires { AreCurrentBut all universes.now core.old ports.old }
@@ -176,7 +197,7 @@ fn look_at(ports: &mut [PortFrame], core: &mut NodeCore, all: bool, universes: &
     ensures core { core.new ≡ core.old }
 {
     for port in ports.iter_mut() {
-        let differs = may_differ(core, all, universes, port.port);
-        port.look(core, differs);
+        let may_differ = may_differ(core, all, universes, port.port);
+        port.look(core, may_differ);
     }
 }

@@ -1,6 +1,6 @@
 use Rattle.std.proofs.Common.{◌≡◌, ◌≤◌, ◌+◌, List, length, false}
 use Rattle.sacn_node.specs.Setup.{port_numbers}
-use Rattle.sacn_node.specs.Showings.{IsShowing, ports_of}
+use Rattle.sacn_node.specs.Showings.{IsShowingOf, ports_of}
 use Rattle.sacn_edge.specs.Additions.{Adds}
 use Rattle.sacn_edge.specs.NodeText.{Turn, node_after, node_text, lines_after}
 use Rattle.sacn_edge.specs.NodeRun.{Turned, report_of}
@@ -13,7 +13,7 @@ invariant-loop-turn g l = record {
   works : g.O.Out.failed l.out ≡ false;
   few : l.report.received + l.report.failed ≤ l._turn;
   distinct : Distinct (port_numbers l.fn.core.ports);
-  showing : IsShowing l.showing l.core;
+  showing : IsShowingOf l.showing l.core;
   run :
       (ts : List Turn)
       × (length ts ≡ l._turn)

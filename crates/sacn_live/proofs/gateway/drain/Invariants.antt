@@ -1,5 +1,5 @@
 use Rattle.std.proofs.Common.{◌≡◌, List, ◌∷◌, length}
-use Rattle.sacn_node.specs.Showings.{IsShowing, ports_of}
+use Rattle.sacn_node.specs.Showings.{IsShowingOf, ports_of}
 use Rattle.sacn_edge.specs.Additions.{Extends}
 use Rattle.sacn_edge.specs.NodeText.{node_after}
 use Rattle.sacn_live.specs.Hearings.{Hearing, turns_of, backlog_after, in_order, is_datagram}
@@ -9,7 +9,7 @@ use Rattle.sacn_live.proofs.gateway.drain.Given as goal
 -- what was heard so far is with the node
 abbrev pub invariant-loop-count : goal.invariant-loop-count
 invariant-loop-count g l = record {
-  showing : IsShowing l.showing l.core;
+  showing : IsShowingOf l.showing l.core;
   ports : ports_of l.showing ≡ ports_of l.fn.showing;
   run :
       (h : Hearing) × (hs : List Hearing)

@@ -1,6 +1,6 @@
 use Rattle.std.proofs.Common.{◌≡◌, List, length, false}
 use Rattle.sacn_node.specs.Setup.{port_numbers}
-use Rattle.sacn_node.specs.Showings.{IsShowing, ports_of}
+use Rattle.sacn_node.specs.Showings.{IsShowingOf, ports_of}
 use Rattle.sacn_edge.specs.Additions.{Adds, Extends}
 use Rattle.sacn_edge.proofs.NodeLemmas.{Distinct, numbers, Remembers}
 use Rattle.sacn_live.specs.Hearings.{Hearing}
@@ -14,7 +14,7 @@ abbrev pub invariant-loop-turn : goal.invariant-loop-turn
 invariant-loop-turn g l = record {
   works : g.O.Out.failed l.out ≡ false;
   distinct : Distinct (port_numbers l.fn.core.ports);
-  showing : IsShowing l.showing l.core;
+  showing : IsShowingOf l.showing l.core;
   run :
       (turns : List (List Hearing))
       × (length turns ≡ l._turn)

@@ -1,4 +1,4 @@
-use Rattle.std.proofs.Common.{◌≡◌, ◌<◌, ℕ, false, length, get_or, set, sym, ap, subst, ◌∙◌, arith}
+use Rattle.std.proofs.Common.{◌≡◌, ◌<◌, false, length, get_or, set, sym, ap, subst, ◌∙◌, arith}
 use Rattle.std.proofs.lemmas.List.{get_or_default}
 use Rattle.std.proofs.lemmas.List.Edits.{map_over_more}
 use Rattle.sacn_node.specs.declared.port_frame.PortFrame.{PortFrame}
@@ -21,7 +21,7 @@ look-requires c =
     record {
       current = λ none.
           subst (λ m. may m (get_or ys i (unseen 0))) (sym c.loop-port.invariant.core)
-          (subst (may n) (sym next) (current_at c.args.all us n ss i (unseen 0) within c.requires)) (sym c.may_differ-differs.ensures ∙ none);
+          (subst (may n) (sym next) (current_at c.args.all us n ss i (unseen 0) within c.requires)) (sym c.may_differ-may_differ.ensures ∙ none);
     }
 
 pub loop-port-preserved : goal.loop-port-preserved

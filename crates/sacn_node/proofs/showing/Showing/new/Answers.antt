@@ -1,4 +1,4 @@
-use Rattle.std.proofs.Common.{[], List, map, ap, ◌∙◌}
+use Rattle.std.proofs.Common.{List, map, ap, ◌∙◌}
 use Rattle.sacn_node.specs.declared.port_frame.PortFrame.{PortFrame}
 use Rattle.sacn_node.specs.Setup.{port_numbers}
 use Rattle.sacn_node.proofs.Looks.{all_but, unseen_numbers}

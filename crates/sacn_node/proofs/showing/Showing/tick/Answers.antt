@@ -1,6 +1,5 @@
 use Rattle.std.proofs.Common.{◌==◌, ap, ◌∙◌}
 use Rattle.std.specs.List.{list_any}
-use Rattle.sacn_node.specs.declared.showing.Showing.{Showing}
 use Rattle.sacn_node.specs.Cores.{Node, core_slots}
 use Rattle.sacn_node.proofs.StableFrames.{neither}
 use Rattle.sacn_node.proofs.Settled.{tick_told}
