@@ -8,7 +8,6 @@ use crate::voice::{Rates, Voice};
 use crate::work::Work;
 use sacn_console::limits::MAX_DATAGRAM;
 use sacn_console::{Command, ConsoleCore, read_show};
-use sacn_framing::read_packet;
 use sacn_node::{NodeCore, read_node};
 use sacn_universe::FRAME_OCTETS;
 use std::alloc::{AllocError, Global};
@@ -147,7 +146,7 @@ fn hear(
     voice: &Voice,
     digest: &mut Digest,
 ) -> Result<(), WorkFault> {
-    let change = core.take_reading(now, &read_packet(voice.datagram()));
+    let change = core.take_and_tell(now, voice.datagram());
     if let Some(universe) = change.universe {
         let mut frame = [0; FRAME_OCTETS];
         let port = (universe.saturating_sub(first) & 15) as u8 + 1;

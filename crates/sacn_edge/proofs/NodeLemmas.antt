@@ -1,5 +1,5 @@
 -- The lines of a node's turns, from what its loop keeps of each port.
-use Rattle.std.proofs.Common.{◌≡◌, ◌≢◌, ℕ, zero, suc, ◌+◌, ◌<◌, Bool, true, false, not, cond, List, [], ◌∷◌, ◌++◌, take, drop, length, map, count_by, refl, sym, ap, subst, ◌∙◌, arith, add_comm, append_assoc, Option, Some, None, slice_index}
+use Rattle.std.proofs.Common.{◌≡◌, ◌≢◌, ℕ, zero, suc, ◌+◌, ◌<◌, Bool, true, false, not, cond, List, [], ◌∷◌, ◌++◌, take, length, map, count_by, refl, sym, ap, subst, ◌∙◌, arith, add_comm, append_assoc, Option, Some, None, slice_index}
 use Rattle.std.specs.Prelude.{⊤}
 use Rattle.std.specs.List.Sorted.{IsStrictlyIncreasing}
 use Rattle.std.proofs.lemmas.Bool.{ne_eqb, eq-eqb}
@@ -13,7 +13,7 @@ use Rattle.sacn_edge.specs.NodeText.{Turn, FrameLine, line_text, last_frame, wit
 use Rattle.sacn_edge.specs.NodeRun.{Turned, StopsIn, readings, hearings}
 use Rattle.sacn_node.specs.Showings.{is_shown, unseen, with_found, port_after}
 use Rattle.sacn_node.proofs.Looks.{shown_last}
-use Rattle.sacn_edge.specs.PortLines.{frame_text, port_text, ports_text, FailsAmong}
+use Rattle.sacn_edge.specs.PortLines.{port_text, ports_text, FailsAmong}
 use Rattle.sacn_edge.proofs.ToldLemmas.{Adds-append}
 use Rattle.sacn_edge.proofs.PortLineLemmas.{append_nil}
 

@@ -51,7 +51,7 @@ fn hand<L: Link>(link: &mut L, octets: &[u8; MAX_DATAGRAM], len: usize) -> bool
 }
 
 /// Sends what is due, and returns whether the send succeeded; None where nothing is due.
-pub fn send<L: Link>(
+fn send<L: Link>(
     link: &mut L,
     core: &mut ConsoleCore,
     now: u64,

@@ -23,7 +23,7 @@ mod udp;
 mod writer;
 
 pub use clock::Clock;
-pub use console_loop::{count as count_send, run_console, send};
+pub use console_loop::{count as count_send, run_console};
 pub use digits::write_digits;
 pub use line::{LINE_OCTETS, line_of};
 pub use link::{BUFFER_OCTETS, Link, Received};

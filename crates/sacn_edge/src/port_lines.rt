@@ -25,7 +25,9 @@ fn write_port<O: Out>(out: &mut O, moment: u64, port: &PortFrame) -> Result<(), 
     }
 }
 
-/// Writes the lines of a turn: of each port whose frame is another one than at the look before.
+/// Writes the lines of a turn, with the node's moment: of each port whose frame is another one than at the look before.
+///
+/// `WriteFailed` where `out` has failed; no later port's line is written then.
 pub fn write_ports<O: Out>(out: &mut O, moment: u64, ports: &[PortFrame]) -> Result<(), WriteFailed>
     requires { O.failed out.old ≡ false }
     ensures ok { OnOk result ((O.failed out.new ≡ false)

@@ -1,6 +1,6 @@
 //! The frames of a node's ports.
 
-ghost use Rattle.std.specs.Prelude.{◌≡◌, ℕ, Some, OnOk};
+ghost use Rattle.std.specs.Prelude.{Some, OnOk};
 ghost use Rattle.sacn_explain.specs.Causes.{reason_of};
 ghost use Rattle.sacn_explain.specs.Shows.{frame_told, port_told, ports_told};
 ghost use Rattle.sacn_explain.specs.Tellings.{Tells};

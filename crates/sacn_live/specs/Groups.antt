@@ -1,5 +1,6 @@
 -- Where a datagram goes by multicast (E1.31, 9.3).
 use Rattle.std.specs.Prelude.{ℕ, List, Option, None, Some, Result, Ok, Err}
+use Rattle.std.specs.Option.{option_map}
 use Rattle.sacn_framing.specs.Naming.{group_of}
 use Rattle.sacn_framing.specs.declared.packet.Packet.{Packet}
 use Rattle.sacn_framing.specs.declared.packet.Packet.TheVariants.{DataPacket, PagePacket, SyncPacket}
@@ -20,7 +21,4 @@ group_told None = group_of DISCOVERY_UNIVERSE
 
 -- a data packet goes to the group of its universe, and a page to that of discovery
 abbrev pub destination_by : Result Packet PacketFault → Option (List ℕ)
-destination_by (Ok (DataPacket d)) = Some (group_of d.universe)
-destination_by (Ok (PagePacket p)) = Some (group_of DISCOVERY_UNIVERSE)
-destination_by (Ok SyncPacket) = None
-destination_by (Err fault) = None
+destination_by read = option_map group_told (universe_read read)

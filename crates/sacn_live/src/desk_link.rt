@@ -4,9 +4,6 @@ ghost use Rattle.sacn_framing.specs.PacketReading.{reading_packet};
 ghost use Rattle.sacn_edge.specs.Hearings.{Hands, Transcript};
 ghost use Rattle.sacn_live.specs.Groups.{universe_read};
 
-use sacn_edge::Link;
-use sacn_edge::memory::MemoryLink;
-
 /// A device that takes the datagrams of a desk.
 pub trait DeskLink {
     /// What was asked of it so far, where it tells that. A device of the machine tells nothing.
@@ -17,15 +14,4 @@ pub trait DeskLink {
     fn send_of(&mut self, universe: Option<u16>, datagram: &[u8]) -> bool
         requires { universe_read (reading_packet datagram.now) ≡ Some universe }
         ensures told { Hands (told self.old) (told self.new) ((datagram.now, result) ∷ []) };
-}
-
-/// For tests: it keeps what it is handed, whatever the universe.
-impl DeskLink for MemoryLink {
-    ghost use Rattle.sacn_edge.specs.MemoryDevices.{link_told};
-
-    ghost told = { link_told };
-
-    fn send_of(&mut self, _universe: Option<u16>, datagram: &[u8]) -> bool {
-        self.send(datagram)
-    }
 }

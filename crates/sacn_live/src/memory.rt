@@ -1,11 +1,13 @@
-//! A receiver over memory, for tests.
+//! Devices over memory, for tests: a receiver, and a link as a desk's.
 ghost use Rattle.std.specs.Prelude.{◌≡◌, ◌≤◌, Some, [], take};
 ghost use Rattle.std.specs.Option.{option_copied};
 ghost use Rattle.sacn_live.specs.Hearings.{hearing_of, FitsBuffer};
 ghost use Rattle.sacn_live.specs.MemoryHearings.{brought};
 
+use crate::desk_link::DeskLink;
 use crate::receiver::{Arrival, Octets4, Receipt, Receiver};
-use sacn_edge::BUFFER_OCTETS;
+use sacn_edge::memory::MemoryLink;
+use sacn_edge::{BUFFER_OCTETS, Link};
 
 /// What a receive brings, and what the clock reads before it.
 #[derive(Drop)]
@@ -108,5 +110,16 @@ impl Receiver for MemoryReceiver {
         let receipt = bring(self.incoming.get(self.received as usize), self.last, buffer);
         self.received = self.received.saturating_add(1);
         receipt
+    }
+}
+
+/// It keeps what it is handed, whatever the universe.
+impl DeskLink for MemoryLink {
+    ghost use Rattle.sacn_edge.specs.MemoryDevices.{link_told};
+
+    ghost told = { link_told };
+
+    fn send_of(&mut self, _universe: Option<u16>, datagram: &[u8]) -> bool {
+        self.send(datagram)
     }
 }

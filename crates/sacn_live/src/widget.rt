@@ -27,7 +27,7 @@ pub fn widget_packet(frame: &[u8; FRAME_OCTETS]) -> [u8; WIDGET_OCTETS]
     packet
 }
 
-/// Whether a packet is that of a frame, which isn't made for that.
+/// Whether these octets are the packet of a frame; none is made for that.
 pub(crate) fn is_packet_of(packet: &[u8; WIDGET_OCTETS], frame: &[u8; FRAME_OCTETS]) -> bool
     ensures { result ≡ same packet.now (widget_text frame.now) }
 {

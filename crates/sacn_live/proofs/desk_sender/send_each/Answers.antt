@@ -1,4 +1,4 @@
-use Rattle.std.proofs.Common.{rules, arith, ◌≡◌, ◌≤◌, ◌+◌, [], not, cond, refl, sym, ap, ◌∙◌, add-zero}
+use Rattle.std.proofs.Common.{rules, arith, ◌≡◌, ◌+◌, [], not, cond, refl, sym, ap, ◌∙◌, add-zero}
 use Rattle.sacn_live.proofs.Turning.{Extends-none}
 use Rattle.sacn_live.proofs.SendingLists.{one_more}
 use Rattle.sacn_live.proofs.desk_sender.send_each.Goals.{then-not-send_one, else-not-send_one}
