@@ -143,7 +143,7 @@ pub(crate) fn hear<G: Receiver, N: Notes>(
     let receipt = receiver.receive(buffer);
     let now = receipt.now;
     let arrival = receipt.arrival;
-    match arrival {
+    let waits = match arrival {
         Arrival::Datagram { octets, sender } => {
             give(
                 core,
@@ -155,31 +155,23 @@ pub(crate) fn hear<G: Receiver, N: Notes>(
                 sender,
                 &buffer[..octets],
             );
-            Step {
-                now,
-                arrival,
-                waits: waits.with_datagram(now),
-                is_more: true,
-            }
+            waits.with_datagram(now)
         }
         Arrival::Nothing => {
             showing.tick(core, now);
-            Step {
-                now,
-                arrival,
-                waits: Backlog::none(now),
-                is_more: false,
-            }
+            Backlog::none(now)
         }
         Arrival::Failed => {
             notes.note_failure(now);
             showing.tick(core, now);
-            Step {
-                now,
-                arrival,
-                waits,
-                is_more: false,
-            }
+            waits
         }
+    };
+    let is_more = matches!(arrival, Arrival::Datagram { .. });
+    Step {
+        now,
+        arrival,
+        waits,
+        is_more,
     }
 }
