@@ -1,13 +1,15 @@
 #!/usr/bin/env python3
 """Measures the built program on loopback, as a rig loads it. The gate doesn't run it.
 
-usage: measure.py [moments] [fades N] [resting] [node] [gateway] [recording]
+usage: measure.py [moments] [fades N] [resting] [node] [gateway] [page] [instructions] [recording]
 
 moments   how long after its moment a packet goes out: of a change that is ordered, and of each repeat 25 ms after a packet
 fades N   1024 universes of 512 slots that all fade, sent to N destinations: each universe's greatest gap, and pages
 resting   1024 universes of 27 slots of which the lower half rests and the upper half fades: packets a second of each
 node      a node of 16 ports and 16 universes of 16 sources: processor time for each datagram
 gateway   the same of a gateway
+page      the same of a page that nobody looks at
+instructions  of a gateway and of a page for each datagram of 16 universes of one source, by valgrind
 recording a recording of 1,000,000 packets of 200 universes, explained, and one of a tenth of it: packets a second, most memory
 
 It takes the program crates/sacn/out/sacn, or the path in SACN, and prints the machine's load before each.
@@ -210,7 +212,7 @@ def send_rounds(port, rounds, fades, pace):
 
 def run_of(words, port, rounds, fades, pace):
     """Processor seconds of a run, user and system, how many datagrams it took, and how many were dropped."""
-    run = subprocess.Popen([SACN, words[0], setup(port), *words[1:]], stdout=subprocess.DEVNULL, stderr=subprocess.DEVNULL)
+    run = subprocess.Popen([SACN, *words], stdout=subprocess.DEVNULL, stderr=subprocess.DEVNULL)
     time.sleep(0.5)
     sent, dropped = send_rounds(port, rounds, fades, pace)
     _, _, usage = os.wait4(run.pid, 0)
@@ -227,12 +229,47 @@ def load_of(words, port, pace, rounds, turns):
 
 def node():
     # A node never waits: what its turns without a datagram take is taken off.
-    turns = 20_000_000
-    load_of(["node", "--turns", str(turns)], FIRST_PORT + 41, False, 4000, turns)
+    turns, port = 20_000_000, FIRST_PORT + 41
+    load_of(["node", setup(port), "--turns", str(turns)], port, False, 4000, turns)
+
+
+def gateway_on(port):
+    return ["gateway", setup(port), "--listen", "127.0.0.1", "--seconds", "20"]
+
+
+def page_on(port):
+    return ["watch", "--page", str(port + 1), "--listen", "127.0.0.1", "--port", str(port), "--seconds", "20"]
 
 
 def gateway():
-    load_of(["gateway", "--listen", "127.0.0.1", "--seconds", "20"], FIRST_PORT + 42, True, 18 * 44, 0)
+    load_of(gateway_on(FIRST_PORT + 42), FIRST_PORT + 42, True, 18 * 44, 0)
+
+
+def page():
+    load_of(page_on(FIRST_PORT + 44), FIRST_PORT + 44, True, 18 * 44, 0)
+
+
+def instructions_of(words, port, rounds, first, fades):
+    """How many instructions a run takes in which so many rounds of sixteen universes come, 250 datagrams a second."""
+    counted = ["valgrind", "--tool=callgrind", "--callgrind-out-file=/dev/null", SACN, *words]
+    run = subprocess.Popen(counted, stdout=subprocess.DEVNULL, stderr=subprocess.PIPE, text=True)
+    out = socket.socket(socket.AF_INET, socket.SOCK_DGRAM)
+    time.sleep(3)
+    for n in range(rounds):
+        for universe in range(first, first + 16):
+            out.sendto(packet(universe, 1, n % 256, 1 + n % 200 if fades else 1), ("127.0.0.1", port))
+            time.sleep(0.004)
+    said = run.communicate()[1]
+    return next(int(line.split()[-1]) for line in said.splitlines() if "Collected" in line)
+
+
+def instructions():
+    rounds = 200
+    for name, words_on, port in (("gateway", gateway_on, FIRST_PORT + 46), ("page", page_on, FIRST_PORT + 48)):
+        idle = instructions_of(words_on(port), port, 0, 1, False)
+        for kind, first, fades in (("each packet is a change", 1, True), ("the same levels", 1, False), ("universes that no port shows", 101, False)):
+            took = instructions_of(words_on(port), port, rounds, first, fades)
+            print(f"  {name}, {kind}: {(took - idle) / (16 * rounds):.0f} instructions a datagram")
 
 
 def recorded(path, count):
@@ -282,8 +319,8 @@ def recording():
 
 
 def main(words):
-    jobs = {"recording": recording, "moments": moments, "resting": resting, "node": node, "gateway": gateway}
-    words = words or ["moments", "fades", "2", "fades", "8", "resting", "node", "gateway", "recording"]
+    jobs = {"recording": recording, "moments": moments, "resting": resting, "node": node, "gateway": gateway, "page": page, "instructions": instructions}
+    words = words or ["moments", "fades", "2", "fades", "8", "resting", "node", "gateway", "page", "instructions", "recording"]
     while words:
         name = words.pop(0)
         more = [int(words.pop(0))] if name == "fades" else []
