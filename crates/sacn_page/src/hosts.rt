@@ -1,7 +1,9 @@
 //! The names under which a server is asked.
 
-ghost use Rattle.std.specs.Prelude.{◌≡◌, string_bytes};
+ghost use Rattle.std.specs.Prelude.{◌≡◌, ◌++◌, IfOk, OnOk, string_bytes};
 ghost use Rattle.std.specs.List.{list_any};
+ghost use Rattle.std.specs.Net.Socket.{v4_ip, v4_port};
+ghost use Rattle.sacn_page.specs.HostNames.{names_of, host_names};
 ghost use Rattle.sacn_page.specs.Requests.{is_word, is_among};
 
 use std::alloc::{AllocError, Global};
@@ -26,10 +28,13 @@ impl Model for Hosts {
 }
 
 impl Hosts {
-    /// The names of the server at this address: the address, `127.0.0.1` and `localhost`, each with its port.
+    /// The names of the server at this address: the address, `127.0.0.1` and `localhost`, each with its port, and at port 80
+    /// each without it too.
     ///
     /// Errors: a growth was refused.
-    pub fn of(alloc: Global, address: SocketAddrV4) -> Result<Self, AllocError> {
+    pub fn of(alloc: Global, address: SocketAddrV4) -> Result<Self, AllocError>
+        ensures { IfOk result (λ h. h ≡ host_names (v4_ip address) (v4_port address)) }
+    {
         let mut hosts = Hosts {
             names: Vec::new(alloc),
         };
@@ -41,7 +46,11 @@ impl Hosts {
         Ok(hosts)
     }
 
-    fn add(&mut self, alloc: Global, name: &str, port: u16) -> Result<(), AllocError> {
+    // Adds a host with its port, and at port 80 without it too.
+    #[tactic(auto, unfolding(crate::specs::HostNames::names_of))]
+    fn add(&mut self, alloc: Global, name: &str, port: u16) -> Result<(), AllocError>
+        ensures { OnOk result (self.new ≡ self.old ++ names_of name.now port) }
+    {
         self.names.push(format!(in alloc; "{name}:{port}")?)?;
         if port == DEFAULT_PORT {
             self.names.push(format!(in alloc; "{name}")?)?;
