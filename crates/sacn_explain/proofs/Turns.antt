@@ -1,24 +1,16 @@
 -- The node after a datagram, whose frames are told.
-use Rattle.std.proofs.Common.{◌≡◌, ℕ, true, false, List, map, Option, Some, Result, Ok, Err, OnOk, ap, subst, ◌∙◌}
+use Rattle.std.proofs.Common.{◌≡◌, ℕ, true, false, List, map, Option, Some, Result, Ok, Err, OnOk, sym, ap, subst, ◌∙◌}
 use Rattle.sacn_node.specs.declared.port_frame.PortFrame.{PortFrame}
-use Rattle.sacn_node.specs.Calls.{step, Tick, with_reading}
-use Rattle.sacn_node.specs.Cores.{Core, Node}
+use Rattle.sacn_node.specs.Calls.{with_reading}
+use Rattle.sacn_node.specs.Cores.{Node}
 use Rattle.sacn_node.specs.Readings.{Reading}
 use Rattle.sacn_node.specs.Showings.{port_after, ports_of}
-use Rattle.sacn_node.proofs.Settled.{reading_settled}
 use Rattle.sacn_explain.specs.declared.stage.Stage.{Stage}
 use Rattle.sacn_explain.specs.declared.teller.Teller.{Teller}
 use Rattle.sacn_explain.specs.Causes.{Reason}
 use Rattle.sacn_explain.specs.Shows.{Staged, after_turn, frames_told, staged, turn_shown}
 use Rattle.sacn_explain.specs.Staging.{may_change_frames}
 use Rattle.sacn_explain.specs.Tellings.{Tells}
-
-abbrev with_core : Node → Core → Node
-with_core n c = record { ports = n.ports; core = c }
-
--- nothing more is lost after a datagram at its moment
-turn_node : (now : ℕ) (reading : Reading) (n : Node) → step (Tick now) (with_reading now reading n) ≡ with_reading now reading n
-turn_node now reading n = ap (with_core n) (reading_settled reading n.core now)
 
 abbrev of_two : Node → List PortFrame → Staged
 of_two n ports = record { node = n; ports = ports }
@@ -35,24 +27,22 @@ module _ (now : ℕ) (reading : Reading) (o : Option Stage) (s : Stage) (found :
       rw (found, still) (ap (λ (m : Node). Some (of_two m ports)) node
       ∙ ap (λ (ps : List PortFrame). Some (of_two (with_reading now reading s.core) ps)) same)
 
-  module _ {T E : Type 0} (r : Result T E) (mid last : Node) (ports : List PortFrame) (stirs : may_change_frames now reading s.core.core ≡ true)
-      (taken : mid ≡ with_reading now reading s.core) (ticked : last ≡ step (Tick now) mid) (same : ports ≡ ports_of s.showing) where
-    node_is : last ≡ with_reading now reading s.core
-    node_is = ticked ∙ ap (step (Tick now)) taken ∙ turn_node now reading s.core
-
+  module _ {T E : Type 0} (r : Result T E) (mid : Node) (ports : List PortFrame) (stirs : may_change_frames now reading s.core.core ≡ true)
+      (taken : mid ≡ with_reading now reading s.core) (same : ports ≡ ports_of s.showing) where
     -- its frames are told
     pub turn_told : {O : Type 0} (contents : O → Option (List ℕ)) (a b : Teller O) (first reason : Reason) → first ≡ reason
-        → OnOk r (Tells contents a b (frames_told a.form now first last ports)) → OnOk r (Tells contents a b (turn_shown a.form now reading reason (staged o)))
+        → OnOk r (Tells contents a b (frames_told a.form now first mid ports)) → OnOk r (Tells contents a b (turn_shown a.form now reading reason (staged o)))
     turn_told {O = O} contents a b first reason why told =
         rw (found, stirs)
-        (subst (λ (n : Node). OnOk r (Tells {O = O} contents a b (frames_told a.form now reason n (ports_of s.showing)))) node_is
-        (subst (λ (ps : List PortFrame). OnOk r (Tells {O = O} contents a b (frames_told a.form now reason last ps))) same
-        (subst (λ (y : Reason). OnOk r (Tells {O = O} contents a b (frames_told a.form now y last ports))) why told)))
+        (subst (λ (n : Node). OnOk r (Tells {O = O} contents a b (frames_told a.form now reason n (ports_of s.showing)))) taken
+        (subst (λ (ps : List PortFrame). OnOk r (Tells {O = O} contents a b (frames_told a.form now reason mid ps))) same
+        (subst (λ (y : Reason). OnOk r (Tells {O = O} contents a b (frames_told a.form now y mid ports))) why told)))
 
     -- and they are those of the latest look
-    pub turn_staged : (shown : List PortFrame) → OnOk r (shown ≡ map (port_after last) ports) → OnOk r (Some (of_two last shown) ≡ after_turn now reading (staged o))
-    turn_staged shown are =
-        rw (found, stirs)
-        (subst (λ (n : Node). OnOk r (Some (of_two last shown) ≡ Some (of_two n (map (port_after n) (ports_of s.showing))))) node_is
-        (subst (λ (ps : List PortFrame). OnOk r (Some (of_two last shown) ≡ Some (of_two last (map (port_after last) ps)))) same
-        (shown_is r shown (map (port_after last) ports) last are)))
+    pub turn_staged : (last : Node) (shown : List PortFrame) → last ≡ mid → OnOk r (shown ≡ map (port_after mid) ports) → OnOk r (Some (of_two last shown) ≡ after_turn now reading (staged o))
+    turn_staged last shown kept are =
+        subst (λ (l : Node). OnOk r (Some (of_two l shown) ≡ after_turn now reading (staged o))) (sym kept)
+        (rw (found, stirs)
+        (subst (λ (n : Node). OnOk r (Some (of_two mid shown) ≡ Some (of_two n (map (port_after n) (ports_of s.showing))))) taken
+        (subst (λ (ps : List PortFrame). OnOk r (Some (of_two mid shown) ≡ Some (of_two mid (map (port_after mid) ps)))) same
+        (shown_is r shown (map (port_after mid) ports) mid are))))

@@ -291,7 +291,10 @@ impl<'a, O: Write> Follower<'a, O> {
         ensures listings { self.new.listings ≡ self.old.listings }
     {
         match &mut self.stage {
-            Some(stage) => stage.show(at, &Cause::Lost, &mut self.teller),
+            Some(stage) => {
+                stage.tick(at);
+                stage.show(at, &Cause::Lost, &mut self.teller)
+            }
             None => Ok(()),
         }
     }

@@ -14,7 +14,7 @@ use sacn_node::PortFrame;
 use sacn_universe::FRAME_OCTETS;
 use std::io::Write;
 
-/// Tells the frames of these ports, each where the latest look found another one than the look before. `moment` is the node's,
+/// Tells the frames of these ports, each where the latest look found it new. `moment` is the node's,
 /// which stands in the line that a node's loop writes.
 pub fn tell_ports<O: Write>(
     now: u64,
@@ -32,7 +32,7 @@ pub fn tell_ports<O: Write>(
     Ok(())
 }
 
-// Tells the frame of a port, where it is another one.
+// Tells the frame of a port, where it is new.
 fn tell_port<O: Write>(
     now: u64,
     cause: &Cause<'_>,

@@ -54,6 +54,7 @@ impl Stage {
             (Tells O.contents teller.old teller.new (start_told teller.old.form setup.now.ports)) }
     {
         let mut stage = Stage::new(alloc, setup)?;
+        stage.tick(0);
         stage.show(0, &Cause::Start, teller)?;
         Ok(stage)
     }
@@ -69,6 +70,14 @@ impl Stage {
             NodeTaken::FromTable(_) => true,
             _ => change.lost > 0,
         }
+    }
+
+    /// Moves the node's clock, which drops what is lost by then.
+    pub fn tick(&mut self, now: u64)
+        ensures core { self.new.core ≡ step (Tick now) self.old.core }
+        ensures ports { ports_of self.new.showing ≡ ports_of self.old.showing }
+    {
+        self.showing.tick(&mut self.core, now);
     }
 
     /// The first moment at which a source that is held is lost; `u64::MAX` where there is none.
@@ -89,13 +98,12 @@ impl Stage {
         cause: &Cause<'_>,
         teller: &mut Teller<'_, O>,
     ) -> Result<(), TellFault>
-        ensures core { self.new.core ≡ step (Tick now) self.old.core }
+        ensures core { self.new.core ≡ self.old.core }
         ensures ports { OnOk result
-            (ports_of self.new.showing ≡ map (port_after self.new.core) (ports_of self.old.showing)) }
+            (ports_of self.new.showing ≡ map (port_after self.old.core) (ports_of self.old.showing)) }
         ensures told { OnOk result (Tells O.contents teller.old teller.new (frames_told
-            teller.old.form now (reason_of cause.now) self.new.core (ports_of self.old.showing))) }
+            teller.old.form now (reason_of cause.now) self.old.core (ports_of self.old.showing))) }
     {
-        self.showing.tick(&mut self.core, now);
         self.showing.look(&mut self.core);
         let moment = self.core.moment();
         tell_ports(now, cause, moment, self.showing.ports(), teller)

@@ -6,8 +6,9 @@ ghost use Rattle.sacn_explain.specs.Following.{IsTicked, IsTaken};
 
 use crate::alarms::{Alarms, Trouble};
 use crate::lit_universe::LitUniverse;
+use sacn_explain::stirs;
 use sacn_framing::{DataView, Packet, read_packet};
-use sacn_monitor::{Event, Monitor, News, Noted, Sender, Stream};
+use sacn_monitor::{Event, Monitor, News, Noted, Sender};
 use sacn_sources::NETWORK_DATA_LOSS;
 use std::alloc::{AllocError, Global};
 
@@ -297,9 +298,4 @@ fn unlit_universe(alloc: Global, universe: u16) -> Result<LitUniverse, AllocErro
         Ok(lit) => Ok(lit),
         Err(_) => Err(AllocError),
     }
-}
-
-// Whether a packet may change who lights its universe at the top priority.
-fn stirs(stream: &Stream, news: &News) -> bool {
-    (news.event != Event::GoesOn) | news.priority.is_some() | (stream.account.kinds.live == 1)
 }
