@@ -9,7 +9,7 @@ pub trait DeskLink {
     /// What was asked of it so far, where it tells that. A device of the machine tells nothing.
     ghost told: { Self → Option Transcript } = { λ _. None };
 
-    /// Hands over a data packet of this universe, 1 to 63999, or, by None, a discovery page. False where the device failed in this
+    /// Hands over a data packet of this universe, 1 to 63999, or a discovery page where it is `None`. False where the device failed in this
     /// call.
     fn send_of(&mut self, universe: Option<u16>, datagram: &[u8]) -> bool
         requires { universe_read (reading_packet datagram.now) ≡ Some universe }

@@ -53,7 +53,7 @@ fn send_each<S: Sockets, E: Write + Drop>(
     failed
 }
 
-/// Sends a data packet of this universe, or, by None, a discovery page, where it goes. Returns how many sends failed.
+/// Sends a data packet of this universe, or a discovery page where it is `None`, where it goes. Returns how many sends failed.
 fn send_where<S: Sockets, E: Write + Drop>(
     sockets: &mut S,
     notices: &mut Notices<E>,
@@ -108,7 +108,7 @@ pub struct DeskSender<S, C, E> {
 impl<S: Sockets, C: Clock, E: Write + Drop> DeskSender<S, C, E> {
     ghost use Rattle.sacn_live.specs.DeskSenders.{sockets_of, destinations_of};
 
-    /// Sends a data packet of this universe, or, by None, a discovery page: once to each destination, in their order, also after one
+    /// Sends a data packet of this universe, or a discovery page where it is `None`: once to each destination, in their order, also after one
     /// that failed; or once to the group of its universe, a page to that of discovery. Returns whether no send failed.
     pub fn send_datagram(&mut self, universe: Option<u16>, datagram: &[u8]) -> bool
         requires { universe_read (reading_packet datagram.now) ≡ Some universe }

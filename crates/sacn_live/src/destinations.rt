@@ -22,7 +22,7 @@ pub enum Destinations {
     Groups,
 }
 
-/// The group that a data packet of this universe goes to, or, by None, a discovery page.
+/// The group that a data packet of this universe goes to, or a discovery page where it is `None`.
 pub(crate) fn group_of(universe: Option<u16>) -> [u8; 4]
     ensures { result ≡ group_told universe }
 {

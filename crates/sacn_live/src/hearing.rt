@@ -89,7 +89,7 @@ fn why_passed(senders: &[Octets4], waits: Backlog, now: u64, sender: &Octets4) -
     }
 }
 
-/// Gives the node what came at a reading, where it goes there.
+/// Gives the node what came at this moment, unless it is passed over.
 fn give<N: Notes>(
     core: &mut NodeCore,
     showing: &mut Showing,

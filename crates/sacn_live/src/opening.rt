@@ -49,7 +49,7 @@ impl<L: DeskLink + Drop> Opening<L> {
         &self.link
     }
 
-    /// Sends a data packet of this universe, or, by None, a discovery page; before it, where it is the first packet of its universe,
+    /// Sends a data packet of this universe, or a discovery page where it is `None`; before it, where it is the first packet of its universe,
     /// the copy that opens the stream. Returns whether the datagram itself was taken.
     pub fn send_opened(&mut self, universe: Option<u16>, datagram: &[u8]) -> bool
         requires { universe_read (reading_packet datagram.now) ≡ Some universe }
