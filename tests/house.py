@@ -95,7 +95,7 @@ def lost_steps():
         for word, path in re.findall(r"\[`([\w:]+)`\]\(\.\./([^)]+)\)", text):
             kind, _, name = word.rpartition("::")
             code = text_of(path)
-            if not re.search(rf"\b(fn|struct) {name}\b", code) or (kind and not re.search(rf"\b(struct|impl\b[^\n]*) {kind}\b", code)):
+            if not re.search(rf"\b(fn|struct) {name}\b", code) or (kind and not re.search(rf"\b(struct|trait|impl\b[^\n]*) {kind}\b", code)):
                 yield f"{title}: {word} isn't in {path}"
 
 

@@ -267,7 +267,7 @@ def instructions():
     rounds = 200
     for name, words_on, port in (("gateway", gateway_on, FIRST_PORT + 46), ("page", page_on, FIRST_PORT + 48)):
         idle = instructions_of(words_on(port), port, 0, 1, False)
-        for kind, first, fades in (("each packet is a change", 1, True), ("the same levels", 1, False), ("universes that no port shows", 101, False)):
+        for kind, first, fades in (("each packet is a change", 1, True), ("the same levels", 1, False), ("other universes", 101, False)):
             took = instructions_of(words_on(port), port, rounds, first, fades)
             print(f"  {name}, {kind}: {(took - idle) / (16 * rounds):.0f} instructions a datagram")
 

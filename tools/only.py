@@ -1,11 +1,11 @@
 #!/usr/bin/env python3
 """Proves some functions of a crate, and those of the crate that they call, over libraries below that needn't be proved.
 
-usage: only.py NAME FUNCTION.. [--flags WORD..]     at the top of the repository; FUNCTION as m::T::f, or a module; '' alone is the front end, in seconds
+usage: only.py NAME FUNCTION.. [--flags WORD..]     at the top of the repository; FUNCTION as m::T::f, or a module; with '' alone only the front end runs, in seconds
 
 A crate below whose files and whose libraries' files are those of PROVED, a checkout that the gate has gone over (PROVED in the environment), is read as it
 was proved there; each other one as source, unproved. So a chain of crates can be rebuilt before any of them is proved. It gives no verdict: the gate does.
-The flags are those of `rattle check`, as --allow-holes, or --start m::f.
+The flags are those of `rattle check`, as --allow-holes; with --start m::f, which writes the files of an answer, no FUNCTION is proved.
 """
 import filecmp
 import os
