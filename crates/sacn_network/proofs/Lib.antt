@@ -1,0 +1,9 @@
+mod Bits
+mod Telling
+mod Silencing
+mod Waking
+mod Whole
+mod Tracking
+mod Hearing
+mod Contesting
+mod Timely

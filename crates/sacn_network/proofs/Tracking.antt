@@ -1,0 +1,211 @@
+-- What a network keeps is what its monitor keeps: the accounts are those of the packets, and the clock is the greatest moment handed in.
+use Rattle.std.proofs.Common.{◌≡◌, ◌<◌, ◌≤◌, ◌+◌, ◌-◌, ◌^◌, inl, inr, ℕ, zero, suc, min, max, ltb, true, false, cond, is_some, List, [], ◌∷◌, ◌++◌, length, slice_get, Option, None, Some, Result, Ok, Err, refl, sym, ap, subst, ◌∙◌, arith, ltb-true}
+use Rattle.std.proofs.lemmas.List.{length-append}
+use Rattle.sacn_root.specs.declared.fault.PacketFault.{PacketFault}
+use Rattle.sacn_framing.specs.Data.{Data}
+use Rattle.sacn_framing.specs.declared.packet.Packet.{Packet}
+use Rattle.sacn_framing.specs.declared.packet.Packet.TheVariants.{DataPacket, PagePacket, SyncPacket}
+use Rattle.sacn_framing.specs.PacketReading.{reading_packet}
+use Rattle.sacn_monitor.specs.declared.account.Sender.{Sender}
+use Rattle.sacn_monitor.specs.declared.limits.TheConstants.{MAX_STREAMS}
+use Rattle.sacn_monitor.specs.declared.stream.Stream.{Stream}
+use Rattle.sacn_monitor.specs.Streams.{first_stream, stream_after}
+use Rattle.sacn_monitor.specs.Books.{Book, after_data, after_read, after_take, after_tick, next_loss, place_of, silent_place, told_at, untracked, with_datagram}
+use Rattle.sacn_monitor.specs.Histories as monitor
+use Rattle.sacn_monitor.specs.Histories.{Call, Take, Tick, after_calls, account_by, account_in, arrival_at, arrivals, moment_in_use}
+use Rattle.sacn_monitor.proofs.Tracking as kept
+use Rattle.sacn_network.specs.declared.ledger.Ledger.{Ledger}
+use Rattle.sacn_network.specs.declared.ledger.TheConstants.{MOST_STEPS}
+use Rattle.sacn_network.specs.Calls.{ATickLeavesNone, AccountsAreOfTheirPackets, AreMoments, UsesTheGreatestMoment, network_after}
+use Rattle.sacn_network.specs.Contests.{universe_of, with_contest, with_contest_in}
+use Rattle.sacn_network.specs.Losses.{after_end, after_loss, at_end, lost_place, next_end, silenced}
+use Rattle.sacn_network.specs.Networks.{handed, note_of, ticked}
+use Rattle.sacn_network.proofs.Waking.{noted_keeps, one_step_ledger}
+use Rattle.sacn_network.proofs.Whole.{heard_length, none_before, told_length, told_less, untold, untold_most}
+
+-- what is told changes no account
+contest_keeps : (o : Option ℕ) (n : Ledger) → (with_contest_in o n).monitor ≡ n.monitor
+unfolding with_contest
+contest_keeps None n = refl
+contest_keeps (Some universe) n = refl
+
+loss_keeps : (o : Option ℕ) (n : Ledger) → (after_loss o n).monitor ≡ n.monitor
+loss_keeps None n = refl
+loss_keeps (Some place) n = contest_keeps (universe_of (slice_get n.monitor.streams place)) n
+
+pub end_keeps : (t : ℕ) (n : Ledger) → (after_end t n).monitor ≡ after_tick (next_end t n) n.monitor
+unfolding after_end
+end_keeps t n = loss_keeps (lost_place t n) (at_end t n)
+
+-- ---- calls of a monitor that leave this book, and in which the same packets came at the same moments
+
+abbrev MadeBy : List Call → Book → Type 0
+MadeBy told b = (calls : List Call) × (b ≡ after_calls calls) × ((universe : ℕ) (cid : List ℕ) → arrivals universe cid calls ≡ arrivals universe cid told)
+
+made_as : (told : List Call) (b c : Book) → c ≡ b → MadeBy told b → MadeBy told c
+made_as told b c same (calls, is, come) = (calls, same ∙ is, come)
+
+made_later : (told : List Call) (t : ℕ) (b : Book) → MadeBy told b → MadeBy told (after_tick t b)
+made_later told t b (calls, is, come) = (Tick t ∷ calls, ap (after_tick t) is, come)
+
+-- ---- silence
+
+pub record IsSilent (told : List Call) (t : ℕ) (b : Book) : Type 0 where
+  pub moment : b.moment ≡ t
+  pub none : silent_place t b.streams ≡ None
+  pub made : MadeBy told b
+  pub most : length b.streams ≤ MAX_STREAMS
+
+silent_as : (told : List Call) (t : ℕ) (n m : Ledger) → m ≡ n → IsSilent told t n.monitor → IsSilent told t m.monitor
+silent_as told t n m same is = subst (λ (l : Ledger). IsSilent told t l.monitor) (sym same) is
+
+module _ (told : List Call) (t : ℕ) (held : t ≤ 2 ^ 64 - 1) where
+  last_step : (n : Ledger) → n.monitor.moment ≤ t → MadeBy told n.monitor → length n.monitor.streams ≤ MAX_STREAMS → silent_place (max n.monitor.moment (next_end t n)) n.monitor.streams ≡ None → IsSilent told t (at_end t n).monitor
+  last_step n by made most none =
+      let later : min (max n.monitor.moment (next_end t n) + 1) (2 ^ 64 - 1) ≤ next_loss n.monitor.streams = none_before (max n.monitor.moment (next_end t n)) n.monitor.streams none in
+      let at : max n.monitor.moment (next_end t n) ≡ t = omega (arith, later, by, held) in
+      let same : (at_end t n).monitor.streams ≡ n.monitor.streams = ap (λ (o : Option ℕ). told_at o n.monitor.streams) none in
+      record {
+        moment = at;
+        none = ap (silent_place t) same ∙ ap (λ (k : ℕ). silent_place k n.monitor.streams) (sym at) ∙ none;
+        made = made_later told (next_end t n) n.monitor made;
+        most = omega (arith, most, ap length same);
+      }
+
+  one_step_more : (steps : ℕ) (n : Ledger) (i : ℕ) → lost_place t n ≡ Some i → silenced (suc steps) t n ≡ silenced steps t (after_end t n)
+  unfolding silenced
+  one_step_more steps n i is = ap (λ (o : Option ℕ). cond (is_some o) (silenced steps t (after_end t n)) (after_end t n)) is
+
+  silent : (steps : ℕ) (n : Ledger) → n.monitor.moment ≤ t → untold n.monitor.streams < steps → MadeBy told n.monitor → length n.monitor.streams ≤ MAX_STREAMS → IsSilent told t (silenced steps t n).monitor
+  unfolding lost_place
+  silent zero n by few made most = absurd (omega (arith, few))
+  silent (suc steps) n by few made most =
+      elim (lost_place t n) as (λ o. lost_place t n ≡ o → IsSilent told t (silenced (suc steps) t n).monitor) [
+        | None ↦ λ is. silent_as told t (at_end t n) (silenced (suc steps) t n) (one_step_ledger steps t n is) (last_step n by made most is)
+        | Some i ↦ λ is.
+            let m : Ledger = after_end t n in
+            let ss : List Stream = n.monitor.streams in
+            let book : m.monitor ≡ after_tick (next_end t n) n.monitor = end_keeps t n in
+            let moment : m.monitor.moment ≡ max n.monitor.moment (next_end t n) = ap (λ (b : Book). b.moment) book in
+            let streams : m.monitor.streams ≡ told_at (Some i) ss = ap (λ (b : Book). b.streams) book ∙ ap (λ (o : Option ℕ). told_at o ss) is in
+            let less : untold (told_at (Some i) ss) + 1 ≡ untold ss = told_less (max n.monitor.moment (next_end t n)) ss i is in
+            let long : length (told_at (Some i) ss) ≡ length ss = told_length (Some i) ss in
+            silent_as told t (silenced steps t m) (silenced (suc steps) t n) (one_step_more steps n i is)
+            (silent steps m (omega (arith, moment, by)) (omega (arith, few, less, ap untold streams)) (made_as told (after_tick (next_end t n) n.monitor) m.monitor book (made_later told (next_end t n) n.monitor made))
+            (omega (arith, most, long, ap length streams)))
+      ] refl
+
+-- ---- a datagram
+
+data_moment : (sender : Sender) (d : Data) (b : Book) (o : Option ℕ) → (after_data sender d b o).moment ≡ b.moment
+unfolding after_data
+data_moment sender d b None =
+    elim (ltb (length b.streams) MAX_STREAMS) as (λ room. (cond room (record b { streams = b.streams ++ first_stream b.moment sender d ∷ [] }) (untracked b)).moment ≡ b.moment) [
+      | true ↦ refl
+      | false ↦ refl
+    ]
+data_moment sender d b (Some i) = refl
+
+pub read_moment : (sender : Sender) (b : Book) (r : Result Packet PacketFault) → (after_read sender b r).moment ≡ b.moment
+read_moment sender b (Ok (DataPacket d)) = data_moment sender d b (place_of d.universe d.cid b.streams)
+read_moment sender b (Ok (PagePacket p)) = refl
+read_moment sender b (Ok SyncPacket) = refl
+read_moment sender b (Err fault) = refl
+
+data_most : (sender : Sender) (d : Data) (b : Book) (o : Option ℕ) → length b.streams ≤ MAX_STREAMS → length (after_data sender d b o).streams ≤ MAX_STREAMS
+unfolding after_data
+data_most sender d b None most =
+    elim (ltb (length b.streams) MAX_STREAMS) as (λ room. ltb (length b.streams) MAX_STREAMS ≡ room → length (cond room (record b { streams = b.streams ++ first_stream b.moment sender d ∷ [] }) (untracked b)).streams ≤ MAX_STREAMS) [
+      | true ↦ λ is.
+          let room = ltb-true (length b.streams) MAX_STREAMS is in
+          let long : length (b.streams ++ first_stream b.moment sender d ∷ []) ≡ length b.streams + 1 = length-append b.streams (first_stream b.moment sender d ∷ []) in
+          omega (arith, room, long)
+      | false ↦ λ is. most
+    ] refl
+data_most sender d b (Some i) most = let same = heard_length (stream_after b.moment sender d) i b.streams in omega (arith, most, same)
+
+read_most : (sender : Sender) (b : Book) (r : Result Packet PacketFault) → length b.streams ≤ MAX_STREAMS → length (after_read sender b r).streams ≤ MAX_STREAMS
+read_most sender b (Ok (DataPacket d)) most = data_most sender d b (place_of d.universe d.cid b.streams) most
+read_most sender b (Ok (PagePacket p)) most = most
+read_most sender b (Ok SyncPacket) most = most
+read_most sender b (Err fault) most = most
+
+-- ---- a network after calls
+
+pub record Stands (told : List Call) (b : Book) : Type 0 where
+  pub moment : b.moment ≡ moment_in_use told
+  pub made : MadeBy told b
+  pub most : length b.streams ≤ MAX_STREAMS
+
+pub held_in_use : (calls : List Call) → AreMoments calls → moment_in_use calls ≤ 2 ^ 64 - 1
+held_in_use [] held = omega arith
+held_in_use (Take now sender octets ∷ earlier) held = let rest = held_in_use earlier held.1 in let first = held.0 in omega (arith, rest, first)
+held_in_use (Tick now ∷ earlier) held = let rest = held_in_use earlier held.1 in let first = held.0 in omega (arith, rest, first)
+
+ticked_silent : (told : List Call) (now : ℕ) (n : Ledger) → now ≤ 2 ^ 64 - 1 → n.monitor.moment ≤ 2 ^ 64 - 1 → Stands told n.monitor → IsSilent told (max n.monitor.moment now) (ticked now n).monitor
+ticked_silent told now n held before stands =
+    let few = untold_most n.monitor.streams in
+    let most = stands.most in
+    silent told (max n.monitor.moment now) (omega (arith, held, before)) MOST_STEPS n (omega arith) (omega (arith, few, most)) stands.made most
+
+same_arrivals : (universe : ℕ) (cid : List ℕ) (t u now : ℕ) (sender : Sender) (octets : List ℕ) (xs ys : List monitor.Arrival) → t ≡ u → xs ≡ ys
+    → arrival_at universe cid t (Take now sender octets) ++ xs ≡ arrival_at universe cid u (Take now sender octets) ++ ys
+same_arrivals universe cid t u now sender octets xs ys same rest =
+    ap (λ (k : ℕ). arrival_at universe cid k (Take now sender octets) ++ xs) same ∙ ap (λ (l : List monitor.Arrival). arrival_at universe cid u (Take now sender octets) ++ l) rest
+
+made_taken : (earlier : List Call) (now : ℕ) (sender : Sender) (octets : List ℕ) (b : Book) → b.moment ≡ max (moment_in_use earlier) now → MadeBy earlier b → MadeBy (Take now sender octets ∷ earlier) (after_take now sender octets b)
+made_taken earlier now sender octets b moment (calls, is, come) =
+    let in_use : moment_in_use calls ≡ b.moment = sym (kept.moments calls) ∙ sym (ap (λ (x : Book). x.moment) is) in
+    let same : max (moment_in_use calls) now ≡ max (moment_in_use earlier) now = omega (arith, in_use, moment) in (
+      Take now sender octets ∷ calls,
+      ap (after_take now sender octets) is,
+      λ universe cid. same_arrivals universe cid (max (moment_in_use calls) now) (max (moment_in_use earlier) now) now sender octets (arrivals universe cid calls) (arrivals universe cid earlier) same (come universe cid),
+    )
+
+stands_as : (told : List Call) (b c : Book) → c ≡ b → Stands told b → Stands told c
+stands_as told b c same is = subst (Stands told) (sym same) is
+
+taken_stands : (earlier : List Call) (now : ℕ) (sender : Sender) (octets : List ℕ) (b : Book) → IsSilent earlier (max (moment_in_use earlier) now) b → Stands (Take now sender octets ∷ earlier) (after_take now sender octets b)
+taken_stands earlier now sender octets b silent = record {
+  moment = read_moment sender (with_datagram now b) (reading_packet octets) ∙ (let at = silent.moment in omega (arith, at));
+  made = made_taken earlier now sender octets b silent.moment silent.made;
+  most = read_most sender (with_datagram now b) (reading_packet octets) silent.most;
+}
+
+silent_at : (told : List Call) (t u : ℕ) (b : Book) → t ≡ u → IsSilent told t b → IsSilent told u b
+silent_at told t u b same is = subst (λ (k : ℕ). IsSilent told k b) same is
+
+pub mid_silent : (earlier : List Call) (now : ℕ) (n : Ledger) → now ≤ 2 ^ 64 - 1 → moment_in_use earlier ≤ 2 ^ 64 - 1 → Stands earlier n.monitor → IsSilent earlier (max (moment_in_use earlier) now) (ticked now n).monitor
+mid_silent earlier now n held before stands =
+    let at = stands.moment in
+    silent_at earlier (max n.monitor.moment now) (max (moment_in_use earlier) now) (ticked now n).monitor (omega (arith, at)) (ticked_silent earlier now n held (omega (arith, at, before)) stands)
+
+pub stands_after : (calls : List Call) → AreMoments calls → Stands calls (network_after calls).monitor
+stands_after [] held = record { moment = refl; made = ([], refl, λ universe cid. refl); most = omega arith }
+stands_after (Tick now ∷ earlier) held =
+    let silent = mid_silent earlier now (network_after earlier) held.0 (held_in_use earlier held.1) (stands_after earlier held.1) in
+    record { moment = silent.moment; made = silent.made; most = silent.most }
+stands_after (Take now sender octets ∷ earlier) held =
+    let m : Ledger = ticked now (network_after earlier) in
+    let silent = mid_silent earlier now (network_after earlier) held.0 (held_in_use earlier held.1) (stands_after earlier held.1) in
+    stands_as (Take now sender octets ∷ earlier) (after_take now sender octets m.monitor) (network_after (Take now sender octets ∷ earlier)).monitor
+    (noted_keeps (note_of now sender (reading_packet octets) m) (handed now sender (reading_packet octets) m)) (taken_stands earlier now sender octets m.monitor silent)
+
+-- ---- the laws
+
+pub uses_the_greatest : UsesTheGreatestMoment
+uses_the_greatest calls held = (stands_after calls held).moment
+
+pub tick_leaves_none : ATickLeavesNone
+tick_leaves_none calls now held =
+    let n : Ledger = network_after calls in
+    let silent = mid_silent calls now n held.0 (held_in_use calls held.1) (stands_after calls held.1) in
+    ap (λ (k : ℕ). silent_place k (ticked now n).monitor.streams) silent.moment ∙ silent.none
+
+pub accounts_are : AccountsAreOfTheirPackets
+accounts_are handed held universe cid =
+    let made = (stands_after handed held).made in
+    elim (kept.accounts_are_of_their_packets made.0 universe cid) [
+      | inl is ↦ inl (ap (λ (b : Book). account_in universe cid b.streams) made.1 ∙ is ∙ ap account_by (made.2 universe cid))
+      | inr none ↦ inr (ap (λ (b : Book). account_in universe cid b.streams) made.1 ∙ none.0, subst (λ (b : Book). MAX_STREAMS ≤ length b.streams) (sym made.1) none.1)
+    ]

@@ -1,0 +1,41 @@
+-- A network, and the steps that its calls make.
+use Rattle.std.specs.Prelude.{ℕ, max, List, ◌++◌, Result}
+use Rattle.sacn_root.specs.declared.fault.PacketFault.{PacketFault}
+use Rattle.sacn_framing.specs.declared.packet.Packet.{Packet}
+use Rattle.sacn_monitor.specs.declared.account.Sender.{Sender}
+use Rattle.sacn_monitor.specs.declared.news.Noted.{Noted}
+use Rattle.sacn_monitor.specs.Books.{after_read, new_book, noted_packet, with_datagram}
+use Rattle.sacn_network.specs.declared.ledger.Ledger.{Ledger}
+use Rattle.sacn_network.specs.declared.ledger.TheConstants.{MOST_STEPS}
+use Rattle.sacn_network.specs.declared.occurrence.Occurrence.{Occurrence}
+use Rattle.sacn_network.specs.Sets.{no_universes}
+use Rattle.sacn_network.specs.Losses.{silence_told, silenced}
+use Rattle.sacn_network.specs.Packets.{after_noted, noted_told}
+
+-- nothing was heard
+abbrev pub new_network : Ledger
+new_network = record { monitor = new_book; contested = no_universes; heard = no_universes }
+
+-- ---- the clock moves
+
+abbrev pub tick_told : ℕ → Ledger → List Occurrence
+tick_told now n = silence_told MOST_STEPS (max n.monitor.moment now) n
+
+abbrev pub ticked : ℕ → Ledger → Ledger
+ticked now n = silenced MOST_STEPS (max n.monitor.moment now) n
+
+-- ---- a datagram comes, by its one reading
+
+-- of a network whose clock was moved
+abbrev pub handed : ℕ → Sender → Result Packet PacketFault → Ledger → Ledger
+handed now sender reading n = record n { monitor = after_read sender (with_datagram now n.monitor) reading }
+
+abbrev pub note_of : ℕ → Sender → Result Packet PacketFault → Ledger → Noted
+note_of now sender reading n = noted_packet sender (with_datagram now n.monitor) reading
+
+-- first what ended by silence, then what the datagram tells
+abbrev pub take_told : ℕ → Sender → Result Packet PacketFault → Ledger → List Occurrence
+take_told now sender reading n = let m = ticked now n in tick_told now n ++ noted_told sender (note_of now sender reading m) (handed now sender reading m)
+
+abbrev pub taken : ℕ → Sender → Result Packet PacketFault → Ledger → Ledger
+taken now sender reading n = let m = ticked now n in after_noted (note_of now sender reading m) (handed now sender reading m)

@@ -1,0 +1,127 @@
+//! The one account of a network.
+
+ghost use Rattle.std.specs.Prelude.{◌≡◌, IfOk};
+ghost use Rattle.sacn_monitor.specs.Books.{next_loss};
+ghost use Rattle.sacn_network.specs.Networks.{handed, new_network, note_of, take_told, taken, tick_told, ticked};
+ghost use Rattle.sacn_network.specs.Sets.{has_bit};
+ghost use Rattle.sacn_network.specs.Telling.{Extends};
+
+use crate::ledger::Ledger;
+use crate::observer::Observer;
+use crate::stirring::soonest_loss;
+use sacn_framing::Reading;
+use sacn_monitor::{Monitor, Noted, Sender};
+use std::alloc::{AllocError, Global};
+use std::marker::Model;
+
+/// The one account of what a network carries: each source on each universe, of up to `sacn_monitor::MAX_STREAMS` pairs, the
+/// universes that are contested, and those that were heard.
+///
+/// Moments are in milliseconds. Each call uses the greatest moment that was handed in so far. No call but `new` takes memory.
+#[derive(Drop)]
+pub struct Network {
+    ledger: Ledger,
+    /// No loss that is still to be told comes before this moment.
+    wake: u64,
+}
+
+impl Model for Network {
+    ghost use Rattle.std.specs.Prelude.{◌≤◌};
+    ghost use Rattle.sacn_monitor.specs.Books.{next_loss};
+    ghost use Rattle.sacn_network.specs.declared.ledger.Ledger.{Ledger};
+
+    ghost Value = { Ledger };
+
+    ghost view = { λ n. n.ledger };
+
+    ghost invariant = { λ n. n.wake ≤ next_loss n.ledger.monitor.streams };
+}
+
+impl Network {
+    /// A network of which nothing was heard, with all room taken.
+    ///
+    /// Errors: a request for memory was refused.
+    pub fn new(alloc: Global) -> Result<Self, AllocError>
+        ensures { IfOk result (λ n. n ≡ new_network) }
+    {
+        Ok(Network {
+            ledger: Ledger::new(alloc)?,
+            wake: 0,
+        })
+    }
+
+    /// Takes what a datagram was read as, after what had ended by silence, each thing at its own moment: first the losses, each
+    /// with the contest of its universe behind it where that has changed, then what the datagram tells, then the contest of its
+    /// universe. Returns what was noted of it. A page and a sync packet tell nothing here.
+    pub fn take<O: Observer>(
+        &mut self,
+        now: u64,
+        sender: Sender,
+        reading: &Reading<'_>,
+        observer: &mut O,
+    ) -> Noted
+        ensures noted { result ≡ note_of now sender reading.now (ticked now self.old) }
+        ensures told { Extends (O.told observer.old) (O.told observer.new)
+            (take_told now sender reading.now self.old) }
+        ensures network { self.new ≡ taken now sender reading.now self.old }
+    {
+        self.tick(now, observer);
+        let noted = self.hand(now, sender, reading);
+        self.ledger.tell_noted(sender, noted, observer);
+        noted
+    }
+
+    /// Moves the clock. What ends by silence up to then is told, each thing at its own moment.
+    pub fn tick<O: Observer>(&mut self, now: u64, observer: &mut O)
+        ensures told { Extends (O.told observer.old) (O.told observer.new)
+            (tick_told now self.old) }
+        ensures network { self.new ≡ ticked now self.old }
+    {
+        let until = self.ledger.monitor.moment().max(now);
+        if until < self.wake {
+            self.ledger.monitor.tick(until);
+            return;
+        }
+        self.ledger.tell_silence(until, observer);
+        self.wake = self.ledger.monitor.next_loss();
+    }
+
+    /// The first moment at which something ends by itself, where no datagram comes; `u64::MAX` where nothing does.
+    pub fn next_end(&self) -> u64
+        ensures { result ≡ next_loss self.now.monitor.streams }
+    {
+        self.ledger.monitor.next_loss()
+    }
+
+    /// The accounts of the sources on universes.
+    pub fn monitor(&self) -> &Monitor
+        ensures { result.now ≡ self.now.monitor }
+    {
+        &self.ledger.monitor
+    }
+
+    /// Whether two sources or more light a universe at its top priority, as it was told last.
+    pub fn is_contested(&self, universe: u16) -> bool
+        ensures { result ≡ has_bit self.now.contested universe }
+    {
+        self.ledger.contested.has(universe)
+    }
+
+    /// Whether a source was heard on a universe. One for which there was no room is none.
+    pub fn was_heard(&self, universe: u16) -> bool
+        ensures { result ≡ has_bit self.now.heard universe }
+    {
+        self.ledger.heard.has(universe)
+    }
+
+    // Hands a datagram to the monitor, and sees to it that the loss of its source isn't missed.
+    fn hand(&mut self, now: u64, sender: Sender, reading: &Reading<'_>) -> Noted
+        ensures noted { result ≡ note_of now sender reading.now self.old }
+        ensures network { self.new ≡ handed now sender reading.now self.old }
+    {
+        let noted = self.ledger.monitor.take(now, sender, reading);
+        let soonest = soonest_loss(self.ledger.monitor.streams(), &noted);
+        self.wake = self.wake.min(soonest);
+        noted
+    }
+}

@@ -1,0 +1,109 @@
+//! Two sources on a universe: what is told of them, in order, each thing at its own moment.
+
+ghost use Rattle.std.specs.Prelude.{None, Some, if◌then◌else◌};
+
+use crate::{Contest, Network, Observer, Occurrence, What};
+use sacn_framing::{DataFields, read_packet, write_data};
+use sacn_monitor::{Event, Monitor, News, Sender};
+use std::alloc::{AllocError, Global};
+
+/// Lists what it is told, as far as memory goes.
+#[derive(Drop)]
+struct Listing {
+    told: Vec<Occurrence>,
+    is_full: bool,
+}
+
+impl Observer for Listing {
+    ghost told = { λ l. if l.is_full then None else Some l.told.items };
+
+    fn observe(&mut self, occurrence: &Occurrence, _: &Monitor) {
+        if !self.is_full {
+            self.is_full = self.told.push(*occurrence).is_err();
+        }
+    }
+}
+
+const SENDER: Sender = Sender {
+    address: [10, 0, 0, 1],
+    port: 5568,
+};
+
+fn take(network: &mut Network, now: u64, source: u8, number: u8, listing: &mut Listing) {
+    let mut octets = [0; 638];
+    let fields = DataFields {
+        cid: [source; 16],
+        name: [0; 64],
+        priority: 100,
+        number,
+        preview: false,
+        terminated: false,
+        universe: 1,
+        start: 0,
+        slots: &[255],
+    };
+    write_data(&fields, &mut octets);
+    network.take(now, SENDER, &read_packet(&octets), listing);
+}
+
+fn appeared(at: u64, place: usize) -> Occurrence {
+    let news = News {
+        event: Event::Appeared,
+        skipped: 0,
+        began_anew: false,
+        leaves_out: None,
+        priority: None,
+        renamed: false,
+        moved: false,
+    };
+    Occurrence {
+        at,
+        what: What::Heard(place, news),
+    }
+}
+
+fn contest(at: u64, sources: usize) -> Occurrence {
+    let contest = Contest {
+        universe: 1,
+        sources,
+        priority: 100,
+    };
+    Occurrence {
+        at,
+        what: What::Contest(contest),
+    }
+}
+
+fn lost(at: u64, place: usize) -> Occurrence {
+    Occurrence {
+        at,
+        what: What::Lost(place),
+    }
+}
+
+fn listed(alloc: Global) -> Result<bool, AllocError> {
+    let mut network = Network::new(alloc)?;
+    let mut listing = Listing {
+        told: Vec::with_capacity(alloc, 16)?,
+        is_full: false,
+    };
+    take(&mut network, 0, 1, 0, &mut listing);
+    take(&mut network, 10, 2, 0, &mut listing);
+    take(&mut network, 20, 2, 1, &mut listing);
+    let is_contested = network.is_contested(1) & network.was_heard(1) & !network.was_heard(2);
+    network.tick(3000, &mut listing);
+    let told = [
+        appeared(0, 0),
+        appeared(10, 1),
+        contest(10, 2),
+        lost(2500, 0),
+        contest(2500, 1),
+        lost(2520, 1),
+    ];
+    Ok(is_contested & !network.is_contested(1) & (listing.told.as_slice() == told.as_slice()))
+}
+
+#[test]
+fn two_sources_are_told_in_order(rt: HostRuntime) {
+    assert!(rt; listed(rt.alloc()) == Ok(true));
+}

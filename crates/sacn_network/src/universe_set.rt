@@ -1,0 +1,72 @@
+//! A set of universes.
+
+ghost use Rattle.std.specs.Prelude.{◌≡◌, IfOk};
+ghost use Rattle.sacn_network.specs.Sets.{has_bit, is_otherwise, marked, no_universes, turned};
+
+use std::alloc::{AllocError, Global};
+use std::marker::Model;
+
+/// So many words have a bit for each number of 16 bits.
+const WORDS: usize = 1024;
+
+/// A set of universe numbers, 0 to 65535, a bit each. Its room is taken once.
+///
+/// Its value is the list of its words; `has_bit` says of each number whether it is in the set.
+#[derive(Drop)]
+pub(crate) struct UniverseSet {
+    words: Vec<u64>,
+}
+
+impl Model for UniverseSet {
+    ghost use Rattle.std.specs.Prelude.{◌≡◌, ℕ, List, length};
+    ghost use Rattle.sacn_network.specs.declared.universe_set.TheConstants.{WORDS};
+
+    ghost Value = { List ℕ };
+
+    ghost view = { λ s. s.words.items };
+
+    ghost invariant = { λ s. length s.words.items ≡ WORDS };
+}
+
+impl UniverseSet {
+    /// A set of none.
+    ///
+    /// Errors: the request for its room was refused.
+    pub(crate) fn new(alloc: Global) -> Result<Self, AllocError>
+        ensures { IfOk result (λ s. s ≡ no_universes) }
+    {
+        Ok(UniverseSet {
+            words: vec![in alloc; 0; WORDS]?,
+        })
+    }
+
+    /// Whether a universe is in it.
+    pub(crate) fn has(&self, universe: u16) -> bool
+        ensures { result ≡ has_bit self.now universe }
+    {
+        let number = usize::from(universe);
+        (self.words[number / 64] >> (number % 64)) & 1 == 1
+    }
+
+    /// Puts a universe into it, or takes it out. Returns whether that changed it.
+    #[tactic(auto, unfolding(crate::specs::Sets::marked))]
+    pub(crate) fn mark(&mut self, universe: u16, is_in: bool) -> bool
+        ensures answer { result ≡ is_otherwise is_in (has_bit self.old universe) }
+        ensures set { self.new ≡ marked universe is_in self.old }
+    {
+        let was_in = self.has(universe);
+        let is_otherwise = if is_in { !was_in } else { was_in };
+        if is_otherwise {
+            self.turn(universe);
+        }
+        is_otherwise
+    }
+
+    // Puts a universe into it that isn't there, or takes one out that is.
+    fn turn(&mut self, universe: u16)
+        ensures { self.new ≡ turned universe self.old }
+    {
+        let number = usize::from(universe);
+        self.words[number / 64] ^= 1 << (number % 64);
+    }
+}
