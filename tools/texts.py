@@ -72,6 +72,13 @@ def functions_of(path, text, homes):
     return found
 
 
+def first_attribute(lines, head):
+    """The line at which the attributes above a function's head begin, of one line each as the kit's formatter lays them out, or the head's where it has none."""
+    while head > 0 and lines[head - 1].lstrip().startswith("#["):
+        head -= 1
+    return head
+
+
 def read_edit(file):
     """An edit's pairs of texts, each with the file that it changes (the kit has read them once, so they are well formed), and the functions that it says must
     fall."""
@@ -136,13 +143,14 @@ class Texts:
         return texts
 
     def with_copy(self, path, text, edit, function, name):
-        """The text with a copy of a function below it, in which the edit is made."""
+        """The text with a copy of a function and its attributes below it, in which the edit is made."""
         alone = self.with_edits([edit._replace(copied=None)])[path]
         lines, below = alone.split("\n"), text.split("\n")
         found = next(it for it in functions_of(path, alone, self.homes) if it.target == function.target)
         place = next(it for it in functions_of(path, text, self.homes) if it.target == function.target).last + 1
         head = lines[found.head].replace(f"fn {function.name}", f"fn {name}", 1)
-        return "\n".join([*below[:place], "", head, *lines[found.head + 1 : found.last + 1], *below[place:]])
+        attributes = lines[first_attribute(lines, found.head) : found.head]
+        return "\n".join([*below[:place], "", *attributes, head, *lines[found.head + 1 : found.last + 1], *below[place:]])
 
     def is_plain(self, function, text):
         """Whether a copy of a function can stand for it: one of no trait, with one name, that isn't computed with, that C doesn't call, that doesn't call
