@@ -1,9 +1,11 @@
 -- The lines of a turn, port by port.
-use Rattle.std.proofs.Common.{◌≡◌, ℕ, zero, suc, ◌+◌, ◌<◌, List, [], ◌∷◌, ◌++◌, take, drop, length, get_or, refl, sym, ap, ◌∙◌, arith, append_assoc}
+use Rattle.std.proofs.Common.{◌≡◌, ℕ, zero, suc, ◌+◌, ◌<◌, false, List, [], ◌∷◌, ◌++◌, take, drop, length, get_or, inl, inr, refl, sym, ap, subst, ◌∙◌, arith, append_assoc, if◌then◌else◌}
 use Rattle.std.proofs.lemmas.List.{take_more}
 use Rattle.sacn_node.specs.declared.port_frame.PortFrame.{PortFrame}
+use Rattle.sacn_node.specs.Showings.{IsNewsOf, news_in}
+use Rattle.sacn_node.proofs.StableFrames.{neither}
 use Rattle.sacn_edge.specs.Additions.{Adds}
-use Rattle.sacn_edge.specs.PortLines.{port_text, ports_text}
+use Rattle.sacn_edge.specs.PortLines.{FailsAmong, frame_text, port_text, ports_text}
 
 pub append_nil : {X : Type 0} (xs : List X) → xs ++ [] ≡ xs
 append_nil [] = refl
@@ -30,3 +32,25 @@ split_at (x ∷ xs) zero d lt = refl
 split_at (x ∷ xs) (suc i) d lt =
     let next : suc i + 1 ≡ suc (i + 1) = omega arith in
     rw next (ap (λ l. x ∷ l) (split_at xs i d (omega arith)))
+
+-- ---- what is new of some ports
+
+none_in : (m : ℕ) (ps : List PortFrame) → news_in ps ≡ false → ports_text m ps ≡ []
+none_in m [] none = refl
+none_in m (p ∷ ps) none =
+    let parts = neither p.is_new (news_in ps) none in
+    ap (λ is_new. (if is_new then frame_text p.port m p.last else []) ++ ports_text m ps) parts.0 ∙ none_in m ps parts.1
+
+-- their text is that of the ports
+pub news_text : (m : ℕ) (news ps : List PortFrame) → IsNewsOf news ps → ports_text m news ≡ ports_text m ps
+news_text m news ps (inl all) = ap (ports_text m) all
+news_text m news ps (inr none) = ap (ports_text m) none.0 ∙ sym (none_in m ps none.1)
+
+not_empty : {X : Type 0} (xs : List X) (y : X) (zs : List X) → [] ≡ xs ++ y ∷ zs → ⊥
+not_empty [] y zs is = absurd (cc)
+not_empty (x ∷ xs) y zs is = absurd (cc)
+
+-- and where it fails among them, it does among the ports
+pub news_fail : (m : ℕ) (news ps : List PortFrame) (old new : List ℕ → Type 0) → IsNewsOf news ps → FailsAmong m news old new → FailsAmong m ps old new
+news_fail m news ps old new (inl all) fails = subst (λ ps. FailsAmong m ps old new) all fails
+news_fail m news ps old new (inr none) fails = absurd (not_empty fails.0 fails.1 fails.2 (sym none.0 ∙ fails.4))

@@ -13,7 +13,6 @@ use crate::out::Out;
 use crate::port_lines::write_ports;
 use crate::report::NodeReport;
 use crate::text::WriteFailed;
-use sacn_framing::read_packet;
 use sacn_node::{NodeCore, Showing};
 
 /// What a turn read and received.
@@ -44,7 +43,7 @@ fn hear<L: Link, C: Clock>(
     let received = link.receive(buffer);
     match received {
         Received::Datagram(len) => {
-            showing.take(core, now, &read_packet(&buffer[..len]));
+            showing.take_octets(core, now, &buffer[..len]);
         }
         Received::Nothing => {
             showing.tick(core, now);
@@ -112,7 +111,7 @@ pub fn run_node<L: Link, C: Clock, O: Out>(
         let hearing = hear(link, clock, core, &mut showing, &mut buffer);
         count(&mut report, hearing.received);
         showing.look(core);
-        write_ports(out, core.moment(), showing.ports())?;
+        write_ports(out, core.moment(), showing.news())?;
     }
     Ok(report)
 }

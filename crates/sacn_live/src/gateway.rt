@@ -151,9 +151,8 @@ pub fn run_gateway<G: Receiver, N: Notes, O: Out, D: Device>(
         waits = drained.waits;
         let now = drained.now;
         showing.look(core);
-        let ports = showing.ports();
-        write_ports(out, core.moment(), ports)?;
-        serve_interfaces(interfaces, now, ports, notes);
+        write_ports(out, core.moment(), showing.news())?;
+        serve_interfaces(interfaces, now, showing.ports(), notes);
         notes.note_turn(now);
         if now >= span.until {
             return Ok(());

@@ -10,8 +10,9 @@ use Rattle.sacn_node.specs.Setup.{Port, port_numbers}
 use Rattle.sacn_node.specs.Ports.{port_of}
 use Rattle.sacn_node.specs.Cores.{Core, Node, core_lost, core_slots, node_frame}
 use Rattle.sacn_node.specs.Readings.{Reading, after_reading}
+use Rattle.sacn_node.specs.Calls.{with_reading}
 use Rattle.sacn_node.specs.Changes.{universe_changed, shows_on, node_shows}
-use Rattle.sacn_node.specs.Showings.{same, is_shown, unseen, with_found, port_after, ports_of, changes_universe, concerns, IsCurrent, AreCurrentBut, IsShowingOf}
+use Rattle.sacn_node.specs.Showings.{same, is_shown, unseen, with_found, port_after, ports_of, changes_universe, concerns, IsCurrent, AreCurrentBut, IsShowingOf, news_in}
 use Rattle.sacn_node.proofs.StableFrames.{slots_are_kept, frames_are_kept, neither}
 use Rattle.sacn_node.proofs.Settled.{tick_told}
 
@@ -82,10 +83,11 @@ module _ (s t : Showing) (n m : Node) (ports : m.ports ≡ n.ports) (all : t.all
   still_current [] current = tt
   still_current (p ∷ ps) current = (one_current p current.0, still_current ps current.1)
 
-  pub still_showing : ports_of t ≡ ports_of s → IsShowingOf s n → IsShowingOf t m
-  still_showing kept showing = record {
+  pub still_showing : ports_of t ≡ ports_of s → t.has_news ≡ s.has_news → IsShowingOf s n → IsShowingOf t m
+  still_showing kept news showing = record {
     numbers = ap (λ (ps : List PortFrame). map (λ p. p.port) ps) kept ∙ showing.numbers ∙ ap port_numbers (sym ports);
     current = subst (AreCurrentBut t.all t.universes.items m) (sym kept) (still_current (ports_of s) showing.current);
+    quiet = λ none. ap news_in kept ∙ showing.quiet (sym news ∙ none);
   }
 
 pub grows_lost : (s t : Showing) → (t.all ≡ false → s.all ≡ false) → t.universes.items ≡ s.universes.items → (u : ℕ) → changes_universe t u ≡ false → changes_universe s u ≡ false
@@ -101,6 +103,19 @@ pub reading_told : (t : Showing) (reading : Reading) (now lost u : ℕ) (named :
 reading_told t reading now lost u named old counted none is noted quiet =
     slots_are_kept reading now u old (λ some. both_ways (changes_universe t u) (subst (λ o. IfSome o (λ v. changes_universe t v ≡ true)) (is ∙ some) noted) quiet)
     ∙ tick_told now lost u old counted none
+
+-- a datagram is given to a node, and what that may have changed is noted
+pub taken_showing : (s t : Showing) (n m : Node) (reading : Reading) (now lost : ℕ) (named : Option ℕ)
+    → m ≡ with_reading now reading n → lost ≡ core_lost now n.core → named ≡ universe_changed reading now n.core
+    → (t.all ≡ false → s.all ≡ false) → ((u : ℕ) → changes_universe t u ≡ false → changes_universe s u ≡ false)
+    → (t.all ≡ false → lost ≡ 0) → IfSome named (λ v. changes_universe t v ≡ true)
+    → ports_of t ≡ ports_of s → t.has_news ≡ s.has_news → IsShowingOf s n → IsShowingOf t m
+taken_showing s t n m reading now lost named core counted is all grows none noted kept news showing =
+    still_showing s t n m (ap (λ (n : Node). n.ports) core) all grows
+    (λ u quiet.
+    let parts = neither t.all (list_any (λ v. v == u) t.universes.items) quiet in
+    ap (λ (n : Node). core_slots n.core u) core ∙ reading_told t reading now lost u named n.core counted (none parts.0) is noted quiet)
+    kept news showing
 
 -- ---- a new showing, and one after a look
 
@@ -130,11 +145,13 @@ looked_current universes n (p ∷ ps) =
     let q = port_after n p in
     ((λ quiet. subst (λ k. (with_found q (node_frame k n)).last ≡ q.last) (sym (number_after p (node_frame p.port n))) (last_again p q (node_frame p.port n) refl)), looked_current universes n ps)
 
-pub looked : (s t : Showing) (n m : Node) → m ≡ n → ports_of t ≡ map (port_after n) (ports_of s) → t.all ≡ false → IsShowingOf s n → IsShowingOf t m
-looked s t n m same is none showing =
+pub looked : (s t : Showing) (n m : Node) → m ≡ n → ports_of t ≡ map (port_after n) (ports_of s) → t.all ≡ false → (t.has_news ≡ false → news_in (ports_of t) ≡ false) → IsShowingOf s n
+    → IsShowingOf t m
+looked s t n m same is none quiet showing =
     subst (λ (m : Node). IsShowingOf t m) (sym same) (record {
       numbers = ap (λ (ps : List PortFrame). map (λ p. p.port) ps) is ∙ numbers_after n (ports_of s) ∙ showing.numbers;
       current = subst (λ all. AreCurrentBut all t.universes.items n (ports_of t)) (sym none) (subst (AreCurrentBut false t.universes.items n) (sym is) (looked_current t.universes.items n (ports_of s)));
+      quiet = quiet;
     })
 
 -- the port at a place
@@ -162,13 +179,19 @@ nothing_noted : (n : Node) (ps : List PortFrame) → AreCurrentBut false [] n ps
 nothing_noted n [] current = refl
 nothing_noted n (p ∷ ps) current = λ i. stays_current p (node_frame p.port n) (current.0 (shows_none (port_of p.port n.ports))) i ∷ nothing_noted n ps current.1 i
 
-nothing_new : (all : Bool) (us : List ℕ) (n : Node) (ps : List PortFrame) → all ≡ false → us ≡ [] → AreCurrentBut all us n ps → map (λ p. with_found p None) ps ≡ map (port_after n) ps
+pub nothing_new : (all : Bool) (us : List ℕ) (n : Node) (ps : List PortFrame) → all ≡ false → us ≡ [] → AreCurrentBut all us n ps → map (λ p. with_found p None) ps ≡ map (port_after n) ps
 nothing_new all us n ps none empty current =
     nothing_noted n ps (subst (λ us. AreCurrentBut false us n ps) empty (subst (λ all. AreCurrentBut all us n ps) none current))
 
--- of ports that were lent, without their news, and written back
-pub news_forgotten : (old lent new : List PortFrame) (all : Bool) (us : List ℕ) (n : Node) → lent ≡ old → new ≡ map (λ p. with_found p None) lent → all ≡ false → us ≡ [] → AreCurrentBut all us n old
-    → take (length old) (new ++ drop (length new) old) ≡ map (port_after n) old
-news_forgotten old lent new all us n same is none empty current =
-    let made : new ≡ map (λ p. with_found p None) old = is ∙ ap (map (λ p. with_found p None)) same in
-    put_back old new (ap length made ∙ length-map old (λ p. with_found p None)) ∙ made ∙ nothing_new all us n old none empty current
+-- ---- news that are forgotten
+
+-- none of these ports has a new frame, and they are ports of which that was forgotten
+pub none_new : (ps : List PortFrame) → news_in ps ≡ false → ps ≡ map (λ p. with_found p None) ps
+none_new [] none = refl
+none_new (p ∷ ps) none =
+    let parts = neither p.is_new (news_in ps) none in
+    λ i. (let q : PortFrame = record { port = p.port; last = p.last; is_new = parts.0 i } in q) ∷ none_new ps parts.1 i
+
+pub forgotten : (ps : List PortFrame) → news_in (map (λ p. with_found p None) ps) ≡ false
+forgotten [] = refl
+forgotten (p ∷ ps) = forgotten ps

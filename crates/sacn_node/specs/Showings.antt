@@ -1,7 +1,7 @@
 -- What a node shows on its ports, look by look, and what may have changed since the latest look.
-use Rattle.std.specs.Prelude.{◌≡◌, ◌==◌, ◌||◌, ℕ, Bool, false, not, List, [], ◌∷◌, map, Option, None, Some, ⊤}
+use Rattle.std.specs.Prelude.{◌≡◌, ◌==◌, ◌||◌, ◌⊎◌, ℕ, Bool, false, not, List, [], ◌∷◌, map, Option, None, Some, ⊤, if◌then◌else◌}
 use Rattle.std.specs.Bool.{nat_eq}
-use Rattle.std.specs.Coded.{Coded-set, coded_ℕ, coded_list, coded_option, ×_prop, →_prop, Unit-prop}
+use Rattle.std.specs.Coded.{Coded-set, coded_bool, coded_ℕ, coded_list, coded_option, ×_prop, →_prop, Unit-prop}
 use Rattle.std.specs.Cmp.Lexicographic.{pointwise}
 use Rattle.std.specs.List.{list_any}
 use Rattle.sacn_node.specs.declared.showing.Showing.{Showing}
@@ -38,6 +38,18 @@ port_after n p = with_found p (node_frame p.port n)
 abbrev pub ports_of : Showing → List PortFrame
 ports_of s = s.ports.items
 
+-- a port has a new frame
+abbrev pub news_in : List PortFrame → Bool
+news_in ps = list_any (λ p. p.is_new) ps
+
+-- the ports, where one may have a new frame
+abbrev pub news_of : Showing → List PortFrame
+news_of s = if s.has_news then s.ports.items else []
+
+-- these are the ports, or none where no port has a new frame
+abbrev pub IsNewsOf : List PortFrame → List PortFrame → Type 0
+IsNewsOf news ps = (news ≡ ps) ⊎ ((news ≡ []) × (news_in ps ≡ false))
+
 -- the slots of a universe may have changed
 abbrev pub changes_universe : Showing → ℕ → Bool
 changes_universe s u = s.all || list_any (λ v. v == u) s.universes.items
@@ -59,6 +71,7 @@ AreCurrentBut all universes n (p ∷ ps) = (concerns all universes n p.port ≡ 
 pub record IsShowingOf (s : Showing) (n : Node) : Type 0 where
   pub numbers : map (λ p. p.port) s.ports.items ≡ port_numbers n.ports
   pub current : AreCurrentBut s.all s.universes.items n s.ports.items
+  pub quiet : s.has_news ≡ false → news_in s.ports.items ≡ false
 
 -- which is said in one way at most
 AreCurrentBut-prop : (all : Bool) (universes : List ℕ) (n : Node) (ps : List PortFrame) → IsProp (AreCurrentBut all universes n ps)
@@ -69,4 +82,5 @@ pub IsShowingOf-prop : (s : Showing) (n : Node) → IsProp (IsShowingOf s n)
 IsShowingOf-prop s n x y = λ i. record {
   numbers = Coded-set (coded_list coded_ℕ) _ _ x.numbers y.numbers i;
   current = AreCurrentBut-prop s.all s.universes.items n s.ports.items x.current y.current i;
+  quiet = →_prop (Coded-set coded_bool _ _) x.quiet y.quiet i;
 }

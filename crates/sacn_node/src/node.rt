@@ -77,6 +77,7 @@ impl NodeCore {
 
     /// Takes a datagram as `take` does, and says what it may have changed of what the node shows: where no source was lost at
     /// this moment, the slots of `universe` alone.
+    #[inline(always)]
     pub fn take_and_tell(&mut self, now: u64, octets: &[u8]) -> NodeChange
         ensures taken { result.taken ≡ reply_to (reading_packet octets.now) now self.old.core }
         ensures lost { result.lost ≡ core_lost now self.old.core }

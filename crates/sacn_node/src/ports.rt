@@ -84,7 +84,7 @@ pub(crate) fn copy_numbers(ports: &[PortSetup]) -> ArrayVec<u8, MAX_PORTS>
 
 /// The port of this number, of ports whose numbers rise.
 ///
-/// It equals `search_port`: where the numbers are 1, 2, 3 .., as of most nodes, each stands at the place before its number.
+/// The same as `search_port`, but most nodes number their ports 1, 2, 3 .., so each is looked for at the place before its number first.
 pub(crate) fn find_port(ports: &[NodePort], number: u8) -> Option<&NodePort>
     requires { IsStrictlyIncreasing (port_numbers ports.now) }
     ensures { port_of number ports.now ≡ option_map (λ p. p.now) result }

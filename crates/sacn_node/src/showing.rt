@@ -5,9 +5,10 @@ ghost use Rattle.std.specs.List.Sorted.{IsStrictlyIncreasing};
 ghost use Rattle.sacn_node.specs.Setup.{port_numbers};
 ghost use Rattle.sacn_node.specs.Cores.{core_lost};
 ghost use Rattle.sacn_node.specs.Calls.{step, Tick, with_reading};
+ghost use Rattle.sacn_framing.specs.PacketReading.{reading_packet};
 ghost use Rattle.sacn_node.specs.Readings.{reply_to};
 ghost use Rattle.sacn_node.specs.Changes.{universe_changed};
-ghost use Rattle.sacn_node.specs.Showings.{AreCurrentBut, IsShowingOf, changes_universe, concerns, port_after, ports_of, unseen, with_found};
+ghost use Rattle.sacn_node.specs.Showings.{AreCurrentBut, IsNewsOf, IsShowingOf, changes_universe, concerns, news_in, news_of, port_after, ports_of, unseen, with_found};
 
 use crate::answer::NodeChange;
 use crate::limits::{MAX_PORTS, MAX_UNIVERSES};
@@ -23,6 +24,8 @@ use sacn_framing::Reading;
 #[derive(Drop)]
 pub struct Showing {
     ports: ArrayVec<PortFrame, MAX_PORTS>,
+    /// The latest look may have found a new frame.
+    has_news: bool,
     /// Any slot of any universe may have changed.
     all: bool,
     /// The universes whose slots may have.
@@ -30,7 +33,7 @@ pub struct Showing {
 }
 
 impl Showing {
-    /// That of a node which wasn't looked at yet.
+    /// The showing of a node that wasn't looked at yet.
     pub fn new(core: &NodeCore) -> Self
         ensures ports { ports_of result ≡ map unseen (port_numbers core.now.ports) }
         ensures rising { IsStrictlyIncreasing (port_numbers core.now.ports) }
@@ -38,6 +41,7 @@ impl Showing {
     {
         Showing {
             ports: unseen_ports(core),
+            has_news: true,
             all: true,
             universes: ArrayVec::new(),
         }
@@ -48,6 +52,17 @@ impl Showing {
         ensures { result.now ≡ ports_of self.now }
     {
         self.ports.as_slice()
+    }
+
+    /// These ports, where the latest look may have found a new frame on one, and else none.
+    pub fn news(&self) -> &[PortFrame]
+        ensures { result.now ≡ news_of self.now }
+    {
+        if self.has_news {
+            self.ports.as_slice()
+        } else {
+            &[]
+        }
     }
 
     /// Gives the node what a datagram was read as, notes what that may have changed, and returns it.
@@ -61,8 +76,23 @@ impl Showing {
         ensures showing { IsShowingOf self.new core.new }
     {
         let change = core.take_reading(now, reading);
-        self.add_lost(change.lost);
-        self.add_universe(change.universe);
+        self.note(change);
+        change
+    }
+
+    /// Gives the node a datagram: `take` of what its octets are read as.
+    pub fn take_octets(&mut self, core: &mut NodeCore, now: u64, octets: &[u8]) -> NodeChange
+        requires { IsShowingOf self.old core.old }
+        ensures taken { result.taken ≡ reply_to (reading_packet octets.now) now core.old.core }
+        ensures lost { result.lost ≡ core_lost now core.old.core }
+        ensures universe { result.universe
+            ≡ universe_changed (reading_packet octets.now) now core.old.core }
+        ensures core { core.new ≡ with_reading now (reading_packet octets.now) core.old }
+        ensures ports { ports_of self.new ≡ ports_of self.old }
+        ensures showing { IsShowingOf self.new core.new }
+    {
+        let change = core.take_and_tell(now, octets);
+        self.note(change);
         change
     }
 
@@ -86,10 +116,11 @@ impl Showing {
         ensures ports { ports_of self.new ≡ map (port_after core.old) (ports_of self.old) }
         ensures core { core.new ≡ core.old }
         ensures showing { IsShowingOf self.new core.new }
+        ensures news { IsNewsOf (news_of self.new) (ports_of self.new) }
         ensures nothing { (u : ℕ) → changes_universe self.new u ≡ false }
     {
         if !self.is_noted() {
-            forget_news(self.ports.as_mut_slice());
+            self.forget_news();
             return;
         }
         look_at(
@@ -98,8 +129,23 @@ impl Showing {
             self.all,
             self.universes.as_slice(),
         );
+        self.has_news = true;
         self.all = false;
         self.universes.clear();
+    }
+
+    /// Notes that no port has a new frame: at once, where that is noted already.
+    fn forget_news(&mut self)
+        requires { self.old.has_news ≡ false → news_in (ports_of self.old) ≡ false }
+        ensures ports { ports_of self.new ≡ map (λ p. with_found p None) (ports_of self.old) }
+        ensures news { self.new.has_news ≡ false }
+        ensures all { self.new.all ≡ self.old.all }
+        ensures universes { self.new.universes ≡ self.old.universes }
+    {
+        if self.has_news {
+            forget_all(self.ports.as_mut_slice());
+            self.has_news = false;
+        }
     }
 
     /// Whether a frame may have changed since the latest look.
@@ -109,9 +155,24 @@ impl Showing {
         self.all || !self.universes.is_empty()
     }
 
+    /// Notes what a datagram may have changed.
+    fn note(&mut self, change: NodeChange)
+        ensures ports { self.new.ports ≡ self.old.ports }
+        ensures news { self.new.has_news ≡ self.old.has_news }
+        ensures all { self.new.all ≡ false → self.old.all ≡ false }
+        ensures grows { (u : ℕ) → changes_universe self.new u ≡ false
+            → changes_universe self.old u ≡ false }
+        ensures lost { self.new.all ≡ false → change.lost ≡ 0 }
+        ensures named { IfSome change.universe (λ u. changes_universe self.new u ≡ true) }
+    {
+        self.add_lost(change.lost);
+        self.add_universe(change.universe);
+    }
+
     /// Notes that so many sources were lost.
     fn add_lost(&mut self, lost: usize)
         ensures ports { self.new.ports ≡ self.old.ports }
+        ensures news { self.new.has_news ≡ self.old.has_news }
         ensures all { self.new.all ≡ false → self.old.all ≡ false }
         ensures universes { self.new.universes ≡ self.old.universes }
         ensures lost { self.new.all ≡ false → lost ≡ 0 }
@@ -124,6 +185,7 @@ impl Showing {
     /// Notes a universe, where one is named.
     fn add_universe(&mut self, universe: Option<u16>)
         ensures ports { self.new.ports ≡ self.old.ports }
+        ensures news { self.new.has_news ≡ self.old.has_news }
         ensures all { self.new.all ≡ false → self.old.all ≡ false }
         ensures grows { (u : ℕ) → changes_universe self.new u ≡ false
             → changes_universe self.old u ≡ false }
@@ -137,6 +199,7 @@ impl Showing {
     /// Notes a universe.
     fn add(&mut self, universe: u16)
         ensures ports { self.new.ports ≡ self.old.ports }
+        ensures news { self.new.has_news ≡ self.old.has_news }
         ensures all { self.new.all ≡ false → self.old.all ≡ false }
         ensures grows { (u : ℕ) → changes_universe self.new u ≡ false
             → changes_universe self.old u ≡ false }
@@ -181,8 +244,8 @@ fn may_differ(core: &NodeCore, all: bool, universes: &[u16], port: u8) -> bool
     all || core.shows(port, universes)
 }
 
-/// Notes that no port has a new frame.
-fn forget_news(ports: &mut [PortFrame])
+/// Notes of each of these ports that it has no new frame.
+fn forget_all(ports: &mut [PortFrame])
     ensures { ports.new ≡ map (λ p. with_found p None) ports.old }
 {
     for port in ports.iter_mut() {

@@ -2,11 +2,11 @@ use Rattle.std.proofs.Common.{arith, ◌≡◌, ℕ, ◌∷◌, [], map, refl, s
 use Rattle.std.proofs.lemmas.Result.{err_from_is_err_and}
 use Rattle.sacn_node.specs.Setup.{port_numbers}
 use Rattle.sacn_node.specs.Cores.{Node}
-use Rattle.sacn_node.specs.Showings.{port_after, ports_of}
+use Rattle.sacn_node.specs.Showings.{IsNewsOf, port_after, ports_of}
 use Rattle.sacn_node.proofs.Looks.{unseen_numbers}
 use Rattle.sacn_edge.specs.Additions.{Adds, Extends}
 use Rattle.sacn_edge.specs.PortLines.{FailsAmong, ports_text}
-use Rattle.sacn_edge.proofs.PortLineLemmas.{Adds-nil}
+use Rattle.sacn_edge.proofs.PortLineLemmas.{Adds-nil, news_fail, news_text}
 use Rattle.sacn_edge.proofs.NodeLemmas.{rising_distinct, numbers, nothing_seen, Remembers}
 use Rattle.sacn_live.specs.Hearings.{in_order}
 use Rattle.sacn_live.specs.GatewayText.{gateway_lines}
@@ -49,7 +49,8 @@ returns-in_err-write_ports-clause-err g c =
     let n = c.drain-drained.new.core in
     let is = gate_more first senders hs turns c.loop-turn.core n c.loop-turn.waits run.6 run.7 heard.3 in
     let ss = ports_of c.loop-turn.showing in
-    let looked : c.ports-ports.result.now ≡ map (port_after n) ss = c.ports-ports.ensures ∙ c.look.ensures.ports ∙ ap (map (port_after n)) c.drain-drained.ensures.ports in
+    let seen : ports_of c.look.new.self ≡ map (port_after n) ss = c.look.ensures.ports ∙ ap (map (port_after n)) c.drain-drained.ensures.ports in
+    let news : IsNewsOf c.news.result.now (ports_of c.look.new.self) = subst (λ ps. IsNewsOf ps (ports_of c.look.new.self)) (sym c.news.ensures) c.look.ensures.news in
     let moment : c.moment.result ≡ n.core.moment = c.moment.ensures ∙ ap (λ (m : Node). m.core.moment) c.look.ensures.core in
     let from = g.O.Out.Tells c.loop-turn.out in
     let to = g.O.Out.Tells c.write_ports.new.out in
@@ -62,7 +63,8 @@ returns-in_err-write_ports-clause-err g c =
       (heard.1, run.3),
       heard_more _ _ _ hs turns run.4 told,
       stops_in first n senders ss hs turns is run.8 c.loop-turn.invariant.distinct run.9 _ _ _ run.5
-          (subst (λ (m : ℕ). FailsAmong m (map (port_after n) ss) from to) moment (subst (λ ps. FailsAmong c.moment.result ps from to) looked c.in_err-write_ports.ensures.err.1)),
+          (subst (λ (m : ℕ). FailsAmong m (map (port_after n) ss) from to) moment (subst (λ ps. FailsAmong c.moment.result ps from to) seen
+          (news_fail c.moment.result c.news.result.now (ports_of c.look.new.self) from to news c.in_err-write_ports.ensures.err.1))),
       c.look.ensures.core ∙ is,
       run.10,
     )
@@ -78,7 +80,9 @@ returns-then-now-span-clause-ok g c =
     let n = c.drain-drained.new.core in
     let is = gate_more first senders hs turns c.loop-turn.core n c.loop-turn.waits run.6 run.7 heard.3 in
     let ss = ports_of c.loop-turn.showing in
-    let looked : c.ports-ports.result.now ≡ map (port_after n) ss = c.ports-ports.ensures ∙ c.look.ensures.ports ∙ ap (map (port_after n)) c.drain-drained.ensures.ports in
+    let seen : ports_of c.look.new.self ≡ map (port_after n) ss = c.look.ensures.ports ∙ ap (map (port_after n)) c.drain-drained.ensures.ports in
+    let looked : c.ports.result.now ≡ map (port_after n) ss = c.ports.ensures ∙ seen in
+    let news : IsNewsOf c.news.result.now (ports_of c.look.new.self) = subst (λ ps. IsNewsOf ps (ports_of c.look.new.self)) (sym c.news.ensures) c.look.ensures.news in
     let moment : c.moment.result ≡ n.core.moment = c.moment.ensures ∙ ap (λ (m : Node). m.core.moment) c.look.ensures.core in
     let from = g.O.Out.Tells c.loop-turn.out in
     let to = g.O.Out.Tells c.write_ports.new.out in
@@ -89,9 +93,10 @@ returns-then-now-span-clause-ok g c =
       (heard.1, run.3),
       heard_more _ _ _ hs turns run.4 told,
       more_text first n senders ss hs turns is run.8 c.loop-turn.invariant.distinct run.9 _ _ _ run.5
-          (subst (λ (m : ℕ). Adds from to (ports_text m (map (port_after n) ss))) moment (subst (λ ps. Adds from to (ports_text c.moment.result ps)) looked c.in_ok-write_ports.ensures.ok.1)),
+          (subst (λ (m : ℕ). Adds from to (ports_text m (map (port_after n) ss))) moment
+          (subst (Adds from to) (news_text c.moment.result c.news.result.now (ports_of c.look.new.self) news ∙ ap (ports_text c.moment.result) seen) c.in_ok-write_ports.ensures.ok.1)),
       c.look.ensures.core ∙ is,
-      all_more g.D.Device.told first senders hs turns c.drain-drained.result.now c.ports-ports.result.now heard.5 frames c.args.interfaces.now c.loop-turn.interfaces c.serve_interfaces.new.interfaces run.10 c.serve_interfaces.ensures,
+      all_more g.D.Device.told first senders hs turns c.drain-drained.result.now c.ports.result.now heard.5 frames c.args.interfaces.now c.loop-turn.interfaces c.serve_interfaces.new.interfaces run.10 c.serve_interfaces.ensures,
     )
 
 pub loop-turn-preserved : goal.loop-turn-preserved
@@ -106,7 +111,8 @@ loop-turn-preserved g c =
     let is = gate_more first senders hs turns c.loop-turn.core n c.loop-turn.waits run.6 run.7 heard.3 in
     let ss = ports_of c.loop-turn.showing in
     let seen : ports_of c.look.new.self ≡ map (port_after n) ss = c.look.ensures.ports ∙ ap (map (port_after n)) c.drain-drained.ensures.ports in
-    let looked : c.ports-ports.result.now ≡ map (port_after n) ss = c.ports-ports.ensures ∙ seen in
+    let looked : c.ports.result.now ≡ map (port_after n) ss = c.ports.ensures ∙ seen in
+    let news : IsNewsOf c.news.result.now (ports_of c.look.new.self) = subst (λ ps. IsNewsOf ps (ports_of c.look.new.self)) (sym c.news.ensures) c.look.ensures.news in
     let moment : c.moment.result ≡ n.core.moment = c.moment.ensures ∙ ap (λ (m : Node). m.core.moment) c.look.ensures.core in
     let from = g.O.Out.Tells c.loop-turn.out in
     let to = g.O.Out.Tells c.write_ports.new.out in
@@ -125,12 +131,13 @@ loop-turn-preserved g c =
         (heard.1, run.3),
         heard_more _ _ _ hs turns run.4 told,
         more_text first n senders ss hs turns is run.8 distinct run.9 _ _ _ run.5
-            (subst (λ (m : ℕ). Adds from to (ports_text m (map (port_after n) ss))) moment (subst (λ ps. Adds from to (ports_text c.moment.result ps)) looked ok.1)),
+            (subst (λ (m : ℕ). Adds from to (ports_text m (map (port_after n) ss))) moment
+            (subst (Adds from to) (news_text c.moment.result c.news.result.now (ports_of c.look.new.self) news ∙ ap (ports_text c.moment.result) seen) ok.1)),
         c.look.ensures.core ∙ is,
         backlog_later first senders hs turns c.loop-turn.waits _ run.7 heard.4,
         ap numbers seen ∙ more_numbers first n senders ss hs turns is run.8 distinct run.9,
         subst (Remembers (gateway_lines first senders (hs ∷ turns))) (sym seen) (more_remembered first n senders ss hs turns is run.8 distinct run.9),
-        all_more g.D.Device.told first senders hs turns c.drain-drained.result.now c.ports-ports.result.now heard.5 frames c.args.interfaces.now c.loop-turn.interfaces c.serve_interfaces.new.interfaces run.10 c.serve_interfaces.ensures,
+        all_more g.D.Device.told first senders hs turns c.drain-drained.result.now c.ports.result.now heard.5 frames c.args.interfaces.now c.loop-turn.interfaces c.serve_interfaces.new.interfaces run.10 c.serve_interfaces.ensures,
       );
     }
 

@@ -2,7 +2,7 @@ use Rattle.std.proofs.Common.{◌<◌, None, length, get_or, arith}
 use Rattle.std.proofs.lemmas.List.{get_or_default}
 use Rattle.std.proofs.lemmas.List.Edits.{map_over_more}
 use Rattle.sacn_node.specs.Showings.{unseen, with_found}
-use Rattle.sacn_node.proofs.showing.forget_news.Goals as goal
+use Rattle.sacn_node.proofs.showing.forget_all.Goals as goal
 
 pub loop-port-preserved : goal.loop-port-preserved
 loop-port-preserved c =

@@ -1,6 +1,6 @@
 use Rattle.std.proofs.Common.{◌≡◌, ◌++◌, None, map, take, drop}
 use Rattle.sacn_node.specs.Showings.{with_found}
-use Rattle.sacn_node.proofs.showing.forget_news.Given as goal
+use Rattle.sacn_node.proofs.showing.forget_all.Given as goal
 
 -- the ports so far have no new frame, and the rest are as they were
 abbrev pub invariant-loop-port : goal.invariant-loop-port

@@ -8,4 +8,5 @@ pub returns-clause-showing : goal.returns-clause-showing
 returns-clause-showing c = record {
   numbers = ap (λ (ps : List PortFrame). map (λ p. p.port) ps) c.unseen_ports.ensures.ports ∙ unseen_numbers (port_numbers c.args.core.now.ports);
   current = all_but c.new.result.items c.args.core.now c.unseen_ports.result.items;
+  quiet = λ none. absurd (cc);
 }

@@ -18,4 +18,4 @@ returns-clause-showing c =
     (λ u quiet.
     let parts = neither t.all (list_any (λ v. v == u) t.universes.items) quiet in
     ap (λ (n : Node). core_slots n.core u) is ∙ tick_told c.args.now c.tick-lost.result u n.core c.tick-lost.ensures.gone (added.lost parts.0))
-    (ap (λ ps. ps.items) added.ports) c.requires
+    (ap (λ ps. ps.items) added.ports) added.news c.requires
