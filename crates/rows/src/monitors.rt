@@ -1,7 +1,6 @@
 //! What a monitor accounts for.
 use crate::datagram::datagram_in;
 use crate::step::{Step, StepFault};
-use sacn_framing::read_packet;
 use sacn_monitor::{Monitor, News, Noted, Sender};
 use std::alloc::Global;
 
@@ -38,11 +37,7 @@ impl Monitors {
             "take" => {
                 let now = step.number();
                 let datagram = datagram_in(step)?;
-                say_noted(
-                    step,
-                    self.monitor
-                        .take(now, SENDER, &read_packet(datagram.as_slice())),
-                );
+                say_noted(step, self.monitor.take(now, SENDER, datagram.as_slice()));
             }
             "tick" => match self.monitor.tick(step.number()) {
                 Some(place) => step.say(&place),

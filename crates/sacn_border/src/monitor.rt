@@ -10,7 +10,6 @@ ghost use Rattle.sacn_border.specs.declared.status.TheConstants.{DONE, OUT_OF_ME
 
 use crate::held_value::Held;
 use crate::news::{NewsFields, SenderFields, StreamFields, sender_of, stream_told, tell};
-use crate::reading::reading_of;
 use crate::status::{DONE, OUT_OF_MEMORY, RANGE, WRONG_HANDLE};
 use sacn_monitor::Monitor;
 use std::alloc::Global;
@@ -47,10 +46,7 @@ pub fn take(
         (λ b. Held.Monitor (after_take now (sender_of sender.now) octets.now b)) held.old }
 {
     match held {
-        Held::Monitor(monitor) => tell(
-            &monitor.take(now, sender_of(sender), &reading_of(octets)),
-            news,
-        ),
+        Held::Monitor(monitor) => tell(&monitor.take(now, sender_of(sender), octets), news),
         _ => WRONG_HANDLE,
     }
 }

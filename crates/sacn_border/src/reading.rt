@@ -7,7 +7,7 @@ ghost use Rattle.sacn_border.specs.Packets.{packet_or_status};
 
 use sacn_framing::{Packet, Reading, read_packet};
 
-/// What the octets are read as. Every call of this crate that takes a datagram reads it by this one, but a node's, which reads it itself.
+/// What the octets are read as. Every call of this crate that takes a datagram reads it by this one, but a node's and a monitor's, which read it themselves.
 #[inline(always)]
 pub(crate) fn reading_of(octets: &[u8]) -> Reading<'_>
     // What is read stands there.

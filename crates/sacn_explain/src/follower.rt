@@ -109,7 +109,7 @@ impl<'a, O: Write> Follower<'a, O> {
     {
         self.tick(now)?;
         let reading = read_packet(octets);
-        let noted = self.monitor.take(self.moment, sender, &reading);
+        let noted = self.monitor.take_reading(self.moment, sender, &reading);
         self.tell(&sender, &reading, noted)?;
         self.show_turn(&reading, noted)?;
         Ok(())

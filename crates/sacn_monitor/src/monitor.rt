@@ -14,7 +14,7 @@ use crate::rivals::{rivals, top_priority};
 use crate::silence::next_loss;
 use crate::stream::Stream;
 use crate::tally::Tally;
-use sacn_framing::{DataView, Packet, Reading};
+use sacn_framing::{DataView, Packet, Reading, read_packet};
 use std::alloc::{AllocError, Global};
 use std::marker::Model;
 
@@ -39,7 +39,7 @@ impl Model for Monitor {
 }
 
 impl Monitor {
-    ghost use Rattle.sacn_monitor.specs.Books.{new_book, with_datagram, noted_packet, after_read, noted_data, after_data, place_of, silent_place, after_tick, with_told, change_at};
+    ghost use Rattle.sacn_monitor.specs.Books.{new_book, note_of, after_take, with_datagram, noted_packet, after_read, noted_data, after_data, place_of, silent_place, after_tick, with_told, change_at};
 
     /// A monitor that has heard nothing, with the room for `MAX_STREAMS` streams taken.
     ///
@@ -54,8 +54,16 @@ impl Monitor {
         })
     }
 
-    /// Takes what a datagram was read as that came at a moment, in milliseconds, and returns what it told that is new.
-    pub fn take(&mut self, now: u64, sender: Sender, reading: &Reading<'_>) -> Noted
+    /// Takes a datagram that came at a moment, in milliseconds, and returns what it told that is new.
+    pub fn take(&mut self, now: u64, sender: Sender, octets: &[u8]) -> Noted
+        ensures noted { result ≡ note_of now sender octets.now self.old }
+        ensures book { self.new ≡ after_take now sender octets.now self.old }
+    {
+        self.take_reading(now, sender, &read_packet(octets))
+    }
+
+    /// Takes what a datagram was read as. `take` is this call over octets.
+    pub fn take_reading(&mut self, now: u64, sender: Sender, reading: &Reading<'_>) -> Noted
         ensures noted { result
             ≡ noted_packet sender (with_datagram now self.old) reading.now }
         ensures book { self.new

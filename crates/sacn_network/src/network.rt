@@ -119,7 +119,7 @@ impl Network {
         ensures noted { result ≡ note_of now sender reading.now self.old }
         ensures network { self.new ≡ handed now sender reading.now self.old }
     {
-        let noted = self.ledger.monitor.take(now, sender, reading);
+        let noted = self.ledger.monitor.take_reading(now, sender, reading);
         let soonest = soonest_loss(self.ledger.monitor.streams(), &noted);
         self.wake = self.wake.min(soonest);
         noted

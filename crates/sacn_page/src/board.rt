@@ -63,7 +63,7 @@ impl Board {
     {
         self.catch_up(now)?;
         let reading = read_packet(octets);
-        match self.monitor.take(now, sender, &reading) {
+        match self.monitor.take_reading(now, sender, &reading) {
             Noted::Refused(fault) => self.alarms.add(now, Trouble::Refused(sender, fault))?,
             Noted::Heard(place, news) => self.note(now, place, &news)?,
             _ => {}

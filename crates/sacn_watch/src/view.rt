@@ -61,7 +61,7 @@ impl View {
     {
         self.tick(now);
         let reading = read_packet(octets);
-        let _ = self.monitor.take(now, sender, &reading);
+        let _ = self.monitor.take_reading(now, sender, &reading);
         match &reading {
             Ok(Packet::DataPacket(packet)) => self.take_levels(now, packet),
             Ok(Packet::PagePacket(_)) => {}

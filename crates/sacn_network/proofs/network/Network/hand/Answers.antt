@@ -8,5 +8,5 @@ pub invariant_of-self : goal.invariant_of-self
 invariant_of-self c =
     let n = c.self.inside in
     let quiet = read_quiet n.wake c.args.sender (with_datagram c.args.now n.ledger.monitor) c.args.reading.now c.self.invariant in
-    let kept = rw (← c.take-noted.ensures.noted, ← c.take-noted.ensures.book) at quiet in
-    omega (arith, kept, c.min-self-inside.ensures, c.soonest_loss-soonest.ensures, ap (soonest_loss c.take-noted.result) c.streams.ensures)
+    let kept = rw (← c.take_reading-noted.ensures.noted, ← c.take_reading-noted.ensures.book) at quiet in
+    omega (arith, kept, c.min-self-inside.ensures, c.soonest_loss-soonest.ensures, ap (soonest_loss c.take_reading-noted.result) c.streams.ensures)
