@@ -10,6 +10,7 @@ ghost use Rattle.sacn_live.specs.Groups.{universe_read};
 ghost use Rattle.sacn_live.specs.declared.limits.TheConstants.{IDLE_WAIT, MAX_POLLS, MAX_ROUNDS, MAX_ORDERS};
 ghost use Rattle.sacn_live.specs.DeskSends.{Round, Answered, ordered, polled, sends, given, asked_last, refusals, desk_after, desk_sends, desk_refusals, talk, readings, AreQuiet, IsRun};
 
+use crate::desk_datagram::DeskDatagram;
 use crate::desk_link::DeskLink;
 use crate::limits::{IDLE_WAIT, MAX_ORDERS, MAX_POLLS};
 use crate::orders::Orders;
@@ -55,7 +56,7 @@ fn hand<L: DeskLink>(link: &mut L, octets: &[u8; MAX_DATAGRAM], given: DueDatagr
     ensures { Hands (L.told link.old) (L.told link.new)
         ((take given.len octets.now, result) ∷ []) }
 {
-    link.send_of(given.universe, &octets[..given.len])
+    link.hand_over(&DeskDatagram::new(&octets[..given.len], given.universe))
 }
 
 /// Sends what is due, and returns whether the send succeeded; None where nothing is due.

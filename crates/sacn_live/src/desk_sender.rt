@@ -1,11 +1,10 @@
 //! A link over sockets to any hosts, or to the groups of universes.
-ghost use Rattle.std.specs.Prelude.{◌≡◌, ◌≤◌, ◌==◌, List, [], ◌∷◌, length, Some};
-ghost use Rattle.sacn_framing.specs.PacketReading.{reading_packet};
+ghost use Rattle.std.specs.Prelude.{◌≡◌, ◌≤◌, ◌==◌, List, [], ◌∷◌, length};
 ghost use Rattle.sacn_edge.specs.Additions.{Extends};
-ghost use Rattle.sacn_live.specs.Groups.{universe_read};
 ghost use Rattle.sacn_live.specs.Sendings.{Sending, sending, receivers, failures, AllCarry, IsSentTo};
 
 use crate::clock::RigClock;
+use crate::desk_datagram::DeskDatagram;
 use crate::desk_link::DeskLink;
 use crate::destinations::{Destinations, group_address, group_of};
 use crate::notices::Notices;
@@ -53,25 +52,24 @@ fn send_each<S: Sockets, E: Write + Drop>(
     failed
 }
 
-/// Sends a data packet of this universe, or a discovery page where it is `None`, where it goes. Returns how many sends failed.
+/// Sends a datagram where it goes. Returns how many sends failed.
 fn send_where<S: Sockets, E: Write + Drop>(
     sockets: &mut S,
     notices: &mut Notices<E>,
     destinations: &Destinations,
     now: u64,
-    universe: Option<u16>,
-    datagram: &[u8],
+    datagram: &DeskDatagram<'_>,
 ) -> usize
-    requires { universe_read (reading_packet datagram.now) ≡ Some universe }
     ensures { (ss : List Sending) × Extends (S.told sockets.old) (S.told sockets.new) ss
         × IsSentTo destinations.now datagram.now (receivers ss)
         × AllCarry datagram.now ss × (result ≡ failures ss) }
 {
+    let octets = datagram.octets();
     match destinations {
-        Destinations::Hosts(hosts) => send_each(sockets, notices, hosts.as_slice(), now, datagram),
+        Destinations::Hosts(hosts) => send_each(sockets, notices, hosts.as_slice(), now, octets),
         Destinations::Groups => {
-            let to = [group_address(group_of(universe))];
-            send_each(sockets, notices, &to, now, datagram)
+            let to = [group_address(group_of(datagram.universe()))];
+            send_each(sockets, notices, &to, now, octets)
         }
     }
 }
@@ -108,10 +106,9 @@ pub struct DeskSender<S, C, E> {
 impl<S: Sockets, C: Clock, E: Write + Drop> DeskSender<S, C, E> {
     ghost use Rattle.sacn_live.specs.DeskSenders.{sockets_of, destinations_of};
 
-    /// Sends a data packet of this universe, or a discovery page where it is `None`: once to each destination, in their order, also after one
-    /// that failed; or once to the group of its universe, a page to that of discovery. Returns whether no send failed.
-    pub fn send_datagram(&mut self, universe: Option<u16>, datagram: &[u8]) -> bool
-        requires { universe_read (reading_packet datagram.now) ≡ Some universe }
+    /// Sends a datagram once to each destination, in their order, also after one that failed; or once to the group of its universe, a
+    /// page to that of discovery. Returns whether no send failed.
+    pub fn send_datagram(&mut self, datagram: &DeskDatagram<'_>) -> bool
         ensures sent { (ss : List Sending)
             × Extends (S.told (sockets_of self.old)) (S.told (sockets_of self.new)) ss
             × IsSentTo (destinations_of self.old) datagram.now (receivers ss)
@@ -124,7 +121,6 @@ impl<S: Sockets, C: Clock, E: Write + Drop> DeskSender<S, C, E> {
             &mut self.notices,
             &self.destinations,
             now,
-            universe,
             datagram,
         );
         failed == 0
@@ -162,7 +158,7 @@ impl<'a, R: Net + MachineClock, E: Write + Drop> DeskSender<UdpSockets, RigClock
 }
 
 impl<S: Sockets, C: Clock, E: Write + Drop> DeskLink for DeskSender<S, C, E> {
-    fn send_of(&mut self, universe: Option<u16>, datagram: &[u8]) -> bool {
-        self.send_datagram(universe, datagram)
+    fn hand_over(&mut self, datagram: &DeskDatagram<'_>) -> bool {
+        self.send_datagram(datagram)
     }
 }

@@ -4,6 +4,7 @@ ghost use Rattle.std.specs.Option.{option_copied};
 ghost use Rattle.sacn_live.specs.Hearings.{hearing_of, FitsBuffer};
 ghost use Rattle.sacn_live.specs.MemoryHearings.{brought};
 
+use crate::desk_datagram::DeskDatagram;
 use crate::desk_link::DeskLink;
 use crate::receiver::{Arrival, Octets4, Receipt, Receiver};
 use sacn_edge::memory::MemoryLink;
@@ -113,13 +114,13 @@ impl Receiver for MemoryReceiver {
     }
 }
 
-/// It keeps what it is handed, whatever the universe.
+/// It keeps what it is handed.
 impl DeskLink for MemoryLink {
     ghost use Rattle.sacn_edge.specs.MemoryDevices.{link_told};
 
     ghost told = { link_told };
 
-    fn send_of(&mut self, _universe: Option<u16>, datagram: &[u8]) -> bool {
-        self.send(datagram)
+    fn hand_over(&mut self, datagram: &DeskDatagram<'_>) -> bool {
+        self.send(datagram.octets())
     }
 }

@@ -1,5 +1,5 @@
 //! How a desk opens the stream of a universe.
-ghost use Rattle.std.specs.Prelude.{◌≡◌, ◌≤◌, ◌<◌, length, true, Some};
+ghost use Rattle.std.specs.Prelude.{◌≡◌, ◌≤◌, ◌<◌, ℕ, Option, length, true, Some};
 ghost use Rattle.std.specs.Result.{IfOk};
 ghost use Rattle.sacn_edge.specs.ConsoleSends.{Handed};
 ghost use Rattle.sacn_edge.specs.Hearings.{Hands};
@@ -7,6 +7,7 @@ ghost use Rattle.sacn_framing.specs.PacketReading.{reading_packet};
 ghost use Rattle.sacn_live.specs.Groups.{universe_read};
 ghost use Rattle.sacn_live.specs.Openings.{IsHanded, begins, begins_by, begun_after, begun_by, begun_of, link_of, none_begun, opening_copy};
 
+use crate::desk_datagram::DeskDatagram;
 use crate::desk_link::DeskLink;
 use arrayvec::ArrayVec;
 use sacn_console::limits::MAX_DATAGRAM;
@@ -49,33 +50,32 @@ impl<L: DeskLink + Drop> Opening<L> {
         &self.link
     }
 
-    /// Sends a data packet of this universe, or a discovery page where it is `None`; before it, where it is the first packet of its universe,
-    /// the copy that opens the stream. Returns whether the datagram itself was taken.
-    pub fn send_opened(&mut self, universe: Option<u16>, datagram: &[u8]) -> bool
-        requires { universe_read (reading_packet datagram.now) ≡ Some universe }
+    /// Sends a datagram; before it, where it is the first packet of its universe, the copy that opens the stream. Returns
+    /// whether the datagram itself was taken.
+    pub fn send_opened(&mut self, datagram: &DeskDatagram<'_>) -> bool
         ensures sent { (handed : Handed)
             × Hands (L.told (link_of self.old)) (L.told (link_of self.new)) handed
             × IsHanded (begins (begun_of self.old) datagram.now) datagram.now result handed }
         ensures begun { begun_of self.new ≡ begun_after (begun_of self.old) datagram.now }
     {
-        if self.begins(universe, datagram) {
-            self.send_both(universe, datagram)
+        if self.begins(datagram) {
+            self.send_both(datagram)
         } else {
-            self.link.send_of(universe, datagram)
+            self.link.hand_over(datagram)
         }
     }
 
     // Whether it is the first packet of its universe, which it is once.
-    fn begins(&mut self, universe: Option<u16>, datagram: &[u8]) -> bool
-        requires { universe_read (reading_packet datagram.now) ≡ Some universe }
+    fn begins(&mut self, datagram: &DeskDatagram<'_>) -> bool
         ensures link { link_of self.new ≡ link_of self.old }
         ensures begins { result ≡ begins (begun_of self.old) datagram.now }
         ensures begun { begun_of self.new ≡ begun_after (begun_of self.old) datagram.now }
     {
-        if datagram.len() <= NUMBER_AT || datagram.len() > MAX_DATAGRAM {
+        let length = datagram.octets().len();
+        if length <= NUMBER_AT || length > MAX_DATAGRAM {
             return false;
         }
-        match universe {
+        match datagram.universe() {
             Some(universe) => self.begins_on(universe),
             None => false,
         }
@@ -95,9 +95,9 @@ impl<L: DeskLink + Drop> Opening<L> {
     }
 
     // The copy, and then the datagram. Returns whether the latter was taken.
-    fn send_both(&mut self, universe: Option<u16>, datagram: &[u8]) -> bool
-        requires read { universe_read (reading_packet datagram.now) ≡ Some universe }
-        requires copy { universe_read (reading_packet (opening_copy datagram.now)) ≡ Some universe }
+    fn send_both(&mut self, datagram: &DeskDatagram<'_>) -> bool
+        requires copy { (u : Option ℕ) → universe_read (reading_packet datagram.now) ≡ Some u
+            → universe_read (reading_packet (opening_copy datagram.now)) ≡ Some u }
         requires least { NUMBER_AT < length datagram.now }
         requires most { length datagram.now ≤ MAX_DATAGRAM }
         ensures sent { (handed : Handed)
@@ -105,9 +105,10 @@ impl<L: DeskLink + Drop> Opening<L> {
             × IsHanded true datagram.now result handed }
         ensures begun { begun_of self.new ≡ begun_of self.old }
     {
-        let copy = copy_of(datagram);
-        let _ = self.link.send_of(universe, copy.as_slice());
-        self.link.send_of(universe, datagram)
+        let copy = copy_of(datagram.octets());
+        let opening = DeskDatagram::new(copy.as_slice(), datagram.universe());
+        let _ = self.link.hand_over(&opening);
+        self.link.hand_over(datagram)
     }
 }
 
@@ -124,7 +125,7 @@ fn copy_of(datagram: &[u8]) -> ArrayVec<u8, MAX_DATAGRAM>
 }
 
 impl<L: DeskLink + Drop> DeskLink for Opening<L> {
-    fn send_of(&mut self, universe: Option<u16>, datagram: &[u8]) -> bool {
-        self.send_opened(universe, datagram)
+    fn hand_over(&mut self, datagram: &DeskDatagram<'_>) -> bool {
+        self.send_opened(datagram)
     }
 }

@@ -4,5 +4,5 @@ use Rattle.sacn_live.proofs.Copies.{copy_told}
 use Rattle.sacn_live.proofs.opening.Opening.send_opened.Goals as goal
 
 pub send_both-requires-clause-copy : goal.send_both-requires-clause-copy
-send_both-requires-clause-copy g c =
-    copy_told c.args.datagram.now c.args.universe (begun_of c.args.self.now) (λ i. omega (arith, c.type_inv.datagram i)) c.requires (sym c.begins.ensures.begins ∙ c.if-begins.true)
+send_both-requires-clause-copy g c = λ u read.
+    copy_told c.args.datagram.now u (begun_of c.args.self.now) (λ i. omega (arith, c.type_inv.datagram i)) read (sym c.begins.ensures.begins ∙ c.if-begins.true)
