@@ -6,6 +6,7 @@ mod Sweeps
 mod Losses
 mod Taking
 mod Layers
+mod Giving
 mod Keeps
 mod Mirrors
 mod TablesAgree

@@ -7,6 +7,7 @@
 mod answer;
 mod entry;
 mod fault;
+mod givers;
 mod held_view;
 mod kind;
 pub mod laws;
@@ -17,6 +18,7 @@ mod table;
 
 pub use answer::Taken;
 pub use fault::TableFault;
+pub use givers::Givers;
 pub use held_view::HeldView;
 pub use kind::Kind;
 pub use limits::{MAX_SOURCES, NETWORK_DATA_LOSS};

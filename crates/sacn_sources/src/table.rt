@@ -4,6 +4,7 @@ ghost use Rattle.std.specs.Prelude.{◌≡◌, ◌+◌, ◌<◌, ◌≤◌, ◌^
 
 use crate::answer::Taken;
 use crate::fault::TableFault;
+use crate::givers::Givers;
 use crate::held_view::HeldView;
 use crate::limits::{MAX_SOURCES, NETWORK_DATA_LOSS};
 use crate::store::Store;
@@ -48,6 +49,7 @@ impl Model for SourceTable {
 impl SourceTable {
     ghost use Rattle.sacn_sources.specs.Packets.{packet_of};
     ghost use Rattle.sacn_sources.specs.Rows.{answer, after_expire, slots_of, rows_lost, row_of};
+    ghost use Rattle.sacn_sources.specs.Givers.{givers_of};
     ghost use Rattle.sacn_sources.specs.Wakes.{oldest_of};
     ghost use Rattle.sacn_sources.specs.LatestMerge.{new_kept, kept_after_expire, kept_after_take, kept_after_merged};
 
@@ -98,6 +100,17 @@ impl SourceTable {
     {
         self.renew(now);
         *slots = self.slots;
+    }
+
+    /// Writes the merge as `merged` does, and tells who gives each slot its level: of the live sources of the highest priority
+    /// (E1.31, 6.2.3) the first by CID whose level is the merged one, and no one where that is 0.
+    pub fn merged_with_givers(&mut self, now: u64, slots: &mut [u8; 512]) -> Givers
+        ensures slots { slots.new ≡ slots_of (after_expire now self.old.table).rows }
+        ensures givers { result ≡ givers_of (after_expire now self.old.table).rows }
+        ensures table { self.new ≡ kept_after_merged now self.old }
+    {
+        self.merged(now, slots);
+        self.store.givers(slots)
     }
 
     /// Writes a part of the merge, which is made anew where `merged` makes it anew: the slots from the index `from` on, as
