@@ -1,6 +1,6 @@
 //! Who gives each slot its level.
 
-ghost use Rattle.std.specs.Prelude.{◌≡◌, ◌<◌, None, map, replicate, slice_get, slice_index_or};
+ghost use Rattle.std.specs.Prelude.{◌≡◌, ◌<◌, ◌≤◌, None, length, map, replicate, slice_get, slice_index_or};
 ghost use Rattle.sacn_sources.specs.Givers.{giver_in};
 
 use crate::limits::MAX_SOURCES;
@@ -47,7 +47,8 @@ impl Givers {
 
     /// The CIDs of at most `MAX_SOURCES` sources, and for each slot the place of its giver among them.
     pub fn parts(&self) -> (&[[u8; 16]], &[Option<u8>; 512])
-        ensures { map (giver_in result.0.now) result.1.now ≡ self.now }
+        ensures few { length result.0.now ≤ MAX_SOURCES }
+        ensures givers { map (giver_in result.0.now) result.1.now ≡ self.now }
     {
         (self.cids.as_slice(), &self.places)
     }
