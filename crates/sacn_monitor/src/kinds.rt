@@ -5,7 +5,7 @@ ghost use Rattle.sacn_sources.specs.Packets.{kind_of};
 ghost use Rattle.sacn_monitor.specs.Kinds.{no_packets, with_one_more, total};
 
 use sacn_framing::DataView;
-use sacn_sources::Kind;
+use sacn_sources::{Kind, kind_of};
 
 /// How many packets were taken of each kind. Each count stops at 2^64 - 1.
 #[derive(Clone, Copy, PartialEq, Eq)]
@@ -53,20 +53,5 @@ impl Kinds {
             Kind::Live => self.live = self.live.saturating_add(1),
             Kind::Other => self.others = self.others.saturating_add(1),
         }
-    }
-}
-
-/// The kind of a packet: the first that fits, from the top.
-fn kind_of(packet: &DataView<'_>) -> Kind
-    ensures { result ≡ kind_of packet.now }
-{
-    if packet.terminated() {
-        Kind::Termination
-    } else if packet.preview() {
-        Kind::Preview
-    } else if packet.start() == 0 {
-        Kind::Live
-    } else {
-        Kind::Other
     }
 }

@@ -19,7 +19,8 @@ pub enum Kind {
 }
 
 /// The kind of a packet.
-pub(crate) fn kind_of(packet: &DataView<'_>) -> Kind
+#[inline(always)]
+pub fn kind_of(packet: &DataView<'_>) -> Kind
     ensures { result ≡ kind_of packet.now }
 {
     if packet.terminated() {

@@ -20,6 +20,6 @@ pub use answer::Taken;
 pub use fault::TableFault;
 pub use givers::Givers;
 pub use held_view::HeldView;
-pub use kind::Kind;
+pub use kind::{Kind, kind_of};
 pub use limits::{MAX_SOURCES, NETWORK_DATA_LOSS};
 pub use table::SourceTable;
