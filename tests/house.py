@@ -9,6 +9,14 @@ README_OCTETS = 9000
 COLUMNS = 120
 DOCUMENTS = ["README.md", "CHANGELOG.md", *sorted(glob.glob("docs/*.md")), *sorted(glob.glob("crates/*/NOTES.md"))]
 
+# What stands once, or so often at most, in the code of the product's crates.
+MOST = {
+    "a datagram is read": (r"(?<!fn )(?<!proved_)\bread_packet\(", 9),
+    "a packet's kind is told": (r"\bfn kind_of\(packet\b", 1),
+}
+# Crates of tests and measures.
+BESIDE = {"fixtures", "rows", "refusals", "core_tests", "loop_tests", "sacn_bench"}
+
 # Files that stand in a document as examples of a user's, and not of this tree's.
 EXAMPLES = ("/etc/", "/dev/", "/usr/", "~")
 
@@ -99,6 +107,16 @@ def lost_steps():
                 yield f"{title}: {word} isn't in {path}"
 
 
+def repeated_rules():
+    """Rules that stand more often in the product's code than MOST says. Comments and tests don't count."""
+    files = [it for it in glob.glob("crates/*/src/**/*.rt", recursive=True) if it.split("/")[1] not in BESIDE and not it.endswith("tests.rt")]
+    code = {it: re.sub(r"//[^\n]*", "", text_of(it)) for it in files}
+    for what, (pattern, most) in MOST.items():
+        found = [it for it in sorted(code) for _ in re.findall(pattern, code[it])]
+        if not 1 <= len(found) <= most:
+            yield f"{what} {len(found)} times: {' '.join(found)}"
+
+
 def long_readme():
     size = os.path.getsize("README.md")
     if size > README_OCTETS:
@@ -119,6 +137,7 @@ LOOKS = {
     "files that documents name are there": lacking_files,
     "each crate names only crates above it, and is told": sinking_crates,
     "each step of the three ways is there": lost_steps,
+    "one rule stands once": repeated_rules,
     "the README is short": long_readme,
 }
 

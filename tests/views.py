@@ -1,0 +1,217 @@
+#!/usr/bin/env python3
+"""One network, told by each of the program's views, which must agree, universe by universe.
+
+usage: views.py SACN
+
+A network of five sources on three universes is written as a recording, which `explain --json` and the page of a recording are given, and sent in its own time to a
+`watch --json` and to the page of a watch. What each should tell of it is written here by hand, from the standard's rules: what was taken of each source and what
+became of it, the levels of each universe, and who gives each: of the live sources at the greatest priority (E1.31, 6.2.3) the first by CID whose level is the
+merged one. Prints 'ok NAME' or 'not ok NAME: what was seen' for each.
+"""
+import json
+import os
+import shutil
+import socket
+import struct
+import subprocess
+import sys
+import tempfile
+import time
+import urllib.request
+
+SACN = sys.argv[1]
+ROOM = tempfile.mkdtemp()
+LINES, LIVE, LIVE_PAGE, PAGE = 25881, 25882, 25883, 25884
+PREVIEW, TERMINATED = 0x80, 0x40
+# Its octets are a quote, a mark of HTML, a backslash, a letter of two octets and one of four.
+NAME = 'A "<b>\\é\N{GRINNING FACE}'
+CIDS = {letter: bytes([16 * digit + digit]) * 16 for digit, letter in enumerate("ABCDE", 10)}
+NAMES = {"A": NAME, "B": "Beta", "C": "Cue", "D": "Desk", "E": "Eyes"}
+# The last moment of the recording, in milliseconds.
+END = 5000
+
+
+def packet(source, universe, number, levels, priority=100, options=0, start=0):
+    """A data packet of E1.31."""
+    slots = bytes([start, *levels])
+    dmp = struct.pack(">HBBHHH", 0x7000 | 10 + len(slots), 2, 0xA1, 0, 1, len(slots)) + slots
+    head = struct.pack(">I64sBHBBH", 2, NAMES[source].encode(), priority, 0, number % 256, options, universe)
+    framing = struct.pack(">H", 0x7000 | 2 + len(head) + len(dmp)) + head + dmp
+    return b"\0\x10\0\0ASC-E1.17\0\0\0" + struct.pack(">HI", 0x7000 | 22 + len(framing), 4) + CIDS[source] + framing
+
+
+def network():
+    """What is sent: moments in milliseconds, and datagrams."""
+    sent = []
+    for turn, moment in enumerate(range(0, END + 1, 250)):
+        # On universe 1 B comes first, and is gone after a second; two numbers of A are lost on the way, and a packet comes again.
+        if moment <= 1000:
+            sent.append((moment, packet("B", 1, turn, [10, 100, 60])))
+        sent.append((moment, packet("A", 1, turn + (2 if moment >= 1500 else 0), [10, 200, 30, 0, 50])))
+        if moment == 2000:
+            sent.append((moment, sent[-1][1]))
+        # On universe 2 D has the lower priority, and is followed once C has ended its stream; then it rises above itself.
+        sent.append((moment, packet("D", 2, turn, [1, 2, 3], priority=90 if moment < 4000 else 95)))
+        if moment < 2000:
+            sent.append((moment, packet("C", 2, turn, [250], priority=120)))
+        if moment == 2000:
+            sent += [(moment, packet("C", 2, turn + again, [250], priority=120, options=TERMINATED)) for again in range(3)]
+        # On the last universe nothing is for the stage: levels for a preview, and another start code.
+        sent.append((moment, packet("E", 63999, turn, [9], options=PREVIEW) if turn % 2 else packet("E", 63999, turn, [9], start=0xDD)))
+        if moment == 3000:
+            sent.append((moment, b"no packet"))
+    return sent
+
+
+# What is so at the end: B is lost, 2500 ms after its last packet at 1000 ms, and C has ended its stream.
+TOLD = {
+    (1, "A"): dict(state="sending", priority=100, live=21, preview=0, terminated=0, other=0, skipped=2, late=0, repeated=1),
+    (1, "B"): dict(state="lost", priority=100, live=5, preview=0, terminated=0, other=0, skipped=0, late=0, repeated=0),
+    (2, "C"): dict(state="ended", priority=120, live=8, preview=0, terminated=3, other=0, skipped=0, late=0, repeated=0),
+    (2, "D"): dict(state="sending", priority=95, live=21, preview=0, terminated=0, other=0, skipped=0, late=0, repeated=0),
+    (63999, "E"): dict(state="sending", priority=100, live=0, preview=10, terminated=0, other=11, skipped=0, late=0, repeated=0),
+}
+# At some moments the levels of each universe, and who gives each.
+LIT = {
+    500: {1: ([10, 200, 60, 0, 50], "AAB-A"), 2: ([250], "C"), 63999: ([], "")},
+    1900: {1: ([10, 200, 60, 0, 50], "AAB-A"), 2: ([250], "C"), 63999: ([], "")},
+    END: {1: ([10, 200, 30, 0, 50], "AAA-A"), 2: ([1, 2, 3], "DDD"), 63999: ([], "")},
+}
+REFUSED = 1
+
+
+def verdict(name, is_so, seen=""):
+    print(f"ok views: {name}" if is_so else f"not ok views: {name}: {str(seen)[:900]}".replace("\n", " | "), flush=True)
+
+
+def recording(sent):
+    """A file of the format pcap, whose frames are Ethernet's."""
+    path = f"{ROOM}/network.pcap"
+    with open(path, "wb") as out:
+        out.write(struct.pack("<IHHIIII", 0xA1B2C3D4, 2, 4, 0, 0, 65535, 1))
+        for moment, octets in sent:
+            udp = struct.pack(">HHHH", 5568, 5568, 8 + len(octets), 0) + octets
+            internet = struct.pack(">BBHHHBBH4s4s", 0x45, 0, 20 + len(udp), 0, 0, 64, 17, 0, bytes([10, 0, 0, 1]), bytes([239, 255, 0, 1]))
+            frame = bytes(12) + b"\x08\0" + internet + udp
+            out.write(struct.pack("<IIII", moment // 1000, moment % 1000 * 1000, len(frame), len(frame)) + frame)
+    return path
+
+
+def start(name, *words):
+    """A run, which ends when its standard input does."""
+    with open(f"{ROOM}/{name}.out", "w", encoding="utf-8") as out, open(f"{ROOM}/{name}.err", "w", encoding="utf-8") as err:
+        return subprocess.Popen([SACN, *words], stdin=subprocess.PIPE, stdout=out, stderr=err)
+
+
+def served(port):
+    limit = time.monotonic() + 20
+    while time.monotonic() < limit:
+        try:
+            return state(port, 1)
+        except OSError:
+            time.sleep(0.05)
+    return None
+
+
+def hears(port):
+    """Waits until somebody hears at a UDP port."""
+    limit, wanted = time.monotonic() + 20, f":{port:04X} "
+    while time.monotonic() < limit:
+        with open("/proc/net/udp", encoding="utf-8") as table:
+            if any(wanted in line for line in table):
+                return
+        time.sleep(0.05)
+
+
+def state(port, universe, at=None):
+    query = f"universe={universe}" + ("" if at is None else f"&at={at}")
+    with urllib.request.urlopen(f"http://127.0.0.1:{port}/state?{query}", timeout=20) as answer:
+        return json.load(answer)
+
+
+def sources_of(rows):
+    """The rows of sources as TOLD has them."""
+    letters = {CIDS[it].hex(): it for it in CIDS}
+    return {(row["universe"], letters.get(row["cid"])): {key: row[key] for key in TOLD[(1, "A")]} for row in rows}
+
+
+def named(rows):
+    return {row["cid"]: row["name"] for row in rows}
+
+
+def lit_of(document):
+    """The levels of a page's document up to the last one above 0, and the letter of who gives each."""
+    levels = list(bytes.fromhex(document["levels"]))
+    winners = [int(document["winners"][at : at + 4], 16) for at in range(0, 4 * len(levels), 4)]
+    lit = max((at + 1 for at, level in enumerate(levels) if level), default=0)
+    letters, cids = {CIDS[it].hex(): it for it in CIDS}, {row["place"]: row["cid"] for row in document["sources"]}
+    return levels[:lit], "".join(letters[cids[it - 1]] if it else "-" for it in winners[:lit]) + "?" * any(winners[lit:])
+
+
+def told(name, rows, refused):
+    """Whether a view's rows and its count of refused datagrams are what is so."""
+    verdict(f"{name} tells of each source what is so", sources_of(rows) == TOLD, sources_of(rows))
+    verdict(f"{name} tells each source's name as it is", named(rows) == {CIDS[it].hex(): NAMES[it] for it in CIDS}, named(rows))
+    verdict(f"{name} counts what it refuses", refused == REFUSED, refused)
+
+
+def lines_of(name):
+    with open(f"{ROOM}/{name}", encoding="utf-8") as text:
+        return [json.loads(line) for line in text]
+
+
+def events_of(lines):
+    """What happened, without its moments, by universe; what is of no universe stands under None."""
+    found = {}
+    for line in lines:
+        if "event" in line:
+            words = {key: line[key] for key in line if key not in ("ms", "since", "address", "port")}
+            found.setdefault(line.get("universe"), []).append(words)
+    return found
+
+
+def main():
+    sent = network()
+    file = recording(sent)
+    runs = [start("lines", "watch", "--json", "--listen", "127.0.0.1", "--port", str(LINES))]
+    runs.append(start("live", "watch", "--listen", "127.0.0.1", "--port", str(LIVE), "--page", str(LIVE_PAGE)))
+    runs.append(start("page", "explain", "--page", str(PAGE), file))
+    try:
+        verdict("pages are served", served(LIVE_PAGE) is not None and served(PAGE) is not None)
+        hears(LINES)
+        hears(LIVE)
+        sender, begin = socket.socket(socket.AF_INET, socket.SOCK_DGRAM), time.monotonic()
+        for moment, octets in sent:
+            time.sleep(max(0, begin + moment / 1000 - time.monotonic()))
+            for port in (LINES, LIVE):
+                sender.sendto(octets, ("127.0.0.1", port))
+        live = {universe: state(LIVE_PAGE, universe) for universe in LIT[END]}
+        runs[0].stdin.close()
+        runs[0].wait(20)
+        explained = subprocess.run([SACN, "explain", "--json", file], capture_output=True, encoding="utf-8", check=False)
+        lines, heard = [json.loads(line) for line in explained.stdout.splitlines()], lines_of("lines.out")
+        for name, all_rows in (("explain", lines), ("a watch's lines", heard)):
+            rows = [it for it in all_rows if it.get("row") == "source"]
+            told(name, rows, sum(it["refused"] for it in all_rows if it.get("row") == "counts"))
+        told("a watch's page", live[1]["sources"], live[1]["counts"]["refused"])
+        for moment, lit in LIT.items():
+            for universe, wanted in lit.items():
+                document = state(PAGE, universe, moment)
+                verdict(f"a recording's page tells the levels of universe {universe} at {moment} ms, and who gives them", lit_of(document) == wanted, lit_of(document))
+        told("a recording's page", document["sources"], document["counts"]["refused"])
+        for universe, wanted in LIT[END].items():
+            verdict(f"a watch's page tells the levels of universe {universe}, and who gives them", lit_of(live[universe]) == wanted, lit_of(live[universe]))
+        first, second = events_of(lines), events_of(heard)
+        for universe in sorted({*first, *second}, key=str):
+            verdict(f"explain and a watch tell the same events of universe {universe}", first.get(universe) == second.get(universe), (first.get(universe), second.get(universe)))
+        kinds = [it["kind"] for it in state(PAGE, 1, END)["alarms"]], [it["kind"] for it in live[1]["alarms"]]
+        verdict("both pages have the same alarms", kinds[0] == kinds[1] and sorted({*kinds[0]}) == ["ended", "lost", "refused", "rivals", "skipped"], kinds)
+    finally:
+        for run in runs:
+            run.kill()
+        shutil.rmtree(ROOM)
+
+
+if __name__ == "__main__":
+    os.umask(0o77)
+    main()
