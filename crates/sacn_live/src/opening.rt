@@ -1,5 +1,5 @@
 //! How a desk opens the stream of a universe.
-ghost use Rattle.std.specs.Prelude.{◌≡◌, ◌≤◌, ◌<◌, ℕ, Option, length, true, Some};
+ghost use Rattle.std.specs.Prelude.{◌≡◌, ◌≤◌, ◌<◌, ℕ, Bool, List, Option, length, true, Some};
 ghost use Rattle.std.specs.Result.{IfOk};
 ghost use Rattle.sacn_edge.specs.ConsoleSends.{Handed};
 ghost use Rattle.sacn_edge.specs.Hearings.{Hands};
@@ -96,8 +96,7 @@ impl<L: DeskLink + Drop> Opening<L> {
 
     // The copy, and then the datagram. Returns whether the latter was taken.
     fn send_both(&mut self, datagram: &DeskDatagram<'_>) -> bool
-        requires copy { (u : Option ℕ) → universe_read (reading_packet datagram.now) ≡ Some u
-            → universe_read (reading_packet (opening_copy datagram.now)) ≡ Some u }
+        requires begins { (begun : List Bool) × (begins begun datagram.now ≡ true) }
         requires least { NUMBER_AT < length datagram.now }
         requires most { length datagram.now ≤ MAX_DATAGRAM }
         ensures sent { (handed : Handed)
@@ -105,12 +104,21 @@ impl<L: DeskLink + Drop> Opening<L> {
             × IsHanded true datagram.now result handed }
         ensures begun { begun_of self.new ≡ begun_of self.old }
     {
-        let copy = copy_of(datagram.octets());
+        let octets = datagram.octets();
+        tell_copy(octets);
+        let copy = copy_of(octets);
         let opening = DeskDatagram::new(copy.as_slice(), datagram.universe());
         let _ = self.link.hand_over(&opening);
         self.link.hand_over(datagram)
     }
 }
+
+// The copy that opens a stream is read as a packet of its universe. This costs nothing.
+fn tell_copy(datagram: &[u8])
+    ensures { (begun : List Bool) (u : Option ℕ) → begins begun datagram.now ≡ true
+        → universe_read (reading_packet datagram.now) ≡ Some u
+        → universe_read (reading_packet (opening_copy datagram.now)) ≡ Some u }
+{}
 
 // The copy of a packet that opens its stream.
 fn copy_of(datagram: &[u8]) -> ArrayVec<u8, MAX_DATAGRAM>
