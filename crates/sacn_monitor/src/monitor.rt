@@ -116,6 +116,13 @@ impl Monitor {
         self.streams.as_slice()
     }
 
+    /// The place of the stream of a source on a universe, and none where no packet of it was heard there.
+    pub fn place_of(&self, universe: u16, cid: &[u8; 16]) -> Option<usize>
+        ensures { result ≡ place_of universe cid.now self.now.streams }
+    {
+        self.streams.place_of(universe, cid)
+    }
+
     /// The greatest moment that was handed in, in milliseconds.
     pub fn moment(&self) -> u64
         ensures { result ≡ self.now.moment }
@@ -157,13 +164,6 @@ impl Monitor {
             Some(at) => Noted::Heard(at, self.hear_at(at, sender, packet)),
             None => self.admit(sender, packet),
         }
-    }
-
-    // The place of the stream of a source on a universe.
-    fn place_of(&self, universe: u16, cid: &[u8; 16]) -> Option<usize>
-        ensures { result ≡ place_of universe cid.now self.now.streams }
-    {
-        self.streams.place_of(universe, cid)
     }
 
     // A packet of the stream at a place.

@@ -5,3 +5,4 @@ pub mod Losses
 pub mod Packets
 pub mod Networks
 pub mod Calls
+pub mod LitUniverses

@@ -3,19 +3,25 @@
 //! A [`Network`] is handed each datagram with its moment and its sender. It tells an [`Observer`] each thing that happens as
 //! an [`Occurrence`], once, at its own moment: losses, what packets tell that is new, contests of universes. What that
 //! comes to over any calls stands in [`laws`].
+//!
+//! A [`LitUniverse`] shows the levels of one universe, and who gives each of them.
 #![tactic(auto)]
 
 pub mod laws;
 mod ledger;
+mod lit_universe;
 mod network;
 mod observer;
 mod occurrence;
+mod places;
 mod stirring;
 mod universe_set;
 
+pub use lit_universe::LitUniverse;
 pub use network::Network;
 pub use observer::Observer;
 pub use occurrence::{Contest, Occurrence, What};
+pub use places::giver_places;
 
 #[cfg(test)]
 mod tests;

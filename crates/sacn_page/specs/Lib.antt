@@ -1,5 +1,5 @@
 pub mod Requests
 pub mod HostNames
-pub mod Levels
+pub mod Marks
 pub mod Feeds
 pub mod Places

@@ -5,10 +5,10 @@ ghost use Rattle.sacn_monitor.specs.Books.{new_book, after_tick, next_loss};
 ghost use Rattle.sacn_explain.specs.Following.{IsTicked, IsTaken};
 
 use crate::alarms::{Alarms, Trouble};
-use crate::lit_universe::LitUniverse;
 use sacn_explain::stirs;
 use sacn_framing::{DataView, Packet, read_packet};
 use sacn_monitor::{Event, Monitor, News, Noted, Sender};
+use sacn_network::LitUniverse;
 use sacn_sources::NETWORK_DATA_LOSS;
 use std::alloc::{AllocError, Global};
 
@@ -204,7 +204,7 @@ impl Board {
     {
         for lit in self.lit.iter_mut() {
             if watched.contains(&lit.universe()) {
-                lit.refresh(now, self.monitor.streams());
+                lit.refresh(now);
             }
         }
     }

@@ -5,6 +5,7 @@ use crate::board::Board;
 use crate::json::{
     push_digits, push_foreign, push_long_digits, push_number, push_numbers, push_word,
 };
+use crate::marks::marks_of;
 use crate::scene::Facts;
 use sacn_monitor::{State, Stream, Tally};
 use sacn_universe::SLOTS;
@@ -262,7 +263,7 @@ fn push_lit(
     if let Some(universe) = given.universe {
         if let Some(lit) = board.find_lit(universe) {
             levels = *lit.levels();
-            winners = *lit.winners();
+            winners = marks_of(&lit.places(board.monitor()));
         }
     }
     if (extent == Extent::Whole) | (given.levels != levels) {

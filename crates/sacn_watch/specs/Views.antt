@@ -1,9 +1,11 @@
 -- What a screen shows of a network.
-use Rattle.std.specs.Prelude.{ℕ, ◌==◌, Option, None, Some, Result, Ok, Err, if◌then◌else◌}
+use Rattle.std.specs.Prelude.{ℕ, ◌==◌, List, replicate, Option, None, Some, Result, Ok, Err, if◌then◌else◌}
 use Rattle.sacn_root.specs.declared.fault.PacketFault.{PacketFault}
 use Rattle.sacn_framing.specs.Data.{Data}
 use Rattle.sacn_framing.specs.declared.packet.Packet.{Packet}
 use Rattle.sacn_framing.specs.declared.packet.Packet.TheVariants.{DataPacket, PagePacket, SyncPacket}
+use Rattle.sacn_monitor.specs.declared.stream.Stream.{Stream}
+use Rattle.sacn_network.specs.LitUniverses.{giver_places}
 use Rattle.sacn_sources.specs.Packets.{packet_of}
 use Rattle.sacn_sources.specs.LatestMerge.{Kept, kept_after_take}
 
@@ -29,3 +31,8 @@ after_reading now (Ok (DataPacket d)) s = after_packet now d s
 after_reading now (Ok (PagePacket p)) s = s
 after_reading now (Ok SyncPacket) s = s
 after_reading now (Err fault) s = s
+
+-- for each slot the place of the stream of the source that gives it its level, where a universe is shown
+unfoldable pub places_shown : Option ℕ → List Stream → List (Option (List ℕ)) → List (Option ℕ)
+places_shown None ss givers = replicate 512 None
+places_shown (Some universe) ss givers = giver_places universe ss givers

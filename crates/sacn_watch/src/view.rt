@@ -5,14 +5,15 @@ ghost use Rattle.sacn_framing.specs.PacketReading.{reading_packet};
 ghost use Rattle.sacn_monitor.specs.Books.{new_book, silent_place};
 ghost use Rattle.sacn_sources.specs.LatestMerge.{new_kept, kept_after_merged};
 ghost use Rattle.sacn_sources.specs.Rows.{after_expire, slots_of};
+ghost use Rattle.sacn_sources.specs.Givers.{givers_of};
 ghost use Rattle.sacn_explain.specs.Following.{IsTaken, IsTicked};
-ghost use Rattle.sacn_watch.specs.Views.{after_packet, after_reading};
+ghost use Rattle.sacn_watch.specs.Views.{after_packet, after_reading, places_shown};
 
 use crate::fault::WatchFault;
 use sacn_framing::{DataView, Packet, read_packet};
-use sacn_monitor::{Monitor, Sender, Stream};
-use sacn_slots::Levels;
-use sacn_sources::SourceTable;
+use sacn_monitor::{Monitor, Sender};
+use sacn_network::giver_places;
+use sacn_sources::{Givers, SourceTable};
 use sacn_universe::SLOTS;
 use std::alloc::Global;
 
@@ -24,7 +25,8 @@ pub struct View {
     pub universe: Option<u16>,
     /// The levels of its slots: those of the highest priority merged, the highest level of each slot (E1.31, 6.2.3).
     pub levels: [u8; SLOTS],
-    /// For each slot the place of the first source that gives it its level, where that isn't 0.
+    /// For each slot the place of the stream of the source that gives it its level, where that isn't 0: of the live sources of the
+    /// highest priority the first by CID that has this level.
     pub winners: [Option<usize>; SLOTS],
     /// The milliseconds for which this program was stopped, in all.
     pub stopped: u64,
@@ -86,29 +88,18 @@ impl View {
         is_lost
     }
 
-    /// Merges the levels anew.
+    /// Merges the levels anew, and tells who gives them.
     pub fn refresh(&mut self, now: u64)
         ensures levels { self.new.levels ≡ slots_of (after_expire now self.old.table.table).rows }
         ensures sources { self.new.table ≡ kept_after_merged now self.old.table }
         ensures monitor { self.new.monitor ≡ self.old.monitor }
         ensures universe { self.new.universe ≡ self.old.universe }
+        ensures winners { self.new.winners
+            ≡ places_shown self.old.universe self.old.monitor.streams
+            (givers_of (after_expire now self.old.table.table).rows) }
     {
-        self.table.merged(now, &mut self.levels);
-        self.claim_all();
-    }
-
-    // Gives each slot above 0 its source.
-    fn claim_all(&mut self)
-        ensures levels { self.new.levels ≡ self.old.levels }
-        ensures sources { self.new.table ≡ self.old.table }
-        ensures monitor { self.new.monitor ≡ self.old.monitor }
-        ensures universe { self.new.universe ≡ self.old.universe }
-    {
-        self.winners = [None; SLOTS];
-        let top = self.top();
-        for place in 0..self.monitor.streams().len() {
-            self.claim(place, top);
-        }
+        let givers = self.table.merged_with_givers(now, &mut self.levels);
+        self.winners = places_shown(&givers, self.universe, &self.monitor);
     }
 
     // A data packet.
@@ -127,52 +118,6 @@ impl View {
             let _ = self.table.take(now, packet);
         }
     }
-
-    // The stream of the shown universe at a place, where there is one.
-    fn stream(&self, place: usize) -> Option<&Stream> {
-        let stream = self.monitor.streams().get(place)?;
-        if Some(stream.universe) == self.universe {
-            Some(stream)
-        } else {
-            None
-        }
-    }
-
-    // The highest priority of the sources that light the universe.
-    fn top(&self) -> u8 {
-        let mut top = 0;
-        for place in 0..self.monitor.streams().len() {
-            if let Some(stream) = self.stream(place) {
-                if let Some(held) = self.table.held(&stream.cid) {
-                    top = top.max(held.priority());
-                }
-            }
-        }
-        top
-    }
-
-    // Gives the source at a place each slot whose level is its own, and that no other has.
-    fn claim(&mut self, place: usize, top: u8)
-        ensures levels { self.new.levels ≡ self.old.levels }
-        ensures sources { self.new.table ≡ self.old.table }
-        ensures monitor { self.new.monitor ≡ self.old.monitor }
-        ensures universe { self.new.universe ≡ self.old.universe }
-    {
-        let Some(stream) = self.stream(place) else {
-            return;
-        };
-        let cid = stream.cid;
-        let Some(held) = self.table.held(&cid) else {
-            return;
-        };
-        let Some(levels) = held.levels() else {
-            return;
-        };
-        if held.priority() != top {
-            return;
-        }
-        claim_slots(&mut self.winners, &self.levels, levels, place);
-    }
 }
 
 // Tells the losses up to a moment.
@@ -187,17 +132,13 @@ fn tell_losses(monitor: &mut Monitor, now: u64)
     }
 }
 
-// Gives the source at a place each slot whose level is its own, and that no other has.
-fn claim_slots(
-    winners: &mut [Option<usize>; SLOTS],
-    shown: &[u8; SLOTS],
-    own: &Levels,
-    place: usize,
-) {
-    for slot in 0..SLOTS {
-        let level = shown[slot];
-        if (level > 0) & (own.at(slot) == level) & winners[slot].is_none() {
-            winners[slot] = Some(place);
-        }
+// For each slot the place of its giver's stream, where a universe is shown.
+#[tactic(auto, unfolding(crate::specs::Views::places_shown))]
+fn places_shown(givers: &Givers, universe: Option<u16>, monitor: &Monitor) -> [Option<usize>; SLOTS]
+    ensures { result ≡ places_shown universe monitor.now.streams givers.now }
+{
+    match universe {
+        Some(universe) => giver_places(givers, universe, monitor),
+        None => [None; SLOTS],
     }
 }
