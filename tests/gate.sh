@@ -96,6 +96,10 @@ count() {
 named=$(cd "$top/tools" && python3 -B -c 'import texts; print(*texts.impl_of(["impl From<io::Error> for Fault {", "    fn from(error: io::Error) -> Fault {"], 1, "    ")[1])')
 if [ "$named" = "FaultFrom FaultFromIoError" ]; then echo "ok gate: an impl is found by the kit's name"; else echo "not ok gate: an impl is found by the kit's name: $named"; fi
 
+# A copy of a function begins with its attributes, and not with what documents it.
+first=$(cd "$top/tools" && python3 -B -c 'import texts; print(texts.first_attribute(["}", "/// [a]", "#[inline]", "#[tactic(auto)]", "fn f()"], 4))')
+if [ "$first" = 2 ]; then echo "ok gate: a copy has its function's attributes"; else echo "not ok gate: a copy has its function's attributes: from line $first"; fi
+
 count "a sum that is wrong is refused for its own goal" '^rt: must-fail sums/adds_three\.edit: refused, as it must be: add::next: '
 count "and one more of that function in a copy of it" '^rt: must-fail sums/adds_two\.edit: refused, as it must be: add::next_edit[0-9]*: '
 count "a body behind a head is its function's" '^rt: must-fail sums/in_the_head\.edit: refused, as it must be: add::after_next: '
