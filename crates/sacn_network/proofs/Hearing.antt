@@ -30,7 +30,7 @@ use Rattle.sacn_network.specs.Losses.{after_end, after_loss, at_end, lost_place,
 use Rattle.sacn_network.specs.Networks.{handed, note_of, ticked}
 use Rattle.sacn_network.specs.Packets.{after_noted, stirred, stirred_universe, stirs}
 use Rattle.sacn_network.proofs.Bits.{has_none, marked_length, marks_one, none_length}
-use Rattle.sacn_network.proofs.Tracking.{end_keeps}
+use Rattle.sacn_network.proofs.Ticks.{end_keeps}
 use Rattle.sacn_network.proofs.Waking.{last_there, noted_keeps, set_there}
 
 -- a stream is of a universe

@@ -1,8 +1,9 @@
 mod Bits
 mod Telling
 mod Silencing
-mod Waking
+pub mod Waking
 mod Whole
+pub mod Ticks
 mod Tracking
 mod Hearing
 mod Contesting

@@ -27,7 +27,8 @@ use Rattle.sacn_network.specs.Calls.{AreMoments, AreTimely, IsTimely, LossesAreT
 use Rattle.sacn_network.specs.Contests.{contest_in, contest_of, contest_told, is_contested, universe_of}
 use Rattle.sacn_network.specs.Losses.{after_end, at_end, end_told, lost_place, loss_told, next_end, silence_told}
 use Rattle.sacn_network.specs.Networks.{handed, note_of, ticked}
-use Rattle.sacn_network.proofs.Tracking.{end_keeps, held_in_use, mid_silent, read_moment, stands_after}
+use Rattle.sacn_network.proofs.Ticks.{end_keeps}
+use Rattle.sacn_network.proofs.Tracking.{held_in_use, mid_silent, read_moment, stands_after}
 use Rattle.sacn_network.proofs.Waking.{noted_keeps}
 use Rattle.sacn_network.proofs.Whole.{none_before, silent_at, stands_there}
 

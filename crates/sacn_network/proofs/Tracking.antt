@@ -1,5 +1,6 @@
 -- What a network keeps is what its monitor keeps: the accounts are those of the packets, and the clock is the greatest moment handed in.
 use Rattle.std.proofs.Common.{◌≡◌, ◌<◌, ◌≤◌, ◌+◌, ◌-◌, ◌^◌, inl, inr, ℕ, zero, suc, min, max, ltb, true, false, cond, is_some, List, [], ◌∷◌, ◌++◌, length, slice_get, Option, None, Some, Result, Ok, Err, refl, sym, ap, subst, ◌∙◌, arith, ltb-true}
+use Rattle.std.proofs.lemmas.Bool.{ltb-false}
 use Rattle.std.proofs.lemmas.List.{length-append}
 use Rattle.sacn_root.specs.declared.fault.PacketFault.{PacketFault}
 use Rattle.sacn_framing.specs.Data.{Data}
@@ -17,58 +18,39 @@ use Rattle.sacn_monitor.proofs.Tracking as kept
 use Rattle.sacn_network.specs.declared.ledger.Ledger.{Ledger}
 use Rattle.sacn_network.specs.declared.ledger.TheConstants.{MOST_STEPS}
 use Rattle.sacn_network.specs.Calls.{ATickLeavesNone, AccountsAreOfTheirPackets, AreMoments, UsesTheGreatestMoment, network_after}
-use Rattle.sacn_network.specs.Contests.{universe_of, with_contest, with_contest_in}
-use Rattle.sacn_network.specs.Losses.{after_end, after_loss, at_end, lost_place, next_end, silenced}
+use Rattle.sacn_network.specs.Losses.{after_end, at_end, lost_place, next_end, silenced}
 use Rattle.sacn_network.specs.Networks.{handed, note_of, ticked}
+use Rattle.sacn_network.proofs.Ticks.{end_keeps, ticked_by}
 use Rattle.sacn_network.proofs.Waking.{noted_keeps, one_step_ledger}
 use Rattle.sacn_network.proofs.Whole.{heard_length, none_before, told_length, told_less, untold, untold_most}
-
--- what is told changes no account
-contest_keeps : (o : Option ℕ) (n : Ledger) → (with_contest_in o n).monitor ≡ n.monitor
-unfolding with_contest
-contest_keeps None n = refl
-contest_keeps (Some universe) n = refl
-
-loss_keeps : (o : Option ℕ) (n : Ledger) → (after_loss o n).monitor ≡ n.monitor
-loss_keeps None n = refl
-loss_keeps (Some place) n = contest_keeps (universe_of (slice_get n.monitor.streams place)) n
-
-pub end_keeps : (t : ℕ) (n : Ledger) → (after_end t n).monitor ≡ after_tick (next_end t n) n.monitor
-unfolding after_end
-end_keeps t n = loss_keeps (lost_place t n) (at_end t n)
 
 -- ---- calls of a monitor that leave this book, and in which the same packets came at the same moments
 
 abbrev MadeBy : List Call → Book → Type 0
 MadeBy told b = (calls : List Call) × (b ≡ after_calls calls) × ((universe : ℕ) (cid : List ℕ) → arrivals universe cid calls ≡ arrivals universe cid told)
 
-made_as : (told : List Call) (b c : Book) → c ≡ b → MadeBy told b → MadeBy told c
-made_as told b c same (calls, is, come) = (calls, same ∙ is, come)
-
 made_later : (told : List Call) (t : ℕ) (b : Book) → MadeBy told b → MadeBy told (after_tick t b)
 made_later told t b (calls, is, come) = (Tick t ∷ calls, ap (after_tick t) is, come)
 
 -- ---- silence
 
-pub record IsSilent (told : List Call) (t : ℕ) (b : Book) : Type 0 where
+pub record IsSilent (t : ℕ) (b : Book) : Type 0 where
   pub moment : b.moment ≡ t
   pub none : silent_place t b.streams ≡ None
-  pub made : MadeBy told b
   pub most : length b.streams ≤ MAX_STREAMS
 
-silent_as : (told : List Call) (t : ℕ) (n m : Ledger) → m ≡ n → IsSilent told t n.monitor → IsSilent told t m.monitor
-silent_as told t n m same is = subst (λ (l : Ledger). IsSilent told t l.monitor) (sym same) is
+silent_as : (t : ℕ) (n m : Ledger) → m ≡ n → IsSilent t n.monitor → IsSilent t m.monitor
+silent_as t n m same is = subst (λ (l : Ledger). IsSilent t l.monitor) (sym same) is
 
-module _ (told : List Call) (t : ℕ) (held : t ≤ 2 ^ 64 - 1) where
-  last_step : (n : Ledger) → n.monitor.moment ≤ t → MadeBy told n.monitor → length n.monitor.streams ≤ MAX_STREAMS → silent_place (max n.monitor.moment (next_end t n)) n.monitor.streams ≡ None → IsSilent told t (at_end t n).monitor
-  last_step n by made most none =
+module _ (t : ℕ) (held : t ≤ 2 ^ 64 - 1) where
+  last_step : (n : Ledger) → n.monitor.moment ≤ t → length n.monitor.streams ≤ MAX_STREAMS → silent_place (max n.monitor.moment (next_end t n)) n.monitor.streams ≡ None → IsSilent t (at_end t n).monitor
+  last_step n by most none =
       let later : min (max n.monitor.moment (next_end t n) + 1) (2 ^ 64 - 1) ≤ next_loss n.monitor.streams = none_before (max n.monitor.moment (next_end t n)) n.monitor.streams none in
       let at : max n.monitor.moment (next_end t n) ≡ t = omega (arith, later, by, held) in
       let same : (at_end t n).monitor.streams ≡ n.monitor.streams = ap (λ (o : Option ℕ). told_at o n.monitor.streams) none in
       record {
         moment = at;
         none = ap (silent_place t) same ∙ ap (λ (k : ℕ). silent_place k n.monitor.streams) (sym at) ∙ none;
-        made = made_later told (next_end t n) n.monitor made;
         most = omega (arith, most, ap length same);
       }
 
@@ -76,12 +58,12 @@ module _ (told : List Call) (t : ℕ) (held : t ≤ 2 ^ 64 - 1) where
   unfolding silenced
   one_step_more steps n i is = ap (λ (o : Option ℕ). cond (is_some o) (silenced steps t (after_end t n)) (after_end t n)) is
 
-  silent : (steps : ℕ) (n : Ledger) → n.monitor.moment ≤ t → untold n.monitor.streams < steps → MadeBy told n.monitor → length n.monitor.streams ≤ MAX_STREAMS → IsSilent told t (silenced steps t n).monitor
+  silent : (steps : ℕ) (n : Ledger) → n.monitor.moment ≤ t → untold n.monitor.streams < steps → length n.monitor.streams ≤ MAX_STREAMS → IsSilent t (silenced steps t n).monitor
   unfolding lost_place
-  silent zero n by few made most = absurd (omega (arith, few))
-  silent (suc steps) n by few made most =
-      elim (lost_place t n) as (λ o. lost_place t n ≡ o → IsSilent told t (silenced (suc steps) t n).monitor) [
-        | None ↦ λ is. silent_as told t (at_end t n) (silenced (suc steps) t n) (one_step_ledger steps t n is) (last_step n by made most is)
+  silent zero n by few most = absurd (omega (arith, few))
+  silent (suc steps) n by few most =
+      elim (lost_place t n) as (λ o. lost_place t n ≡ o → IsSilent t (silenced (suc steps) t n).monitor) [
+        | None ↦ λ is. silent_as t (at_end t n) (silenced (suc steps) t n) (one_step_ledger steps t n is) (last_step n by most is)
         | Some i ↦ λ is.
             let m : Ledger = after_end t n in
             let ss : List Stream = n.monitor.streams in
@@ -90,10 +72,32 @@ module _ (told : List Call) (t : ℕ) (held : t ≤ 2 ^ 64 - 1) where
             let streams : m.monitor.streams ≡ told_at (Some i) ss = ap (λ (b : Book). b.streams) book ∙ ap (λ (o : Option ℕ). told_at o ss) is in
             let less : untold (told_at (Some i) ss) + 1 ≡ untold ss = told_less (max n.monitor.moment (next_end t n)) ss i is in
             let long : length (told_at (Some i) ss) ≡ length ss = told_length (Some i) ss in
-            silent_as told t (silenced steps t m) (silenced (suc steps) t n) (one_step_more steps n i is)
-            (silent steps m (omega (arith, moment, by)) (omega (arith, few, less, ap untold streams)) (made_as told (after_tick (next_end t n) n.monitor) m.monitor book (made_later told (next_end t n) n.monitor made))
-            (omega (arith, most, long, ap length streams)))
+            silent_as t (silenced steps t m) (silenced (suc steps) t n) (one_step_more steps n i is)
+            (silent steps m (omega (arith, moment, by)) (omega (arith, few, less, ap untold streams)) (omega (arith, most, long, ap length streams)))
       ] refl
+
+pub all_silent : (t : ℕ) (n : Ledger) → t ≤ 2 ^ 64 - 1 → n.monitor.moment ≤ t → length n.monitor.streams ≤ MAX_STREAMS → IsSilent t (silenced MOST_STEPS t n).monitor
+all_silent t n held later most = let few = untold_most n.monitor.streams in silent t held MOST_STEPS n later (omega (arith, few, most)) most
+
+-- a source is lost by a moment where the first step finds one
+some_lost : (t : ℕ) (ss : List Stream) → next_loss ss ≤ t → next_loss ss < 2 ^ 64 - 1 → is_some (silent_place t ss) ≡ true
+some_lost t ss by low =
+    elim (silent_place t ss) as (λ o. silent_place t ss ≡ o → is_some o ≡ true) [
+      | None ↦ λ none. let later : min (t + 1) (2 ^ 64 - 1) ≤ next_loss ss = none_before t ss none in absurd (omega (arith, later, by, low))
+      | Some i ↦ λ is. refl
+    ] refl
+
+pub lost_as : (now : ℕ) (n : Ledger) → now ≤ 2 ^ 64 - 1 → n.monitor.moment ≤ 2 ^ 64 - 1 → is_some (lost_place (max n.monitor.moment now) n) ≡ is_some (silent_place (max n.monitor.moment now) n.monitor.streams)
+unfolding lost_place
+lost_as now n held before =
+    let t : ℕ = max n.monitor.moment now in
+    let l : ℕ = next_loss n.monitor.streams in
+    elim (ltb l t) as (λ b. ltb l t ≡ b → is_some (lost_place t n) ≡ is_some (silent_place t n.monitor.streams)) [
+      | true ↦ λ is.
+          let less : l < t = ltb-true l t is in
+          some_lost (max n.monitor.moment (next_end t n)) n.monitor.streams (omega (arith, less)) (omega (arith, less, held, before)) ∙ sym (some_lost t n.monitor.streams (omega (arith, less)) (omega (arith, less, held, before)))
+      | false ↦ λ is. let most : t ≤ l = ltb-false l t is in ap (λ (k : ℕ). is_some (silent_place k n.monitor.streams)) (omega (arith, most))
+    ] refl
 
 -- ---- a datagram
 
@@ -124,7 +128,7 @@ data_most sender d b None most =
     ] refl
 data_most sender d b (Some i) most = let same = heard_length (stream_after b.moment sender d) i b.streams in omega (arith, most, same)
 
-read_most : (sender : Sender) (b : Book) (r : Result Packet PacketFault) → length b.streams ≤ MAX_STREAMS → length (after_read sender b r).streams ≤ MAX_STREAMS
+pub read_most : (sender : Sender) (b : Book) (r : Result Packet PacketFault) → length b.streams ≤ MAX_STREAMS → length (after_read sender b r).streams ≤ MAX_STREAMS
 read_most sender b (Ok (DataPacket d)) most = data_most sender d b (place_of d.universe d.cid b.streams) most
 read_most sender b (Ok (PagePacket p)) most = most
 read_most sender b (Ok SyncPacket) most = most
@@ -141,12 +145,6 @@ pub held_in_use : (calls : List Call) → AreMoments calls → moment_in_use cal
 held_in_use [] held = omega arith
 held_in_use (Take now sender octets ∷ earlier) held = let rest = held_in_use earlier held.1 in let first = held.0 in omega (arith, rest, first)
 held_in_use (Tick now ∷ earlier) held = let rest = held_in_use earlier held.1 in let first = held.0 in omega (arith, rest, first)
-
-ticked_silent : (told : List Call) (now : ℕ) (n : Ledger) → now ≤ 2 ^ 64 - 1 → n.monitor.moment ≤ 2 ^ 64 - 1 → Stands told n.monitor → IsSilent told (max n.monitor.moment now) (ticked now n).monitor
-ticked_silent told now n held before stands =
-    let few = untold_most n.monitor.streams in
-    let most = stands.most in
-    silent told (max n.monitor.moment now) (omega (arith, held, before)) MOST_STEPS n (omega arith) (omega (arith, few, most)) stands.made most
 
 same_arrivals : (universe : ℕ) (cid : List ℕ) (t u now : ℕ) (sender : Sender) (octets : List ℕ) (xs ys : List monitor.Arrival) → t ≡ u → xs ≡ ys
     → arrival_at universe cid t (Take now sender octets) ++ xs ≡ arrival_at universe cid u (Take now sender octets) ++ ys
@@ -165,31 +163,38 @@ made_taken earlier now sender octets b moment (calls, is, come) =
 stands_as : (told : List Call) (b c : Book) → c ≡ b → Stands told b → Stands told c
 stands_as told b c same is = subst (Stands told) (sym same) is
 
-taken_stands : (earlier : List Call) (now : ℕ) (sender : Sender) (octets : List ℕ) (b : Book) → IsSilent earlier (max (moment_in_use earlier) now) b → Stands (Take now sender octets ∷ earlier) (after_take now sender octets b)
-taken_stands earlier now sender octets b silent = record {
+taken_stands : (earlier : List Call) (now : ℕ) (sender : Sender) (octets : List ℕ) (b : Book) → IsSilent (max (moment_in_use earlier) now) b → MadeBy earlier b → Stands (Take now sender octets ∷ earlier) (after_take now sender octets b)
+taken_stands earlier now sender octets b silent made = record {
   moment = read_moment sender (with_datagram now b) (reading_packet octets) ∙ (let at = silent.moment in omega (arith, at));
-  made = made_taken earlier now sender octets b silent.moment silent.made;
+  made = made_taken earlier now sender octets b silent.moment made;
   most = read_most sender (with_datagram now b) (reading_packet octets) silent.most;
 }
 
-silent_at : (told : List Call) (t u : ℕ) (b : Book) → t ≡ u → IsSilent told t b → IsSilent told u b
-silent_at told t u b same is = subst (λ (k : ℕ). IsSilent told k b) same is
+silent_at : (t u : ℕ) (b : Book) → t ≡ u → IsSilent t b → IsSilent u b
+silent_at t u b same is = subst (λ (k : ℕ). IsSilent k b) same is
 
-pub mid_silent : (earlier : List Call) (now : ℕ) (n : Ledger) → now ≤ 2 ^ 64 - 1 → moment_in_use earlier ≤ 2 ^ 64 - 1 → Stands earlier n.monitor → IsSilent earlier (max (moment_in_use earlier) now) (ticked now n).monitor
+pub mid_silent : (earlier : List Call) (now : ℕ) (n : Ledger) → now ≤ 2 ^ 64 - 1 → moment_in_use earlier ≤ 2 ^ 64 - 1 → Stands earlier n.monitor → IsSilent (max (moment_in_use earlier) now) (ticked now n).monitor
 mid_silent earlier now n held before stands =
     let at = stands.moment in
-    silent_at earlier (max n.monitor.moment now) (max (moment_in_use earlier) now) (ticked now n).monitor (omega (arith, at)) (ticked_silent earlier now n held (omega (arith, at, before)) stands)
+    silent_at (max n.monitor.moment now) (max (moment_in_use earlier) now) (ticked now n).monitor (omega (arith, at)) (all_silent (max n.monitor.moment now) n (omega (arith, at, held, before)) (omega arith) stands.most)
+
+ticked_made : (earlier : List Call) (now : ℕ) (n : Ledger) → MadeBy earlier n.monitor → MadeBy earlier (ticked now n).monitor
+ticked_made earlier now n made = ticked_by (MadeBy earlier) now (λ m b by. made_later earlier m b) n made
 
 pub stands_after : (calls : List Call) → AreMoments calls → Stands calls (network_after calls).monitor
 stands_after [] held = record { moment = refl; made = ([], refl, λ universe cid. refl); most = omega arith }
 stands_after (Tick now ∷ earlier) held =
-    let silent = mid_silent earlier now (network_after earlier) held.0 (held_in_use earlier held.1) (stands_after earlier held.1) in
-    record { moment = silent.moment; made = silent.made; most = silent.most }
+    let n : Ledger = network_after earlier in
+    let before = stands_after earlier held.1 in
+    let silent = mid_silent earlier now n held.0 (held_in_use earlier held.1) before in
+    record { moment = silent.moment; made = ticked_made earlier now n before.made; most = silent.most }
 stands_after (Take now sender octets ∷ earlier) held =
-    let m : Ledger = ticked now (network_after earlier) in
-    let silent = mid_silent earlier now (network_after earlier) held.0 (held_in_use earlier held.1) (stands_after earlier held.1) in
+    let n : Ledger = network_after earlier in
+    let m : Ledger = ticked now n in
+    let before = stands_after earlier held.1 in
+    let silent = mid_silent earlier now n held.0 (held_in_use earlier held.1) before in
     stands_as (Take now sender octets ∷ earlier) (after_take now sender octets m.monitor) (network_after (Take now sender octets ∷ earlier)).monitor
-    (noted_keeps (note_of now sender (reading_packet octets) m) (handed now sender (reading_packet octets) m)) (taken_stands earlier now sender octets m.monitor silent)
+    (noted_keeps (note_of now sender (reading_packet octets) m) (handed now sender (reading_packet octets) m)) (taken_stands earlier now sender octets m.monitor silent (ticked_made earlier now n before.made))
 
 -- ---- the laws
 

@@ -1,5 +1,5 @@
 -- No loss is missed: none comes before a network's wake.
-use Rattle.std.proofs.Common.{◌≡◌, ◌<◌, ◌≤◌, ◌+◌, ◌-◌, ◌^◌, ℕ, zero, suc, min, max, nat_lt, Bool, true, false, cond, is_some, List, [], ◌∷◌, ◌++◌, length, set, slice_get, Option, None, Some, Result, Ok, Err, refl, ap, ◌∙◌, arith}
+use Rattle.std.proofs.Common.{◌≡◌, ◌<◌, ◌≤◌, ◌+◌, ◌-◌, ◌^◌, ℕ, zero, suc, min, max, nat_lt, Bool, true, false, cond, is_some, List, [], ◌∷◌, ◌++◌, length, set, slice_get, Option, None, Some, Result, Ok, Err, refl, sym, ap, ◌∙◌, arith}
 use Rattle.std.proofs.lemmas.Option.{slice_get_within}
 use Rattle.sacn_root.specs.declared.fault.PacketFault.{PacketFault}
 use Rattle.sacn_framing.specs.Data.{Data}
@@ -110,6 +110,11 @@ module _ (now until wake : ℕ) (n : Ledger) (is : until ≡ max n.monitor.momen
 
   pub early_told : tick_told now n ≡ []
   early_told = one_step_told MAX_STREAMS (max n.monitor.moment now) n none
+
+  pub early_lost : false ≡ is_some (silent_place (max n.monitor.moment now) n.monitor.streams)
+  early_lost =
+      let none_now : silent_place (max n.monitor.moment now) n.monitor.streams ≡ None = silent_later (max n.monitor.moment now) n.monitor.streams (omega (arith, is, early, before)) in
+      ap is_some (sym none_now)
 
   at : next_end (max n.monitor.moment now) n ≡ until
   at = omega (arith, is, early, before)

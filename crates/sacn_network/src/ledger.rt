@@ -40,8 +40,10 @@ impl Ledger {
         })
     }
 
-    /// Tells what ends by silence up to a moment that is no earlier than the clock, and moves the clock there.
-    pub(crate) fn tell_silence<O: Observer>(&mut self, until: u64, observer: &mut O)
+    /// Tells what ends by silence up to a moment that is no earlier than the clock, and moves the clock there. Returns whether
+    /// a source was lost.
+    pub(crate) fn tell_silence<O: Observer>(&mut self, until: u64, observer: &mut O) -> bool
+        ensures lost { result ≡ is_some (lost_place until self.old) }
         ensures told { Extends (O.told observer.old) (O.told observer.new)
             (silence_told MOST_STEPS until self.old) }
         ensures ledger { self.new ≡ silenced MOST_STEPS until self.old }
@@ -49,10 +51,11 @@ impl Ledger {
         let mut steps = MOST_STEPS;
         while steps > 0 {
             if !self.tell_end(until, observer) {
-                return;
+                return steps < MOST_STEPS;
             }
             steps -= 1;
         }
+        true
     }
 
     /// Tells what a datagram tells, by what was noted of it.

@@ -19,7 +19,7 @@ mod universe_set;
 
 pub use lit_universe::LitUniverse;
 pub use network::Network;
-pub use observer::Observer;
+pub use observer::{Observer, Unobserved};
 pub use occurrence::{Contest, Occurrence, What};
 pub use places::giver_places;
 

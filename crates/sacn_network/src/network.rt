@@ -1,7 +1,7 @@
 //! The one account of a network.
 
-ghost use Rattle.std.specs.Prelude.{◌≡◌, IfOk};
-ghost use Rattle.sacn_monitor.specs.Books.{next_loss};
+ghost use Rattle.std.specs.Prelude.{◌≡◌, IfOk, is_some, max};
+ghost use Rattle.sacn_monitor.specs.Books.{next_loss, silent_place};
 ghost use Rattle.sacn_network.specs.Networks.{handed, new_network, note_of, take_told, taken, tick_told, ticked};
 ghost use Rattle.sacn_network.specs.Sets.{has_bit};
 ghost use Rattle.sacn_network.specs.Telling.{Extends};
@@ -26,7 +26,8 @@ pub struct Network {
 }
 
 impl Model for Network {
-    ghost use Rattle.std.specs.Prelude.{◌≤◌};
+    ghost use Rattle.std.specs.Prelude.{◌≤◌, length};
+    ghost use Rattle.sacn_monitor.specs.declared.limits.TheConstants.{MAX_STREAMS};
     ghost use Rattle.sacn_monitor.specs.Books.{next_loss};
     ghost use Rattle.sacn_network.specs.declared.ledger.Ledger.{Ledger};
 
@@ -34,7 +35,8 @@ impl Model for Network {
 
     ghost view = { λ n. n.ledger };
 
-    ghost invariant = { λ n. n.wake ≤ next_loss n.ledger.monitor.streams };
+    ghost invariant = { λ n. (n.wake ≤ next_loss n.ledger.monitor.streams)
+        × (length n.ledger.monitor.streams ≤ MAX_STREAMS) };
 }
 
 impl Network {
@@ -71,8 +73,11 @@ impl Network {
         noted
     }
 
-    /// Moves the clock. What ends by silence up to then is told, each thing at its own moment.
-    pub fn tick<O: Observer>(&mut self, now: u64, observer: &mut O)
+    /// Moves the clock. What ends by silence up to then is told, each thing at its own moment. Returns whether a source was lost.
+    pub fn tick<O: Observer>(&mut self, now: u64, observer: &mut O) -> bool
+        ensures lost { result
+            ≡ is_some (silent_place (max self.old.monitor.moment now) self.old.monitor.streams) }
+        ensures clock { self.new.monitor.moment ≡ max self.old.monitor.moment now }
         ensures told { Extends (O.told observer.old) (O.told observer.new)
             (tick_told now self.old) }
         ensures network { self.new ≡ ticked now self.old }
@@ -80,10 +85,11 @@ impl Network {
         let until = self.ledger.monitor.moment().max(now);
         if until < self.wake {
             self.ledger.monitor.tick(until);
-            return;
+            return false;
         }
-        self.ledger.tell_silence(until, observer);
+        let is_lost = self.ledger.tell_silence(until, observer);
         self.wake = self.ledger.monitor.next_loss();
+        is_lost
     }
 
     /// The first moment at which something ends by itself, where no datagram comes; `u64::MAX` where nothing does.

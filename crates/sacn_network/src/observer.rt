@@ -16,3 +16,11 @@ pub trait Observer {
     fn observe(&mut self, occurrence: &Occurrence, monitor: &Monitor)
         ensures told { Extends (told self.old) (told self.new) (occurrence.now ∷ []) };
 }
+
+/// Nobody is told.
+#[derive(Clone, Copy)]
+pub struct Unobserved;
+
+impl Observer for Unobserved {
+    fn observe(&mut self, _: &Occurrence, _: &Monitor) {}
+}

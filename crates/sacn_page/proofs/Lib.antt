@@ -1,3 +1,2 @@
 mod Mapping
 mod OwnGets
-mod Losses

@@ -2,10 +2,12 @@
 
 use crate::json::{push_foreign, push_word};
 use sacn_framing::up_to_nul;
-use sacn_monitor::{Account, Sender, Stream};
+use sacn_monitor::{Account, Event, Monitor, News, Sender, Stream};
+use sacn_network::{Contest, Observer, Occurrence, What};
 use sacn_root::PacketFault;
 use std::alloc::{AllocError, Global};
 use std::fmt::Write;
+use std::mem;
 
 /// The most alarms of a network that are kept.
 pub const MAX_ALARMS: usize = 32;
@@ -27,12 +29,8 @@ pub enum Trouble {
     Refused(Sender, PacketFault),
     /// This program was stopped for so many milliseconds, in which it heard nothing.
     Stopped(u64),
-    /// So many sources share the top priority of a universe (E1.31, 6.2.3).
-    Rivals {
-        universe: u16,
-        sources: usize,
-        priority: u8,
-    },
+    /// Two sources or more share the top priority of a universe (E1.31, 6.2.3).
+    Rivals(Contest),
 }
 
 /// A thing that happened at a moment, in milliseconds.
@@ -52,6 +50,8 @@ pub struct Alarms {
     most: usize,
     /// How many there were.
     count: u64,
+    /// A growth was refused for what happened on the network.
+    is_refused: bool,
 }
 
 impl Alarms {
@@ -61,6 +61,7 @@ impl Alarms {
             latest: Vec::new(alloc),
             most,
             count: 0,
+            is_refused: false,
         }
     }
 
@@ -78,6 +79,43 @@ impl Alarms {
             })?;
         }
         self.count = self.count.saturating_add(1);
+        Ok(())
+    }
+
+    /// Whether there was room for all that happened on the network since this was asked last.
+    ///
+    /// Errors: a growth was refused.
+    pub(crate) fn settle(&mut self) -> Result<(), AllocError> {
+        if mem::replace(&mut self.is_refused, false) {
+            return Err(AllocError);
+        }
+        Ok(())
+    }
+
+    // Those of what happened on the network.
+    fn add_what(&mut self, at: u64, what: &What) -> Result<(), AllocError> {
+        match what {
+            What::Lost(place) => self.add(at, Trouble::Lost(*place)),
+            What::Heard(place, news) => self.add_news(at, *place, news),
+            What::Refused(sender, fault) => self.add(at, Trouble::Refused(*sender, *fault)),
+            What::Contest(contest) if contest.sources >= 2 => {
+                self.add(at, Trouble::Rivals(*contest))
+            }
+            What::Contest(_) | What::Untracked(_) => Ok(()),
+        }
+    }
+
+    // Those of a data packet of the source at a place.
+    fn add_news(&mut self, at: u64, place: usize, news: &News) -> Result<(), AllocError> {
+        match news.event {
+            Event::CameBack => self.add(at, Trouble::CameBack(place))?,
+            Event::Ended => self.add(at, Trouble::Ended(place))?,
+            Event::OutOfSequence => self.add(at, Trouble::Late(place))?,
+            Event::GoesOn | Event::Appeared | Event::Repeated => {}
+        }
+        if news.skipped > 0 {
+            self.add(at, Trouble::Skipped(place, news.skipped))?;
+        }
         Ok(())
     }
 
@@ -123,6 +161,15 @@ impl Alarms {
     }
 }
 
+/// Adds what went wrong on the network. Where a growth is refused that is kept, and what comes behind it is added as far as there is room.
+impl Observer for Alarms {
+    fn observe(&mut self, occurrence: &Occurrence, _: &Monitor) {
+        if self.add_what(occurrence.at, &occurrence.what).is_err() {
+            self.is_refused = true;
+        }
+    }
+}
+
 impl Trouble {
     fn is_loss(&self) -> bool {
         matches!(self, Trouble::Lost(_))
@@ -138,7 +185,7 @@ impl Trouble {
             Trouble::Late(_) => "late",
             Trouble::Refused(_, _) => "refused",
             Trouble::Stopped(_) => "stopped",
-            Trouble::Rivals { .. } => "rivals",
+            Trouble::Rivals(_) => "rivals",
         }
     }
 
@@ -165,14 +212,7 @@ impl Trouble {
             Trouble::Late(_) => text.push_str(" sent a packet out of sequence"),
             Trouble::Refused(sender, fault) => push_refused(text, sender, *fault),
             Trouble::Stopped(millis) => push_stop(text, *millis),
-            Trouble::Rivals {
-                universe,
-                sources,
-                priority,
-            } => {
-                write!(text, "universe {universe}: {sources} sources share ")?;
-                write!(text, "the top priority {priority}")
-            }
+            Trouble::Rivals(contest) => push_rivals(text, contest),
         }
     }
 }
@@ -182,6 +222,14 @@ fn push_refused(text: &mut String, sender: &Sender, fault: PacketFault) -> Resul
     let port = sender.port;
     write!(text, "a datagram of {a}.{b}.{c}.{d}")?;
     write!(text, ":{port} is refused: {fault}")
+}
+
+fn push_rivals(text: &mut String, contest: &Contest) -> Result<(), AllocError> {
+    let universe = contest.universe;
+    let sources = contest.sources;
+    let priority = contest.priority;
+    write!(text, "universe {universe}: {sources} sources share ")?;
+    write!(text, "the top priority {priority}")
 }
 
 fn push_stop(text: &mut String, millis: u64) -> Result<(), AllocError> {

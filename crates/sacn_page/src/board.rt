@@ -1,15 +1,13 @@
 //! What is known of a network, for all viewers.
 
-ghost use Rattle.std.specs.Prelude.{◌≡◌, ◌≤◌, IfOk, IfSome, OnOk};
-ghost use Rattle.sacn_monitor.specs.Books.{new_book, after_tick, next_loss};
+ghost use Rattle.std.specs.Prelude.{◌≡◌, IfOk, OnOk, is_some, max};
+ghost use Rattle.sacn_monitor.specs.Books.{new_book, next_loss, silent_place};
 ghost use Rattle.sacn_explain.specs.Following.{IsTicked, IsTaken};
 
 use crate::alarms::{Alarms, Trouble};
-use sacn_explain::stirs;
-use sacn_framing::{DataView, Packet, read_packet};
-use sacn_monitor::{Event, Monitor, News, Noted, Sender};
-use sacn_network::LitUniverse;
-use sacn_sources::NETWORK_DATA_LOSS;
+use sacn_framing::{Packet, Reading, read_packet};
+use sacn_monitor::{Event, Monitor, Noted, Sender};
+use sacn_network::{LitUniverse, Network};
 use std::alloc::{AllocError, Global};
 
 /// The most universes that are merged at once.
@@ -21,17 +19,13 @@ pub const MAX_LIT: usize = 16;
 #[derive(Drop)]
 pub struct Board {
     alloc: Global,
-    monitor: Monitor,
+    network: Network,
     alarms: Alarms,
     /// The universe of a viewer that names none, where that isn't the first heard.
     preferred: Option<u16>,
     /// The universes heard, ascending.
     heard: Vec<u16>,
-    /// Those on which several sources send at the top priority.
-    contested: Vec<u16>,
     lit: Vec<LitUniverse>,
-    /// No source is lost before this moment.
-    wake: u64,
 }
 
 impl Board {
@@ -39,17 +33,15 @@ impl Board {
     ///
     /// Errors: OutOfMemory.
     pub fn new(alloc: Global, preferred: Option<u16>, alarms: usize) -> Result<Self, AllocError>
-        ensures nothing { IfOk result (λ b. b.monitor ≡ new_book) }
+        ensures nothing { IfOk result (λ b. b.network.monitor ≡ new_book) }
     {
         Ok(Board {
             alloc,
-            monitor: Monitor::new(alloc)?,
+            network: Network::new(alloc)?,
             alarms: Alarms::new(alloc, alarms),
             preferred,
             heard: Vec::new(alloc),
-            contested: Vec::new(alloc),
             lit: Vec::new(alloc),
-            wake: 0,
         })
     }
 
@@ -59,91 +51,50 @@ impl Board {
     /// Errors: OutOfMemory.
     pub fn take(&mut self, now: u64, sender: Sender, octets: &[u8]) -> Result<(), AllocError>
         ensures taken { OnOk result
-            (IsTaken now sender octets.now self.old.monitor self.new.monitor) }
+            (IsTaken now sender octets.now self.old.network.monitor self.new.network.monitor) }
     {
-        self.catch_up(now)?;
         let reading = read_packet(octets);
-        match self.monitor.take_reading(now, sender, &reading) {
-            Noted::Refused(fault) => self.alarms.add(now, Trouble::Refused(sender, fault))?,
-            Noted::Heard(place, news) => self.note(now, place, &news)?,
-            _ => {}
-        }
-        match &reading {
-            Ok(Packet::DataPacket(packet)) => self.light(now, packet),
-            _ => Ok(()),
-        }
+        let noted = self.network.take(now, sender, &reading, &mut self.alarms);
+        self.alarms.settle()?;
+        self.note_universe(&noted)?;
+        self.light(now, &reading)
     }
 
     /// Moves the clock, and returns whether a source was lost.
     ///
     /// Errors: OutOfMemory.
     pub fn tick(&mut self, now: u64) -> Result<bool, AllocError>
-        ensures ticked { OnOk result (IsTicked now self.old.monitor self.new.monitor) }
+        ensures lost { IfOk result (λ is_lost. is_lost ≡ is_some (silent_place
+            (max self.old.network.monitor.moment now) self.old.network.monitor.streams)) }
+        ensures ticked { OnOk result
+            (IsTicked now self.old.network.monitor self.new.network.monitor) }
     {
-        let is_lost = self.note_losses(now)?;
-        let _ = self.monitor.tick(now);
-        self.wake = self.next_loss().min(now.saturating_add(NETWORK_DATA_LOSS));
+        let is_lost = self.network.tick(now, &mut self.alarms);
+        self.alarms.settle()?;
         Ok(is_lost)
-    }
-
-    // Moves the clock where a source may be lost by now: not at each datagram, which would look at all sources.
-    fn catch_up(&mut self, now: u64) -> Result<(), AllocError>
-        ensures ticked { OnOk result (IsTicked now self.old.monitor self.new.monitor) }
-    {
-        if now < self.wake {
-            return Ok(());
-        }
-        self.tick(now)?;
-        Ok(())
     }
 
     /// Notes that this program was stopped for so many milliseconds, in which it heard nothing. No account changes.
     ///
     /// Errors: OutOfMemory.
     pub fn note_stop(&mut self, now: u64, millis: u64) -> Result<(), AllocError>
-        ensures monitor { self.new.monitor ≡ self.old.monitor }
+        ensures network { self.new.network ≡ self.old.network }
     {
         self.alarms.add(now, Trouble::Stopped(millis))
     }
 
     /// The moment of the next loss, where no packet comes; `u64::MAX` where there is none.
     pub fn next_loss(&self) -> u64
-        ensures { result ≡ next_loss self.now.monitor.streams }
+        ensures { result ≡ next_loss self.now.network.monitor.streams }
     {
-        self.monitor.next_loss()
-    }
-
-    // Notes the sources that are lost by a moment, each at its own, and returns whether there was one.
-    fn note_losses(&mut self, now: u64) -> Result<bool, AllocError>
-        ensures { IsTicked now self.old.monitor self.new.monitor }
-    {
-        let mut is_lost = false;
-        for _ in 0..sacn_monitor::MAX_STREAMS {
-            let Some(at) = loss_by(now, self.monitor.next_loss()) else {
-                break;
-            };
-            self.note_loss(at)?;
-            is_lost = true;
-        }
-        Ok(is_lost)
-    }
-
-    // Notes the source that is lost at a moment.
-    fn note_loss(&mut self, at: u64) -> Result<(), AllocError>
-        ensures { self.new.monitor ≡ after_tick at self.old.monitor }
-    {
-        let Some(place) = self.monitor.tick(at) else {
-            return Ok(());
-        };
-        self.alarms.add(at, Trouble::Lost(place))?;
-        self.note_rivals(at, place)
+        self.network.next_end()
     }
 
     /// The accounts of all sources.
     pub fn monitor(&self) -> &Monitor
-        ensures { result.now ≡ self.now.monitor }
+        ensures { result.now ≡ self.now.network.monitor }
     {
-        &self.monitor
+        self.network.monitor()
     }
 
     /// The latest alarms.
@@ -164,7 +115,7 @@ impl Board {
         if self.preferred.is_some() {
             return self.preferred;
         }
-        match self.monitor.streams().first() {
+        match self.monitor().streams().first() {
             Some(stream) => Some(stream.universe),
             None => None,
         }
@@ -180,7 +131,7 @@ impl Board {
     ///
     /// Errors: OutOfMemory.
     pub fn open(&mut self, universe: u16, watched: &[u16]) -> Result<bool, AllocError>
-        ensures monitor { self.new.monitor ≡ self.old.monitor }
+        ensures network { self.new.network ≡ self.old.network }
     {
         if self.find_lit(universe).is_some() {
             return Ok(true);
@@ -200,7 +151,7 @@ impl Board {
 
     /// Merges anew the universes that are looked at.
     pub fn refresh(&mut self, now: u64, watched: &[u16])
-        ensures monitor { self.new.monitor ≡ self.old.monitor }
+        ensures network { self.new.network ≡ self.old.network }
     {
         for lit in self.lit.iter_mut() {
             if watched.contains(&lit.universe()) {
@@ -209,31 +160,17 @@ impl Board {
         }
     }
 
-    // What a data packet tells of the source at a place.
-    fn note(&mut self, now: u64, place: usize, news: &News) -> Result<(), AllocError>
-        ensures monitor { self.new.monitor ≡ self.old.monitor }
-    {
-        match news.event {
-            Event::Appeared => self.note_universe(place)?,
-            Event::CameBack => self.alarms.add(now, Trouble::CameBack(place))?,
-            Event::Ended => self.alarms.add(now, Trouble::Ended(place))?,
-            Event::OutOfSequence => self.alarms.add(now, Trouble::Late(place))?,
-            _ => {}
-        }
-        if news.skipped > 0 {
-            self.alarms.add(now, Trouble::Skipped(place, news.skipped))?;
-        }
-        match self.monitor.streams().get(place) {
-            Some(stream) if stirs(stream, news) => self.note_rivals(now, place),
-            _ => Ok(()),
-        }
-    }
-
     // The universe of a source that is new.
-    fn note_universe(&mut self, place: usize) -> Result<(), AllocError>
-        ensures monitor { self.new.monitor ≡ self.old.monitor }
+    fn note_universe(&mut self, noted: &Noted) -> Result<(), AllocError>
+        ensures network { self.new.network ≡ self.old.network }
     {
-        if let Some(stream) = self.monitor.streams().get(place) {
+        let Noted::Heard(place, news) = noted else {
+            return Ok(());
+        };
+        if news.event != Event::Appeared {
+            return Ok(());
+        }
+        if let Some(stream) = self.monitor().streams().get(*place) {
             let universe = stream.universe;
             if !self.heard.contains(&universe) {
                 self.heard.push(universe)?;
@@ -243,35 +180,13 @@ impl Board {
         Ok(())
     }
 
-    // Whether several sources send at the top priority from now on, where the source at a place sends.
-    fn note_rivals(&mut self, now: u64, place: usize) -> Result<(), AllocError>
-        ensures monitor { self.new.monitor ≡ self.old.monitor }
+    // Gives a data packet to its universe, where that is merged or there is room for it.
+    fn light(&mut self, now: u64, reading: &Reading<'_>) -> Result<(), AllocError>
+        ensures network { self.new.network ≡ self.old.network }
     {
-        let Some(stream) = self.monitor.streams().get(place) else {
+        let Ok(Packet::DataPacket(packet)) = reading else {
             return Ok(());
         };
-        let universe = stream.universe;
-        let sources = self.monitor.rivals(universe);
-        let was_contested = self.contested.contains(&universe);
-        if sources < 2 {
-            self.contested.retain(|contested| *contested != universe);
-        } else if !was_contested {
-            self.contested.push(universe)?;
-            let priority = self.monitor.top_priority(universe);
-            let rivals = Trouble::Rivals {
-                universe,
-                sources,
-                priority,
-            };
-            self.alarms.add(now, rivals)?;
-        }
-        Ok(())
-    }
-
-    // Gives a packet to its universe, where that is merged or there is room for it.
-    fn light(&mut self, now: u64, packet: &DataView<'_>) -> Result<(), AllocError>
-        ensures monitor { self.new.monitor ≡ self.old.monitor }
-    {
         let universe = packet.universe();
         if self.find_lit(universe).is_none() && self.lit.len() < MAX_LIT {
             self.lit.push(unlit_universe(self.alloc, universe)?)?;
@@ -283,13 +198,6 @@ impl Board {
         }
         Ok(())
     }
-}
-
-// The moment of a loss, where it is no later than now.
-fn loss_by(now: u64, loss: u64) -> Option<u64>
-    ensures { IfSome result (λ at. at ≤ now) }
-{
-    if now < loss { None } else { Some(loss) }
 }
 
 // A universe of which nothing was heard.

@@ -1,4 +1,4 @@
-mod Ticking
+pub mod Ticking
 mod Handing
-mod Following
+pub mod Following
 mod Letters

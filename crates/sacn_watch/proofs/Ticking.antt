@@ -1,32 +1,29 @@
--- Losses told by ticks of a monitor.
-use Rattle.std.proofs.Common.{◌≡◌, ℕ, ◌≤◌, List, [], ◌∷◌, ◌++◌, refl, sym, ap, ◌∙◌, arith}
-use Rattle.sacn_monitor.specs.Books.{Book, after_tick}
-use Rattle.sacn_explain.specs.Following.{AreBy, after_ticks, IsTicked}
+-- A network's clock and its datagrams, as calls of its monitor.
+use Rattle.std.proofs.Common.{◌≡◌, ℕ, List, [], ◌∷◌, Result, refl, sym, ap, subst, ◌∙◌}
+use Rattle.sacn_root.specs.declared.fault.PacketFault.{PacketFault}
+use Rattle.sacn_framing.specs.declared.packet.Packet.{Packet}
+use Rattle.sacn_framing.specs.PacketReading.{reading_packet}
+use Rattle.sacn_monitor.specs.declared.account.Sender.{Sender}
+use Rattle.sacn_monitor.specs.Books.{after_tick}
+use Rattle.sacn_network.specs.declared.ledger.Ledger.{Ledger}
+use Rattle.sacn_network.specs.Networks.{handed, note_of, taken, ticked}
+use Rattle.sacn_network.proofs.Ticks.{ticked_by}
+use Rattle.sacn_network.proofs.Waking.{noted_keeps}
+use Rattle.sacn_explain.specs.Following.{IsTaken, IsTicked}
 
-pub none_told : (t : ℕ) (b : Book) → IsTicked t b b
-none_told t b = ([], tt, refl)
+-- the losses up to a moment were told
+network_ticked : (now : ℕ) (n : Ledger) → IsTicked now n.monitor (ticked now n).monitor
+network_ticked now n = ticked_by (IsTicked now n.monitor) now (λ m b by told. (m ∷ told.0, (by, told.1), ap (after_tick m) told.2)) n ([], tt, refl)
 
-pub one_more_told : (t m : ℕ) (old mid new : Book) → m ≤ t → IsTicked t old mid → new ≡ after_tick m mid → IsTicked t old new
-one_more_told t m old mid new by ticked told = (m ∷ ticked.0, (by, ticked.1), told ∙ ap (after_tick m) ticked.2)
+pub is_ticked : (now : ℕ) (old new : Ledger) → new ≡ ticked now old → IsTicked now old.monitor new.monitor
+is_ticked now old new is = subst (λ (n : Ledger). IsTicked now old.monitor n.monitor) (sym is) (network_ticked now old)
 
--- a clock that is already later stays
-pub still : (t first : ℕ) (mid new : Book) → t ≤ first → mid.moment ≡ first → new ≡ after_tick t mid → new.moment ≡ first
-still t first mid new later same told =
-    let moved = ap (λ (b : Book). b.moment) told in
-    omega (arith, later, same, moved)
+-- and then a datagram was taken
+network_taken : (now : ℕ) (sender : Sender) (octets : List ℕ) (n : Ledger) → IsTaken now sender octets n.monitor (taken now sender (reading_packet octets) n).monitor
+network_taken now sender octets n =
+    let m : Ledger = ticked now n in
+    (m.monitor, network_ticked now n, noted_keeps (note_of now sender (reading_packet octets) m) (handed now sender (reading_packet octets) m))
 
-first_by : (t m : ℕ) (ms : List ℕ) → AreBy t ms → m ≤ t → AreBy t (ms ++ m ∷ [])
-first_by t m [] by first = (first, tt)
-first_by t m (x ∷ ms) by first = (by.0, first_by t m ms by.1 first)
-
-ticks_after : (m : ℕ) (ms : List ℕ) (b : Book) → after_ticks (ms ++ m ∷ []) b ≡ after_ticks ms (after_tick m b)
-ticks_after m [] b = refl
-ticks_after m (x ∷ ms) b = ap (after_tick x) (ticks_after m ms b)
-
--- one loss, and then the others
-pub told_first : (t m : ℕ) (old mid new : Book) → m ≤ t → mid ≡ after_tick m old → IsTicked t mid new → IsTicked t old new
-told_first t m old mid new by is ticked = (
-  ticked.0 ++ m ∷ [],
-  first_by t m ticked.0 ticked.1 by,
-  ticked.2 ∙ ap (after_ticks ticked.0) is ∙ sym (ticks_after m ticked.0 old),
-)
+pub is_taken : (now : ℕ) (sender : Sender) (octets : List ℕ) (reading : Result Packet PacketFault) (old new : Ledger) → reading ≡ reading_packet octets → new ≡ taken now sender reading old → IsTaken now sender octets old.monitor new.monitor
+is_taken now sender octets reading old new read is =
+    subst (λ (n : Ledger). IsTaken now sender octets old.monitor n.monitor) (sym (is ∙ ap (λ (r : Result Packet PacketFault). taken now sender r old) read)) (network_taken now sender octets old)

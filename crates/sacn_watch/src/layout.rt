@@ -53,8 +53,8 @@ fn push_counts(alloc: Global, page: &mut Page, view: &View) -> Result<(), AllocE
         → FitsOn page.new.size page.new.rows.items }
 {
     let mut text = String::new(alloc);
-    let streams = view.monitor.streams().len();
-    let datagrams = view.monitor.tally().datagrams;
+    let streams = view.monitor().streams().len();
+    let datagrams = view.monitor().tally().datagrams;
     write!(
         text,
         "sacn watch  sources on universes {streams}  datagrams {datagrams}"
@@ -93,7 +93,7 @@ fn push_alarms(alloc: Global, page: &mut Page, view: &View) -> Result<(), AllocE
         page.push_text(alloc, text.as_str(), Ink::Alarm)?;
     }
     let mut count = 0_usize;
-    for stream in view.monitor.streams() {
+    for stream in view.monitor().streams() {
         text.clear();
         push_alarm(&mut text, view, stream)?;
         if text.len() > 0 {
@@ -135,7 +135,7 @@ pub(crate) fn push_more(
 // What is wrong with a source on a universe, if anything is.
 fn push_alarm(text: &mut String, view: &View, stream: &Stream) -> Result<(), AllocError> {
     let universe = stream.universe;
-    match stream.state(view.monitor.moment()) {
+    match stream.state(view.monitor().moment()) {
         State::Ended => Ok(()),
         State::Lost => {
             write!(text, "! universe {universe}: lost ")?;
@@ -148,9 +148,9 @@ fn push_alarm(text: &mut String, view: &View, stream: &Stream) -> Result<(), All
 // Whether a source is one of several at the top priority of its universe.
 fn push_rivalry(text: &mut String, view: &View, stream: &Stream) -> Result<(), AllocError> {
     let universe = stream.universe;
-    let rivals = view.monitor.rivals(universe);
+    let rivals = view.monitor().rivals(universe);
     let priority = stream.account.priority;
-    if (rivals >= 2) & (priority == view.monitor.top_priority(universe)) {
+    if (rivals >= 2) & (priority == view.monitor().top_priority(universe)) {
         write!(
             text,
             "! universe {universe}: one of {rivals} at top priority {priority}: "
@@ -162,7 +162,7 @@ fn push_rivalry(text: &mut String, view: &View, stream: &Stream) -> Result<(), A
 
 fn refused_in(view: &View) -> u64 {
     let mut sum = 0_u64;
-    for count in &view.monitor.tally().refused {
+    for count in &view.monitor().tally().refused {
         sum = sum.saturating_add(*count);
     }
     sum
@@ -175,7 +175,7 @@ fn push_sources(alloc: Global, page: &mut Page, view: &View) -> Result<(), Alloc
 {
     page.push_text(alloc, "", Ink::Plain)?;
     page.push_text(alloc, SOURCE_HEAD, Ink::Heading)?;
-    let count = view.monitor.streams().len();
+    let count = view.monitor().streams().len();
     let room = room_for_sources(page, view);
     if count <= room {
         let _ = push_sources_of(alloc, page, view, Part::All, count)?;
@@ -231,14 +231,14 @@ fn push_sources_of(
     ensures fits { FitsOn page.old.size page.old.rows.items
         → FitsOn page.new.size page.new.rows.items }
 {
-    let streams = view.monitor.streams();
+    let streams = view.monitor().streams();
     let mut text = String::new(alloc);
     let mut count = 0_usize;
     for place in 0..streams.len() {
         if count < room && is_of(view, &streams[place], part) {
             count += 1;
             text.clear();
-            push_source(&mut text, &streams[place], view.monitor.moment())?;
+            push_source(&mut text, &streams[place], view.monitor().moment())?;
             let mut row = Row::new(alloc, page.size.width);
             row.put(letter_of(place), Ink::Source(place))?;
             row.put_text(text.as_str(), Ink::Source(place))?;

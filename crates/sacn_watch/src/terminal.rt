@@ -101,7 +101,7 @@ impl<'a, O: Write> Terminal<'a, O> {
 
     /// Writes all rows of what it shows, also those for which the screen had no room, as lines.
     pub fn leave(&mut self, now: u64) -> Result<(), WatchFault>
-        ensures { self.new.view.monitor ≡ self.old.view.monitor }
+        ensures { self.new.view.network ≡ self.old.view.network }
     {
         if self.drawn.len() == 0 {
             return Ok(());
@@ -124,7 +124,7 @@ impl<'a, O: Write> Terminal<'a, O> {
         ensures fits { FitsOn page.old.size page.old.rows.items
             → FitsOn page.new.size page.new.rows.items }
     {
-        if self.view.monitor.tally().datagrams > 0 {
+        if self.view.monitor().tally().datagrams > 0 {
             return Ok(());
         }
         for part in self.silence.split(';') {
@@ -135,7 +135,7 @@ impl<'a, O: Write> Terminal<'a, O> {
 
     // Draws the screen where it isn't the one that was drawn last.
     fn draw(&mut self, now: u64) -> Result<(), WatchFault>
-        ensures { self.new.view.monitor ≡ self.old.view.monitor }
+        ensures { self.new.view.network ≡ self.old.view.network }
     {
         self.view.refresh(now);
         let mut page = screen(self.alloc, &self.view, self.size)?;
@@ -189,11 +189,11 @@ impl<'a, O: Write> Watcher for Terminal<'a, O> {
         if self.is_stale {
             return self.next;
         }
-        if self.view.monitor.streams().is_empty() {
+        if self.view.monitor().streams().is_empty() {
             return u64::MAX;
         }
         let next = self.next.saturating_add(SECOND - MIN_WAIT);
-        next.min(self.view.monitor.next_loss())
+        next.min(self.view.monitor().next_loss())
     }
 
     fn end(&mut self, now: u64) -> Result<(), WatchFault> {

@@ -1,6 +1,6 @@
 //! What a screen shows.
 
-ghost use Rattle.std.specs.Prelude.{◌≡◌, ◌≤◌, IfOk, is_some, max};
+ghost use Rattle.std.specs.Prelude.{◌≡◌, IfOk, is_some, max};
 ghost use Rattle.sacn_framing.specs.PacketReading.{reading_packet};
 ghost use Rattle.sacn_monitor.specs.Books.{new_book, silent_place};
 ghost use Rattle.sacn_sources.specs.LatestMerge.{new_kept, kept_after_merged};
@@ -12,7 +12,7 @@ ghost use Rattle.sacn_watch.specs.Views.{after_packet, after_reading, places_sho
 use crate::fault::WatchFault;
 use sacn_framing::{DataView, Packet, read_packet};
 use sacn_monitor::{Monitor, Sender};
-use sacn_network::giver_places;
+use sacn_network::{Network, Unobserved, giver_places};
 use sacn_sources::{Givers, SourceTable};
 use sacn_universe::SLOTS;
 use std::alloc::Global;
@@ -20,7 +20,7 @@ use std::alloc::Global;
 /// What is known of a network, and the levels of one of its universes.
 #[derive(Drop)]
 pub struct View {
-    pub monitor: Monitor,
+    network: Network,
     /// The universe whose levels are shown: the one asked for, else the first heard.
     pub universe: Option<u16>,
     /// The levels of its slots: those of the highest priority merged, the highest level of each slot (E1.31, 6.2.3).
@@ -38,13 +38,13 @@ impl View {
     ///
     /// Errors: OutOfMemory.
     pub fn new(alloc: Global, universe: Option<u16>) -> Result<Self, WatchFault>
-        ensures nothing { IfOk result (λ v. v.monitor ≡ new_book) }
+        ensures nothing { IfOk result (λ v. v.network.monitor ≡ new_book) }
         ensures universe { IfOk result (λ v. v.universe ≡ universe) }
         ensures sources { IfOk result (λ v. v.table ≡ new_kept) }
     {
-        let monitor = Monitor::new(alloc)?;
+        let network = Network::new(alloc)?;
         Ok(View {
-            monitor,
+            network,
             universe,
             levels: [0; SLOTS],
             winners: [None; SLOTS],
@@ -56,14 +56,14 @@ impl View {
     /// Takes a datagram that came at a moment from a sender: once, after the losses up to then. A data packet of the universe
     /// whose levels are shown goes to its table of sources; where none was shown yet it is the packet's from now on.
     pub fn take(&mut self, now: u64, sender: Sender, octets: &[u8])
-        ensures taken { IsTaken now sender octets.now self.old.monitor self.new.monitor }
+        ensures taken { IsTaken now sender octets.now
+            self.old.network.monitor self.new.network.monitor }
         ensures shown { record { universe = self.new.universe; sources = self.new.table }
             ≡ after_reading now (reading_packet octets.now)
             (record { universe = self.old.universe; sources = self.old.table }) }
     {
-        self.tick(now);
         let reading = read_packet(octets);
-        let _ = self.monitor.take_reading(now, sender, &reading);
+        let _ = self.network.take(now, sender, &reading, &mut Unobserved);
         match &reading {
             Ok(Packet::DataPacket(packet)) => self.take_levels(now, packet),
             Ok(Packet::PagePacket(_)) => {}
@@ -74,37 +74,41 @@ impl View {
 
     /// Moves the clock. Returns whether a source was lost.
     pub fn tick(&mut self, now: u64) -> bool
-        ensures lost { result
-            ≡ is_some (silent_place (max self.old.monitor.moment now) self.old.monitor.streams) }
-        ensures ticked { IsTicked now self.old.monitor self.new.monitor }
-        ensures clock { self.new.monitor.moment ≡ max self.old.monitor.moment now }
+        ensures lost { result ≡ is_some (silent_place
+            (max self.old.network.monitor.moment now) self.old.network.monitor.streams) }
+        ensures ticked { IsTicked now self.old.network.monitor self.new.network.monitor }
+        ensures clock { self.new.network.monitor.moment
+            ≡ max self.old.network.monitor.moment now }
         ensures universe { self.new.universe ≡ self.old.universe }
         ensures sources { self.new.table ≡ self.old.table }
     {
-        let is_lost = self.monitor.tick(now).is_some();
-        if is_lost {
-            tell_losses(&mut self.monitor, now);
-        }
-        is_lost
+        self.network.tick(now, &mut Unobserved)
+    }
+
+    /// The accounts of the sources on universes.
+    pub fn monitor(&self) -> &Monitor
+        ensures { result.now ≡ self.now.network.monitor }
+    {
+        self.network.monitor()
     }
 
     /// Merges the levels anew, and tells who gives them.
     pub fn refresh(&mut self, now: u64)
         ensures levels { self.new.levels ≡ slots_of (after_expire now self.old.table.table).rows }
         ensures sources { self.new.table ≡ kept_after_merged now self.old.table }
-        ensures monitor { self.new.monitor ≡ self.old.monitor }
+        ensures network { self.new.network ≡ self.old.network }
         ensures universe { self.new.universe ≡ self.old.universe }
         ensures winners { self.new.winners
-            ≡ places_shown self.old.universe self.old.monitor.streams
+            ≡ places_shown self.old.universe self.old.network.monitor.streams
             (givers_of (after_expire now self.old.table.table).rows) }
     {
         let givers = self.table.merged_with_givers(now, &mut self.levels);
-        self.winners = places_shown(&givers, self.universe, &self.monitor);
+        self.winners = places_shown(&givers, self.universe, self.network.monitor());
     }
 
     // A data packet.
     fn take_levels(&mut self, now: u64, packet: &DataView<'_>)
-        ensures monitor { self.new.monitor ≡ self.old.monitor }
+        ensures network { self.new.network ≡ self.old.network }
         ensures shown { record { universe = self.new.universe; sources = self.new.table }
             ≡ after_packet now packet.now
             (record { universe = self.old.universe; sources = self.old.table }) }
@@ -116,18 +120,6 @@ impl View {
         self.universe = Some(universe);
         if universe == packet.universe() {
             let _ = self.table.take(now, packet);
-        }
-    }
-}
-
-// Tells the losses up to a moment.
-fn tell_losses(monitor: &mut Monitor, now: u64)
-    ensures ticked { IsTicked now monitor.old monitor.new }
-    ensures clock { now ≤ monitor.old.moment → monitor.new.moment ≡ monitor.old.moment }
-{
-    for _told in 0..sacn_monitor::MAX_STREAMS {
-        if monitor.tick(now).is_none() {
-            return;
         }
     }
 }

@@ -1,26 +1,62 @@
-use Rattle.std.proofs.Common.{◌∙◌, [], ap, sym, arith}
-use Rattle.sacn_monitor.specs.Books.{Book, next_loss}
+use Rattle.std.proofs.Common.{◌∙◌, [], ℕ, is_some, length, max, ap, sym, arith}
+use Rattle.sacn_monitor.specs.Books.{Book, next_loss, silent_place}
 use Rattle.sacn_network.specs.declared.ledger.Ledger.{Ledger}
+use Rattle.sacn_network.specs.Losses.{lost_place}
 use Rattle.sacn_network.specs.Networks.{tick_told, ticked}
 use Rattle.sacn_network.proofs.Telling.{told_as, told_nothing}
-use Rattle.sacn_network.proofs.Waking.{early_ledger, early_quiet, early_told}
+use Rattle.sacn_network.proofs.Tracking.{all_silent, lost_as}
+use Rattle.sacn_network.proofs.Whole.{told_length}
+use Rattle.sacn_network.proofs.Waking.{early_ledger, early_lost, early_quiet, early_told}
 use Rattle.sacn_network.proofs.network.Network.tick.Goals as goal
 
 pub invariant_of-self : goal.invariant_of-self
 invariant_of-self g c =
     let n = c.self.inside in
-    let quiet = early_quiet c.args.now c.max-until.result n.wake n.ledger (omega (arith, c.max-until.ensures, c.moment.ensures)) (omega arith) c.self.invariant in
-    omega (arith, quiet, ap (λ (b : Book). next_loss b.streams) c.tick.ensures.book)
+    let quiet = early_quiet c.args.now c.max-until.result n.wake n.ledger (omega (arith, c.max-until.ensures, c.moment.ensures)) (omega arith) c.self.invariant.0 in
+    let room = told_length (silent_place (max n.ledger.monitor.moment c.max-until.result) n.ledger.monitor.streams) n.ledger.monitor.streams in (
+      omega (arith, quiet, ap (λ (b : Book). next_loss b.streams) c.tick.ensures.book),
+      omega (arith, room, c.self.invariant.1, ap (λ (b : Book). length b.streams) c.tick.ensures.book),
+    )
+
+pub invariant_of-self-2 : goal.invariant_of-self-2
+invariant_of-self-2 g c =
+    let n = c.self.inside in
+    let silent = all_silent c.max-until.result n.ledger (omega arith) (omega (arith, c.max-until.ensures, c.moment.ensures)) c.self.invariant.1 in
+    let most = silent.most in (
+      omega (arith, c.next_loss-self-inside.ensures),
+      omega (arith, most, ap (λ (l : Ledger). length l.monitor.streams) c.tell_silence-is_lost.ensures.ledger),
+    )
+
+pub returns-then-until-self-clause-lost : goal.returns-then-until-self-clause-lost
+returns-then-until-self-clause-lost g c =
+    let n = c.self.inside in
+    early_lost c.args.now c.max-until.result n.wake n.ledger (omega (arith, c.max-until.ensures, c.moment.ensures)) (omega arith) c.self.invariant.0
+    ∙ ap (λ (l : Ledger). is_some (silent_place (max l.monitor.moment c.args.now) l.monitor.streams)) c.self.view_is
+
+pub returns-clause-lost : goal.returns-clause-lost
+returns-clause-lost g c =
+    let n = c.self.inside.ledger in
+    c.tell_silence-is_lost.ensures.lost
+    ∙ ap (λ (t : ℕ). is_some (lost_place t n)) (omega (arith, c.max-until.ensures, c.moment.ensures))
+    ∙ lost_as c.args.now n (omega arith) (omega (arith, c.moment.ensures))
+    ∙ ap (λ (l : Ledger). is_some (silent_place (max l.monitor.moment c.args.now) l.monitor.streams)) c.self.view_is
+
+pub returns-clause-clock : goal.returns-clause-clock
+returns-clause-clock g c =
+    let n = c.self.inside.ledger in
+    let silent = all_silent c.max-until.result n (omega arith) (omega (arith, c.max-until.ensures, c.moment.ensures)) c.self.invariant.1 in
+    ap (λ (l : Ledger). l.monitor.moment) c.tell_silence-is_lost.ensures.ledger ∙ silent.moment ∙ c.max-until.ensures ∙ ap (λ (t : ℕ). max t c.args.now) c.moment.ensures
+    ∙ ap (λ (l : Ledger). max l.monitor.moment c.args.now) c.self.view_is
 
 pub returns-then-until-self-clause-told : goal.returns-then-until-self-clause-told
 returns-then-until-self-clause-told g c =
     let n = c.self.inside in
     let told = g.O.Observer.told c.args.observer.now in
-    let none = early_told c.args.now c.max-until.result n.wake n.ledger (omega (arith, c.max-until.ensures, c.moment.ensures)) (omega arith) c.self.invariant in
+    let none = early_told c.args.now c.max-until.result n.wake n.ledger (omega (arith, c.max-until.ensures, c.moment.ensures)) (omega arith) c.self.invariant.0 in
     told_as told told [] (tick_told c.args.now c.args.self.now) (sym none ∙ ap (tick_told c.args.now) c.self.view_is) (told_nothing told)
 
 pub returns-then-until-self-clause-network : goal.returns-then-until-self-clause-network
 returns-then-until-self-clause-network g c =
     let n = c.self.inside in
-    let is = early_ledger c.args.now c.max-until.result n.wake n.ledger (omega (arith, c.max-until.ensures, c.moment.ensures)) (omega arith) c.self.invariant in
+    let is = early_ledger c.args.now c.max-until.result n.wake n.ledger (omega (arith, c.max-until.ensures, c.moment.ensures)) (omega arith) c.self.invariant.0 in
     ap (λ (b : Book). let m : Ledger = record n.ledger { monitor = b } in m) c.tick.ensures.book ∙ sym is ∙ ap (ticked c.args.now) c.self.view_is

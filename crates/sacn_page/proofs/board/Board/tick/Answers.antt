@@ -1,6 +1,5 @@
-use Rattle.std.proofs.Common.{arith}
-use Rattle.sacn_page.proofs.Losses.{ticked_at}
+use Rattle.sacn_watch.proofs.Ticking.{is_ticked}
 use Rattle.sacn_page.proofs.board.Board.tick.Goals as goal
 
-pub returns : goal.returns
-returns c = record { ticked = ticked_at c.args.now c.args.now _ _ _ (omega arith) c.note_losses.ensures c.tick.ensures.book }
+pub returns-clause-ticked : goal.returns-clause-ticked
+returns-clause-ticked c = is_ticked c.args.now c.args.self.now.network c.tick-is_lost.new.self c.tick-is_lost.ensures.network

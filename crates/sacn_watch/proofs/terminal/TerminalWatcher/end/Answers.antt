@@ -3,8 +3,8 @@ use Rattle.sacn_watch.proofs.terminal.TerminalWatcher.end.Goals as goal
 
 pub returns-in_ok-flush : goal.returns-in_ok-flush
 returns-in_ok-flush g c =
-    let old = c.args.self.now.view.monitor in
-    let new = c.tick.new.self.monitor in
+    let old = c.args.self.now.view.network.monitor in
+    let new = c.tick.new.self.network.monitor in
     record {
       handed = λ calls was. record {
         book = shown_ticked calls c.args.now old new was.book was.moment c.tick.ensures.ticked;
@@ -14,8 +14,8 @@ returns-in_ok-flush g c =
 
 pub returns-else-len-gt0 : goal.returns-else-len-gt0
 returns-else-len-gt0 g c =
-    let old = c.args.self.now.view.monitor in
-    let new = c.tick.new.self.monitor in
+    let old = c.args.self.now.view.network.monitor in
+    let new = c.tick.new.self.network.monitor in
     record {
       handed = λ calls was. record {
         book = shown_ticked calls c.args.now old new was.book was.moment c.tick.ensures.ticked;

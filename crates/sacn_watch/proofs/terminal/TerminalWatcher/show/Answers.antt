@@ -1,14 +1,14 @@
 use Rattle.std.proofs.Common.{sym, subst, ap, ◌∙◌, ◌∷◌}
-use Rattle.sacn_monitor.specs.Books.{Book}
 use Rattle.sacn_monitor.specs.Histories.{Tick}
 use Rattle.sacn_explain.specs.Following.{Follows}
+use Rattle.sacn_network.specs.declared.ledger.Ledger.{Ledger}
 use Rattle.sacn_watch.proofs.Following.{shown_ticked, ticked_at, whatever}
 use Rattle.sacn_watch.proofs.terminal.TerminalWatcher.show.Goals as goal
 
 pub returns-then-now-self : goal.returns-then-now-self
 returns-then-now-self g c =
-    let old = c.args.self.now.view.monitor in
-    let new = c.tick.new.self.monitor in
+    let old = c.args.self.now.view.network.monitor in
+    let new = c.tick.new.self.network.monitor in
     record {
       handed = λ calls was. record {
         book = shown_ticked calls c.args.now old new was.book was.moment c.tick.ensures.ticked;
@@ -18,12 +18,12 @@ returns-then-now-self g c =
 
 pub returns : goal.returns
 returns g c =
-    let old = c.args.self.now.view.monitor in
-    let new = c.tick.new.self.monitor in
+    let old = c.args.self.now.view.network.monitor in
+    let new = c.tick.new.self.network.monitor in
     record {
       handed = whatever c.draw.result
           (λ calls was. record {
-            book = subst (Follows (Tick c.args.now ∷ calls)) (sym c.draw.ensures) (shown_ticked calls c.args.now old new was.book was.moment c.tick.ensures.ticked);
-            moment = ap (λ (b : Book). b.moment) c.draw.ensures ∙ ticked_at calls c.args.now old new was.book was.moment c.tick.ensures.clock;
+            book = subst (Follows (Tick c.args.now ∷ calls)) (sym (ap (λ (n : Ledger). n.monitor) c.draw.ensures)) (shown_ticked calls c.args.now old new was.book was.moment c.tick.ensures.ticked);
+            moment = ap (λ (n : Ledger). n.monitor.moment) c.draw.ensures ∙ ticked_at calls c.args.now old new was.book was.moment c.tick.ensures.clock;
           });
     }

@@ -3,8 +3,8 @@ use Rattle.sacn_watch.proofs.terminal.TerminalWatcher.take.Goals as goal
 
 pub returns : goal.returns
 returns g c =
-    let old = c.args.self.now.view.monitor in
-    let new = c.take.new.self.monitor in
+    let old = c.args.self.now.view.network.monitor in
+    let new = c.take.new.self.network.monitor in
     record {
       handed = λ calls was. record {
         book = shown_taken calls c.args.now old new was.book was.moment c.args.sender c.args.octets.now c.take.ensures.taken;

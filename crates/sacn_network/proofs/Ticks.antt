@@ -1,0 +1,48 @@
+-- Silence is ticks of the monitor, each at a moment that was handed in or an earlier one.
+use Rattle.std.proofs.Common.{◌≡◌, ◌≤◌, ℕ, zero, suc, min, max, Bool, true, false, cond, is_some, slice_get, Option, None, Some, refl, sym, ap, subst, ◌∙◌, arith}
+use Rattle.sacn_monitor.specs.Books.{Book, after_tick, next_loss, silent_place, told_at}
+use Rattle.sacn_network.specs.declared.ledger.Ledger.{Ledger}
+use Rattle.sacn_network.specs.declared.ledger.TheConstants.{MOST_STEPS}
+use Rattle.sacn_network.specs.Contests.{universe_of, with_contest, with_contest_in}
+use Rattle.sacn_network.specs.Losses.{after_end, after_loss, at_end, lost_place, next_end, silenced}
+use Rattle.sacn_network.specs.Networks.{ticked}
+
+-- what is told changes no account
+contest_keeps : (o : Option ℕ) (n : Ledger) → (with_contest_in o n).monitor ≡ n.monitor
+unfolding with_contest
+contest_keeps None n = refl
+contest_keeps (Some universe) n = refl
+
+loss_keeps : (o : Option ℕ) (n : Ledger) → (after_loss o n).monitor ≡ n.monitor
+loss_keeps None n = refl
+loss_keeps (Some place) n = contest_keeps (universe_of (slice_get n.monitor.streams place)) n
+
+pub end_keeps : (t : ℕ) (n : Ledger) → (after_end t n).monitor ≡ after_tick (next_end t n) n.monitor
+unfolding after_end
+end_keeps t n = loss_keeps (lost_place t n) (at_end t n)
+
+-- a clock that is already later stays
+same_tick : (t u : ℕ) (b : Book) → max b.moment t ≡ max b.moment u → after_tick t b ≡ after_tick u b
+same_tick t u b same = ap (λ (k : ℕ). let c : Book = record b { streams = told_at (silent_place k b.streams) b.streams; moment = k } in c) same
+
+-- what each such tick keeps
+module _ (Keeps : Book → Type 0) (now : ℕ) (tick : (m : ℕ) (b : Book) → m ≤ now → Keeps b → Keeps (after_tick m b)) where
+  end_by : (t : ℕ) (n : Ledger) → t ≤ max n.monitor.moment now → Keeps n.monitor → Keeps (after_end t n).monitor
+  end_by t n by kept =
+      subst Keeps (sym (end_keeps t n ∙ same_tick (next_end t n) (min now (next_end t n)) n.monitor (omega (arith, by))))
+      (tick (min now (next_end t n)) n.monitor (omega arith) kept)
+
+  silenced_by : (steps t : ℕ) (n : Ledger) → t ≤ max n.monitor.moment now → Keeps n.monitor → Keeps (silenced steps t n).monitor
+  unfolding silenced
+  silenced_by zero t n by kept = kept
+  silenced_by (suc steps) t n by kept =
+      let m : Ledger = after_end t n in
+      let later : m.monitor.moment ≡ max n.monitor.moment (next_end t n) = ap (λ (b : Book). b.moment) (end_keeps t n) in
+      let next : Keeps m.monitor = end_by t n by kept in
+      elim (is_some (lost_place t n)) as (λ more. Keeps (cond more (silenced steps t m) m).monitor) [
+        | true ↦ silenced_by steps t m (omega (arith, by, later)) next
+        | false ↦ next
+      ]
+
+  pub ticked_by : (n : Ledger) → Keeps n.monitor → Keeps (ticked now n).monitor
+  ticked_by n kept = silenced_by MOST_STEPS (max n.monitor.moment now) n (omega arith) kept
