@@ -7,6 +7,7 @@ pub mod Rivalry
 mod Padding
 mod Digits
 mod Letters
+mod ForeignTexts
 mod PlaceDigits
 mod Runs
 mod Texts

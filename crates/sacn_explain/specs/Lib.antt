@@ -8,6 +8,7 @@ pub mod Amounts
 pub mod Staging
 pub mod Contests
 pub mod Spelling
+pub mod Foreign
 pub mod Members
 pub mod Sentences
 pub mod Numbers

@@ -1,6 +1,7 @@
 -- How numbers, moments, CIDs, addresses and names are spelled.
 use Rattle.std.specs.Prelude.{ℕ, ◌-◌, ◌/◌, ◌%◌, Bool, false, ◌||◌, ◌&&◌, ◌==◌, nat_le, List, ◌++◌, length, replicate, get_or, codes, chars, decimal, encode_utf8, if◌then◌else◌}
 use Rattle.std.specs.Fmt.{digits}
+use Rattle.std.specs.Int.{w16, to_be_bytes}
 use Rattle.std.specs.List.{flat_map}
 use Rattle.std.specs.Str.{is_utf8}
 use Rattle.sacn_monitor.specs.declared.account.Sender.{Sender}
@@ -34,6 +35,13 @@ sender_text s = address_text s.address ++ (codes ":" ++ decimal s.port)
 -- milliseconds as seconds: six places, a point and three places
 unfoldable pub moment_text : ℕ → List ℕ
 moment_text moment = right 6 (decimal (moment / 1000)) ++ (codes "." ++ zeros 3 (decimal (moment % 1000)))
+
+-- four hexadecimal digits of a number: those of its octets, the high one first
+abbrev pub long_text : ℕ → List ℕ
+long_text number = octets_text (to_be_bytes w16 number)
+
+abbrev pub longs_text : List ℕ → List ℕ
+longs_text numbers = flat_map long_text numbers
 
 -- a backslash, u and four hexadecimal digits
 unfoldable pub escape_text : ℕ → List ℕ

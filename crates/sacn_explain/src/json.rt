@@ -3,7 +3,10 @@
 ghost use Rattle.std.specs.Prelude.{◌≡◌, ◌++◌, OnOk, string_bytes};
 ghost use Rattle.sacn_explain.specs.Members.{object_front, row_front, number_member, word_member, stream_members, source_members, quoted_address, key_text, sender_members};
 
+mod foreign;
+
 use crate::spelling::{push_address, push_cid, push_decimal, push_name};
+pub use foreign::push_foreign;
 use sacn_framing::up_to_nul;
 use sacn_monitor::{Sender, Stream};
 use std::alloc::AllocError;
@@ -77,7 +80,7 @@ pub fn push_source(text: &mut String, cid: &[u8; 16], name: &[u8]) -> Result<(),
 
 /// A sender: its address and port.
 #[tactic(auto, unfolding(crate::specs::Members::sender_members))]
-pub fn push_sender(text: &mut String, sender: &Sender) -> Result<(), AllocError>
+pub fn push_sender_members(text: &mut String, sender: &Sender) -> Result<(), AllocError>
     ensures { OnOk result
         (string_bytes text.new ≡ string_bytes text.old ++ sender_members sender.now) }
 {

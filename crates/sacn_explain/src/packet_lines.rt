@@ -44,7 +44,7 @@ pub fn event_line(
         Form::Json => {
             json::begin(text, now, event_key(event))?;
             json::push_stream(text, stream)?;
-            json::push_sender(text, &stream.account.sender)?;
+            json::push_sender_members(text, &stream.account.sender)?;
             json::push_number(text, "priority", u64::from(stream.account.priority))?;
             text.push('}')
         }
@@ -69,7 +69,7 @@ pub fn moved_line(
         Form::Json => {
             json::begin(text, now, "moved")?;
             json::push_stream(text, stream)?;
-            json::push_sender(text, &stream.account.sender)?;
+            json::push_sender_members(text, &stream.account.sender)?;
             text.push('}')
         }
     }
@@ -229,7 +229,7 @@ pub fn refused_line(
         }
         Form::Json => {
             json::begin(text, now, "refused")?;
-            json::push_sender(text, sender)?;
+            json::push_sender_members(text, sender)?;
             json::push_number(text, "fault", u64::from(fault.number()))?;
             json::push_word(text, "name", fault_name(fault))?;
             text.push('}')
@@ -254,7 +254,7 @@ pub fn untracked_line(
         }
         Form::Json => {
             json::begin(text, now, "untracked")?;
-            json::push_sender(text, sender)?;
+            json::push_sender_members(text, sender)?;
             text.push('}')
         }
     }

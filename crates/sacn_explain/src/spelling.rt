@@ -2,7 +2,7 @@
 
 ghost use Rattle.std.specs.Prelude.{◌≡◌, ◌≤◌, ◌*◌, ◌++◌, OnOk, length, string_bytes, chars, decimal, replicate, IsAscii};
 ghost use Rattle.std.specs.List.{flat_map};
-ghost use Rattle.sacn_explain.specs.Spelling.{flush_left, octets_text, address_text, sender_text, moment_text, escape_text, letter_text, letters_of, name_text};
+ghost use Rattle.sacn_explain.specs.Spelling.{flush_left, octets_text, address_text, sender_text, moment_text, escape_text, letter_text, letters_of, long_text, longs_text, name_text};
 
 use crate::places::{ROOM, SECONDS, put_address, put_port, put_seconds};
 use itoa::Buffer;
@@ -73,6 +73,24 @@ pub fn push_cid(text: &mut String, cid: &[u8; 16]) -> Result<(), AllocError>
 {
     let mut digits = [0; 32];
     push_written(text, cid, &mut digits)
+}
+
+/// Four digits of each number.
+pub fn push_long_digits(text: &mut String, numbers: &[u16]) -> Result<(), AllocError>
+    ensures { OnOk result
+        (string_bytes text.new ≡ string_bytes text.old ++ longs_text numbers.now) }
+{
+    for number in numbers {
+        push_long(text, *number)?;
+    }
+    Ok(())
+}
+
+fn push_long(text: &mut String, number: u16) -> Result<(), AllocError>
+    ensures { OnOk result (string_bytes text.new ≡ string_bytes text.old ++ long_text number) }
+{
+    let mut digits = [0; 4];
+    push_written(text, &number.to_be_bytes(), &mut digits)
 }
 
 /// A number in decimals: the same as a formatter writes, without one.
@@ -174,15 +192,15 @@ fn push_letter(text: &mut String, letter: char) -> Result<(), AllocError>
     match letter {
         '"' => text.push_str("\\\""),
         '\\' => text.push_str("\\\\"),
-        '\0'..='\u{1f}' | '\u{7f}'..='\u{9f}' => push_escape(text, letter),
+        '\0'..='\u{1f}' | '\u{7f}'..='\u{9f}' => push_escape(text, letter as u16),
         _ => text.push(letter),
     }
 }
 
+/// A unit of UTF-16 as an escape of JSON (RFC 8259, 7).
 #[tactic(auto, unfolding(crate::specs::Spelling::escape_text), using(crate::proofs::Padding::zeros_is))]
-fn push_escape(text: &mut String, letter: char) -> Result<(), AllocError>
-    ensures { OnOk result (string_bytes text.new ≡ string_bytes text.old ++ escape_text letter) }
+pub fn push_escape(text: &mut String, unit: u16) -> Result<(), AllocError>
+    ensures { OnOk result (string_bytes text.new ≡ string_bytes text.old ++ escape_text unit) }
 {
-    let code = letter as u32;
-    write!(text, "\\u{code:04x}")
+    write!(text, "\\u{unit:04x}")
 }

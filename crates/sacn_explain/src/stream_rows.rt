@@ -134,11 +134,12 @@ fn push_origin(text: &mut String, stream: &Stream) -> Result<(), AllocError>
         (string_bytes text.new ≡ string_bytes text.old ++ origin_members stream.now) }
 {
     json::push_stream(text, stream)?;
-    json::push_sender(text, &stream.account.sender)
+    json::push_sender_members(text, &stream.account.sender)
 }
 
+/// The state of a source at a moment, its priority, and when it was heard first and last.
 #[tactic(auto, unfolding(crate::specs::StreamRows::state_members))]
-fn push_state_members(text: &mut String, moment: u64, stream: &Stream) -> Result<(), AllocError>
+pub fn push_state_members(text: &mut String, moment: u64, stream: &Stream) -> Result<(), AllocError>
     ensures { OnOk result
         (string_bytes text.new ≡ string_bytes text.old ++ state_members moment stream.now) }
 {
@@ -149,8 +150,9 @@ fn push_state_members(text: &mut String, moment: u64, stream: &Stream) -> Result
     json::push_number(text, "last", account.latest)
 }
 
+/// The counts of a source: its packets by kind, what was skipped, late and repeated, and the packets of its latest second.
 #[tactic(auto, unfolding(crate::specs::StreamRows::counts_members))]
-fn push_counts(text: &mut String, moment: u64, stream: &Stream) -> Result<(), AllocError>
+pub fn push_counts(text: &mut String, moment: u64, stream: &Stream) -> Result<(), AllocError>
     ensures { OnOk result
         (string_bytes text.new ≡ string_bytes text.old ++ counts_members moment stream.now) }
 {

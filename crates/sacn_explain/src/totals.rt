@@ -21,8 +21,8 @@ pub fn counts_row(text: &mut String, form: Form, report: &Report) -> Result<(), 
     }
 }
 
-// The sum of counts, at most what 64 bits hold.
-fn total(counts: &[u64]) -> u64
+/// The sum of counts, at most what 64 bits hold.
+pub fn total(counts: &[u64]) -> u64
     ensures { result ≡ min (sum counts.now) (2 ^ 64 - 1) }
 {
     let mut sum = 0_u64;

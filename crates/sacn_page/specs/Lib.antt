@@ -3,3 +3,5 @@ pub mod HostNames
 pub mod Marks
 pub mod Feeds
 pub mod Places
+pub mod Documents
+pub mod AlarmTexts

@@ -1,7 +1,8 @@
 //! What each request is answered.
 
-use crate::document::{Extent, Given, push_document, push_facts};
+use crate::document::{Extent, Given, push_document};
 use crate::markup::{Subject, page};
+use crate::members::push_facts;
 use crate::request::{Asked, Refusal};
 use crate::response::{Kind, event_stream_head, refusal_response, whole};
 use crate::scene::Scene;

@@ -1,16 +1,24 @@
 //! The document of a viewer, and what changed in it (docs/FILES.md tells its members).
 
-use crate::alarms::{push_alarm, push_name};
+ghost use Rattle.std.specs.Prelude.{◌≡◌, ◌++◌, ◌+◌, OnOk, IfOk, true, length, codes, string_bytes};
+ghost use Rattle.sacn_explain.specs.Numbers.{numbers_member};
+ghost use Rattle.sacn_page.specs.AlarmTexts.{alarms_member};
+ghost use Rattle.sacn_page.specs.Documents.{Tells, before_row, counts_member, counts_object, counts_of, digits_member, long_digits_member, row_object, row_of, sources_member, universe_member};
+ghost use Rattle.sacn_page.specs.declared.document.Extent.TheVariants.{Whole};
+
+use crate::alarms::{Alarms, push_alarms_member};
 use crate::board::Board;
-use crate::json::{
-    push_digits, push_foreign, push_long_digits, push_number, push_numbers, push_word,
-};
 use crate::marks::marks_of;
+use crate::members::{
+    push_digits_member, push_facts, push_first_number, push_long_digits_member, push_row,
+    push_universe_member,
+};
 use crate::scene::Facts;
+use sacn_explain::{push_key, push_number, push_numbers, total};
 use sacn_monitor::{State, Stream, Tally};
+use sacn_network::LitUniverse;
 use sacn_universe::SLOTS;
 use std::alloc::{AllocError, Global};
-use std::fmt::Write;
 
 /// A source on a universe, as a viewer sees it at a moment.
 #[derive(Clone, Copy, PartialEq, Eq)]
@@ -71,7 +79,9 @@ impl Given {
 }
 
 impl Row {
-    fn of(stream: &Stream, moment: u64) -> Self {
+    fn of(stream: &Stream, moment: u64) -> Self
+        ensures { result ≡ row_of moment stream.now }
+    {
         Row {
             stream: *stream,
             state: stream.state(moment),
@@ -81,37 +91,16 @@ impl Row {
 }
 
 impl Counts {
-    fn of(tally: &Tally) -> Self {
-        let mut refused = 0_u64;
-        for count in &tally.refused {
-            refused = refused.saturating_add(*count);
-        }
+    fn of(tally: &Tally) -> Self
+        ensures { result ≡ counts_of tally.now }
+    {
         Counts {
             datagrams: tally.datagrams,
-            refused,
+            refused: total(&tally.refused),
             pages: tally.pages,
             untracked: tally.untracked,
         }
     }
-}
-
-/// Writes what is known of a recording as a whole, as an object.
-///
-/// Errors: a growth was refused.
-pub fn push_facts(text: &mut String, facts: &Facts) -> Result<(), AllocError> {
-    text.push_str("{\"name\":\"")?;
-    push_foreign(text, facts.name.as_bytes())?;
-    text.push('"')?;
-    push_number(text, "length", facts.length)?;
-    match facts.fault {
-        Some(fault) => {
-            let kind = fault.kind;
-            write!(text, ",\"fault\":{{\"octet\":{}", fault.at)?;
-            write!(text, ",\"name\":\"{kind:?}\"}}")?;
-        }
-        None => text.push_str(",\"fault\":null")?,
-    }
-    text.push('}')
 }
 
 /// Writes the document of a viewer that names this universe, or none, and notes what was given; of a recording with what is known of
@@ -127,18 +116,21 @@ pub fn push_document(
     extent: Extent,
 ) -> Result<bool, AllocError> {
     let moment = board.monitor().moment();
-    write!(text, "{{\"ms\":{moment}")?;
+    let streams = board.monitor().streams();
+    let universe = board.chosen_universe(named);
+    push_first_number(text, "ms", moment)?;
     if let Some(facts) = facts {
-        text.push_str(",\"recording\":")?;
+        push_key(text, "recording")?;
         push_facts(text, facts)?;
     }
     let start = text.len();
-    push_universe(text, board.chosen_universe(named), given, extent)?;
-    push_heard(text, board.universes_heard(), given, extent)?;
-    push_rows(text, board.monitor().streams(), moment, given, extent)?;
-    push_lit(text, board, given, extent)?;
-    push_alarms(text, board, given, extent)?;
-    push_counts(text, board.monitor().tally(), given, extent)?;
+    push_universe(text, universe, &mut given.universe, extent)?;
+    push_heard(text, board.universes_heard(), &mut given.heard, extent)?;
+    push_rows(text, streams, moment, &mut given.rows, extent)?;
+    push_lit(text, board, universe, given, extent)?;
+    push_alarms(text, streams, board.alarms(), &mut given.alarms, extent)?;
+    let counts = Counts::of(board.monitor().tally());
+    push_counts(text, &counts, &mut given.counts, extent)?;
     let is_more = text.len() > start;
     text.push('}')?;
     Ok(is_more)
@@ -147,62 +139,71 @@ pub fn push_document(
 fn push_universe(
     text: &mut String,
     universe: Option<u16>,
-    given: &mut Given,
+    given: &mut Option<u16>,
     extent: Extent,
-) -> Result<(), AllocError> {
-    if (extent == Extent::Changes) & (given.universe == universe) {
+) -> Result<(), AllocError>
+    ensures told { OnOk result (Tells extent given.old universe
+        (universe_member universe) (string_bytes text.old) (string_bytes text.new)) }
+    ensures given { OnOk result (given.new ≡ universe) }
+{
+    if (extent == Extent::Changes) & (*given == universe) {
         return Ok(());
     }
-    given.universe = universe;
-    match universe {
-        Some(universe) => push_number(text, "universe", u64::from(universe)),
-        None => text.push_str(",\"universe\":null"),
-    }
+    *given = universe;
+    push_universe_member(text, universe)
 }
 
 fn push_heard(
     text: &mut String,
     heard: &[u16],
-    given: &mut Given,
+    given: &mut Vec<u16>,
     extent: Extent,
-) -> Result<(), AllocError> {
-    if (extent == Extent::Changes) & (given.heard.as_slice() == heard) {
+) -> Result<(), AllocError>
+    ensures told { OnOk result (Tells extent given.old.items heard.now
+        (numbers_member (codes "heard") heard.now) (string_bytes text.old) (string_bytes text.new)) }
+    ensures given { OnOk result (given.new.items ≡ heard.now) }
+{
+    if (extent == Extent::Changes) & (given.as_slice() == heard) {
         return Ok(());
     }
-    given.heard.clear();
-    given.heard.extend_from_slice(heard)?;
-    text.push_str(",\"heard\":")?;
-    push_numbers(text, heard)
+    given.clear();
+    given.extend_from_slice(heard)?;
+    push_numbers(text, "heard", heard)
 }
 
-// The rows that aren't as they were given.
+// The rows that aren't as they were given: all where none was.
 fn push_rows(
     text: &mut String,
     streams: &[Stream],
     moment: u64,
-    given: &mut Given,
+    given: &mut Vec<Row>,
     extent: Extent,
-) -> Result<(), AllocError> {
+) -> Result<(), AllocError>
+    ensures first { length given.old.items ≡ 0 → extent ≡ Whole → OnOk result
+        (string_bytes text.new ≡ string_bytes text.old ++ sources_member moment streams.now) }
+{
     let mut is_first = true;
-    for (place, stream) in streams.iter().enumerate() {
-        let row = Row::of(stream, moment);
-        if note_row(&mut given.rows, place, row)? {
-            text.push_str(if is_first { ",\"sources\":[" } else { "," })?;
+    for place in 0..streams.len() {
+        let stream = &streams[place];
+        if note_row(given, place, Row::of(stream, moment))? {
+            push_listed(text, is_first, moment, place, stream)?;
             is_first = false;
-            push_row(text, place, &row)?;
         }
     }
     if !is_first {
         return text.push(']');
     }
     if extent == Extent::Whole {
-        return text.push_str(",\"sources\":[]");
+        return push_no_row(text);
     }
     Ok(())
 }
 
 // Notes a row at a place, and returns whether it is another one.
-fn note_row(rows: &mut Vec<Row>, place: usize, row: Row) -> Result<bool, AllocError> {
+fn note_row(rows: &mut Vec<Row>, place: usize, row: Row) -> Result<bool, AllocError>
+    ensures new { IfOk result (λ is_other. length rows.old.items ≡ place
+        → (is_other ≡ true) × (length rows.new.items ≡ place + 1)) }
+{
     match rows.get_mut(place) {
         Some(given) if *given == row => Ok(false),
         Some(given) => {
@@ -216,109 +217,141 @@ fn note_row(rows: &mut Vec<Row>, place: usize, row: Row) -> Result<bool, AllocEr
     }
 }
 
-fn state_word(state: State) -> &'static str {
-    match state {
-        State::Sending => "sending",
-        State::Ended => "ended",
-        State::Lost => "lost",
-    }
+// The first source that is written, or one behind others.
+fn push_listed(
+    text: &mut String,
+    is_first: bool,
+    moment: u64,
+    place: usize,
+    stream: &Stream,
+) -> Result<(), AllocError>
+    ensures { OnOk result (string_bytes text.new
+        ≡ string_bytes text.old ++ (before_row is_first ++ row_object moment place stream.now)) }
+{
+    text.push_str(if is_first { ",\"sources\":[" } else { "," })?;
+    push_row(text, moment, place, stream)
 }
 
-fn push_row(text: &mut String, place: usize, row: &Row) -> Result<(), AllocError> {
-    let account = &row.stream.account;
-    write!(text, "{{\"place\":{place}")?;
-    push_number(text, "universe", u64::from(row.stream.universe))?;
-    text.push_str(",\"cid\":\"")?;
-    push_digits(text, &row.stream.cid)?;
-    text.push_str("\",\"name\":\"")?;
-    push_name(text, account)?;
-    let [a, b, c, d] = account.sender.address;
-    write!(text, "\",\"address\":\"{a}.{b}.{c}.{d}\"")?;
-    push_number(text, "port", u64::from(account.sender.port))?;
-    push_word(text, "state", state_word(row.state))?;
-    push_number(text, "priority", u64::from(account.priority))?;
-    push_number(text, "first", account.first)?;
-    push_number(text, "last", account.latest)?;
-    push_number(text, "live", account.kinds.live)?;
-    push_number(text, "preview", account.kinds.previews)?;
-    push_number(text, "terminated", account.kinds.terminations)?;
-    push_number(text, "other", account.kinds.others)?;
-    push_number(text, "skipped", account.skipped)?;
-    push_number(text, "late", account.late)?;
-    push_number(text, "repeated", account.repeats)?;
-    push_number(text, "gap", account.greatest_gap)?;
-    push_number(text, "last_second", row.last_second)?;
-    text.push('}')
+fn push_no_row(text: &mut String) -> Result<(), AllocError>
+    ensures { OnOk result
+        (string_bytes text.new ≡ string_bytes text.old ++ codes ",\"sources\":[]") }
+{
+    text.push_str(",\"sources\":[]")
+}
+
+fn find_lit(board: &Board, universe: Option<u16>) -> Option<&LitUniverse> {
+    match universe {
+        Some(universe) => board.find_lit(universe),
+        None => None,
+    }
 }
 
 // The levels of the chosen universe, and who gives them.
 fn push_lit(
     text: &mut String,
     board: &Board,
+    universe: Option<u16>,
     given: &mut Given,
     extent: Extent,
 ) -> Result<(), AllocError> {
-    let mut levels = [0; SLOTS];
-    let mut winners = [0; SLOTS];
-    if let Some(universe) = given.universe {
-        if let Some(lit) = board.find_lit(universe) {
-            levels = *lit.levels();
-            winners = marks_of(&lit.places(board.monitor()));
+    match find_lit(board, universe) {
+        Some(lit) => {
+            push_levels(text, lit.levels(), &mut given.levels, extent)?;
+            let winners = marks_of(&lit.places(board.monitor()));
+            push_winners(text, &winners, &mut given.winners, extent)
+        }
+        None => {
+            push_levels(text, &[0; SLOTS], &mut given.levels, extent)?;
+            push_winners(text, &[0; SLOTS], &mut given.winners, extent)
         }
     }
-    if (extent == Extent::Whole) | (given.levels != levels) {
-        given.levels = levels;
-        text.push_str(",\"levels\":\"")?;
-        push_digits(text, &levels)?;
-        text.push('"')?;
+}
+
+fn push_levels(
+    text: &mut String,
+    levels: &[u8; SLOTS],
+    given: &mut [u8; SLOTS],
+    extent: Extent,
+) -> Result<(), AllocError>
+    ensures told { OnOk result (Tells extent given.old levels.now
+        (digits_member (codes "levels") levels.now) (string_bytes text.old) (string_bytes text.new)) }
+    ensures given { OnOk result (given.new ≡ levels.now) }
+{
+    if (extent == Extent::Changes) & (*given == *levels) {
+        return Ok(());
     }
-    if (extent == Extent::Whole) | (given.winners != winners) {
-        given.winners = winners;
-        text.push_str(",\"winners\":\"")?;
-        push_long_digits(text, &winners)?;
-        text.push('"')?;
+    *given = *levels;
+    push_digits_member(text, "levels", levels)
+}
+
+fn push_winners(
+    text: &mut String,
+    winners: &[u16; SLOTS],
+    given: &mut [u16; SLOTS],
+    extent: Extent,
+) -> Result<(), AllocError>
+    ensures told { OnOk result (Tells extent given.old winners.now
+        (long_digits_member (codes "winners") winners.now) (string_bytes text.old) (string_bytes text.new)) }
+    ensures given { OnOk result (given.new ≡ winners.now) }
+{
+    if (extent == Extent::Changes) & (*given == *winners) {
+        return Ok(());
     }
-    Ok(())
+    *given = *winners;
+    push_long_digits_member(text, "winners", winners)
 }
 
 fn push_alarms(
     text: &mut String,
-    board: &Board,
-    given: &mut Given,
+    streams: &[Stream],
+    alarms: &Alarms,
+    given: &mut u64,
     extent: Extent,
-) -> Result<(), AllocError> {
-    let alarms = board.alarms().after(given.alarms);
-    if (extent == Extent::Changes) & (given.alarms == board.alarms().count()) {
+) -> Result<(), AllocError>
+    ensures told { OnOk result (Tells extent given.old alarms.now.count
+        (alarms_member given.old streams.now alarms.now) (string_bytes text.old) (string_bytes text.new)) }
+    ensures given { OnOk result (given.new ≡ alarms.now.count) }
+{
+    if (extent == Extent::Changes) & (*given == alarms.count()) {
         return Ok(());
     }
-    given.alarms = board.alarms().count();
-    text.push_str(",\"alarms\":[")?;
-    let mut comma = "";
-    for alarm in alarms {
-        text.push_str(comma)?;
-        comma = ",";
-        push_alarm(text, alarm, board.monitor().streams())?;
-    }
-    text.push(']')?;
-    match board.alarms().left_out() {
-        0 => Ok(()),
-        count => push_number(text, "alarms_left_out", count),
-    }
+    let before = *given;
+    *given = alarms.count();
+    push_alarms_member(text, before, streams, alarms)
 }
 
 fn push_counts(
     text: &mut String,
-    tally: &Tally,
-    given: &mut Given,
+    counts: &Counts,
+    given: &mut Counts,
     extent: Extent,
-) -> Result<(), AllocError> {
-    let counts = Counts::of(tally);
-    if (extent == Extent::Changes) & (given.counts == counts) {
+) -> Result<(), AllocError>
+    ensures told { OnOk result (Tells extent given.old counts.now
+        (counts_member counts.now) (string_bytes text.old) (string_bytes text.new)) }
+    ensures given { OnOk result (given.new ≡ counts.now) }
+{
+    if (extent == Extent::Changes) & (*given == *counts) {
         return Ok(());
     }
-    given.counts = counts;
-    let datagrams = counts.datagrams;
-    write!(text, ",\"counts\":{{\"datagrams\":{datagrams}")?;
+    *given = *counts;
+    push_counts_member(text, counts)
+}
+
+#[tactic(auto, unfolding(crate::specs::Documents::counts_member))]
+fn push_counts_member(text: &mut String, counts: &Counts) -> Result<(), AllocError>
+    ensures { OnOk result
+        (string_bytes text.new ≡ string_bytes text.old ++ counts_member counts.now) }
+{
+    push_key(text, "counts")?;
+    push_counts_object(text, counts)
+}
+
+#[tactic(auto, unfolding(crate::specs::Documents::counts_object))]
+fn push_counts_object(text: &mut String, counts: &Counts) -> Result<(), AllocError>
+    ensures { OnOk result
+        (string_bytes text.new ≡ string_bytes text.old ++ counts_object counts.now) }
+{
+    push_first_number(text, "datagrams", counts.datagrams)?;
     push_number(text, "refused", counts.refused)?;
     push_number(text, "pages", counts.pages)?;
     push_number(text, "untracked", counts.untracked)?;

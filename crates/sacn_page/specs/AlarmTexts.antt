@@ -1,0 +1,102 @@
+-- What is said of the things that went wrong.
+use Rattle.std.specs.List.{join_by}
+use Rattle.std.specs.Prelude.{ℕ, ◌-◌, ◌==◌, nat_le, List, [], ◌++◌, length, drop, codes, decimal, position, slice_get, option_and_then, Option, None, Some, if◌then◌else◌}
+use Rattle.sacn_root.specs.declared.fault.PacketFault.{PacketFault}
+use Rattle.sacn_monitor.specs.declared.account.Sender.{Sender}
+use Rattle.sacn_monitor.specs.declared.stream.Stream.{Stream}
+use Rattle.sacn_explain.specs.Foreign.{foreign_text}
+use Rattle.sacn_explain.specs.Members.{key_text, name_of, number_member, word_member}
+use Rattle.sacn_explain.specs.Refusals.{fault_words}
+use Rattle.sacn_explain.specs.Sentences.{stop_words}
+use Rattle.sacn_explain.specs.Spelling.{sender_text}
+use Rattle.sacn_page.specs.declared.alarms.Alarm.{Alarm}
+use Rattle.sacn_page.specs.declared.alarms.Alarms.{Alarms}
+use Rattle.sacn_page.specs.declared.alarms.Trouble.{Trouble}
+use Rattle.sacn_page.specs.declared.alarms.Trouble.TheVariants.{Lost, Ended, CameBack, Skipped, Late, Refused, Stopped, Rivals}
+use Rattle.sacn_page.specs.Documents.{first_number}
+
+-- what happened, in a word
+abbrev pub kind_word : Trouble → List ℕ
+kind_word (Lost place) = codes "lost"
+kind_word (Ended place) = codes "ended"
+kind_word (CameBack place) = codes "came_back"
+kind_word (Skipped place count) = codes "skipped"
+kind_word (Late place) = codes "late"
+kind_word (Refused sender fault) = codes "refused"
+kind_word (Stopped millis) = codes "stopped"
+kind_word (Rivals contest) = codes "rivals"
+
+-- the place of the source that it is about
+abbrev pub place_of : Trouble → Option ℕ
+place_of (Lost place) = Some place
+place_of (Ended place) = Some place
+place_of (CameBack place) = Some place
+place_of (Skipped place count) = Some place
+place_of (Late place) = Some place
+place_of (Refused sender fault) = None
+place_of (Stopped millis) = None
+place_of (Rivals contest) = None
+
+unfoldable pub skipped_words : ℕ → List ℕ
+skipped_words count = if count == 1 then codes " skipped a number" else codes " skipped " ++ (decimal count ++ codes " numbers")
+
+-- why a datagram is no packet (E1.31, 4.3), and where it came from
+unfoldable pub refused_words : Sender → PacketFault → List ℕ
+refused_words sender fault = codes "a datagram of " ++ (sender_text sender ++ (codes " is refused: " ++ fault_words fault))
+
+-- that sources share the top priority of a universe (E1.31, 6.2.3)
+unfoldable pub rivals_words : ℕ → ℕ → ℕ → List ℕ
+rivals_words universe sources priority =
+    codes "universe " ++ (decimal universe ++ (codes ": " ++ (decimal sources ++ (codes " sources share the top priority " ++ decimal priority))))
+
+-- what a person reads of it
+abbrev pub trouble_words : Trouble → List ℕ
+trouble_words (Lost place) = codes " is lost"
+trouble_words (Ended place) = codes " ended its stream"
+trouble_words (CameBack place) = codes " is back"
+trouble_words (Skipped place count) = skipped_words count
+trouble_words (Late place) = codes " sent a packet out of sequence"
+trouble_words (Refused sender fault) = refused_words sender fault
+trouble_words (Stopped millis) = stop_words millis
+trouble_words (Rivals contest) = rivals_words contest.universe contest.sources contest.priority
+
+-- a source by its universe and name (E1.31, 6.2.2)
+unfoldable pub source_words : Stream → List ℕ
+source_words s = codes "universe " ++ (decimal s.universe ++ (codes ": " ++ foreign_text (name_of s)))
+
+abbrev pub named : Option Stream → List ℕ
+named None = []
+named (Some s) = source_words s
+
+-- the source that it is about, where it is about one of these
+abbrev pub about : List Stream → Trouble → List ℕ
+about streams trouble = named (option_and_then (λ place. slice_get streams place) (place_of trouble))
+
+unfoldable pub alarm_front : Alarm → List ℕ
+alarm_front a = first_number (codes "ms") a.moment ++ word_member (codes "kind") (kind_word a.trouble)
+
+-- a thing that happened at a moment, as an object
+unfoldable pub alarm_object : List Stream → Alarm → List ℕ
+alarm_object streams a = alarm_front a ++ (codes ",\"text\":\"" ++ (about streams a.trouble ++ (trouble_words a.trouble ++ codes "\"}")))
+
+-- with commas between them
+abbrev pub alarm_list : List Stream → List Alarm → List ℕ
+alarm_list streams alarms = join_by (alarm_object streams) (codes ",") alarms
+
+-- from a place on, where there is one
+abbrev pub from_place : List Alarm → Option ℕ → List Alarm
+from_place alarms None = []
+from_place alarms (Some place) = drop place alarms
+
+-- those before which there were so many, or more
+abbrev pub after : ℕ → List Alarm → List Alarm
+after count alarms = from_place alarms (position (λ a. nat_le count a.earlier) alarms)
+
+-- how many aren't kept, where there are any
+abbrev pub left_out_member : ℕ → List ℕ
+left_out_member count = if count == 0 then [] else number_member (codes "alarms_left_out") count
+
+-- the alarms behind the first so many, as far as they are kept
+unfoldable pub alarms_member : ℕ → List Stream → Alarms → List ℕ
+alarms_member given streams a =
+    key_text (codes "alarms") ++ (codes "[" ++ (alarm_list streams (after given a.latest.items) ++ (codes "]" ++ left_out_member (a.count - length a.latest.items))))
