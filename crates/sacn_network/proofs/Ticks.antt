@@ -1,6 +1,6 @@
 -- Silence is ticks of the monitor, each at a moment that was handed in or an earlier one.
-use Rattle.std.proofs.Common.{◌≡◌, ◌≤◌, ℕ, zero, suc, min, max, Bool, true, false, cond, is_some, slice_get, Option, None, Some, refl, sym, ap, subst, ◌∙◌, arith}
-use Rattle.sacn_monitor.specs.Books.{Book, after_tick, next_loss, silent_place, told_at}
+use Rattle.std.proofs.Common.{◌≡◌, ◌≤◌, ℕ, zero, suc, min, max, true, false, cond, is_some, slice_get, Option, None, Some, refl, sym, ap, subst, ◌∙◌, arith}
+use Rattle.sacn_monitor.specs.Books.{Book, after_tick, silent_place, told_at}
 use Rattle.sacn_network.specs.declared.ledger.Ledger.{Ledger}
 use Rattle.sacn_network.specs.declared.ledger.TheConstants.{MOST_STEPS}
 use Rattle.sacn_network.specs.Contests.{universe_of, with_contest, with_contest_in}
