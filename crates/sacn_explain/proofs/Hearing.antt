@@ -8,7 +8,9 @@ use Rattle.sacn_monitor.specs.Books.{Book, after_tick, silent_place}
 use Rattle.sacn_explain.specs.declared.contests.Contests.{Contests}
 use Rattle.sacn_explain.specs.declared.options.Form.{Form}
 use Rattle.sacn_explain.specs.declared.teller.Teller.{Teller}
-use Rattle.sacn_explain.specs.Occurrences.{is_contested, lost_stream, loss_told, packet_told, rivals_told, stirred_told, stirs}
+use Rattle.sacn_network.specs.Contests.{is_contested}
+use Rattle.sacn_network.specs.Packets.{stirs}
+use Rattle.sacn_explain.specs.Occurrences.{lost_stream, loss_told, packet_told, rivals_told, stirred_told}
 use Rattle.sacn_explain.specs.PacketLines.{loss_line}
 use Rattle.sacn_explain.specs.Tellings.{Tells, with_line_end, news_told}
 use Rattle.sacn_explain.specs.Choice.{is_wanted}

@@ -1,8 +1,6 @@
 -- Which lines are told of each thing that happens.
-use Rattle.std.specs.Prelude.{ℕ, nat_le, Bool, true, false, not, ◌||◌, ◌==◌, is_some, List, [], ◌++◌, slice_get, Option, None, Some, if◌then◌else◌}
+use Rattle.std.specs.Prelude.{ℕ, Bool, not, List, [], ◌++◌, slice_get, Option, None, Some, if◌then◌else◌}
 use Rattle.std.specs.Option.{option_and_then}
-use Rattle.sacn_monitor.specs.declared.news.Event.{Event}
-use Rattle.sacn_monitor.specs.declared.news.Event.TheVariants.{GoesOn, Appeared, CameBack, Ended, OutOfSequence, Repeated}
 use Rattle.sacn_monitor.specs.declared.news.News.{News}
 use Rattle.sacn_monitor.specs.declared.news.Noted.{Noted}
 use Rattle.sacn_monitor.specs.declared.news.Noted.TheVariants.{Refused, Page, Sync, Untracked, Heard}
@@ -10,6 +8,8 @@ use Rattle.sacn_monitor.specs.declared.account.Sender.{Sender}
 use Rattle.sacn_monitor.specs.declared.stream.Stream.{Stream}
 use Rattle.sacn_monitor.specs.Books.{Book, after_tick, silent_place}
 use Rattle.sacn_monitor.specs.Rivals.{rivals, top_priority}
+use Rattle.sacn_network.specs.Contests.{is_contested}
+use Rattle.sacn_network.specs.Packets.{stirs}
 use Rattle.sacn_explain.specs.declared.contests.Contests.{Contests}
 use Rattle.sacn_explain.specs.declared.options.Form.{Form}
 use Rattle.sacn_explain.specs.Contests.{is_noted}
@@ -18,10 +18,6 @@ use Rattle.sacn_explain.specs.PacketLines.{loss_line, refused_line, untracked_li
 use Rattle.sacn_explain.specs.Tellings.{with_line_end, news_told, where_so}
 use Rattle.sacn_explain.specs.Choice.{is_wanted}
 
--- two sources or more send at the top priority of a universe
-abbrev pub is_contested : ℕ → Book → Bool
-is_contested universe b = nat_le 2 (rivals universe b.moment b.streams)
-
 -- that is otherwise than it was said
 abbrev pub is_otherwise : ℕ → Contests → Book → Bool
 is_otherwise universe c b = if is_contested universe b then not (is_noted universe c) else is_noted universe c
@@ -29,18 +25,6 @@ is_otherwise universe c b = if is_contested universe b then not (is_noted univer
 -- how many they are, where it is
 abbrev pub rivals_told : Form → ℕ → Contests → Book → List ℕ
 rivals_told form universe c b = where_so (is_otherwise universe c b) (rivals_line form b.moment universe (rivals universe b.moment b.streams) (top_priority universe b.moment b.streams))
-
-abbrev pub goes_on : Event → Bool
-goes_on GoesOn = true
-goes_on Appeared = false
-goes_on CameBack = false
-goes_on Ended = false
-goes_on OutOfSequence = false
-goes_on Repeated = false
-
--- a packet may change who sends at the top priority: its source doesn't go on, has another priority, or sends its first level for the stage
-abbrev pub stirs : Stream → News → Bool
-stirs s news = not (goes_on news.event) || is_some news.priority || (s.account.kinds.live == 1)
 
 abbrev pub stirred_told : Bool → Form → ℕ → Contests → Book → List ℕ
 stirred_told stirred form universe c b = if stirred then rivals_told form universe c b else []

@@ -10,7 +10,8 @@ use Rattle.sacn_explain.specs.declared.options.Form.{Form}
 use Rattle.sacn_explain.specs.declared.stage.Stage.{Stage}
 use Rattle.sacn_explain.specs.Choice.{is_wanted}
 use Rattle.sacn_explain.specs.Contests.{is_noted}
-use Rattle.sacn_explain.specs.Occurrences.{is_contested, loss_told, lost_stream}
+use Rattle.sacn_network.specs.Contests.{is_contested}
+use Rattle.sacn_explain.specs.Occurrences.{loss_told, lost_stream}
 use Rattle.sacn_explain.specs.Shows.{Staged, after_loss, loss_shown, staged}
 use Rattle.sacn_explain.specs.Tellings.{Tells}
 

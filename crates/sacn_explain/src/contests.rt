@@ -2,9 +2,7 @@
 
 ghost use Rattle.std.specs.Prelude.{◌≡◌, ◌==◌, ℕ, [], not, IfOk, OnOk, OnErr, filter, if◌then◌else◌};
 ghost use Rattle.sacn_explain.specs.Contests.{is_noted};
-ghost use Rattle.sacn_explain.specs.Occurrences.{stirs};
 
-use sacn_monitor::{Event, News, Stream};
 use std::alloc::{AllocError, Global};
 
 /// The universes of which it was said that two sources or more send there at the top priority.
@@ -56,11 +54,4 @@ impl Contests {
     {
         self.universes.retain(|noted| *noted != universe);
     }
-}
-
-/// Whether a packet may change who lights its universe at the top priority.
-pub fn stirs(stream: &Stream, news: &News) -> bool
-    ensures { result ≡ stirs stream.now news.now }
-{
-    (news.event != Event::GoesOn) | news.priority.is_some() | (stream.account.kinds.live == 1)
 }

@@ -30,7 +30,6 @@ mod teller;
 mod totals;
 mod words;
 
-pub use contests::stirs;
 pub use fault::ExplainFault;
 pub use follow::{Timeline, explain};
 pub use follower::Follower;

@@ -22,6 +22,7 @@ pub use network::Network;
 pub use observer::{Observer, Unobserved};
 pub use occurrence::{Contest, Occurrence, What};
 pub use places::giver_places;
+pub use stirring::stirs;
 
 #[cfg(test)]
 mod tests;

@@ -3,18 +3,19 @@
 ghost use Rattle.std.specs.Prelude.{◌≡◌, ◌==◌, ℕ, OnOk, slice_get, if◌then◌else◌};
 ghost use Rattle.sacn_explain.specs.Contests.{is_noted};
 ghost use Rattle.sacn_explain.specs.Datagrams.{datagram_told, lists_after};
-ghost use Rattle.sacn_explain.specs.Occurrences.{is_contested, noted_told, packet_told, rivals_told, stirred_told};
+ghost use Rattle.sacn_network.specs.Contests.{is_contested};
+ghost use Rattle.sacn_explain.specs.Occurrences.{noted_told, packet_told, rivals_told, stirred_told};
 ghost use Rattle.sacn_explain.specs.ListBooks as books;
 ghost use Rattle.sacn_explain.specs.ListBooks.{list_book, page_told};
 ghost use Rattle.sacn_explain.specs.KeptLists.{after_noted, after_reading, listed_in};
 ghost use Rattle.sacn_explain.specs.Tellings.{Tells};
 
 use super::Follower;
-use crate::contests::stirs;
 use crate::fault::TellFault;
 use crate::listings::PageNews;
 use sacn_framing::{Packet, Reading};
 use sacn_monitor::{News, Noted, Sender};
+use sacn_network::stirs;
 use std::io::Write;
 
 impl<'a, O: Write> Follower<'a, O> {

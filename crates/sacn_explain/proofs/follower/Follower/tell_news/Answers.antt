@@ -1,5 +1,6 @@
 use Rattle.std.proofs.Common.{◌≡◌, Some, slice_get, true, OnOk, sym}
-use Rattle.sacn_explain.specs.Occurrences.{stirred_told, stirs}
+use Rattle.sacn_network.specs.Packets.{stirs}
+use Rattle.sacn_explain.specs.Occurrences.{stirred_told}
 use Rattle.sacn_explain.specs.Tellings.{Tells, news_told}
 use Rattle.sacn_explain.specs.Choice.{is_wanted}
 use Rattle.sacn_explain.proofs.Hearing.{packet_heard, stands_at}
