@@ -170,26 +170,44 @@ def events_of(lines):
     return found
 
 
-def main():
-    sent = network()
-    file = recording(sent)
+def hear(sent):
+    """What a watch's lines and its page tell of what is sent in its own time; None where this machine came to a stand meanwhile, which both would tell."""
     runs = [start("lines", "watch", "--json", "--listen", "127.0.0.1", "--port", str(LINES))]
     runs.append(start("live", "watch", "--listen", "127.0.0.1", "--port", str(LIVE), "--page", str(LIVE_PAGE)))
-    runs.append(start("page", "explain", "--page", str(PAGE), file))
     try:
-        verdict("pages are served", served(LIVE_PAGE) is not None and served(PAGE) is not None)
+        served(LIVE_PAGE)
         hears(LINES)
         hears(LIVE)
-        sender, begin = socket.socket(socket.AF_INET, socket.SOCK_DGRAM), time.monotonic()
+        sender, begin, latest = socket.socket(socket.AF_INET, socket.SOCK_DGRAM), time.monotonic(), 0
         for moment, octets in sent:
             time.sleep(max(0, begin + moment / 1000 - time.monotonic()))
+            latest = max(latest, time.monotonic() - begin - moment / 1000)
             for port in (LINES, LIVE):
                 sender.sendto(octets, ("127.0.0.1", port))
         live = {universe: state(LIVE_PAGE, universe) for universe in LIT[END]}
         runs[0].stdin.close()
         runs[0].wait(20)
+        heard = lines_of("lines.out")
+        stood = latest > 0.5 or any(it["kind"] == "stopped" for it in live[1]["alarms"]) or any(it.get("event") == "stopped" for it in heard)
+        return None if stood else (live, heard)
+    finally:
+        for run in runs:
+            run.kill()
+            run.wait()
+
+
+def main():
+    sent = network()
+    file = recording(sent)
+    live, heard = next(filter(None, (hear(sent) for _ in range(5))), (None, None))
+    if live is None:
+        print("skipped views: this machine comes to a stand", flush=True)
+        return
+    runs = [start("page", "explain", "--page", str(PAGE), file)]
+    try:
+        verdict("a recording's page is served", served(PAGE) is not None)
         explained = subprocess.run([SACN, "explain", "--json", file], capture_output=True, encoding="utf-8", check=False)
-        lines, heard = [json.loads(line) for line in explained.stdout.splitlines()], lines_of("lines.out")
+        lines = [json.loads(line) for line in explained.stdout.splitlines()]
         for name, all_rows in (("explain", lines), ("a watch's lines", heard)):
             rows = [it for it in all_rows if it.get("row") == "source"]
             told(name, rows, sum(it["refused"] for it in all_rows if it.get("row") == "counts"))

@@ -27,8 +27,8 @@ impl<'a> Model for DeskDatagram<'a> {
 }
 
 impl<'a> DeskDatagram<'a> {
-    /// These octets, of this universe.
-    pub(crate) fn new(octets: &'a [u8], universe: Option<u16>) -> Self
+    /// These octets, of this universe: None for a discovery page.
+    pub fn new(octets: &'a [u8], universe: Option<u16>) -> Self
         requires { universe_read (reading_packet octets.now) ≡ Some universe }
         ensures { result ≡ octets.now }
     {

@@ -6,6 +6,7 @@ ghost use Rattle.sacn_watch.specs.Pages.{FitsOn};
 use crate::levels::{lit_rows, push_levels};
 use crate::page::{Ink, Page, Row, Size};
 use crate::view::View;
+use sacn_explain::total;
 use sacn_framing::up_to_nul;
 use sacn_monitor::{Account, State, Stream};
 use std::alloc::{AllocError, Global};
@@ -87,7 +88,7 @@ fn push_alarms(alloc: Global, page: &mut Page, view: &View) -> Result<(), AllocE
         → FitsOn page.new.size page.new.rows.items }
 {
     let mut text = String::new(alloc);
-    let refused = refused_in(view);
+    let refused = total(&view.monitor().tally().refused);
     if refused > 0 {
         write!(text, "! refused datagrams: {refused}")?;
         page.push_text(alloc, text.as_str(), Ink::Alarm)?;
@@ -158,14 +159,6 @@ fn push_rivalry(text: &mut String, view: &View, stream: &Stream) -> Result<(), A
         push_name(text, &stream.account)?;
     }
     Ok(())
-}
-
-fn refused_in(view: &View) -> u64 {
-    let mut sum = 0_u64;
-    for count in &view.monitor().tally().refused {
-        sum = sum.saturating_add(*count);
-    }
-    sum
 }
 
 fn push_sources(alloc: Global, page: &mut Page, view: &View) -> Result<(), AllocError>
