@@ -246,7 +246,8 @@ fn find_lit(board: &Board, universe: Option<u16>) -> Option<&LitUniverse> {
     }
 }
 
-// The levels of the chosen universe, and who gives them.
+// The levels of the chosen universe, and who gives them. Out of line, so that its room is made ready only where a document is written.
+#[inline(never)]
 fn push_lit(
     text: &mut String,
     board: &Board,
