@@ -200,7 +200,8 @@ impl Board {
     }
 }
 
-// A universe of which nothing was heard.
+// A universe of which nothing was heard. (Out of line: its arrays aren't cleared on the way of each datagram.)
+#[inline(never)]
 fn unlit_universe(alloc: Global, universe: u16) -> Result<LitUniverse, AllocError> {
     match LitUniverse::new(alloc, universe) {
         Ok(lit) => Ok(lit),

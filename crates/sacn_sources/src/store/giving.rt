@@ -1,10 +1,9 @@
 //! Who gives each slot its level, by the entries.
 
-ghost use Rattle.std.specs.Prelude.{◌≡◌, ◌<◌, ◌≤◌, IsSome, fold, length, map, max, unwrap_or};
-ghost use Rattle.slab.specs.Slab.{get};
-ghost use Rattle.sacn_sources.specs.Givers.{first_giver, giver_in, gives, givers_of};
+ghost use Rattle.std.specs.Prelude.{◌≡◌, ◌==◌, ◌≤◌, false, None, fold, length, map, max, option_map, unwrap_or, slice_index, slice_index_or, EachIndex};
+ghost use Rattle.sacn_sources.specs.Givers.{given_to, givers_of};
 ghost use Rattle.sacn_sources.specs.Rows.{slots_of};
-ghost use Rattle.sacn_sources.specs.Storage.{row_in, rows_in, AreStored};
+ghost use Rattle.sacn_sources.specs.Storage.{rows_in, AreStored};
 
 use crate::entry::Entry;
 use crate::givers::Givers;
@@ -24,7 +23,8 @@ impl Store {
     }
 }
 
-// Who gives each slot its level, slot by slot.
+// Who gives each slot its level. Each source takes the slots that it gives, the last by CID first, so that in the end the first
+// has them: a pass over the slots for each source costs less than a search of the sources for each slot.
 fn givers_in(entries: &[Entry], frames: &Slab<Levels>, slots: &[u8; 512]) -> Givers
     requires stored { AreStored entries.now frames.now }
     requires merged { slots.now ≡ slots_of (rows_in frames.now entries.now) }
@@ -32,12 +32,38 @@ fn givers_in(entries: &[Entry], frames: &Slab<Levels>, slots: &[u8; 512]) -> Giv
 {
     let top = top_priority(entries);
     let mut places = [None; 512];
-    for slot in 0..512 {
-        places[slot] = place_of_giver(entries, frames, top, slot, slots[slot]);
+    for at in (0..entries.len()).rev() {
+        if shows_at(&entries[at], top) {
+            give(&mut places, at as u8, &frames[entries[at].key], slots);
+        }
     }
     Givers {
         cids: cids_of(entries),
         places,
+    }
+}
+
+// Whether what an entry shows is of this priority.
+fn shows_at(entry: &Entry, priority: u8) -> bool
+    ensures { result ≡ unwrap_or (option_map (λ p. p == priority) entry.now.priority) false }
+{
+    match entry.priority {
+        Some(shown) => shown == priority,
+        None => false,
+    }
+}
+
+// Gives a place the slots whose merged level is the one of its source, and above 0.
+fn give(places: &mut [Option<u8>; 512], place: u8, levels: &Levels, slots: &[u8; 512])
+    ensures { EachIndex places.new (λ slot. slice_index_or places.new slot None
+        ≡ given_to place (slice_index slots.now slot) (slice_index levels.now slot)
+            (slice_index_or places.old slot None)) }
+{
+    for slot in 0..512 {
+        let level = slots[slot];
+        if (level != 0) & (levels.at(slot) == level) {
+            places[slot] = Some(place);
+        }
     }
 }
 
@@ -60,40 +86,4 @@ fn cids_of(entries: &[Entry]) -> ArrayVec<[u8; 16], MAX_SOURCES>
         cids.push(entry.cid);
     }
     cids
-}
-
-// The place of the first entry that gives a slot this level.
-fn place_of_giver(
-    entries: &[Entry],
-    frames: &Slab<Levels>,
-    top: u8,
-    slot: usize,
-    level: u8,
-) -> Option<u8>
-    requires slot { slot < 512 }
-    requires stored { AreStored entries.now frames.now }
-    ensures { giver_in (map (λ e. e.cid) entries.now) result
-        ≡ first_giver top slot level (rows_in frames.now entries.now) }
-{
-    if level == 0 {
-        return None;
-    }
-    for at in 0..entries.len() {
-        if gives(&entries[at], frames, top, slot, level) {
-            return Some(at as u8);
-        }
-    }
-    None
-}
-
-// Whether what an entry shows is of this priority, and has this level at a slot.
-fn gives(entry: &Entry, frames: &Slab<Levels>, top: u8, slot: usize, level: u8) -> bool
-    requires slot { slot < 512 }
-    requires stored { IsSome (get frames.now entry.now.key) }
-    ensures { result ≡ gives top slot level (row_in frames.now entry.now).shown }
-{
-    match entry.priority {
-        Some(priority) => (priority == top) && (frames[entry.key].at(slot) == level),
-        None => false,
-    }
 }

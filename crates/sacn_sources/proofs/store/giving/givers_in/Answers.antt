@@ -1,46 +1,81 @@
-use Rattle.std.proofs.Common.{◌≡◌, ◌<◌, None, List, ℕ, length, map, set, get_or, ap, sym, ◌∙◌, arith, inl, inr}
-use Rattle.std.proofs.lemmas.Bool.{cases_eq}
-use Rattle.std.proofs.lemmas.List.{length-map, length-set, get_or-map, get_or-set_same, get_or-set_other}
+use Rattle.std.proofs.Common.{◌≡◌, ℕ, ◌+◌, ◌-◌, ◌==◌, ◌&&◌, None, List, [], length, map, drop, get_or, unwrap_or, refl, sym, ap, ◌∙◌, arith}
+use Rattle.std.proofs.lemmas.List.{length-map, get_or-map, get_or-replicate, at_drop_all}
 use Rattle.std.proofs.lemmas.List.FromFn.{fill_by_all}
+use Rattle.slab.specs.Slab.{get}
 use Rattle.sacn_slots.specs.Merge.{top_priority}
 use Rattle.sacn_sources.specs.Givers.{first_giver, giver_in, giver_of, givers_of}
 use Rattle.sacn_sources.specs.Rows.{layers}
 use Rattle.sacn_sources.specs.Storage.{rows_in}
-use Rattle.sacn_sources.proofs.Giving.{top_is}
+use Rattle.sacn_sources.proofs.Giving.{gives_there, giver_before, giver_without, nobody_gives, passes, top_is}
+use Rattle.sacn_sources.proofs.Searches.{blank}
 use Rattle.sacn_sources.proofs.store.giving.givers_in.Goals as goal
 
-pub loop-slot-preserved : goal.loop-slot-preserved
-loop-slot-preserved c =
+pub loop-at-init : goal.loop-at-init
+loop-at-init c =
     let es = c.args.entries.now in
-    let rows = rows_in c.args.frames.now es in
-    let slot = c.loop-slot.slot in
-    let places = c.loop-slot.places in
-    let place = c.place_of_giver.result in
-    let cids = map (λ e. e.cid) es in
-    let within : slot < length places = omega (arith, c.loop-slot.invariant.whole, c.loop-slot-test.true) in
-    let followed : ℕ = top_priority (layers rows) in
-    let top : c.top_priority-top.result ≡ followed = c.top_priority-top.ensures ∙ top_is c.args.frames.now 0 es in
+    let fr = c.args.frames.now in
+    let top = c.top_priority-top.result in
     record {
-      whole = length-set places slot place ∙ c.loop-slot.invariant.whole;
-      so_far = λ k lt. elim (cases_eq k slot) [
-        | inl here ↦
-            ap (λ q. giver_in cids (get_or (set places slot place) q None)) here
-            ∙ ap (giver_in cids) (get_or-set_same places slot place None within)
-            ∙ c.place_of_giver.ensures
-            ∙ ap (λ t. first_giver t slot (get_or c.args.slots.now slot 0) rows) top
-            ∙ ap (λ (l : List ℕ). first_giver followed slot (get_or l slot 0) rows) c.requires.merged
-            ∙ ap (giver_of rows) (sym here)
-        | inr differs ↦ ap (giver_in cids) (get_or-set_other places slot k place None differs) ∙ c.loop-slot.invariant.so_far k (omega arith)
-      ];
+      whole = refl;
+      so_far = λ k lt.
+          let merged = get_or c.args.slots.now k 0 in
+          ap (giver_in (map (λ e. e.cid) es)) (get_or-replicate 512 k None None lt)
+          ∙ nobody_gives fr top k merged
+          ∙ sym (at_drop_all (λ l. first_giver top k merged (rows_in fr l)) es (length es) (omega arith));
+    }
+
+pub loop-at-preserved-then-shows_at : goal.loop-at-preserved-then-shows_at
+loop-at-preserved-then-shows_at c =
+    let es = c.args.entries.now in
+    let fr = c.args.frames.now in
+    let top = c.top_priority-top.result in
+    let i = c.loop-at.at - 1 in
+    let e = get_or es i blank in
+    let more : c.loop-at.at ≡ i + 1 = omega (arith, c.loop-at-test.true) in
+    record {
+      whole = c.give.array_long;
+      so_far = λ k lt.
+          let merged = get_or c.args.slots.now k 0 in
+          let own = get_or c.index.result.now k 0 in
+          let is : (own == merged) ≡ passes fr top k merged e =
+            ap (λ o. get_or (unwrap_or o []) k 0 == merged) (sym c.index.ensures)
+            ∙ ap (λ b. b && (get_or (unwrap_or (get fr e.key) []) k 0 == merged)) (sym c.if-shows_at.true ∙ c.shows_at.ensures)
+            ∙ sym (gives_there fr top k merged e) in
+          ap (giver_in (map (λ e. e.cid) es)) (c.give.ensures k (omega (arith, lt, c.give.array_long)))
+          ∙ giver_before fr top k merged es i blank (omega (arith, c.loop-at.auto.at, c.loop-at-test.true)) (get_or c.loop-at.places k None) (c.loop-at.invariant.so_far k lt ∙ ap (λ j. first_giver top k merged (rows_in fr (drop j es))) more) (own == merged) is;
+    }
+
+pub loop-at-preserved : goal.loop-at-preserved
+loop-at-preserved c =
+    let es = c.args.entries.now in
+    let fr = c.args.frames.now in
+    let top = c.top_priority-top.result in
+    let i = c.loop-at.at - 1 in
+    let e = get_or es i blank in
+    let more : c.loop-at.at ≡ i + 1 = omega (arith, c.loop-at-test.true) in
+    record {
+      whole = c.loop-at.invariant.whole;
+      so_far = λ k lt.
+          let merged = get_or c.args.slots.now k 0 in
+          giver_without fr top k merged es i blank (omega (arith, c.loop-at.auto.at, c.loop-at-test.true)) (get_or c.loop-at.places k None) (c.loop-at.invariant.so_far k lt ∙ ap (λ j. first_giver top k merged (rows_in fr (drop j es))) more)
+          (gives_there fr top k merged e ∙ ap (λ b. b && (get_or (unwrap_or (get fr e.key) []) k 0 == merged)) (sym c.shows_at.ensures ∙ c.if-shows_at.false));
     }
 
 pub returns : goal.returns
 unfolding givers_of
 returns c =
     let es = c.args.entries.now in
-    let rows = rows_in c.args.frames.now es in
-    let places = c.loop-slot.places in
+    let fr = c.args.frames.now in
+    let rows = rows_in fr es in
+    let places = c.loop-at.places in
     let cids = map (λ e. e.cid) es in
+    let followed : ℕ = top_priority (layers rows) in
+    let top : c.top_priority-top.result ≡ followed = c.top_priority-top.ensures ∙ top_is fr 0 es in
+    let all : c.loop-at.at ≡ 0 = omega (arith, c.loop-at-test.false) in
     ap (λ l. map (giver_in l) places) c.cids_of.ensures
-    ∙ fill_by_all (giver_of rows) (map (giver_in cids) places) 512 None (length-map places (giver_in cids) ∙ c.loop-slot.invariant.whole)
-    (λ k lt. get_or-map (giver_in cids) places k None None (omega (arith, c.loop-slot.invariant.whole)) ∙ c.loop-slot.invariant.so_far k (omega (arith, c.loop-slot-test.false)))
+    ∙ fill_by_all (giver_of rows) (map (giver_in cids) places) 512 None (length-map places (giver_in cids) ∙ c.loop-at.invariant.whole)
+    (λ k lt. get_or-map (giver_in cids) places k None None (omega (arith, lt, c.loop-at.invariant.whole))
+      ∙ c.loop-at.invariant.so_far k lt
+      ∙ ap (λ at. first_giver c.top_priority-top.result k (get_or c.args.slots.now k 0) (rows_in fr (drop at es))) all
+      ∙ ap (λ t. first_giver t k (get_or c.args.slots.now k 0) rows) top
+      ∙ ap (λ (l : List ℕ). first_giver followed k (get_or l k 0) rows) c.requires.merged)
