@@ -5,6 +5,7 @@ use sacn_edge::ConsoleReport;
 use sacn_framing::Reading;
 use sacn_live::{DeviceFault, Notes, Octets4, Orders, PassedOver};
 use sacn_node::NodeTaken;
+use std::net::SocketAddrV4;
 
 /// Counts what a gateway notes.
 #[derive(Clone, Copy)]
@@ -39,7 +40,7 @@ impl Notes for Tally {
     fn note_taken(
         &mut self,
         _now: u64,
-        _sender: Octets4,
+        _sender: SocketAddrV4,
         _reading: &Reading<'_>,
         _taken: NodeTaken,
     ) {
@@ -59,6 +60,10 @@ impl Notes for Tally {
 
     fn note_turn(&mut self, _now: u64) {
         self.turns = self.turns.saturating_add(1);
+    }
+
+    fn wakes(&self) -> u64 {
+        u64::MAX
     }
 }
 

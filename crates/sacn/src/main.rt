@@ -3,6 +3,7 @@
 
 mod check;
 mod explain;
+mod gateway;
 mod manual;
 mod page;
 mod piped;

@@ -1,7 +1,7 @@
 //! The program, over any words, input and outputs.
 use crate::piped::Piped;
 use crate::room::ask_for_room;
-use crate::{check, explain, manual, watch};
+use crate::{check, explain, gateway, manual, watch};
 use sacn_commands::ending::{DONE, Ending, tell_ending, tell_words};
 use sacn_commands::live;
 use sacn_commands::network::{console_of_files, node_of_file};
@@ -69,7 +69,7 @@ fn run_beside<R: AllocGlobal + Files + Env + Net + Clock, I: Read + Drop, O: Wri
             first,
         } => console_of_files(rt, (*show, *script), *first, *turns, input, out, err),
         Asked::Node { setup, turns } => node_of_file(rt, setup, *turns, input, out, err),
-        Asked::Gateway(asked) => live::gateway(rt, asked, input),
+        Asked::Gateway(asked) => gateway::gateway(rt, asked, input),
         Asked::Desk(asked) => live::desk(rt, asked),
         Asked::Groups { file, device } => live::groups(rt, (*file, *device), input, out, err),
         Asked::Manual(form) => manual::print(rt.alloc(), *form, out),

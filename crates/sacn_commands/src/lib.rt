@@ -1,11 +1,12 @@
 //! The commands over the lower crates, and how any command ends: datagrams decoded and worlds simulated
-//! (`printing`), a console and a node on 127.0.0.1 (`network`), gateways and desks (`live`).
+//! (`printing`), a console and a node on 127.0.0.1 (`network`), gateways (`gateway`), desks (`live`).
 //!
 //! What watches a network or tells a recording stands in the program, over crates that are proved later.
 #![tactic(auto)]
 
 pub mod ending;
 pub mod files;
+pub mod gateway;
 pub mod live;
 pub mod naming;
 pub mod network;

@@ -1,21 +1,20 @@
-//! Gateways and desks that run a rig, and what they and the other commands say of files and sockets.
-use crate::ending::{BAD_WORDS, DEVICE_FAILED, Ending, of_write};
+//! Desks that run a rig, and what commands say of files and sockets.
+use crate::ending::{DEVICE_FAILED, Ending, of_write};
 use crate::files::{text_of_file, text_of_word};
 use crate::naming::of_file;
 use crate::network::tell;
 use sacn_check::{FileKind, kind_of};
 use sacn_console::limits::CONSOLE_UNIVERSES;
 use sacn_console::{Command, ConsoleCore, Show, read_script, read_show};
-use sacn_edge::{ConsoleReport, WriterOut};
+use sacn_edge::ConsoleReport;
 use sacn_framing::multicast_group;
 use sacn_live::limits::{MAX_ROUNDS, RECEIVE_ROOM};
 use sacn_live::{
-    DISCOVERY_UNIVERSE, DeskLink, DeskOrders, DeskSender, Destinations, Interface, Lines, Opening,
-    Origin, Outputs, Plan, RigClock, Span, UdpReceiver, Watch, Widget, guard_standard_descriptors,
-    run_desk, run_gateway,
+    DISCOVERY_UNIVERSE, DeskLink, DeskOrders, DeskSender, Destinations, Lines, Opening, Origin,
+    Outputs, Plan, RigClock, guard_standard_descriptors, run_desk,
 };
-use sacn_node::{NodeCore, NodeSetup, read_node};
-use sacn_words::{DeskAsked, GatewayAsked, moment_of};
+use sacn_node::{NodeSetup, read_node};
+use sacn_words::DeskAsked;
 use std::alloc::Global;
 use std::env::{self, Env};
 use std::io::{ErrorKind, Read, Write};
@@ -85,8 +84,8 @@ pub fn joined_groups<R: AllocGlobal + Env>(rt: &R) -> Option<String> {
     }
 }
 
-// The universes of a setup, ascending.
-fn universes_of_setup<R: AllocGlobal>(rt: &R, setup: &NodeSetup) -> Result<Vec<u16>, Ending> {
+/// The universes of a setup, ascending.
+pub fn universes_of_setup<R: AllocGlobal>(rt: &R, setup: &NodeSetup) -> Result<Vec<u16>, Ending> {
     let mut universes = Vec::new(rt.alloc());
     for port in setup.ports() {
         for range in port.ranges() {
@@ -107,117 +106,6 @@ pub fn say_hearing<E: Write>(address: SocketAddrV4, room: Option<u32>, err: &mut
             let _ = writeln!(err, "receive buffer {} of {RECEIVE_ROOM}", room / 2);
         }
     }
-}
-
-// Where a gateway hears, and the groups that it should hear.
-fn say_gateway<E: Write>(address: SocketAddrV4, room: Option<u32>, universes: &[u16], err: &mut E) {
-    say_hearing(address, room, err);
-    for universe in universes {
-        let [a, b, c, d] = multicast_group(*universe);
-        let _ = writeln!(err, "group {a}.{b}.{c}.{d} universe {universe}");
-    }
-}
-
-fn interfaces_of<'a, R: AllocGlobal>(
-    rt: &R,
-    asked: &[(u8, &'a str)],
-) -> Result<Vec<Interface<'a, Widget<'a>>>, Ending> {
-    let mut interfaces = Vec::new(rt.alloc());
-    for (port, path) in asked {
-        interfaces.push(Interface::new(*port, path, Widget::new(path)))?;
-    }
-    Ok(interfaces)
-}
-
-// Refuses an interface for a port that the setup hasn't, and one that two ports would have.
-fn check_widgets<E: Write>(
-    asked: &[(u8, &str)],
-    setup: &NodeSetup,
-    err: &mut E,
-) -> Result<(), Ending> {
-    for (port, path) in asked {
-        if setup.ports().iter().all(|it| it.number() != *port) {
-            let _ = writeln!(err, "error: {port}={path}: NoPort");
-            return Err(Ending::Said(BAD_WORDS));
-        }
-        if asked.iter().filter(|it| it.1 == *path).count() > 1 {
-            let _ = writeln!(err, "error: {port}={path}: DeviceTaken");
-            return Err(Ending::Said(BAD_WORDS));
-        }
-    }
-    Ok(())
-}
-
-/// Runs a gateway, which prints its frames on standard output as they change. No output that isn't read holds it up.
-pub fn gateway<R: AllocGlobal + Files + Env + Net + Clock, I: Read + Drop>(
-    rt: &R,
-    asked: &GatewayAsked<'_>,
-    input: &mut I,
-) -> Result<(), Ending> {
-    guard_standard_descriptors();
-    let mut clock = clock_of(rt)?;
-    let outputs = Outputs::new(rt.alloc(), Lines::Frames)?;
-    let run = gateway_on(rt, asked, input, &outputs);
-    outputs.finish(&mut clock);
-    run
-}
-
-fn gateway_on<R: AllocGlobal + Files + Env + Net + Clock, I: Read + Drop>(
-    rt: &R,
-    asked: &GatewayAsked<'_>,
-    input: &mut I,
-    outputs: &Outputs,
-) -> Result<(), Ending> {
-    let mut err = outputs.err();
-    let setup = of_file(setup_of_word(rt, asked.setup, input), asked.setup, &mut err)?;
-    check_widgets(asked.widgets.as_slice(), &setup, &mut err)?;
-    run_setup(rt, asked, &setup, outputs, joined_groups(rt))
-}
-
-// Runs a gateway of a setup. (The check of a function takes much longer the more values it has to drop on its ways out.)
-fn run_setup<'a, R: AllocGlobal + Net + Clock>(
-    rt: &'a R,
-    asked: &GatewayAsked<'_>,
-    setup: &NodeSetup,
-    outputs: &'a Outputs,
-    joined: Option<String>,
-) -> Result<(), Ending> {
-    let mut receiver = receiver_of(rt, asked, setup, &mut outputs.err())?;
-    receiver.tend(outputs, joined);
-    let mut interfaces = interfaces_of(rt, asked.widgets.as_slice())?;
-    let mut watch = Watch::new(outputs.err());
-    watch.count_drops(receiver.drops(rt.alloc())?);
-    let mut core = NodeCore::new(rt.alloc(), setup)?;
-    let span = Span {
-        turns: u64::MAX,
-        until: moment_of(asked.seconds),
-    };
-    let mut lines = WriterOut::new(outputs.out());
-    run_gateway(
-        &mut receiver,
-        &mut watch,
-        &mut lines,
-        interfaces.as_mut_slice(),
-        &mut core,
-        asked.from.as_slice(),
-        span,
-    )?;
-    of_write(outputs.out().flush())
-}
-
-// The socket at which a setup is heard; what it hears is said.
-fn receiver_of<'a, R: AllocGlobal + Net + Clock, E: Write>(
-    rt: &'a R,
-    asked: &GatewayAsked<'_>,
-    setup: &NodeSetup,
-    err: &mut E,
-) -> Result<UdpReceiver<'a, R>, Ending> {
-    let universes = universes_of_setup(rt, setup)?;
-    let address = SocketAddrV4::new(asked.listen, setup.udp_port());
-    let bound = UdpReceiver::bind(rt, address, clock_of(rt)?);
-    let receiver = of_socket(bound, address, err)?;
-    say_gateway(address, receiver.room(), universes.as_slice(), err);
-    Ok(receiver)
 }
 
 // Where a desk sends.

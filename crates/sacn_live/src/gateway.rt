@@ -157,7 +157,7 @@ pub fn run_gateway<G: Receiver, N: Notes, O: Out, D: Device>(
         if now >= span.until {
             return Ok(());
         }
-        wake = first_wake(interfaces, now, next_wait(core, now, span.until));
+        wake = first_wake(interfaces, now, next_wait(core, now, span.until)).min(notes.wakes());
     }
     Ok(())
 }

@@ -14,6 +14,7 @@ use crate::receiver::{Arrival, Octets4, Receiver};
 use sacn_edge::BUFFER_OCTETS;
 use sacn_framing::{Reading, read_packet};
 use sacn_node::{NodeCore, NodeTaken, Showing};
+use std::net::{Ipv4Addr, SocketAddrV4};
 
 /// Why a datagram doesn't go to the node.
 #[derive(Clone, Copy)]
@@ -27,8 +28,14 @@ pub enum PassedOver {
 /// What looks on while a gateway runs, for diagnosis. Nothing that it does changes the gateway's text, nor what interfaces
 /// are offered.
 pub trait Notes {
-    /// A datagram went to the node, with what it was read as.
-    fn note_taken(&mut self, now: u64, sender: Octets4, reading: &Reading<'_>, taken: NodeTaken);
+    /// A datagram went to the node, with where it came from and what it was read as.
+    fn note_taken(
+        &mut self,
+        now: u64,
+        sender: SocketAddrV4,
+        reading: &Reading<'_>,
+        taken: NodeTaken,
+    );
 
     /// A datagram didn't.
     fn note_passed_over(&mut self, now: u64, sender: Octets4, why: PassedOver);
@@ -41,6 +48,9 @@ pub trait Notes {
 
     /// A turn's lines are written, and its frames offered.
     fn note_turn(&mut self, now: u64);
+
+    /// The moment at which it has something to do, where nothing comes; `u64::MAX` where it never has.
+    fn wakes(&self) -> u64;
 }
 
 /// What a receive brought, and what is known after it.
@@ -98,6 +108,7 @@ fn give<N: Notes>(
     waits: Backlog,
     now: u64,
     sender: Octets4,
+    port: u16,
     octets: &[u8],
 )
     requires { IsShowingOf showing.old core.old }
@@ -110,6 +121,7 @@ fn give<N: Notes>(
         None => {
             let reading = read_packet(octets);
             let taken = showing.take(core, now, &reading).taken;
+            let sender = SocketAddrV4::new(Ipv4Addr::from(sender), port);
             notes.note_taken(now, sender, &reading, taken);
         }
         Some(why) => {
@@ -142,6 +154,7 @@ pub(crate) fn hear<G: Receiver, N: Notes>(
 {
     let receipt = receiver.receive(buffer);
     let now = receipt.now;
+    let port = receiver.sender_port();
     let arrival = receipt.arrival;
     let waits = match arrival {
         Arrival::Datagram { octets, sender } => {
@@ -153,6 +166,7 @@ pub(crate) fn hear<G: Receiver, N: Notes>(
                 waits,
                 now,
                 sender,
+                port,
                 &buffer[..octets],
             );
             waits.with_datagram(now)

@@ -107,6 +107,13 @@ impl Receiver for MemoryReceiver {
 
     fn wait(&mut self, _until: u64) {}
 
+    /// Each is from the port 0.
+    fn sender_port(&self) -> u16
+        ensures { result ≡ 0 }
+    {
+        0
+    }
+
     fn receive(&mut self, buffer: &mut [u8; BUFFER_OCTETS]) -> Receipt {
         let receipt = bring(self.incoming.get(self.received as usize), self.last, buffer);
         self.received = self.received.saturating_add(1);

@@ -37,6 +37,9 @@ pub trait Receiver {
     fn wait(&mut self, until: u64)
         ensures told { told self.new ≡ told self.old };
 
+    /// The UDP port that the latest datagram came from, 0 where the device doesn't tell.
+    fn sender_port(&self) -> u16;
+
     /// Reads the clock, then receives once, without waiting.
     fn receive(&mut self, buffer: &mut [u8; BUFFER_OCTETS]) -> Receipt
         ensures fits { FitsBuffer result.arrival }

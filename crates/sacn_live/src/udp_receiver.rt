@@ -58,11 +58,6 @@ impl<'a, R: Net + MachineClock> UdpReceiver<'a, R> {
         })
     }
 
-    /// The UDP port that the latest datagram came from, 0 where none came.
-    pub fn sender_port(&self) -> u16 {
-        self.sender_port
-    }
-
     /// From now on a wait ends at the end of standard input too; where this has ended already, it isn't waited for.
     pub fn wait_for_input(&mut self) {
         self.input = InputEnd::awaited();
@@ -151,6 +146,11 @@ impl<'a, R: Net + MachineClock> Receiver for UdpReceiver<'a, R> {
             return;
         }
         wait_readable(self.socket.as_raw_fd(), input, self.beside, millis);
+    }
+
+    /// 0 where no datagram came.
+    fn sender_port(&self) -> u16 {
+        self.sender_port
     }
 
     fn receive(&mut self, buffer: &mut [u8; BUFFER_OCTETS]) -> Receipt {

@@ -10,6 +10,7 @@ use sacn_node::NodeTaken;
 use sacn_root::PacketFault;
 use sacn_sources::Taken;
 use std::io::Write;
+use std::net::SocketAddrV4;
 
 /// Looks on while a gateway runs, and says on an output what it sees: sources that come, end, are lost or find no room,
 /// and what isn't taken, each name at most once a second with how often; and what becomes of interfaces.
@@ -79,11 +80,17 @@ impl<E: Write> Watch<E> {
 }
 
 impl<E: Write> Notes for Watch<E> {
-    fn note_taken(&mut self, now: u64, sender: Octets4, reading: &Reading<'_>, taken: NodeTaken) {
+    fn note_taken(
+        &mut self,
+        now: u64,
+        sender: SocketAddrV4,
+        reading: &Reading<'_>,
+        taken: NodeTaken,
+    ) {
         match taken {
             NodeTaken::FromTable(taken) => {
                 if let Ok(Packet::DataPacket(packet)) = reading {
-                    self.note_from_table(now, sender, packet, taken);
+                    self.note_from_table(now, sender.ip().octets(), packet, taken);
                 }
             }
             NodeTaken::Refused(fault) => self.counts.count(fault_name(fault)),
@@ -121,5 +128,10 @@ impl<E: Write> Notes for Watch<E> {
         if let Some(drops) = &mut self.drops {
             drops.check(now, &mut self.err);
         }
+    }
+
+    // (what it says, it says within half a second of its moment)
+    fn wakes(&self) -> u64 {
+        u64::MAX
     }
 }

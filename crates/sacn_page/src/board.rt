@@ -1,11 +1,12 @@
 //! What is known of a network, for all viewers.
 
-ghost use Rattle.std.specs.Prelude.{◌≡◌, IfOk, OnOk, is_some, max};
+ghost use Rattle.std.specs.Prelude.{◌≡◌, ℕ, List, IfOk, OnOk, is_some, max};
+ghost use Rattle.sacn_framing.specs.PacketReading.{reading_packet};
 ghost use Rattle.sacn_monitor.specs.Books.{new_book, next_loss, silent_place};
 ghost use Rattle.sacn_explain.specs.Following.{IsTicked, IsTaken};
 
 use crate::alarms::{Alarms, Trouble};
-use sacn_framing::{Packet, Reading, read_packet};
+use sacn_framing::{Packet, Reading};
 use sacn_monitor::{Event, Monitor, Noted, Sender};
 use sacn_network::{LitUniverse, Network};
 use std::alloc::{AllocError, Global};
@@ -45,19 +46,23 @@ impl Board {
         })
     }
 
-    /// Takes a datagram, after what had ended by silence: the accounts are then those that the monitor has after this datagram,
-    /// once.
+    /// Takes what a datagram was read as, after what had ended by silence: the accounts are then those that the monitor has after
+    /// this datagram, once.
     ///
     /// Errors: OutOfMemory.
-    pub fn take(&mut self, now: u64, sender: Sender, octets: &[u8]) -> Result<(), AllocError>
-        ensures taken { OnOk result
-            (IsTaken now sender octets.now self.old.network.monitor self.new.network.monitor) }
+    pub fn take(
+        &mut self,
+        now: u64,
+        sender: Sender,
+        reading: &Reading<'_>,
+    ) -> Result<(), AllocError>
+        ensures taken { (octets : List ℕ) → reading.now ≡ reading_packet octets → OnOk result
+            (IsTaken now sender octets self.old.network.monitor self.new.network.monitor) }
     {
-        let reading = read_packet(octets);
-        let noted = self.network.take(now, sender, &reading, &mut self.alarms);
+        let noted = self.network.take(now, sender, reading, &mut self.alarms);
         self.alarms.settle()?;
         self.note_universe(&noted)?;
-        self.light(now, &reading)
+        self.light(now, reading)
     }
 
     /// Moves the clock, and returns whether a source was lost.

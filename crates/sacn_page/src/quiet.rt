@@ -38,6 +38,10 @@ impl<'a, R: MachineClock> Receiver for Quiet<'a, R> {
         wait_readable(NO_DESCRIPTOR, self.input.descriptor(), self.beside, millis);
     }
 
+    fn sender_port(&self) -> u16 {
+        0
+    }
+
     fn receive(&mut self, _buffer: &mut [u8; BUFFER_OCTETS]) -> Receipt {
         Receipt {
             now: self.clock.now(),
@@ -47,10 +51,6 @@ impl<'a, R: MachineClock> Receiver for Quiet<'a, R> {
 }
 
 impl<'a, R: MachineClock> Listener for Quiet<'a, R> {
-    fn sender_port(&self) -> u16 {
-        0
-    }
-
     fn has_ended(&mut self) -> bool {
         self.input.has_come()
     }

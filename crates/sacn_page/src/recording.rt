@@ -4,6 +4,7 @@ use crate::board::Board;
 use crate::replay::Replay;
 use crate::scene::{Facts, Scene, SeekFault};
 use sacn_capture::{CaptureFault, FaultKind};
+use sacn_framing::Reading;
 use sacn_monitor::Sender;
 use std::alloc::{AllocError, Global};
 use std::io::{self, BufRead, ErrorKind};
@@ -143,7 +144,12 @@ fn board_of(
 }
 
 impl<T: Tape + Drop> Scene for Recording<T> {
-    fn take(&mut self, _now: u64, _sender: Sender, _octets: &[u8]) -> Result<(), AllocError> {
+    fn take(
+        &mut self,
+        _now: u64,
+        _sender: Sender,
+        _reading: &Reading<'_>,
+    ) -> Result<(), AllocError> {
         Ok(())
     }
 

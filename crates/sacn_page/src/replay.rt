@@ -6,6 +6,7 @@ use crate::board::Board;
 use crate::scene::SeekFault;
 use sacn_capture::{Capture, CaptureFault, Datagram, FaultKind, Record};
 use sacn_explain::Timeline;
+use sacn_framing::read_packet;
 use sacn_monitor::Sender;
 use std::alloc::{AllocError, Global};
 use std::io::BufRead;
@@ -139,7 +140,10 @@ impl<R: BufRead + Drop> Replay<R> {
         self.next = Next::Unread;
         self.shown = now;
         match pending.sender {
-            Some(sender) => self.board.take(now, sender, self.octets.as_slice()),
+            Some(sender) => {
+                let reading = read_packet(self.octets.as_slice());
+                self.board.take(now, sender, &reading)
+            }
             None => self.tick(now),
         }
     }

@@ -61,12 +61,17 @@ impl<C: Connection + Drop, S: Scene + Drop> Room<C, S> {
         })
     }
 
-    /// Takes a datagram.
+    /// Takes what a datagram was read as.
     ///
     /// Errors: OutOfMemory.
-    pub fn take(&mut self, now: u64, sender: Sender, octets: &[u8]) -> Result<(), AllocError> {
+    pub fn take(
+        &mut self,
+        now: u64,
+        sender: Sender,
+        reading: &sacn_framing::Reading<'_>,
+    ) -> Result<(), AllocError> {
         self.note_change();
-        self.scene.take(now, sender, octets)
+        self.scene.take(now, sender, reading)
     }
 
     /// Notes that this program was stopped for so many milliseconds.

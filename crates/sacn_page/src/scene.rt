@@ -2,6 +2,7 @@
 
 use crate::board::Board;
 use sacn_capture::{CaptureFault, FaultKind};
+use sacn_framing::Reading;
 use sacn_monitor::Sender;
 use std::alloc::AllocError;
 use thiserror::Error;
@@ -45,10 +46,10 @@ impl From<CaptureFault> for SeekFault {
 
 /// What viewers look at: a network as it is heard, or a recording at the moment that a viewer chooses. Moments are milliseconds.
 pub trait Scene {
-    /// Takes a datagram that was heard.
+    /// Takes what a datagram was read as that was heard.
     ///
     /// Errors: OutOfMemory.
-    fn take(&mut self, now: u64, sender: Sender, octets: &[u8]) -> Result<(), AllocError>;
+    fn take(&mut self, now: u64, sender: Sender, reading: &Reading<'_>) -> Result<(), AllocError>;
 
     /// Notes that this program was stopped for so many milliseconds.
     ///
@@ -91,8 +92,8 @@ pub trait Scene {
 
 /// A network as it is heard.
 impl Scene for Board {
-    fn take(&mut self, now: u64, sender: Sender, octets: &[u8]) -> Result<(), AllocError> {
-        self.take(now, sender, octets)
+    fn take(&mut self, now: u64, sender: Sender, reading: &Reading<'_>) -> Result<(), AllocError> {
+        self.take(now, sender, reading)
     }
 
     fn note_stop(&mut self, now: u64, millis: u64) -> Result<(), AllocError> {

@@ -5,6 +5,7 @@ use crate::scene::Scene;
 use crate::viewer::Connection;
 use mio::net::{TcpListener, TcpStream};
 use mio::{Events, Interest, Poll, Token};
+use sacn_framing::Reading;
 use sacn_monitor::Sender;
 use sacn_watch::{WatchFault, Watcher};
 use std::alloc::Global;
@@ -144,8 +145,8 @@ impl<S: Scene + Drop> Pages<S> {
 }
 
 impl<S: Scene + Drop> Watcher for Pages<S> {
-    fn take(&mut self, now: u64, sender: Sender, octets: &[u8]) -> Result<(), WatchFault> {
-        self.room.take(now, sender, octets)?;
+    fn take(&mut self, now: u64, sender: Sender, reading: &Reading<'_>) -> Result<(), WatchFault> {
+        self.room.take(now, sender, reading)?;
         Ok(())
     }
 

@@ -8,6 +8,7 @@ use crate::fault::WatchFault;
 use crate::watch::Watcher;
 use sacn_capture::Counts;
 use sacn_explain::{Follower, Report};
+use sacn_framing::Reading;
 use sacn_monitor::{Sender, Stream};
 use sacn_sources::NETWORK_DATA_LOSS;
 use std::io::Write;
@@ -18,8 +19,8 @@ impl<'a, O: Write> Watcher for Follower<'a, O> {
 
     ghost Handed = { λ follower calls. IsFollowing calls follower };
 
-    fn take(&mut self, now: u64, sender: Sender, octets: &[u8]) -> Result<(), WatchFault> {
-        self.take(now, sender, octets)?;
+    fn take(&mut self, now: u64, sender: Sender, reading: &Reading<'_>) -> Result<(), WatchFault> {
+        self.take_reading(now, sender, reading)?;
         Ok(())
     }
 

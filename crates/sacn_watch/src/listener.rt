@@ -12,9 +12,6 @@ pub trait Listener: Receiver {
     /// Whether its input may have ended. That of a device of the machine may end at any time.
     ghost Ended: { Self → Type 0 } = { λ _. ⊤ };
 
-    /// The UDP port that the latest datagram came from.
-    fn sender_port(&self) -> u16;
-
     /// Whether the watch is to end now.
     fn has_ended(&mut self) -> bool
         ensures told { Self.told self.new ≡ Self.told self.old }
@@ -26,10 +23,6 @@ pub trait Listener: Receiver {
 }
 
 impl<'a, R: Net + Clock> Listener for UdpReceiver<'a, R> {
-    fn sender_port(&self) -> u16 {
-        self.sender_port()
-    }
-
     fn has_ended(&mut self) -> bool {
         self.input_ended()
     }
@@ -39,15 +32,9 @@ impl<'a, R: Net + Clock> Listener for UdpReceiver<'a, R> {
     }
 }
 
-/// A list of datagrams, each from the port 0. It never ends.
+/// A list of datagrams. It never ends.
 impl Listener for MemoryReceiver {
     ghost Ended = { λ _. ⊥ };
-
-    fn sender_port(&self) -> u16
-        ensures { result ≡ 0 }
-    {
-        0
-    }
 
     fn has_ended(&mut self) -> bool {
         false

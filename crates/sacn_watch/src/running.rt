@@ -108,6 +108,10 @@ impl<L: Listener> Receiver for RunningListener<L> {
         self.listener.wait(until);
     }
 
+    fn sender_port(&self) -> u16 {
+        self.listener.sender_port()
+    }
+
     /// Hands on what the listener brings, at this clock's reading.
     fn receive(&mut self, buffer: &mut [u8; BUFFER_OCTETS]) -> Receipt
         ensures fits { FitsBuffer result.arrival }
@@ -127,10 +131,6 @@ impl<L: Listener> Receiver for RunningListener<L> {
 
 impl<L: Listener> Listener for RunningListener<L> {
     ghost Ended = { λ r. L.Ended r.listener };
-
-    fn sender_port(&self) -> u16 {
-        self.listener.sender_port()
-    }
 
     fn has_ended(&mut self) -> bool {
         self.listener.has_ended()

@@ -6,6 +6,7 @@ use crate::fault::WatchFault;
 use crate::page::Size;
 use crate::terminal::Terminal;
 use crate::watch::Watcher;
+use sacn_framing::Reading;
 use sacn_live::limits::SILENT_START;
 use sacn_monitor::Sender;
 use std::io::Write;
@@ -59,8 +60,8 @@ impl<'a, O: Write, Z: Sizes> Watcher for Screen<'a, O, Z> {
 
     ghost Handed = { λ screen calls. IsShowing calls screen.terminal };
 
-    fn take(&mut self, now: u64, sender: Sender, octets: &[u8]) -> Result<(), WatchFault> {
-        self.terminal.take(now, sender, octets)
+    fn take(&mut self, now: u64, sender: Sender, reading: &Reading<'_>) -> Result<(), WatchFault> {
+        self.terminal.take(now, sender, reading)
     }
 
     fn note_stop(&mut self, now: u64, millis: u64) -> Result<(), WatchFault> {

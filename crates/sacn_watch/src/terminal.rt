@@ -9,6 +9,7 @@ use crate::layout::screen;
 use crate::page::{Ink, Page, Size};
 use crate::view::View;
 use crate::watch::Watcher;
+use sacn_framing::Reading;
 use sacn_monitor::Sender;
 use std::alloc::{AllocError, Global};
 use std::io::Write;
@@ -159,8 +160,8 @@ impl<'a, O: Write> Watcher for Terminal<'a, O> {
 
     ghost Handed = { λ terminal calls. IsShowing calls terminal };
 
-    fn take(&mut self, now: u64, sender: Sender, octets: &[u8]) -> Result<(), WatchFault> {
-        self.view.take(now, sender, octets);
+    fn take(&mut self, now: u64, sender: Sender, reading: &Reading<'_>) -> Result<(), WatchFault> {
+        self.view.take(now, sender, reading);
         self.is_stale = true;
         Ok(())
     }

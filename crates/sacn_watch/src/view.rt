@@ -1,6 +1,6 @@
 //! What a screen shows.
 
-ghost use Rattle.std.specs.Prelude.{◌≡◌, IfOk, is_some, max};
+ghost use Rattle.std.specs.Prelude.{◌≡◌, ℕ, List, IfOk, is_some, max};
 ghost use Rattle.sacn_framing.specs.PacketReading.{reading_packet};
 ghost use Rattle.sacn_monitor.specs.Books.{new_book, silent_place};
 ghost use Rattle.sacn_sources.specs.LatestMerge.{new_kept, kept_after_merged};
@@ -10,7 +10,7 @@ ghost use Rattle.sacn_explain.specs.Following.{IsTaken, IsTicked};
 ghost use Rattle.sacn_watch.specs.Views.{after_packet, after_reading, places_shown};
 
 use crate::fault::WatchFault;
-use sacn_framing::{DataView, Packet, read_packet};
+use sacn_framing::{DataView, Packet, Reading};
 use sacn_monitor::{Monitor, Sender};
 use sacn_network::{Network, Unobserved, giver_places};
 use sacn_sources::{Givers, SourceTable};
@@ -53,18 +53,17 @@ impl View {
         })
     }
 
-    /// Takes a datagram that came at a moment from a sender: once, after the losses up to then. A data packet of the universe
-    /// whose levels are shown goes to its table of sources; where none was shown yet it is the packet's from now on.
-    pub fn take(&mut self, now: u64, sender: Sender, octets: &[u8])
-        ensures taken { IsTaken now sender octets.now
-            self.old.network.monitor self.new.network.monitor }
+    /// Takes what a datagram was read as that came at a moment from a sender: once, after the losses up to then. A data packet of
+    /// the universe whose levels are shown goes to its table of sources; where none was shown yet it is the packet's from now on.
+    pub fn take(&mut self, now: u64, sender: Sender, reading: &Reading<'_>)
+        ensures taken { (octets : List ℕ) → reading.now ≡ reading_packet octets →
+            IsTaken now sender octets self.old.network.monitor self.new.network.monitor }
         ensures shown { record { universe = self.new.universe; sources = self.new.table }
-            ≡ after_reading now (reading_packet octets.now)
+            ≡ after_reading now reading.now
             (record { universe = self.old.universe; sources = self.old.table }) }
     {
-        let reading = read_packet(octets);
-        let _ = self.network.take(now, sender, &reading, &mut Unobserved);
-        match &reading {
+        let _ = self.network.take(now, sender, reading, &mut Unobserved);
+        match reading {
             Ok(Packet::DataPacket(packet)) => self.take_levels(now, packet),
             Ok(Packet::PagePacket(_)) => {}
             Ok(Packet::SyncPacket) => {}

@@ -1,6 +1,7 @@
 //! The loop of a watch.
 
-ghost use Rattle.std.specs.Prelude.{◌≡◌, ◌∷◌, ◌++◌, [], List, IfOk, OnOk, ⊤};
+ghost use Rattle.std.specs.Prelude.{◌≡◌, ℕ, ◌∷◌, ◌++◌, [], List, IfOk, OnOk, ⊤};
+ghost use Rattle.sacn_framing.specs.PacketReading.{reading_packet};
 ghost use Rattle.sacn_edge.specs.Additions.{Extends};
 ghost use Rattle.sacn_live.specs.Hearings.{in_order, is_datagram};
 ghost use Rattle.sacn_monitor.specs.Histories.{Call, Take, Tick};
@@ -9,6 +10,7 @@ ghost use Rattle.sacn_watch.specs.Watches.{Receive, heard_in, heard_by, reading_
 use crate::fault::WatchFault;
 use crate::listener::Listener;
 use sacn_edge::BUFFER_OCTETS;
+use sacn_framing::{Reading, read_packet};
 use sacn_live::Arrival;
 use sacn_live::limits::MAX_BURST;
 use sacn_monitor::Sender;
@@ -18,10 +20,11 @@ pub trait Watcher {
     /// Whether it may be what these calls leave, the latest first. A watcher that promises nothing may be what any calls leave.
     ghost Handed: { Self → List Call → Type 0 } = { λ _ _. ⊤ };
 
-    /// Takes a datagram that came at a moment from a sender.
-    fn take(&mut self, now: u64, sender: Sender, octets: &[u8]) -> Result<(), WatchFault>
-        ensures handed { OnOk result ((calls : List Call) → Handed self.old calls
-            → Handed self.new (Take now sender octets.now ∷ calls)) };
+    /// Takes what a datagram was read as that came at a moment from a sender.
+    fn take(&mut self, now: u64, sender: Sender, reading: &Reading<'_>) -> Result<(), WatchFault>
+        ensures handed { OnOk result ((calls : List Call) (octets : List ℕ)
+            → reading.now ≡ reading_packet octets → Handed self.old calls
+            → Handed self.new (Take now sender octets ∷ calls)) };
 
     /// Tells that this program was stopped for so many milliseconds. No account changes.
     fn note_stop(&mut self, now: u64, millis: u64) -> Result<(), WatchFault>
@@ -144,7 +147,8 @@ fn hear<L: Listener, W: Watcher>(
                 address: sender,
                 port: listener.sender_port(),
             };
-            watcher.take(receipt.now, sender, &buffer[..octets])?;
+            let reading = read_packet(&buffer[..octets]);
+            watcher.take(receipt.now, sender, &reading)?;
             Ok(true)
         }
         Arrival::Nothing => Ok(false),

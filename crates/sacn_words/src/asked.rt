@@ -56,6 +56,8 @@ pub struct GatewayAsked<'a> {
     /// Ports and the device files of their interfaces.
     pub widgets: Vec<(u8, &'a str)>,
     pub seconds: Option<u64>,
+    /// Where a page is served beside what is printed.
+    pub page: Option<SocketAddrV4>,
 }
 
 /// What a desk is asked.
@@ -144,6 +146,7 @@ fn gateway<'a>(words: &mut Words<'_, 'a>) -> Asked<'a> {
         listen: words.value("listen", host).unwrap_or(Ipv4Addr::UNSPECIFIED),
         from: words.values("from", sender),
         widgets: words.widgets(),
+        page: words.value("page", page),
         setup: words.file("SETUP"),
     })
 }

@@ -93,6 +93,10 @@ const GATEWAY: Command<'static> = Command {
             is_repeated: true,
             ..OPTION
         },
+        Argument {
+            help: "Serves a page of what it hears for browsers there, of this machine where only a port is named",
+            ..PAGE
+        },
         SECONDS,
         HELP_LETTER,
         HELP,

@@ -38,7 +38,7 @@ returns-in_ok-take-in-Datagram g c =
       record { hearing = hearing_in receipt.now (Datagram c.in-Datagram.octets c.in-Datagram.sender) new.buffer; port = c.sender_port.result },
       heard_still _ _ _ _ (subst (λ (a : Arrival). Extends (g.L.Receiver.told c.args.listener.now) (g.L.Receiver.told new.self) (hearing_in receipt.now a new.buffer ∷ [])) c.in-Datagram.is c.receive-receipt.ensures.told) c.tell_stop.ensures.told,
       refl,
-      (refl, λ calls was. c.in_ok-take-in-Datagram.ensures.handed calls (c.in_ok-tell_stop.ensures.handed calls was)),
+      (refl, λ calls was. c.in_ok-take-in-Datagram.ensures.handed calls _ c.read_packet-reading.ensures.exact (c.in_ok-tell_stop.ensures.handed calls was)),
     )
 
 pub returns-in-Nothing : goal.returns-in-Nothing

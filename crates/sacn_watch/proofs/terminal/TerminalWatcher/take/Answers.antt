@@ -6,8 +6,8 @@ returns g c =
     let old = c.args.self.now.view.network.monitor in
     let new = c.take.new.self.network.monitor in
     record {
-      handed = λ calls was. record {
-        book = shown_taken calls c.args.now old new was.book was.moment c.args.sender c.args.octets.now c.take.ensures.taken;
-        moment = taken_at calls c.args.now old new was.book was.moment c.args.sender c.args.octets.now c.take.ensures.taken;
+      handed = λ calls octets read was. record {
+        book = shown_taken calls c.args.now old new was.book was.moment c.args.sender octets (c.take.ensures.taken octets read);
+        moment = taken_at calls c.args.now old new was.book was.moment c.args.sender octets (c.take.ensures.taken octets read);
       };
     }
