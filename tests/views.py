@@ -4,7 +4,7 @@
 usage: views.py SACN
 
 A network of five sources on three universes is written as a recording, which `explain --json` and the page of a recording are given, and sent in its own time to a
-`watch --json` and to the page of a watch. What each should tell of it is written here by hand, from the standard's rules: what was taken of each source and what
+`watch --json`, to the page of a watch and to a gateway with a page, whose frames are looked at too. What each should tell of it is written here by hand, from the standard's rules: what was taken of each source and what
 became of it, the levels of each universe, and who gives each: of the live sources at the greatest priority (E1.31, 6.2.3) the first by CID whose level is the
 merged one. Prints 'ok NAME' or 'not ok NAME: what was seen' for each.
 """
@@ -22,6 +22,9 @@ import urllib.request
 SACN = sys.argv[1]
 ROOM = tempfile.mkdtemp()
 LINES, LIVE, LIVE_PAGE, PAGE = 25881, 25882, 25883, 25884
+GATEWAY, GATEWAY_PAGE = 25885, 25886
+# The gateway's ports, each with a universe.
+PORTS = {1: 1, 2: 2}
 PREVIEW, TERMINATED = 0x80, 0x40
 # Its octets are a quote, a mark of HTML, a backslash, a letter of two octets and one of four.
 NAME = 'A "<b>\\é\N{GRINNING FACE}'
@@ -148,6 +151,26 @@ def lit_of(document):
     return levels[:lit], "".join(letters[cids[it - 1]] if it else "-" for it in winners[:lit]) + "?" * any(winners[lit:])
 
 
+def setup():
+    """The file of a node with these ports."""
+    path = f"{ROOM}/node.toml"
+    with open(path, "w", encoding="utf-8") as out:
+        out.write(f"version = 1\nudp_port = {GATEWAY}\n")
+        out.writelines(f"[[port]]\nnumber = {port}\nuniverse = {universe}\n" for port, universe in PORTS.items())
+    return path
+
+
+def frames_of(name):
+    """The latest frame that a gateway printed of each port: its levels up to the last one above 0."""
+    found = {}
+    with open(f"{ROOM}/{name}", encoding="utf-8") as text:
+        for line in text:
+            port, _, octets = line.split()
+            levels = list(bytes.fromhex(octets))[1:]
+            found[int(port)] = levels[: max((at + 1 for at, level in enumerate(levels) if level), default=0)]
+    return found
+
+
 def told(name, rows, refused):
     """Whether a view's rows and its count of refused datagrams are what is so."""
     verdict(f"{name} tells of each source what is so", sources_of(rows) == TOLD, sources_of(rows))
@@ -171,25 +194,27 @@ def events_of(lines):
 
 
 def hear(sent):
-    """What a watch's lines and its page tell of what is sent in its own time; None where this machine came to a stand meanwhile, which both would tell."""
+    """What a watch's lines, its page and a gateway's page tell of what is sent in its own time, and that gateway's frames; None where this machine came to a stand meanwhile, which both would tell."""
     runs = [start("lines", "watch", "--json", "--listen", "127.0.0.1", "--port", str(LINES))]
     runs.append(start("live", "watch", "--listen", "127.0.0.1", "--port", str(LIVE), "--page", str(LIVE_PAGE)))
+    runs.append(start("gateway", "gateway", setup(), "--listen", "127.0.0.1", "--page", str(GATEWAY_PAGE)))
     try:
         served(LIVE_PAGE)
-        hears(LINES)
-        hears(LIVE)
+        served(GATEWAY_PAGE)
+        for port in (LINES, LIVE, GATEWAY):
+            hears(port)
         sender, begin, latest = socket.socket(socket.AF_INET, socket.SOCK_DGRAM), time.monotonic(), 0
         for moment, octets in sent:
             time.sleep(max(0, begin + moment / 1000 - time.monotonic()))
             latest = max(latest, time.monotonic() - begin - moment / 1000)
-            for port in (LINES, LIVE):
+            for port in (LINES, LIVE, GATEWAY):
                 sender.sendto(octets, ("127.0.0.1", port))
-        live = {universe: state(LIVE_PAGE, universe) for universe in LIT[END]}
+        live, lit = ({universe: state(port, universe) for universe in LIT[END]} for port in (LIVE_PAGE, GATEWAY_PAGE))
         runs[0].stdin.close()
         runs[0].wait(20)
         heard = lines_of("lines.out")
         stood = latest > 0.5 or any(it["kind"] == "stopped" for it in live[1]["alarms"]) or any(it.get("event") == "stopped" for it in heard)
-        return None if stood else (live, heard)
+        return None if stood else (live, heard, lit, frames_of("gateway.out"))
     finally:
         for run in runs:
             run.kill()
@@ -199,7 +224,7 @@ def hear(sent):
 def main():
     sent = network()
     file = recording(sent)
-    live, heard = next(filter(None, (hear(sent) for _ in range(5))), (None, None))
+    live, heard, lit, frames = next(filter(None, (hear(sent) for _ in range(5))), (None,) * 4)
     if live is None:
         print("skipped views: this machine comes to a stand", flush=True)
         return
@@ -211,19 +236,22 @@ def main():
         for name, all_rows in (("explain", lines), ("a watch's lines", heard)):
             rows = [it for it in all_rows if it.get("row") == "source"]
             told(name, rows, sum(it["refused"] for it in all_rows if it.get("row") == "counts"))
-        told("a watch's page", live[1]["sources"], live[1]["counts"]["refused"])
-        for moment, lit in LIT.items():
-            for universe, wanted in lit.items():
+        for name, seen in (("a watch's page", live), ("a gateway's page", lit)):
+            told(name, seen[1]["sources"], seen[1]["counts"]["refused"])
+            for universe, wanted in LIT[END].items():
+                verdict(f"{name} tells the levels of universe {universe}, and who gives them", lit_of(seen[universe]) == wanted, lit_of(seen[universe]))
+        wanted = {port: LIT[END][universe][0] for port, universe in PORTS.items()}
+        verdict("a gateway's frames are the levels that its page shows", frames == wanted, frames)
+        for moment, levels in LIT.items():
+            for universe, wanted in levels.items():
                 document = state(PAGE, universe, moment)
                 verdict(f"a recording's page tells the levels of universe {universe} at {moment} ms, and who gives them", lit_of(document) == wanted, lit_of(document))
         told("a recording's page", document["sources"], document["counts"]["refused"])
-        for universe, wanted in LIT[END].items():
-            verdict(f"a watch's page tells the levels of universe {universe}, and who gives them", lit_of(live[universe]) == wanted, lit_of(live[universe]))
         first, second = events_of(lines), events_of(heard)
         for universe in sorted({*first, *second}, key=str):
             verdict(f"explain and a watch tell the same events of universe {universe}", first.get(universe) == second.get(universe), (first.get(universe), second.get(universe)))
-        kinds = [it["kind"] for it in state(PAGE, 1, END)["alarms"]], [it["kind"] for it in live[1]["alarms"]]
-        verdict("both pages have the same alarms", kinds[0] == kinds[1] and sorted({*kinds[0]}) == ["ended", "lost", "refused", "rivals", "skipped"], kinds)
+        kinds = [[it["kind"] for it in document["alarms"]] for document in (state(PAGE, 1, END), live[1], lit[1])]
+        verdict("all pages have the same alarms", kinds[0] == kinds[1] == kinds[2] and sorted({*kinds[0]}) == ["ended", "lost", "refused", "rivals", "skipped"], kinds)
     finally:
         for run in runs:
             run.kill()

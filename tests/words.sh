@@ -38,6 +38,9 @@ refused 2 "error: x: Widget" gateway x --widget x
 refused 2 "error: 0=/dev/x: Widget" gateway x --widget 0=/dev/x
 refused 2 "error: 256=/dev/x: Widget" gateway x --widget 256=/dev/x
 refused 2 "error: 1=: Widget" gateway x --widget 1=
+refused 2 "error: 0: Port" gateway x --page 0
+refused 2 "error: 127.0.0.1: Address" gateway x --page 127.0.0.1
+refused 2 "error: here:80: Address" gateway x --page here:80
 refused 2 "error: --seconds takes a number of 1 to 1000000000, in decimal digits" gateway x --seconds +5
 refused 2 "error: *" gateway
 refused 2 "error: *" gateway x y
