@@ -1,3 +1,4 @@
 mod Mapping
 mod OwnGets
+mod Pieces
 mod Rows

@@ -5,3 +5,4 @@ pub mod Feeds
 pub mod Places
 pub mod Documents
 pub mod AlarmTexts
+pub mod WholeDocuments

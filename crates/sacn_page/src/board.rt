@@ -1,13 +1,14 @@
 //! What is known of a network, for all viewers.
 
-ghost use Rattle.std.specs.Prelude.{◌≡◌, ℕ, List, IfOk, OnOk, is_some, max};
+ghost use Rattle.std.specs.Prelude.{◌≡◌, ◌==◌, ℕ, List, IfOk, OnOk, find, is_some, max, option_copied};
 ghost use Rattle.sacn_framing.specs.PacketReading.{reading_packet};
 ghost use Rattle.sacn_monitor.specs.Books.{new_book, next_loss, silent_place};
 ghost use Rattle.sacn_explain.specs.Following.{IsTicked, IsTaken};
+ghost use Rattle.sacn_page.specs.WholeDocuments.{first_heard, universe_shown};
 
 use crate::alarms::{Alarms, Trouble};
 use sacn_framing::{Packet, Reading};
-use sacn_monitor::{Event, Monitor, Noted, Sender};
+use sacn_monitor::{Event, Monitor, Noted, Sender, Stream};
 use sacn_network::{LitUniverse, Network};
 use std::alloc::{AllocError, Global};
 
@@ -103,31 +104,34 @@ impl Board {
     }
 
     /// The latest alarms.
-    pub fn alarms(&self) -> &Alarms {
+    pub fn alarms(&self) -> &Alarms
+        ensures { result.now ≡ self.now.alarms }
+    {
         &self.alarms
     }
 
     /// The universes heard, ascending.
-    pub fn universes_heard(&self) -> &[u16] {
+    pub fn universes_heard(&self) -> &[u16]
+        ensures { result.now ≡ self.now.heard.items }
+    {
         self.heard.as_slice()
     }
 
     /// The universe that is shown to a viewer that names this one, or none.
-    pub fn chosen_universe(&self, named: Option<u16>) -> Option<u16> {
-        if named.is_some() {
-            return named;
-        }
-        if self.preferred.is_some() {
-            return self.preferred;
-        }
-        match self.monitor().streams().first() {
-            Some(stream) => Some(stream.universe),
-            None => None,
-        }
+    pub fn chosen_universe(&self, named: Option<u16>) -> Option<u16>
+        ensures { result
+            ≡ universe_shown named self.now.preferred self.now.network.monitor.streams }
+    {
+        named
+            .or(self.preferred)
+            .or(first_heard(self.monitor().streams()))
     }
 
     /// A universe as it is merged, where it is.
-    pub fn find_lit(&self, universe: u16) -> Option<&LitUniverse> {
+    pub fn find_lit(&self, universe: u16) -> Option<&LitUniverse>
+        ensures { option_copied result
+            ≡ find (λ lit. lit.universe == universe) self.now.lit.items }
+    {
         self.lit.iter().find(|lit| lit.universe() == universe)
     }
 
@@ -202,6 +206,16 @@ impl Board {
             }
         }
         Ok(())
+    }
+}
+
+// The universe of the first source that was heard.
+fn first_heard(streams: &[Stream]) -> Option<u16>
+    ensures { result ≡ first_heard streams.now }
+{
+    match streams.first() {
+        Some(stream) => Some(stream.universe),
+        None => None,
     }
 }
 

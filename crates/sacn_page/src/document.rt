@@ -1,9 +1,10 @@
 //! The document of a viewer, and what changed in it (docs/FILES.md tells its members).
 
-ghost use Rattle.std.specs.Prelude.{◌≡◌, ◌++◌, ◌+◌, OnOk, IfOk, true, length, codes, string_bytes};
+ghost use Rattle.std.specs.Prelude.{◌≡◌, ◌++◌, ◌+◌, [], OnOk, IfOk, true, length, codes, option_copied, string_bytes};
 ghost use Rattle.sacn_explain.specs.Numbers.{numbers_member};
 ghost use Rattle.sacn_page.specs.AlarmTexts.{alarms_member};
 ghost use Rattle.sacn_page.specs.Documents.{Tells, before_row, counts_member, counts_object, counts_of, digits_member, long_digits_member, row_object, row_of, sources_member, universe_member};
+ghost use Rattle.sacn_page.specs.WholeDocuments.{document, levels_of, lit_members, lit_of, recording_member, winners_of};
 ghost use Rattle.sacn_page.specs.declared.document.Extent.TheVariants.{Whole};
 
 use crate::alarms::{Alarms, push_alarms_member};
@@ -15,7 +16,7 @@ use crate::members::{
 };
 use crate::scene::Facts;
 use sacn_explain::{push_key, push_number, push_numbers, total};
-use sacn_monitor::{State, Stream, Tally};
+use sacn_monitor::{Monitor, State, Stream, Tally};
 use sacn_network::LitUniverse;
 use sacn_universe::SLOTS;
 use std::alloc::{AllocError, Global};
@@ -60,7 +61,10 @@ pub enum Extent {
 
 impl Given {
     /// Nothing.
-    pub fn nothing(alloc: Global) -> Self {
+    pub fn nothing(alloc: Global) -> Self
+        ensures rows { result.rows.items ≡ [] }
+        ensures alarms { result.alarms ≡ 0 }
+    {
         Given {
             universe: None,
             heard: Vec::new(alloc),
@@ -114,26 +118,40 @@ pub fn push_document(
     named: Option<u16>,
     given: &mut Given,
     extent: Extent,
-) -> Result<bool, AllocError> {
-    let moment = board.monitor().moment();
-    let streams = board.monitor().streams();
+) -> Result<bool, AllocError>
+    ensures whole { length given.old.rows.items ≡ 0 → given.old.alarms ≡ 0 → extent ≡ Whole
+        → OnOk result (string_bytes text.new
+        ≡ string_bytes text.old ++ document (option_copied facts.entry) board.now named) }
+{
+    let monitor = board.monitor();
+    let moment = monitor.moment();
+    let streams = monitor.streams();
     let universe = board.chosen_universe(named);
     push_first_number(text, "ms", moment)?;
-    if let Some(facts) = facts {
-        push_key(text, "recording")?;
-        push_facts(text, facts)?;
-    }
+    push_recording(text, facts)?;
     let start = text.len();
     push_universe(text, universe, &mut given.universe, extent)?;
     push_heard(text, board.universes_heard(), &mut given.heard, extent)?;
     push_rows(text, streams, moment, &mut given.rows, extent)?;
-    push_lit(text, board, universe, given, extent)?;
+    push_lit(text, find_lit(board, universe), monitor, given, extent)?;
     push_alarms(text, streams, board.alarms(), &mut given.alarms, extent)?;
-    let counts = Counts::of(board.monitor().tally());
+    let counts = Counts::of(monitor.tally());
     push_counts(text, &counts, &mut given.counts, extent)?;
     let is_more = text.len() > start;
     text.push('}')?;
     Ok(is_more)
+}
+
+// What is known of a recording, where it is one.
+fn push_recording(text: &mut String, facts: Option<&Facts>) -> Result<(), AllocError>
+    ensures { OnOk result (string_bytes text.new
+        ≡ string_bytes text.old ++ recording_member (option_copied facts.entry)) }
+{
+    let Some(facts) = facts else {
+        return Ok(());
+    };
+    push_key(text, "recording")?;
+    push_facts(text, facts)
 }
 
 fn push_universe(
@@ -239,33 +257,52 @@ fn push_no_row(text: &mut String) -> Result<(), AllocError>
     text.push_str(",\"sources\":[]")
 }
 
-fn find_lit(board: &Board, universe: Option<u16>) -> Option<&LitUniverse> {
+// A universe as it is merged, where there is one that is.
+fn find_lit(board: &Board, universe: Option<u16>) -> Option<&LitUniverse>
+    ensures { option_copied result ≡ lit_of board.now.lit.items universe }
+{
     match universe {
         Some(universe) => board.find_lit(universe),
         None => None,
     }
 }
 
-// The levels of the chosen universe, and who gives them. Out of line, so that its room is made ready only where a document is written.
+// The levels of a universe, all 0 where it isn't merged.
+fn levels_of(lit: Option<&LitUniverse>) -> [u8; SLOTS]
+    ensures { result ≡ levels_of (option_copied lit.entry) }
+{
+    match lit {
+        Some(lit) => *lit.levels(),
+        None => [0; SLOTS],
+    }
+}
+
+// Who gives them, as marks of a monitor's streams.
+fn winners_of(lit: Option<&LitUniverse>, monitor: &Monitor) -> [u16; SLOTS]
+    ensures { result ≡ winners_of monitor.now.streams (option_copied lit.entry) }
+{
+    match lit {
+        Some(lit) => marks_of(&lit.places(monitor)),
+        None => [0; SLOTS],
+    }
+}
+
+// The levels of the universe that is shown, and who gives them. Out of line, so that its room is made ready only where a document is written.
 #[inline(never)]
+#[tactic(auto, unfolding(crate::specs::WholeDocuments::lit_members))]
 fn push_lit(
     text: &mut String,
-    board: &Board,
-    universe: Option<u16>,
+    lit: Option<&LitUniverse>,
+    monitor: &Monitor,
     given: &mut Given,
     extent: Extent,
-) -> Result<(), AllocError> {
-    match find_lit(board, universe) {
-        Some(lit) => {
-            push_levels(text, lit.levels(), &mut given.levels, extent)?;
-            let winners = marks_of(&lit.places(board.monitor()));
-            push_winners(text, &winners, &mut given.winners, extent)
-        }
-        None => {
-            push_levels(text, &[0; SLOTS], &mut given.levels, extent)?;
-            push_winners(text, &[0; SLOTS], &mut given.winners, extent)
-        }
-    }
+) -> Result<(), AllocError>
+    ensures whole { extent ≡ Whole → OnOk result (string_bytes text.new
+        ≡ string_bytes text.old ++ lit_members monitor.now.streams (option_copied lit.entry)) }
+    ensures alarms { given.new.alarms ≡ given.old.alarms }
+{
+    push_levels(text, &levels_of(lit), &mut given.levels, extent)?;
+    push_winners(text, &winners_of(lit, monitor), &mut given.winners, extent)
 }
 
 fn push_levels(
