@@ -108,7 +108,7 @@ given() {
 setup_among() {
   while [ $# != 0 ]; do
     case $1 in
-      --listen | --from | --widget | --seconds) shift ;;
+      --listen | --from | --widget | --page | --seconds) shift ;;
       -?*) ;;
       *) echo "$1"; return ;;
     esac
