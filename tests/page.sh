@@ -1,5 +1,5 @@
 #!/usr/bin/env bash
-# The page of a watch, asked with curl and with bash alone: each refusal, the document, events beside a desk on loopback, a viewer that never reads,
+# The page of a watch and of a gateway, asked with curl and with bash alone: each refusal, the document, events beside a desk on loopback, a viewer that never reads,
 # and more viewers and universes than there is room for. Prints 'ok NAME', 'not ok NAME: why' or 'skipped NAME: why' for each, as ./test counts them.
 set -u
 top=$(cd "$(dirname "$(readlink -f "$0")")/.." && pwd)
@@ -385,3 +385,55 @@ verdict "memory stays small" $? "$memory kB"
 exec {deaf}>&-
 [ ! -s watch.out ] && kill -0 "$watch"
 verdict "it prints nothing, and goes on" $? "$(head -n 3 watch.out)"
+
+# The page of a gateway: from its own socket, beside a desk that fades 200 universes, a viewer that never reads, and 100 that send half a head.
+kill "$watch"
+wait "$watch" 2>/dev/null
+printf 'version = 1\nudp_port = %s\n' "$udp" >node.toml
+for universe in $(seq 16); do printf '[[port]]\nnumber = %s\nuniverse = %s\n' "$universe" "$universe"; done >>node.toml
+: >gateway.err
+"$sacn" gateway node.toml --listen 127.0.0.1 --page $tcp </dev/null >gateway.out 2>gateway.err &
+gateway=$!
+started+=("$gateway")
+for _ in $(seq 100); do grep -q '^page' gateway.err && break; sleep 0.1; done
+[ "$(tail -n 1 gateway.err)" = "page http://127.0.0.1:$tcp/" ] && [ "$(head -n 1 gateway.err)" = "hears 127.0.0.1:$udp" ]
+verdict "where a gateway serves" $? "$(cat gateway.err)"
+status=0
+timeout 20 "$sacn" gateway node.toml --page $tcp </dev/null >out 2>err || status=$?
+[ "$status" = 4 ] && [ "$(cat err)" = "device socket 127.0.0.1:$tcp AddrInUse" ] && [ ! -s out ]
+verdict "a gateway whose page's port is taken" $? "status $status, $(cat err)"
+answers "a gateway's page" 200 $at/
+answers "a gateway's document before anything came" 200 $at/state
+[ "$(sed 's/"ms":[0-9]*/"ms":0/' body)" = "$nothing" ]
+verdict "nothing heard by a gateway" $? "$(cat body)"
+exec {deaf}<>"/dev/tcp/127.0.0.1/$tcp"
+ask "$deaf" /events
+slow=()
+for _ in $(seq 100); do
+  exec {line}<>"/dev/tcp/127.0.0.1/$tcp"
+  printf 'GET / HTTP/1.1\r\n' >&"$line" 2>/dev/null
+  slow+=("$line")
+done
+printf '0 go\n' >script.txt
+timeout 30 "$sacn" desk many.toml --script script.txt --stay </dev/null >desk.out 2>desk.err &
+desk=$!
+started+=("$desk")
+# (the fade takes twelve seconds, and a port's frame has its start code before its slots)
+full="ff$(printf '0%.0s' $(seq 1022))"
+for _ in $(seq 300); do [ "$(grep -c " 00$full\$" gateway.out)" -ge 16 ] && break; sleep 0.1; done
+[ "$(grep " 00$full\$" gateway.out | cut -d ' ' -f 1 | sort -n | uniq | paste -s -d ' ')" = "$(seq -s ' ' 16)" ]
+verdict "a gateway lights its ports beside viewers that don't read" $? "$(tail -n 3 gateway.out | cut -c 1-60)"
+answers "a gateway's document of one of its universes" 200 "$at/state?universe=16"
+grep -qF "\"levels\":\"$full\"" body && grep -qF '"name":"Many"' body
+verdict "a gateway's page shows what it lights" $? "$(head -c 600 body)"
+answers "a gateway's document of another universe" 200 "$at/state?universe=200"
+grep -q '"universe":200,"heard":\[1,2,3,.*,199,200\]' body
+verdict "a gateway's page tells what no port shows" $? "$(head -c 600 body)"
+[ "$(grep -c '^source .* came 127\.0\.0\.1$' gateway.err)" -ge 1 ] && ! grep -qE '^(page|discarded|refused)' <(tail -n +18 gateway.err | grep -v "^page http")
+verdict "a gateway says what it says without a page" $? "$(tail -n 5 gateway.err)"
+for line in "${slow[@]}"; do exec {line}>&-; done
+exec {deaf}>&-
+kill "$desk"
+wait "$desk" 2>/dev/null
+kill -0 "$gateway"
+verdict "a gateway goes on" $?
