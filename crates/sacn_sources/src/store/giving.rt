@@ -57,7 +57,7 @@ fn shows_at(entry: &Entry, priority: u8) -> bool
 fn give(places: &mut [Option<u8>; 512], place: u8, levels: &Levels, slots: &[u8; 512])
     ensures { EachIndex places.new (λ slot. slice_index_or places.new slot None
         ≡ given_to place (slice_index slots.now slot) (slice_index levels.now slot)
-            (slice_index_or places.old slot None)) }
+        (slice_index_or places.old slot None)) }
 {
     for slot in 0..512 {
         let level = slots[slot];

@@ -22,10 +22,10 @@ loop-slot-preserved c =
     let within : slot < length places = omega (arith, told.whole, c.loop-slot-test.true) in
     elim c.if-level-at.branch [
       | then-level-at w ↦ record {
-          whole = c.if-level-at.array_long;
-          so_far = one_more first places c.if-level-at.places to slot (Some c.args.place) w.places-is within (sym (ap of (read ∙ w.if-level-at.true))) told.so_far;
-          rest = others_stay first places c.if-level-at.places to slot (Some c.args.place) w.places-is told.rest;
-        }
+        whole = c.if-level-at.array_long;
+        so_far = one_more first places c.if-level-at.places to slot (Some c.args.place) w.places-is within (sym (ap of (read ∙ w.if-level-at.true))) told.so_far;
+        rest = others_stay first places c.if-level-at.places to slot (Some c.args.place) w.places-is told.rest;
+      }
       | else-level-at w ↦
           let same = w.places-is ∙ sym (set-get_or places slot None) in
           record {

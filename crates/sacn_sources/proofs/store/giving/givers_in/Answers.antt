@@ -38,9 +38,9 @@ loop-at-preserved-then-shows_at c =
           let merged = get_or c.args.slots.now k 0 in
           let own = get_or c.index.result.now k 0 in
           let is : (own == merged) ≡ passes fr top k merged e =
-            ap (λ o. get_or (unwrap_or o []) k 0 == merged) (sym c.index.ensures)
-            ∙ ap (λ b. b && (get_or (unwrap_or (get fr e.key) []) k 0 == merged)) (sym c.if-shows_at.true ∙ c.shows_at.ensures)
-            ∙ sym (gives_there fr top k merged e) in
+          ap (λ o. get_or (unwrap_or o []) k 0 == merged) (sym c.index.ensures)
+          ∙ ap (λ b. b && (get_or (unwrap_or (get fr e.key) []) k 0 == merged)) (sym c.if-shows_at.true ∙ c.shows_at.ensures)
+          ∙ sym (gives_there fr top k merged e) in
           ap (giver_in (map (λ e. e.cid) es)) (c.give.ensures k (omega (arith, lt, c.give.array_long)))
           ∙ giver_before fr top k merged es i blank (omega (arith, c.loop-at.auto.at, c.loop-at-test.true)) (get_or c.loop-at.places k None) (c.loop-at.invariant.so_far k lt ∙ ap (λ j. first_giver top k merged (rows_in fr (drop j es))) more) (own == merged) is;
     }
@@ -75,7 +75,7 @@ returns c =
     ap (λ l. map (giver_in l) places) c.cids_of.ensures
     ∙ fill_by_all (giver_of rows) (map (giver_in cids) places) 512 None (length-map places (giver_in cids) ∙ c.loop-at.invariant.whole)
     (λ k lt. get_or-map (giver_in cids) places k None None (omega (arith, lt, c.loop-at.invariant.whole))
-      ∙ c.loop-at.invariant.so_far k lt
-      ∙ ap (λ at. first_giver c.top_priority-top.result k (get_or c.args.slots.now k 0) (rows_in fr (drop at es))) all
-      ∙ ap (λ t. first_giver t k (get_or c.args.slots.now k 0) rows) top
-      ∙ ap (λ (l : List ℕ). first_giver followed k (get_or l k 0) rows) c.requires.merged)
+    ∙ c.loop-at.invariant.so_far k lt
+    ∙ ap (λ at. first_giver c.top_priority-top.result k (get_or c.args.slots.now k 0) (rows_in fr (drop at es))) all
+    ∙ ap (λ t. first_giver t k (get_or c.args.slots.now k 0) rows) top
+    ∙ ap (λ (l : List ℕ). first_giver followed k (get_or l k 0) rows) c.requires.merged)
