@@ -5,6 +5,7 @@ use crate::loops::push;
 use crate::step::{Step, StepFault};
 use sacn_edge::WriterOut;
 use sacn_explain::{Form, Options};
+use sacn_framing::read_packet;
 use sacn_live::memory::{Incoming, MemoryReceiver};
 use sacn_monitor::Sender;
 use sacn_text::decode_text;
@@ -61,7 +62,8 @@ impl Watches {
             "view" => {
                 let now = step.number();
                 let datagram = datagram_in(step)?;
-                self.view.take(now, SENDER, datagram.as_slice());
+                let reading = read_packet(datagram.as_slice());
+                self.view.take(now, SENDER, &reading);
             }
             "screen" => self.draw(step)?,
             "written" => compare(step, self.output.as_slice())?,
