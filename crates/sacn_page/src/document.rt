@@ -108,7 +108,7 @@ impl Counts {
 }
 
 /// Writes the document of a viewer that names this universe, or none, and notes what was given; of a recording with what is known of
-/// it. Returns whether any member but the moment was written.
+/// it. Returns whether any member but the moment was written. Clause `whole` says what a viewer is given that was given nothing.
 ///
 /// Errors: a growth was refused; the text and what was given then are of no use.
 pub fn push_document(
