@@ -11,7 +11,7 @@ use Rattle.sacn_monitor.specs.declared.news.Noted.TheVariants as noted
 use Rattle.sacn_monitor.specs.Histories.{Call, Take, Tick}
 use Rattle.sacn_network.specs.declared.ledger.Ledger.{Ledger}
 use Rattle.sacn_network.specs.declared.ledger.TheConstants.{MOST_STEPS}
-use Rattle.sacn_network.specs.declared.occurrence.Occurrence.{Occurrence}
+use Rattle.sacn_network.specs.Telling.{Told}
 use Rattle.sacn_network.specs.declared.occurrence.What.TheVariants.{Heard}
 use Rattle.sacn_network.specs.declared.universe_set.TheConstants.{WORDS}
 use Rattle.sacn_network.specs.Sets.{has_bit, is_otherwise, marked}
@@ -22,19 +22,19 @@ use Rattle.sacn_network.specs.Networks.{handed, note_of, ticked, tick_told}
 use Rattle.sacn_network.specs.Packets.{after_noted, news_told, noted_told, now_told, stirred, stirred_universe, tells_nothing}
 use Rattle.sacn_network.proofs.Bits.{as_before, has_none, marked_length, marks_one, none_length}
 
-told_on : (u : ℕ) (b : Bool) (xs ys : List Occurrence) → contested_by u b (xs ++ ys) ≡ contested_by u (contested_by u b xs) ys
+told_on : (u : ℕ) (b : Bool) (xs ys : List Told) → contested_by u b (xs ++ ys) ≡ contested_by u (contested_by u b xs) ys
 told_on u b [] ys = refl
-told_on u b (x ∷ xs) ys = told_on u (contested_from u b x.what) xs ys
+told_on u b (x ∷ xs) ys = told_on u (contested_from u b x.occurrence.what) xs ys
 
 -- after these occurrences a set is as they tell, where it was as it was told before
-record Follows (old new : List ℕ) (more : List Occurrence) : Type 0 where
+record Follows (old new : List ℕ) (more : List Told) : Type 0 where
   long : length old ≡ WORDS → length new ≡ WORDS
   bits : length old ≡ WORDS → (u : ℕ) → u < 2 ^ 16 → has_bit new u ≡ contested_by u (has_bit old u) more
 
 still : (a : List ℕ) → Follows a a []
 still a = record { long = λ l. l; bits = λ l u low. refl }
 
-both : (a b c : List ℕ) (xs ys : List Occurrence) → Follows a b xs → Follows b c ys → Follows a c (xs ++ ys)
+both : (a b c : List ℕ) (xs ys : List Told) → Follows a b xs → Follows b c ys → Follows a c (xs ++ ys)
 both a b c xs ys first next = record {
   long = λ l. next.long (first.long l);
   bits = λ l u low. next.bits (first.long l) u low ∙ ap (λ (x : Bool). contested_by u x ys) (first.bits l u low) ∙ sym (told_on u (has_bit a u) xs ys);

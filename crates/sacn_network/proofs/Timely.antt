@@ -20,7 +20,7 @@ use Rattle.sacn_monitor.specs.Histories.{Call, Take, Tick, moment_in_use}
 use Rattle.sacn_monitor.proofs.Losses.{quiet_changed, quiet_more, quiet_told}
 use Rattle.sacn_network.specs.declared.ledger.Ledger.{Ledger}
 use Rattle.sacn_network.specs.declared.ledger.TheConstants.{MOST_STEPS}
-use Rattle.sacn_network.specs.declared.occurrence.Occurrence.{Occurrence}
+use Rattle.sacn_network.specs.Telling.{Told}
 use Rattle.sacn_network.specs.declared.occurrence.What.TheVariants.{Contest, Heard, Lost, Refused, Untracked}
 use Rattle.sacn_network.specs.Sets.{has_bit, is_otherwise}
 use Rattle.sacn_network.specs.Calls.{AreMoments, AreTimely, IsTimely, LossesAreTimely, loss_at, network_after}
@@ -49,8 +49,8 @@ loss_kept : (p : ℕ) (o : Option ℕ) (ss : List Stream) → loss_at p (told_at
 loss_kept p None ss = refl
 loss_kept p (Some i) ss = loss_changed p i ss (slice_get ss i) refl
 
-one_as : (ss zs : List Stream) → ((p : ℕ) → loss_at p zs ≡ loss_at p ss) → (o : Occurrence) → IsTimely zs o.at o.what → IsTimely ss o.at o.what
-one_as ss zs same o is = by o.what o.at is
+one_as : (ss zs : List Stream) → ((p : ℕ) → loss_at p zs ≡ loss_at p ss) → (o : Told) → IsTimely zs o.occurrence.at o.occurrence.what → IsTimely ss o.occurrence.at o.occurrence.what
+one_as ss zs same o is = by o.occurrence.what o.occurrence.at is
   where
     by : (w : _) (at : ℕ) → IsTimely zs at w → IsTimely ss at w
     by (Lost p) at is = sym (same p) ∙ is
@@ -59,11 +59,11 @@ one_as ss zs same o is = by o.what o.at is
     by (Untracked sender) at is = tt
     by (Contest c) at is = tt
 
-timely_as : (ss zs : List Stream) → ((p : ℕ) → loss_at p zs ≡ loss_at p ss) → (os : List Occurrence) → AreTimely zs os → AreTimely ss os
+timely_as : (ss zs : List Stream) → ((p : ℕ) → loss_at p zs ≡ loss_at p ss) → (os : List Told) → AreTimely zs os → AreTimely ss os
 timely_as ss zs same [] are = tt
 timely_as ss zs same (o ∷ os) are = (one_as ss zs same o are.0, timely_as ss zs same os are.1)
 
-timely_both : (ss : List Stream) (xs ys : List Occurrence) → AreTimely ss xs → AreTimely ss ys → AreTimely ss (xs ++ ys)
+timely_both : (ss : List Stream) (xs ys : List Told) → AreTimely ss xs → AreTimely ss ys → AreTimely ss (xs ++ ys)
 timely_both ss [] ys first next = next
 timely_both ss (x ∷ xs) ys first next = (first.0, timely_both ss xs ys first.1 next)
 

@@ -9,9 +9,9 @@ use Rattle.sacn_monitor.specs.declared.limits.TheConstants.{MAX_STREAMS}
 use Rattle.sacn_monitor.specs.Books.{silent_place}
 use Rattle.sacn_monitor.specs.Histories.{Call, Take, Tick, moment_of, moment_in_use, arrivals, account_by, account_in}
 use Rattle.sacn_network.specs.declared.ledger.Ledger.{Ledger}
-use Rattle.sacn_network.specs.declared.occurrence.Occurrence.{Occurrence}
 use Rattle.sacn_network.specs.declared.occurrence.What.{What}
 use Rattle.sacn_network.specs.declared.occurrence.What.TheVariants.{Contest, Heard, Lost, Refused, Untracked}
+use Rattle.sacn_network.specs.Telling.{Told}
 use Rattle.sacn_network.specs.Sets.{has_bit}
 use Rattle.sacn_network.specs.Networks.{new_network, take_told, taken, tick_told, ticked}
 
@@ -19,7 +19,7 @@ abbrev pub step : Call → Ledger → Ledger
 step (Take now sender octets) n = taken now sender (reading_packet octets) n
 step (Tick now) n = ticked now n
 
-abbrev pub told_in : Call → Ledger → List Occurrence
+abbrev pub told_in : Call → Ledger → List Told
 told_in (Take now sender octets) n = take_told now sender (reading_packet octets) n
 told_in (Tick now) n = tick_told now n
 
@@ -29,7 +29,7 @@ network_after [] = new_network
 network_after (call ∷ earlier) = step call (network_after earlier)
 
 -- and all that was told in it, in order
-abbrev pub told_by : List Call → List Occurrence
+abbrev pub told_by : List Call → List Told
 told_by [] = []
 told_by (call ∷ earlier) = told_by earlier ++ told_in call (network_after earlier)
 
@@ -65,9 +65,9 @@ contested_from universe before (Heard place news) = before
 contested_from universe before (Refused sender fault) = before
 contested_from universe before (Untracked sender) = before
 
-abbrev pub contested_by : ℕ → Bool → List Occurrence → Bool
+abbrev pub contested_by : ℕ → Bool → List Told → Bool
 contested_by universe before [] = before
-contested_by universe before (o ∷ os) = contested_by universe (contested_from universe before o.what) os
+contested_by universe before (o ∷ os) = contested_by universe (contested_from universe before o.occurrence.what) os
 
 -- A universe is contested where that was told last of it. So what is told of it is each time something else than before.
 abbrev pub IsContestedAsTold : Type 0
@@ -87,9 +87,9 @@ IsTimely ss at (Refused sender fault) = ⊤
 IsTimely ss at (Untracked sender) = ⊤
 IsTimely ss at (Contest c) = ⊤
 
-abbrev pub AreTimely : List Stream → List Occurrence → Type 0
+abbrev pub AreTimely : List Stream → List Told → Type 0
 AreTimely ss [] = ⊤
-AreTimely ss (o ∷ os) = IsTimely ss o.at o.what × AreTimely ss os
+AreTimely ss (o ∷ os) = IsTimely ss o.occurrence.at o.occurrence.what × AreTimely ss os
 
 -- Each loss that is told, by a tick or before a datagram, is told 2500 ms after the latest packet of its stream that was taken.
 abbrev pub LossesAreTimely : Type 0

@@ -4,8 +4,8 @@ use Rattle.sacn_monitor.specs.declared.stream.Stream.{Stream}
 use Rattle.sacn_monitor.specs.Books.{Book}
 use Rattle.sacn_monitor.specs.Rivals.{rivals, top_priority}
 use Rattle.sacn_network.specs.declared.ledger.Ledger.{Ledger}
-use Rattle.sacn_network.specs.declared.occurrence.Occurrence.{Occurrence}
 use Rattle.sacn_network.specs.declared.occurrence.What.TheVariants.{Contest}
+use Rattle.sacn_network.specs.Telling.{Told, told_now}
 use Rattle.sacn_network.specs.Sets.{has_bit, is_otherwise, marked}
 
 -- two sources or more light a universe at its top priority
@@ -13,21 +13,18 @@ abbrev pub is_contested : ℕ → Book → Bool
 is_contested universe b = nat_le 2 (rivals universe b.moment b.streams)
 
 -- how many they are from now on
-abbrev pub contest_of : ℕ → Book → Occurrence
-contest_of universe b = record {
-  at = b.moment;
-  what = Contest (record { universe = universe; sources = rivals universe b.moment b.streams; priority = top_priority universe b.moment b.streams });
-}
+abbrev pub contest_of : ℕ → Book → Told
+contest_of universe b = told_now (Contest (record { universe = universe; sources = rivals universe b.moment b.streams; priority = top_priority universe b.moment b.streams })) b
 
 -- that, where the universe is contested and wasn't, or isn't and was
-unfoldable pub contest_told : ℕ → Ledger → List Occurrence
+unfoldable pub contest_told : ℕ → Ledger → List Told
 contest_told universe n = if is_otherwise (is_contested universe n.monitor) (has_bit n.contested universe) then contest_of universe n.monitor ∷ [] else []
 
 unfoldable pub with_contest : ℕ → Ledger → Ledger
 with_contest universe n = record n { contested = marked universe (is_contested universe n.monitor) n.contested }
 
 -- of a universe, where there is one
-abbrev pub contest_in : Option ℕ → Ledger → List Occurrence
+abbrev pub contest_in : Option ℕ → Ledger → List Told
 contest_in None n = []
 contest_in (Some universe) n = contest_told universe n
 

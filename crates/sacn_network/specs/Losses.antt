@@ -6,7 +6,7 @@ use Rattle.sacn_monitor.specs.declared.news.Noted.TheVariants as noted
 use Rattle.sacn_monitor.specs.declared.stream.Stream.{Stream}
 use Rattle.sacn_monitor.specs.Books.{after_tick, next_loss, silent_place}
 use Rattle.sacn_network.specs.declared.ledger.Ledger.{Ledger}
-use Rattle.sacn_network.specs.declared.occurrence.Occurrence.{Occurrence}
+use Rattle.sacn_network.specs.Telling.{Told, told_now}
 use Rattle.sacn_network.specs.declared.occurrence.What.TheVariants.{Lost}
 use Rattle.sacn_network.specs.Contests.{contest_in, universe_of, with_contest_in}
 
@@ -22,22 +22,22 @@ unfoldable pub lost_place : ℕ → Ledger → Option ℕ
 lost_place t n = silent_place (max n.monitor.moment (next_end t n)) n.monitor.streams
 
 -- its loss, and then the contest of its universe
-abbrev pub loss_told : Option ℕ → Ledger → List Occurrence
+abbrev pub loss_told : Option ℕ → Ledger → List Told
 loss_told None n = []
-loss_told (Some place) n = record { at = n.monitor.moment; what = Lost place } ∷ contest_in (universe_of (slice_get n.monitor.streams place)) n
+loss_told (Some place) n = told_now (Lost place) n.monitor ∷ contest_in (universe_of (slice_get n.monitor.streams place)) n
 
 abbrev pub after_loss : Option ℕ → Ledger → Ledger
 after_loss None n = n
 after_loss (Some place) n = with_contest_in (universe_of (slice_get n.monitor.streams place)) n
 
-unfoldable pub end_told : ℕ → Ledger → List Occurrence
+unfoldable pub end_told : ℕ → Ledger → List Told
 end_told t n = loss_told (lost_place t n) (at_end t n)
 
 unfoldable pub after_end : ℕ → Ledger → Ledger
 after_end t n = after_loss (lost_place t n) (at_end t n)
 
 -- one loss after the other, each no later than t, so many steps at most; the last step finds none, and leaves the clock at t
-unfoldable pub silence_told : ℕ → ℕ → Ledger → List Occurrence
+unfoldable pub silence_told : ℕ → ℕ → Ledger → List Told
 silence_told zero t n = []
 silence_told (suc steps) t n = end_told t n ++ (if is_some (lost_place t n) then silence_told steps t (after_end t n) else [])
 

@@ -1,13 +1,13 @@
 -- A network, and the steps that its calls make.
-use Rattle.std.specs.Prelude.{ℕ, max, List, ◌++◌, Result}
+use Rattle.std.specs.Prelude.{ℕ, ◌<◌, ◌≤◌, ◌-◌, ◌^◌, max, List, ◌++◌, Result}
 use Rattle.sacn_root.specs.declared.fault.PacketFault.{PacketFault}
 use Rattle.sacn_framing.specs.declared.packet.Packet.{Packet}
 use Rattle.sacn_monitor.specs.declared.account.Sender.{Sender}
 use Rattle.sacn_monitor.specs.declared.news.Noted.{Noted}
-use Rattle.sacn_monitor.specs.Books.{after_read, new_book, noted_packet, with_datagram}
+use Rattle.sacn_monitor.specs.Books.{after_read, new_book, next_loss, noted_packet, with_datagram}
 use Rattle.sacn_network.specs.declared.ledger.Ledger.{Ledger}
 use Rattle.sacn_network.specs.declared.ledger.TheConstants.{MOST_STEPS}
-use Rattle.sacn_network.specs.declared.occurrence.Occurrence.{Occurrence}
+use Rattle.sacn_network.specs.Telling.{Told}
 use Rattle.sacn_network.specs.Sets.{no_universes}
 use Rattle.sacn_network.specs.Losses.{silence_told, silenced}
 use Rattle.sacn_network.specs.Packets.{after_noted, noted_told}
@@ -18,11 +18,15 @@ new_network = record { monitor = new_book; contested = no_universes; heard = no_
 
 -- ---- the clock moves
 
-abbrev pub tick_told : ℕ → Ledger → List Occurrence
+abbrev pub tick_told : ℕ → Ledger → List Told
 tick_told now n = silence_told MOST_STEPS (max n.monitor.moment now) n
 
 abbrev pub ticked : ℕ → Ledger → Ledger
 ticked now n = silenced MOST_STEPS (max n.monitor.moment now) n
+
+-- no loss that comes by a moment is still to be told; the last moment of all never comes
+abbrev pub LeavesNone : ℕ → Ledger → Type 0
+LeavesNone t n = (m : ℕ) → m ≤ t → m < 2 ^ 64 - 1 → m < next_loss n.monitor.streams
 
 -- ---- a datagram comes, by its one reading
 
@@ -34,7 +38,7 @@ abbrev pub note_of : ℕ → Sender → Result Packet PacketFault → Ledger →
 note_of now sender reading n = noted_packet sender (with_datagram now n.monitor) reading
 
 -- first what ended by silence, then what the datagram tells
-abbrev pub take_told : ℕ → Sender → Result Packet PacketFault → Ledger → List Occurrence
+abbrev pub take_told : ℕ → Sender → Result Packet PacketFault → Ledger → List Told
 take_told now sender reading n = let m = ticked now n in tick_told now n ++ noted_told sender (note_of now sender reading m) (handed now sender reading m)
 
 abbrev pub taken : ℕ → Sender → Result Packet PacketFault → Ledger → Ledger

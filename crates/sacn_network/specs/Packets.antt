@@ -8,7 +8,7 @@ use Rattle.sacn_monitor.specs.declared.news.Noted.{Noted}
 use Rattle.sacn_monitor.specs.declared.news.Noted.TheVariants as noted
 use Rattle.sacn_monitor.specs.declared.stream.Stream.{Stream}
 use Rattle.sacn_network.specs.declared.ledger.Ledger.{Ledger}
-use Rattle.sacn_network.specs.declared.occurrence.Occurrence.{Occurrence}
+use Rattle.sacn_network.specs.Telling.{Told, told_now}
 use Rattle.sacn_network.specs.declared.occurrence.What.{What}
 use Rattle.sacn_network.specs.declared.occurrence.What.TheVariants.{Heard, Refused, Untracked}
 use Rattle.sacn_network.specs.Sets.{marked}
@@ -31,10 +31,10 @@ abbrev pub stirs : Stream → News → Bool
 stirs s news = not (goes_on news.event) || is_some news.priority || (s.account.kinds.live == 1)
 
 -- something happened now
-abbrev pub now_told : What → Ledger → List Occurrence
-now_told what n = record { at = n.monitor.moment; what = what } ∷ []
+abbrev pub now_told : What → Ledger → List Told
+now_told what n = told_now what n.monitor ∷ []
 
-unfoldable pub news_told : ℕ → News → Ledger → List Occurrence
+unfoldable pub news_told : ℕ → News → Ledger → List Told
 news_told place news n = if tells_nothing news then [] else now_told (Heard place news) n
 
 -- the universe that a packet stirs
@@ -51,7 +51,7 @@ stirred None n = n
 stirred (Some universe) n = with_contest universe (with_heard universe n)
 
 -- a page and a sync packet tell nothing here
-unfoldable pub noted_told : Sender → Noted → Ledger → List Occurrence
+unfoldable pub noted_told : Sender → Noted → Ledger → List Told
 noted_told sender (noted.Refused fault) n = now_told (Refused sender fault) n
 noted_told sender noted.Page n = []
 noted_told sender noted.Sync n = []

@@ -6,7 +6,7 @@ ghost use Rattle.sacn_network.specs.Contests.{contest_told, with_contest, contes
 ghost use Rattle.sacn_network.specs.Losses.{after_end, after_loss, end_told, lost_place, loss_told, silence_told, silenced};
 ghost use Rattle.sacn_network.specs.Networks.{new_network};
 ghost use Rattle.sacn_network.specs.Packets.{after_noted, news_told, noted_told, now_told, stirred};
-ghost use Rattle.sacn_network.specs.Telling.{Extends};
+ghost use Rattle.sacn_network.specs.Telling.{AreTold};
 
 use crate::observer::Observer;
 use crate::occurrence::{Contest, Occurrence, What};
@@ -44,8 +44,8 @@ impl Ledger {
     /// a source was lost.
     pub(crate) fn tell_silence<O: Observer>(&mut self, until: u64, observer: &mut O) -> bool
         ensures lost { result ≡ is_some (lost_place until self.old) }
-        ensures told { Extends (O.told observer.old) (O.told observer.new)
-            (silence_told MOST_STEPS until self.old) }
+        ensures told { AreTold O.Notes (silence_told MOST_STEPS until self.old)
+            observer.old observer.new }
         ensures ledger { self.new ≡ silenced MOST_STEPS until self.old }
     {
         let mut steps = MOST_STEPS;
@@ -61,8 +61,8 @@ impl Ledger {
     /// Tells what a datagram tells, by what was noted of it.
     #[tactic(auto, unfolding(crate::specs::Packets::noted_told, crate::specs::Packets::after_noted))]
     pub(crate) fn tell_noted<O: Observer>(&mut self, sender: Sender, noted: Noted, observer: &mut O)
-        ensures told { Extends (O.told observer.old) (O.told observer.new)
-            (noted_told sender noted self.old) }
+        ensures told { AreTold O.Notes (noted_told sender noted self.old)
+            observer.old observer.new }
         ensures ledger { self.new ≡ after_noted noted self.old }
     {
         match noted {
@@ -81,8 +81,7 @@ impl Ledger {
     #[tactic(auto, unfolding(crate::specs::Losses::lost_place, crate::specs::Losses::end_told, crate::specs::Losses::after_end))]
     fn tell_end<O: Observer>(&mut self, until: u64, observer: &mut O) -> bool
         ensures answer { result ≡ is_some (lost_place until self.old) }
-        ensures told { Extends (O.told observer.old) (O.told observer.new)
-            (end_told until self.old) }
+        ensures told { AreTold O.Notes (end_told until self.old) observer.old observer.new }
         ensures ledger { self.new ≡ after_end until self.old }
     {
         let at = self.monitor.next_loss().min(until);
@@ -93,8 +92,7 @@ impl Ledger {
 
     // Tells a loss, and then the contest of its universe.
     fn tell_loss<O: Observer>(&mut self, lost: Option<usize>, observer: &mut O)
-        ensures told { Extends (O.told observer.old) (O.told observer.new)
-            (loss_told lost self.old) }
+        ensures told { AreTold O.Notes (loss_told lost self.old) observer.old observer.new }
         ensures ledger { self.new ≡ after_loss lost self.old }
     {
         if let Some(place) = lost {
@@ -106,7 +104,7 @@ impl Ledger {
 
     // Tells that something happened now.
     fn tell<O: Observer>(&self, what: What, observer: &mut O)
-        ensures { Extends (O.told observer.old) (O.told observer.new) (now_told what self.now) }
+        ensures { AreTold O.Notes (now_told what self.now) observer.old observer.new }
     {
         let at = self.monitor.moment();
         observer.observe(&Occurrence { at, what }, &self.monitor);
@@ -115,8 +113,7 @@ impl Ledger {
     // Tells the news of a packet.
     #[tactic(auto, unfolding(crate::specs::Packets::news_told))]
     fn tell_news<O: Observer>(&self, place: usize, news: &News, observer: &mut O)
-        ensures { Extends (O.told observer.old) (O.told observer.new)
-            (news_told place news.now self.now) }
+        ensures { AreTold O.Notes (news_told place news.now self.now) observer.old observer.new }
     {
         if !tells_nothing(news) {
             self.tell(What::Heard(place, *news), observer);
@@ -126,8 +123,7 @@ impl Ledger {
     // Tells the contest of a universe that a packet stirs, where one does. From then on the universe was heard.
     #[tactic(auto, unfolding(crate::specs::Packets::stirred, crate::specs::Contests::contest_told))]
     fn tell_stirred<O: Observer>(&mut self, universe: Option<u16>, observer: &mut O)
-        ensures told { Extends (O.told observer.old) (O.told observer.new)
-            (contest_in universe self.old) }
+        ensures told { AreTold O.Notes (contest_in universe self.old) observer.old observer.new }
         ensures ledger { self.new ≡ stirred universe self.old }
     {
         if let Some(universe) = universe {
@@ -138,8 +134,7 @@ impl Ledger {
 
     // Tells the contest of a universe, where there is one.
     fn tell_contest_in<O: Observer>(&mut self, universe: Option<u16>, observer: &mut O)
-        ensures told { Extends (O.told observer.old) (O.told observer.new)
-            (contest_in universe self.old) }
+        ensures told { AreTold O.Notes (contest_in universe self.old) observer.old observer.new }
         ensures ledger { self.new ≡ with_contest_in universe self.old }
     {
         if let Some(universe) = universe {
@@ -150,8 +145,7 @@ impl Ledger {
     // Tells the contest of a universe, where it has changed.
     #[tactic(auto, unfolding(crate::specs::Contests::contest_told, crate::specs::Contests::with_contest))]
     fn tell_contest<O: Observer>(&mut self, universe: u16, observer: &mut O)
-        ensures told { Extends (O.told observer.old) (O.told observer.new)
-            (contest_told universe self.old) }
+        ensures told { AreTold O.Notes (contest_told universe self.old) observer.old observer.new }
         ensures ledger { self.new ≡ with_contest universe self.old }
     {
         let sources = self.monitor.rivals(universe);

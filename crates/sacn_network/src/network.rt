@@ -2,9 +2,9 @@
 
 ghost use Rattle.std.specs.Prelude.{◌≡◌, IfOk, is_some, max};
 ghost use Rattle.sacn_monitor.specs.Books.{next_loss, silent_place};
-ghost use Rattle.sacn_network.specs.Networks.{handed, new_network, note_of, take_told, taken, tick_told, ticked};
+ghost use Rattle.sacn_network.specs.Networks.{LeavesNone, handed, new_network, note_of, take_told, taken, tick_told, ticked};
 ghost use Rattle.sacn_network.specs.Sets.{has_bit};
-ghost use Rattle.sacn_network.specs.Telling.{Extends};
+ghost use Rattle.sacn_network.specs.Telling.{AreTold};
 
 use crate::ledger::Ledger;
 use crate::observer::Observer;
@@ -63,8 +63,10 @@ impl Network {
         observer: &mut O,
     ) -> Noted
         ensures noted { result ≡ note_of now sender reading.now (ticked now self.old) }
-        ensures told { Extends (O.told observer.old) (O.told observer.new)
-            (take_told now sender reading.now self.old) }
+        ensures clock { self.new.monitor.moment ≡ max self.old.monitor.moment now }
+        ensures silent { LeavesNone (max self.old.monitor.moment now) (ticked now self.old) }
+        ensures told { AreTold O.Notes (take_told now sender reading.now self.old)
+            observer.old observer.new }
         ensures network { self.new ≡ taken now sender reading.now self.old }
     {
         self.tick(now, observer);
@@ -78,8 +80,8 @@ impl Network {
         ensures lost { result
             ≡ is_some (silent_place (max self.old.monitor.moment now) self.old.monitor.streams) }
         ensures clock { self.new.monitor.moment ≡ max self.old.monitor.moment now }
-        ensures told { Extends (O.told observer.old) (O.told observer.new)
-            (tick_told now self.old) }
+        ensures silent { LeavesNone (max self.old.monitor.moment now) self.new }
+        ensures told { AreTold O.Notes (tick_told now self.old) observer.old observer.new }
         ensures network { self.new ≡ ticked now self.old }
     {
         let until = self.ledger.monitor.moment().max(now);

@@ -1,6 +1,6 @@
 //! Two sources on a universe: what is told of them, in order, each thing at its own moment.
 
-ghost use Rattle.std.specs.Prelude.{None, Some, if◌then◌else◌};
+ghost use Rattle.std.specs.Prelude.{◌≡◌, false, ◌++◌, ◌∷◌, []};
 
 use crate::{Contest, Network, Observer, Occurrence, What};
 use sacn_framing::{DataFields, read_packet, write_data};
@@ -15,7 +15,8 @@ struct Listing {
 }
 
 impl Observer for Listing {
-    ghost told = { λ l. if l.is_full then None else Some l.told.items };
+    ghost Notes = { λ old told new. new.is_full ≡ false
+        → (old.is_full ≡ false) × (new.told.items ≡ old.told.items ++ (told.occurrence ∷ [])) };
 
     fn observe(&mut self, occurrence: &Occurrence, _: &Monitor) {
         if !self.is_full {

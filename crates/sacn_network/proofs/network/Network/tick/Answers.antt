@@ -5,7 +5,7 @@ use Rattle.sacn_network.specs.Losses.{lost_place}
 use Rattle.sacn_network.specs.Networks.{tick_told, ticked}
 use Rattle.sacn_network.proofs.Telling.{told_as, told_nothing}
 use Rattle.sacn_network.proofs.Tracking.{all_silent, lost_as}
-use Rattle.sacn_network.proofs.Whole.{told_length}
+use Rattle.sacn_network.proofs.Whole.{none_before, told_length}
 use Rattle.sacn_network.proofs.Waking.{early_ledger, early_lost, early_quiet, early_told}
 use Rattle.sacn_network.proofs.network.Network.tick.Goals as goal
 
@@ -51,12 +51,27 @@ returns-clause-clock g c =
 pub returns-then-until-self-clause-told : goal.returns-then-until-self-clause-told
 returns-then-until-self-clause-told g c =
     let n = c.self.inside in
-    let told = g.O.Observer.told c.args.observer.now in
     let none = early_told c.args.now c.max-until.result n.wake n.ledger (omega (arith, c.max-until.ensures, c.moment.ensures)) (omega arith) c.self.invariant.0 in
-    told_as told told [] (tick_told c.args.now c.args.self.now) (sym none ∙ ap (tick_told c.args.now) c.self.view_is) (told_nothing told)
+    told_as {O = g.row.O.Denot} g.O.Observer.Notes [] (tick_told c.args.now c.args.self.now) c.args.observer.now c.args.observer.now (sym none ∙ ap (tick_told c.args.now) c.self.view_is)
+    (told_nothing {O = g.row.O.Denot} g.O.Observer.Notes c.args.observer.now)
 
 pub returns-then-until-self-clause-network : goal.returns-then-until-self-clause-network
 returns-then-until-self-clause-network g c =
     let n = c.self.inside in
     let is = early_ledger c.args.now c.max-until.result n.wake n.ledger (omega (arith, c.max-until.ensures, c.moment.ensures)) (omega arith) c.self.invariant.0 in
     ap (λ (b : Book). let m : Ledger = record n.ledger { monitor = b } in m) c.tick.ensures.book ∙ sym is ∙ ap (ticked c.args.now) c.self.view_is
+
+pub returns-then-until-self-clause-silent : goal.returns-then-until-self-clause-silent
+returns-then-until-self-clause-silent g c m by below =
+    let n = c.self.inside in
+    let quiet = early_quiet c.args.now c.max-until.result n.wake n.ledger (omega (arith, c.max-until.ensures, c.moment.ensures)) (omega arith) c.self.invariant.0 in
+    let until = ap (λ (l : Ledger). max l.monitor.moment c.args.now) c.self.view_is in
+    omega (arith, by, until, quiet, c.max-until.ensures, c.moment.ensures, ap (λ (b : Book). next_loss b.streams) c.tick.ensures.book)
+
+pub returns-clause-silent : goal.returns-clause-silent
+returns-clause-silent g c m by below =
+    let n = c.self.inside.ledger in
+    let silent = all_silent c.max-until.result n (omega arith) (omega (arith, c.max-until.ensures, c.moment.ensures)) c.self.invariant.1 in
+    let later = none_before c.max-until.result _ silent.none in
+    let until = ap (λ (l : Ledger). max l.monitor.moment c.args.now) c.self.view_is in
+    omega (arith, by, below, until, later, c.max-until.ensures, c.moment.ensures, ap (λ (l : Ledger). next_loss l.monitor.streams) c.tell_silence-is_lost.ensures.ledger)
