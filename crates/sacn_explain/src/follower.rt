@@ -2,7 +2,7 @@
 
 mod datagrams;
 
-ghost use Rattle.std.specs.Prelude.{◌≡◌, ◌==◌, ◌<◌, ◌≤◌, ◌⊎◌, ◌-◌, ◌^◌, ℕ, IfErr, IfNone, IfOk, IfSome, OnOk, is_some, max, min, slice_get, if◌then◌else◌};
+ghost use Rattle.std.specs.Prelude.{◌≡◌, ◌==◌, ◌<◌, ◌≤◌, ◌⊎◌, ◌-◌, ◌^◌, ℕ, List, IfErr, IfNone, IfOk, IfSome, OnOk, is_some, max, min, slice_get, if◌then◌else◌};
 ghost use Rattle.sacn_framing.specs.PacketReading.{reading_packet};
 ghost use Rattle.sacn_monitor.specs.Books.{new_book, after_tick};
 ghost use Rattle.sacn_explain.specs.Causes.{cause_among};
@@ -107,11 +107,33 @@ impl<'a, O: Write> Follower<'a, O> {
         ensures in_time { WakesInTime self.old → OnOk result (WakesInTime self.new) }
         ensures fault { IfErr result IsOfTelling }
     {
+        self.take_reading(now, sender, &read_packet(octets))
+    }
+
+    /// The same of a datagram that was read.
+    ///
+    /// Errors: OutOfMemory; Device where a line can't be written.
+    pub fn take_reading(
+        &mut self,
+        now: u64,
+        sender: Sender,
+        reading: &Reading<'_>,
+    ) -> Result<(), ExplainFault>
+        ensures moment { self.new.moment ≡ max self.old.moment now }
+        ensures told { (octets : List ℕ) → reading.now ≡ reading_packet octets → OnOk result
+            (TellsTurn O.contents (max self.old.moment now) sender octets self.old self.new) }
+        ensures taken { (octets : List ℕ) → reading.now ≡ reading_packet octets → OnOk result
+            (IsTaken (max self.old.moment now) sender octets self.old.monitor self.new.monitor) }
+        ensures listed { OnOk result (listed_in self.new.listings
+            ≡ after_reading reading.now (listed_in self.old.listings)) }
+        ensures in_time { (octets : List ℕ) → reading.now ≡ reading_packet octets →
+            WakesInTime self.old → OnOk result (WakesInTime self.new) }
+        ensures fault { IfErr result IsOfTelling }
+    {
         self.tick(now)?;
-        let reading = read_packet(octets);
-        let noted = self.monitor.take_reading(self.moment, sender, &reading);
-        self.tell(&sender, &reading, noted)?;
-        self.show_turn(&reading, noted)?;
+        let noted = self.monitor.take_reading(self.moment, sender, reading);
+        self.tell(&sender, reading, noted)?;
+        self.show_turn(reading, noted)?;
         Ok(())
     }
 
