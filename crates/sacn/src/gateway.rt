@@ -46,7 +46,8 @@ fn gateway_on<R: AllocGlobal + Files + Env + Net + Clock, I: Read + Drop>(
     }
 }
 
-// Runs a gateway that serves no page.
+// Runs a gateway that serves no page. (Out of line, as the next one: no other command's stack has room for it.)
+#[inline(never)]
 fn run_alone<'a, R: AllocGlobal + Net + Clock>(
     rt: &'a R,
     asked: &GatewayAsked<'_>,
@@ -60,6 +61,7 @@ fn run_alone<'a, R: AllocGlobal + Net + Clock>(
 }
 
 // Runs a gateway that serves a page at this place.
+#[inline(never)]
 fn run_shown<'a, R: AllocGlobal + Net + Clock>(
     rt: &'a R,
     asked: &GatewayAsked<'_>,
