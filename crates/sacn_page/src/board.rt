@@ -146,7 +146,7 @@ impl Board {
             return Ok(true);
         }
         if self.lit.len() < MAX_LIT {
-            self.lit.push(unlit_universe(self.alloc, universe)?)?;
+            self.add_universe(universe)?;
             return Ok(true);
         }
         for lit in self.lit.iter_mut() {
@@ -198,7 +198,7 @@ impl Board {
         };
         let universe = packet.universe();
         if self.find_lit(universe).is_none() && self.lit.len() < MAX_LIT {
-            self.lit.push(unlit_universe(self.alloc, universe)?)?;
+            self.add_universe(universe)?;
         }
         for lit in self.lit.iter_mut() {
             if lit.universe() == universe {
@@ -206,6 +206,14 @@ impl Board {
             }
         }
         Ok(())
+    }
+
+    // Merges one universe more, of which nothing was heard. Out of line, so that its arrays are cleared here and not with each datagram.
+    #[inline(never)]
+    fn add_universe(&mut self, universe: u16) -> Result<(), AllocError>
+        ensures network { self.new.network ≡ self.old.network }
+    {
+        self.lit.push(unlit_universe(self.alloc, universe)?)
     }
 }
 
@@ -219,8 +227,7 @@ fn first_heard(streams: &[Stream]) -> Option<u16>
     }
 }
 
-// A universe of which nothing was heard. (Out of line: its arrays aren't cleared on the way of each datagram.)
-#[inline(never)]
+// A universe of which nothing was heard.
 fn unlit_universe(alloc: Global, universe: u16) -> Result<LitUniverse, AllocError> {
     match LitUniverse::new(alloc, universe) {
         Ok(lit) => Ok(lit),

@@ -287,8 +287,7 @@ fn winners_of(lit: Option<&LitUniverse>, monitor: &Monitor) -> [u16; SLOTS]
     }
 }
 
-// The levels of the universe that is shown, and who gives them. Out of line, so that its room is made ready only where a document is written.
-#[inline(never)]
+// The levels of the universe that is shown, and who gives them.
 #[tactic(auto, unfolding(crate::specs::WholeDocuments::lit_members))]
 fn push_lit(
     text: &mut String,
