@@ -213,7 +213,8 @@ impl Board {
     fn add_universe(&mut self, universe: u16) -> Result<(), AllocError>
         ensures network { self.new.network ≡ self.old.network }
     {
-        self.lit.push(unlit_universe(self.alloc, universe)?)
+        self.lit.push(unlit_universe(self.alloc, universe)?)?;
+        Ok(())
     }
 }
 
