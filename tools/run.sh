@@ -238,6 +238,43 @@ tell_change_of_size() {
   if [ -n "${SACN_SIZE-}" ] && size_of_terminal; then { echo "$rows $columns" >"$SACN_SIZE"; } 2>/dev/null || true; fi
 }
 
+# Whether a gateway draws a screen on the terminal at standard output.
+draws() {
+  local word
+  [ -t 1 ] || return 1
+  for word in "$@"; do if [ "$word" = --watch ]; then return 0; fi; done
+  return 1
+}
+
+# Runs a gateway that draws on this terminal, and tells it how large that is. A signal ends it as it ends any gateway, and the terminal then shows what it showed before.
+draw() {
+  local in pid status caught= signal= modes=
+  trap 'signal=INT' INT
+  trap 'signal=TERM' TERM
+  trap 'signal=HUP' HUP
+  trap 'signal=QUIT' QUIT
+  quiet_keys "$@"
+  exec {in}<&0
+  # (what a shell begins in the background passes over INT and QUIT, and so it is told to end by TERM)
+  "$@" <&"$in" {in}<&- &
+  pid=$!
+  exec {in}<&-
+  trap 'caught=1; tell_change_of_size' WINCH CONT
+  tell_change_of_size
+  while caught= status=0; do
+    if [ -n "$signal" ]; then kill -TERM "$pid" 2>/dev/null || true; fi
+    wait "$pid" || status=$?
+    [ -n "$caught" ] || kill -0 "$pid" 2>/dev/null || break
+  done
+  if [ "$status" -gt 128 ]; then printf '\033[0m\033[?7h\033[?25h\033[?1049l'; fi
+  loud_keys
+  if [ -n "$signal" ]; then
+    trap - "$signal"
+    kill -s "$signal" $$
+  fi
+  exit "$status"
+}
+
 # In so much stack, in kB, every command runs, also with a large environment.
 wanted_stack=1024
 
@@ -269,6 +306,7 @@ run() {
   case ${1-} in
     desk) feed "$program" "$@" ;;
     watch) tell_size; feed "$program" "$@" ;;
+    gateway) if draws "$@"; then tell_size; draw "$program" "$@"; else exec "$program" "$@"; fi ;;
     explain) if serves "$@"; then feed "$program" "$@"; else exec "$program" "$@"; fi ;;
     *) exec "$program" "$@" ;;
   esac

@@ -1,21 +1,26 @@
-//! A gateway, and a page of what it hears.
+//! A gateway, and a page or a screen of what it hears.
 use crate::page::say_page;
+use crate::screen::{screen_of, size_file};
+use crate::watch::watch_end;
 use sacn_commands::ending::Ending;
 use sacn_commands::gateway::{receiver_of, run_setup, setup_of, watch_of};
-use sacn_commands::live::{clock_of, joined_groups, of_socket};
+use sacn_commands::live::{clock_of, joined_groups, of_socket, universes_of_setup};
 use sacn_framing::Reading;
 use sacn_live::{
-    DeviceFault, Lines, Notes, Octets4, Outputs, PassedOver, Watch, guard_standard_descriptors,
+    DeviceFault, Lines, Notes, Octets4, Outputs, PassedOver, UdpReceiver, Watch,
+    guard_standard_descriptors, output_is_terminal,
 };
 use sacn_monitor::Sender;
 use sacn_node::{NodeSetup, NodeTaken};
 use sacn_page::{Board, MAX_ALARMS, Pages};
-use sacn_watch::{WatchFault, Watcher};
+use sacn_watch::{Screen, Sizes, WatchFault, Watcher};
 use sacn_words::GatewayAsked;
+use std::alloc::{AllocError, Global};
 use std::env::Env;
-use std::io::{Read, Write};
+use std::io::{self, Read, Write};
 use std::net::{Net, SocketAddrV4};
 use std::rt::{Clock, Files};
+use std::str;
 
 /// Runs a gateway, which prints its frames on standard output as they change, and serves a page of what it hears where that is
 /// asked. No output that isn't read holds it up.
@@ -40,13 +45,16 @@ fn gateway_on<R: AllocGlobal + Files + Env + Net + Clock, I: Read + Drop>(
 ) -> Result<(), Ending> {
     let setup = setup_of(rt, asked, input, &mut outputs.err())?;
     let joined = joined_groups(rt);
+    if asked.is_watched && output_is_terminal() {
+        return run_on_screen(rt, asked, &setup, (outputs, joined));
+    }
     match asked.page {
         Some(place) => run_shown(rt, asked, &setup, place, (outputs, joined)),
         None => run_alone(rt, asked, &setup, (outputs, joined)),
     }
 }
 
-// Runs a gateway that serves no page. (Out of line, as the next one: no other command's stack has room for it.)
+// Runs a gateway that serves no page. (Out of line, as the next two: no other command's stack has room for it.)
 #[inline(never)]
 fn run_alone<'a, R: AllocGlobal + Net + Clock>(
     rt: &'a R,
@@ -57,7 +65,8 @@ fn run_alone<'a, R: AllocGlobal + Net + Clock>(
     let mut receiver = receiver_of(rt, asked, setup, &mut outputs.err())?;
     receiver.tend(outputs, joined);
     let mut watch = watch_of(rt, &receiver, outputs.err())?;
-    run_setup(rt, asked, setup, &mut receiver, &mut watch, outputs)
+    let out = outputs.out();
+    run_setup(rt, asked, setup, &mut receiver, &mut watch, out)
 }
 
 // Runs a gateway that serves a page at this place.
@@ -79,10 +88,135 @@ fn run_shown<'a, R: AllocGlobal + Net + Clock>(
     let mut shown = Shown {
         watch: watch_of(rt, &receiver, outputs.err())?,
         viewers: &mut pages,
+        name: "page",
         err: outputs.err(),
-        is_short: false,
+        has_failed: false,
     };
-    run_setup(rt, asked, setup, &mut receiver, &mut shown, outputs)
+    let out = outputs.out();
+    run_setup(rt, asked, setup, &mut receiver, &mut shown, out)
+}
+
+// Runs a gateway that shows what it hears on the terminal at standard output, in place of its frames.
+#[inline(never)]
+fn run_on_screen<'a, R: AllocGlobal + Files + Env + Net + Clock>(
+    rt: &'a R,
+    asked: &GatewayAsked<'_>,
+    setup: &NodeSetup,
+    (outputs, joined): (&'a Outputs, Option<String>),
+) -> Result<(), Ending> {
+    let mut receiver = receiver_of(rt, asked, setup, &mut outputs.err())?;
+    receiver.tend(outputs, joined);
+    let universe = universes_of_setup(rt, setup)?.first().copied();
+    let size_file = size_file(rt);
+    let address = SocketAddrV4::new(asked.listen, setup.udp_port());
+    let mut out = outputs.out();
+    let screen = screen_of(rt, size_file.as_deref(), address, universe, &mut out);
+    let mut screen = PatientScreen::new(rt.alloc(), watch_end(screen)?, outputs);
+    let run = run_beside(rt, asked, setup, &mut receiver, &mut screen, outputs);
+    screen.leave();
+    run
+}
+
+fn run_beside<'a, R: AllocGlobal + Net + Clock, W: Watcher>(
+    rt: &'a R,
+    asked: &GatewayAsked<'_>,
+    setup: &NodeSetup,
+    receiver: &mut UdpReceiver<'a, R>,
+    screen: &mut W,
+    outputs: &'a Outputs,
+) -> Result<(), Ending> {
+    let mut shown = Shown {
+        watch: watch_of(rt, receiver, outputs.err())?,
+        viewers: screen,
+        name: "screen",
+        err: outputs.err(),
+        has_failed: false,
+    };
+    run_setup(rt, asked, setup, receiver, &mut shown, Unprinted)
+}
+
+/// Frames that aren't printed, since a screen stands where they would be.
+#[derive(Drop)]
+struct Unprinted;
+
+impl Write for Unprinted {
+    fn write(&mut self, octets: &[u8]) -> io::Result<usize> {
+        Ok(octets.len())
+    }
+
+    fn flush(&mut self) -> io::Result<()> {
+        Ok(())
+    }
+}
+
+/// A screen beside a gateway. It draws only where all that it drew before has gone out, and its last row is the newest line of standard error.
+#[derive(Drop)]
+struct PatientScreen<'a, O, Z> {
+    alloc: Global,
+    screen: Screen<'a, O, Z>,
+    outputs: &'a Outputs,
+    /// The moment of the latest turn.
+    now: u64,
+}
+
+impl<'a, O: Write, Z: Sizes> PatientScreen<'a, O, Z> {
+    /// Standard output is this screen from now on.
+    fn new(alloc: Global, screen: Screen<'a, O, Z>, outputs: &'a Outputs) -> Self {
+        outputs.begin_screen();
+        PatientScreen {
+            alloc,
+            screen,
+            outputs,
+            now: 0,
+        }
+    }
+
+    // Puts the newest line of standard error on the screen.
+    fn show_note(&mut self) -> Result<(), AllocError> {
+        let Some(note) = self.outputs.take_note() else {
+            return Ok(());
+        };
+        if let Ok(words) = str::from_utf8(note.as_slice()) {
+            self.screen.note_words(String::from_str(self.alloc, words)?);
+        }
+        Ok(())
+    }
+
+    // The terminal shows what it showed before, and the rows as lines; and what waited on standard error is written.
+    fn leave(&mut self) {
+        let _ = self.screen.end(self.now);
+        self.outputs.leave_screen();
+    }
+}
+
+impl<'a, O: Write, Z: Sizes> Watcher for PatientScreen<'a, O, Z> {
+    fn take(&mut self, now: u64, sender: Sender, reading: &Reading<'_>) -> Result<(), WatchFault> {
+        self.screen.take(now, sender, reading)
+    }
+
+    fn note_stop(&mut self, now: u64, millis: u64) -> Result<(), WatchFault> {
+        self.screen.note_stop(now, millis)
+    }
+
+    fn show(&mut self, now: u64) -> Result<(), WatchFault> {
+        self.now = now;
+        if self.outputs.pump() {
+            return Ok(());
+        }
+        self.show_note()?;
+        self.screen.show(now)
+    }
+
+    fn wakes(&self) -> u64 {
+        if self.outputs.pump() {
+            return u64::MAX;
+        }
+        self.screen.wakes()
+    }
+
+    fn end(&mut self, now: u64) -> Result<(), WatchFault> {
+        self.screen.end(now)
+    }
 }
 
 /// Looks on at a gateway, for its standard error and for those who view what it hears.
@@ -90,18 +224,28 @@ fn run_shown<'a, R: AllocGlobal + Net + Clock>(
 struct Shown<'a, E, W> {
     watch: Watch<E>,
     viewers: &'a mut W,
+    /// What they look at.
+    name: &'static str,
     err: E,
-    /// It was said that the viewers lack memory.
-    is_short: bool,
+    /// It was said that something can't be shown.
+    has_failed: bool,
 }
 
 impl<'a, E: Write, W: Watcher> Shown<'a, E, W> {
-    // Says, once, that there wasn't memory for all that viewers are to be shown. The gateway goes on, and so do they.
+    // Says, once, that there wasn't memory for all that viewers are to be shown, or that it can't be written. The gateway goes on, and so do they.
     fn note_viewers(&mut self, came: Result<(), WatchFault>) {
-        if came.is_err() && !self.is_short {
-            self.is_short = true;
-            let _ = writeln!(self.err, "page OutOfMemory");
+        let Err(fault) = came else {
+            return;
+        };
+        if self.has_failed {
+            return;
         }
+        self.has_failed = true;
+        let name = self.name;
+        let _ = match fault {
+            WatchFault::OutOfMemory => writeln!(self.err, "{name} OutOfMemory"),
+            WatchFault::Device => writeln!(self.err, "{name} device write"),
+        };
     }
 }
 

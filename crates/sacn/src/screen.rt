@@ -20,7 +20,7 @@ const DESCRIPTORS: &str = "/proc/self/fd/";
 
 /// The size that the launcher keeps in a file, `ROWS COLUMNS`, where it does.
 #[derive(Drop)]
-struct KeptSize<'r, 'p, R> {
+pub struct KeptSize<'r, 'p, R> {
     rt: &'r R,
     path: Option<&'p str>,
     /// The file isn't looked at before this moment.
@@ -49,20 +49,38 @@ pub fn show<R: AllocGlobal + Files + Env, L: Listener, O: Write>(
     until: u64,
     out: &mut O,
 ) -> Result<(), WatchFault> {
-    let size_file = variable(rt, "SACN_SIZE");
-    let path = match size_file.as_deref() {
+    let size_file = size_file(rt);
+    let address = SocketAddrV4::new(asked.listen, asked.port);
+    let universe = asked.universes.first().copied();
+    let mut screen = screen_of(rt, size_file.as_deref(), address, universe, out)?;
+    watch_terminal(listener, &mut screen, until)
+}
+
+/// The file in which the launcher keeps the terminal's size, where it does.
+pub fn size_file<R: AllocGlobal + Env>(rt: &R) -> Option<String> {
+    variable(rt, "SACN_SIZE")
+}
+
+/// A screen on a terminal, of what comes to an address: its size is kept in this file, where it is. The universe is the one whose levels are shown; where
+/// none is named it is the first heard.
+pub fn screen_of<'a, 'p, R: AllocGlobal + Files + Env, O: Write>(
+    rt: &'a R,
+    size_file: Option<&'p str>,
+    address: SocketAddrV4,
+    universe: Option<u16>,
+    out: &'a mut O,
+) -> Result<Screen<'a, O, KeptSize<'a, 'p, R>>, WatchFault> {
+    let path = match size_file {
         Some(path) if path.starts_with(DESCRIPTORS) => Some(path),
         _ => None,
     };
     let sizes = KeptSize { rt, path, next: 0 };
-    let terminal = terminal_of(rt, asked, out)?;
-    let mut screen = Screen::new(terminal, sizes, silence_of(rt, asked)?);
-    watch_terminal(listener, &mut screen, until)
+    let terminal = terminal_of(rt, universe, out)?;
+    Ok(Screen::new(terminal, sizes, silence_of(rt, address)?))
 }
 
-// What is said where nothing comes to the address.
-fn silence_of<R: AllocGlobal + Env>(rt: &R, asked: &WatchAsked) -> Result<String, AllocError> {
-    let address = SocketAddrV4::new(asked.listen, asked.port);
+// What is said where nothing comes to an address.
+fn silence_of<R: AllocGlobal + Env>(rt: &R, address: SocketAddrV4) -> Result<String, AllocError> {
     let joined = joined_groups(rt);
     let mut said: Vec<u8> = Vec::new(rt.alloc());
     say_silence(address, joined.as_deref(), &mut said);
@@ -76,14 +94,13 @@ fn silence_of<R: AllocGlobal + Env>(rt: &R, asked: &WatchAsked) -> Result<String
 // A terminal of the size that the environment says.
 fn terminal_of<'a, R: AllocGlobal + Env, O: Write>(
     rt: &R,
-    asked: &WatchAsked,
+    universe: Option<u16>,
     out: &'a mut O,
 ) -> Result<Terminal<'a, O>, WatchFault> {
     let size = Size {
         width: extent(rt, "COLUMNS", 80),
         height: extent(rt, "LINES", 24),
     };
-    let universe = asked.universes.first().copied();
     let has_colours = variable(rt, "NO_COLOR").is_none();
     Terminal::new(rt.alloc(), universe, size, has_colours, out)
 }

@@ -15,9 +15,9 @@ use std::net::{Net, SocketAddrV4};
 use std::rt::{Clock, Files};
 
 /// What came of a watch, where its fault ends the run.
-pub fn watch_end(told: Result<(), WatchFault>) -> Result<(), Ending> {
+pub fn watch_end<T>(told: Result<T, WatchFault>) -> Result<T, Ending> {
     match told {
-        Ok(()) => Ok(()),
+        Ok(told) => Ok(told),
         Err(WatchFault::OutOfMemory) => Err(Ending::OutOfMemory),
         Err(WatchFault::Device) => Err(Ending::DeviceWrite),
     }

@@ -4,7 +4,7 @@ use crate::live::{clock_of, of_socket, say_hearing, setup_of_word, universes_of_
 use crate::naming::of_file;
 use sacn_edge::WriterOut;
 use sacn_framing::multicast_group;
-use sacn_live::{Interface, Notes, Outputs, Span, UdpReceiver, Watch, Widget, run_gateway};
+use sacn_live::{Interface, Notes, Span, UdpReceiver, Watch, Widget, run_gateway};
 use sacn_node::{NodeCore, NodeSetup};
 use sacn_words::{GatewayAsked, moment_of};
 use std::io::{Read, Write};
@@ -73,15 +73,15 @@ pub fn watch_of<'a, R: AllocGlobal + Net + Clock, E: Write + Drop>(
     Ok(watch)
 }
 
-/// Runs a gateway of a setup, which prints its frames on these outputs. (The check of a function takes much longer the more values it
+/// Runs a gateway of a setup, which prints its frames here. (The check of a function takes much longer the more values it
 /// has to drop on its ways out.)
-pub fn run_setup<R: AllocGlobal + Net + Clock, N: Notes>(
+pub fn run_setup<R: AllocGlobal + Net + Clock, N: Notes, O: Write + Drop>(
     rt: &R,
     asked: &GatewayAsked<'_>,
     setup: &NodeSetup,
     receiver: &mut UdpReceiver<'_, R>,
     notes: &mut N,
-    outputs: &Outputs,
+    mut out: O,
 ) -> Result<(), Ending> {
     let mut interfaces = interfaces_of(rt, asked.widgets.as_slice())?;
     let mut core = NodeCore::new(rt.alloc(), setup)?;
@@ -89,7 +89,7 @@ pub fn run_setup<R: AllocGlobal + Net + Clock, N: Notes>(
         turns: u64::MAX,
         until: moment_of(asked.seconds),
     };
-    let mut lines = WriterOut::new(outputs.out());
+    let mut lines = WriterOut::new(&mut out);
     run_gateway(
         receiver,
         notes,
@@ -99,7 +99,7 @@ pub fn run_setup<R: AllocGlobal + Net + Clock, N: Notes>(
         asked.from.as_slice(),
         span,
     )?;
-    of_write(outputs.out().flush())
+    of_write(out.flush())
 }
 
 /// The socket at which a setup is heard; what it hears is said.

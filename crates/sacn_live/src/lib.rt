@@ -64,7 +64,7 @@ pub use interface::Interface;
 pub use lines::{Gathered, LONGEST_LINE, LineBuffer};
 pub use opening::Opening;
 pub use orders::Orders;
-pub use output::{Lines, Output, Sink};
+pub use output::{Lines, Note, Output, Sink};
 pub use outputs::{Outlet, Outputs};
 pub use receiver::{Arrival, Octets4, Receipt, Receiver};
 pub use sockets::Sockets;

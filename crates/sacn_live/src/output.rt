@@ -39,6 +39,25 @@ pub enum Lines {
     Objects,
     /// Frames of ports. Where there is no room, the newest of each port is kept for when there is.
     Frames,
+    /// Drawings of a screen, each without LF up to a flush, and lines for people behind them. What finds no room is lost, and that isn't told over a screen.
+    Drawings,
+}
+
+/// The most octets of a note that is shown on a screen.
+pub const NOTE_OCTETS: usize = 256;
+
+/// A line that is shown on a screen, without its LF, cut where it is longer than that.
+pub type Note = ArrayVec<u8, NOTE_OCTETS>;
+
+/// What becomes of lines beside what they are written to.
+#[derive(Clone, Copy, PartialEq, Eq)]
+enum Noting {
+    /// Nothing.
+    Unnoted,
+    /// The newest is noted.
+    Noted,
+    /// The newest is noted, and all wait until the screen is left.
+    Held,
 }
 
 /// An output whose lines wait where its sink doesn't take them.
@@ -51,6 +70,9 @@ pub struct Output<S> {
     // The line that is being written, without what is beyond its room.
     line: Vec<u8>,
     is_long: bool,
+    noting: Noting,
+    // The newest line, where lines are noted and it wasn't taken.
+    note: Option<Note>,
 }
 
 /// The port of a frame's line.
@@ -67,15 +89,27 @@ fn frame_line(line: &[u8]) -> Option<FrameLine> {
     Some(FrameLine { port, octets })
 }
 
-/// The line that tells how many lines were lost.
+/// The line that tells how many lines were lost; empty where that isn't told.
 fn loss_line(lines: Lines, count: u64) -> ArrayString<64> {
     let mut text = ArrayString::new();
     let _ = match lines {
         Lines::Objects => writeln!(text, "{{\"event\":\"not_written\",\"lines\":{count}}}"),
         Lines::Plain => writeln!(text, "{count} lines not written"),
         Lines::Frames => writeln!(text, "{count} lines not written"),
+        Lines::Drawings => Ok(()),
     };
     text
+}
+
+/// What a screen shows of a line.
+fn note_of(line: &[u8]) -> Note {
+    let line = match line {
+        [words @ .., b'\n'] => words,
+        words => words,
+    };
+    let mut note = ArrayVec::new();
+    let _ = note.try_extend_from_slice(&line[..line.len().min(NOTE_OCTETS)]);
+    note
 }
 
 impl<S: Sink + Drop> Output<S> {
@@ -88,7 +122,33 @@ impl<S: Sink + Drop> Output<S> {
             frames: NewestFrames::new(),
             line: Vec::with_capacity(alloc, ROOM_OCTETS)?,
             is_long: false,
+            noting: Noting::Unnoted,
+            note: None,
         })
+    }
+
+    /// From now on what is written is drawings of a screen.
+    pub fn draw(&mut self) {
+        self.lines = Lines::Drawings;
+    }
+
+    /// From now on the newest line is noted for a screen. Where lines would be written over it they wait until it is left.
+    pub fn note_lines(&mut self, is_over_screen: bool) {
+        self.noting = if is_over_screen {
+            Noting::Held
+        } else {
+            Noting::Noted
+        };
+    }
+
+    /// From now on lines are written as they come, and none is noted.
+    pub fn leave_screen(&mut self) {
+        self.noting = Noting::Unnoted;
+    }
+
+    /// The newest line, where one was noted since this was asked last.
+    pub fn take_note(&mut self) -> Option<Note> {
+        self.note.take()
     }
 
     /// Adds octets to the line that is being written.
@@ -100,6 +160,9 @@ impl<S: Sink + Drop> Output<S> {
     }
 
     fn end_line(&mut self) {
+        if self.noting != Noting::Unnoted {
+            self.note = Some(note_of(self.line.as_slice()));
+        }
         if self.is_long {
             self.room.count_loss();
         } else if self.lines == Lines::Frames {
@@ -156,7 +219,7 @@ impl<S: Sink + Drop> Output<S> {
     /// Hands on a piece of what waits, where the sink is ready for it within so many milliseconds. Returns whether it took some.
     fn hand_on(&mut self, millis: i32) -> std::result::Result<bool, ErrorKind> {
         self.settle();
-        if self.room.is_empty() || !self.sink.is_ready(millis) {
+        if self.noting == Noting::Held || self.room.is_empty() || !self.sink.is_ready(millis) {
             return Ok(false);
         }
         let front = self.room.front();
@@ -183,9 +246,9 @@ impl<S: Sink + Drop> Output<S> {
         Ok(())
     }
 
-    /// Whether something waits.
+    /// Whether something waits for the sink.
     pub fn is_pending(&self) -> bool {
-        !self.room.is_empty() || self.frames.len() > 0
+        self.noting != Noting::Held && (!self.room.is_empty() || self.frames.len() > 0)
     }
 
     /// Waits for what waits to go out, at most a fifth of a second. Returns how many lines are given up.
@@ -220,6 +283,9 @@ impl<S: Sink + Drop> Write for Output<S> {
     }
 
     fn flush(&mut self) -> Result<()> {
+        if self.lines == Lines::Drawings && !self.line.is_empty() {
+            self.end_line();
+        }
         match self.pump() {
             Ok(()) => Ok(()),
             Err(kind) => Err(Error::from(kind)),

@@ -1,6 +1,6 @@
 //! Standard output and standard error that never hold up what writes to them.
 use crate::clock::RigClock;
-use crate::output::{Lines, Output, Sink};
+use crate::output::{Lines, Note, Output, Sink};
 use crate::sys::{STDERR, STDOUT, is_terminal, takes_octets, write_some};
 use std::alloc::{AllocError, Global};
 use std::cell::RefCell;
@@ -82,6 +82,32 @@ impl Outputs {
         Outlet {
             to: &self.err,
             beside: &self.out,
+        }
+    }
+
+    /// From now on standard output is a screen: what is written there is whole drawings, each up to a flush. Lines of standard error wait until
+    /// the screen is left, where they would stand over it.
+    pub fn begin_screen(&self) {
+        if let Ok(mut out) = self.out.try_borrow_mut() {
+            out.draw();
+        }
+        if let Ok(mut err) = self.err.try_borrow_mut() {
+            err.note_lines(is_terminal(STDERR));
+        }
+    }
+
+    /// From now on lines of standard error are written as they come.
+    pub fn leave_screen(&self) {
+        if let Ok(mut err) = self.err.try_borrow_mut() {
+            err.leave_screen();
+        }
+    }
+
+    /// The newest line of standard error since the screen began or this was asked last.
+    pub fn take_note(&self) -> Option<Note> {
+        match self.err.try_borrow_mut() {
+            Ok(mut err) => err.take_note(),
+            Err(_) => None,
         }
     }
 

@@ -39,6 +39,13 @@ impl<'a, O: Write, Z: Sizes> Screen<'a, O, Z> {
         }
     }
 
+    /// From now on this is said in the row below all else.
+    pub fn note_words(&mut self, words: String)
+        ensures { self.new.terminal.view ≡ self.old.terminal.view }
+    {
+        self.terminal.note_words(words);
+    }
+
     // Gives the terminal its size, and once it is time the words for silence.
     fn prepare(&mut self, now: u64)
         ensures { self.new.terminal.view ≡ self.old.terminal.view }

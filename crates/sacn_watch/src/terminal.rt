@@ -47,6 +47,8 @@ pub struct Terminal<'a, O> {
     is_resized: bool,
     /// What is said while nothing came; empty until it is time.
     silence: String,
+    /// What is said below all else; empty where nothing is.
+    note: String,
 }
 
 impl<'a, O: Write> Terminal<'a, O> {
@@ -77,6 +79,7 @@ impl<'a, O: Write> Terminal<'a, O> {
             is_stale: true,
             is_resized: false,
             silence: String::new(alloc),
+            note: String::new(alloc),
         })
     }
 
@@ -97,6 +100,14 @@ impl<'a, O: Write> Terminal<'a, O> {
         ensures view { self.new.view ≡ self.old.view }
     {
         self.silence = words;
+        self.is_stale = true;
+    }
+
+    /// From now on this is said in the row below all else.
+    pub fn note_words(&mut self, words: String)
+        ensures view { self.new.view ≡ self.old.view }
+    {
+        self.note = words;
         self.is_stale = true;
     }
 
@@ -134,13 +145,34 @@ impl<'a, O: Write> Terminal<'a, O> {
         Ok(())
     }
 
+    // What the screen shows: of its height a row is left to what is said below all else.
+    fn page(&self) -> Result<Page, AllocError>
+        ensures fits { IfOk result (λ page. FitsOn self.now.size page.rows.items) }
+    {
+        let has_note = self.note.len() > 0;
+        let size = Size {
+            width: self.size.width,
+            height: if has_note {
+                self.size.height.saturating_sub(1)
+            } else {
+                self.size.height
+            },
+        };
+        let mut page = screen(self.alloc, &self.view, size)?;
+        self.push_silence(&mut page)?;
+        page.size = self.size;
+        if has_note {
+            page.push_text(self.alloc, self.note.as_str(), Ink::Alarm)?;
+        }
+        Ok(page)
+    }
+
     // Draws the screen where it isn't the one that was drawn last.
     fn draw(&mut self, now: u64) -> Result<(), WatchFault>
         ensures { self.new.view.network ≡ self.old.view.network }
     {
         self.view.refresh(now);
-        let mut page = screen(self.alloc, &self.view, self.size)?;
-        self.push_silence(&mut page)?;
+        let page = self.page()?;
         let text = page.text(self.alloc, self.has_colours)?;
         if self.drawn.len() == 0 {
             self.out.write_all(BEGIN)?;

@@ -58,6 +58,8 @@ pub struct GatewayAsked<'a> {
     pub seconds: Option<u64>,
     /// Where a page is served beside what is printed.
     pub page: Option<SocketAddrV4>,
+    /// Whether a screen of what it hears is shown in place of what is printed.
+    pub is_watched: bool,
 }
 
 /// What a desk is asked.
@@ -141,7 +143,9 @@ fn console<'a>(words: &mut Words<'_, 'a>) -> Asked<'a> {
 
 fn gateway<'a>(words: &mut Words<'_, 'a>) -> Asked<'a> {
     words.leave("join");
+    words.beside("watch", "page");
     Asked::Gateway(GatewayAsked {
+        is_watched: words.is_given("watch"),
         seconds: words.seconds(),
         listen: words.value("listen", host).unwrap_or(Ipv4Addr::UNSPECIFIED),
         from: words.values("from", sender),

@@ -97,6 +97,11 @@ const GATEWAY: Command<'static> = Command {
             help: "Serves a page of what it hears for browsers there, of this machine where only a port is named",
             ..PAGE
         },
+        Argument {
+            name: "watch",
+            help: "Shows what it hears on this terminal, in place of the frames",
+            ..FLAG
+        },
         SECONDS,
         HELP_LETTER,
         HELP,
