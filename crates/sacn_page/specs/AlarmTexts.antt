@@ -10,9 +10,9 @@ use Rattle.sacn_explain.specs.Refusals.{fault_words}
 use Rattle.sacn_explain.specs.Sentences.{stop_words}
 use Rattle.sacn_explain.specs.Spelling.{sender_text}
 use Rattle.sacn_page.specs.declared.alarms.Alarm.{Alarm}
-use Rattle.sacn_page.specs.declared.alarms.Alarms.{Alarms}
 use Rattle.sacn_page.specs.declared.alarms.Trouble.{Trouble}
 use Rattle.sacn_page.specs.declared.alarms.Trouble.TheVariants.{Lost, Ended, CameBack, Skipped, Late, Refused, Stopped, Rivals}
+use Rattle.sacn_page.specs.Alarms.{KeptAlarms}
 use Rattle.sacn_page.specs.Documents.{first_number}
 
 -- what happened, in a word
@@ -97,6 +97,6 @@ abbrev pub left_out_member : ℕ → List ℕ
 left_out_member count = if count == 0 then [] else number_member (codes "alarms_left_out") count
 
 -- the alarms behind the first so many, as far as they are kept
-unfoldable pub alarms_member : ℕ → List Stream → Alarms → List ℕ
+unfoldable pub alarms_member : ℕ → List Stream → KeptAlarms → List ℕ
 alarms_member given streams a =
-    key_text (codes "alarms") ++ (codes "[" ++ (alarm_list streams (after given a.latest.items) ++ (codes "]" ++ left_out_member (a.count - length a.latest.items))))
+    key_text (codes "alarms") ++ (codes "[" ++ (alarm_list streams (after given a.latest) ++ (codes "]" ++ left_out_member (a.count - length a.latest))))

@@ -4,5 +4,6 @@ pub mod Marks
 pub mod Feeds
 pub mod Places
 pub mod Documents
+pub mod Alarms
 pub mod AlarmTexts
 pub mod WholeDocuments

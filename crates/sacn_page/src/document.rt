@@ -7,7 +7,8 @@ ghost use Rattle.sacn_page.specs.Documents.{Tells, before_row, counts_member, co
 ghost use Rattle.sacn_page.specs.WholeDocuments.{document, levels_of, lit_members, lit_of, recording_member, winners_of};
 ghost use Rattle.sacn_page.specs.declared.document.Extent.TheVariants.{Whole};
 
-use crate::alarms::{Alarms, push_alarms_member};
+use crate::alarm_texts::push_alarms_member;
+use crate::alarms::Alarms;
 use crate::board::Board;
 use crate::marks::marks_of;
 use crate::members::{
