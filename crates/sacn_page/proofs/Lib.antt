@@ -1,3 +1,4 @@
+mod Alarming
 mod Mapping
 mod OwnGets
 mod Pieces

@@ -1,5 +1,5 @@
 -- The things that went wrong, and which of them are kept.
-use Rattle.std.specs.Prelude.{ℕ, ◌+◌, ◌-◌, ◌^◌, min, nat_le, nat_lt, Bool, true, false, not, ◌==◌, List, [], ◌∷◌, ◌++◌, length, position, remove, Option, None, Some, if◌then◌else◌}
+use Rattle.std.specs.Prelude.{ℕ, ◌+◌, ◌-◌, ◌^◌, min, nat_le, nat_lt, Bool, true, false, not, ◌==◌, List, [], ◌∷◌, ◌++◌, length, drop, position, remove, Option, None, Some, if◌then◌else◌}
 use Rattle.std.specs.Option.{option_or}
 use Rattle.sacn_monitor.specs.declared.news.Event.{Event}
 use Rattle.sacn_monitor.specs.declared.news.Event.TheVariants as event
@@ -36,7 +36,7 @@ is_loss (Rivals contest) = false
 -- the place of the oldest, if there is one
 abbrev pub oldest : List Alarm → Option ℕ
 oldest [] = None
-oldest (a ∷ as) = Some 0
+oldest (a ∷ more) = Some 0
 
 -- the place of the one that gives way to one more: of the oldest that is no loss; where all are losses, of the oldest to a loss, and of none to anything else
 abbrev pub giving_way : Trouble → List Alarm → Option ℕ
@@ -62,6 +62,17 @@ with_alarm at trouble k = record k {
 abbrev pub with_troubles : ℕ → List Trouble → KeptAlarms → KeptAlarms
 with_troubles at [] k = k
 with_troubles at (trouble ∷ more) k = with_troubles at more (with_alarm at trouble k)
+
+-- ---- those that are kept
+
+-- from a place on, where there is one
+abbrev pub from_place : List Alarm → Option ℕ → List Alarm
+from_place alarms None = []
+from_place alarms (Some place) = drop place alarms
+
+-- those before which there were so many, or more
+abbrev pub after : ℕ → List Alarm → List Alarm
+after count alarms = from_place alarms (position (λ a. nat_le count a.earlier) alarms)
 
 -- ---- what is told of a network
 

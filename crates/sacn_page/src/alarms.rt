@@ -1,8 +1,7 @@
 //! What a viewer is to look at: the latest things that went wrong.
 
-ghost use Rattle.std.specs.Prelude.{◌≡◌, ◌-◌, [], IfOk, length, nat_le, position};
-ghost use Rattle.sacn_page.specs.Alarms.{alarms_after, event_troubles, giving_way, is_loss, news_troubles, no_alarms, troubles_of, with_alarm, with_latest, with_troubles};
-ghost use Rattle.sacn_page.specs.AlarmTexts.{after};
+ghost use Rattle.std.specs.Prelude.{◌≡◌, ◌-◌, [], IfOk, length, nat_le, not, position};
+ghost use Rattle.sacn_page.specs.Alarms.{after, alarms_after, event_troubles, giving_way, is_loss, news_troubles, no_alarms, oldest, troubles_of, with_alarm, with_latest, with_troubles};
 
 use sacn_monitor::{Event, Monitor, News, Sender};
 use sacn_network::{Contest, Observer, Occurrence, What};
@@ -85,6 +84,7 @@ impl Alarms {
 
     /// One more. Where there are as many as are kept it takes the place of the oldest that is no loss. Where all are losses, a loss takes
     /// the place of the oldest, and anything else is left out.
+    #[tactic(auto, unfolding(crate::specs::Alarms::with_alarm))]
     pub fn add(&mut self, moment: u64, trouble: Trouble)
         ensures { self.new ≡ with_alarm moment trouble self.old }
     {
@@ -98,18 +98,18 @@ impl Alarms {
     }
 
     // Keeps one more, where there is room for it or another gives way.
+    #[tactic(auto, unfolding(crate::specs::Alarms::with_latest))]
     fn keep(&mut self, alarm: Alarm)
         ensures { self.new ≡ record self.old {
           latest = with_latest self.old.most alarm self.old.latest;
         } }
     {
-        if self.latest.len() >= self.most {
-            let Some(place) = giving_way(self.latest.as_slice(), &alarm.trouble) else {
-                return;
-            };
+        if self.latest.len() < self.most {
+            self.latest.push_reserved(alarm);
+        } else if let Some(place) = giving_way(self.latest.as_slice(), &alarm.trouble) {
             self.latest.remove(place);
+            self.latest.push_reserved(alarm);
         }
-        self.latest.push_reserved(alarm);
     }
 
     // Those of what happened on the network.
@@ -204,9 +204,27 @@ fn place_after(alarms: &[Alarm], count: u64) -> Option<usize>
 fn giving_way(alarms: &[Alarm], trouble: &Trouble) -> Option<usize>
     ensures { result ≡ giving_way trouble.now alarms.now }
 {
-    let other = alarms.iter().position(|alarm| !alarm.trouble.is_loss());
-    if other.is_none() & trouble.is_loss() & !alarms.is_empty() {
-        return Some(0);
+    let oldest = if trouble.is_loss() {
+        oldest(alarms)
+    } else {
+        None
+    };
+    oldest_other(alarms).or(oldest)
+}
+
+// The place of the oldest.
+fn oldest(alarms: &[Alarm]) -> Option<usize>
+    ensures { result ≡ oldest alarms.now }
+{
+    match alarms {
+        [] => None,
+        _ => Some(0),
     }
-    other
+}
+
+// The place of the oldest that is no loss.
+fn oldest_other(alarms: &[Alarm]) -> Option<usize>
+    ensures { result ≡ position (λ a. not (is_loss a.trouble)) alarms.now }
+{
+    alarms.iter().position(|alarm| !alarm.trouble.is_loss())
 }
