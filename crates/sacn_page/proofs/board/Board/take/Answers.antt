@@ -13,3 +13,8 @@ returns c = record {
   alarms = c.light.ensures.alarms ∙ c.note_universe.ensures.alarms
       ∙ told_fold (take_told c.args.now c.args.sender c.args.reading.now c.args.self.now.network) c.args.self.now.alarms c.take-noted.new.observer c.take-noted.ensures.told;
 }
+
+pub returns-in_err-note_universe-clause-alarms : goal.returns-in_err-note_universe-clause-alarms
+returns-in_err-note_universe-clause-alarms c =
+    c.note_universe.ensures.alarms
+    ∙ told_fold (take_told c.args.now c.args.sender c.args.reading.now c.args.self.now.network) c.args.self.now.alarms c.take-noted.new.observer c.take-noted.ensures.told
