@@ -4,6 +4,7 @@ use Rattle.sacn_monitor.specs.declared.stream.Stream.{Stream}
 use Rattle.sacn_monitor.specs.declared.tally.Tally.{Tally}
 use Rattle.sacn_monitor.specs.Books.{Book}
 use Rattle.sacn_network.specs.LitUniverses.{Lit}
+use Rattle.sacn_network.specs.Sets.{universes_in}
 use Rattle.sacn_explain.specs.Numbers.{numbers_member}
 use Rattle.sacn_page.specs.Alarms.{KeptAlarms}
 use Rattle.sacn_page.specs.declared.board.Board.{Board}
@@ -36,7 +37,7 @@ pub document_joined : (facts : Option Facts) (b : Board) (named : Option ℕ)
     (t0 t1 t2 t3 t4 t5 t6 t7 t8 t9 : List ℕ)
     (monitor : Book) (moment : ℕ) (streams : List Stream) (universe : Option ℕ) (heard : List ℕ) (lit : Option Lit) (given : ℕ) (alarms : KeptAlarms) (tally : Tally) (counts : Counts)
     → monitor ≡ b.network.monitor → moment ≡ monitor.moment → streams ≡ monitor.streams
-    → universe ≡ universe_shown named b.preferred b.network.monitor.streams → heard ≡ b.heard.items → lit ≡ lit_of b.lit.items universe
+    → universe ≡ universe_shown named b.preferred b.network.monitor.streams → heard ≡ universes_in b.network.heard → lit ≡ lit_of b.lit.items universe
     → given ≡ 0 → alarms ≡ b.alarms → tally ≡ monitor.tally → counts ≡ counts_of tally
     → t1 ≡ t0 ++ first_number (codes "ms") moment → t2 ≡ t1 ++ recording_member facts → t3 ≡ t2 ++ universe_member universe
     → t4 ≡ t3 ++ numbers_member (codes "heard") heard → t5 ≡ t4 ++ sources_member moment streams → t6 ≡ t5 ++ lit_members monitor.streams lit

@@ -5,13 +5,14 @@ ghost use Rattle.sacn_framing.specs.PacketReading.{reading_packet};
 ghost use Rattle.sacn_monitor.specs.Books.{new_book, next_loss, silent_place};
 ghost use Rattle.sacn_explain.specs.Following.{IsTicked, IsTaken};
 ghost use Rattle.sacn_network.specs.Networks.{take_told, tick_told};
+ghost use Rattle.sacn_network.specs.Sets.{universes_in};
 ghost use Rattle.sacn_page.specs.declared.alarms.Trouble.TheVariants.{Stopped};
 ghost use Rattle.sacn_page.specs.Alarms.{alarms_told, no_alarms, with_alarm};
 ghost use Rattle.sacn_page.specs.WholeDocuments.{first_heard, universe_shown};
 
 use crate::alarms::{Alarms, Trouble};
 use sacn_framing::{Packet, Reading};
-use sacn_monitor::{Event, Monitor, Noted, Sender, Stream};
+use sacn_monitor::{Monitor, Sender, Stream};
 use sacn_network::{LitUniverse, Network};
 use std::alloc::{AllocError, Global};
 
@@ -28,8 +29,6 @@ pub struct Board {
     alarms: Alarms,
     /// The universe of a viewer that names none, where that isn't the first heard.
     preferred: Option<u16>,
-    /// The universes heard, ascending.
-    heard: Vec<u16>,
     lit: Vec<LitUniverse>,
 }
 
@@ -46,7 +45,6 @@ impl Board {
             network: Network::new(alloc)?,
             alarms: Alarms::new(alloc, alarms)?,
             preferred,
-            heard: Vec::new(alloc),
             lit: Vec::new(alloc),
         })
     }
@@ -66,8 +64,7 @@ impl Board {
         ensures alarms { self.new.alarms
             ≡ alarms_told (take_told now sender reading.now self.old.network) self.old.alarms }
     {
-        let noted = self.network.take(now, sender, reading, &mut self.alarms);
-        self.note_universe(&noted)?;
+        self.network.take(now, sender, reading, &mut self.alarms);
         self.light(now, reading)
     }
 
@@ -112,10 +109,12 @@ impl Board {
     }
 
     /// The universes heard, ascending.
-    pub fn universes_heard(&self) -> &[u16]
-        ensures { result.now ≡ self.now.heard.items }
+    ///
+    /// Errors: a growth was refused.
+    pub fn universes_heard(&self) -> Result<Vec<u16>, AllocError>
+        ensures { IfOk result (λ heard. heard.items ≡ universes_in self.now.network.heard) }
     {
-        self.heard.as_slice()
+        self.network.universes_heard(self.alloc)
     }
 
     /// The universe that is shown to a viewer that names this one, or none.
@@ -170,27 +169,6 @@ impl Board {
                 lit.refresh(now);
             }
         }
-    }
-
-    // The universe of a source that is new.
-    fn note_universe(&mut self, noted: &Noted) -> Result<(), AllocError>
-        ensures network { self.new.network ≡ self.old.network }
-        ensures alarms { self.new.alarms ≡ self.old.alarms }
-    {
-        let Noted::Heard(place, news) = noted else {
-            return Ok(());
-        };
-        if news.event != Event::Appeared {
-            return Ok(());
-        }
-        if let Some(stream) = self.monitor().streams().get(*place) {
-            let universe = stream.universe;
-            if !self.heard.contains(&universe) {
-                self.heard.push(universe)?;
-                self.heard.sort()?;
-            }
-        }
-        Ok(())
     }
 
     // Gives a data packet to its universe, where that is merged or there is room for it.

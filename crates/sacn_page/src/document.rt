@@ -132,7 +132,8 @@ pub fn push_document(
     push_recording(text, facts)?;
     let start = text.len();
     push_universe(text, universe, &mut given.universe, extent)?;
-    push_heard(text, board.universes_heard(), &mut given.heard, extent)?;
+    let heard = board.universes_heard()?;
+    push_heard(text, heard.as_slice(), &mut given.heard, extent)?;
     push_rows(text, streams, moment, &mut given.rows, extent)?;
     push_lit(text, find_lit(board, universe), monitor, given, extent)?;
     push_alarms(text, streams, board.alarms(), &mut given.alarms, extent)?;
