@@ -1,4 +1,5 @@
 mod Bits
+mod Listing
 mod Telling
 mod Silencing
 pub mod Waking

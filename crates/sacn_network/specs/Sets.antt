@@ -1,5 +1,5 @@
 -- Sets of universes, a bit each.
-use Rattle.std.specs.Prelude.{◌≡◌, ℕ, ◌/◌, ◌%◌, ◌^◌, ◌<◌, Bool, not, false, ◌==◌, List, length, get_or, set, replicate, bit_xor, if◌then◌else◌}
+use Rattle.std.specs.Prelude.{◌≡◌, ℕ, zero, suc, ◌/◌, ◌%◌, ◌^◌, ◌<◌, Bool, not, false, ◌==◌, List, [], ◌∷◌, ◌++◌, length, get_or, set, replicate, bit_xor, if◌then◌else◌}
 use Rattle.std.specs.Int.{bit_at}
 use Rattle.sacn_network.specs.declared.universe_set.TheConstants.{WORDS}
 
@@ -22,6 +22,15 @@ is_otherwise now before = if now then not before else before
 -- a set with a universe in it, or without it
 unfoldable pub marked : ℕ → Bool → List ℕ → List ℕ
 marked universe is_in words = if is_otherwise is_in (has_bit words universe) then turned universe words else words
+
+-- the universes below a number that are in it, ascending
+unfoldable pub universes_below : ℕ → List ℕ → List ℕ
+universes_below zero words = []
+universes_below (suc universe) words = if has_bit words universe then universes_below universe words ++ (universe ∷ []) else universes_below universe words
+
+-- all of them
+abbrev pub universes_in : List ℕ → List ℕ
+universes_in words = universes_below (2 ^ 16) words
 
 -- Then that universe is in it, or isn't, and each other one is where it was before.
 abbrev pub MarksOneUniverse : Type 0

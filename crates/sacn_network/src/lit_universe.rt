@@ -61,6 +61,13 @@ impl LitUniverse {
         self.universe
     }
 
+    /// Becomes this universe. What it holds of sources stays.
+    pub fn rename(&mut self, universe: u16)
+        ensures { self.new ≡ record self.old { universe = universe } }
+    {
+        self.universe = universe;
+    }
+
     /// The levels of its slots at the latest call of `refresh`.
     pub fn levels(&self) -> &[u8; SLOTS]
         ensures { result.now ≡ self.now.shown }

@@ -3,7 +3,7 @@
 ghost use Rattle.std.specs.Prelude.{◌≡◌, IfOk, is_some, max};
 ghost use Rattle.sacn_monitor.specs.Books.{next_loss, silent_place};
 ghost use Rattle.sacn_network.specs.Networks.{LeavesNone, handed, new_network, note_of, take_told, taken, tick_told, ticked};
-ghost use Rattle.sacn_network.specs.Sets.{has_bit};
+ghost use Rattle.sacn_network.specs.Sets.{has_bit, universes_in};
 ghost use Rattle.sacn_network.specs.Telling.{AreTold};
 
 use crate::ledger::Ledger;
@@ -17,7 +17,7 @@ use std::marker::Model;
 /// The one account of what a network carries: each source on each universe, of up to `sacn_monitor::MAX_STREAMS` pairs, the
 /// universes that are contested, and those that were heard.
 ///
-/// Moments are in milliseconds. Each call uses the greatest moment that was handed in so far. No call but `new` takes memory.
+/// Moments are in milliseconds. Each call uses the greatest moment that was handed in so far. No call but `new` and `universes_heard` takes memory.
 #[derive(Drop)]
 pub struct Network {
     ledger: Ledger,
@@ -120,6 +120,15 @@ impl Network {
         ensures { result ≡ has_bit self.now.heard universe }
     {
         self.ledger.heard.has(universe)
+    }
+
+    /// The universes on which a source was heard, ascending. One for which there was no room is none.
+    ///
+    /// Errors: a growth was refused.
+    pub fn universes_heard(&self, alloc: Global) -> Result<Vec<u16>, AllocError>
+        ensures { IfOk result (λ universes. universes.items ≡ universes_in self.now.heard) }
+    {
+        self.ledger.heard.universes(alloc)
     }
 
     // Hands a datagram to the monitor, and sees to it that the loss of its source isn't missed.

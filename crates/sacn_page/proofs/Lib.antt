@@ -1,4 +1,6 @@
+mod Alarming
 mod Mapping
+mod Owing
 mod OwnGets
 mod Pieces
 mod Rows

@@ -4,8 +4,9 @@ use Rattle.sacn_monitor.specs.declared.stream.Stream.{Stream}
 use Rattle.sacn_monitor.specs.declared.tally.Tally.{Tally}
 use Rattle.sacn_monitor.specs.Books.{Book}
 use Rattle.sacn_network.specs.LitUniverses.{Lit}
+use Rattle.sacn_network.specs.Sets.{universes_in}
 use Rattle.sacn_explain.specs.Numbers.{numbers_member}
-use Rattle.sacn_page.specs.declared.alarms.Alarms.{Alarms}
+use Rattle.sacn_page.specs.Alarms.{KeptAlarms}
 use Rattle.sacn_page.specs.declared.board.Board.{Board}
 use Rattle.sacn_page.specs.declared.document.Counts.{Counts}
 use Rattle.sacn_page.specs.declared.scene.Facts.{Facts}
@@ -34,9 +35,9 @@ nine_joined t0 t1 t2 t3 t4 t5 t6 t7 t8 t9 p1 p2 p3 p4 p5 p6 p7 p8 p9 e1 e2 e3 e4
 -- the members of what is known, each of what its own call read
 pub document_joined : (facts : Option Facts) (b : Board) (named : Option ℕ)
     (t0 t1 t2 t3 t4 t5 t6 t7 t8 t9 : List ℕ)
-    (monitor : Book) (moment : ℕ) (streams : List Stream) (universe : Option ℕ) (heard : List ℕ) (lit : Option Lit) (given : ℕ) (alarms : Alarms) (tally : Tally) (counts : Counts)
+    (monitor : Book) (moment : ℕ) (streams : List Stream) (universe : Option ℕ) (heard : List ℕ) (lit : Option Lit) (given : ℕ) (alarms : KeptAlarms) (tally : Tally) (counts : Counts)
     → monitor ≡ b.network.monitor → moment ≡ monitor.moment → streams ≡ monitor.streams
-    → universe ≡ universe_shown named b.preferred b.network.monitor.streams → heard ≡ b.heard.items → lit ≡ lit_of b.lit.items universe
+    → universe ≡ universe_shown named b.preferred b.network.monitor.streams → heard ≡ universes_in b.network.heard → lit ≡ lit_of b.lit.items universe
     → given ≡ 0 → alarms ≡ b.alarms → tally ≡ monitor.tally → counts ≡ counts_of tally
     → t1 ≡ t0 ++ first_number (codes "ms") moment → t2 ≡ t1 ++ recording_member facts → t3 ≡ t2 ++ universe_member universe
     → t4 ≡ t3 ++ numbers_member (codes "heard") heard → t5 ≡ t4 ++ sources_member moment streams → t6 ≡ t5 ++ lit_members monitor.streams lit
@@ -58,6 +59,6 @@ document_joined facts b named t0 t1 t2 t3 t4 t5 t6 t7 t8 t9 monitor moment strea
     (e4 ∙ ap (λ (h : List ℕ). t3 ++ numbers_member (codes "heard") h) heard_is)
     (e5 ∙ ap (λ (m : ℕ). t4 ++ sources_member m streams) clock ∙ ap (λ (ss : List Stream). t4 ++ sources_member book.moment ss) sources)
     (e6 ∙ ap (λ (m : Book). t5 ++ lit_members m.streams lit) monitor_is ∙ ap (λ (l : Option Lit). t5 ++ lit_members book.streams l) shown)
-    (e7 ∙ ap (λ (n : ℕ). t6 ++ alarms_member n streams alarms) given_is ∙ ap (λ (ss : List Stream). t6 ++ alarms_member 0 ss alarms) sources ∙ ap (λ (a : Alarms). t6 ++ alarms_member 0 book.streams a) alarms_is)
+    (e7 ∙ ap (λ (n : ℕ). t6 ++ alarms_member n streams alarms) given_is ∙ ap (λ (ss : List Stream). t6 ++ alarms_member 0 ss alarms) sources ∙ ap (λ (a : KeptAlarms). t6 ++ alarms_member 0 book.streams a) alarms_is)
     (e8 ∙ ap (λ (n : Counts). t7 ++ counts_member n) count)
     e9

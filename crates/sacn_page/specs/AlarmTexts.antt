@@ -1,6 +1,6 @@
 -- What is said of the things that went wrong.
 use Rattle.std.specs.List.{join_by}
-use Rattle.std.specs.Prelude.{ℕ, ◌-◌, ◌==◌, nat_le, List, [], ◌++◌, length, drop, codes, decimal, position, slice_get, option_and_then, Option, None, Some, if◌then◌else◌}
+use Rattle.std.specs.Prelude.{ℕ, ◌-◌, ◌==◌, List, [], ◌++◌, length, codes, decimal, slice_get, option_and_then, Option, None, Some, if◌then◌else◌}
 use Rattle.sacn_root.specs.declared.fault.PacketFault.{PacketFault}
 use Rattle.sacn_monitor.specs.declared.account.Sender.{Sender}
 use Rattle.sacn_monitor.specs.declared.stream.Stream.{Stream}
@@ -10,9 +10,9 @@ use Rattle.sacn_explain.specs.Refusals.{fault_words}
 use Rattle.sacn_explain.specs.Sentences.{stop_words}
 use Rattle.sacn_explain.specs.Spelling.{sender_text}
 use Rattle.sacn_page.specs.declared.alarms.Alarm.{Alarm}
-use Rattle.sacn_page.specs.declared.alarms.Alarms.{Alarms}
 use Rattle.sacn_page.specs.declared.alarms.Trouble.{Trouble}
 use Rattle.sacn_page.specs.declared.alarms.Trouble.TheVariants.{Lost, Ended, CameBack, Skipped, Late, Refused, Stopped, Rivals}
+use Rattle.sacn_page.specs.Alarms.{KeptAlarms, after}
 use Rattle.sacn_page.specs.Documents.{first_number}
 
 -- what happened, in a word
@@ -83,20 +83,11 @@ alarm_object streams a = alarm_front a ++ (codes ",\"text\":\"" ++ (about stream
 abbrev pub alarm_list : List Stream → List Alarm → List ℕ
 alarm_list streams alarms = join_by (alarm_object streams) (codes ",") alarms
 
--- from a place on, where there is one
-abbrev pub from_place : List Alarm → Option ℕ → List Alarm
-from_place alarms None = []
-from_place alarms (Some place) = drop place alarms
-
--- those before which there were so many, or more
-abbrev pub after : ℕ → List Alarm → List Alarm
-after count alarms = from_place alarms (position (λ a. nat_le count a.earlier) alarms)
-
 -- how many aren't kept, where there are any
 abbrev pub left_out_member : ℕ → List ℕ
 left_out_member count = if count == 0 then [] else number_member (codes "alarms_left_out") count
 
 -- the alarms behind the first so many, as far as they are kept
-unfoldable pub alarms_member : ℕ → List Stream → Alarms → List ℕ
+unfoldable pub alarms_member : ℕ → List Stream → KeptAlarms → List ℕ
 alarms_member given streams a =
-    key_text (codes "alarms") ++ (codes "[" ++ (alarm_list streams (after given a.latest.items) ++ (codes "]" ++ left_out_member (a.count - length a.latest.items))))
+    key_text (codes "alarms") ++ (codes "[" ++ (alarm_list streams (after given a.latest) ++ (codes "]" ++ left_out_member (a.count - length a.latest))))

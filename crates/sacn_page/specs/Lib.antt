@@ -1,8 +1,9 @@
 pub mod Requests
 pub mod HostNames
 pub mod Marks
-pub mod Feeds
 pub mod Places
 pub mod Documents
+pub mod Alarms
 pub mod AlarmTexts
 pub mod WholeDocuments
+pub mod Feeds

@@ -4,6 +4,7 @@ use Rattle.std.specs.Option.{option_or}
 use Rattle.sacn_universe.specs.declared.limits.TheConstants.{SLOTS}
 use Rattle.sacn_monitor.specs.declared.stream.Stream.{Stream}
 use Rattle.sacn_network.specs.LitUniverses.{Lit, giver_places}
+use Rattle.sacn_network.specs.Sets.{universes_in}
 use Rattle.sacn_explain.specs.Members.{key_text}
 use Rattle.sacn_explain.specs.Numbers.{numbers_member}
 use Rattle.sacn_page.specs.declared.board.Board.{Board}
@@ -49,6 +50,6 @@ document facts b named =
     let monitor = b.network.monitor in
     let universe = universe_shown named b.preferred monitor.streams in
     first_number (codes "ms") monitor.moment ++ (recording_member facts
-    ++ (universe_member universe ++ (numbers_member (codes "heard") b.heard.items
+    ++ (universe_member universe ++ (numbers_member (codes "heard") (universes_in b.network.heard)
     ++ (sources_member monitor.moment monitor.streams ++ (lit_members monitor.streams (lit_of b.lit.items universe)
     ++ (alarms_member 0 monitor.streams b.alarms ++ (counts_member (counts_of monitor.tally) ++ codes "}")))))))

@@ -4,11 +4,15 @@ ghost use Rattle.std.specs.Prelude.{◌≡◌, ◌==◌, ℕ, List, IfOk, OnOk, 
 ghost use Rattle.sacn_framing.specs.PacketReading.{reading_packet};
 ghost use Rattle.sacn_monitor.specs.Books.{new_book, next_loss, silent_place};
 ghost use Rattle.sacn_explain.specs.Following.{IsTicked, IsTaken};
+ghost use Rattle.sacn_network.specs.Networks.{take_told, tick_told};
+ghost use Rattle.sacn_network.specs.Sets.{universes_in};
+ghost use Rattle.sacn_page.specs.declared.alarms.Trouble.TheVariants.{Stopped};
+ghost use Rattle.sacn_page.specs.Alarms.{alarms_told, no_alarms, with_alarm};
 ghost use Rattle.sacn_page.specs.WholeDocuments.{first_heard, universe_shown};
 
 use crate::alarms::{Alarms, Trouble};
 use sacn_framing::{Packet, Reading};
-use sacn_monitor::{Event, Monitor, Noted, Sender, Stream};
+use sacn_monitor::{Monitor, Sender, Stream};
 use sacn_network::{LitUniverse, Network};
 use std::alloc::{AllocError, Global};
 
@@ -25,8 +29,6 @@ pub struct Board {
     alarms: Alarms,
     /// The universe of a viewer that names none, where that isn't the first heard.
     preferred: Option<u16>,
-    /// The universes heard, ascending.
-    heard: Vec<u16>,
     lit: Vec<LitUniverse>,
 }
 
@@ -36,13 +38,13 @@ impl Board {
     /// Errors: OutOfMemory.
     pub fn new(alloc: Global, preferred: Option<u16>, alarms: usize) -> Result<Self, AllocError>
         ensures nothing { IfOk result (λ b. b.network.monitor ≡ new_book) }
+        ensures alarms { IfOk result (λ b. b.alarms ≡ no_alarms alarms) }
     {
         Ok(Board {
             alloc,
             network: Network::new(alloc)?,
-            alarms: Alarms::new(alloc, alarms),
+            alarms: Alarms::new(alloc, alarms)?,
             preferred,
-            heard: Vec::new(alloc),
             lit: Vec::new(alloc),
         })
     }
@@ -59,34 +61,30 @@ impl Board {
     ) -> Result<(), AllocError>
         ensures taken { (octets : List ℕ) → reading.now ≡ reading_packet octets → OnOk result
             (IsTaken now sender octets self.old.network.monitor self.new.network.monitor) }
+        ensures alarms { self.new.alarms
+            ≡ alarms_told (take_told now sender reading.now self.old.network) self.old.alarms }
     {
-        let noted = self.network.take(now, sender, reading, &mut self.alarms);
-        self.alarms.settle()?;
-        self.note_universe(&noted)?;
+        self.network.take(now, sender, reading, &mut self.alarms);
         self.light(now, reading)
     }
 
     /// Moves the clock, and returns whether a source was lost.
-    ///
-    /// Errors: OutOfMemory.
-    pub fn tick(&mut self, now: u64) -> Result<bool, AllocError>
-        ensures lost { IfOk result (λ is_lost. is_lost ≡ is_some (silent_place
-            (max self.old.network.monitor.moment now) self.old.network.monitor.streams)) }
-        ensures ticked { OnOk result
-            (IsTicked now self.old.network.monitor self.new.network.monitor) }
+    pub fn tick(&mut self, now: u64) -> bool
+        ensures lost { result ≡ is_some (silent_place
+            (max self.old.network.monitor.moment now) self.old.network.monitor.streams) }
+        ensures ticked { IsTicked now self.old.network.monitor self.new.network.monitor }
+        ensures alarms { self.new.alarms
+            ≡ alarms_told (tick_told now self.old.network) self.old.alarms }
     {
-        let is_lost = self.network.tick(now, &mut self.alarms);
-        self.alarms.settle()?;
-        Ok(is_lost)
+        self.network.tick(now, &mut self.alarms)
     }
 
     /// Notes that this program was stopped for so many milliseconds, in which it heard nothing. No account changes.
-    ///
-    /// Errors: OutOfMemory.
-    pub fn note_stop(&mut self, now: u64, millis: u64) -> Result<(), AllocError>
+    pub fn note_stop(&mut self, now: u64, millis: u64)
         ensures network { self.new.network ≡ self.old.network }
+        ensures alarms { self.new.alarms ≡ with_alarm now (Stopped millis) self.old.alarms }
     {
-        self.alarms.add(now, Trouble::Stopped(millis))
+        self.alarms.add(now, Trouble::Stopped(millis));
     }
 
     /// The moment of the next loss, where no packet comes; `u64::MAX` where there is none.
@@ -111,10 +109,12 @@ impl Board {
     }
 
     /// The universes heard, ascending.
-    pub fn universes_heard(&self) -> &[u16]
-        ensures { result.now ≡ self.now.heard.items }
+    ///
+    /// Errors: a growth was refused.
+    pub fn universes_heard(&self) -> Result<Vec<u16>, AllocError>
+        ensures { IfOk result (λ heard. heard.items ≡ universes_in self.now.network.heard) }
     {
-        self.heard.as_slice()
+        self.network.universes_heard(self.alloc)
     }
 
     /// The universe that is shown to a viewer that names this one, or none.
@@ -141,6 +141,7 @@ impl Board {
     /// Errors: OutOfMemory.
     pub fn open(&mut self, universe: u16, watched: &[u16]) -> Result<bool, AllocError>
         ensures network { self.new.network ≡ self.old.network }
+        ensures alarms { self.new.alarms ≡ self.old.alarms }
     {
         if self.find_lit(universe).is_some() {
             return Ok(true);
@@ -161,6 +162,7 @@ impl Board {
     /// Merges anew the universes that are looked at.
     pub fn refresh(&mut self, now: u64, watched: &[u16])
         ensures network { self.new.network ≡ self.old.network }
+        ensures alarms { self.new.alarms ≡ self.old.alarms }
     {
         for lit in self.lit.iter_mut() {
             if watched.contains(&lit.universe()) {
@@ -169,29 +171,10 @@ impl Board {
         }
     }
 
-    // The universe of a source that is new.
-    fn note_universe(&mut self, noted: &Noted) -> Result<(), AllocError>
-        ensures network { self.new.network ≡ self.old.network }
-    {
-        let Noted::Heard(place, news) = noted else {
-            return Ok(());
-        };
-        if news.event != Event::Appeared {
-            return Ok(());
-        }
-        if let Some(stream) = self.monitor().streams().get(*place) {
-            let universe = stream.universe;
-            if !self.heard.contains(&universe) {
-                self.heard.push(universe)?;
-                self.heard.sort()?;
-            }
-        }
-        Ok(())
-    }
-
     // Gives a data packet to its universe, where that is merged or there is room for it.
     fn light(&mut self, now: u64, reading: &Reading<'_>) -> Result<(), AllocError>
         ensures network { self.new.network ≡ self.old.network }
+        ensures alarms { self.new.alarms ≡ self.old.alarms }
     {
         let Ok(Packet::DataPacket(packet)) = reading else {
             return Ok(());
@@ -212,6 +195,7 @@ impl Board {
     #[inline(never)]
     fn add_universe(&mut self, universe: u16) -> Result<(), AllocError>
         ensures network { self.new.network ≡ self.old.network }
+        ensures alarms { self.new.alarms ≡ self.old.alarms }
     {
         self.lit.push(unlit_universe(self.alloc, universe)?)?;
         Ok(())

@@ -7,7 +7,8 @@ ghost use Rattle.sacn_page.specs.Documents.{Tells, before_row, counts_member, co
 ghost use Rattle.sacn_page.specs.WholeDocuments.{document, levels_of, lit_members, lit_of, recording_member, winners_of};
 ghost use Rattle.sacn_page.specs.declared.document.Extent.TheVariants.{Whole};
 
-use crate::alarms::{Alarms, push_alarms_member};
+use crate::alarm_texts::push_alarms_member;
+use crate::alarms::Alarms;
 use crate::board::Board;
 use crate::marks::marks_of;
 use crate::members::{
@@ -131,7 +132,8 @@ pub fn push_document(
     push_recording(text, facts)?;
     let start = text.len();
     push_universe(text, universe, &mut given.universe, extent)?;
-    push_heard(text, board.universes_heard(), &mut given.heard, extent)?;
+    let heard = board.universes_heard()?;
+    push_heard(text, heard.as_slice(), &mut given.heard, extent)?;
     push_rows(text, streams, moment, &mut given.rows, extent)?;
     push_lit(text, find_lit(board, universe), monitor, given, extent)?;
     push_alarms(text, streams, board.alarms(), &mut given.alarms, extent)?;

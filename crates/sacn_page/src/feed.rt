@@ -1,7 +1,7 @@
 //! What those are given who look at one universe, made once for all of them.
 
-ghost use Rattle.std.specs.Prelude.{◌≡◌, ◌==◌, ◌||◌, not};
-ghost use Rattle.sacn_page.specs.Feeds.{next_event, owed};
+ghost use Rattle.std.specs.Prelude.{◌≡◌, ◌==◌, ◌||◌, IfOk, OnOk, not, string_bytes};
+ghost use Rattle.sacn_page.specs.Feeds.{IsFollowed, misses, next_event, owed, owed_text, state_event, whole_text};
 
 use crate::board::Board;
 use crate::document::{Extent, Given, push_document};
@@ -91,10 +91,10 @@ impl Feed {
     pub fn owed(&self, seen: u64) -> Owed
         ensures { result ≡ owed self.now.latest self.now.before seen }
     {
-        if seen == 0 {
-            Owed::Whole
-        } else if seen == self.latest {
+        if self.latest <= seen {
             Owed::Nothing
+        } else if seen == 0 {
+            Owed::Whole
         } else if seen == self.before {
             Owed::Change
         } else {
@@ -102,8 +102,17 @@ impl Feed {
         }
     }
 
+    /// Whether a viewer that was given the event of this number last is owed the whole document once a further event is made.
+    pub fn misses(&self, seen: u64) -> bool
+        ensures { result ≡ misses self.now.latest seen }
+    {
+        (seen == 0) | (seen != self.latest)
+    }
+
     /// What is given to one who is owed this; empty where it isn't made, which the next event mends.
-    pub fn text(&self, owed: Owed) -> &str {
+    pub fn text(&self, owed: Owed) -> &str
+        ensures { result.now ≡ owed_text owed self.now }
+    {
         match owed {
             Owed::Nothing => "",
             Owed::Change => self.change.as_str(),
@@ -134,21 +143,44 @@ impl Feed {
         occasion: Occasion,
     ) -> Result<(), AllocError>
         ensures named { self.new.named ≡ self.old.named }
+        ensures followed { OnOk result (IsFollowed number self.old self.new) }
+        ensures whole { OnOk result (string_bytes self.new.whole
+            ≡ whole_text occasion.is_whole_wanted board.now self.old.named) }
     {
         let is_beat = occasion.now >= self.beat;
-        let change = event_of(alloc, board, self.named, &mut self.given, Extent::Changes)?;
-        if change.is_more | is_beat {
+        self.note_change(alloc, board, number, is_beat)?;
+        self.whole = whole_of(alloc, board, self.named, occasion.is_whole_wanted)?;
+        self.plan(occasion, is_beat);
+        Ok(())
+    }
+
+    // Makes the event that says what changed, where anything did, or where it is time for one.
+    fn note_change(
+        &mut self,
+        alloc: Global,
+        board: &Board,
+        number: u64,
+        is_beat: bool,
+    ) -> Result<(), AllocError>
+        ensures named { self.new.named ≡ self.old.named }
+        ensures followed { OnOk result (IsFollowed number self.old self.new) }
+    {
+        let mut document = String::new(alloc);
+        let is_more = push_document(
+            &mut document,
+            None,
+            board,
+            self.named,
+            &mut self.given,
+            Extent::Changes,
+        )?;
+        if is_more | is_beat {
+            let mut change = String::new(alloc);
+            push_event(&mut change, "change", document.as_str())?;
             self.before = self.latest;
             self.latest = number;
-            self.change = change.text;
+            self.change = change;
         }
-        self.whole = String::new(alloc);
-        if occasion.is_whole_wanted {
-            let mut given = Given::nothing(alloc);
-            let whole = event_of(alloc, board, self.named, &mut given, Extent::Whole)?;
-            self.whole = whole.text;
-        }
-        self.plan(occasion, is_beat);
         Ok(())
     }
 
@@ -156,6 +188,9 @@ impl Feed {
     fn plan(&mut self, occasion: Occasion, is_beat: bool)
         ensures named { self.new.named ≡ self.old.named }
         ensures latest { self.new.latest ≡ self.old.latest }
+        ensures before { self.new.before ≡ self.old.before }
+        ensures change { self.new.change ≡ self.old.change }
+        ensures whole { self.new.whole ≡ self.old.whole }
     {
         self.changes = occasion.changes;
         self.next = occasion.now.saturating_add(MIN_WAIT);
@@ -165,28 +200,30 @@ impl Feed {
     }
 }
 
-/// An event as it is sent, and whether it says more than the moment.
-#[derive(Drop)]
-struct Event {
-    text: String,
-    is_more: bool,
-}
-
-// The event of a moment.
-fn event_of(
+// The whole document as an event, where it is wanted; else nothing.
+fn whole_of(
     alloc: Global,
     board: &Board,
     named: Option<u16>,
-    given: &mut Given,
-    extent: Extent,
-) -> Result<Event, AllocError> {
+    is_wanted: bool,
+) -> Result<String, AllocError>
+    ensures { IfOk result (λ text. string_bytes text ≡ whole_text is_wanted board.now named) }
+{
+    if is_wanted {
+        state_event(alloc, board, named)
+    } else {
+        Ok(String::new(alloc))
+    }
+}
+
+// The whole document as an event.
+fn state_event(alloc: Global, board: &Board, named: Option<u16>) -> Result<String, AllocError>
+    ensures { IfOk result (λ text. string_bytes text ≡ state_event board.now named) }
+{
     let mut document = String::new(alloc);
-    let is_more = push_document(&mut document, None, board, named, given, extent)?;
+    let mut given = Given::nothing(alloc);
+    push_document(&mut document, None, board, named, &mut given, Extent::Whole)?;
     let mut text = String::new(alloc);
-    let name = match extent {
-        Extent::Whole => "state",
-        Extent::Changes => "change",
-    };
-    push_event(&mut text, name, document.as_str())?;
-    Ok(Event { text, is_more })
+    push_event(&mut text, "state", document.as_str())?;
+    Ok(text)
 }

@@ -2,6 +2,7 @@
 //! ordered through it.
 #![tactic(auto)]
 
+mod alarm_texts;
 mod alarms;
 mod answers;
 mod board;

@@ -153,12 +153,10 @@ impl<T: Tape + Drop> Scene for Recording<T> {
         Ok(())
     }
 
-    fn note_stop(&mut self, _now: u64, _millis: u64) -> Result<(), AllocError> {
-        Ok(())
-    }
+    fn note_stop(&mut self, _now: u64, _millis: u64) {}
 
-    fn tick(&mut self, _now: u64) -> Result<bool, AllocError> {
-        Ok(false)
+    fn tick(&mut self, _now: u64) -> bool {
+        false
     }
 
     fn next_change(&self) -> u64 {

@@ -117,11 +117,11 @@ impl<R: BufRead + Drop> Replay<R> {
                     self.hand(pending)?;
                     return Ok(false);
                 }
-                self.rest(until)?;
+                self.rest(until);
                 Ok(true)
             }
             Next::Nothing(_) => {
-                self.rest(self.clock.now)?;
+                self.rest(self.clock.now);
                 Ok(true)
             }
         }
@@ -144,20 +144,17 @@ impl<R: BufRead + Drop> Replay<R> {
                 let reading = read_packet(self.octets.as_slice());
                 self.board.take(now, sender, &reading)
             }
-            None => self.tick(now),
+            None => {
+                self.board.tick(now);
+                Ok(())
+            }
         }
     }
 
-    // Moves the clock to a moment before the next frame.
-    fn rest(&mut self, moment: u64) -> Result<(), AllocError> {
+    // Moves the clock to a moment before the next frame. What that lost the board knows.
+    fn rest(&mut self, moment: u64) {
         self.shown = moment;
-        self.tick(moment)
-    }
-
-    // Tells the board the time; what that lost, it knows.
-    fn tick(&mut self, now: u64) -> Result<(), AllocError> {
-        self.board.tick(now)?;
-        Ok(())
+        self.board.tick(moment);
     }
 }
 

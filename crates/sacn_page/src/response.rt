@@ -123,8 +123,14 @@ fn finish(text: &mut String, body: &str) -> Result<(), AllocError> {
 /// An event of this name (HTML, server-sent events), of data in one line.
 ///
 /// Errors: a growth was refused.
-pub fn push_event(text: &mut String, name: &str, data: &str) -> Result<(), AllocError> {
-    write!(text, "event: {name}\ndata: ")?;
+#[tactic(auto, unfolding(crate::specs::Feeds::event_text))]
+pub fn push_event(text: &mut String, name: &str, data: &str) -> Result<(), AllocError>
+    ensures { OnOk result
+        (string_bytes text.new ≡ string_bytes text.old ++ event_text name.now «data».now) }
+{
+    text.push_str("event: ")?;
+    text.push_str(name)?;
+    text.push_str("\ndata: ")?;
     text.push_str(data)?;
     text.push_str("\n\n")
 }

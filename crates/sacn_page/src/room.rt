@@ -75,21 +75,16 @@ impl<C: Connection + Drop, S: Scene + Drop> Room<C, S> {
     }
 
     /// Notes that this program was stopped for so many milliseconds.
-    ///
-    /// Errors: OutOfMemory.
-    pub fn note_stop(&mut self, now: u64, millis: u64) -> Result<(), AllocError> {
+    pub fn note_stop(&mut self, now: u64, millis: u64) {
         self.note_change();
-        self.scene.note_stop(now, millis)
+        self.scene.note_stop(now, millis);
     }
 
     /// Moves the clock.
-    ///
-    /// Errors: OutOfMemory.
-    pub fn tick(&mut self, now: u64) -> Result<(), AllocError> {
-        if self.scene.tick(now)? {
+    pub fn tick(&mut self, now: u64) {
+        if self.scene.tick(now) {
             self.note_change();
         }
-        Ok(())
     }
 
     // Something came.

@@ -52,14 +52,10 @@ pub trait Scene {
     fn take(&mut self, now: u64, sender: Sender, reading: &Reading<'_>) -> Result<(), AllocError>;
 
     /// Notes that this program was stopped for so many milliseconds.
-    ///
-    /// Errors: OutOfMemory.
-    fn note_stop(&mut self, now: u64, millis: u64) -> Result<(), AllocError>;
+    fn note_stop(&mut self, now: u64, millis: u64);
 
     /// Moves the clock, and returns whether a source was lost.
-    ///
-    /// Errors: OutOfMemory.
-    fn tick(&mut self, now: u64) -> Result<bool, AllocError>;
+    fn tick(&mut self, now: u64) -> bool;
 
     /// The next moment at which something changes, where nothing is heard; `u64::MAX` where there is none.
     fn next_change(&self) -> u64;
@@ -96,11 +92,11 @@ impl Scene for Board {
         self.take(now, sender, reading)
     }
 
-    fn note_stop(&mut self, now: u64, millis: u64) -> Result<(), AllocError> {
-        self.note_stop(now, millis)
+    fn note_stop(&mut self, now: u64, millis: u64) {
+        self.note_stop(now, millis);
     }
 
-    fn tick(&mut self, now: u64) -> Result<bool, AllocError> {
+    fn tick(&mut self, now: u64) -> bool {
         self.tick(now)
     }
 

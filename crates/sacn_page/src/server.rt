@@ -151,12 +151,12 @@ impl<S: Scene + Drop> Watcher for Pages<S> {
     }
 
     fn note_stop(&mut self, now: u64, millis: u64) -> Result<(), WatchFault> {
-        self.room.note_stop(now, millis)?;
+        self.room.note_stop(now, millis);
         Ok(())
     }
 
     fn show(&mut self, now: u64) -> Result<(), WatchFault> {
-        self.room.tick(now)?;
+        self.room.tick(now);
         self.serve(now)?;
         self.room.show(now);
         Ok(())

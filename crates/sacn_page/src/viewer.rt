@@ -1,8 +1,10 @@
 //! One connection of a browser.
 
-ghost use Rattle.std.specs.Prelude.{◌≡◌, ◌≤◌, length, IfSome};
+ghost use Rattle.std.specs.Prelude.{◌≡◌, ◌≤◌, ◌<◌, ◌==◌, length, IfOk, IfSome, if◌then◌else◌};
+ghost use Rattle.sacn_page.specs.Feeds.{owed, owed_text};
 ghost use Rattle.sacn_page.specs.Places.{is_guest, spare};
 
+use crate::feed::Feed;
 use crate::hosts::Hosts;
 use crate::outbox::Outbox;
 use crate::request::{MAX_HEAD, Reading, Refusal, read_request};
@@ -72,7 +74,7 @@ pub struct Viewer<C> {
     /// The moment at which it is closed where nothing happens.
     deadline: u64,
     /// The number of the event that it was given last; 0 where it was given none.
-    pub seen: u64,
+    seen: u64,
 }
 
 impl<C: Connection> Viewer<C> {
@@ -118,6 +120,13 @@ impl<C: Connection> Viewer<C> {
             Phase::Asking | Phase::Leaving => Some(self.deadline),
             _ => None,
         }
+    }
+
+    /// The number of the event that it was given last; 0 where it was given none.
+    pub fn seen(&self) -> u64
+        ensures { result ≡ self.now.seen }
+    {
+        self.seen
     }
 
     /// Whether all that it was to be sent went.
@@ -202,6 +211,27 @@ impl<C: Connection> Viewer<C> {
         self.deadline = now.saturating_add(STALL_TIME);
         self.send(now);
         Ok(())
+    }
+
+    /// Gives it what it is owed of a feed: nothing, or the latest event, which is a later one than it was given before. Returns how many
+    /// octets that is. All that it was given before must have gone.
+    ///
+    /// Errors: OutOfMemory.
+    #[tactic(auto, using(crate::proofs::Owing::later_than))]
+    pub fn give_event(&mut self, feed: &Feed, now: u64) -> Result<usize, AllocError>
+        ensures count { IfOk result (λ count. count ≡ length
+            (owed_text (owed feed.now.latest feed.now.before self.old.seen) feed.now)) }
+        ensures newest { IfOk result (λ count.
+            self.new.seen ≡ (if count == 0 then self.old.seen else feed.now.latest)) }
+        ensures later { IfOk result (λ count. 0 < count → self.old.seen < self.new.seen) }
+    {
+        let text = feed.text(feed.owed(self.seen));
+        if text.is_empty() {
+            return Ok(0);
+        }
+        self.give(text, Phase::Watching(feed.named()), now)?;
+        self.seen = feed.latest();
+        Ok(text.len())
     }
 
     /// Lets it wait for a moment of a recording.

@@ -6,6 +6,7 @@ use Rattle.sacn_framing.specs.declared.packet.Packet.{Packet}
 use Rattle.sacn_framing.specs.declared.packet.Packet.TheVariants.{DataPacket, PagePacket, SyncPacket}
 use Rattle.sacn_monitor.specs.declared.stream.Stream.{Stream}
 use Rattle.sacn_network.specs.LitUniverses.{giver_places}
+use Rattle.sacn_watch.specs.declared.view.View.{View}
 use Rattle.sacn_sources.specs.Packets.{packet_of}
 use Rattle.sacn_sources.specs.LatestMerge.{Kept, kept_after_take}
 
@@ -13,6 +14,13 @@ use Rattle.sacn_sources.specs.LatestMerge.{Kept, kept_after_take}
 pub record Shown : Type 0 where
   pub universe : Option ℕ
   pub sources : Kept
+
+-- the universe whose levels a screen shows, once one was asked for or heard
+abbrev pub chosen : View → Option ℕ
+chosen v = if v.is_chosen then Some v.lit.universe else None
+
+abbrev pub shown_of : View → Shown
+shown_of v = record { universe = chosen v; sources = v.lit.sources }
 
 -- the universe that is asked for, else the first of which a data packet came
 abbrev pub shown_with : ℕ → Option ℕ → ℕ

@@ -188,7 +188,7 @@ fn room_for_sources(page: &Page, view: &View) -> usize {
     if left < MIN_SHARED {
         return left;
     }
-    let levels = match view.universe {
+    let levels = match view.universe() {
         Some(_) => lit_rows(view, page.size.width).saturating_add(2),
         None => 0,
     };
@@ -207,8 +207,8 @@ enum Part {
 fn is_of(view: &View, stream: &Stream, part: Part) -> bool {
     match part {
         Part::All => true,
-        Part::Shown => view.universe == Some(stream.universe),
-        Part::Others => view.universe != Some(stream.universe),
+        Part::Shown => view.universe() == Some(stream.universe),
+        Part::Others => view.universe() != Some(stream.universe),
     }
 }
 

@@ -33,7 +33,7 @@ pub(crate) fn push_levels(alloc: Global, page: &mut Page, view: &View) -> Result
     ensures fits { FitsOn page.old.size page.old.rows.items
         → FitsOn page.new.size page.new.rows.items }
 {
-    let Some(universe) = view.universe else {
+    let Some(universe) = view.universe() else {
         return Ok(());
     };
     let mut text = String::new(alloc);
@@ -77,6 +77,7 @@ fn push_level_rows(
         → FitsOn page.new.size page.new.rows.items }
 {
     let count = levels_in(page.size.width);
+    let places = view.places();
     let mut text = String::new(alloc);
     let mut rows = 0_usize;
     for number in 0..SLOTS / 8 {
@@ -86,7 +87,15 @@ fn push_level_rows(
             text.clear();
             let slot = first.saturating_add(1);
             write!(text, "{slot:>4} ")?;
-            let row = level_row(alloc, view, text.as_str(), first, count, page.size.width)?;
+            let row = level_row(
+                alloc,
+                view,
+                &places,
+                text.as_str(),
+                first,
+                count,
+                page.size.width,
+            )?;
             page.push(row)?;
         }
     }
@@ -97,16 +106,18 @@ fn push_level_rows(
 fn is_lit(view: &View, first: usize, count: usize) -> bool {
     first < SLOTS
         && view
-            .levels
+            .levels()
             .iter()
             .skip(first)
             .take(count)
             .any(|level| *level > 0)
 }
 
+// The row of the slots from this one on, behind a head: of each the letter of the source that gives it its level, and the level.
 fn level_row(
     alloc: Global,
     view: &View,
+    places: &[Option<usize>; SLOTS],
     head: &str,
     first: usize,
     count: usize,
@@ -116,15 +127,12 @@ fn level_row(
 {
     let mut row = Row::new(alloc, width);
     row.put_text(head, Ink::Plain)?;
+    let levels = view.levels();
     for slot in first..first.saturating_add(count).min(SLOTS) {
-        match view.winners[slot] {
-            Some(place) => put_level(
-                &mut row,
-                letter_of(place),
-                view.levels[slot],
-                Ink::Source(place),
-            )?,
-            None => put_level(&mut row, '.' as u32, view.levels[slot], Ink::Plain)?,
+        let level = levels[slot];
+        match places[slot] {
+            Some(place) => put_level(&mut row, letter_of(place), level, Ink::Source(place))?,
+            None => put_level(&mut row, '.' as u32, level, Ink::Plain)?,
         }
     }
     Ok(row)

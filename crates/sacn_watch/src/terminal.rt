@@ -3,6 +3,7 @@
 ghost use Rattle.std.specs.Prelude.{◌≡◌, [], IfOk};
 ghost use Rattle.sacn_watch.specs.Pages.{FitsOn};
 ghost use Rattle.sacn_watch.specs.Screens.{IsShowing, wake_of};
+ghost use Rattle.sacn_watch.specs.Views.{chosen};
 
 use crate::fault::WatchFault;
 use crate::layout::screen;
@@ -64,7 +65,7 @@ impl<'a, O: Write> Terminal<'a, O> {
         out: &'a mut O,
     ) -> Result<Self, WatchFault>
         ensures nothing { IfOk result (IsShowing []) }
-        ensures universe { IfOk result (λ t. t.view.universe ≡ universe) }
+        ensures universe { IfOk result (λ t. chosen t.view ≡ universe) }
         ensures size { IfOk result (λ t. t.size ≡ size) }
         ensures colours { IfOk result (λ t. t.has_colours ≡ has_colours) }
     {

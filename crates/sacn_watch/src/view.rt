@@ -1,19 +1,18 @@
 //! What a screen shows.
 
-ghost use Rattle.std.specs.Prelude.{◌≡◌, ℕ, List, IfOk, is_some, max};
+ghost use Rattle.std.specs.Prelude.{◌≡◌, ℕ, List, IfOk, is_some, max, true};
 ghost use Rattle.sacn_framing.specs.PacketReading.{reading_packet};
 ghost use Rattle.sacn_monitor.specs.Books.{new_book, silent_place};
 ghost use Rattle.sacn_sources.specs.LatestMerge.{new_kept, kept_after_merged};
 ghost use Rattle.sacn_sources.specs.Rows.{after_expire, slots_of};
 ghost use Rattle.sacn_sources.specs.Givers.{givers_of};
 ghost use Rattle.sacn_explain.specs.Following.{IsTaken, IsTicked};
-ghost use Rattle.sacn_watch.specs.Views.{after_packet, after_reading, places_shown};
+ghost use Rattle.sacn_watch.specs.Views.{after_packet, after_reading, chosen, places_shown, shown_of, shown_with};
 
 use crate::fault::WatchFault;
 use sacn_framing::{DataView, Packet, Reading};
 use sacn_monitor::{Monitor, Sender};
-use sacn_network::{Network, Unobserved, giver_places};
-use sacn_sources::{Givers, SourceTable};
+use sacn_network::{LitUniverse, Network, Unobserved};
 use sacn_universe::SLOTS;
 use std::alloc::Global;
 
@@ -21,16 +20,12 @@ use std::alloc::Global;
 #[derive(Drop)]
 pub struct View {
     network: Network,
-    /// The universe whose levels are shown: the one asked for, else the first heard.
-    pub universe: Option<u16>,
-    /// The levels of its slots: those of the highest priority merged, the highest level of each slot (E1.31, 6.2.3).
-    pub levels: [u8; SLOTS],
-    /// For each slot the place of the stream of the source that gives it its level, where that isn't 0: of the live sources of the
-    /// highest priority the first by CID that has this level.
-    pub winners: [Option<usize>; SLOTS],
+    /// The universe whose levels are shown, once it is known which.
+    lit: LitUniverse,
+    /// It is known: it was asked for, or a packet came.
+    is_chosen: bool,
     /// The milliseconds for which this program was stopped, in all.
     pub stopped: u64,
-    table: SourceTable,
 }
 
 impl View {
@@ -39,17 +34,14 @@ impl View {
     /// Errors: OutOfMemory.
     pub fn new(alloc: Global, universe: Option<u16>) -> Result<Self, WatchFault>
         ensures nothing { IfOk result (λ v. v.network.monitor ≡ new_book) }
-        ensures universe { IfOk result (λ v. v.universe ≡ universe) }
-        ensures sources { IfOk result (λ v. v.table ≡ new_kept) }
+        ensures universe { IfOk result (λ v. chosen v ≡ universe) }
+        ensures sources { IfOk result (λ v. v.lit.sources ≡ new_kept) }
     {
-        let network = Network::new(alloc)?;
         Ok(View {
-            network,
-            universe,
-            levels: [0; SLOTS],
-            winners: [None; SLOTS],
+            network: Network::new(alloc)?,
+            lit: LitUniverse::new(alloc, universe.unwrap_or(0))?,
+            is_chosen: universe.is_some(),
             stopped: 0,
-            table: SourceTable::new(alloc)?,
         })
     }
 
@@ -58,9 +50,7 @@ impl View {
     pub fn take(&mut self, now: u64, sender: Sender, reading: &Reading<'_>)
         ensures taken { (octets : List ℕ) → reading.now ≡ reading_packet octets →
             IsTaken now sender octets self.old.network.monitor self.new.network.monitor }
-        ensures shown { record { universe = self.new.universe; sources = self.new.table }
-            ≡ after_reading now reading.now
-            (record { universe = self.old.universe; sources = self.old.table }) }
+        ensures shown { shown_of self.new ≡ after_reading now reading.now (shown_of self.old) }
     {
         let _ = self.network.take(now, sender, reading, &mut Unobserved);
         match reading {
@@ -78,8 +68,8 @@ impl View {
         ensures ticked { IsTicked now self.old.network.monitor self.new.network.monitor }
         ensures clock { self.new.network.monitor.moment
             ≡ max self.old.network.monitor.moment now }
-        ensures universe { self.new.universe ≡ self.old.universe }
-        ensures sources { self.new.table ≡ self.old.table }
+        ensures universe { chosen self.new ≡ chosen self.old }
+        ensures lit { self.new.lit ≡ self.old.lit }
     {
         self.network.tick(now, &mut Unobserved)
     }
@@ -91,45 +81,72 @@ impl View {
         self.network.monitor()
     }
 
-    /// Merges the levels anew, and tells who gives them.
-    pub fn refresh(&mut self, now: u64)
-        ensures levels { self.new.levels ≡ slots_of (after_expire now self.old.table.table).rows }
-        ensures sources { self.new.table ≡ kept_after_merged now self.old.table }
-        ensures network { self.new.network ≡ self.old.network }
-        ensures universe { self.new.universe ≡ self.old.universe }
-        ensures winners { self.new.winners
-            ≡ places_shown self.old.universe self.old.network.monitor.streams
-            (givers_of (after_expire now self.old.table.table).rows) }
+    /// The universe whose levels are shown: the one asked for, else the first heard.
+    pub fn universe(&self) -> Option<u16>
+        ensures { result ≡ chosen self.now }
     {
-        let givers = self.table.merged_with_givers(now, &mut self.levels);
-        self.winners = places_shown(&givers, self.universe, self.network.monitor());
+        if self.is_chosen {
+            Some(self.lit.universe())
+        } else {
+            None
+        }
+    }
+
+    /// The levels of its slots at the latest call of `refresh`: those of the highest priority merged, the highest level of each slot
+    /// (E1.31, 6.2.3).
+    pub fn levels(&self) -> &[u8; SLOTS]
+        ensures { result.now ≡ self.now.lit.shown }
+    {
+        self.lit.levels()
+    }
+
+    /// For each slot the place of the stream of the source that gives it its level, where that isn't 0: of the live sources of the
+    /// highest priority the first by CID that has this level. Each source is looked up once.
+    #[tactic(auto, unfolding(crate::specs::Views::places_shown))]
+    pub fn places(&self) -> [Option<usize>; SLOTS]
+        ensures { result
+            ≡ places_shown (chosen self.now) self.now.network.monitor.streams self.now.lit.givers }
+    {
+        match self.universe() {
+            Some(_) => self.lit.places(self.monitor()),
+            None => [None; SLOTS],
+        }
+    }
+
+    /// Merges the levels anew, and notes who gives them.
+    pub fn refresh(&mut self, now: u64)
+        ensures levels { self.new.lit.shown
+            ≡ slots_of (after_expire now self.old.lit.sources.table).rows }
+        ensures givers { self.new.lit.givers
+            ≡ givers_of (after_expire now self.old.lit.sources.table).rows }
+        ensures sources { self.new.lit.sources ≡ kept_after_merged now self.old.lit.sources }
+        ensures network { self.new.network ≡ self.old.network }
+        ensures universe { chosen self.new ≡ chosen self.old }
+    {
+        self.lit.refresh(now);
     }
 
     // A data packet.
     fn take_levels(&mut self, now: u64, packet: &DataView<'_>)
         ensures network { self.new.network ≡ self.old.network }
-        ensures shown { record { universe = self.new.universe; sources = self.new.table }
-            ≡ after_packet now packet.now
-            (record { universe = self.old.universe; sources = self.old.table }) }
+        ensures shown { shown_of self.new ≡ after_packet now packet.now (shown_of self.old) }
     {
-        let universe = match self.universe {
-            Some(universe) => universe,
-            None => packet.universe(),
-        };
-        self.universe = Some(universe);
-        if universe == packet.universe() {
-            let _ = self.table.take(now, packet);
+        self.choose(packet.universe());
+        if self.lit.universe() == packet.universe() {
+            self.lit.take(now, packet);
         }
     }
-}
 
-// For each slot the place of its giver's stream, where a universe is shown.
-#[tactic(auto, unfolding(crate::specs::Views::places_shown))]
-fn places_shown(givers: &Givers, universe: Option<u16>, monitor: &Monitor) -> [Option<usize>; SLOTS]
-    ensures { result ≡ places_shown universe monitor.now.streams givers.now }
-{
-    match universe {
-        Some(universe) => giver_places(givers, universe, monitor),
-        None => [None; SLOTS],
+    // Shows this universe from now on, where none was shown yet.
+    fn choose(&mut self, universe: u16)
+        ensures network { self.new.network ≡ self.old.network }
+        ensures universe { self.new.lit.universe ≡ shown_with universe (chosen self.old) }
+        ensures chosen { self.new.is_chosen ≡ true }
+        ensures sources { self.new.lit.sources ≡ self.old.lit.sources }
+    {
+        if !self.is_chosen {
+            self.is_chosen = true;
+            self.lit.rename(universe);
+        }
     }
 }

@@ -26,7 +26,7 @@ fn eater_of<C: Connection>(viewer: &Viewer<C>) -> Option<Eater> {
     match viewer.phase() {
         Phase::Watching(named) if viewer.is_idle() => Some(Eater {
             named,
-            seen: viewer.seen,
+            seen: viewer.seen(),
         }),
         _ => None,
     }
@@ -87,16 +87,11 @@ impl<C: Connection + Drop, S: Scene + Drop> Room<C, S> {
     fn give(&mut self, key: usize, place: usize, now: u64) -> Option<usize> {
         let viewer = self.viewers.get_mut(key)?;
         let feed = self.feeds.get(place)?;
-        let text = feed.text(feed.owed(viewer.seen));
-        if text.is_empty() {
-            return Some(0);
-        }
-        viewer.give(text, Phase::Watching(feed.named()), now).ok()?;
-        viewer.seen = feed.latest();
+        let count = viewer.give_event(feed, now).ok()?;
         if viewer.phase() == Phase::Gone {
             return None;
         }
-        Some(text.len())
+        Some(count)
     }
 
     // The place of the feed of those who name this universe, or none.
@@ -148,7 +143,7 @@ impl<C: Connection + Drop, S: Scene + Drop> Room<C, S> {
         for key in 0..MAX_CONNECTIONS {
             if let Some(viewer) = self.viewers.get(key) {
                 if let Some(eater) = eater_of(viewer) {
-                    if (eater.named == named) & (feed.owed(eater.seen) != Owed::Nothing) {
+                    if (eater.named == named) & feed.misses(eater.seen) {
                         return true;
                     }
                 }

@@ -1,5 +1,10 @@
+use Rattle.sacn_network.specs.Networks.{tick_told}
 use Rattle.sacn_watch.proofs.Ticking.{is_ticked}
+use Rattle.sacn_page.proofs.Alarming.{told_fold}
 use Rattle.sacn_page.proofs.board.Board.tick.Goals as goal
 
 pub returns-clause-ticked : goal.returns-clause-ticked
-returns-clause-ticked c = is_ticked c.args.now c.args.self.now.network c.tick-is_lost.new.self c.tick-is_lost.ensures.network
+returns-clause-ticked c = is_ticked c.args.now c.args.self.now.network c.tick.new.self c.tick.ensures.network
+
+pub returns-clause-alarms : goal.returns-clause-alarms
+returns-clause-alarms c = told_fold (tick_told c.args.now c.args.self.now.network) c.args.self.now.alarms c.tick.new.observer c.tick.ensures.told

@@ -1,7 +1,7 @@
 use Rattle.std.proofs.Common.{◌≡◌, ◌++◌, drop, codes, string_bytes}
 use Rattle.std.specs.List.{flat_map}
 use Rattle.sacn_page.specs.AlarmTexts.{alarm_object, alarm_list}
-use Rattle.sacn_page.proofs.alarms.push_list.Given as goal
+use Rattle.sacn_page.proofs.alarm_texts.push_list.Given as goal
 
 -- what is written, and then the alarms that are left, is all
 abbrev pub invariant-loop-alarm : goal.invariant-loop-alarm

@@ -1,0 +1,15 @@
+-- What is owed is later than what was given.
+use Rattle.std.proofs.Common.{◌≡◌, ◌<◌, ◌==◌, ℕ, nat_le, Bool, true, false, cond, length, refl, sym, ap, subst, arith}
+use Rattle.std.proofs.lemmas.Bool.{leb-false}
+use Rattle.sacn_page.specs.declared.feed.Feed.{Feed}
+use Rattle.sacn_page.specs.declared.feed.Owed.{Owed}
+use Rattle.sacn_page.specs.declared.feed.Owed.TheVariants.{Nothing, Change, Whole}
+use Rattle.sacn_page.specs.Feeds.{owed, owed_text}
+
+later_by : (b : Bool) (latest seen : ℕ) (other : Owed) (f : Feed) → nat_le latest seen ≡ b → 0 < length (owed_text (cond b Nothing other) f) → seen < latest
+later_by true latest seen other f is some = absurd (omega (arith, some))
+later_by false latest seen other f is some = leb-false latest seen is
+
+-- where a viewer is owed octets, they are those of a later event
+pub later_than : (latest before seen : ℕ) (f : Feed) → 0 < length (owed_text (owed latest before seen) f) → seen < latest
+later_than latest before seen f some = later_by (nat_le latest seen) latest seen (cond (seen == 0) Whole (cond (seen == before) Change Whole)) f refl some

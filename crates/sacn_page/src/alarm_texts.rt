@@ -1,0 +1,201 @@
+//! What a viewer reads of the latest things that went wrong.
+
+ghost use Rattle.std.specs.Prelude.{◌≡◌, ◌++◌, OnOk, slice_get, string_bytes};
+ghost use Rattle.sacn_page.specs.AlarmTexts.{about, alarm_front, alarm_list, alarm_object, alarms_member, kind_word, left_out_member, named, place_of, refused_words, rivals_words, skipped_words, source_words, trouble_words};
+
+use crate::alarms::{Alarm, Alarms, Trouble};
+use crate::members::push_first_number;
+use sacn_explain::{
+    fault_words, push_foreign, push_key, push_number, push_sender, push_stop, push_word,
+};
+use sacn_framing::up_to_nul;
+use sacn_monitor::{Sender, Stream};
+use sacn_root::PacketFault;
+use std::alloc::AllocError;
+use std::fmt::Write;
+
+impl Trouble {
+    // Its word in a document.
+    fn kind(&self) -> &'static str
+        ensures { result.now ≡ kind_word self.now }
+    {
+        match self {
+            Trouble::Lost(_) => "lost",
+            Trouble::Ended(_) => "ended",
+            Trouble::CameBack(_) => "came_back",
+            Trouble::Skipped(_, _) => "skipped",
+            Trouble::Late(_) => "late",
+            Trouble::Refused(_, _) => "refused",
+            Trouble::Stopped(_) => "stopped",
+            Trouble::Rivals(_) => "rivals",
+        }
+    }
+
+    // The place of the source that it is about.
+    fn place(&self) -> Option<usize>
+        ensures { result ≡ place_of self.now }
+    {
+        match self {
+            Trouble::Lost(place) => Some(*place),
+            Trouble::Ended(place) => Some(*place),
+            Trouble::CameBack(place) => Some(*place),
+            Trouble::Skipped(place, _) => Some(*place),
+            Trouble::Late(place) => Some(*place),
+            _ => None,
+        }
+    }
+
+    // What a person reads.
+    fn push_words(&self, text: &mut String) -> Result<(), AllocError>
+        ensures { OnOk result
+            (string_bytes text.new ≡ string_bytes text.old ++ trouble_words self.now) }
+    {
+        match self {
+            Trouble::Lost(_) => text.push_str(" is lost"),
+            Trouble::Ended(_) => text.push_str(" ended its stream"),
+            Trouble::CameBack(_) => text.push_str(" is back"),
+            Trouble::Skipped(_, count) => push_skipped(text, *count),
+            Trouble::Late(_) => text.push_str(" sent a packet out of sequence"),
+            Trouble::Refused(sender, fault) => push_refused(text, sender, *fault),
+            Trouble::Stopped(millis) => push_stop(text, *millis),
+            Trouble::Rivals(contest) => {
+                push_rivals(text, contest.universe, contest.sources, contest.priority)
+            }
+        }
+    }
+}
+
+#[tactic(auto, unfolding(crate::specs::AlarmTexts::skipped_words))]
+fn push_skipped(text: &mut String, count: u8) -> Result<(), AllocError>
+    ensures { OnOk result
+        (string_bytes text.new ≡ string_bytes text.old ++ skipped_words count) }
+{
+    match count {
+        1 => text.push_str(" skipped a number"),
+        count => write!(text, " skipped {count} numbers"),
+    }
+}
+
+#[tactic(auto, unfolding(crate::specs::AlarmTexts::refused_words))]
+fn push_refused(text: &mut String, sender: &Sender, fault: PacketFault) -> Result<(), AllocError>
+    ensures { OnOk result
+        (string_bytes text.new ≡ string_bytes text.old ++ refused_words sender.now fault) }
+{
+    text.push_str("a datagram of ")?;
+    push_sender(text, sender)?;
+    text.push_str(" is refused: ")?;
+    text.push_str(fault_words(fault))
+}
+
+#[tactic(auto, unfolding(crate::specs::AlarmTexts::rivals_words))]
+fn push_rivals(
+    text: &mut String,
+    universe: u16,
+    sources: usize,
+    priority: u8,
+) -> Result<(), AllocError>
+    ensures { OnOk result (string_bytes text.new
+        ≡ string_bytes text.old ++ rivals_words universe sources priority) }
+{
+    write!(
+        text,
+        "universe {universe}: {sources} sources share the top priority {priority}"
+    )
+}
+
+/// The alarms behind the first so many, as far as they are kept, and how many aren't.
+#[tactic(auto, unfolding(crate::specs::AlarmTexts::alarms_member))]
+pub fn push_alarms_member(
+    text: &mut String,
+    given: u64,
+    streams: &[Stream],
+    alarms: &Alarms,
+) -> Result<(), AllocError>
+    ensures { OnOk result (string_bytes text.new
+        ≡ string_bytes text.old ++ alarms_member given streams.now alarms.now) }
+{
+    push_key(text, "alarms")?;
+    text.push('[')?;
+    push_list(text, alarms.after(given), streams)?;
+    text.push(']')?;
+    push_left_out(text, alarms.left_out())
+}
+
+fn push_left_out(text: &mut String, count: u64) -> Result<(), AllocError>
+    ensures { OnOk result
+        (string_bytes text.new ≡ string_bytes text.old ++ left_out_member count) }
+{
+    match count {
+        0 => Ok(()),
+        count => push_number(text, "alarms_left_out", count),
+    }
+}
+
+// Alarms about these streams, with commas between them.
+fn push_list(text: &mut String, alarms: &[Alarm], streams: &[Stream]) -> Result<(), AllocError>
+    ensures { OnOk result (string_bytes text.new
+        ≡ string_bytes text.old ++ alarm_list streams.now alarms.now) }
+{
+    let Some((first, rest)) = alarms.split_first() else {
+        return Ok(());
+    };
+    push_alarm(text, first, streams)?;
+    for alarm in rest {
+        text.push(',')?;
+        push_alarm(text, alarm, streams)?;
+    }
+    Ok(())
+}
+
+// An alarm about one of these streams, as an object.
+#[tactic(auto, unfolding(crate::specs::AlarmTexts::alarm_object))]
+fn push_alarm(text: &mut String, alarm: &Alarm, streams: &[Stream]) -> Result<(), AllocError>
+    ensures { OnOk result (string_bytes text.new
+        ≡ string_bytes text.old ++ alarm_object streams.now alarm.now) }
+{
+    push_front(text, alarm)?;
+    text.push_str(",\"text\":\"")?;
+    push_about(text, &alarm.trouble, streams)?;
+    alarm.trouble.push_words(text)?;
+    text.push_str("\"}")
+}
+
+#[tactic(auto, unfolding(crate::specs::AlarmTexts::alarm_front))]
+fn push_front(text: &mut String, alarm: &Alarm) -> Result<(), AllocError>
+    ensures { OnOk result
+        (string_bytes text.new ≡ string_bytes text.old ++ alarm_front alarm.now) }
+{
+    push_first_number(text, "ms", alarm.moment)?;
+    push_word(text, "kind", alarm.trouble.kind())
+}
+
+// The source that it is about, where it is about one of these.
+fn push_about(text: &mut String, trouble: &Trouble, streams: &[Stream]) -> Result<(), AllocError>
+    ensures { OnOk result (string_bytes text.new
+        ≡ string_bytes text.old ++ about streams.now trouble.now) }
+{
+    match trouble.place() {
+        Some(place) => push_source_at(text, streams, place),
+        None => Ok(()),
+    }
+}
+
+fn push_source_at(text: &mut String, streams: &[Stream], place: usize) -> Result<(), AllocError>
+    ensures { OnOk result (string_bytes text.new
+        ≡ string_bytes text.old ++ named (slice_get streams.now place)) }
+{
+    match streams.get(place) {
+        Some(stream) => push_source(text, stream),
+        None => Ok(()),
+    }
+}
+
+#[tactic(auto, unfolding(crate::specs::AlarmTexts::source_words))]
+fn push_source(text: &mut String, stream: &Stream) -> Result<(), AllocError>
+    ensures { OnOk result
+        (string_bytes text.new ≡ string_bytes text.old ++ source_words stream.now) }
+{
+    let universe = stream.universe;
+    write!(text, "universe {universe}: ")?;
+    push_foreign(text, up_to_nul(&stream.account.name))
+}
