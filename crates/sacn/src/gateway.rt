@@ -200,7 +200,7 @@ impl<'a, O: Write, Z: Sizes> Watcher for PatientScreen<'a, O, Z> {
 
     fn show(&mut self, now: u64) -> Result<(), WatchFault> {
         self.now = now;
-        if self.outputs.pump() {
+        if self.outputs.is_drawing() {
             return Ok(());
         }
         self.show_note()?;
@@ -208,7 +208,7 @@ impl<'a, O: Write, Z: Sizes> Watcher for PatientScreen<'a, O, Z> {
     }
 
     fn wakes(&self) -> u64 {
-        if self.outputs.pump() {
+        if self.outputs.is_drawing() {
             return u64::MAX;
         }
         self.screen.wakes()

@@ -111,6 +111,12 @@ impl Outputs {
         }
     }
 
+    /// Hands on what waits. Returns whether something still waits for standard output.
+    pub fn is_drawing(&self) -> bool {
+        let _ = self.out().flush();
+        is_pending(&self.out)
+    }
+
     /// Hands on what waits. Returns whether something still waits.
     pub fn pump(&self) -> bool {
         let _ = self.out().flush();
