@@ -1,12 +1,11 @@
 -- Losses stay where something else comes.
-use Rattle.std.proofs.Common.{◌≡◌, ◌<◌, ◌+◌, ℕ, suc, zero, nat_lt, Bool, true, false, not, cond, List, [], ◌∷◌, ◌++◌, length, filter, remove, refl, sym, ap, ◌∙◌, append-nil, Option, None, Some, arith}
+use Rattle.std.proofs.Common.{◌≡◌, ◌<◌, ◌+◌, ℕ, suc, nat_lt, Bool, true, false, not, cond, List, [], ◌∷◌, ◌++◌, length, filter, remove, refl, ap, ◌∙◌, append-nil, None, Some, arith}
 use Rattle.std.specs.List.{position_or_len}
 use Rattle.std.specs.Option.{option_or}
 use Rattle.std.proofs.lemmas.Bool.{ltb-true}
 use Rattle.std.proofs.lemmas.List.Elements.{filter-append}
 use Rattle.sacn_page.specs.declared.alarms.Alarm.{Alarm}
-use Rattle.sacn_page.specs.declared.alarms.Trouble.{Trouble}
-use Rattle.sacn_page.specs.Alarms.{KeptAlarms, LossesStay, giving_way, in_place_of, is_loss, losses, oldest, with_alarm, with_latest}
+use Rattle.sacn_page.specs.Alarms.{LossesStay, giving_way, in_place_of, is_loss, losses, oldest, with_alarm, with_latest}
 
 -- ---- without the first element that fails a test
 

@@ -1,5 +1,5 @@
 -- What is owed is later than what was given.
-use Rattle.std.proofs.Common.{◌≡◌, ◌<◌, ◌==◌, ◌⊎◌, inl, inr, ℕ, nat_le, Bool, true, false, cond, length, refl, ◌∙◌, arith}
+use Rattle.std.proofs.Common.{◌≡◌, ◌<◌, ◌==◌, inl, inr, ℕ, nat_le, Bool, true, false, cond, length, refl, ◌∙◌, arith}
 use Rattle.std.proofs.lemmas.Bool.{leb-false}
 use Rattle.sacn_page.specs.declared.feed.Feed.{Feed}
 use Rattle.sacn_page.specs.declared.feed.Owed.{Owed}
