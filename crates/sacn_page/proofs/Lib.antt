@@ -1,4 +1,5 @@
 mod Alarming
+mod Losing
 mod Mapping
 mod Owing
 mod OwnGets

@@ -1,5 +1,5 @@
 -- The things that went wrong, and which of them are kept.
-use Rattle.std.specs.Prelude.{ℕ, ◌+◌, ◌-◌, ◌^◌, min, nat_le, nat_lt, Bool, true, false, not, ◌==◌, List, [], ◌∷◌, ◌++◌, length, drop, position, remove, Option, None, Some, if◌then◌else◌}
+use Rattle.std.specs.Prelude.{◌≡◌, ℕ, ◌+◌, ◌-◌, ◌^◌, min, nat_le, nat_lt, Bool, true, false, not, ◌==◌, List, [], ◌∷◌, ◌++◌, length, drop, filter, position, remove, Option, None, Some, if◌then◌else◌}
 use Rattle.std.specs.Option.{option_or}
 use Rattle.sacn_monitor.specs.declared.news.Event.{Event}
 use Rattle.sacn_monitor.specs.declared.news.Event.TheVariants as event
@@ -62,6 +62,14 @@ with_alarm at trouble k = record k {
 abbrev pub with_troubles : ℕ → List Trouble → KeptAlarms → KeptAlarms
 with_troubles at [] k = k
 with_troubles at (trouble ∷ more) k = with_troubles at more (with_alarm at trouble k)
+
+-- those that are losses
+abbrev pub losses : List Alarm → List Alarm
+losses alarms = filter (λ a. is_loss a.trouble) alarms
+
+-- No loss gives way to anything else.
+abbrev pub LossesStay : Type 0
+LossesStay = (at : ℕ) (trouble : Trouble) (k : KeptAlarms) → is_loss trouble ≡ false → losses (with_alarm at trouble k).latest ≡ losses k.latest
 
 -- ---- those that are kept
 

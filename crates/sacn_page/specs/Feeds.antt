@@ -25,7 +25,7 @@ owed_text Change f = string_bytes f.change
 owed_text Whole f = string_bytes f.whole
 
 -- a further event was made: it has this number, and says what changed since the latest; or there was nothing to say
-abbrev pub IsFollowed : ℕ → Feed → Feed → Type 0
+unfoldable pub IsFollowed : ℕ → Feed → Feed → Type 0
 IsFollowed number old new =
     ((new.latest ≡ number) × (new.before ≡ old.latest))
     ⊎ ((new.latest ≡ old.latest) × (new.before ≡ old.before) × (new.change ≡ old.change))

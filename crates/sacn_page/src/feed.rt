@@ -135,6 +135,7 @@ impl Feed {
     /// wanted.
     ///
     /// Errors: a growth was refused. The feed is of no use then.
+    #[tactic(auto, using(crate::proofs::Owing::followed_as))]
     pub fn make(
         &mut self,
         alloc: Global,
@@ -155,6 +156,7 @@ impl Feed {
     }
 
     // Makes the event that says what changed, where anything did, or where it is time for one.
+    #[tactic(auto, using(crate::proofs::Owing::followed, crate::proofs::Owing::not_followed))]
     fn note_change(
         &mut self,
         alloc: Global,
@@ -174,13 +176,14 @@ impl Feed {
             &mut self.given,
             Extent::Changes,
         )?;
-        if is_more | is_beat {
-            let mut change = String::new(alloc);
-            push_event(&mut change, "change", document.as_str())?;
-            self.before = self.latest;
-            self.latest = number;
-            self.change = change;
+        if !is_more & !is_beat {
+            return Ok(());
         }
+        let mut change = String::new(alloc);
+        push_event(&mut change, "change", document.as_str())?;
+        self.before = self.latest;
+        self.latest = number;
+        self.change = change;
         Ok(())
     }
 

@@ -9,6 +9,7 @@ mod board;
 mod document;
 mod feed;
 mod hosts;
+pub mod laws;
 mod marks;
 mod markup;
 mod members;

@@ -1,5 +1,8 @@
 //! How a request is answered (HTTP/1.1, RFC 9112). Each answer ends its connection.
 
+ghost use Rattle.std.specs.Prelude.{◌≡◌, ◌++◌, OnOk, string_bytes};
+ghost use Rattle.sacn_page.specs.Feeds.{event_text};
+
 use crate::request::Refusal;
 use std::alloc::{AllocError, Global};
 use std::fmt::Write;
