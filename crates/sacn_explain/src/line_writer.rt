@@ -1,6 +1,7 @@
 //! Lines of what happens on a network.
 
 ghost use Rattle.std.specs.Prelude.{◌≡◌, [], None, OnOk, slice_get, string_bytes};
+ghost use Rattle.sacn_explain.specs.Choice.{is_wanted};
 ghost use Rattle.sacn_explain.specs.LineWriting.{heard_text, lost_text, what_text, where_wanted};
 ghost use Rattle.sacn_explain.specs.Lines.{rivals_line};
 ghost use Rattle.sacn_explain.specs.Tellings.{Tells, with_line_end};
@@ -16,8 +17,8 @@ use std::io::Write;
 /// Writes what happens on a network, where its universe is asked for. A failure is kept, and nothing is written behind it.
 #[derive(Drop)]
 pub struct LineWriter<'a, O> {
-    pub options: Options<'a>,
     pub teller: Teller<'a, O>,
+    pub options: Options<'a>,
     failure: Option<TellFault>,
 }
 
@@ -31,8 +32,8 @@ impl<'a, O: Write> LineWriter<'a, O> {
         ensures nothing { result.teller.out.now ≡ out.old }
     {
         LineWriter {
-            options,
             teller: Teller::new(alloc, options.form, out),
+            options,
             failure: None,
         }
     }
@@ -50,6 +51,13 @@ impl<'a, O: Write> LineWriter<'a, O> {
             }
             None => Ok(()),
         }
+    }
+
+    // Whether a universe is asked for.
+    fn is_wanted(&self, universe: u16) -> bool
+        ensures { result ≡ is_wanted self.now.options.universes.now universe }
+    {
+        self.options.is_wanted(universe)
     }
 
     // What happened at a moment.
@@ -78,7 +86,7 @@ impl<'a, O: Write> LineWriter<'a, O> {
         let Some(stream) = streams.get(place) else {
             return Ok(());
         };
-        if !self.options.is_wanted(stream.universe) {
+        if !self.is_wanted(stream.universe) {
             return Ok(());
         }
         self.teller.tell_loss(at, stream)
@@ -101,7 +109,7 @@ impl<'a, O: Write> LineWriter<'a, O> {
         let Some(stream) = streams.get(place) else {
             return Ok(());
         };
-        if !self.options.is_wanted(stream.universe) {
+        if !self.is_wanted(stream.universe) {
             return Ok(());
         }
         self.teller.tell_news(at, stream, news)
@@ -116,7 +124,7 @@ impl<'a, O: Write> LineWriter<'a, O> {
         ensures options { self.new.options ≡ self.old.options }
         ensures failure { self.new.failure ≡ self.old.failure }
     {
-        if !self.options.is_wanted(contest.universe) {
+        if !self.is_wanted(contest.universe) {
             return Ok(());
         }
         self.teller
