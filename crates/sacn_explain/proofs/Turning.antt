@@ -1,5 +1,5 @@
 -- What a follower tells in its calls.
-use Rattle.std.proofs.Common.{◌≡◌, ◌≤◌, arith, ℕ, List, [], ◌∷◌, ◌++◌, Option, None, Result, append-nil, append_assoc, refl, sym, ap, subst, ◌∙◌}
+use Rattle.std.proofs.Common.{◌≡◌, ◌≤◌, arith, ℕ, List, [], ◌∷◌, ◌++◌, Option, None, Result, Ok, Err, OnOk, refl, sym, ap, subst, ◌∙◌}
 use Rattle.sacn_root.specs.declared.fault.PacketFault.{PacketFault}
 use Rattle.sacn_framing.specs.declared.packet.Packet.{Packet}
 use Rattle.sacn_framing.specs.PacketReading.{reading_packet}
@@ -17,7 +17,7 @@ use Rattle.sacn_explain.specs.Datagrams.{TellsTurn, datagram_told}
 use Rattle.sacn_explain.specs.Following.{IsTaken, IsTicked}
 use Rattle.sacn_explain.specs.LineWriting.{Writes, told_lines, told_text}
 use Rattle.sacn_explain.specs.ListBooks.{ListBook, list_book, page_told}
-use Rattle.sacn_explain.specs.Shows.{Staged, after_turn, loss_shown, staged, turn_shown}
+use Rattle.sacn_explain.specs.Shows.{Staged, after_loss, after_turn, loss_shown, staged, turn_shown}
 use Rattle.sacn_explain.specs.Silences.{AreDark, IsLit, IsNextDark, Scene, TellsDark, TellsSilence, after_dark, after_darks, dark_told, darks_told, scene_of}
 use Rattle.sacn_explain.specs.Tellings.{Tells}
 use Rattle.sacn_explain.proofs.Telling.{both, nothing}
@@ -40,6 +40,16 @@ turn_taken contents t sender octets reading old new read turn =
     subst (λ (n : Ledger). IsTaken t sender octets old.network.monitor n.monitor)
     (sym (turn.network ∙ ap (λ (r : Result Packet PacketFault). taken t sender r (after_darks turn.darks (scene_of old)).network) read))
     (taken_on t sender octets old.network.monitor (after_darks turn.darks (scene_of old)).network (darks_ticked t turn.darks (scene_of old) turn.are))
+
+-- ---- the node
+
+abbrev of_both : Ledger → Option Staged → Scene
+of_both network stage = record { network = network; stage = stage }
+
+pub dark_scene : {T E : Type 0} (r : Result T E) (at : ℕ) (old : Scene) (network : Ledger) (stage : Option Staged) → network ≡ ticked at old.network → OnOk r (stage ≡ after_loss at old.stage)
+    → OnOk r (of_both network stage ≡ after_dark at old)
+dark_scene (Err fault) at old network stage ticks loses = tt
+dark_scene (Ok x) at old network stage ticks loses = ap (λ (n : Ledger). of_both n stage) ticks ∙ ap (λ (o : Option Staged). of_both (ticked at old.network) o) loses
 
 -- ---- the texts
 
@@ -66,12 +76,14 @@ module _ {O : Type 0} (contents : O → Option (List ℕ)) where
             (subst (λ (wanted : List ℕ). Tells contents mid.teller new.teller (told_lines mid.teller.form wanted more)) (ap (λ o. o.universes.now) wrote.options) (later.text none)));
       }
 
-  -- what a network told a writer that keeps no failure
-  pub written : (told : List Told) (old new : LineWriter O) → AreTold (Writes contents) told old new → new.failure ≡ None → Tells contents old.teller new.teller (told_lines old.teller.form old.options.universes.now told)
-  written told old new are none = (all_written told old new are).text none
+  -- what a network told a writer, once that was found to keep no failure
+  pub settled : (told : List Told) (old said new : LineWriter O) → AreTold (Writes contents) told old said → said.failure ≡ None → new.teller ≡ said.teller
+      → Tells contents old.teller new.teller (told_lines old.teller.form old.options.universes.now told)
+  settled told old said new are none same =
+      subst (λ (teller : Teller O). Tells contents old.teller teller (told_lines old.teller.form old.options.universes.now told)) (sym same) ((all_written told old said are).text none)
 
-  pub same_options : (told : List Told) (old new : LineWriter O) → AreTold (Writes contents) told old new → new.options ≡ old.options
-  same_options told old new are = (all_written told old new are).options
+  pub settled_options : (told : List Told) (old said new : LineWriter O) → AreTold (Writes contents) told old said → new.options ≡ said.options → new.options ≡ old.options
+  settled_options told old said new are same = same ∙ (all_written told old said are).options
 
   -- a call that told what its form and the universes asked for ask for, behind another
   pub next_told : (a b c : LineWriter O) (x y : Form → List ℕ → List ℕ) → b.options ≡ a.options → Tells contents a.teller b.teller (x a.teller.form a.options.universes.now)
@@ -84,6 +96,15 @@ module _ {O : Type 0} (contents : O → Option (List ℕ)) where
   -- the node lost nothing yet
   pub none_dark : (t : ℕ) (old : Follower O) → TellsDark contents t old old
   none_dark t old = record { darks = []; are = tt; told = nothing {O = O} contents old.writer.teller; scene = refl }
+
+  -- nor when it was asked for its next loss
+  pub still_dark : (t : ℕ) (old mid new : Follower O) → scene_of new ≡ scene_of mid → new.writer ≡ mid.writer → TellsDark contents t old mid → TellsDark contents t old new
+  still_dark t old mid new scene writer dark = record {
+    darks = dark.darks;
+    are = dark.are;
+    told = subst (λ (w : LineWriter O). Tells contents old.writer.teller w.teller (darks_told dark.darks (scene_of old) old.writer.teller.form old.writer.options.universes.now)) (sym writer) dark.told;
+    scene = scene ∙ dark.scene;
+  }
 
   -- once more
   pub one_more_dark : (t at : ℕ) (old mid new : Follower O) → at ≤ t → IsNextDark at (staged mid.stage) → mid.writer.options ≡ old.writer.options → TellsDark contents t old mid
@@ -101,9 +122,10 @@ module _ {O : Type 0} (contents : O → Option (List ℕ)) where
       }
 
   -- the node loses a source: first the losses of the network were written, and then its frames
-  pub dark_written : (at : ℕ) (s : Scene) (a b c : LineWriter O) → b.options ≡ a.options → Tells contents a.teller b.teller (told_lines a.teller.form a.options.universes.now (tick_told at s.network))
-      → Tells contents b.teller c.teller (loss_shown b.teller.form at s.stage) → Tells contents a.teller c.teller (dark_told at s a.teller.form a.options.universes.now)
-  dark_written at s a b c options first next =
+  pub dark_written : {T E : Type 0} (r : Result T E) (at : ℕ) (s : Scene) (a b c : LineWriter O) → b.options ≡ a.options → Tells contents a.teller b.teller (told_lines a.teller.form a.options.universes.now (tick_told at s.network))
+      → OnOk r (Tells contents b.teller c.teller (loss_shown b.teller.form at s.stage)) → OnOk r (Tells contents a.teller c.teller (dark_told at s a.teller.form a.options.universes.now))
+  dark_written (Err fault) at s a b c options first next = tt
+  dark_written (Ok x) at s a b c options first next =
       next_told a b c (λ form wanted. told_lines form wanted (tick_told at s.network)) (λ form wanted. loss_shown form at s.stage) options first next
 
   -- the losses of the network that are left

@@ -1,5 +1,5 @@
 -- What ends by silence, each thing at its own moment, and what is told of it.
-use Rattle.std.specs.Prelude.{◌≡◌, ◌≤◌, ◌<◌, ℕ, ⊤, ⊥, IfSome, ◌-◌, ◌^◌, Option, None, Some, List, [], ◌∷◌, ◌++◌}
+use Rattle.std.specs.Prelude.{◌≡◌, ◌≤◌, ◌<◌, ℕ, ⊤, IfSome, ◌-◌, ◌^◌, Option, None, Some, List, [], ◌∷◌, ◌++◌}
 use Rattle.sacn_network.specs.declared.ledger.Ledger.{Ledger}
 use Rattle.sacn_network.specs.Networks.{LeavesNone, tick_told, ticked}
 use Rattle.sacn_node.specs.Cores.{core_lost}

@@ -1,6 +1,6 @@
 //! What happens, told as it happens.
 
-ghost use Rattle.std.specs.Prelude.{◌≡◌, ◌<◌, ◌≤◌, ◌-◌, ◌^◌, ℕ, IfErr, IfNone, IfOk, IfSome, OnErr, OnOk, is_some, max};
+ghost use Rattle.std.specs.Prelude.{◌≡◌, ◌<◌, ◌≤◌, ◌-◌, ◌^◌, ℕ, List, IfErr, IfNone, IfOk, IfSome, OnErr, OnOk, is_some, max};
 ghost use Rattle.sacn_framing.specs.PacketReading.{reading_packet};
 ghost use Rattle.sacn_monitor.specs.Books.{next_loss};
 ghost use Rattle.sacn_network.specs.Networks.{new_network, ticked};
@@ -208,6 +208,8 @@ impl<'a, O: Write> Follower<'a, O> {
     // network's clock comes there where something can't be told, too.
     fn tell_dark(&mut self, now: u64) -> Result<u64, TellFault>
         ensures moment { IfOk result (λ t. t ≡ max self.old.network.monitor.moment now) }
+        ensures by { self.new.network.monitor.moment
+            ≤ max self.old.network.monitor.moment now }
         ensures clock { OnErr result
             (self.new.network.monitor.moment ≡ max self.old.network.monitor.moment now) }
         ensures told { IfOk result (λ t. TellsDark O.contents t self.old self.new) }
@@ -225,8 +227,8 @@ impl<'a, O: Write> Follower<'a, O> {
 
     // Tells what the node loses up to a moment that is no earlier than the clock.
     fn tell_each_dark(&mut self, until: u64) -> Result<(), TellFault>
-        ensures clock { max self.new.network.monitor.moment until
-            ≡ max self.old.network.monitor.moment until }
+        ensures by { self.new.network.monitor.moment
+            ≤ max self.old.network.monitor.moment until }
         ensures told { OnOk result (TellsDark O.contents until self.old self.new) }
         ensures lit { OnOk result (IsLit until (staged self.new.stage)) }
         ensures options { self.new.writer.options ≡ self.old.writer.options }
