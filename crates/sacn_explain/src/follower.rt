@@ -23,7 +23,6 @@ use crate::listings::{Listings, PageNews};
 use crate::options::Options;
 use crate::report::Report;
 use crate::stage::Stage;
-use crate::tables;
 use sacn_framing::{Packet, Reading, read_packet};
 use sacn_monitor::{Noted, Sender, Stream, Tally};
 use sacn_network::{Network, Unobserved};
@@ -166,13 +165,8 @@ impl<'a, O: Write> Follower<'a, O> {
         ensures listings { self.new.listings ≡ self.old.listings }
         ensures fault { IfErr result IsOfTelling }
     {
-        tables::tell(
-            &mut self.writer.teller,
-            &self.writer.options,
-            self.network.monitor(),
-            &self.listings,
-            report,
-        )?;
+        self.writer
+            .tell_tables(self.network.monitor(), &self.listings, report)?;
         Ok(())
     }
 

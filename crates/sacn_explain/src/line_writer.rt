@@ -4,10 +4,14 @@ ghost use Rattle.std.specs.Prelude.{◌≡◌, [], None, OnOk, slice_get, string
 ghost use Rattle.sacn_explain.specs.Choice.{is_wanted};
 ghost use Rattle.sacn_explain.specs.LineWriting.{heard_text, lost_text, what_text, where_wanted};
 ghost use Rattle.sacn_explain.specs.Lines.{rivals_line};
+ghost use Rattle.sacn_explain.specs.Tables.{tables_told};
 ghost use Rattle.sacn_explain.specs.Tellings.{Tells, with_line_end};
 
 use crate::fault::TellFault;
+use crate::listings::Listings;
 use crate::options::Options;
+use crate::report::Report;
+use crate::tables;
 use crate::teller::Teller;
 use sacn_monitor::{Monitor, News, Stream};
 use sacn_network::{Contest, Observer, Occurrence, What};
@@ -51,6 +55,20 @@ impl<'a, O: Write> LineWriter<'a, O> {
             }
             None => Ok(()),
         }
+    }
+
+    /// Tells the tables of sources, universes and lists, and these counts.
+    pub fn tell_tables(
+        &mut self,
+        monitor: &Monitor,
+        listings: &Listings,
+        report: &Report,
+    ) -> Result<(), TellFault>
+        ensures { OnOk result
+            (Tells O.contents self.old.teller self.new.teller (tables_told self.old.teller.form
+            self.old.options.universes.now monitor.now.streams listings.now.known.items report.now)) }
+    {
+        tables::tell(&mut self.teller, &self.options, monitor, listings, report)
     }
 
     // Whether a universe is asked for.

@@ -1,6 +1,6 @@
 use Rattle.std.proofs.Common.{◌∙◌}
 use Rattle.sacn_watch.proofs.Following.{whatever}
-use Rattle.sacn_watch.proofs.Ticking.{is_taken}
+use Rattle.sacn_explain.proofs.Ticking.{is_taken}
 use Rattle.sacn_page.proofs.board.Board.take.Goals as goal
 
 pub returns : goal.returns
