@@ -6,15 +6,6 @@ use Rattle.sacn_monitor.specs.Books.{Book, after_take, after_tick}
 use Rattle.sacn_monitor.specs.Histories.{Call, Take, Tick, moment_in_use, after_calls, arrivals, arrival_at, account_by, account_in, AccountsAreOfTheirPackets}
 use Rattle.sacn_explain.specs.Following.{AreBy, after_ticks, IsTicked, Follows, AccountsAreOfWhatWasHanded}
 
--- nothing was told yet
-pub none_told : (t : ℕ) (b : Book) → IsTicked t b b
-none_told t b = ([], tt, refl)
-
--- a loss more, or none
-pub one_more_told : (t m : ℕ) (old mid new : Book) → m ≤ t → IsTicked t old mid → (new ≡ mid) ⊎ (new ≡ after_tick m mid) → IsTicked t old new
-one_more_told t m old mid new by ticked (inl same) = (ticked.0, ticked.1, same ∙ ticked.2)
-one_more_told t m old mid new by ticked (inr told) = (m ∷ ticked.0, (by, ticked.1), told ∙ ap (after_tick m) ticked.2)
-
 -- ---- the calls of a monitor that make a follower's book
 
 abbrev with_ticks : List ℕ → List Call → List Call

@@ -1,9 +1,8 @@
 pub mod Following
 pub mod Story
 pub mod Counts
-pub mod PageLists
+pub mod Ticking
 pub mod Amounts
-pub mod Rivalry
 mod Padding
 mod Digits
 mod Letters
@@ -13,7 +12,6 @@ mod Runs
 mod Texts
 pub mod Telling
 mod RowTexts
-mod Hearing
 mod Turns
 mod ListBooks
 mod Turning

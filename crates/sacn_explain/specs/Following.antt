@@ -33,9 +33,9 @@ Follows (Tick now ∷ earlier) b = (old : Book) × Follows earlier old × IsTick
 
 -- a follower that may be what these calls leave
 pub record IsFollowing (calls : List Call) {O : Type 0} (follower : Follower O) : Type 0 where
-  pub book : Follows calls follower.monitor
+  pub book : Follows calls follower.network.monitor
   pub listed : listed_in follower.listings ≡ listed_by calls
-  pub moment : follower.moment ≡ moment_in_use calls
+  pub moment : follower.network.monitor.moment ≡ moment_in_use calls
 
 -- Whatever a follower was handed, its account of a source on a universe is the one that the packets of that source there give; or it has none, and
 -- there is no room for a further one.

@@ -7,8 +7,6 @@ use Rattle.sacn_root.specs.declared.fault.PacketFault.{PacketFault}
 use Rattle.sacn_framing.specs.declared.packet.Packet.{Packet}
 use Rattle.sacn_framing.specs.declared.packet.Packet.TheVariants.{DataPacket, PagePacket, SyncPacket}
 use Rattle.sacn_framing.specs.PacketReading.{reading_packet}
-use Rattle.sacn_monitor.specs.declared.news.Noted.{Noted}
-use Rattle.sacn_monitor.specs.declared.news.Noted.TheVariants.{Refused, Page, Sync, Untracked, Heard}
 use Rattle.sacn_monitor.specs.Kinds.{more}
 use Rattle.sacn_monitor.specs.Histories.{Call, Take, Tick}
 use Rattle.sacn_discovery.specs.Collection.{State, after_expire, after_take}
@@ -63,11 +61,3 @@ listed_in l = record { sources = l.sources.items; passed = l.passed }
 -- the list at the first place whose source has this CID
 abbrev pub listing_of : List ℕ → Listings → Option Listing
 listing_of cid l = option_and_then (λ place. slice_get l.known.items place) (position (λ source. bytes_eq source cid) l.sources.items)
-
--- a datagram of which this was noted: a page counts
-abbrev pub after_noted : Noted → Result Packet PacketFault → Listed → Listed
-after_noted (Refused fault) reading l = l
-after_noted Page reading l = after_reading reading l
-after_noted Sync reading l = l
-after_noted Untracked reading l = l
-after_noted (Heard place news) reading l = l

@@ -6,7 +6,6 @@ pub mod Following
 pub mod Story
 pub mod Amounts
 pub mod Staging
-pub mod Contests
 pub mod Spelling
 pub mod Foreign
 pub mod Members
@@ -22,7 +21,7 @@ pub mod StreamRows
 pub mod Totals
 pub mod Tables
 pub mod Shows
-pub mod Occurrences
+pub mod LineWriting
 pub mod Silences
 pub mod ListBooks
 pub mod Datagrams

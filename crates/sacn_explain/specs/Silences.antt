@@ -1,93 +1,74 @@
--- What ends by silence, when, and what is told of it.
-use Rattle.std.specs.Prelude.{◌≡◌, ◌≤◌, ◌<◌, ℕ, ⊤, IfSome, ◌+◌, ◌-◌, ◌^◌, ◌==◌, Bool, true, ◌&&◌, min, nat_le, nat_lt, Option, None, Some, List, [], ◌∷◌, ◌++◌, if◌then◌else◌}
-use Rattle.sacn_sources.specs.declared.limits.TheConstants.{NETWORK_DATA_LOSS}
-use Rattle.sacn_monitor.specs.declared.stream.Stream.{Stream}
-use Rattle.sacn_monitor.specs.Books.{Book, after_tick, next_loss}
+-- What ends by silence, each thing at its own moment, and what is told of it.
+use Rattle.std.specs.Prelude.{◌≡◌, ◌≤◌, ◌<◌, ℕ, ⊤, IfSome, ◌-◌, ◌^◌, Option, None, Some, List, [], ◌∷◌, ◌++◌}
+use Rattle.sacn_network.specs.declared.ledger.Ledger.{Ledger}
+use Rattle.sacn_network.specs.Networks.{LeavesNone, tick_told, ticked}
 use Rattle.sacn_node.specs.Cores.{core_lost}
-use Rattle.sacn_explain.specs.declared.contests.Contests.{Contests}
 use Rattle.sacn_explain.specs.declared.follower.Follower.{Follower}
 use Rattle.sacn_explain.specs.declared.options.Form.{Form}
-use Rattle.sacn_explain.specs.declared.stage.Stage.{Stage}
-use Rattle.sacn_explain.specs.Choice.{is_wanted}
-use Rattle.sacn_explain.specs.Contests.{is_noted}
-use Rattle.sacn_network.specs.Contests.{is_contested}
-use Rattle.sacn_explain.specs.Occurrences.{loss_told, lost_stream}
+use Rattle.sacn_explain.specs.LineWriting.{told_lines}
 use Rattle.sacn_explain.specs.Shows.{Staged, after_loss, loss_shown, staged}
 use Rattle.sacn_explain.specs.Tellings.{Tells}
 
--- the earlier of two ends, where it is no later than now; the last moment of all never comes
-abbrev pub end_by : ℕ → ℕ → ℕ → Option ℕ
-end_by now lost dark = let at = min lost dark in if nat_le at now && nat_lt at (2 ^ 64 - 1) then Some at else None
-
--- which universes were said to be contested, the accounts, and the node
+-- what a network carries, and the node
 pub record Scene : Type 0 where
-  pub contests : Contests
-  pub book : Book
+  pub network : Ledger
   pub stage : Option Staged
 
 abbrev pub scene_of : {O : Type 0} → Follower O → Scene
-scene_of f = record { contests = f.contests; book = f.monitor; stage = staged f.stage }
+scene_of f = record { network = f.network; stage = staged f.stage }
 
--- what is told where something ends at a moment: a stream, or else what the node loses
-abbrev pub end_told : Form → List ℕ → ℕ → Bool → Scene → List ℕ
-end_told form wanted at is_stream s = if is_stream then loss_told form wanted at s.contests s.book else loss_shown form at s.stage
+-- ---- the node's part goes dark: it loses a source
 
--- that a universe is contested was said: of that of a stream that is lost, where it is asked for, what is so now
-abbrev pub noted_lost : ℕ → List ℕ → Contests → Book → Option Stream → Bool
-noted_lost u wanted c b None = is_noted u c
-noted_lost u wanted c b (Some s) =
-    if is_wanted wanted s.universe then (if u == s.universe then is_contested s.universe b else is_noted u c) else is_noted u c
+-- it loses one at this moment, and none before
+abbrev pub IsNextDark : ℕ → Option Staged → Type 0
+IsNextDark at None = ⊥
+IsNextDark at (Some s) = (1 ≤ core_lost at s.node.core) × ((m : ℕ) → m < at → core_lost m s.node.core ≡ 0)
 
-abbrev pub noted_ended : ℕ → List ℕ → ℕ → Bool → Scene → Bool
-noted_ended u wanted at is_stream s =
-    if is_stream then noted_lost u wanted s.contests (after_tick at s.book) (lost_stream at s.book) else is_noted u s.contests
+-- it has lost none by t that it holds; the last moment of all never comes
+abbrev pub IsLit : ℕ → Option Staged → Type 0
+IsLit t stage = (m : ℕ) → m ≤ t → m < 2 ^ 64 - 1 → IfSome stage (λ s. core_lost m s.node.core ≡ 0)
 
--- what that end leaves
-pub record Leaves (wanted : List ℕ) (at : ℕ) (is_stream : Bool) (old new : Scene) : Type 0 where
-  pub book : new.book ≡ (if is_stream then after_tick at old.book else old.book)
-  pub stage : new.stage ≡ (if is_stream then old.stage else after_loss at old.stage)
-  pub noted : (u : ℕ) → is_noted u new.contests ≡ noted_ended u wanted at is_stream old
+-- the losses of the network up to such a moment, and then the node's frames
+abbrev pub dark_told : ℕ → Scene → Form → List ℕ → List ℕ
+dark_told at s form wanted = told_lines form wanted (tick_told at s.network) ++ loss_shown form at s.stage
 
--- nothing ends before a moment: no stream whose loss is still to be told, and no source that the node holds
-abbrev pub IsStillBefore : ℕ → Scene → Type 0
-IsStillBefore at s = (m : ℕ) → m < at → (m < next_loss s.book.streams) × IfSome s.stage (λ staged. core_lost m staged.node.core ≡ 0)
+abbrev pub after_dark : ℕ → Scene → Scene
+after_dark at s = record { network = ticked at s.network; stage = after_loss at s.stage }
 
--- one end after another, the latest first, each no later than t and each told in its turn, when nothing ends before it
-abbrev pub AreEnds : Form → List ℕ → ℕ → List (ℕ × Bool) → Scene → Scene → List ℕ → Type 0
-AreEnds form wanted t [] old new text = (new ≡ old) × (text ≡ [])
-AreEnds form wanted t (end ∷ earlier) old new text =
-    (mid : Scene) × (before : List ℕ) × AreEnds form wanted t earlier old mid before × (end.0 ≤ t) × IsStillBefore end.0 mid × Leaves wanted end.0 end.1 mid new
-    × (text ≡ before ++ end_told form wanted end.0 end.1 mid)
+-- one such moment after the other, the latest first
+abbrev pub after_darks : List ℕ → Scene → Scene
+after_darks [] s = s
+after_darks (at ∷ earlier) s = after_dark at (after_darks earlier s)
 
--- a call told what ended by t, and nothing else
+abbrev pub darks_told : List ℕ → Scene → Form → List ℕ → List ℕ
+darks_told [] s form wanted = []
+darks_told (at ∷ earlier) s form wanted = darks_told earlier s form wanted ++ dark_told at (after_darks earlier s) form wanted
+
+-- they are the node's next ones up to t
+abbrev pub AreDark : ℕ → List ℕ → Scene → Type 0
+AreDark t [] s = ⊤
+AreDark t (at ∷ earlier) s = AreDark t earlier s × (at ≤ t) × IsNextDark at (after_darks earlier s).stage
+
+-- ---- what a call tells
+
+-- what the node lost up to t, each time behind the losses of the network up to then, and nothing else
+pub record TellsDark {O : Type 0} (contents : O → Option (List ℕ)) (t : ℕ) (old new : Follower O) : Type 0 where
+  pub darks : List ℕ
+  pub are : AreDark t darks (scene_of old)
+  pub told : Tells contents old.writer.teller new.writer.teller (darks_told darks (scene_of old) old.writer.teller.form old.writer.options.universes.now)
+  pub scene : scene_of new ≡ after_darks darks (scene_of old)
+
+-- what ended by t, and nothing else
+abbrev pub silence_told : ℕ → List ℕ → Scene → Form → List ℕ → List ℕ
+silence_told t darks s form wanted = darks_told darks s form wanted ++ told_lines form wanted (tick_told t (after_darks darks s).network)
+
 pub record TellsSilence {O : Type 0} (contents : O → Option (List ℕ)) (t : ℕ) (old new : Follower O) : Type 0 where
-  pub ends : List (ℕ × Bool)
-  pub text : List ℕ
-  pub told : Tells contents old.teller new.teller text
-  pub are : AreEnds old.teller.form old.options.universes.now t ends (scene_of old) (scene_of new) text
+  pub darks : List ℕ
+  pub are : AreDark t darks (scene_of old)
+  pub told : Tells contents old.writer.teller new.writer.teller (silence_told t darks (scene_of old) old.writer.teller.form old.writer.options.universes.now)
+  pub network : new.network ≡ ticked t (after_darks darks (scene_of old)).network
+  pub stage : staged new.stage ≡ (after_darks darks (scene_of old)).stage
 
--- no stream ends by t whose loss is still to be told, and the node has lost no source by then that it holds
+-- no loss of the network that comes by t is still to be told, and the node has lost no source by then that it holds
 abbrev pub IsQuiet : {O : Type 0} → ℕ → Follower O → Type 0
-IsQuiet t f = (m : ℕ) → m ≤ t → m < 2 ^ 64 - 1 → (m < next_loss f.monitor.streams) × IfSome f.stage (λ s. core_lost m s.core.core ≡ 0)
-
--- the same of what a datagram then finds
-abbrev pub IsStill : ℕ → Scene → Type 0
-IsStill t s = (m : ℕ) → m ≤ t → m < 2 ^ 64 - 1 → (m < next_loss s.book.streams) × IfSome s.stage (λ staged. core_lost m staged.node.core ≡ 0)
-
--- ---- a follower looks in time
-
--- where the loss of a stream was told, it is lost at t
-abbrev pub AreToldLost : ℕ → List Stream → Type 0
-AreToldLost t [] = ⊤
-AreToldLost t (s ∷ ss) = (s.told ≡ true → s.account.latest + NETWORK_DATA_LOSS ≤ t) × AreToldLost t ss
-
--- nothing that is held ends before a moment, nor does what comes at t or later
-pub record EndsNothingBefore (wake t : ℕ) (book : Book) (stage : Option Stage) : Type 0 where
-  pub losses : wake ≤ next_loss book.streams
-  pub dark : (m : ℕ) → m < wake → IfSome stage (λ s. core_lost m s.core.core ≡ 0)
-  pub soon : wake ≤ min (t + NETWORK_DATA_LOSS) (2 ^ 64 - 1)
-
--- nothing ends before a follower's wake, and whatever it hears doesn't either
-pub record WakesInTime {O : Type 0} (f : Follower O) : Type 0 where
-  pub nothing_before : EndsNothingBefore f.wake f.moment f.monitor f.stage
-  pub lost : AreToldLost f.monitor.moment f.monitor.streams
+IsQuiet t f = LeavesNone t f.network × IsLit t (staged f.stage)

@@ -6,7 +6,7 @@ ghost use Rattle.sacn_capture.specs.Recordings.{recording};
 ghost use Rattle.sacn_capture.specs.Counting.{none_counted};
 ghost use Rattle.sacn_capture.specs.Streams.{counts_of, shown_of, to_come};
 ghost use Rattle.sacn_framing.specs.PacketReading.{reading_packet};
-ghost use Rattle.sacn_monitor.specs.Books.{new_book};
+ghost use Rattle.sacn_network.specs.Networks.{new_network};
 ghost use Rattle.sacn_explain.specs.Faults.{IsFaultOf, IsOfTelling};
 ghost use Rattle.sacn_explain.specs.Following.{IsTaken};
 ghost use Rattle.sacn_explain.specs.KeptLists.{after_reading, listed_in, listed_with, none_listed};
@@ -66,8 +66,7 @@ fn tell_all<R: BufRead + Drop, O: Write>(
     follower: &mut Follower<'_, O>,
     port: u16,
 ) -> Result<Report, ExplainFault>
-    requires nothing { follower.old.monitor ≡ new_book }
-    requires moment { follower.old.moment ≡ 0 }
+    requires nothing { follower.old.network ≡ new_network }
     requires lists { listed_in follower.old.listings ≡ none_listed }
     requires frames { counts_of capture.old ≡ none_counted }
     ensures told { IfSome (to_come R.Read.remaining capture.old)
@@ -107,14 +106,13 @@ fn follow<R: BufRead + Drop, O: Write>(
     follower: &mut Follower<'_, O>,
     port: u16,
 ) -> Result<Progress, ExplainFault>
-    requires nothing { follower.old.monitor ≡ new_book }
-    requires moment { follower.old.moment ≡ 0 }
+    requires nothing { follower.old.network ≡ new_network }
     requires lists { listed_in follower.old.listings ≡ none_listed }
     requires frames { counts_of capture.old ≡ none_counted }
     ensures told { IfSome (to_come R.Read.remaining capture.old) (λ told. IfOk result
         (λ progress. IsHeard port told progress (record {
           frames = counts_of capture.new;
-          book = follower.new.monitor;
+          book = follower.new.network.monitor;
           listed = listed_in follower.new.listings;
         }))) }
     ensures fault { IfErr result IsOfTelling }
@@ -164,9 +162,11 @@ impl Progress {
         ensures timeline { self.new.timeline ≡ at_moment frame.now.moment self.old.timeline }
         ensures elsewhere { self.new.other_ports
             ≡ elsewhere port (shown_of frame.now).content self.old.other_ports }
-        ensures moment { follower.new.moment ≡ max follower.old.moment self.new.timeline.now }
-        ensures taken { OnOk result (Hears follower.old.moment (call_of port self.new.timeline.now
-            (shown_of frame.now).content) follower.old.monitor follower.new.monitor) }
+        ensures moment { follower.new.network.monitor.moment
+            ≡ max follower.old.network.monitor.moment self.new.timeline.now }
+        ensures taken { OnOk result (Hears follower.old.network.monitor.moment
+            (call_of port self.new.timeline.now (shown_of frame.now).content)
+            follower.old.network.monitor follower.new.network.monitor) }
         ensures listed { OnOk result (listed_in follower.new.listings ≡ listed_with (call_of port
             self.new.timeline.now (shown_of frame.now).content) (listed_in follower.old.listings)) }
         ensures fault { IfErr result IsOfTelling }
@@ -190,10 +190,11 @@ fn hear<O: Write>(
     datagram: &Datagram<'_>,
     follower: &mut Follower<'_, O>,
 ) -> Result<(), ExplainFault>
-    ensures moment { follower.new.moment ≡ max follower.old.moment now }
-    ensures taken { OnOk result
-        (IsTaken (max follower.old.moment now) (sender_of (sent_of datagram.now))
-        (sent_of datagram.now).payload follower.old.monitor follower.new.monitor) }
+    ensures moment { follower.new.network.monitor.moment
+        ≡ max follower.old.network.monitor.moment now }
+    ensures taken { OnOk result (IsTaken (max follower.old.network.monitor.moment now)
+        (sender_of (sent_of datagram.now)) (sent_of datagram.now).payload
+        follower.old.network.monitor follower.new.network.monitor) }
     ensures listed { OnOk result (listed_in follower.new.listings ≡ after_reading
         (reading_packet (sent_of datagram.now).payload) (listed_in follower.old.listings)) }
     ensures fault { IfErr result IsOfTelling }

@@ -3,7 +3,6 @@
 #![tactic(auto)]
 
 mod cause;
-mod contests;
 mod count;
 mod fault;
 mod follow;
@@ -11,6 +10,7 @@ mod follower;
 mod frames;
 mod json;
 pub mod laws;
+mod line_writer;
 mod lines;
 mod listed;
 mod listings;
@@ -21,7 +21,6 @@ mod places;
 mod refusals;
 mod report;
 mod rows;
-mod silence;
 mod spelling;
 mod stage;
 mod stream_rows;

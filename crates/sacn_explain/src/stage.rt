@@ -1,5 +1,7 @@
 //! The frames of a node.
 
+ghost use Rattle.std.specs.Prelude.{◌≡◌, ◌<◌, ℕ};
+ghost use Rattle.sacn_node.specs.Cores.{core_lost};
 ghost use Rattle.sacn_node.specs.Showings.{IsShowingOf, IsShowingOf-prop};
 
 use crate::cause::Cause;
@@ -8,6 +10,7 @@ use crate::frames::tell_ports;
 use crate::teller::Teller;
 use sacn_framing::Reading;
 use sacn_node::{NodeCore, NodeSetup, NodeTaken, Showing};
+use sacn_sources::NETWORK_DATA_LOSS;
 use std::alloc::Global;
 use std::io::Write;
 
@@ -16,13 +19,16 @@ use std::io::Write;
 pub struct Stage {
     core: NodeCore,
     showing: Showing,
+    /// No source that the node holds is lost before this moment.
+    wake: u64,
     ghost current: { IsShowingOf showing core } by { IsShowingOf-prop showing core },
+    ghost awake: { (m : ℕ) → m < wake → core_lost m core.core ≡ 0 },
 }
 
 impl Stage {
-    ghost use Rattle.std.specs.Prelude.{◌≡◌, ◌<◌, ◌≤◌, ◌-◌, ◌^◌, ℕ, IfOk, OnOk, map};
+    ghost use Rattle.std.specs.Prelude.{◌≤◌, ◌-◌, ◌^◌, IfNone, IfOk, IfSome, OnOk, map};
     ghost use Rattle.sacn_node.specs.Calls.{step, Tick, with_reading};
-    ghost use Rattle.sacn_node.specs.Cores.{new_node, core_lost};
+    ghost use Rattle.sacn_node.specs.Cores.{new_node};
     ghost use Rattle.sacn_node.specs.Setup.{port_numbers};
     ghost use Rattle.sacn_node.specs.Showings.{port_after, ports_of, unseen};
     ghost use Rattle.sacn_explain.specs.Causes.{reason_of};
@@ -38,7 +44,11 @@ impl Stage {
     {
         let core = NodeCore::new(alloc, setup)?;
         let showing = Showing::new(&core);
-        Ok(Stage { core, showing })
+        Ok(Stage {
+            core,
+            showing,
+            wake: 0,
+        })
     }
 
     /// A node of a setup, whose first frames are told.
@@ -66,6 +76,7 @@ impl Stage {
         ensures ports { ports_of self.new.showing ≡ ports_of self.old.showing }
     {
         let change = self.showing.take(&mut self.core, now, reading);
+        self.wake = self.wake.min(now.saturating_add(NETWORK_DATA_LOSS));
         match change.taken {
             NodeTaken::FromTable(_) => true,
             _ => change.lost > 0,
@@ -80,9 +91,31 @@ impl Stage {
         self.showing.tick(&mut self.core, now);
     }
 
-    /// The first moment at which a source that is held is lost; `u64::MAX` where there is none.
-    pub fn wakes(&self) -> u64
-        ensures asleep { (t : ℕ) → t < result → core_lost t self.now.core.core ≡ 0 }
+    /// The moment at which the node loses a source next, where that comes by this one; the last moment of all never comes.
+    pub fn next_loss(&mut self, until: u64) -> Option<u64>
+        ensures past { IfSome result (λ at. at ≤ until) }
+        ensures loses { IfSome result (λ at. 1 ≤ core_lost at self.old.core.core) }
+        ensures first { IfSome result
+            (λ at. (m : ℕ) → m < at → core_lost m self.old.core.core ≡ 0) }
+        ensures none { IfNone result
+            ((m : ℕ) → m ≤ until → m < 2 ^ 64 - 1 → core_lost m self.old.core.core ≡ 0) }
+        ensures core { self.new.core ≡ self.old.core }
+        ensures showing { self.new.showing ≡ self.old.showing }
+    {
+        if until < self.wake {
+            return None;
+        }
+        let at = self.wakes();
+        self.wake = at;
+        if (until < at) | (at == u64::MAX) {
+            return None;
+        }
+        Some(at)
+    }
+
+    // The first moment at which a source that is held is lost; `u64::MAX` where there is none.
+    fn wakes(&self) -> u64
+        ensures asleep { (m : ℕ) → m < result → core_lost m self.now.core.core ≡ 0 }
         ensures awake { result < 2 ^ 64 - 1 → 1 ≤ core_lost result self.now.core.core }
     {
         match self.core.wakes() {

@@ -56,28 +56,8 @@ impl<'o, O: Write> Teller<'o, O> {
         Ok(())
     }
 
-    /// All that a data packet told.
+    /// All that a data packet told, a line for each thing.
     pub fn tell_news(&mut self, now: u64, stream: &Stream, news: &News) -> Result<(), TellFault>
-        ensures { OnOk result
-            (Tells O.contents self.old self.new (news_told self.old.form now stream.now news.now)) }
-    {
-        // (most packets tell nothing, and so they end here)
-        if news.event == Event::GoesOn
-            && !news.moved
-            && !news.renamed
-            && news.priority.is_none()
-            && !news.began_anew
-            && news.leaves_out.is_none()
-            && news.skipped == 0
-        {
-            return Ok(());
-        }
-        self.tell_each(now, stream, news)
-    }
-
-    // A line for each thing that a data packet told. Out of line, so that the test before it is made in the caller.
-    #[inline(never)]
-    fn tell_each(&mut self, now: u64, stream: &Stream, news: &News) -> Result<(), TellFault>
         ensures { OnOk result
             (Tells O.contents self.old self.new (news_told self.old.form now stream.now news.now)) }
     {

@@ -12,39 +12,12 @@ use Rattle.sacn_monitor.specs.declared.account.Sender.{Sender}
 use Rattle.sacn_monitor.specs.Streams.{is_of, first_stream}
 use Rattle.sacn_monitor.specs.Books.{Book, after_take, after_tick, after_data, after_read, with_datagram}
 use Rattle.sacn_monitor.specs.Histories.{Call, Take, Tick, moment_in_use}
-use Rattle.sacn_explain.specs.Following.{AreBy, after_ticks, IsTicked, IsTaken, Follows, IsFollowing}
-use Rattle.sacn_explain.specs.KeptLists.{after_reading, listed_in}
-use Rattle.sacn_explain.specs.declared.follower.Follower.{Follower}
+use Rattle.sacn_explain.specs.Following.{AreBy, after_ticks, IsTicked, IsTaken, Follows}
 
 -- what holds whatever a call answered
 pub whatever : {T E P : Type 0} (r : Result T E) → P → OnOk r P
 whatever (Ok x) p = p
 whatever (Err e) p = tt
-
--- ---- a follower
-
-module _ {O : Type 0} (calls : List Call) (now : ℕ) (old new : Follower O) (was : IsFollowing calls old) where
-  pub following_taken : (sender : Sender) (octets : List ℕ) → new.moment ≡ max old.moment now → IsTaken (max old.moment now) sender octets old.monitor new.monitor
-      → listed_in new.listings ≡ after_reading (reading_packet octets) (listed_in old.listings) → IsFollowing (Take now sender octets ∷ calls) new
-  following_taken sender octets moved taken listed = record {
-    book = (old.monitor, was.book, subst (λ (m : ℕ). IsTaken (max m now) sender octets old.monitor new.monitor) was.moment taken);
-    listed = listed ∙ ap (after_reading (reading_packet octets)) was.listed;
-    moment = moved ∙ ap (λ (m : ℕ). max m now) was.moment;
-  }
-
-  pub following_ticked : new.moment ≡ max old.moment now → IsTicked (max old.moment now) old.monitor new.monitor → new.listings ≡ old.listings → IsFollowing (Tick now ∷ calls) new
-  following_ticked moved ticked same = record {
-    book = (old.monitor, was.book, subst (λ (m : ℕ). IsTicked (max m now) old.monitor new.monitor) was.moment ticked);
-    listed = ap listed_in same ∙ was.listed;
-    moment = moved ∙ ap (λ (m : ℕ). max m now) was.moment;
-  }
-
-  pub following_still : new.monitor ≡ old.monitor → new.listings ≡ old.listings → new.moment ≡ old.moment → IsFollowing calls new
-  following_still book same moved = record {
-    book = subst (Follows calls) (sym book) was.book;
-    listed = ap listed_in same ∙ was.listed;
-    moment = moved ∙ was.moment;
-  }
 
 -- ---- the clock of a monitor
 

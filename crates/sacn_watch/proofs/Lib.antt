@@ -1,4 +1,3 @@
-pub mod Ticking
 mod Handing
 pub mod Following
 mod Letters

@@ -2,15 +2,13 @@
 
 ghost use Rattle.std.specs.Prelude.{◌≡◌};
 ghost use Rattle.sacn_monitor.specs.Books.{next_loss};
-ghost use Rattle.sacn_monitor.specs.Streams.{loss_of};
 
 use crate::fault::WatchFault;
 use crate::watch::Watcher;
 use sacn_capture::Counts;
 use sacn_explain::{Follower, Report};
 use sacn_framing::Reading;
-use sacn_monitor::{Sender, Stream};
-use sacn_sources::NETWORK_DATA_LOSS;
+use sacn_monitor::Sender;
 use std::io::Write;
 
 /// Tells each thing as it happens, and tables at the end, as a recording is told.
@@ -35,9 +33,9 @@ impl<'a, O: Write> Watcher for Follower<'a, O> {
     }
 
     fn wakes(&self) -> u64
-        ensures { result ≡ next_loss self.now.monitor.streams }
+        ensures { result ≡ next_loss self.now.network.monitor.streams }
     {
-        next_loss(self.streams())
+        self.next_loss()
     }
 
     fn end(&mut self, now: u64) -> Result<(), WatchFault> {
@@ -55,27 +53,5 @@ impl<'a, O: Write> Watcher for Follower<'a, O> {
         };
         self.finish(&report)?;
         Ok(())
-    }
-}
-
-// The first moment at which a source is lost that isn't told lost.
-fn next_loss(streams: &[Stream]) -> u64
-    ensures { result ≡ next_loss streams.now }
-{
-    let mut least = u64::MAX;
-    for stream in streams {
-        least = least.min(loss(stream));
-    }
-    least
-}
-
-// The moment at which a source that isn't told lost is lost where it stays silent.
-fn loss(stream: &Stream) -> u64
-    ensures { result ≡ loss_of stream.now }
-{
-    if stream.told | stream.account.ended {
-        u64::MAX
-    } else {
-        stream.account.latest.saturating_add(NETWORK_DATA_LOSS)
     }
 }

@@ -8,7 +8,7 @@ use Rattle.sacn_explain.proofs.follow.follow.Given as goal
 abbrev pub invariant-loop : goal.invariant-loop
 invariant-loop g l = record {
   stopped : l.progress.stopped ≡ None;
-  moment : l.follower.moment ≡ l.progress.timeline.now;
+  moment : l.follower.network.monitor.moment ≡ l.progress.timeline.now;
   heard : IsUpTo l.port (to_come g.R.Read.remaining l.fn.capture) (to_come g.R.Read.remaining l.capture) l.progress
-      (record { frames = counts_of l.capture; book = l.follower.monitor; listed = listed_in l.follower.listings });
+      (record { frames = counts_of l.capture; book = l.follower.network.monitor; listed = listed_in l.follower.listings });
 }

@@ -1,26 +1,24 @@
-use Rattle.std.proofs.Common.{max}
-use Rattle.sacn_explain.proofs.PageLists.{take_listed}
-use Rattle.sacn_explain.proofs.Turning.{turn_told}
-use Rattle.sacn_explain.proofs.Waking.{taken_in_time}
+use Rattle.std.proofs.Common.{ℕ, max, arith, subst}
+use Rattle.sacn_network.specs.Networks.{take_told}
+use Rattle.sacn_explain.specs.Datagrams.{TellsTurn}
+use Rattle.sacn_explain.proofs.Turning.{settled, settled_options, turn_is_told, turn_taken}
 use Rattle.sacn_explain.proofs.follower.Follower.take_reading.Goals as goal
 
 pub returns-clause-told : goal.returns-clause-told
-returns-clause-told g c octets read =
-    let ok = c.in_ok-tick.ensures in
-    let said = c.in_ok-tell.ensures in
-    let shown = c.in_ok-show_turn.ensures in
-    turn_told {O = g.row.O.Denot} g.O.Write.contents (max c.args.self.now.moment c.args.now) c.tick.new.self.moment c.args.sender octets c.args.self.now c.tick.new.self c.tell.new.self c.show_turn.new.self
-    c.take_reading-noted.result c.take_reading-noted.new.self ok.moment ok.told ok.quiet ok.all ok.options ok.listings (rw read at c.take_reading-noted.ensures.noted) (rw read at c.take_reading-noted.ensures.book)
-    (rw read at said.told) said.stage said.monitor (rw read at shown.told) (rw read at shown.stage)
+returns-clause-told g c =
+    let O = g.row.O.Denot in
+    let contents = g.O.Write.contents in
+    let mid = c.tell_dark.new.self in
+    let until = c.in_ok-until.until in
+    let told = take_told until c.args.sender c.args.reading.now mid.network in
+    subst (λ (t : ℕ). TellsTurn {O = O} contents t c.args.sender c.args.reading.now c.args.self.now c.show_turn.new.self) c.in_ok-until.ensures.moment
+    (turn_is_told {O = O} contents until c.args.sender c.args.reading.now c.args.self.now mid c.tell_page.new.self c.show_turn.new.self c.settle.new.self c.take-noted.new.self c.take-noted.result
+    c.tell_dark.ensures.options c.tell_dark.ensures.listings c.in_ok-until.ensures.told c.in_ok-until.ensures.lit (λ m by below. c.take-noted.ensures.silent m (omega (arith, by)) below)
+    (settled_options {O = O} contents told mid.writer c.take-noted.new.observer c.settle.new.self c.take-noted.ensures.told c.settle.ensures.options)
+    (settled {O = O} contents told mid.writer c.take-noted.new.observer c.settle.new.self c.take-noted.ensures.told c.in_ok-settle.ensures.none c.settle.ensures.teller)
+    c.take-noted.ensures.noted c.take-noted.ensures.network c.tell_page.ensures.options c.tell_page.ensures.network c.tell_page.ensures.stage c.in_ok-tell_page.ensures.told
+    c.in_ok-show_turn.ensures.told c.show_turn.ensures.network c.in_ok-show_turn.ensures.stage)
 
-pub returns-clause-listed : goal.returns-clause-listed
-returns-clause-listed g c =
-    take_listed c.args.sender _ c.args.reading.now c.take_reading-noted.result c.args.self.now.listings c.tick.new.self.listings c.tell.new.self.listings c.show_turn.new.self.listings
-    c.take_reading-noted.ensures.noted c.in_ok-tick.ensures.listings c.in_ok-tell.ensures.listed c.in_ok-show_turn.ensures.listings
-
-pub returns-clause-in_time : goal.returns-clause-in_time
-returns-clause-in_time g c octets read in_time =
-    let said = c.in_ok-tell.ensures in
-    let shown = c.in_ok-show_turn.ensures in
-    taken_in_time {O = g.row.O.Denot} c.args.sender octets c.tick.new.self c.tell.new.self c.show_turn.new.self c.take_reading-noted.new.self (c.in_ok-tick.ensures.in_time in_time) (rw read at c.take_reading-noted.ensures.book)
-    said.stage said.monitor said.moment said.wake (rw read at shown.stage) shown.monitor shown.moment shown.wake
+pub returns-clause-taken : goal.returns-clause-taken
+returns-clause-taken g c octets read =
+    turn_taken {O = g.row.O.Denot} g.O.Write.contents (max c.args.self.now.network.monitor.moment c.args.now) c.args.sender octets c.args.reading.now c.args.self.now c.show_turn.new.self read (returns-clause-told g c)

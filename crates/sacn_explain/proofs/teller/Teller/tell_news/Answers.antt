@@ -3,7 +3,7 @@ use Rattle.sacn_explain.specs.declared.options.Form.{Form}
 use Rattle.sacn_explain.specs.PacketLines.{anew_line, moved_line, renamed_line, skipped_line}
 use Rattle.sacn_explain.specs.Tellings.{omission_told, priority_told, where_so}
 use Rattle.sacn_explain.proofs.Telling.{then}
-use Rattle.sacn_explain.proofs.teller.Teller.tell_each.Goals as goal
+use Rattle.sacn_explain.proofs.teller.Teller.tell_news.Goals as goal
 
 pub returns : goal.returns
 returns g c =
