@@ -151,17 +151,17 @@ impl Write for Unprinted {
 
 /// A screen beside a gateway. It draws only where all that it drew before has gone out, and its last row is the newest line of standard error.
 #[derive(Drop)]
-struct PatientScreen<'a, O, Z> {
+struct PatientScreen<'s, 'o, O, Z> {
     alloc: Global,
-    screen: Screen<'a, O, Z>,
-    outputs: &'a Outputs,
+    screen: Screen<'s, O, Z>,
+    outputs: &'o Outputs,
     /// The moment of the latest turn.
     now: u64,
 }
 
-impl<'a, O: Write, Z: Sizes> PatientScreen<'a, O, Z> {
+impl<'s, 'o, O: Write, Z: Sizes> PatientScreen<'s, 'o, O, Z> {
     /// Standard output is this screen from now on.
-    fn new(alloc: Global, screen: Screen<'a, O, Z>, outputs: &'a Outputs) -> Self {
+    fn new(alloc: Global, screen: Screen<'s, O, Z>, outputs: &'o Outputs) -> Self {
         outputs.begin_screen();
         PatientScreen {
             alloc,
@@ -189,7 +189,7 @@ impl<'a, O: Write, Z: Sizes> PatientScreen<'a, O, Z> {
     }
 }
 
-impl<'a, O: Write, Z: Sizes> Watcher for PatientScreen<'a, O, Z> {
+impl<'s, 'o, O: Write, Z: Sizes> Watcher for PatientScreen<'s, 'o, O, Z> {
     fn take(&mut self, now: u64, sender: Sender, reading: &Reading<'_>) -> Result<(), WatchFault> {
         self.screen.take(now, sender, reading)
     }

@@ -63,13 +63,13 @@ pub fn size_file<R: AllocGlobal + Env>(rt: &R) -> Option<String> {
 
 /// A screen on a terminal, of what comes to an address: its size is kept in this file, where it is. The universe is the one whose levels are shown; where
 /// none is named it is the first heard.
-pub fn screen_of<'a, 'p, R: AllocGlobal + Files + Env, O: Write>(
-    rt: &'a R,
+pub fn screen_of<'a, 'r, 'p, R: AllocGlobal + Files + Env, O: Write>(
+    rt: &'r R,
     size_file: Option<&'p str>,
     address: SocketAddrV4,
     universe: Option<u16>,
     out: &'a mut O,
-) -> Result<Screen<'a, O, KeptSize<'a, 'p, R>>, WatchFault> {
+) -> Result<Screen<'a, O, KeptSize<'r, 'p, R>>, WatchFault> {
     let path = match size_file {
         Some(path) if path.starts_with(DESCRIPTORS) => Some(path),
         _ => None,
