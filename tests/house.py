@@ -13,6 +13,12 @@ DOCUMENTS = ["README.md", "CHANGELOG.md", *sorted(glob.glob("docs/*.md")), *sort
 MOST = {
     "a datagram is read": (r"(?<!fn )(?<!proved_)\bread_packet\(", 9),
     "a packet's kind is told": (r"\bfn kind_of\(packet\b", 1),
+    # (by the network's loop of losses, where it has none, and by C)
+    "a monitor's clock is moved": (r"\bmonitor\.tick\(", 3),
+    "the next loss is looked for": (r"\bfn next_loss\(streams\b", 1),
+    "what stirs a contest is told": (r"\bfn stirs\b", 1),
+    "who gives the slots is asked": (r"(?<!fn )\bmerged_with_givers\(", 1),
+    "text from elsewhere is made JSON": (r"\bfn push_foreign\b", 1),
 }
 # Crates of tests and measures.
 BESIDE = {"fixtures", "rows", "refusals", "core_tests", "loop_tests", "sacn_bench"}
