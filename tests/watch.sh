@@ -278,7 +278,7 @@ problem=$(COLUMNS=80 ROWS=24 KEYS=$'\x1c' timeout 20 python3 terminal.py drawn 2
 verdict "Ctrl-\\ ends it, and gives the terminal back" $? "status $status $(tail -n 1 <<<"$problem")"
 
 # A gateway shows what it hears on its terminal, in place of its frames; what it says on standard error stands below, and on the terminal once the screen is left.
-printf 'version = 1\nudp_port = 25840\n[[port]]\nnumber = 1\nranges = [[1, 1, 1, 512]]\n' >node.toml
+printf 'version = 2\nudp_port = 25840\n[[port]]\nnumber = 1\n[[port.range]]\nuniverse = 1\nslot = 1\ncount = 512\nport_slot = 1\n' >node.toml
 printf '. "%s/tools/run.sh"\nrun "%s" gateway node.toml --watch "$@"\n' "$top" "$sacn" >launcher
 status=0
 problem=$(COLUMNS=80 ROWS=24 timeout 20 python3 terminal.py drawn 25840 go bash launcher --seconds 4 2>&1) || status=$?
