@@ -292,6 +292,8 @@ status=0
 problem=$(COLUMNS=80 ROWS=24 timeout 20 python3 terminal.py drawn 25840 stop bash launcher 2>&1) || status=$?
 [ "$status" -ge 99 ] && grep -q 'Aff' drawn && grep -q $'\x1b\[?1049l' drawn
 verdict "Ctrl-C ends a gateway with a screen, and gives the terminal back" $? "status $status $(tail -n 1 <<<"$problem")"
+[ "$(below | grep -cE '^source [0-9a-f]{32} universe 1 came 127.0.0.1$')" = 2 ]
+verdict "what it had said is left on the terminal then, too" $? "$(below | grep -c '^source')"
 status=0
 "$sacn" gateway node.toml --watch --seconds 1 </dev/null >out 2>err || status=$?
 [ "$status" = 0 ] && grep -qE '^1 0 0000' out && grep -q '^hears 0.0.0.0:25840$' err

@@ -195,7 +195,7 @@ is_in_front() {
   [ "${stat[2]}" = "${stat[5]}" ]
 }
 
-# Keeps typed keys off the screen that a watch draws. What the terminal was told before stands in `modes`, empty where nothing has to be told again.
+# Keeps typed keys off the screen that a watch or a gateway draws. What the terminal was told before stands in `modes`, empty where nothing has to be told again.
 quiet_keys() {
   local word
   for word in "$@"; do case $word in --plain | --json | --page | --page=*) return 0 ;; esac; done
@@ -219,7 +219,7 @@ size_of_terminal() {
   return "$size"
 }
 
-# Tells a watch how large its terminal is, which it can't ask: now, and in a file without a name at each change of size.
+# Tells what draws a screen how large its terminal is, which it can't ask: now, and in a file without a name at each change of size.
 tell_size() {
   local rows columns copy
   unset SACN_SIZE
@@ -246,27 +246,46 @@ draws() {
   return 1
 }
 
-# Runs a gateway that draws on this terminal, and tells it how large that is. A signal ends it as it ends any gateway, and the terminal then shows what it showed before.
+# The most lines of what a gateway said beside its screen that are shown once the screen is left.
+most_said=500
+
+# Runs a gateway that draws on this terminal, and tells it how large that is. A signal ends it as it ends any gateway, and the terminal then shows what it showed before, and
+# below that the last lines of what the gateway said, where that would have come to the terminal too.
 draw() {
-  local in pid status caught= signal= modes=
+  local in pid status copy lines said= keeper caught= signal= modes=
   trap 'signal=INT' INT
   trap 'signal=TERM' TERM
   trap 'signal=HUP' HUP
   trap 'signal=QUIT' QUIT
   quiet_keys "$@"
   exec {in}<&0
+  if [ -t 2 ] && copy=$(mktemp 2>/dev/null); then
+    exec {lines}<>"$copy"
+    rm -f "$copy"
+    exec {said}> >(trap '' INT TERM HUP QUIT; exec tail -n "$most_said" >&"$lines")
+    keeper=$!
+  fi
   # (what a shell begins in the background passes over INT and QUIT, and so it is told to end by TERM)
-  "$@" <&"$in" {in}<&- &
+  if [ -n "$said" ]; then "$@" <&"$in" 2>&"$said" {in}<&- {said}>&- & else "$@" <&"$in" {in}<&- & fi
   pid=$!
   exec {in}<&-
+  trap 'signal=INT; kill -TERM "$pid" 2>/dev/null || true' INT
+  trap 'signal=TERM; kill -TERM "$pid" 2>/dev/null || true' TERM
+  trap 'signal=HUP; kill -TERM "$pid" 2>/dev/null || true' HUP
+  trap 'signal=QUIT; kill -TERM "$pid" 2>/dev/null || true' QUIT
   trap 'caught=1; tell_change_of_size' WINCH CONT
   tell_change_of_size
+  if [ -n "$signal" ]; then kill -TERM "$pid" 2>/dev/null || true; fi
   while caught= status=0; do
-    if [ -n "$signal" ]; then kill -TERM "$pid" 2>/dev/null || true; fi
     wait "$pid" || status=$?
     [ -n "$caught" ] || kill -0 "$pid" 2>/dev/null || break
   done
-  if [ "$status" -gt 128 ]; then printf '\033[0m\033[?7h\033[?25h\033[?1049l'; fi
+  if [ "$status" -gt 128 ]; then printf '\033[0m\033[?7h\033[?25h\033[?1049l' 2>/dev/null || true; fi
+  if [ -n "$said" ]; then
+    exec {said}>&-
+    wait "$keeper" || true
+    cat "/proc/self/fd/$lines" >&2 2>/dev/null || true
+  fi
   loud_keys
   if [ -n "$signal" ]; then
     trap - "$signal"
