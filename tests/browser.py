@@ -234,10 +234,14 @@ def many(browser):
     is_lit = browser.until(f"{TILES}.length == 30 && document.querySelector('#slot-1 b').textContent == '255'", 5)
     seen = [browser.js(f"return {code}") for code in (MARKED, NAMED)]
     sender = socket.socket(socket.AF_INET, socket.SOCK_DGRAM)
-    for turn in range(8):
-        for universe in (3, 17):
-            sender.sendto(packet(universe, 5 * turn), ("127.0.0.1", UDP))
-    is_told = browser.until("document.querySelectorAll('#alarms li').length >= 14", 5)
+    # (of what comes while a watch gets no processor, the machine may drop some)
+    for first in range(0, 40, 8):
+        for turn in range(first, first + 8):
+            for universe in (3, 17):
+                sender.sendto(packet(universe, 5 * turn), ("127.0.0.1", UDP))
+        is_told = browser.until("document.querySelectorAll('#alarms li').length >= 14", 2)
+        if is_told is not None:
+            break
     seen += [browser.js(f"return {code}") for code in (MARKED, NAMED)]
     verdict("30 universes are shown, and alarms", is_lit is not None and is_told is not None, f"{is_lit} {is_told}")
     verdict("the tiles that have a mark are those of the universes that alarms name", seen == [[], [], [3, 17], [3, 17]], f"{seen}")
