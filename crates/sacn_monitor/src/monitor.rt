@@ -22,7 +22,7 @@ use std::marker::Model;
 ///
 /// Its value is the list of the streams in the order in which they appeared, a moment, the greatest that was handed in,
 /// in milliseconds, and counts. Each call first moves the clock to the greater of its moment and `now`. No call but
-/// `new` takes memory.
+/// `new` and `clone` takes memory.
 #[derive(Drop)]
 pub struct Monitor {
     streams: Register,
@@ -36,6 +36,21 @@ impl Model for Monitor {
     ghost Value = { Book };
 
     ghost view = { λ m. record { streams = m.streams; moment = m.moment; tally = m.tally } };
+}
+
+/// The same accounts again, with room of their own.
+///
+/// Errors: a request for memory was refused.
+impl Clone for Monitor {
+    ghost is_clone = { λ monitor copy. copy ≡ monitor };
+
+    fn clone(&self) -> Result<Monitor, AllocError> {
+        Ok(Monitor {
+            streams: self.streams.clone()?,
+            moment: self.moment,
+            tally: self.tally,
+        })
+    }
 }
 
 impl Monitor {

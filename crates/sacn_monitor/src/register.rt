@@ -1,6 +1,6 @@
 //! The streams of a monitor, found by their chains.
 
-ghost use Rattle.std.specs.Prelude.{◌≡◌, ◌<◌, ◌++◌, ◌∷◌, [], None, IfOk, length, slice_index_or, slice_set};
+ghost use Rattle.std.specs.Prelude.{◌≡◌, ◌<◌, ◌≤◌, ◌++◌, ◌∷◌, [], None, IfOk, length, slice_index_or, slice_set, vec_capacity};
 ghost use Rattle.std.specs.List.{position};
 ghost use Rattle.sacn_monitor.specs.declared.limits.TheConstants.{CHAINS, MAX_STREAMS};
 ghost use Rattle.sacn_monitor.specs.Accounts.{IsFitted, news_of};
@@ -55,6 +55,19 @@ impl Model for Register {
         × AreDistinct r.streams.items
         × (r.quiet_until ≤ next_loss r.streams.items)
         × All (λ s. IsFitted s.account.name) r.streams.items };
+}
+
+impl Clone for Register {
+    ghost is_clone = { λ register copy. copy ≡ register };
+
+    fn clone(&self) -> Result<Register, AllocError> {
+        Ok(Register {
+            streams: with_room(&self.streams)?,
+            latest: self.latest.clone()?,
+            before: with_room(&self.before)?,
+            quiet_until: self.quiet_until,
+        })
+    }
 }
 
 impl Register {
@@ -160,6 +173,16 @@ impl Register {
         self.streams.push_reserved(stream);
         self.latest[chain] = self.streams.len() as u16;
     }
+}
+
+// This list again, with room for one of each stream.
+fn with_room<T: Copy>(list: &Vec<T>) -> Result<Vec<T>, AllocError>
+    ensures items { IfOk result (λ again. again.items ≡ list.now.items) }
+    ensures room { IfOk result (λ again. MAX_STREAMS ≤ vec_capacity again) }
+{
+    let mut again = Vec::with_capacity(*list.allocator(), MAX_STREAMS)?;
+    again.extend_from_slice(list.as_slice())?;
+    Ok(again)
 }
 
 // The place of the stream of a source on a universe, by a look at all in turn: what a chain of any length gives, where it is

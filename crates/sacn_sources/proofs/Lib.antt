@@ -2,6 +2,7 @@ mod Lists
 mod Places
 mod Searches
 mod Edits
+mod Copies
 mod Sweeps
 mod Losses
 mod Taking

@@ -5,6 +5,7 @@ ghost use Rattle.sacn_sources.specs.Givers.{giver_in};
 
 use crate::limits::MAX_SOURCES;
 use arrayvec::ArrayVec;
+use std::alloc::AllocError;
 use std::marker::Model;
 
 /// For each of the 512 slots the CID of the source that gives it its level, and none where no one gives any.
@@ -21,6 +22,17 @@ impl Model for Givers {
     ghost Value = { List (Option (List ℕ)) };
 
     ghost view = { λ g. map (giver_in g.cids.items) g.places };
+}
+
+impl Clone for Givers {
+    ghost is_clone = { λ givers copy. copy ≡ givers };
+
+    fn clone(&self) -> Result<Givers, AllocError> {
+        Ok(Givers {
+            cids: same_cids(self.cids.as_slice()),
+            places: self.places,
+        })
+    }
 }
 
 impl Givers {
@@ -52,6 +64,18 @@ impl Givers {
     {
         (self.cids.as_slice(), &self.places)
     }
+}
+
+// These CIDs again.
+fn same_cids(cids: &[[u8; 16]]) -> ArrayVec<[u8; 16], MAX_SOURCES>
+    requires { length cids.now ≤ MAX_SOURCES }
+    ensures { result.items ≡ cids.now }
+{
+    let mut same = ArrayVec::new();
+    for cid in cids {
+        same.push(*cid);
+    }
+    same
 }
 
 // The CID at a place, if there is one.

@@ -1,5 +1,6 @@
 //! The entries of a table, and the levels that are stored for them.
 
+mod copying;
 mod giving;
 
 ghost use Rattle.std.specs.Prelude.{◌≡◌, ◌↔◌, ◌<◌, ◌≤◌, IsTrue, false, not, remove, ℕ, [], length, is_some, slice_index_or, slice_set, max, IfOk, IfErr};

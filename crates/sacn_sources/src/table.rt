@@ -9,7 +9,7 @@ use crate::held_view::HeldView;
 use crate::limits::{MAX_SOURCES, NETWORK_DATA_LOSS};
 use crate::store::Store;
 use sacn_framing::DataView;
-use std::alloc::Global;
+use std::alloc::{AllocError, Global};
 use std::marker::Model;
 
 /// The sources of one universe (E1.31, 6.7; the rows, the limit and the merge are profile).
@@ -21,7 +21,7 @@ use std::marker::Model;
 /// Moments are milliseconds. The table uses the greatest moment that it was handed, and 0 at first. Each call with a moment
 /// moves this clock and drops the sources that are lost before it does anything else.
 ///
-/// Only `new` takes memory. No datagram is borrowed after a call returns. The slots of the latest merge are kept, and given
+/// Only `new` and `clone` take memory. No datagram is borrowed after a call returns. The slots of the latest merge are kept, and given
 /// again while nothing changed.
 #[derive(Drop)]
 pub struct SourceTable {
@@ -44,6 +44,23 @@ impl Model for SourceTable {
     ghost view = { λ k. record { table = k.store; renewals = k.renewals; due = k.due } };
 
     ghost invariant = { λ k. KeepsMerge k.due k.slots k.store × IsFresh k.earliest k.store };
+}
+
+/// The same table again, with room of its own.
+///
+/// Errors: a request was refused.
+impl Clone for SourceTable {
+    ghost is_clone = { λ table copy. copy ≡ table };
+
+    fn clone(&self) -> Result<SourceTable, AllocError> {
+        Ok(SourceTable {
+            store: self.store.clone()?,
+            slots: self.slots,
+            renewals: self.renewals,
+            due: self.due,
+            earliest: self.earliest,
+        })
+    }
 }
 
 impl SourceTable {
