@@ -12,3 +12,4 @@ pub mod Placement
 pub mod Files
 pub mod Recordings
 pub mod Calls
+pub mod Bookmarks

@@ -5,6 +5,7 @@
 #![tactic(auto)]
 
 mod blocks;
+mod bookmark;
 mod buffer;
 mod clock;
 mod counts;
@@ -21,6 +22,7 @@ mod pcapng;
 mod pieces;
 mod stream;
 
+pub use bookmark::Bookmark;
 pub use clock::{milliseconds_of, units_in};
 pub use counts::Counts;
 pub use faults::{CaptureFault, FaultKind};

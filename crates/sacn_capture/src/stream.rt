@@ -33,11 +33,11 @@ pub struct Record<'a> {
 /// A recording that is read, frame by frame, in memory that doesn't grow with it.
 #[derive(Drop)]
 pub struct Capture<R> {
-    pieces: Pieces<R>,
+    pub(crate) pieces: Pieces<R>,
     /// Where the header, the block or the record begins that is read.
-    mark: u64,
-    counts: Counts,
-    stopped: Option<CaptureFault>,
+    pub(crate) mark: u64,
+    pub(crate) counts: Counts,
+    pub(crate) stopped: Option<CaptureFault>,
 }
 
 impl<R: BufRead + Drop> Capture<R> {
