@@ -9,3 +9,4 @@ mod Tracking
 mod Hearing
 mod Contesting
 mod Timely
+mod Joining

@@ -91,11 +91,11 @@ noted_keeps (noted.Heard place news) n = stirred_keeps (stirred_universe (slice_
 
 -- ---- a tick before the wake
 
-none_lost : (t : ℕ) (n : Ledger) → max n.monitor.moment t < next_loss n.monitor.streams → lost_place t n ≡ None
+pub none_lost : (t : ℕ) (n : Ledger) → max n.monitor.moment t < next_loss n.monitor.streams → lost_place t n ≡ None
 unfolding lost_place
 none_lost t n before = silent_later (max n.monitor.moment (next_end t n)) n.monitor.streams (omega (arith, before))
 
-one_step_told : (steps t : ℕ) (n : Ledger) → lost_place t n ≡ None → silence_told (suc steps) t n ≡ []
+pub one_step_told : (steps t : ℕ) (n : Ledger) → lost_place t n ≡ None → silence_told (suc steps) t n ≡ []
 unfolding silence_told end_told
 one_step_told steps t n none = ap (λ (o : Option ℕ). loss_told o (at_end t n) ++ cond (is_some o) (silence_told steps t (after_end t n)) []) none
 

@@ -1,5 +1,5 @@
 -- A network, and the steps that its calls make.
-use Rattle.std.specs.Prelude.{ℕ, ◌<◌, ◌≤◌, ◌-◌, ◌^◌, max, List, ◌++◌, Result}
+use Rattle.std.specs.Prelude.{◌≡◌, ℕ, ◌<◌, ◌≤◌, ◌-◌, ◌^◌, max, List, ◌++◌, Result}
 use Rattle.sacn_root.specs.declared.fault.PacketFault.{PacketFault}
 use Rattle.sacn_framing.specs.declared.packet.Packet.{Packet}
 use Rattle.sacn_monitor.specs.declared.account.Sender.{Sender}
@@ -27,6 +27,10 @@ ticked now n = silenced MOST_STEPS (max n.monitor.moment now) n
 -- no loss that comes by a moment is still to be told; the last moment of all never comes
 abbrev pub LeavesNone : ℕ → Ledger → Type 0
 LeavesNone t n = (m : ℕ) → m ≤ t → m < 2 ^ 64 - 1 → m < next_loss n.monitor.streams
+
+-- the clock was moved from one to the other: up to each later moment the rest is told of what the first would tell by then, and the same is left
+abbrev pub JoinsLater : ℕ → Ledger → Ledger → Type 0
+JoinsLater now old new = (later : ℕ) → now ≤ later → (ticked later new ≡ ticked later old) × (tick_told now old ++ tick_told later new ≡ tick_told later old)
 
 -- ---- a datagram comes, by its one reading
 

@@ -26,6 +26,18 @@ pub(crate) struct Ledger {
     pub(crate) heard: UniverseSet,
 }
 
+impl Clone for Ledger {
+    ghost is_clone = { λ ledger copy. copy ≡ ledger };
+
+    fn clone(&self) -> Result<Ledger, AllocError> {
+        Ok(Ledger {
+            monitor: self.monitor.clone()?,
+            contested: self.contested.clone()?,
+            heard: self.heard.clone()?,
+        })
+    }
+}
+
 impl Ledger {
     /// That of a network of which nothing was heard.
     ///

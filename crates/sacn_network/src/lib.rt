@@ -21,8 +21,6 @@ pub use lit_universe::LitUniverse;
 pub use network::Network;
 pub use observer::{Observer, Unobserved};
 pub use occurrence::{Contest, Occurrence, What};
-pub use places::giver_places;
-pub use stirring::stirs;
 
 #[cfg(test)]
 mod tests;

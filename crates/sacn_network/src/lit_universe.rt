@@ -11,7 +11,7 @@ use sacn_framing::DataView;
 use sacn_monitor::Monitor;
 use sacn_sources::{Givers, SourceTable, TableFault};
 use sacn_universe::SLOTS;
-use std::alloc::Global;
+use std::alloc::{AllocError, Global};
 use std::marker::Model;
 
 /// A universe with the sources that light it, merged as a node merges them, and who gives each slot its level.
@@ -34,6 +34,22 @@ impl Model for LitUniverse {
       shown = u.levels;
       givers = u.givers;
     } };
+}
+
+/// The same universe again, with room of its own.
+///
+/// Errors: a request for memory was refused.
+impl Clone for LitUniverse {
+    ghost is_clone = { λ lit copy. copy ≡ lit };
+
+    fn clone(&self) -> Result<LitUniverse, AllocError> {
+        Ok(LitUniverse {
+            universe: self.universe,
+            table: self.table.clone()?,
+            levels: self.levels,
+            givers: self.givers.clone()?,
+        })
+    }
 }
 
 impl LitUniverse {

@@ -2,7 +2,7 @@
 
 ghost use Rattle.std.specs.Prelude.{◌≡◌, IfOk, is_some, max};
 ghost use Rattle.sacn_monitor.specs.Books.{next_loss, silent_place};
-ghost use Rattle.sacn_network.specs.Networks.{LeavesNone, handed, new_network, note_of, take_told, taken, tick_told, ticked};
+ghost use Rattle.sacn_network.specs.Networks.{JoinsLater, LeavesNone, handed, new_network, note_of, take_told, taken, tick_told, ticked};
 ghost use Rattle.sacn_network.specs.Sets.{has_bit, universes_in};
 ghost use Rattle.sacn_network.specs.Telling.{AreTold};
 
@@ -17,7 +17,7 @@ use std::marker::Model;
 /// The one account of what a network carries: each source on each universe, of up to `sacn_monitor::MAX_STREAMS` pairs, the
 /// universes that are contested, and those that were heard.
 ///
-/// Moments are in milliseconds. Each call uses the greatest moment that was handed in so far. No call but `new` and `universes_heard` takes memory.
+/// Moments are in milliseconds. Each call uses the greatest moment that was handed in so far. No call but `new`, `clone` and `universes_heard` takes memory.
 #[derive(Drop)]
 pub struct Network {
     ledger: Ledger,
@@ -37,6 +37,20 @@ impl Model for Network {
 
     ghost invariant = { λ n. (n.wake ≤ next_loss n.ledger.monitor.streams)
         × (length n.ledger.monitor.streams ≤ MAX_STREAMS) };
+}
+
+/// The same account again, with room of its own.
+///
+/// Errors: a request for memory was refused.
+impl Clone for Network {
+    ghost is_clone = { λ network copy. copy ≡ network };
+
+    fn clone(&self) -> Result<Network, AllocError> {
+        Ok(Network {
+            ledger: self.ledger.clone()?,
+            wake: self.wake,
+        })
+    }
 }
 
 impl Network {
@@ -76,6 +90,7 @@ impl Network {
     }
 
     /// Moves the clock. What ends by silence up to then is told, each thing at its own moment. Returns whether a source was lost.
+    /// However often the clock is moved on the way to a moment, the same is told by then, and the same is left.
     pub fn tick<O: Observer>(&mut self, now: u64, observer: &mut O) -> bool
         ensures lost { result
             ≡ is_some (silent_place (max self.old.monitor.moment now) self.old.monitor.streams) }
@@ -83,6 +98,7 @@ impl Network {
         ensures silent { LeavesNone (max self.old.monitor.moment now) self.new }
         ensures told { AreTold O.Notes (tick_told now self.old) observer.old observer.new }
         ensures network { self.new ≡ ticked now self.old }
+        ensures later { JoinsLater now self.old self.new }
     {
         let until = self.ledger.monitor.moment().max(now);
         if until < self.wake {

@@ -10,7 +10,11 @@ use sacn_universe::SLOTS;
 
 /// For each slot the place of the stream, on this universe, of the source that gives it its level: none where no one does, or no
 /// packet of the source was heard there. Each source is looked up once.
-pub fn giver_places(givers: &Givers, universe: u16, monitor: &Monitor) -> [Option<usize>; SLOTS]
+pub(crate) fn giver_places(
+    givers: &Givers,
+    universe: u16,
+    monitor: &Monitor,
+) -> [Option<usize>; SLOTS]
     ensures { result ≡ giver_places universe monitor.now.streams givers.now }
 {
     let (cids, of_slots) = givers.parts();

@@ -24,7 +24,7 @@ pub(crate) fn tells_nothing(news: &News) -> bool
 /// Whether a packet may change who lights its universe at the top priority (E1.31, 6.2.3): its source doesn't go on, has another
 /// priority, or sends its first levels for the stage.
 #[inline(always)]
-pub fn stirs(stream: &Stream, news: &News) -> bool
+fn stirs(stream: &Stream, news: &News) -> bool
     ensures { result ≡ stirs stream.now news.now }
 {
     (news.event != Event::GoesOn) | news.priority.is_some() | (stream.account.kinds.live == 1)

@@ -32,6 +32,16 @@ impl Model for UniverseSet {
     ghost invariant = { λ s. length s.words.items ≡ WORDS };
 }
 
+impl Clone for UniverseSet {
+    ghost is_clone = { λ set copy. copy ≡ set };
+
+    fn clone(&self) -> Result<UniverseSet, AllocError> {
+        Ok(UniverseSet {
+            words: self.words.clone()?,
+        })
+    }
+}
+
 impl UniverseSet {
     /// A set of none.
     ///

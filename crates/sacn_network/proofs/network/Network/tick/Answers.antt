@@ -1,8 +1,11 @@
-use Rattle.std.proofs.Common.{◌∙◌, [], ℕ, is_some, length, max, ap, sym, arith}
+use Rattle.std.proofs.Common.{◌≡◌, ◌≤◌, ◌∙◌, [], ℕ, is_some, length, max, ap, sym, subst, arith}
+use Rattle.sacn_monitor.specs.declared.limits.TheConstants.{MAX_STREAMS}
 use Rattle.sacn_monitor.specs.Books.{Book, next_loss, silent_place}
 use Rattle.sacn_network.specs.declared.ledger.Ledger.{Ledger}
-use Rattle.sacn_network.specs.Losses.{lost_place}
-use Rattle.sacn_network.specs.Networks.{tick_told, ticked}
+use Rattle.sacn_network.specs.declared.ledger.TheConstants.{MOST_STEPS}
+use Rattle.sacn_network.specs.Losses.{lost_place, silenced}
+use Rattle.sacn_network.specs.Networks.{JoinsLater, tick_told, ticked}
+use Rattle.sacn_network.proofs.Joining.{joins}
 use Rattle.sacn_network.proofs.Telling.{told_as, told_nothing}
 use Rattle.sacn_network.proofs.Tracking.{all_silent, lost_as}
 use Rattle.sacn_network.proofs.Whole.{none_before, told_length}
@@ -75,3 +78,16 @@ returns-clause-silent g c m by below =
     let later = none_before c.max-until.result _ silent.none in
     let until = ap (λ (l : Ledger). max l.monitor.moment c.args.now) c.self.view_is in
     omega (arith, by, below, until, later, c.max-until.ensures, c.moment.ensures, ap (λ (l : Ledger). next_loss l.monitor.streams) c.tell_silence-is_lost.ensures.ledger)
+
+pub returns-then-until-self-clause-later : goal.returns-then-until-self-clause-later
+returns-then-until-self-clause-later g c =
+    subst (JoinsLater c.args.now c.args.self.now) (sym (returns-then-until-self-clause-network g c))
+    (joins c.args.now c.args.self.now (subst (λ (l : Ledger). length l.monitor.streams ≤ MAX_STREAMS) c.self.view_is c.self.invariant.1))
+
+pub returns-clause-later : goal.returns-clause-later
+returns-clause-later g c =
+    let n = c.self.inside.ledger in
+    let until : c.max-until.result ≡ max n.monitor.moment c.args.now = omega (arith, c.max-until.ensures, c.moment.ensures) in
+    let is = c.tell_silence-is_lost.ensures.ledger ∙ ap (λ (t : ℕ). silenced MOST_STEPS t n) until ∙ ap (ticked c.args.now) c.self.view_is in
+    subst (JoinsLater c.args.now c.args.self.now) (sym is)
+    (joins c.args.now c.args.self.now (subst (λ (l : Ledger). length l.monitor.streams ≤ MAX_STREAMS) c.self.view_is c.self.invariant.1))
