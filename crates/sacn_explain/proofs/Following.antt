@@ -1,10 +1,10 @@
 -- A follower's book is the monitor's after the datagrams that it was handed, with moments in between.
-use Rattle.std.proofs.Common.{◌≡◌, ℕ, ◌≤◌, ◌⊎◌, inl, inr, max, List, [], ◌∷◌, ◌++◌, length, refl, sym, ap, subst, ◌∙◌, arith}
+use Rattle.std.proofs.Common.{◌≡◌, ℕ, ◌≤◌, inl, inr, max, List, [], ◌∷◌, ◌++◌, length, refl, sym, ap, subst, ◌∙◌, arith}
 use Rattle.sacn_monitor.specs.declared.account.Sender.{Sender}
 use Rattle.sacn_monitor.specs.declared.limits.TheConstants.{MAX_STREAMS}
 use Rattle.sacn_monitor.specs.Books.{Book, after_take, after_tick}
 use Rattle.sacn_monitor.specs.Histories.{Call, Take, Tick, moment_in_use, after_calls, arrivals, arrival_at, account_by, account_in, AccountsAreOfTheirPackets}
-use Rattle.sacn_explain.specs.Following.{AreBy, after_ticks, IsTicked, Follows, AccountsAreOfWhatWasHanded}
+use Rattle.sacn_explain.specs.Following.{AreBy, after_ticks, Follows, AccountsAreOfWhatWasHanded}
 
 -- ---- the calls of a monitor that make a follower's book
 

@@ -1,9 +1,9 @@
 //! What happens, told as it happens.
 
-ghost use Rattle.std.specs.Prelude.{◌≡◌, ◌<◌, ◌≤◌, ◌-◌, ◌^◌, ℕ, List, IfErr, IfNone, IfOk, IfSome, OnErr, OnOk, is_some, max};
+ghost use Rattle.std.specs.Prelude.{◌≡◌, ◌≤◌, ℕ, List, IfErr, IfNone, IfOk, IfSome, OnErr, OnOk, is_some, max, true};
 ghost use Rattle.sacn_framing.specs.PacketReading.{reading_packet};
 ghost use Rattle.sacn_monitor.specs.Books.{next_loss};
-ghost use Rattle.sacn_network.specs.Networks.{new_network, ticked};
+ghost use Rattle.sacn_network.specs.Networks.{new_network};
 ghost use Rattle.sacn_explain.specs.Causes.{cause_among};
 ghost use Rattle.sacn_explain.specs.Datagrams.{TellsTurn};
 ghost use Rattle.sacn_explain.specs.Faults.{IsOfTelling};
@@ -212,6 +212,36 @@ impl<'a, O: Write> Follower<'a, O> {
         ensures listings { self.new.listings ≡ self.old.listings }
     {
         let until = self.network.monitor().moment().max(now);
+        if self.stays_lit(until) {
+            return Ok(until);
+        }
+        self.tell_darks(now)
+    }
+
+    // Whether the node loses nothing up to a moment, as far as is known without a look at it.
+    fn stays_lit(&self, until: u64) -> bool
+        ensures { result ≡ true → IsLit until (staged self.now.stage) }
+    {
+        match &self.stage {
+            Some(stage) => stage.sleeps_past(until),
+            None => true,
+        }
+    }
+
+    // The same as `tell_dark`, by a look at the node. (Out of line: most calls have nothing to look for.)
+    #[inline(never)]
+    fn tell_darks(&mut self, now: u64) -> Result<u64, TellFault>
+        ensures moment { IfOk result (λ t. t ≡ max self.old.network.monitor.moment now) }
+        ensures by { self.new.network.monitor.moment
+            ≤ max self.old.network.monitor.moment now }
+        ensures clock { OnErr result
+            (self.new.network.monitor.moment ≡ max self.old.network.monitor.moment now) }
+        ensures told { IfOk result (λ t. TellsDark O.contents t self.old self.new) }
+        ensures lit { IfOk result (λ t. IsLit t (staged self.new.stage)) }
+        ensures options { self.new.writer.options ≡ self.old.writer.options }
+        ensures listings { self.new.listings ≡ self.old.listings }
+    {
+        let until = self.network.monitor().moment().max(now);
         if let Err(fault) = self.tell_each_dark(until) {
             self.network.tick(until, &mut Unobserved);
             return Err(fault);
@@ -248,7 +278,7 @@ impl<'a, O: Write> Follower<'a, O> {
         ensures listings { self.new.listings ≡ self.old.listings }
     {
         match &mut self.stage {
-            Some(stage) => stage.next_loss(until),
+            Some(stage) => stage.loss_by(until),
             None => None,
         }
     }

@@ -26,7 +26,7 @@ pub struct Stage {
 }
 
 impl Stage {
-    ghost use Rattle.std.specs.Prelude.{◌≤◌, ◌-◌, ◌^◌, IfNone, IfOk, IfSome, OnOk, map};
+    ghost use Rattle.std.specs.Prelude.{◌≤◌, ◌-◌, ◌^◌, IfNone, IfOk, IfSome, OnOk, map, true};
     ghost use Rattle.sacn_node.specs.Calls.{step, Tick, with_reading};
     ghost use Rattle.sacn_node.specs.Cores.{new_node};
     ghost use Rattle.sacn_node.specs.Setup.{port_numbers};
@@ -91,8 +91,15 @@ impl Stage {
         self.showing.tick(&mut self.core, now);
     }
 
+    /// Whether it is known without a look at the node that it loses no source by a moment.
+    pub fn sleeps_past(&self, until: u64) -> bool
+        ensures { result ≡ true → (m : ℕ) → m ≤ until → core_lost m self.now.core.core ≡ 0 }
+    {
+        until < self.wake
+    }
+
     /// The moment at which the node loses a source next, where that comes by this one; the last moment of all never comes.
-    pub fn next_loss(&mut self, until: u64) -> Option<u64>
+    pub fn loss_by(&mut self, until: u64) -> Option<u64>
         ensures past { IfSome result (λ at. at ≤ until) }
         ensures loses { IfSome result (λ at. 1 ≤ core_lost at self.old.core.core) }
         ensures first { IfSome result

@@ -1,5 +1,5 @@
 -- What a watcher knows follows the calls that it was handed.
-use Rattle.std.proofs.Common.{◌≡◌, ℕ, ◌≤◌, max, ltb, Bool, true, false, cond, List, [], ◌∷◌, ◌++◌, length, Option, None, Some, Result, Ok, Err, refl, sym, ap, subst, ◌∙◌, arith}
+use Rattle.std.proofs.Common.{◌≡◌, ℕ, ◌≤◌, max, ltb, true, false, cond, List, [], ◌∷◌, ◌++◌, length, Option, None, Some, Result, Ok, Err, refl, ap, ◌∙◌, arith}
 use Rattle.std.specs.Prelude.{OnOk}
 use Rattle.std.specs.List.{position}
 use Rattle.sacn_root.specs.declared.fault.PacketFault.{PacketFault}
@@ -10,7 +10,7 @@ use Rattle.sacn_framing.specs.declared.packet.Packet.TheVariants.{DataPacket, Pa
 use Rattle.sacn_monitor.specs.Kinds.{more}
 use Rattle.sacn_monitor.specs.declared.account.Sender.{Sender}
 use Rattle.sacn_monitor.specs.Streams.{is_of, first_stream}
-use Rattle.sacn_monitor.specs.Books.{Book, after_take, after_tick, after_data, after_read, with_datagram}
+use Rattle.sacn_monitor.specs.Books.{Book, after_take, after_data, after_read, with_datagram}
 use Rattle.sacn_monitor.specs.Histories.{Call, Take, Tick, moment_in_use}
 use Rattle.sacn_explain.specs.Following.{AreBy, after_ticks, IsTicked, IsTaken, Follows}
 
