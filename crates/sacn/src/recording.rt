@@ -17,7 +17,7 @@ use std::rt::{Clock, Files};
 /// The steps in which a recording is read between two looks at standard input.
 const MAX_STEPS: usize = 65_536;
 
-/// An open file, read from its start as often as is wanted.
+/// An open file, read from any place as often as is wanted.
 #[derive(Drop)]
 struct FileTape<R: Files> {
     alloc: Global,
@@ -28,8 +28,12 @@ impl<R: Files> Tape for FileTape<R> {
     type Reader = BufReader<R::File>;
 
     fn rewind(&mut self) -> io::Result<BufReader<R::File>> {
+        self.rewind_to(0)
+    }
+
+    fn rewind_to(&mut self, offset: u64) -> io::Result<BufReader<R::File>> {
         let mut file = self.file.try_clone()?;
-        file.seek(SeekFrom::Start(0))?;
+        file.seek(SeekFrom::Start(offset))?;
         BufReader::with_capacity(self.alloc, ROOM, file)
     }
 }

@@ -4,4 +4,5 @@ mod Mapping
 mod Owing
 mod OwnGets
 mod Pieces
+mod Replaying
 mod Rows

@@ -7,3 +7,5 @@ pub mod Alarms
 pub mod AlarmTexts
 pub mod WholeDocuments
 pub mod Feeds
+pub mod Boards
+pub mod Replays

@@ -1,6 +1,6 @@
 //! What a viewer is to look at: the latest things that went wrong.
 
-ghost use Rattle.std.specs.Prelude.{◌≡◌, ◌-◌, [], IfOk, length, nat_le, not, position};
+ghost use Rattle.std.specs.Prelude.{◌≡◌, ◌≤◌, ◌-◌, [], IfOk, length, nat_le, not, position, vec_capacity};
 ghost use Rattle.sacn_page.specs.Alarms.{after, alarms_after, event_troubles, giving_way, is_loss, news_troubles, no_alarms, oldest, troubles_of, with_alarm, with_latest, with_troubles};
 
 use sacn_monitor::{Event, Monitor, News, Sender};
@@ -66,6 +66,21 @@ impl Model for Alarms {
 
     ghost invariant = { λ a. (length a.latest.items ≤ a.most)
         × (a.most ≤ vec_capacity a.latest) };
+}
+
+/// The same alarms again, with room of their own.
+///
+/// Errors: a request for it was refused.
+impl Clone for Alarms {
+    ghost is_clone = { λ alarms copy. copy ≡ alarms };
+
+    fn clone(&self) -> Result<Alarms, AllocError> {
+        Ok(Alarms {
+            latest: with_room(&self.latest, self.most)?,
+            most: self.most,
+            count: self.count,
+        })
+    }
 }
 
 impl Alarms {
@@ -190,6 +205,16 @@ impl Trouble {
     {
         matches!(self, Trouble::Lost(_))
     }
+}
+
+// These alarms again, with room for so many.
+fn with_room(alarms: &Vec<Alarm>, most: usize) -> Result<Vec<Alarm>, AllocError>
+    ensures items { IfOk result (λ again. again.items ≡ alarms.now.items) }
+    ensures room { IfOk result (λ again. most ≤ vec_capacity again) }
+{
+    let mut again = Vec::with_capacity(*alarms.allocator(), most)?;
+    again.extend_from_slice(alarms.as_slice())?;
+    Ok(again)
 }
 
 // The place of the first before which there were so many, or more.

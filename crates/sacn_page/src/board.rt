@@ -1,13 +1,16 @@
 //! What is known of a network, for all viewers.
 
-ghost use Rattle.std.specs.Prelude.{◌≡◌, ◌==◌, ℕ, List, IfOk, OnOk, find, is_some, max, option_copied};
+ghost use Rattle.std.specs.Prelude.{◌≡◌, ◌≤◌, ◌==◌, ℕ, List, IfOk, OnOk, find, is_some, max, option_copied};
 ghost use Rattle.sacn_framing.specs.PacketReading.{reading_packet};
 ghost use Rattle.sacn_monitor.specs.Books.{new_book, next_loss, silent_place};
+ghost use Rattle.sacn_monitor.specs.Histories.{Call, moment_of};
 ghost use Rattle.sacn_explain.specs.Following.{IsTicked, IsTaken};
-ghost use Rattle.sacn_network.specs.Networks.{take_told, tick_told};
+ghost use Rattle.sacn_network.specs.Networks.{take_told, taken, tick_told, ticked};
 ghost use Rattle.sacn_network.specs.Sets.{universes_in};
 ghost use Rattle.sacn_page.specs.declared.alarms.Trouble.TheVariants.{Stopped};
 ghost use Rattle.sacn_page.specs.Alarms.{alarms_told, no_alarms, with_alarm};
+ghost use Rattle.sacn_page.specs.Boards.{has_room, serves};
+ghost use Rattle.sacn_page.specs.Replays.{after_call, known_to};
 ghost use Rattle.sacn_page.specs.WholeDocuments.{first_heard, universe_shown};
 
 use crate::alarms::{Alarms, Trouble};
@@ -30,6 +33,25 @@ pub struct Board {
     /// The universe of a viewer that names none, where that isn't the first heard.
     preferred: Option<u16>,
     lit: Vec<LitUniverse>,
+}
+
+/// The same board again, with room of its own.
+///
+/// Errors: OutOfMemory.
+impl Clone for Board {
+    ghost use Rattle.sacn_page.specs.Boards.{IsSameBoard};
+
+    ghost is_clone = { IsSameBoard };
+
+    fn clone(&self) -> Result<Board, AllocError> {
+        Ok(Board {
+            alloc: self.alloc,
+            network: self.network.clone()?,
+            alarms: self.alarms.clone()?,
+            preferred: self.preferred,
+            lit: self.lit.clone()?,
+        })
+    }
 }
 
 impl Board {
@@ -61,6 +83,7 @@ impl Board {
     ) -> Result<(), AllocError>
         ensures taken { (octets : List ℕ) → reading.now ≡ reading_packet octets → OnOk result
             (IsTaken now sender octets self.old.network.monitor self.new.network.monitor) }
+        ensures network { self.new.network ≡ taken now sender reading.now self.old.network }
         ensures alarms { self.new.alarms
             ≡ alarms_told (take_told now sender reading.now self.old.network) self.old.alarms }
     {
@@ -68,13 +91,16 @@ impl Board {
         self.light(now, reading)
     }
 
-    /// Moves the clock, and returns whether a source was lost.
+    /// Moves the clock, and returns whether a source was lost. Each call at a later moment leaves what it would without this one.
     pub fn tick(&mut self, now: u64) -> bool
         ensures lost { result ≡ is_some (silent_place
             (max self.old.network.monitor.moment now) self.old.network.monitor.streams) }
         ensures ticked { IsTicked now self.old.network.monitor self.new.network.monitor }
+        ensures network { self.new.network ≡ ticked now self.old.network }
         ensures alarms { self.new.alarms
             ≡ alarms_told (tick_told now self.old.network) self.old.alarms }
+        ensures later { (call : Call) → now ≤ moment_of call
+            → after_call call (known_to self.new) ≡ after_call call (known_to self.old) }
     {
         self.network.tick(now, &mut self.alarms)
     }
@@ -135,6 +161,24 @@ impl Board {
         self.lit.iter().find(|lit| lit.universe() == universe)
     }
 
+    /// Whether the universe that is shown to a viewer that names this one, or none, is merged from its first packet on: it is merged, or
+    /// there is room for it, since while there is room all that are heard are merged.
+    pub fn serves(&self, named: Option<u16>) -> bool
+        ensures { result ≡ serves named self.now }
+    {
+        match self.chosen_universe(named) {
+            Some(universe) => self.has_room() | self.find_lit(universe).is_some(),
+            None => self.has_room(),
+        }
+    }
+
+    // Whether one universe more can be merged.
+    fn has_room(&self) -> bool
+        ensures { result ≡ has_room self.now }
+    {
+        self.lit.len() < MAX_LIT
+    }
+
     /// Sees to it that a universe is merged from now on, in place of one that isn't among those that are looked at. Returns
     /// whether there is room for it.
     ///
@@ -146,7 +190,7 @@ impl Board {
         if self.find_lit(universe).is_some() {
             return Ok(true);
         }
-        if self.lit.len() < MAX_LIT {
+        if self.has_room() {
             self.add_universe(universe)?;
             return Ok(true);
         }
@@ -180,7 +224,7 @@ impl Board {
             return Ok(());
         };
         let universe = packet.universe();
-        if self.find_lit(universe).is_none() && self.lit.len() < MAX_LIT {
+        if self.find_lit(universe).is_none() && self.has_room() {
             self.add_universe(universe)?;
         }
         for lit in self.lit.iter_mut() {

@@ -22,6 +22,7 @@ mod response;
 mod room;
 mod scene;
 mod server;
+mod snapshots;
 mod viewer;
 
 pub use alarms::{Alarm, Alarms, MAX_ALARMS, Trouble};
@@ -33,7 +34,7 @@ pub use markup::{Subject, page};
 pub use members::push_facts;
 pub use quiet::Quiet;
 pub use recording::{MAX_MARKS, Recording, Tape};
-pub use replay::Replay;
+pub use replay::{Replay, Snapshot};
 pub use request::{Asked, MAX_FIELDS, MAX_HEAD, Reading, Refusal, read_request};
 pub use response::{Kind, event_stream_head, push_event, refusal_response, whole};
 pub use room::{MAX_SURPLUS, MAX_VIEWERS, Room};

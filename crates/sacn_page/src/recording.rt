@@ -3,6 +3,7 @@
 use crate::board::Board;
 use crate::replay::Replay;
 use crate::scene::{Facts, Scene, SeekFault};
+use crate::snapshots::Snapshots;
 use sacn_capture::{CaptureFault, FaultKind};
 use sacn_framing::Reading;
 use sacn_monitor::Sender;
@@ -20,10 +21,39 @@ pub trait Tape {
     ///
     /// Errors: those of the device.
     fn rewind(&mut self) -> io::Result<Self::Reader>;
+
+    /// A reader of its octets behind the first so many. One that was given before isn't read any more.
+    ///
+    /// This one reads what is before them and leaves it out: where the device can go to a place there is a better one.
+    ///
+    /// Errors: those of the device.
+    fn rewind_to(&mut self, offset: u64) -> io::Result<Self::Reader> {
+        let mut reader = self.rewind()?;
+        pass_over(&mut reader, offset)?;
+        Ok(reader)
+    }
 }
 
-/// A recording, at the moment that was asked for last. It is read on to a later moment, and anew from its start to an earlier one; no
-/// list of its packets is kept.
+// Passes over so many octets, or all where there are fewer.
+fn pass_over<R: BufRead>(reader: &mut R, count: u64) -> io::Result<()> {
+    let mut left = count;
+    while left > 0 {
+        let ready = reader.fill_buf()?.len();
+        if ready == 0 {
+            return Ok(());
+        }
+        let passed = (ready as u64).min(left);
+        reader.consume(passed as usize);
+        left -= passed;
+    }
+    Ok(())
+}
+
+/// The steps after which a snapshot may be kept.
+const SNAPSHOT_STEPS: usize = 1024;
+
+/// A recording, at the moment that was asked for last. A later moment is read on to, or from a snapshot that is nearer; an earlier one from
+/// the latest snapshot before it. No list of its packets is kept.
 #[derive(Drop)]
 pub struct Recording<T: Tape + Drop> {
     alloc: Global,
@@ -33,6 +63,7 @@ pub struct Recording<T: Tape + Drop> {
     preferred: Option<u16>,
     facts: Facts,
     replay: Replay<T::Reader>,
+    snapshots: Snapshots,
     /// The replay failed.
     is_broken: bool,
 }
@@ -64,6 +95,7 @@ impl<T: Tape + Drop> Recording<T> {
             preferred,
             facts,
             replay,
+            snapshots: Snapshots::new(alloc),
             is_broken: false,
         })
     }
@@ -73,7 +105,7 @@ impl<T: Tape + Drop> Recording<T> {
     ///
     /// Errors: OutOfMemory; Device where its reader fails.
     pub fn read(&mut self, steps: usize) -> Result<bool, SeekFault> {
-        if !self.replay.advance(u64::MAX, steps)? {
+        if !self.follow(u64::MAX, steps)? {
             return Ok(false);
         }
         self.facts.length = self.replay.moment_shown();
@@ -86,13 +118,62 @@ impl<T: Tape + Drop> Recording<T> {
         self.facts.fault
     }
 
-    // Whether it can be read on to this moment with this universe merged.
-    fn reaches(&self, universe: Option<u16>, moment: u64) -> bool {
-        let is_merged = match universe {
-            Some(universe) => self.replay.board().find_lit(universe).is_some(),
-            None => true,
-        };
-        !self.is_broken & is_merged & (self.replay.moment_shown() <= moment)
+    // Follows it to a moment in at most so many steps, and keeps snapshots on the way. Returns whether it is there.
+    fn follow(&mut self, moment: u64, steps: usize) -> Result<bool, SeekFault> {
+        self.is_broken = true;
+        let mut is_there = false;
+        let mut left = steps;
+        while !is_there && left > 0 {
+            let some = left.min(SNAPSHOT_STEPS);
+            is_there = self.replay.advance(moment, some)?;
+            if !is_there {
+                self.snapshots.keep(&self.replay);
+            }
+            left -= some;
+        }
+        self.is_broken = false;
+        Ok(is_there)
+    }
+
+    // Sees to it that it can be read on to a moment with a viewer's universe merged: from the moment that was reached, from a snapshot
+    // that is nearer, or from its start.
+    fn begin(&mut self, named: Option<u16>, moment: u64) -> Result<(), SeekFault> {
+        let reached = self.moment_reached(named, moment);
+        if reached.is_none() {
+            self.snapshots.forget_others(named);
+        }
+        match (self.snapshots.latest(moment, named), reached) {
+            (Some(snapshot), Some(here)) if snapshot.moment_shown() <= here => {}
+            (Some(snapshot), _) => {
+                self.is_broken = true;
+                let reader = self.tape.rewind_to(snapshot.offset()).map_err(tape_fault)?;
+                self.replay = Replay::resume(self.alloc, reader, self.port, snapshot)?;
+            }
+            (None, Some(_)) => {}
+            (None, None) => self.begin_anew(named)?,
+        }
+        if let Some(universe) = named {
+            self.replay.open_universe(universe)?;
+        }
+        Ok(())
+    }
+
+    // Begins at its start.
+    fn begin_anew(&mut self, named: Option<u16>) -> Result<(), SeekFault> {
+        self.is_broken = true;
+        let tape = &mut self.tape;
+        self.replay = replay_from_start(self.alloc, tape, self.port, self.preferred, named)?;
+        Ok(())
+    }
+
+    // The moment that is shown, where it can be read on from there to this one with a viewer's universe merged.
+    fn moment_reached(&self, named: Option<u16>, moment: u64) -> Option<u64> {
+        let here = self.replay.moment_shown();
+        if !self.is_broken & self.replay.board().serves(named) & (here <= moment) {
+            Some(here)
+        } else {
+            None
+        }
     }
 }
 
@@ -184,14 +265,8 @@ impl<T: Tape + Drop> Scene for Recording<T> {
         steps: usize,
     ) -> Result<bool, SeekFault> {
         let until = moment.unwrap_or(u64::MAX).min(self.facts.length);
-        if !self.reaches(universe, until) {
-            self.is_broken = true;
-            let tape = &mut self.tape;
-            self.replay = replay_from_start(self.alloc, tape, self.port, self.preferred, universe)?;
-        }
-        self.is_broken = true;
-        let is_there = self.replay.advance(until, steps)?;
-        self.is_broken = false;
+        self.begin(universe, until)?;
+        let is_there = self.follow(until, steps)?;
         if is_there {
             if let Some(universe) = self.replay.board().chosen_universe(universe) {
                 self.replay.refresh(universe);

@@ -77,7 +77,7 @@ pub trait Scene {
     /// Moves a recording towards a moment, or to its end where none is named, in at most so many steps. Returns whether it is
     /// there; then the board is as at that moment, and the universe that is named, or chosen where none is, is merged.
     ///
-    /// Errors: OutOfMemory; Device where the recording can't be read. The next call begins at its start.
+    /// Errors: OutOfMemory; Device where the recording can't be read. The next call doesn't go on from where this one came to.
     fn seek(
         &mut self,
         universe: Option<u16>,

@@ -9,6 +9,7 @@ pub returns : goal.returns
 returns c = record {
   taken = λ octets read. whatever c.light.result
       (is_taken c.args.now c.args.sender octets c.args.reading.now c.args.self.now.network c.light.new.self.network read (c.light.ensures.network ∙ c.take.ensures.network));
+  network = c.light.ensures.network ∙ c.take.ensures.network;
   alarms = c.light.ensures.alarms
       ∙ told_fold (take_told c.args.now c.args.sender c.args.reading.now c.args.self.now.network) c.args.self.now.alarms c.take.new.observer c.take.ensures.told;
 }
