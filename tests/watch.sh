@@ -284,10 +284,17 @@ status=0
 problem=$(COLUMNS=80 ROWS=24 timeout 20 python3 terminal.py drawn 25840 go bash launcher --seconds 4 2>&1) || status=$?
 [ "$status" = 0 ] && grep -q 'Aff' drawn && below | grep -q '^sacn watch ' && below | grep -qE '^A +1 ' && ! below | grep -q $'\x1b' && ! grep -qE '^1 [0-9]+ 00' drawn
 verdict "a gateway's screen" $? "status $status $(tail -n 1 <<<"$problem")"
-grep -qE $'\x1b\\[24;1H(\x1b\\[[0-9;]*m)*source [0-9a-f]{32} universe 1 (came 127.0.0.1|lost)' drawn || grep -qE $';1H(\x1b\\[[0-9;]*m)*source [0-9a-f]{32} universe 1 came 127.0.0.1' drawn
+# (as plain text: in no colour, and not bold)
+grep -qE $'\x1b\\[[0-9]+;1H(\x1b\\[0m)?source [0-9a-f]{32} universe 1 came 127.0.0.1' drawn
 verdict "it has what the gateway says" $? "$(grep -c source drawn)"
 [ "$(below | grep -cE '^source [0-9a-f]{32} universe 1 came 127.0.0.1$')" = 2 ]
 verdict "what the gateway says is left on the terminal" $? "$(below | grep -c '^source')"
+# (256 octets of a line end inside of a letter: 9, 200, 2, 44, and the first of two. Nothing is sent to this one, so the line stays the newest.)
+letters() { printf 'é%.0s' $(seq "$1"); }
+status=0
+problem=$(COLUMNS=300 ROWS=24 timeout 20 python3 terminal.py drawn 25842 go bash launcher --widget "1=$(letters 100)/x$(letters 100)" --seconds 2 2>&1) || status=$?
+[ "$status" = 0 ] && LC_ALL=C grep -qE $'\x1b\\[[0-9]+;1H(\x1b\\[0m)?'"widget 1 $(letters 100)/x$(letters 22)"$'[ \x1b]' drawn
+verdict "a long line on it ends behind a letter" $? "status $status $(tail -n 1 <<<"$problem") $(grep -c widget drawn)"
 status=0
 problem=$(COLUMNS=80 ROWS=24 timeout 20 python3 terminal.py drawn 25840 stop bash launcher 2>&1) || status=$?
 [ "$status" -ge 99 ] && grep -q 'Aff' drawn && grep -q $'\x1b\[?1049l' drawn
@@ -302,66 +309,11 @@ ends_gateway() { local status=0; "$sacn" gateway node.toml "$@" </dev/null >out 
 ends_gateway --watch --page 25841
 verdict "a screen and a page are refused together" $? "$(head -n 1 err)"
 # (Ctrl-S at the terminal: it takes nothing, and the light goes on; once it takes again it has the newest levels)
-cat >stuck.py <<'P'
-import fcntl, os, pty, select, socket, struct, sys, termios, time, tty
-
-def data(number, level):
-    slots = bytes([level]) + bytes(511)
-    dmp = struct.pack(">HBBHHHB", 0x7000 | 11 + len(slots), 2, 0xa1, 0, 1, 1 + len(slots), 0) + slots
-    head = struct.pack(">I64sBHBBH", 2, b"Desk", 100, 0, number, 0, 1)
-    framing = struct.pack(">H", 0x7000 | 2 + len(head) + len(dmp)) + head + dmp
-    return b"\0\x10\0\0ASC-E1.17\0\0\0" + struct.pack(">HI", 0x7000 | 22 + len(framing), 4) + b"\xaa" * 16 + framing
-
-def octets_of(descriptor):
-    octets = b""
-    while select.select([descriptor], [], [], 0)[0]:
-        octets += os.read(descriptor, 65536)
-    return octets
-
-widget, slave = pty.openpty()
-tty.setraw(slave)
-pid, terminal = pty.fork()
-if pid == 0:
-    fcntl.ioctl(1, termios.TIOCSWINSZ, struct.pack("HHHH", 24, 80, 0, 0))
-    os.execvp("bash", ["bash", "launcher", "--widget", "1=" + os.ttyname(slave), "--seconds", "12"])
-out = socket.socket(socket.AF_INET, socket.SOCK_DGRAM)
-number, shown, lit = 0, b"", b""
-
-def send_until(level, is_there, what):
-    global number, shown, lit
-    end = time.time() + 5
-    while not is_there():
-        if time.time() > end:
-            sys.exit(f"no {what}")
-        out.sendto(data(number % 256, level), ("127.0.0.1", 25840))
-        number += 1
-        time.sleep(0.05)
-        lit += octets_of(widget)
-        if what != "light":
-            shown += octets_of(terminal)
-
-def is_lit(level):
-    return lit.rfind(bytes([0x7e, 6, 1, 2, 0, level])) > max(lit.rfind(bytes([0x7e, 6, 1, 2, 0, other])) for other in (1, 2) if other != level)
-
-send_until(1, lambda: b"A01" in shown and is_lit(1), "screen")
-os.write(terminal, b"\x13")
-time.sleep(0.3)
-shown += octets_of(terminal)
-before = len(shown)
-# (forty drawings' worth of new levels and counts)
-for level in (2, 1) * 20:
-    send_until(level, lambda: is_lit(level), "light")
-    time.sleep(0.05)
-send_until(2, lambda: is_lit(2), "light")
-if octets_of(terminal):
-    sys.exit("the terminal isn't stuck")
-os.write(terminal, b"\x11")
-send_until(2, lambda: b"A02" in shown[before:], "newest screen")
-os.close(terminal)
-os.waitpid(pid, 0)
-P
-problem=$(timeout 60 python3 stuck.py 2>&1)
+problem=$(timeout 60 python3 "$top/tests/screens.py" stuck 2>&1)
 verdict "a stuck terminal holds no light up" $? "$(tail -n 1 <<<"$problem")"
+# (Ctrl-S while a gateway ends, whose rows are more than what waits has room for: the terminal is given back once it takes again, within two seconds)
+problem=$(timeout 60 python3 "$top/tests/screens.py" given_back 2>&1)
+verdict "a terminal that is stuck at the end is given back, and told what is lost" $? "$(tail -n 1 <<<"$problem")"
 
 # The launcher tells a watch the terminal's size, whatever it is.
 printf '#!/bin/sh\necho "rows $LINES columns $COLUMNS"\n' >told

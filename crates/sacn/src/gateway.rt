@@ -23,7 +23,7 @@ use std::rt::{Clock, Files};
 use std::str;
 
 /// Runs a gateway, which prints its frames on standard output as they change, and serves a page of what it hears where that is
-/// asked. No output that isn't read holds it up.
+/// asked, or shows that on a screen in place of the frames. No output that isn't read holds it up.
 pub fn gateway<R: AllocGlobal + Files + Env + Net + Clock, I: Read + Drop>(
     rt: &R,
     asked: &GatewayAsked<'_>,
@@ -112,12 +112,13 @@ fn run_on_screen<'a, R: AllocGlobal + Files + Env + Net + Clock>(
     let mut out = outputs.out();
     let screen = screen_of(rt, size_file.as_deref(), address, universe, &mut out);
     let mut screen = PatientScreen::new(rt.alloc(), watch_end(screen)?, outputs);
-    let run = run_beside(rt, asked, setup, &mut receiver, &mut screen, outputs);
+    let run = run_beside_screen(rt, asked, setup, &mut receiver, &mut screen, outputs);
     screen.leave();
     run
 }
 
-fn run_beside<'a, R: AllocGlobal + Net + Clock, W: Watcher>(
+// Runs the gateway, with this screen beside it.
+fn run_beside_screen<'a, R: AllocGlobal + Net + Clock, W: Watcher>(
     rt: &'a R,
     asked: &GatewayAsked<'_>,
     setup: &NodeSetup,
@@ -200,7 +201,7 @@ impl<'s, 'o, O: Write, Z: Sizes> Watcher for PatientScreen<'s, 'o, O, Z> {
 
     fn show(&mut self, now: u64) -> Result<(), WatchFault> {
         self.now = now;
-        if self.outputs.is_drawing() {
+        if self.outputs.pump_screen() {
             return Ok(());
         }
         self.show_note()?;
@@ -208,7 +209,7 @@ impl<'s, 'o, O: Write, Z: Sizes> Watcher for PatientScreen<'s, 'o, O, Z> {
     }
 
     fn wakes(&self) -> u64 {
-        if self.outputs.is_drawing() {
+        if self.outputs.pump_screen() {
             return u64::MAX;
         }
         self.screen.wakes()

@@ -17,6 +17,9 @@ const MAX_PIECES: usize = 1024;
 /// How long the end of a run waits for what waits to go out, in milliseconds.
 const END_WAIT: u64 = 200;
 
+/// How long it waits where that gives a terminal back from a screen, in milliseconds.
+const SCREEN_END_WAIT: u64 = 2000;
+
 /// What takes octets, and can be asked whether it does so now.
 pub trait Sink {
     /// Waits until octets are taken or refused at once, for at most so many milliseconds. Returns whether they are.
@@ -46,7 +49,7 @@ pub enum Lines {
 /// The most octets of a note that is shown on a screen.
 pub const NOTE_OCTETS: usize = 256;
 
-/// A line that is shown on a screen, without its LF, cut where it is longer than that.
+/// A line that is shown on a screen, without its LF, cut behind a letter where it is longer than that.
 pub type Note = ArrayVec<u8, NOTE_OCTETS>;
 
 /// What becomes of lines beside what they are written to.
@@ -55,7 +58,7 @@ enum Noting {
     /// Nothing.
     Unnoted,
     /// The newest is noted.
-    Noted,
+    Copied,
     /// The newest is noted, and all wait until the screen is left.
     Held,
 }
@@ -73,6 +76,8 @@ pub struct Output<S> {
     noting: Noting,
     // The newest line, where lines are noted and it wasn't taken.
     note: Option<Note>,
+    // How long the end waits, in milliseconds.
+    end_wait: u64,
 }
 
 /// The port of a frame's line.
@@ -101,14 +106,28 @@ fn loss_line(lines: Lines, count: u64) -> ArrayString<64> {
     text
 }
 
+/// Where the letters of a text end that stand within so many octets. (Of a letter's octets, up to four, all but the first begin with
+/// the bits 10.)
+fn end_of_letters(text: &[u8], most: usize) -> usize {
+    for back in 0..4 {
+        let end = most.saturating_sub(back);
+        match text.get(end) {
+            Some(octet) if *octet & 0xc0 == 0x80 => {}
+            _ => return end,
+        }
+    }
+    most
+}
+
 /// What a screen shows of a line.
 fn note_of(line: &[u8]) -> Note {
     let line = match line {
         [words @ .., b'\n'] => words,
         words => words,
     };
+    let end = end_of_letters(line, NOTE_OCTETS).min(line.len());
     let mut note = ArrayVec::new();
-    let _ = note.try_extend_from_slice(&line[..line.len().min(NOTE_OCTETS)]);
+    let _ = note.try_extend_from_slice(&line[..end]);
     note
 }
 
@@ -124,12 +143,14 @@ impl<S: Sink + Drop> Output<S> {
             is_long: false,
             noting: Noting::Unnoted,
             note: None,
+            end_wait: END_WAIT,
         })
     }
 
-    /// From now on what is written is drawings of a screen.
+    /// From now on what is written is drawings of a screen. The end then waits longer, so that the terminal is given back.
     pub fn draw(&mut self) {
         self.lines = Lines::Drawings;
+        self.end_wait = SCREEN_END_WAIT;
     }
 
     /// From now on the newest line is noted for a screen. Where lines would be written over it they wait until it is left.
@@ -137,12 +158,13 @@ impl<S: Sink + Drop> Output<S> {
         self.noting = if is_over_screen {
             Noting::Held
         } else {
-            Noting::Noted
+            Noting::Copied
         };
     }
 
-    /// From now on lines are written as they come, and none is noted.
+    /// From now on what is written is lines for people, as they come, and none is noted.
     pub fn leave_screen(&mut self) {
+        self.lines = Lines::Plain;
         self.noting = Noting::Unnoted;
     }
 
@@ -251,11 +273,12 @@ impl<S: Sink + Drop> Output<S> {
         self.noting != Noting::Held && (!self.room.is_empty() || self.frames.len() > 0)
     }
 
-    /// Waits for what waits to go out, at most a fifth of a second. Returns how many lines are given up.
+    /// Waits for what waits to go out, at most a fifth of a second, and two seconds where a screen was drawn. Returns how many
+    /// lines are given up.
     pub fn finish<C: Clock>(&mut self, clock: &mut C) -> u64 {
-        let until = clock.now().saturating_add(END_WAIT);
+        let until = clock.now().saturating_add(self.end_wait);
         for _ in 0..MAX_PIECES {
-            let left = until.saturating_sub(clock.now()).min(END_WAIT);
+            let left = until.saturating_sub(clock.now()).min(SCREEN_END_WAIT);
             match self.hand_on(left as i32) {
                 Ok(true) if left > 0 => {}
                 _ => break,

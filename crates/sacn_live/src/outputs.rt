@@ -96,8 +96,11 @@ impl Outputs {
         }
     }
 
-    /// From now on lines of standard error are written as they come.
+    /// From now on standard output is lines for people, and lines of standard error are written as they come.
     pub fn leave_screen(&self) {
+        if let Ok(mut out) = self.out.try_borrow_mut() {
+            out.leave_screen();
+        }
         if let Ok(mut err) = self.err.try_borrow_mut() {
             err.leave_screen();
         }
@@ -112,7 +115,7 @@ impl Outputs {
     }
 
     /// Hands on what waits. Returns whether something still waits for standard output.
-    pub fn is_drawing(&self) -> bool {
+    pub fn pump_screen(&self) -> bool {
         let _ = self.out().flush();
         is_pending(&self.out)
     }
@@ -123,8 +126,8 @@ impl Outputs {
         is_pending(&self.out) || is_pending(&self.err)
     }
 
-    /// Waits for what waits to go out, at most a fifth of a second each, and says on standard error how many lines of standard
-    /// output are given up.
+    /// Waits for what waits to go out, at most a fifth of a second each, and two seconds where standard output was a screen. Says
+    /// on standard error how many lines of standard output are given up.
     pub fn finish<R: MachineClock>(&self, clock: &mut RigClock<'_, R>) {
         let left = finish(&self.out, clock);
         if left > 0 {

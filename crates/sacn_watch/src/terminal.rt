@@ -163,7 +163,7 @@ impl<'a, O: Write> Terminal<'a, O> {
         self.push_silence(&mut page)?;
         page.size = self.size;
         if has_note {
-            page.push_text(self.alloc, self.note.as_str(), Ink::Alarm)?;
+            page.push_text(self.alloc, self.note.as_str(), Ink::Plain)?;
         }
         Ok(page)
     }
