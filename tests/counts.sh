@@ -133,8 +133,22 @@ other() {
   [ "$status" = 1 ] && [ ! -s "$room/out" ] && grep -qF "run: crates/sacn_bench/src/$2 isn't the same in $room/old and $room/new" "$room/err"
   verdict "$1" $? "status $status, $(head -n 1 "$room/err")"
 }
+# (a workload that the older source lacks, with a file of its own)
+rows_of() { printf 'mod work;\n%sconst JOBS: [&str; %d] = [\n    "frames",%s\n];\n"frames" => work::frames(&work)?,\n%sfn main\n' "$1" "$2" "$3" "$4"; }
+source=crates/sacn_bench/src
+rows_of "" 1 "" "" >"$room/old/$source/main.rt"
+rows_of $'mod lists;\n' 2 ' "lists",' $'"lists" => lists::lists(&work)?,\n' >"$room/new/$source/main.rt"
+echo "fn lists" >"$room/new/$source/lists.rt"
+"$top/bench/run" "$room/old" "$room/new" >"$room/out" 2>"$room/err" && grep -q "^lists  *- .* not in $room/old\$" "$room/out" && [ "$(grep -c 'not in' "$room/out")" = 1 ]
+verdict "a workload that the older source lacks is measured alone" $? "$(head -n 1 "$room/err")"
+echo "fn more" >>"$room/new/$source/main.rt"
+other "another table of workloads is named" main.rt
+cp "$room/old/$source/main.rt" "$room/new/$source/main.rt"
+rm "$room/new/$source/lists.rt"
 echo "fn more" >"$room/new/crates/sacn_bench/src/more.rt"
 other "a file more is named" more.rt
+"$top/bench/run" --other "$source/more.rt" "$room/old" "$room/new" >"$room/out" 2>"$room/err"
+verdict "a file that may be another is none that ends the run" $? "$(head -n 1 "$room/err")"
 echo "fn another" >"$room/old/crates/sacn_bench/src/deep/work.rt"
 other "the first file that differs is named" deep/work.rt
 rm "$room/old/crates/sacn_bench/src/deep/work.rt"

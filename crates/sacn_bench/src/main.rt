@@ -11,6 +11,7 @@ mod fixtures;
 mod listers;
 mod lists;
 mod page;
+mod pages;
 mod tape;
 mod tellings;
 mod text;
@@ -26,8 +27,8 @@ use std::{env, io};
 use work::Work;
 
 /// The jobs.
-const JOBS: [&str; 8] = [
-    "lines", "frames", "crowd", "worlds", "files", "evenings", "fixtures", "lists",
+const JOBS: [&str; 9] = [
+    "lines", "frames", "crowd", "worlds", "files", "evenings", "fixtures", "lists", "pages",
 ];
 
 fn main(rt: HostRuntime) -> ExitCode {
@@ -85,6 +86,7 @@ fn digest_of(alloc: Global, name: &str, words: &[String]) -> Result<u64, WorkFau
         "evenings" => evenings::evenings(&work, &mut digest)?,
         "fixtures" => fixtures::fixtures(&work, &mut digest)?,
         "lists" => lists::lists(&work, &mut digest)?,
+        "pages" => pages::pages(&work, &mut digest)?,
         _ => return Err(WorkFault::Words),
     }
     Ok(digest.value()?)
