@@ -180,7 +180,7 @@ if sys.argv[1] == "two":
     r.sent(10000, 1, data(A, b"<b>Main & more", 1, 5, b"\x12"))
 else:
     r = Recording(sys.argv[2])
-    for turn in range(300):
+    for turn in range(700):
         for universe in range(1, 201):
             r.sent(turn * 25, 1, data(A, b"Many", universe, turn, bytes([turn % 256]) * 512))
 P
@@ -226,7 +226,8 @@ done
 verdict "two viewers at different moments" $? "$wrong of 20: $(head -c 60 early) $(head -c 60 late)"
 ends
 
-# 60,000 packets: others are answered while the recording is read, moving back gives what was there, and memory stays small.
+# 140,000 packets, 98 MB, so that snapshots are thinned out: others are answered while the recording is read, moving back gives what was there and reads
+# little, and memory stays small.
 python3 write.py many many.pcap
 serves many.pcap
 count=0
@@ -245,10 +246,45 @@ full() { for _ in $(seq 512); do printf %02x "$1"; done; }
 grep -q "^{\"ms\":2500,.*\"levels\":\"$(full 100)\"" state.2500 && grep -qF '"counts":{"datagrams":20200,' state.2500
 verdict "the state in the middle" $? "$(head -c 80 state.2500)"
 grep -q "^{\"ms\":7475,.*\"levels\":\"$(full 43)\"" state.7475 && grep -qF '"counts":{"datagrams":60000,' state.7475
-verdict "the state at the end" $? "$(head -c 80 state.7475)"
+verdict "a late state" $? "$(head -c 80 state.7475)"
+# Moments by chance, earlier and later ones in turn, of universes that are merged from the first packet on and of two others: at a moment the packets of its
+# turn and of all before it were sent, and each level is the number of the turn.
+cat >moments.py <<'P'
+import json, random, sys, urllib.request
+
+chance = random.Random(7)
+for number in range(60):
+    moment = chance.randrange(17476)
+    universe = chance.choice([120, 200]) if number % 20 == 19 else chance.randrange(1, 17)
+    with urllib.request.urlopen(f"{sys.argv[1]}/state?at={moment}&universe={universe}", timeout=60) as answer:
+        state = json.load(answer)
+    turn = moment // 25
+    wanted = (moment, universe, bytes([turn % 256] * 512).hex(), 200 * (turn + 1), 200)
+    row = state["sources"][universe - 1]
+    seen = (state["ms"], state["universe"], state["levels"], state["counts"]["datagrams"], len(state["sources"]))
+    if seen != wanted or (row["universe"], row["live"], row["last"], row["skipped"], row["late"]) != (universe, turn + 1, 25 * turn, 0, 0):
+        sys.exit(f"look {number}, universe {universe} at {moment} ms: {seen[:2]}, {seen[2][:4]}, {seen[3:]}, {row}")
+P
+python3 moments.py $at 2>wrong
+verdict "moments by chance, earlier and later ones" $? "$(tail -n 1 wrong)"
 memory=$(sed -n 's/^VmRSS:[^0-9]*\([0-9]*\).*/\1/p' "/proc/$page/status")
-[ "${memory:-0}" -gt 0 ] && [ "$memory" -lt 20000 ]
+[ "${memory:-0}" -gt 0 ] && [ "$memory" -lt 40000 ]
 verdict "memory stays small" $? "$memory kB"
+# (a step back of one turn, far from the start: what the program reads for it is a small part of what is before it)
+answers "a late moment" 200 "$at/state?at=17000&universe=3"
+was=$(sed -n 's/^rchar: //p' "/proc/$page/io")
+answers "a step back" 200 "$at/state?at=16975&universe=3"
+has "one turn less at the moment before" '{"ms":16975,' '"counts":{"datagrams":136000,'
+read=$(($(sed -n 's/^rchar: //p' "/proc/$page/io") - was))
+[ "$read" -gt 0 ] && [ "$read" -lt 5000000 ]
+verdict "a step back reads a small part of the file" $? "$read octets"
+# The file is cut shorter while it is looked at: what is before that is shown as ever, and a moment behind it is answered.
+truncate -s 20000000 many.pcap
+answers "an early moment of a file that was cut" 200 "$at/state?at=2500&universe=3"
+has "what is before the cut is as it was" '{"ms":2500,' "\"levels\":\"$(full 100)\"" '"counts":{"datagrams":20200,'
+answers "a moment behind the cut" 200 "$at/state?at=17475&universe=3"
+answers "an early moment, again" 200 "$at/state?at=25&universe=3"
+has "the second turn" '{"ms":25,' "\"levels\":\"$(full 1)\"" '"counts":{"datagrams":400,'
 
 # Many connections that ask for nothing keep nobody out, and the one that waited longest is told that there was no room.
 lines=()
