@@ -309,17 +309,22 @@ run = subprocess.Popen([sys.argv[1], "gateway", work + "/node.toml", "--widget",
 run.stderr.readline()
 out = socket.socket(socket.AF_INET, socket.SOCK_DGRAM)
 place = ("127.0.0.1", 25811)
+def paced(count, gap):
+    """The numbers below it, one in so many seconds by the clock, so that a late machine doesn't send beyond the gateway's end."""
+    due = time.monotonic()
+    for number in range(count):
+        yield number
+        due += gap
+        time.sleep(max(gap / 2, due - time.monotonic()))
 sizes = []
-for count in range(600):
+for count in paced(600, 0.005):
     out.sendto(packet(count % 256, 1 + count % 255), place)
-    time.sleep(0.005)
     if count in (400, 599): sizes.append(os.path.getsize(work + "/device"))
 time.sleep(0.5)
 last = 1 + 599 % 255
 # a thousand ends and beginnings, of which few lines may come
-for count in range(1000):
+for count in paced(1000, 0.001):
     out.sendto(packet((600 + count) % 256, last, count % 2 == 0), place)
-    time.sleep(0.001)
 out.sendto(packet(1600 % 256, last), place)
 written, said = run.communicate()
 lines = written.decode().splitlines()
@@ -327,7 +332,7 @@ missing = [line for line in lines if line.endswith(" lines not written")]
 frames = [line.split() for line in lines if line not in missing]
 sources = [line for line in said.decode().splitlines() if line.startswith("source ")]
 passed = [int(line.split()[0]) for line in said.decode().splitlines() if line.endswith(" source lines not written")]
-print("status", run.returncode, "sizes", sizes, "missing", missing, "frames", len(frames), "source lines", len(sources), passed, file=sys.stderr)
+assert run.returncode == 0, run.returncode
 assert sizes[1] - sizes[0] > 20 * 518, sizes
 assert all(len(frame) == 3 and frame[0] == "1" and len(frame[2]) == 1026 for frame in frames)
 assert written.endswith(b"\n") and len(missing) >= 1 and int(missing[0].split()[0]) > 0
@@ -517,14 +522,11 @@ P
 
 [ -x "$sacn" ] || { echo "not ok the program is built: $sacn isn't there"; exit 1; }
 tests="a_desk_lights_a_gateway a_script_ends_the_desk a_port_is_shared a_stop_drops_the_backlog
-  a_lost_source_goes_dark an_interface_gets_frames a_stuck_interface_costs_itself_alone silence_is_said Ctrl_C_ends_each_universe bad_words_are_named groups_are_printed a_small_stack_is_enough a_host_that_refuses_stops_no_other"
+  a_lost_source_goes_dark an_interface_gets_frames an_unread_output_holds_nothing_up a_stuck_interface_costs_itself_alone silence_is_said Ctrl_C_ends_each_universe bad_words_are_named groups_are_printed a_small_stack_is_enough a_host_that_refuses_stops_no_other"
 for test in $tests; do
   "$test"
   verdict "$test" $?
 done
-# (a machine whose processors are taken away for a second at a time stops a gateway as an unread output would)
-in_three_tries an_unread_output_holds_nothing_up
-verdict an_unread_output_holds_nothing_up $?
 in_three_tries bursts_lose_nothing
 status=$?
 if [ -e "$work/lines.small" ]; then echo "skipped bursts_lose_nothing: this machine gives a socket too little room"; else verdict bursts_lose_nothing "$status"; fi

@@ -61,7 +61,9 @@ impl Buffer {
         &self.octets[..len]
     }
 
-    /// A look at a frame. What `lent` then gives out of the room is what stands in it.
+    /// A look at a frame. What `lent` then gives out of the room is what stands in it. In line in each reader of a recording, of which a
+    /// program may have two.
+    #[inline(always)]
     pub fn look(&self, frame: Frame) -> Result<Sighting, Passed>
         ensures seen { map_ok (seen_among self.now.octets.items) result
             ≡ content_in frame self.now.octets.items }

@@ -1,11 +1,11 @@
 -- What a teller told: what its writer has, and then the line that isn't written yet.
-use Rattle.std.specs.Prelude.{◌≡◌, ℕ, nat_lt, Bool, List, [], ◌++◌, Option, None, Some, string_bytes, codes, if◌then◌else◌}
+use Rattle.std.specs.Prelude.{◌≡◌, ℕ, nat_lt, Bool, not, List, [], ◌++◌, Option, None, Some, string_bytes, codes, if◌then◌else◌}
 use Rattle.std.specs.Io.KnownBytes.{Appends, append_known}
 use Rattle.sacn_monitor.specs.declared.news.Change.{Change}
 use Rattle.sacn_monitor.specs.declared.news.Event.{Event}
-use Rattle.sacn_monitor.specs.declared.news.Event.TheVariants.{GoesOn, Appeared, CameBack, Ended, OutOfSequence, Repeated}
 use Rattle.sacn_monitor.specs.declared.news.News.{News}
 use Rattle.sacn_monitor.specs.declared.stream.Stream.{Stream}
+use Rattle.sacn_network.specs.Packets.{goes_on}
 use Rattle.sacn_explain.specs.declared.options.Form.{Form}
 use Rattle.sacn_explain.specs.declared.options.Form.TheVariants.{Text, Json}
 use Rattle.sacn_explain.specs.declared.teller.Teller.{Teller}
@@ -32,12 +32,7 @@ where_so happened line = if happened then with_line_end line else []
 
 -- the line of an event; none where the source goes on
 abbrev pub event_told : Form → ℕ → Stream → Event → List ℕ
-event_told form now s GoesOn = []
-event_told form now s Appeared = with_line_end (event_line form now s Appeared)
-event_told form now s CameBack = with_line_end (event_line form now s CameBack)
-event_told form now s Ended = with_line_end (event_line form now s Ended)
-event_told form now s OutOfSequence = with_line_end (event_line form now s OutOfSequence)
-event_told form now s Repeated = with_line_end (event_line form now s Repeated)
+event_told form now s event = where_so (not (goes_on event)) (event_line form now s event)
 
 abbrev pub priority_told : Form → ℕ → Stream → Option Change → List ℕ
 priority_told form now s None = []

@@ -1,12 +1,13 @@
 -- How many datagrams there were, by what they were.
 use Rattle.std.specs.Prelude.{ℕ, List, replicate, slice_index_or, slice_set}
 use Rattle.sacn_root.specs.declared.fault.PacketFault.{PacketFault}
+use Rattle.sacn_root.specs.declared.fault.TheConstants.{FAULT_NUMBERS}
 use Rattle.sacn_root.specs.FaultNumbers.{fault_number}
 use Rattle.sacn_monitor.specs.declared.tally.Tally.{Tally}
 use Rattle.sacn_monitor.specs.Kinds.{more}
 
 abbrev pub nothing_tallied : Tally
-nothing_tallied = record { datagrams = 0; pages = 0; syncs = 0; untracked = 0; refused = replicate 19 0 }
+nothing_tallied = record { datagrams = 0; pages = 0; syncs = 0; untracked = 0; refused = replicate FAULT_NUMBERS 0 }
 
 -- one more at the number of this fault
 abbrev pub refused_more : PacketFault → Tally → Tally

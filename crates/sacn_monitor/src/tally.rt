@@ -3,10 +3,7 @@
 ghost use Rattle.std.specs.Prelude.{◌≡◌};
 ghost use Rattle.sacn_monitor.specs.Tallies.{nothing_tallied, refused_more};
 
-use sacn_root::PacketFault;
-
-/// How many numbers of faults there are, with 0, which is no fault's.
-const FAULT_NUMBERS: usize = 19;
+use sacn_root::{FAULT_NUMBERS, PacketFault};
 
 /// How many datagrams there were. Each count stops at 2^64 - 1.
 #[derive(Clone, Copy)]
@@ -20,7 +17,7 @@ pub struct Tally {
     /// Data packets of pairs for which there was no room.
     pub untracked: u64,
     /// Those that are no packets, at the number of their fault (`PacketFault::number`).
-    pub refused: [u64; 19],
+    pub refused: [u64; FAULT_NUMBERS],
 }
 
 impl Tally {
