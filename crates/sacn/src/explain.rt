@@ -5,7 +5,7 @@ use sacn_commands::ending::{DEVICE_FAILED, Ending, REFUSED, of_write};
 use sacn_commands::live::setup_of_word;
 use sacn_commands::naming::of_file;
 use sacn_explain::{ExplainFault, Form, Options, explain};
-use sacn_live::SACN_PORT;
+use sacn_files::limits::DEFAULT_UDP_PORT;
 use sacn_node::NodeSetup;
 use sacn_words::{ExplainAsked, STANDARD_INPUT};
 use std::alloc::Global;
@@ -136,6 +136,6 @@ fn port_of(asked: Option<u16>, setup: Option<&NodeSetup>) -> u16 {
     match (asked, setup) {
         (Some(port), _) => port,
         (None, Some(setup)) => setup.udp_port(),
-        (None, None) => SACN_PORT,
+        (None, None) => DEFAULT_UDP_PORT,
     }
 }

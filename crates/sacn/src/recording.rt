@@ -4,7 +4,8 @@ use crate::page::say_page;
 use crate::watch::watch_end;
 use sacn_commands::ending::{Ending, REFUSED};
 use sacn_commands::live::{clock_of, of_socket};
-use sacn_live::{SACN_PORT, guard_standard_descriptors};
+use sacn_files::limits::DEFAULT_UDP_PORT;
+use sacn_live::guard_standard_descriptors;
 use sacn_page::{Pages, Quiet, Recording, SeekFault, Tape};
 use sacn_watch::{Listener, run_watch};
 use sacn_words::ExplainAsked;
@@ -71,7 +72,7 @@ fn serve_file<R: AllocGlobal + Files + Net + Clock, E: Write>(
         alloc: rt.alloc(),
         file,
     };
-    let port = asked.port.unwrap_or(SACN_PORT);
+    let port = asked.port.unwrap_or(DEFAULT_UDP_PORT);
     let universe = asked.universes.first().copied();
     let name = name_of(asked.capture);
     match Recording::open(rt.alloc(), tape, name, port, universe) {

@@ -54,6 +54,8 @@ pub(crate) enum Wanted<'a> {
     Text(&'a str),
     /// This is a number of a span.
     Within(&'a str, Span),
+    /// This has so many things at most.
+    AtMost(&'a str, usize, &'a str),
     /// The keys of a table in a file of this version.
     Keys(TableKind, u8),
 }

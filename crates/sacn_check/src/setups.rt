@@ -27,7 +27,7 @@ pub(crate) fn setup_faults(
     if MAX_PORTS < rows.len() {
         let place = Place::Key(Path::top(owner), "port");
         let found = Found::Count(rows.len(), "members");
-        let wanted = Wanted::Text("a node has at most 16 ports");
+        let wanted = Wanted::AtMost("a node", MAX_PORTS, "ports");
         findings.take(
             alloc,
             &setup_fault(owner, SetupFault::Limit, place, found, wanted),
@@ -106,7 +106,7 @@ fn too_many_universes(
             if is_one_too_many(&mut universes, range)? {
                 let place = Place::Key(path.below("range", inner), "universe");
                 let found = found_in(range, "universe");
-                let wanted = Wanted::Text("a node has at most 16 different universes");
+                let wanted = Wanted::AtMost("a node", MAX_UNIVERSES, "different universes");
                 return findings.take(
                     alloc,
                     &setup_fault(owner, SetupFault::Limit, place, found, wanted),

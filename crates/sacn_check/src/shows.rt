@@ -157,7 +157,7 @@ fn full_list(
     count: usize,
 ) -> Result<(), AllocError> {
     let place = Place::Key(Path::top(path.owner), "cue");
-    let wanted = Wanted::Text("a show has at most 1000 cues");
+    let wanted = Wanted::AtMost("a show", MAX_CUES, "cues");
     let found = Found::Count(count, "members");
     findings.take(alloc, &cue_fault(path, Detail::Full, place, found, wanted))
 }

@@ -71,6 +71,7 @@ pub(crate) fn push_wanted(text: &mut String, wanted: Wanted<'_>) -> Result<(), A
             let high = span.high;
             write!(text, "{what} is {low} to {high}")
         }
+        Wanted::AtMost(owner, most, things) => write!(text, "{owner} has at most {most} {things}"),
         Wanted::Keys(kind, version) => push_keys(text, rules_of(kind, version)),
     }
 }

@@ -1,7 +1,8 @@
 -- How long what is received can have waited.
 use Rattle.std.specs.Prelude.{ℕ, suc, ◌-◌, Bool, nat_lt, if◌then◌else◌}
 use Rattle.sacn_live.specs.declared.backlog.Backlog.{Backlog}
-use Rattle.sacn_live.specs.declared.limits.TheConstants.{LATE_AFTER, MOST_WAITING}
+use Rattle.sacn_sources.specs.declared.limits.TheConstants.{NETWORK_DATA_LOSS}
+use Rattle.sacn_live.specs.declared.limits.TheConstants.{MOST_WAITING}
 
 -- nothing waits at a reading, so what is received later came after it
 abbrev pub nothing_waits : ℕ → Backlog
@@ -15,4 +16,4 @@ with_datagram now b =
 
 -- what is received now may have waited for longer than the network data loss time
 abbrev pub is_late : Backlog → ℕ → Bool
-is_late b now = nat_lt LATE_AFTER (now - b.emptied)
+is_late b now = nat_lt NETWORK_DATA_LOSS (now - b.emptied)

@@ -4,7 +4,7 @@ use Rattle.std.specs.declared.net.socket_addr.SocketAddrV4.{SocketAddrV4}
 use Rattle.std.specs.Net.Socket.{v4_ip, v4_port}
 use Rattle.std.specs.Net.Addr.{ipv4_octets}
 use Rattle.sacn_framing.specs.PacketReading.{reading_packet}
-use Rattle.sacn_live.specs.declared.address.TheConstants.{SACN_PORT}
+use Rattle.sacn_files.specs.declared.limits.TheConstants.{DEFAULT_UDP_PORT}
 use Rattle.sacn_live.specs.declared.destinations.Destinations.{Destinations}
 use Rattle.sacn_live.specs.declared.destinations.Destinations.TheVariants.{Hosts, Groups}
 use Rattle.sacn_live.specs.Groups.{destination_by}
@@ -33,7 +33,7 @@ AllCarry octets ss = All (λ (s : Sending). s.octets ≡ octets) ss
 
 -- the address of a group, at the port of the standard
 abbrev pub IsGroupAddress : List ℕ → SocketAddrV4 → Type 0
-IsGroupAddress group a = (ipv4_octets (v4_ip a) ≡ group) × (v4_port a ≡ SACN_PORT)
+IsGroupAddress group a = (ipv4_octets (v4_ip a) ≡ group) × (v4_port a ≡ DEFAULT_UDP_PORT)
 
 -- sent to the group once, and nowhere where there is none
 abbrev pub IsSentToGroup : Option (List ℕ) → List SocketAddrV4 → Type 0

@@ -6,9 +6,6 @@ ghost use Rattle.sacn_live.specs.Addresses.{HostReadsAs, DestinationReadsAs};
 use std::net::{Ipv4Addr, SocketAddrV4};
 use thiserror::Error;
 
-/// The UDP port of streaming ACN (E1.31, 9.1, ACN_SDT_MULTICAST_PORT).
-pub const SACN_PORT: u16 = 5568;
-
 /// Why a word names no destination.
 #[derive(Clone, Copy, Debug, PartialEq, Eq, Error)]
 pub enum AddressFault {

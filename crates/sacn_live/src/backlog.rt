@@ -2,7 +2,8 @@
 ghost use Rattle.std.specs.Prelude.{◌≡◌};
 ghost use Rattle.sacn_live.specs.Backlogs.{nothing_waits, with_datagram, is_late};
 
-use crate::limits::{LATE_AFTER, MOST_WAITING};
+use crate::limits::MOST_WAITING;
+use sacn_sources::NETWORK_DATA_LOSS;
 
 /// What is known of the datagrams that wait in a device. No more than `MOST_WAITING` wait at once: so after as many receives as that, all that
 /// waited at a reading has been received, also where the device never ran empty.
@@ -50,6 +51,6 @@ impl Backlog {
     pub fn is_late(&self, now: u64) -> bool
         ensures { result ≡ is_late self.now now }
     {
-        now.saturating_sub(self.emptied) > LATE_AFTER
+        now.saturating_sub(self.emptied) > NETWORK_DATA_LOSS
     }
 }

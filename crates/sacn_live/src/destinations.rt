@@ -3,12 +3,12 @@ ghost use Rattle.std.specs.Prelude.{◌≡◌};
 ghost use Rattle.sacn_live.specs.Groups.{group_told};
 ghost use Rattle.sacn_live.specs.Sendings.{IsGroupAddress};
 
-use crate::address::SACN_PORT;
+use sacn_files::limits::DEFAULT_UDP_PORT;
 use sacn_framing::multicast_group;
 use std::net::{Ipv4Addr, SocketAddrV4};
 
-/// The most destinations of a desk.
-pub const MAX_DESTINATIONS: usize = 64;
+/// The most hosts that a desk sends to.
+pub const MAX_HOSTS: usize = 64;
 
 /// The universe whose group hears discovery pages and, before it, what a group's number stands for (E1.31, 9.3.2).
 pub const DISCOVERY_UNIVERSE: u16 = 64_214;
@@ -36,5 +36,5 @@ pub(crate) fn group_of(universe: Option<u16>) -> [u8; 4]
 pub(crate) fn group_address(group: [u8; 4]) -> SocketAddrV4
     ensures { IsGroupAddress group result }
 {
-    SocketAddrV4::new(Ipv4Addr::from_octets(group), SACN_PORT)
+    SocketAddrV4::new(Ipv4Addr::from_octets(group), DEFAULT_UDP_PORT)
 }

@@ -47,14 +47,14 @@ mod udp_sockets;
 mod watch;
 mod widget;
 
-pub use address::{AddressFault, SACN_PORT, destination_of, host_of};
+pub use address::{AddressFault, destination_of, host_of};
 pub use clock::RigClock;
 pub use desk::run_desk;
 pub use desk_datagram::DeskDatagram;
 pub use desk_link::DeskLink;
 pub use desk_orders::{DeskOrders, Plan};
 pub use desk_sender::{DeskSender, Origin};
-pub use destinations::{DISCOVERY_UNIVERSE, Destinations, MAX_DESTINATIONS};
+pub use destinations::{DISCOVERY_UNIVERSE, Destinations, MAX_HOSTS};
 pub use device::{Device, DeviceFault, Offer, Took, WIDGET_OCTETS};
 pub use drops::Drops;
 pub use gateway::{Span, run_gateway};

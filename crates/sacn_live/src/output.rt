@@ -42,7 +42,7 @@ pub enum Lines {
     Objects,
     /// Frames of ports. Where there is no room, the newest of each port is kept for when there is.
     Frames,
-    /// Drawings of a screen, each without LF up to a flush, and lines for people behind them. What finds no room is lost, and that isn't told over a screen.
+    /// Drawings of a screen, each without LF up to a flush, and lines for people behind them. A drawing that finds no room is lost, and isn't counted.
     Drawings,
 }
 
@@ -94,14 +94,12 @@ fn frame_line(line: &[u8]) -> Option<FrameLine> {
     Some(FrameLine { port, octets })
 }
 
-/// The line that tells how many lines were lost; empty where that isn't told.
+/// The line that tells how many lines were lost.
 fn loss_line(lines: Lines, count: u64) -> ArrayString<64> {
     let mut text = ArrayString::new();
     let _ = match lines {
         Lines::Objects => writeln!(text, "{{\"event\":\"not_written\",\"lines\":{count}}}"),
-        Lines::Plain => writeln!(text, "{count} lines not written"),
-        Lines::Frames => writeln!(text, "{count} lines not written"),
-        Lines::Drawings => Ok(()),
+        _ => writeln!(text, "{count} lines not written"),
     };
     text
 }
@@ -190,6 +188,15 @@ impl<S: Sink + Drop> Output<S> {
         } else if self.lines == Lines::Frames {
             self.add_frame();
         } else {
+            self.room.add_line(self.line.as_slice());
+        }
+        self.line.clear();
+        self.is_long = false;
+    }
+
+    /// Gives a drawing room, where there is: one that is lost isn't told, since the next one is whole again.
+    fn end_drawing(&mut self) {
+        if !self.is_long && self.room.has_room(self.line.len()) {
             self.room.add_line(self.line.as_slice());
         }
         self.line.clear();
@@ -307,7 +314,7 @@ impl<S: Sink + Drop> Write for Output<S> {
 
     fn flush(&mut self) -> Result<()> {
         if self.lines == Lines::Drawings && !self.line.is_empty() {
-            self.end_line();
+            self.end_drawing();
         }
         match self.pump() {
             Ok(()) => Ok(()),

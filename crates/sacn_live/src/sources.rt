@@ -1,10 +1,9 @@
 //! The sources that a gateway knows of.
 use crate::counts::Allowance;
-use crate::limits::LATE_AFTER;
 use crate::receiver::Octets4;
 use arrayvec::ArrayVec;
 use sacn_node::MAX_UNIVERSES;
-use sacn_sources::MAX_SOURCES;
+use sacn_sources::{MAX_SOURCES, NETWORK_DATA_LOSS};
 use std::io::Write;
 
 /// The most sources of which the watch knows: those of all universes that a node may show.
@@ -126,11 +125,11 @@ impl Sources {
             }
         }
         self.watched.retain(|watched| !is_lost(watched, now));
-        self.next_check = oldest.saturating_add(LATE_AFTER);
+        self.next_check = oldest.saturating_add(NETWORK_DATA_LOSS);
     }
 }
 
 /// Whether the network data loss time has passed since a source's latest packet.
 fn is_lost(watched: &Watched, now: u64) -> bool {
-    now.saturating_sub(watched.moment) >= LATE_AFTER
+    now.saturating_sub(watched.moment) >= NETWORK_DATA_LOSS
 }

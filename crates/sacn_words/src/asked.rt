@@ -4,7 +4,8 @@ use crate::spelled::{destination, host, kind, page, port, sender};
 use crate::tree::matches;
 use clap::{ArgMatches, Error};
 use sacn_check::FileKind;
-use sacn_live::{MAX_DESTINATIONS, Octets4, SACN_PORT};
+use sacn_files::limits::DEFAULT_UDP_PORT;
+use sacn_live::{MAX_HOSTS, Octets4};
 use sacn_manual::{Form, shell_of};
 use std::alloc::Global;
 use std::net::{Ipv4Addr, SocketAddrV4};
@@ -164,7 +165,7 @@ fn is_group(host: &SocketAddrV4) -> bool {
 // The hosts that a desk sends to.
 fn destinations<'a>(words: &mut Words<'_, 'a>) -> Vec<SocketAddrV4> {
     let hosts = words.values("to", destination);
-    if hosts.len() > MAX_DESTINATIONS {
+    if hosts.len() > MAX_HOSTS {
         words.refuse(Fault::TooManyDestinations);
     }
     hosts
@@ -226,7 +227,7 @@ fn watch<'a>(words: &mut Words<'_, 'a>) -> Asked<'a> {
     words.leave("join");
     let listen = words.value("listen", host).unwrap_or(Ipv4Addr::UNSPECIFIED);
     let seconds = words.seconds();
-    let port = words.value("port", port).unwrap_or(SACN_PORT);
+    let port = words.value("port", port).unwrap_or(DEFAULT_UDP_PORT);
     words.beside("page", "plain");
     words.beside("page", "json");
     Asked::Watch(WatchAsked {

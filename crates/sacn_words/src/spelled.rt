@@ -1,7 +1,8 @@
 //! What words spell: each is read, or refused with what is wrong with it.
 use sacn_check::FileKind;
+use sacn_files::limits::DEFAULT_UDP_PORT;
 use sacn_files::words::{byte_in, short_in};
-use sacn_live::{AddressFault, Octets4, SACN_PORT, destination_of, host_of};
+use sacn_live::{AddressFault, Octets4, destination_of, host_of};
 use sacn_universe::{MAX_UNIVERSE, MIN_UNIVERSE};
 use std::net::{Ipv4Addr, SocketAddrV4};
 
@@ -56,7 +57,7 @@ pub fn sender(word: &str) -> Result<Octets4, Cause> {
 
 /// A host that is sent to, with its port.
 pub fn destination(word: &str) -> Result<SocketAddrV4, Cause> {
-    of_address(destination_of(word, SACN_PORT))
+    of_address(destination_of(word, DEFAULT_UDP_PORT))
 }
 
 /// Where a page is served: a port alone is one of this machine.

@@ -71,15 +71,23 @@ function keepAlarm(alarm) {
   if (known.alarms.length > MAX_ALARMS) known.alarms.splice(Math.max(0, known.alarms.findIndex((it) => it.kind !== 'lost')), 1);
 }
 
+// An alarm that was known before stays the object that its line stands for, so that its line stays. (Two of one moment may have the same words.)
+function sameAgain(before, alarm) {
+  const at = before.findIndex((it) => it.ms === alarm.ms && it.kind === alarm.kind && it.text === alarm.text);
+  return at < 0 ? alarm : before.splice(at, 1)[0];
+}
+
 function open(universe) {
   if (isRecording) return look(universe);
   if (events) events.close();
   past = [];
   events = new EventSource('/events' + (universe === null ? '' : `?universe=${universe}`));
   events.addEventListener('state', (event) => {
+    const before = known.alarms;
     known.sources.clear();
     known.alarms = [];
     takeDocument(JSON.parse(event.data));
+    known.alarms = known.alarms.map((alarm) => sameAgain(before, alarm));
     showAll();
   });
   events.addEventListener('change', (event) => {
@@ -283,14 +291,13 @@ function showSources() {
 }
 
 const clock = new Intl.DateTimeFormat(undefined, { hour: '2-digit', minute: '2-digit', second: '2-digit' });
-let shownAlarms = [];
+let shownAlarms = new Set();
 const leftOutText = (count) => `${count.toLocaleString()} more aren't kept: a loss gives way only to newer losses.`;
 function showAlarms() {
   if (isRecording) return;
   part('no-alarms').hidden = known.alarms.length > 0;
-  const same = (a, b) => a.ms === b.ms && a.kind === b.kind && a.text === b.text;
-  const list = part('alarms');
-  const fresh = known.alarms.filter((alarm) => !shownAlarms.some((shown) => same(shown, alarm)));
+  const list = part('alarms'), kept = new Set(known.alarms);
+  const fresh = known.alarms.filter((alarm) => !shownAlarms.has(alarm));
   if (fresh.length === known.alarms.length) list.replaceChildren();
   for (const alarm of fresh) {
     const item = document.createElement('li'), at = add(item, 'time', clock.format(new Date(Date.now() - (now() - alarm.ms))));
@@ -299,10 +306,10 @@ function showAlarms() {
     item.alarm = alarm;
     list.prepend(item);
   }
-  for (const item of [...list.children]) if (!known.alarms.some((alarm) => same(alarm, item.alarm))) item.remove();
+  for (const item of [...list.children]) if (!kept.has(item.alarm)) item.remove();
   part('most-alarms').hidden = known.leftOut === 0;
   put(part('most-alarms'), leftOutText(known.leftOut));
-  shownAlarms = known.alarms.slice();
+  shownAlarms = kept;
 }
 
 // Levels that may have changed since aren't shown as if they stood: the whole page goes grey, and a banner says why.
