@@ -96,6 +96,20 @@ def sinking_crates():
             yield f"docs/ARCHITECTURE.md doesn't say what {name} is"
 
 
+def idle_crates():
+    """Crates that a line of crates.txt names and that no file of its crate does."""
+    for line in text_of("crates.txt").split("\n"):
+        head, _, below = line.partition("#")[0].partition(":")
+        if not below.strip():
+            continue
+        name = head.split()[0]
+        files = [it for kind in ("rt", "antt", "edit") for it in glob.glob(f"crates/{name}/**/*.{kind}", recursive=True) if "/out/" not in it]
+        words = set(re.findall(r"\w+", "\n".join(map(text_of, files))))
+        for it in below.split():
+            if it not in words:
+                yield f"{name} names {it}, which stands in no file of it"
+
+
 def lost_steps():
     """Functions and types that docs/ARCHITECTURE.md names on a way, and that aren't in the file to which they lead; and ways of more than nine steps."""
     ways = [it.partition("\n") for it in re.split(r"^## ", prose_of("docs/ARCHITECTURE.md"), flags=re.M)]
@@ -142,6 +156,7 @@ LOOKS = {
     "links between documents lead somewhere": broken_links,
     "files that documents name are there": lacking_files,
     "each crate names only crates above it, and is told": sinking_crates,
+    "what crates.txt names is used": idle_crates,
     "each step of the three ways is there": lost_steps,
     "one rule stands once": repeated_rules,
     "the README is short": long_readme,
