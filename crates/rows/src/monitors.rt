@@ -1,7 +1,7 @@
 //! What a monitor accounts for.
 use crate::datagram::datagram_in;
 use crate::step::{Step, StepFault};
-use sacn_monitor::{Monitor, News, Noted, Sender};
+use sacn_monitor::{Endpoint, Monitor, News, Noted};
 use std::alloc::Global;
 
 /// A monitor, which hears one sender.
@@ -10,7 +10,7 @@ pub struct Monitors {
     monitor: Monitor,
 }
 
-const SENDER: Sender = Sender {
+const SENDER: Endpoint = Endpoint {
     address: [10, 0, 0, 1],
     port: 5000,
 };

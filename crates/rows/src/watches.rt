@@ -7,7 +7,7 @@ use sacn_edge::WriterOut;
 use sacn_explain::{Form, Options};
 use sacn_framing::read_packet;
 use sacn_live::memory::{Incoming, MemoryReceiver};
-use sacn_monitor::Sender;
+use sacn_monitor::Endpoint;
 use sacn_text::decode_text;
 use sacn_watch::{Size, View, screen, watch_lines};
 use std::alloc::Global;
@@ -115,7 +115,7 @@ impl Watches {
 }
 
 /// The sender of what a view takes.
-const SENDER: Sender = Sender {
+const SENDER: Endpoint = Endpoint {
     address: [10, 0, 0, 1],
     port: 5000,
 };

@@ -10,7 +10,7 @@ use sacn_live::{
     DeviceFault, Lines, Notes, Octets4, Outputs, PassedOver, UdpReceiver, Watch,
     guard_standard_descriptors, output_is_terminal,
 };
-use sacn_monitor::Sender;
+use sacn_monitor::Endpoint;
 use sacn_node::{NodeSetup, NodeTaken};
 use sacn_page::{Board, MAX_ALARMS, Pages};
 use sacn_watch::{Screen, Sizes, WatchFault, Watcher};
@@ -191,7 +191,12 @@ impl<'s, 'o, O: Write, Z: Sizes> PatientScreen<'s, 'o, O, Z> {
 }
 
 impl<'s, 'o, O: Write, Z: Sizes> Watcher for PatientScreen<'s, 'o, O, Z> {
-    fn take(&mut self, now: u64, sender: Sender, reading: &Reading<'_>) -> Result<(), WatchFault> {
+    fn take(
+        &mut self,
+        now: u64,
+        sender: Endpoint,
+        reading: &Reading<'_>,
+    ) -> Result<(), WatchFault> {
         self.screen.take(now, sender, reading)
     }
 
@@ -259,7 +264,7 @@ impl<'a, E: Write, W: Watcher> Notes for Shown<'a, E, W> {
         taken: NodeTaken,
     ) {
         self.watch.note_taken(now, sender, reading, taken);
-        let sender = Sender {
+        let sender = Endpoint {
             address: sender.ip().octets(),
             port: sender.port(),
         };

@@ -1,7 +1,7 @@
 -- What C is told of a datagram that a monitor hears, and of a source on a universe.
 use Rattle.std.specs.Prelude.{ℕ, replicate, Option, Some, None}
 use Rattle.sacn_root.specs.FaultNumbers.{fault_number}
-use Rattle.sacn_monitor.specs.declared.account.Sender.{Sender}
+use Rattle.sacn_monitor.specs.declared.account.Endpoint.{Endpoint}
 use Rattle.sacn_monitor.specs.declared.news.Change.{Change}
 use Rattle.sacn_monitor.specs.declared.news.Event.{Event}
 use Rattle.sacn_monitor.specs.declared.news.Event.TheVariants.{GoesOn, Appeared, CameBack, Ended, OutOfSequence, Repeated}
@@ -19,7 +19,7 @@ use Rattle.sacn_border.specs.declared.news.SenderFields.{SenderFields}
 use Rattle.sacn_border.specs.declared.news.StreamFields.{StreamFields}
 use Rattle.sacn_border.specs.declared.status.TheConstants.{DONE}
 
-abbrev pub sender_of : SenderFields → Sender
+abbrev pub sender_of : SenderFields → Endpoint
 sender_of fields = record { address = fields.address; port = fields.port }
 
 -- the status: the fault of a datagram that is no packet

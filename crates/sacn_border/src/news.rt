@@ -3,7 +3,7 @@ ghost use Rattle.std.specs.Prelude.{◌≡◌};
 ghost use Rattle.sacn_border.specs.Hearing.{sender_of, news_told, nothing_told, heard_told, noted_number, noted_status, state_number, event_number, stream_told};
 
 use crate::status::DONE;
-use sacn_monitor::{Event, News, Noted, Sender, State, Stream};
+use sacn_monitor::{Endpoint, Event, News, Noted, State, Stream};
 
 /// Where a datagram came from. `sacn.h` says what each field means.
 #[repr(C)]
@@ -56,12 +56,12 @@ pub struct StreamFields {
 }
 
 /// The sender that C names.
-pub(crate) fn sender_of(fields: &SenderFields) -> Sender
+pub(crate) fn sender_of(fields: &SenderFields) -> Endpoint
     ensures { result ≡ sender_of fields.now }
 {
     let address = fields.address;
     let port = fields.port;
-    Sender { address, port }
+    Endpoint { address, port }
 }
 
 /// Tells C of a datagram. The status is the fault of one that is no packet.

@@ -8,7 +8,7 @@ use Rattle.sacn_framing.specs.Data.{Data}
 use Rattle.sacn_framing.specs.declared.packet.Packet.{Packet}
 use Rattle.sacn_framing.specs.declared.packet.Packet.TheVariants.{DataPacket, PagePacket, SyncPacket}
 use Rattle.sacn_framing.specs.PacketReading.{reading_packet}
-use Rattle.sacn_monitor.specs.declared.account.Sender.{Sender}
+use Rattle.sacn_monitor.specs.declared.account.Endpoint.{Endpoint}
 use Rattle.sacn_monitor.specs.declared.stream.Stream.{Stream}
 use Rattle.sacn_monitor.specs.declared.tally.Tally.{Tally}
 use Rattle.sacn_monitor.specs.Kinds.{more}
@@ -103,14 +103,14 @@ tick_right m b c h =
     let turned = tick_left m c b (sym h.0, alike_sym b.streams c.streams h.1) in
     (sym turned.0, alike_sym (after_tick m c).streams b.streams turned.1)
 
-abbrev opened : Sender → Data → Book → Bool → Book
+abbrev opened : Endpoint → Data → Book → Bool → Book
 opened sender d b room = cond room (record b { streams = b.streams ++ first_stream b.moment sender d ∷ [] }) (record b { tally = record b.tally { untracked = more 1 b.tally.untracked } })
 
-opened_counts : (sender : Sender) (d : Data) (b c : Book) (room : Bool) → SameCounts b c → SameCounts (opened sender d b room) (opened sender d c room)
+opened_counts : (sender : Endpoint) (d : Data) (b c : Book) (room : Bool) → SameCounts b c → SameCounts (opened sender d b room) (opened sender d c room)
 opened_counts sender d b c true h = (h.0, alike_push b.streams c.streams (first_stream b.moment sender d) (first_stream c.moment sender d) h.1 refl refl)
 opened_counts sender d b c false h = (ap (λ (t : Tally). record t { untracked = more 1 t.untracked }) h.0, h.1)
 
-data_counts : (sender : Sender) (d : Data) (b c : Book) (o : Option ℕ) → SameCounts b c → SameCounts (after_data sender d b o) (after_data sender d c o)
+data_counts : (sender : Endpoint) (d : Data) (b c : Book) (o : Option ℕ) → SameCounts b c → SameCounts (after_data sender d b o) (after_data sender d c o)
 unfolding after_data
 data_counts sender d b c None h =
     subst (λ (n : ℕ). SameCounts (opened sender d b (ltb (length b.streams) 1024)) (opened sender d c (ltb n 1024))) (alike_len b.streams c.streams h.1)
@@ -120,7 +120,7 @@ data_counts sender d b c (Some i) h = (
   alike_both (stream_after b.moment sender d) (stream_after c.moment sender d) (λ s. (refl, refl)) (λ s. (refl, refl)) i b.streams c.streams h.1,
 )
 
-read_counts : (sender : Sender) (b c : Book) (r : Result Packet PacketFault) → SameCounts b c → SameCounts (after_read sender b r) (after_read sender c r)
+read_counts : (sender : Endpoint) (b c : Book) (r : Result Packet PacketFault) → SameCounts b c → SameCounts (after_read sender b r) (after_read sender c r)
 read_counts sender b c (Ok (DataPacket d)) h =
     subst (λ (o : Option ℕ). SameCounts (after_data sender d b (position (is_of d.universe d.cid) b.streams)) (after_data sender d c o)) (alike_position d.universe d.cid b.streams c.streams h.1)
     (data_counts sender d b c (position (is_of d.universe d.cid) b.streams) h)
@@ -128,7 +128,7 @@ read_counts sender b c (Ok (PagePacket p)) h = (ap (λ (t : Tally). record t { p
 read_counts sender b c (Ok SyncPacket) h = (ap (λ (t : Tally). record t { syncs = more 1 t.syncs }) h.0, h.1)
 read_counts sender b c (Err fault) h = (ap (refused_more fault) h.0, h.1)
 
-take_counts : (t now : ℕ) (sender : Sender) (octets : List ℕ) (b c : Book) → SameCounts b c → SameCounts (after_take t sender octets b) (after_take now sender octets c)
+take_counts : (t now : ℕ) (sender : Endpoint) (octets : List ℕ) (b c : Book) → SameCounts b c → SameCounts (after_take t sender octets b) (after_take now sender octets c)
 take_counts t now sender octets b c h =
     read_counts sender (with_datagram t b) (with_datagram now c) (reading_packet octets) (ap (λ (x : Tally). record x { datagrams = more 1 x.datagrams }) h.0, h.1)
 

@@ -1,6 +1,6 @@
 -- A follower's book is the monitor's after the datagrams that it was handed, with moments in between.
 use Rattle.std.proofs.Common.{◌≡◌, ℕ, ◌≤◌, inl, inr, max, List, [], ◌∷◌, ◌++◌, length, refl, sym, ap, subst, ◌∙◌, arith}
-use Rattle.sacn_monitor.specs.declared.account.Sender.{Sender}
+use Rattle.sacn_monitor.specs.declared.account.Endpoint.{Endpoint}
 use Rattle.sacn_monitor.specs.declared.limits.TheConstants.{MAX_STREAMS}
 use Rattle.sacn_monitor.specs.Books.{Book, after_take, after_tick}
 use Rattle.sacn_monitor.specs.Histories.{Call, Take, Tick, moment_in_use, after_calls, arrivals, arrival_at, account_by, account_in, AccountsAreOfTheirPackets}
@@ -31,7 +31,7 @@ abbrev MadeBy : List Call → Book → Type 0
 MadeBy handed b = (calls : List Call) × (b ≡ after_calls calls) × (moment_in_use calls ≤ moment_in_use handed)
     × ((universe : ℕ) (cid : List ℕ) → arrivals universe cid calls ≡ arrivals universe cid handed)
 
-arrives : (universe : ℕ) (cid : List ℕ) (t now u : ℕ) (sender : Sender) (octets : List ℕ) → u ≡ t →
+arrives : (universe : ℕ) (cid : List ℕ) (t now u : ℕ) (sender : Endpoint) (octets : List ℕ) → u ≡ t →
     arrival_at universe cid u (Take t sender octets) ≡ arrival_at universe cid t (Take now sender octets)
 arrives universe cid t now u sender octets same = ap (λ v. arrival_at universe cid v (Take t sender octets)) same
 

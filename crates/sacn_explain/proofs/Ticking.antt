@@ -3,7 +3,7 @@ use Rattle.std.proofs.Common.{◌≡◌, ◌≤◌, ℕ, List, [], ◌∷◌, Re
 use Rattle.sacn_root.specs.declared.fault.PacketFault.{PacketFault}
 use Rattle.sacn_framing.specs.declared.packet.Packet.{Packet}
 use Rattle.sacn_framing.specs.PacketReading.{reading_packet}
-use Rattle.sacn_monitor.specs.declared.account.Sender.{Sender}
+use Rattle.sacn_monitor.specs.declared.account.Endpoint.{Endpoint}
 use Rattle.sacn_monitor.specs.Books.{Book, after_tick}
 use Rattle.sacn_network.specs.declared.ledger.Ledger.{Ledger}
 use Rattle.sacn_network.specs.Networks.{handed, note_of, taken, ticked}
@@ -19,12 +19,12 @@ pub is_ticked : (now : ℕ) (old new : Ledger) → new ≡ ticked now old → Is
 is_ticked now old new is = subst (λ (n : Ledger). IsTicked now old.monitor n.monitor) (sym is) (ticked_on now now old.monitor old (omega arith) ([], tt, refl))
 
 -- and then a datagram was taken
-pub taken_on : (t : ℕ) (sender : Sender) (octets : List ℕ) (b : Book) (n : Ledger) → IsTicked t b n.monitor → IsTaken t sender octets b (taken t sender (reading_packet octets) n).monitor
+pub taken_on : (t : ℕ) (sender : Endpoint) (octets : List ℕ) (b : Book) (n : Ledger) → IsTicked t b n.monitor → IsTaken t sender octets b (taken t sender (reading_packet octets) n).monitor
 taken_on t sender octets b n told =
     let m : Ledger = ticked t n in
     (m.monitor, ticked_on t t b n (omega arith) told, noted_keeps (note_of t sender (reading_packet octets) m) (handed t sender (reading_packet octets) m))
 
-pub is_taken : (now : ℕ) (sender : Sender) (octets : List ℕ) (reading : Result Packet PacketFault) (old new : Ledger) → reading ≡ reading_packet octets → new ≡ taken now sender reading old → IsTaken now sender octets old.monitor new.monitor
+pub is_taken : (now : ℕ) (sender : Endpoint) (octets : List ℕ) (reading : Result Packet PacketFault) (old new : Ledger) → reading ≡ reading_packet octets → new ≡ taken now sender reading old → IsTaken now sender octets old.monitor new.monitor
 is_taken now sender octets reading old new read is =
     subst (λ (n : Ledger). IsTaken now sender octets old.monitor n.monitor) (sym (is ∙ ap (λ (r : Result Packet PacketFault). taken now sender r old) read))
     (taken_on now sender octets old.monitor old ([], tt, refl))

@@ -3,7 +3,7 @@ use Rattle.std.proofs.Common.{◌≡◌, ◌≤◌, arith, ℕ, List, [], ◌∷
 use Rattle.sacn_root.specs.declared.fault.PacketFault.{PacketFault}
 use Rattle.sacn_framing.specs.declared.packet.Packet.{Packet}
 use Rattle.sacn_framing.specs.PacketReading.{reading_packet}
-use Rattle.sacn_monitor.specs.declared.account.Sender.{Sender}
+use Rattle.sacn_monitor.specs.declared.account.Endpoint.{Endpoint}
 use Rattle.sacn_monitor.specs.declared.news.Noted.{Noted}
 use Rattle.sacn_network.specs.declared.ledger.Ledger.{Ledger}
 use Rattle.sacn_network.specs.Networks.{LeavesNone, note_of, take_told, taken, tick_told, ticked}
@@ -34,7 +34,7 @@ silence_ticked contents t old new silence =
     subst (λ (n : Ledger). IsTicked t old.network.monitor n.monitor) (sym silence.network)
     (ticked_on t t old.network.monitor (after_darks silence.darks (scene_of old)).network (omega arith) (darks_ticked t silence.darks (scene_of old) silence.are))
 
-pub turn_taken : {O : Type 0} (contents : O → Option (List ℕ)) (t : ℕ) (sender : Sender) (octets : List ℕ) (reading : Result Packet PacketFault) (old new : Follower O) → reading ≡ reading_packet octets
+pub turn_taken : {O : Type 0} (contents : O → Option (List ℕ)) (t : ℕ) (sender : Endpoint) (octets : List ℕ) (reading : Result Packet PacketFault) (old new : Follower O) → reading ≡ reading_packet octets
     → TellsTurn contents t sender reading old new → IsTaken t sender octets old.network.monitor new.network.monitor
 turn_taken contents t sender octets reading old new read turn =
     subst (λ (n : Ledger). IsTaken t sender octets old.network.monitor n.monitor)
@@ -144,7 +144,7 @@ module _ {O : Type 0} (contents : O → Option (List ℕ)) where
       }
 
   -- a datagram, once what the node lost was told: what the network tells of it, the list of a page, and the frames
-  pub turn_is_told : (t : ℕ) (sender : Sender) (reading : Result Packet PacketFault) (old mid paged new : Follower O) (heard : LineWriter O) (network : Ledger) (noted : Noted)
+  pub turn_is_told : (t : ℕ) (sender : Endpoint) (reading : Result Packet PacketFault) (old mid paged new : Follower O) (heard : LineWriter O) (network : Ledger) (noted : Noted)
       → mid.writer.options ≡ old.writer.options → mid.listings ≡ old.listings → TellsDark contents t old mid → IsLit t (staged mid.stage) → LeavesNone t (ticked t mid.network)
       → heard.options ≡ mid.writer.options → Tells contents mid.writer.teller heard.teller (told_lines mid.writer.teller.form mid.writer.options.universes.now (take_told t sender reading mid.network))
       → noted ≡ note_of t sender reading (ticked t mid.network) → network ≡ taken t sender reading mid.network

@@ -2,7 +2,7 @@
 use Rattle.std.specs.Prelude.{◌≡◌, ℕ, List, ◌++◌, Option, Result}
 use Rattle.sacn_root.specs.declared.fault.PacketFault.{PacketFault}
 use Rattle.sacn_framing.specs.declared.packet.Packet.{Packet}
-use Rattle.sacn_monitor.specs.declared.account.Sender.{Sender}
+use Rattle.sacn_monitor.specs.declared.account.Endpoint.{Endpoint}
 use Rattle.sacn_network.specs.Networks.{LeavesNone, note_of, take_told, taken, ticked}
 use Rattle.sacn_explain.specs.declared.follower.Follower.{Follower}
 use Rattle.sacn_explain.specs.declared.options.Form.{Form}
@@ -14,14 +14,14 @@ use Rattle.sacn_explain.specs.Silences.{AreDark, IsLit, Scene, after_darks, dark
 use Rattle.sacn_explain.specs.Tellings.{Tells}
 
 -- one at t, by what it was read as: what the network tells, then the list of a page, and then the frames of the node that it changes
-abbrev pub datagram_told : ℕ → Sender → Result Packet PacketFault → ListBook → Scene → Form → List ℕ → List ℕ
+abbrev pub datagram_told : ℕ → Endpoint → Result Packet PacketFault → ListBook → Scene → Form → List ℕ → List ℕ
 datagram_told t sender reading lists s form wanted =
     told_lines form wanted (take_told t sender reading s.network)
     ++ (page_told form t reading lists
     ++ turn_shown form t reading (cause_among (taken t sender reading s.network).monitor.streams (note_of t sender reading (ticked t s.network))) s.stage)
 
 -- a call told what the node lost up to t, and then what a datagram tells, once what ended by then was told
-pub record TellsTurn {O : Type 0} (contents : O → Option (List ℕ)) (t : ℕ) (sender : Sender) (reading : Result Packet PacketFault) (old new : Follower O) : Type 0 where
+pub record TellsTurn {O : Type 0} (contents : O → Option (List ℕ)) (t : ℕ) (sender : Endpoint) (reading : Result Packet PacketFault) (old new : Follower O) : Type 0 where
   pub darks : List ℕ
   pub are : AreDark t darks (scene_of old)
   pub lit : IsLit t (after_darks darks (scene_of old)).stage

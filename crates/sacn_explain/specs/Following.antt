@@ -1,6 +1,6 @@
 -- What a follower keeps of a network, and what the datagrams that it was handed say of it.
 use Rattle.std.specs.Prelude.{◌≡◌, ℕ, ◌≤◌, ◌⊎◌, ⊤, max, List, [], ◌∷◌, length, None}
-use Rattle.sacn_monitor.specs.declared.account.Sender.{Sender}
+use Rattle.sacn_monitor.specs.declared.account.Endpoint.{Endpoint}
 use Rattle.sacn_monitor.specs.declared.limits.TheConstants.{MAX_STREAMS}
 use Rattle.sacn_monitor.specs.Books.{Book, new_book, after_take, after_tick}
 use Rattle.sacn_explain.specs.declared.follower.Follower.{Follower}
@@ -22,7 +22,7 @@ abbrev pub IsTicked : ℕ → Book → Book → Type 0
 IsTicked t old new = (moments : List ℕ) × AreBy t moments × (new ≡ after_ticks moments old)
 
 -- what it is after a datagram at t, once the losses up to then were told
-abbrev pub IsTaken : ℕ → Sender → List ℕ → Book → Book → Type 0
+abbrev pub IsTaken : ℕ → Endpoint → List ℕ → Book → Book → Type 0
 IsTaken t sender octets old new = (before : Book) × IsTicked t old before × (new ≡ after_take t sender octets before)
 
 -- a book that a follower may have after the datagrams and moments that it was handed, the latest first

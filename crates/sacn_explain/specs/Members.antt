@@ -1,7 +1,7 @@
 -- The members of an object of JSON that tells something.
 use Rattle.std.specs.Prelude.{ℕ, ◌==◌, List, ◌++◌, codes, decimal}
 use Rattle.std.specs.List.{before_first}
-use Rattle.sacn_monitor.specs.declared.account.Sender.{Sender}
+use Rattle.sacn_monitor.specs.declared.account.Endpoint.{Endpoint}
 use Rattle.sacn_monitor.specs.declared.stream.Stream.{Stream}
 use Rattle.sacn_explain.specs.Spelling.{octets_text, address_text, name_text}
 
@@ -40,5 +40,5 @@ unfoldable pub key_text : List ℕ → List ℕ
 key_text key = codes ",\"" ++ (key ++ codes "\":")
 
 -- where it sends from
-unfoldable pub sender_members : Sender → List ℕ
+unfoldable pub sender_members : Endpoint → List ℕ
 sender_members s = key_text (codes "address") ++ (quoted_address s.address ++ number_member (codes "port") s.port)

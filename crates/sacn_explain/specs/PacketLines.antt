@@ -2,7 +2,7 @@
 use Rattle.std.specs.Prelude.{ℕ, List, ◌++◌, codes}
 use Rattle.sacn_root.specs.declared.fault.PacketFault.{PacketFault}
 use Rattle.sacn_root.specs.FaultNumbers.{fault_number}
-use Rattle.sacn_monitor.specs.declared.account.Sender.{Sender}
+use Rattle.sacn_monitor.specs.declared.account.Endpoint.{Endpoint}
 use Rattle.sacn_monitor.specs.declared.news.Change.{Change}
 use Rattle.sacn_monitor.specs.declared.news.Event.{Event}
 use Rattle.sacn_monitor.specs.declared.stream.Stream.{Stream}
@@ -53,13 +53,13 @@ loss_line Text now s = stream_front now s ++ loss_words s
 loss_line Json now s = object_front now (codes "lost") ++ (stream_members s ++ (number_member (codes "since") s.account.latest ++ codes "}"))
 
 -- a datagram is no packet
-abbrev pub refused_line : Form → ℕ → Sender → PacketFault → List ℕ
+abbrev pub refused_line : Form → ℕ → Endpoint → PacketFault → List ℕ
 refused_line Text now sender fault = line_front now ++ refused_words sender fault
 refused_line Json now sender fault =
     object_front now (codes "refused") ++ (sender_members sender
     ++ (number_member (codes "fault") (fault_number fault) ++ (word_member (codes "name") (fault_name fault) ++ codes "}")))
 
 -- there is no room for the source of a packet
-abbrev pub untracked_line : Form → ℕ → Sender → List ℕ
+abbrev pub untracked_line : Form → ℕ → Endpoint → List ℕ
 untracked_line Text now sender = line_front now ++ untracked_words sender
 untracked_line Json now sender = object_front now (codes "untracked") ++ (sender_members sender ++ codes "}")

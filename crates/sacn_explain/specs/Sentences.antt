@@ -1,7 +1,7 @@
 -- What is said for people of each thing that happens.
 use Rattle.std.specs.Prelude.{ℕ, ◌/◌, ◌%◌, ◌==◌, List, [], ◌++◌, codes, decimal, if◌then◌else◌}
 use Rattle.sacn_root.specs.declared.fault.PacketFault.{PacketFault}
-use Rattle.sacn_monitor.specs.declared.account.Sender.{Sender}
+use Rattle.sacn_monitor.specs.declared.account.Endpoint.{Endpoint}
 use Rattle.sacn_monitor.specs.declared.news.Change.{Change}
 use Rattle.sacn_monitor.specs.declared.news.Event.{Event}
 use Rattle.sacn_monitor.specs.declared.news.Event.TheVariants.{GoesOn, Appeared, CameBack, Ended, OutOfSequence, Repeated}
@@ -48,7 +48,7 @@ event_key OutOfSequence = codes "out_of_sequence"
 event_key Repeated = codes "repeated"
 
 -- where a source sends from now
-unfoldable pub moved_words : Sender → List ℕ
+unfoldable pub moved_words : Endpoint → List ℕ
 moved_words s = codes "now sends from " ++ sender_text s
 
 -- the moment of the last packet of a source that is lost (E1.31, 6.7.1)
@@ -80,9 +80,9 @@ unfoldable pub refusal_words : PacketFault → List ℕ
 refusal_words fault = codes "  refused: " ++ fault_words fault
 
 -- the same, and where it came from
-unfoldable pub refused_words : Sender → PacketFault → List ℕ
+unfoldable pub refused_words : Endpoint → PacketFault → List ℕ
 refused_words s fault = codes "from " ++ (sender_text s ++ refusal_words fault)
 
 -- where a packet came from for which there is no room
-unfoldable pub untracked_words : Sender → List ℕ
+unfoldable pub untracked_words : Endpoint → List ℕ
 untracked_words s = codes "from " ++ (sender_text s ++ codes "  no room for a further source, not followed")

@@ -4,7 +4,7 @@ use Rattle.std.specs.Fmt.{digits}
 use Rattle.std.specs.Int.{w16, to_be_bytes}
 use Rattle.std.specs.List.{flat_map}
 use Rattle.std.specs.Str.{is_utf8}
-use Rattle.sacn_monitor.specs.declared.account.Sender.{Sender}
+use Rattle.sacn_monitor.specs.declared.account.Endpoint.{Endpoint}
 
 -- behind as many spaces, or zeros, as it lacks of a width; and before as many spaces
 abbrev pub right : ℕ → List ℕ → List ℕ
@@ -29,7 +29,7 @@ unfoldable pub address_text : List ℕ → List ℕ
 address_text a = decimal (get_or a 0 0) ++ (codes "." ++ (decimal (get_or a 1 0) ++ (codes "." ++ (decimal (get_or a 2 0) ++ (codes "." ++ decimal (get_or a 3 0))))))
 
 -- an address, a colon and a port
-unfoldable pub sender_text : Sender → List ℕ
+unfoldable pub sender_text : Endpoint → List ℕ
 sender_text s = address_text s.address ++ (codes ":" ++ decimal s.port)
 
 -- milliseconds as seconds: six places, a point and three places

@@ -7,7 +7,7 @@ use Rattle.sacn_capture.specs.Counting.{count_frame, none_counted, passed_by}
 use Rattle.sacn_capture.specs.Files.{IsOutside}
 use Rattle.sacn_capture.specs.Frames.{Sent}
 use Rattle.sacn_capture.specs.Recordings.{Shown, Told}
-use Rattle.sacn_monitor.specs.declared.account.Sender.{Sender}
+use Rattle.sacn_monitor.specs.declared.account.Endpoint.{Endpoint}
 use Rattle.sacn_monitor.specs.Books.{Book}
 use Rattle.sacn_monitor.specs.Histories.{Call, Take, Tick, after_calls}
 use Rattle.sacn_monitor.specs.Kinds.{more}
@@ -29,7 +29,7 @@ at_moment moment clock = record {
   went_back = if nat_lt (since_first moment clock) clock.now then more 1 clock.went_back else clock.went_back;
 }
 
-abbrev pub sender_of : Sent → Sender
+abbrev pub sender_of : Sent → Endpoint
 sender_of d = record { address = d.sender; port = d.sender_port }
 
 -- a frame's call: a datagram to the port is taken, and any other frame moves the clock

@@ -17,7 +17,7 @@ use crate::follower::Follower;
 use crate::options::Options;
 use crate::report::Report;
 use sacn_capture::{Capture, CaptureFault, Datagram, Record};
-use sacn_monitor::Sender;
+use sacn_monitor::Endpoint;
 use sacn_node::NodeSetup;
 use std::alloc::Global;
 use std::io::{BufRead, Write};
@@ -199,7 +199,7 @@ fn hear<O: Write>(
         (reading_packet (sent_of datagram.now).payload) (listed_in follower.old.listings)) }
     ensures fault { IfErr result IsOfTelling }
 {
-    let sender = Sender {
+    let sender = Endpoint {
         address: datagram.sender,
         port: datagram.sender_port,
     };

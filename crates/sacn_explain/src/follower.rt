@@ -24,7 +24,7 @@ use crate::options::Options;
 use crate::report::Report;
 use crate::stage::Stage;
 use sacn_framing::{Packet, Reading, read_packet};
-use sacn_monitor::{Noted, Sender, Stream, Tally};
+use sacn_monitor::{Endpoint, Noted, Stream, Tally};
 use sacn_network::{Network, Unobserved};
 use sacn_node::NodeSetup;
 use std::alloc::Global;
@@ -78,7 +78,7 @@ impl<'a, O: Write> Follower<'a, O> {
     /// accounts are then those that the monitor has after this datagram, once.
     ///
     /// Errors: OutOfMemory; Device where a line can't be written.
-    pub fn take(&mut self, now: u64, sender: Sender, octets: &[u8]) -> Result<(), ExplainFault>
+    pub fn take(&mut self, now: u64, sender: Endpoint, octets: &[u8]) -> Result<(), ExplainFault>
         ensures moment { self.new.network.monitor.moment ≡ max self.old.network.monitor.moment now }
         ensures told { OnOk result (TellsTurn O.contents (max self.old.network.monitor.moment now)
             sender (reading_packet octets.now) self.old self.new) }
@@ -97,7 +97,7 @@ impl<'a, O: Write> Follower<'a, O> {
     pub fn take_reading(
         &mut self,
         now: u64,
-        sender: Sender,
+        sender: Endpoint,
         reading: &Reading<'_>,
     ) -> Result<(), ExplainFault>
         ensures moment { self.new.network.monitor.moment ≡ max self.old.network.monitor.moment now }

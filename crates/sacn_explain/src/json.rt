@@ -8,7 +8,7 @@ mod foreign;
 use crate::spelling::{push_address, push_cid, push_decimal, push_name};
 pub use foreign::push_foreign;
 use sacn_framing::up_to_nul;
-use sacn_monitor::{Sender, Stream};
+use sacn_monitor::{Endpoint, Stream};
 use std::alloc::AllocError;
 
 /// The front of an event's object: the moment and the event's key.
@@ -80,7 +80,7 @@ pub fn push_source(text: &mut String, cid: &[u8; 16], name: &[u8]) -> Result<(),
 
 /// A sender: its address and port.
 #[tactic(auto, unfolding(crate::specs::Members::sender_members))]
-pub fn push_sender_members(text: &mut String, sender: &Sender) -> Result<(), AllocError>
+pub fn push_sender_members(text: &mut String, sender: &Endpoint) -> Result<(), AllocError>
     ensures { OnOk result
         (string_bytes text.new ≡ string_bytes text.old ++ sender_members sender.now) }
 {

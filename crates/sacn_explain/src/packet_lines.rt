@@ -7,7 +7,7 @@ ghost use Rattle.sacn_explain.specs.PacketLines.{event_line, moved_line, renamed
 use crate::options::Form;
 use crate::refusals::fault_name;
 use crate::{json, words};
-use sacn_monitor::{Change, Event, News, Sender, Stream};
+use sacn_monitor::{Change, Endpoint, Event, News, Stream};
 use sacn_root::PacketFault;
 use std::alloc::AllocError;
 
@@ -216,7 +216,7 @@ pub fn refused_line(
     text: &mut String,
     form: Form,
     now: u64,
-    sender: &Sender,
+    sender: &Endpoint,
     fault: PacketFault,
 ) -> Result<(), AllocError>
     ensures { OnOk result
@@ -242,7 +242,7 @@ pub fn untracked_line(
     text: &mut String,
     form: Form,
     now: u64,
-    sender: &Sender,
+    sender: &Endpoint,
 ) -> Result<(), AllocError>
     ensures { OnOk result
         (string_bytes text.new ≡ string_bytes text.old ++ untracked_line form now sender.now) }

@@ -7,7 +7,7 @@ ghost use Rattle.sacn_explain.specs.Spelling.{flush_left, octets_text, address_t
 use crate::places::{ROOM, SECONDS, put_address, put_port, put_seconds};
 use itoa::Buffer;
 use sacn_edge::write_digits;
-use sacn_monitor::Sender;
+use sacn_monitor::Endpoint;
 use sacn_universe::SLOTS;
 use std::alloc::AllocError;
 use std::fmt::Write;
@@ -102,7 +102,7 @@ pub fn push_decimal(text: &mut String, number: u64) -> Result<(), AllocError>
 
 /// An address, a colon and a port.
 #[tactic(auto, unfolding(crate::specs::Spelling::sender_text))]
-pub fn push_sender(text: &mut String, sender: &Sender) -> Result<(), AllocError>
+pub fn push_sender(text: &mut String, sender: &Endpoint) -> Result<(), AllocError>
     ensures { OnOk result
         (string_bytes text.new ≡ string_bytes text.old ++ sender_text sender.now) }
 {

@@ -14,7 +14,7 @@ use crate::packet_lines::{
     anew_line, event_line, loss_line, moved_line, omission_line, priority_line, refused_line,
     renamed_line, skipped_line, untracked_line,
 };
-use sacn_monitor::{Change, Event, News, Sender, Stream};
+use sacn_monitor::{Change, Endpoint, Event, News, Stream};
 use sacn_node::PortFrame;
 use sacn_root::PacketFault;
 use std::alloc::Global;
@@ -171,7 +171,7 @@ impl<'o, O: Write> Teller<'o, O> {
     pub fn tell_refusal(
         &mut self,
         now: u64,
-        sender: &Sender,
+        sender: &Endpoint,
         fault: PacketFault,
     ) -> Result<(), TellFault>
         ensures { OnOk result (Tells O.contents self.old self.new
@@ -182,7 +182,7 @@ impl<'o, O: Write> Teller<'o, O> {
     }
 
     /// A data packet of a stream for which there is no room.
-    pub fn tell_untracked(&mut self, now: u64, sender: &Sender) -> Result<(), TellFault>
+    pub fn tell_untracked(&mut self, now: u64, sender: &Endpoint) -> Result<(), TellFault>
         ensures { OnOk result (Tells O.contents self.old self.new
             (with_line_end (untracked_line self.old.form now sender.now))) }
     {

@@ -7,7 +7,7 @@ use crate::places::written_universe;
 use crate::refusals::fault_words;
 use crate::spelling::{push_ascii, push_cid, push_moment, push_name, push_sender};
 use sacn_framing::up_to_nul;
-use sacn_monitor::{Change, Event, News, Sender, Stream};
+use sacn_monitor::{Change, Endpoint, Event, News, Stream};
 use sacn_root::PacketFault;
 use std::alloc::AllocError;
 use std::fmt::Write;
@@ -81,7 +81,7 @@ fn push_presence(text: &mut String, word: &str, stream: &Stream) -> Result<(), A
 
 /// Where a source sends from now.
 #[tactic(auto, unfolding(crate::specs::Sentences::moved_words))]
-pub fn push_moved(text: &mut String, sender: &Sender) -> Result<(), AllocError>
+pub fn push_moved(text: &mut String, sender: &Endpoint) -> Result<(), AllocError>
     ensures { OnOk result
         (string_bytes text.new ≡ string_bytes text.old ++ moved_words sender.now) }
 {
@@ -136,7 +136,7 @@ pub fn push_skipped(text: &mut String, news: &News) -> Result<(), AllocError>
 #[tactic(auto, unfolding(crate::specs::Sentences::refused_words))]
 pub fn push_refused(
     text: &mut String,
-    sender: &Sender,
+    sender: &Endpoint,
     fault: PacketFault,
 ) -> Result<(), AllocError>
     ensures { OnOk result
@@ -157,7 +157,7 @@ fn push_refusal(text: &mut String, fault: PacketFault) -> Result<(), AllocError>
 
 /// A packet of a source for which there is no room, and from where it came.
 #[tactic(auto, unfolding(crate::specs::Sentences::untracked_words))]
-pub fn push_untracked(text: &mut String, sender: &Sender) -> Result<(), AllocError>
+pub fn push_untracked(text: &mut String, sender: &Endpoint) -> Result<(), AllocError>
     ensures { OnOk result
         (string_bytes text.new ≡ string_bytes text.old ++ untracked_words sender.now) }
 {

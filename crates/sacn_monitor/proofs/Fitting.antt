@@ -4,7 +4,7 @@ use Rattle.std.specs.List.{All, before_first, position_or_len}
 use Rattle.sacn_framing.specs.Data.{Data}
 use Rattle.sacn_framing.specs.Naming.{padded}
 use Rattle.sacn_monitor.specs.declared.account.Account.{Account}
-use Rattle.sacn_monitor.specs.declared.account.Sender.{Sender}
+use Rattle.sacn_monitor.specs.declared.account.Endpoint.{Endpoint}
 use Rattle.sacn_monitor.specs.declared.stream.Stream.{Stream}
 use Rattle.sacn_monitor.specs.Kinds.{more}
 use Rattle.sacn_monitor.specs.Accounts.{fitted, name_of, IsFitted, first_account, after_taken, after_discarded, after_packet, is_discarded}
@@ -46,11 +46,11 @@ fitted_again d = record { again = fitted_by (nat_le (length (before_first is_nul
 
 -- ---- what an account keeps
 
-pub first_fitted : (t : ℕ) (sender : Sender) (d : Data) → IsFitted (first_account t sender d).name
+pub first_fitted : (t : ℕ) (sender : Endpoint) (d : Data) → IsFitted (first_account t sender d).name
 unfolding first_account
 first_fitted t sender d = fitted_again d
 
-taken_fitted : (t : ℕ) (sender : Sender) (d : Data) (a : Account) → IsFitted (after_taken t sender d a).name
+taken_fitted : (t : ℕ) (sender : Endpoint) (d : Data) (a : Account) → IsFitted (after_taken t sender d a).name
 unfolding after_taken
 taken_fitted t sender d a = fitted_again d
 
@@ -58,11 +58,11 @@ discarded_fitted : (repeated : Bool) (a : Account) → IsFitted a.name → IsFit
 discarded_fitted true a known = known
 discarded_fitted false a known = known
 
-heard_by : (discarded : Bool) (t : ℕ) (sender : Sender) (d : Data) (a : Account) → IsFitted a.name → IsFitted (cond discarded (after_discarded d.number a) (after_taken t sender d a)).name
+heard_by : (discarded : Bool) (t : ℕ) (sender : Endpoint) (d : Data) (a : Account) → IsFitted a.name → IsFitted (cond discarded (after_discarded d.number a) (after_taken t sender d a)).name
 heard_by true t sender d a known = discarded_fitted (d.number == a.sequence_number) a known
 heard_by false t sender d a known = taken_fitted t sender d a
 
-pub heard_fitted : (t : ℕ) (sender : Sender) (d : Data) (a : Account) → IsFitted a.name → IsFitted (after_packet t sender d a).name
+pub heard_fitted : (t : ℕ) (sender : Endpoint) (d : Data) (a : Account) → IsFitted a.name → IsFitted (after_packet t sender d a).name
 heard_fitted t sender d a known = heard_by (is_discarded t d.number a) t sender d a known
 
 -- ---- what a register keeps

@@ -16,7 +16,7 @@ use Rattle.sacn_framing.specs.declared.packet.Packet.{Packet}
 use Rattle.sacn_framing.specs.declared.packet.Packet.TheVariants.{DataPacket, PagePacket, SyncPacket}
 use Rattle.sacn_framing.specs.PacketReading.{reading_packet}
 use Rattle.sacn_monitor.specs.declared.account.Account.{Account}
-use Rattle.sacn_monitor.specs.declared.account.Sender.{Sender}
+use Rattle.sacn_monitor.specs.declared.account.Endpoint.{Endpoint}
 use Rattle.sacn_monitor.specs.declared.stream.Stream.{Stream}
 use Rattle.sacn_monitor.specs.Kinds.{more}
 use Rattle.sacn_monitor.specs.Streams.{is_of, first_stream, stream_after}
@@ -141,7 +141,7 @@ module _ (universe : ℕ) (cid : List ℕ) where
       ap (λ u. (u == universe) && bytes_eq s.cid cid) (eqb-true s.universe d.universe parts.0)
       ∙ ap (λ c. (d.universe == universe) && bytes_eq c cid) ((bytes_eq-Decides s.cid d.cid).0 parts.1)
 
-  module _ (t : ℕ) (sender : Sender) (d : Data) where
+  module _ (t : ℕ) (sender : Endpoint) (d : Data) where
     abbrev f : Stream → Stream
     f s = stream_after t sender d s
 
@@ -206,19 +206,19 @@ module _ (universe : ℕ) (cid : List ℕ) where
           inr (ap (option_map (λ (y : Stream). y.account)) none, ltb-false (length ss) 1024 room)
       new_tracks place false room false e = tracks
 
-  opened_streams : (sender : Sender) (d : Data) (b : Book) → (after_data sender d b None).streams ≡ cond (ltb (length b.streams) 1024) (b.streams ++ first_stream b.moment sender d ∷ []) b.streams
+  opened_streams : (sender : Endpoint) (d : Data) (b : Book) → (after_data sender d b None).streams ≡ cond (ltb (length b.streams) 1024) (b.streams ++ first_stream b.moment sender d ∷ []) b.streams
   unfolding after_data
   opened_streams sender d b = elim (ltb (length b.streams) 1024) as (λ r. (cond r (record b { streams = b.streams ++ first_stream b.moment sender d ∷ [] }) (record b { tally = record b.tally { untracked = more 1 b.tally.untracked } })).streams ≡ cond r (b.streams ++ first_stream b.moment sender d ∷ []) b.streams) [ true ↦ refl | false ↦ refl ]
 
-  heard_streams : (sender : Sender) (d : Data) (b : Book) (i : ℕ) → (after_data sender d b (Some i)).streams ≡ change_at (stream_after b.moment sender d) i b.streams
+  heard_streams : (sender : Endpoint) (d : Data) (b : Book) (i : ℕ) → (after_data sender d b (Some i)).streams ≡ change_at (stream_after b.moment sender d) i b.streams
   unfolding after_data
   heard_streams sender d b i = refl
 
-  data_tracks : (sender : Sender) (d : Data) (b : Book) (xs : List Arrival) (o : Option ℕ) → position (is_of d.universe d.cid) b.streams ≡ o → Tracks b.streams xs → Tracks (after_data sender d b o).streams (arrival_of universe cid b.moment sender (Ok (DataPacket d)) ++ xs)
+  data_tracks : (sender : Endpoint) (d : Data) (b : Book) (xs : List Arrival) (o : Option ℕ) → position (is_of d.universe d.cid) b.streams ≡ o → Tracks b.streams xs → Tracks (after_data sender d b o).streams (arrival_of universe cid b.moment sender (Ok (DataPacket d)) ++ xs)
   data_tracks sender d b xs None place tracks = subst (λ (ss : List Stream). Tracks ss (arrival_of universe cid b.moment sender (Ok (DataPacket d)) ++ xs)) (sym (opened_streams sender d b)) (new_tracks b.moment sender d b.streams xs tracks place (ltb (length b.streams) 1024) refl (is_ours d) refl)
   data_tracks sender d b xs (Some i) place tracks = subst (λ (ss : List Stream). Tracks ss (arrival_of universe cid b.moment sender (Ok (DataPacket d)) ++ xs)) (sym (heard_streams sender d b i)) (known_tracks b.moment sender d b.streams xs tracks i place (is_ours d) refl)
 
-  read_tracks : (sender : Sender) (b : Book) (xs : List Arrival) (r : Result Packet PacketFault) → Tracks b.streams xs → Tracks (after_read sender b r).streams (arrival_of universe cid b.moment sender r ++ xs)
+  read_tracks : (sender : Endpoint) (b : Book) (xs : List Arrival) (r : Result Packet PacketFault) → Tracks b.streams xs → Tracks (after_read sender b r).streams (arrival_of universe cid b.moment sender r ++ xs)
   read_tracks sender b xs (Ok (DataPacket d)) tracks = data_tracks sender d b xs (position (is_of d.universe d.cid) b.streams) refl tracks
   read_tracks sender b xs (Ok (PagePacket p)) tracks = tracks
   read_tracks sender b xs (Ok SyncPacket) tracks = tracks
@@ -226,12 +226,12 @@ module _ (universe : ℕ) (cid : List ℕ) where
 
 -- ---- the clock
 
-data_moment : (sender : Sender) (d : Data) (b : Book) (o : Option ℕ) → (after_data sender d b o).moment ≡ b.moment
+data_moment : (sender : Endpoint) (d : Data) (b : Book) (o : Option ℕ) → (after_data sender d b o).moment ≡ b.moment
 unfolding after_data
 data_moment sender d b None = elim (ltb (length b.streams) 1024) as (λ r. (cond r (record b { streams = b.streams ++ first_stream b.moment sender d ∷ [] }) (record b { tally = record b.tally { untracked = more 1 b.tally.untracked } })).moment ≡ b.moment) [ true ↦ refl | false ↦ refl ]
 data_moment sender d b (Some i) = refl
 
-read_moment : (sender : Sender) (b : Book) (r : Result Packet PacketFault) → (after_read sender b r).moment ≡ b.moment
+read_moment : (sender : Endpoint) (b : Book) (r : Result Packet PacketFault) → (after_read sender b r).moment ≡ b.moment
 read_moment sender b (Ok (DataPacket d)) = data_moment sender d b (position (is_of d.universe d.cid) b.streams)
 read_moment sender b (Ok (PagePacket p)) = refl
 read_moment sender b (Ok SyncPacket) = refl

@@ -8,7 +8,7 @@ use Rattle.sacn_sequence.specs.Sequence.{step, is_late}
 use Rattle.sacn_sources.specs.Packets.{kind_of}
 use Rattle.sacn_sources.specs.declared.limits.TheConstants.{NETWORK_DATA_LOSS}
 use Rattle.sacn_monitor.specs.declared.account.Account.{Account}
-use Rattle.sacn_monitor.specs.declared.account.Sender.{Sender}
+use Rattle.sacn_monitor.specs.declared.account.Endpoint.{Endpoint}
 use Rattle.sacn_monitor.specs.declared.news.Event.{Event}
 use Rattle.sacn_monitor.specs.declared.news.Event.TheVariants.{GoesOn, CameBack, Ended, OutOfSequence, Repeated}
 use Rattle.sacn_monitor.specs.declared.news.Change.{Change}
@@ -31,7 +31,7 @@ name_of d = fitted (before_first (λ octet. octet == 0) d.name)
 pub record IsFitted (field : List ℕ) : Type 0 where
   pub again : fitted (before_first (λ octet. octet == 0) field) ≡ field
 
-abbrev pub same_sender : Sender → Sender → Bool
+abbrev pub same_sender : Endpoint → Endpoint → Bool
 same_sender a b = bytes_eq a.address b.address && (a.port == b.port)
 
 -- at t the latest taken packet still counts
@@ -83,7 +83,7 @@ renumbered t terminated arrived a = record a { numbering = numbering_at (begins_
 abbrev pub after_discarded : ℕ → Account → Account
 after_discarded arrived a = if arrived == a.sequence_number then record a { repeats = more 1 a.repeats } else record a { late = more 1 a.late }
 
-unfoldable pub after_taken : ℕ → Sender → Data → Account → Account
+unfoldable pub after_taken : ℕ → Endpoint → Data → Account → Account
 after_taken t sender d a = record {
   sender = sender;
   name = name_of d;
@@ -101,10 +101,10 @@ after_taken t sender d a = record {
   rate = rate_after t a.rate;
 }
 
-abbrev pub after_packet : ℕ → Sender → Data → Account → Account
+abbrev pub after_packet : ℕ → Endpoint → Data → Account → Account
 after_packet t sender d a = if is_discarded t d.number a then after_discarded d.number a else after_taken t sender d a
 
-unfoldable pub first_account : ℕ → Sender → Data → Account
+unfoldable pub first_account : ℕ → Endpoint → Data → Account
 first_account t sender d = record {
   sender = sender;
   name = name_of d;
@@ -137,7 +137,7 @@ taken_event t false a = if a.ended || not (is_fresh t a) then CameBack else Goes
 abbrev pub changed : ℕ → ℕ → Option Change
 changed from to = if from == to then None else Some (record { from = from; to = to })
 
-unfoldable pub taken_news : ℕ → Sender → Data → Account → News
+unfoldable pub taken_news : ℕ → Endpoint → Data → Account → News
 taken_news t sender d a = record {
   event = taken_event t d.terminated a;
   skipped = lost_at t d.terminated d.number a;
@@ -148,5 +148,5 @@ taken_news t sender d a = record {
   moved = not (same_sender a.sender sender);
 }
 
-abbrev pub news_of : ℕ → Sender → Data → Account → News
+abbrev pub news_of : ℕ → Endpoint → Data → Account → News
 news_of t sender d a = if is_discarded t d.number a then quiet (discarded_event d.number a) else taken_news t sender d a

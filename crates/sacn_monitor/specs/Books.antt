@@ -7,7 +7,7 @@ use Rattle.sacn_framing.specs.declared.packet.Packet.{Packet}
 use Rattle.sacn_framing.specs.declared.packet.Packet.TheVariants.{DataPacket, PagePacket, SyncPacket}
 use Rattle.sacn_framing.specs.PacketReading.{reading_packet}
 use Rattle.sacn_monitor.specs.declared.account.Account.{Account}
-use Rattle.sacn_monitor.specs.declared.account.Sender.{Sender}
+use Rattle.sacn_monitor.specs.declared.account.Endpoint.{Endpoint}
 use Rattle.sacn_monitor.specs.declared.stream.Stream.{Stream}
 use Rattle.sacn_monitor.specs.declared.tally.Tally.{Tally}
 use Rattle.sacn_monitor.specs.declared.news.Event.TheVariants.{Appeared}
@@ -42,30 +42,30 @@ change_at f i ss = changed f i ss (slice_get ss i)
 
 -- ---- a data packet
 
-abbrev pub news_at : ℕ → Sender → Data → ℕ → Option Stream → Noted
+abbrev pub news_at : ℕ → Endpoint → Data → ℕ → Option Stream → Noted
 news_at t sender d i None = Untracked
 news_at t sender d i (Some s) = Heard i (news_of t sender d s.account)
 
-unfoldable pub noted_data : Sender → Data → Book → Option ℕ → Noted
+unfoldable pub noted_data : Endpoint → Data → Book → Option ℕ → Noted
 noted_data sender d b None = if nat_lt (length b.streams) MAX_STREAMS then Heard (length b.streams) (quiet Appeared) else Untracked
 noted_data sender d b (Some i) = news_at b.moment sender d i (slice_get b.streams i)
 
 abbrev pub untracked : Book → Book
 untracked b = record b { tally = record b.tally { untracked = more 1 b.tally.untracked } }
 
-unfoldable pub after_data : Sender → Data → Book → Option ℕ → Book
+unfoldable pub after_data : Endpoint → Data → Book → Option ℕ → Book
 after_data sender d b None = if nat_lt (length b.streams) MAX_STREAMS then record b { streams = b.streams ++ first_stream b.moment sender d ∷ [] } else untracked b
 after_data sender d b (Some i) = record b { streams = change_at (stream_after b.moment sender d) i b.streams }
 
 -- ---- a datagram, by its one reading
 
-abbrev pub noted_packet : Sender → Book → Result Packet PacketFault → Noted
+abbrev pub noted_packet : Endpoint → Book → Result Packet PacketFault → Noted
 noted_packet sender b (Ok (DataPacket d)) = noted_data sender d b (place_of d.universe d.cid b.streams)
 noted_packet sender b (Ok (PagePacket p)) = Page
 noted_packet sender b (Ok SyncPacket) = Sync
 noted_packet sender b (Err fault) = Refused fault
 
-abbrev pub after_read : Sender → Book → Result Packet PacketFault → Book
+abbrev pub after_read : Endpoint → Book → Result Packet PacketFault → Book
 after_read sender b (Ok (DataPacket d)) = after_data sender d b (place_of d.universe d.cid b.streams)
 after_read sender b (Ok (PagePacket p)) = record b { tally = record b.tally { pages = more 1 b.tally.pages } }
 after_read sender b (Ok SyncPacket) = record b { tally = record b.tally { syncs = more 1 b.tally.syncs } }
@@ -75,10 +75,10 @@ after_read sender b (Err fault) = record b { tally = refused_more fault b.tally 
 abbrev pub with_datagram : ℕ → Book → Book
 with_datagram now b = record b { moment = max b.moment now; tally = record b.tally { datagrams = more 1 b.tally.datagrams } }
 
-abbrev pub note_of : ℕ → Sender → List ℕ → Book → Noted
+abbrev pub note_of : ℕ → Endpoint → List ℕ → Book → Noted
 note_of now sender octets b = noted_packet sender (with_datagram now b) (reading_packet octets)
 
-abbrev pub after_take : ℕ → Sender → List ℕ → Book → Book
+abbrev pub after_take : ℕ → Endpoint → List ℕ → Book → Book
 after_take now sender octets b = after_read sender (with_datagram now b) (reading_packet octets)
 
 -- ---- silence

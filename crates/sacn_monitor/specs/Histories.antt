@@ -9,7 +9,7 @@ use Rattle.sacn_framing.specs.declared.packet.Packet.{Packet}
 use Rattle.sacn_framing.specs.declared.packet.Packet.TheVariants.{DataPacket, PagePacket, SyncPacket}
 use Rattle.sacn_framing.specs.PacketReading.{reading_packet}
 use Rattle.sacn_monitor.specs.declared.account.Account.{Account}
-use Rattle.sacn_monitor.specs.declared.account.Sender.{Sender}
+use Rattle.sacn_monitor.specs.declared.account.Endpoint.{Endpoint}
 use Rattle.sacn_monitor.specs.declared.stream.Stream.{Stream}
 use Rattle.sacn_monitor.specs.declared.limits.TheConstants.{MAX_STREAMS}
 use Rattle.sacn_monitor.specs.Accounts.{first_account, after_packet}
@@ -18,7 +18,7 @@ use Rattle.sacn_monitor.specs.Books.{Book, new_book, after_take, after_tick}
 
 -- a call, with the moment that it hands in
 pub data Call : Type 0 where
-  Take : ℕ → Sender → List ℕ → Call
+  Take : ℕ → Endpoint → List ℕ → Call
   Tick : ℕ → Call
 
 abbrev pub moment_of : Call → ℕ
@@ -45,10 +45,10 @@ moment_in_use (call ∷ earlier) = max (moment_in_use earlier) (moment_of call)
 -- a data packet that came
 pub record Arrival : Type 0 where
   pub moment : ℕ
-  pub sender : Sender
+  pub sender : Endpoint
   pub packet : Data
 
-abbrev pub arrival_of : ℕ → List ℕ → ℕ → Sender → Result Packet PacketFault → List Arrival
+abbrev pub arrival_of : ℕ → List ℕ → ℕ → Endpoint → Result Packet PacketFault → List Arrival
 arrival_of universe cid t sender (Ok (DataPacket d)) = if (d.universe == universe) && bytes_eq d.cid cid then (record { moment = t; sender = sender; packet = d } ∷ []) else []
 arrival_of universe cid t sender (Ok (PagePacket p)) = []
 arrival_of universe cid t sender (Ok SyncPacket) = []

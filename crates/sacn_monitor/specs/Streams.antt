@@ -3,7 +3,7 @@ use Rattle.std.specs.Prelude.{ℕ, ◌+◌, ◌-◌, ◌^◌, min, Bool, true, f
 use Rattle.std.specs.Str.{bytes_eq}
 use Rattle.sacn_framing.specs.Data.{Data}
 use Rattle.sacn_sources.specs.declared.limits.TheConstants.{NETWORK_DATA_LOSS}
-use Rattle.sacn_monitor.specs.declared.account.Sender.{Sender}
+use Rattle.sacn_monitor.specs.declared.account.Endpoint.{Endpoint}
 use Rattle.sacn_monitor.specs.declared.stream.Stream.{Stream}
 use Rattle.sacn_monitor.specs.declared.stream.State.{State}
 use Rattle.sacn_monitor.specs.declared.stream.State.TheVariants.{Sending, Ended, Lost}
@@ -17,10 +17,10 @@ is_of universe cid s = (s.universe == universe) && bytes_eq s.cid cid
 abbrev pub state_of : ℕ → Stream → State
 state_of t s = if s.account.ended then Ended else (if is_fresh t s.account then Sending else Lost)
 
-abbrev pub first_stream : ℕ → Sender → Data → Stream
+abbrev pub first_stream : ℕ → Endpoint → Data → Stream
 first_stream t sender d = record { universe = d.universe; cid = d.cid; account = first_account t sender d; told = false }
 
-abbrev pub stream_after : ℕ → Sender → Data → Stream → Stream
+abbrev pub stream_after : ℕ → Endpoint → Data → Stream → Stream
 stream_after t sender d s = record s { account = after_packet t sender d s.account; told = false }
 
 -- the moment at which a silent stream is lost, where that is still to be told; else the last moment of all

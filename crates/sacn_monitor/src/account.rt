@@ -16,7 +16,7 @@ use sacn_sources::NETWORK_DATA_LOSS;
 
 /// Where a datagram came from.
 #[derive(Clone, Copy, PartialEq, Eq)]
-pub struct Sender {
+pub struct Endpoint {
     /// The IPv4 address.
     pub address: [u8; 4],
     /// The UDP port.
@@ -30,7 +30,7 @@ pub struct Sender {
 #[derive(Clone, Copy, PartialEq, Eq)]
 pub struct Account {
     /// The sender of the latest taken packet.
-    pub sender: Sender,
+    pub sender: Endpoint,
     /// The source's name in the latest taken packet (E1.31, 6.2.2): its octets, and NUL to the end.
     pub name: [u8; 64],
     /// The priority of the latest taken packet, 0 to 200.
@@ -62,7 +62,7 @@ pub struct Account {
 impl Account {
     /// The account of a source whose first packet this is.
     #[tactic(auto, unfolding(crate::specs::Accounts::first_account))]
-    pub(crate) fn begin(moment: u64, sender: Sender, packet: &DataView<'_>) -> Self
+    pub(crate) fn begin(moment: u64, sender: Endpoint, packet: &DataView<'_>) -> Self
         ensures { result ≡ first_account moment sender packet.now }
     {
         let mut kinds = Kinds::none();
@@ -86,7 +86,7 @@ impl Account {
     }
 
     /// A packet more. Returns what it tells that is new: one decision and one look at its name serve both.
-    pub(crate) fn hear(&mut self, moment: u64, sender: Sender, packet: &DataView<'_>) -> News
+    pub(crate) fn hear(&mut self, moment: u64, sender: Endpoint, packet: &DataView<'_>) -> News
         requires { IsFitted self.old.name }
         ensures news { result ≡ news_of moment sender packet.now self.old }
         ensures account { self.new ≡ after_packet moment sender packet.now self.old }
@@ -230,7 +230,7 @@ impl Account {
 
     // A packet that is taken. Returns what it tells that is new.
     #[tactic(auto, unfolding(crate::specs::Accounts::taken_news, crate::specs::Accounts::after_taken))]
-    fn take(&mut self, moment: u64, sender: Sender, packet: &DataView<'_>) -> News
+    fn take(&mut self, moment: u64, sender: Endpoint, packet: &DataView<'_>) -> News
         requires { IsFitted self.old.name }
         ensures news { result ≡ taken_news moment sender packet.now self.old }
         ensures account { self.new ≡ after_taken moment sender packet.now self.old }
@@ -271,7 +271,7 @@ fn change(from: u8, to: u8) -> Option<Change>
 }
 
 // Whether two datagrams came from one place.
-fn same_sender(a: &Sender, b: &Sender) -> bool
+fn same_sender(a: &Endpoint, b: &Endpoint) -> bool
     ensures { result ≡ same_sender a.now b.now }
 {
     (a.address == b.address) & (a.port == b.port)

@@ -19,7 +19,7 @@ mod silence;
 mod stream;
 mod tally;
 
-pub use account::{Account, Sender};
+pub use account::{Account, Endpoint};
 pub use kinds::Kinds;
 pub use limits::MAX_STREAMS;
 pub use monitor::Monitor;

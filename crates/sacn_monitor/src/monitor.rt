@@ -6,7 +6,7 @@ ghost use Rattle.sacn_monitor.specs.Streams.{stream_after};
 ghost use Rattle.sacn_monitor.specs.Books.{next_loss};
 ghost use Rattle.sacn_monitor.specs.Rivals.{top_priority, rivals};
 
-use crate::account::Sender;
+use crate::account::Endpoint;
 use crate::limits::MAX_STREAMS;
 use crate::news::{Event, News, Noted};
 use crate::register::Register;
@@ -70,7 +70,7 @@ impl Monitor {
     }
 
     /// Takes a datagram that came at a moment, in milliseconds, and returns what it told that is new.
-    pub fn take(&mut self, now: u64, sender: Sender, octets: &[u8]) -> Noted
+    pub fn take(&mut self, now: u64, sender: Endpoint, octets: &[u8]) -> Noted
         ensures noted { result ≡ note_of now sender octets.now self.old }
         ensures book { self.new ≡ after_take now sender octets.now self.old }
     {
@@ -78,7 +78,7 @@ impl Monitor {
     }
 
     /// Takes what a datagram was read as. `take` is this call over octets.
-    pub fn take_reading(&mut self, now: u64, sender: Sender, reading: &Reading<'_>) -> Noted
+    pub fn take_reading(&mut self, now: u64, sender: Endpoint, reading: &Reading<'_>) -> Noted
         ensures noted { result
             ≡ noted_packet sender (with_datagram now self.old) reading.now }
         ensures book { self.new
@@ -169,7 +169,7 @@ impl Monitor {
 
     // A data packet.
     #[tactic(auto, unfolding(crate::specs::Books::noted_data, crate::specs::Books::after_data))]
-    fn hear(&mut self, sender: Sender, packet: &DataView<'_>) -> Noted
+    fn hear(&mut self, sender: Endpoint, packet: &DataView<'_>) -> Noted
         ensures noted { result ≡ noted_data sender packet.now self.old
             (place_of packet.now.universe packet.now.cid self.old.streams) }
         ensures book { self.new ≡ after_data sender packet.now self.old
@@ -182,7 +182,7 @@ impl Monitor {
     }
 
     // A packet of the stream at a place.
-    fn hear_at(&mut self, at: usize, sender: Sender, packet: &DataView<'_>) -> News
+    fn hear_at(&mut self, at: usize, sender: Endpoint, packet: &DataView<'_>) -> News
         requires { at < length self.old.streams }
         ensures news { (s : Stream) → result ≡ news_of self.old.moment sender packet.now
             (slice_index_or self.old.streams at s).account }
@@ -208,7 +208,7 @@ impl Monitor {
 
     // The first packet of a stream.
     #[tactic(auto, unfolding(crate::specs::Books::noted_data, crate::specs::Books::after_data))]
-    fn admit(&mut self, sender: Sender, packet: &DataView<'_>) -> Noted
+    fn admit(&mut self, sender: Endpoint, packet: &DataView<'_>) -> Noted
         requires { place_of packet.now.universe packet.now.cid self.old.streams ≡ None }
         ensures noted { result ≡ noted_data sender packet.now self.old None }
         ensures book { self.new ≡ after_data sender packet.now self.old None }

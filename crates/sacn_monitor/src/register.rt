@@ -8,7 +8,7 @@ ghost use Rattle.sacn_monitor.specs.Books.{with_told, silent_place};
 ghost use Rattle.sacn_monitor.specs.Chains.{chain_by};
 ghost use Rattle.sacn_monitor.specs.Streams.{is_of, stream_after};
 
-use crate::account::Sender;
+use crate::account::Endpoint;
 use crate::limits::{
     BACK_FACTOR, CHAIN_BITS, CHAINS, FRONT_FACTOR, LONGEST_WALK, MAX_STREAMS, UNIVERSE_FACTOR,
 };
@@ -122,7 +122,7 @@ impl Register {
         &mut self,
         at: usize,
         moment: u64,
-        sender: Sender,
+        sender: Endpoint,
         packet: &DataView<'_>,
     ) -> News
         requires { at < length self.old }

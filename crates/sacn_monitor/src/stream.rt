@@ -6,7 +6,7 @@ ghost use Rattle.sacn_monitor.specs.Accounts.{IsFitted, news_of};
 ghost use Rattle.sacn_monitor.specs.Rivals.{lights};
 ghost use Rattle.sacn_monitor.specs.Streams.{is_of, first_stream, stream_after, loss_of, falls_silent, state_of};
 
-use crate::account::{Account, Sender};
+use crate::account::{Account, Endpoint};
 use crate::news::News;
 use sacn_framing::DataView;
 use sacn_sources::NETWORK_DATA_LOSS;
@@ -61,7 +61,7 @@ impl Stream {
     }
 
     /// A stream whose first packet this is.
-    pub(crate) fn begin(moment: u64, sender: Sender, packet: &DataView<'_>) -> Self
+    pub(crate) fn begin(moment: u64, sender: Endpoint, packet: &DataView<'_>) -> Self
         ensures { result ≡ first_stream moment sender packet.now }
     {
         Stream {
@@ -80,7 +80,7 @@ impl Stream {
     }
 
     /// A packet more. Returns what it tells that is new.
-    pub(crate) fn hear(&mut self, moment: u64, sender: Sender, packet: &DataView<'_>) -> News
+    pub(crate) fn hear(&mut self, moment: u64, sender: Endpoint, packet: &DataView<'_>) -> News
         requires { IsFitted self.old.account.name }
         ensures news { result ≡ news_of moment sender packet.now self.old.account }
         ensures stream { self.new ≡ stream_after moment sender packet.now self.old }

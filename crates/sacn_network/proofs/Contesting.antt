@@ -4,7 +4,7 @@ use Rattle.std.proofs.lemmas.Bool.{cases_eq}
 use Rattle.sacn_root.specs.declared.fault.PacketFault.{PacketFault}
 use Rattle.sacn_framing.specs.declared.packet.Packet.{Packet}
 use Rattle.sacn_framing.specs.PacketReading.{reading_packet}
-use Rattle.sacn_monitor.specs.declared.account.Sender.{Sender}
+use Rattle.sacn_monitor.specs.declared.account.Endpoint.{Endpoint}
 use Rattle.sacn_monitor.specs.declared.news.News.{News}
 use Rattle.sacn_monitor.specs.declared.news.Noted.{Noted}
 use Rattle.sacn_monitor.specs.declared.news.Noted.TheVariants as noted
@@ -105,7 +105,7 @@ news_follow : (place : ℕ) (news : News) (n : Ledger) → Follows n.contested n
 unfolding news_told
 news_follow place news n = news_follow_by (tells_nothing news) place news n
 
-noted_follows : (sender : Sender) (x : Noted) (n : Ledger) → Follows n.contested (after_noted x n).contested (noted_told sender x n)
+noted_follows : (sender : Endpoint) (x : Noted) (n : Ledger) → Follows n.contested (after_noted x n).contested (noted_told sender x n)
 unfolding after_noted noted_told
 noted_follows sender (noted.Refused fault) n = record { long = λ l. l; bits = λ l u low. refl }
 noted_follows sender noted.Page n = still n.contested

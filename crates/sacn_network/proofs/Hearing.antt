@@ -9,7 +9,7 @@ use Rattle.sacn_framing.specs.Data.{Data}
 use Rattle.sacn_framing.specs.declared.packet.Packet.{Packet}
 use Rattle.sacn_framing.specs.declared.packet.Packet.TheVariants.{DataPacket, PagePacket, SyncPacket}
 use Rattle.sacn_framing.specs.PacketReading.{reading_packet}
-use Rattle.sacn_monitor.specs.declared.account.Sender.{Sender}
+use Rattle.sacn_monitor.specs.declared.account.Endpoint.{Endpoint}
 use Rattle.sacn_monitor.specs.declared.limits.TheConstants.{MAX_STREAMS}
 use Rattle.sacn_monitor.specs.declared.news.Event.TheVariants.{Appeared}
 use Rattle.sacn_monitor.specs.declared.news.News.{News}
@@ -170,7 +170,7 @@ noted_hears noted.Sync n = refl
 noted_hears noted.Untracked n = refl
 noted_hears (noted.Heard place news) n = stirred_heard (stirred_universe (slice_get n.monitor.streams place) news) n
 
-module _ (sender : Sender) (d : Data) (b : Book) (heard : List ℕ) (hears : Hears heard b.streams) where
+module _ (sender : Endpoint) (d : Data) (b : Book) (heard : List ℕ) (hears : Hears heard b.streams) where
   appeared : (y : Stream) → Hears (heard_after (stirred_universe (slice_get (b.streams ++ y ∷ []) (length b.streams)) (quiet Appeared)) heard) (b.streams ++ y ∷ [])
   appeared y =
       let there : stirred_universe (slice_get (b.streams ++ y ∷ []) (length b.streams)) (quiet Appeared) ≡ Some y.universe = ap (λ (o : Option Stream). stirred_universe o (quiet Appeared)) (last_there b.streams y) in
@@ -201,7 +201,7 @@ module _ (sender : Sender) (d : Data) (b : Book) (heard : List ℕ) (hears : Hea
       ]
   data_hears (Some i) = heard_on i (slice_get b.streams i) refl
 
-read_hears : (sender : Sender) (b : Book) (r : Result Packet PacketFault) (heard : List ℕ) → Hears heard b.streams
+read_hears : (sender : Endpoint) (b : Book) (r : Result Packet PacketFault) (heard : List ℕ) → Hears heard b.streams
     → Hears (noted_heard (noted_packet sender b r) (after_read sender b r).streams heard) (after_read sender b r).streams
 read_hears sender b (Ok (DataPacket d)) heard hears = data_hears sender d b heard hears (place_of d.universe d.cid b.streams)
 read_hears sender b (Ok (PagePacket p)) heard hears = hears

@@ -1,6 +1,6 @@
 -- What an observer was told, call by call.
 use Rattle.std.proofs.Common.{◌≡◌, ◌⊎◌, inl, inr, ℕ, Bool, true, false, cond, List, [], ◌∷◌, ◌++◌, slice_get, refl, sym, ap, subst}
-use Rattle.sacn_monitor.specs.declared.account.Sender.{Sender}
+use Rattle.sacn_monitor.specs.declared.account.Endpoint.{Endpoint}
 use Rattle.sacn_monitor.specs.declared.news.News.{News}
 use Rattle.sacn_monitor.specs.declared.news.Noted.{Noted}
 use Rattle.sacn_monitor.specs.declared.news.Noted.TheVariants.{Heard, Page, Sync}
@@ -32,7 +32,7 @@ module _ {O : Type 0} (Notes : O → Told → O → Type 0) where
   told_as xs ys a b same told = subst (λ (ts : List Told). AreTold Notes ts a b) same told
 
   -- a data packet's news, and then the contest of its universe
-  pub heard_told : (sender : Sender) (place : ℕ) (news : News) (x : Noted) (n : Ledger) (a b c : O) → x ≡ Heard place news → AreTold Notes (news_told place news n) a b
+  pub heard_told : (sender : Endpoint) (place : ℕ) (news : News) (x : Noted) (n : Ledger) (a b c : O) → x ≡ Heard place news → AreTold Notes (news_told place news n) a b
       → AreTold Notes (contest_in (stirred_universe (slice_get n.monitor.streams place) news) n) b c → AreTold Notes (noted_told sender x n) a c
   unfolding noted_told
   heard_told sender place news x n a b c is first next =
@@ -49,7 +49,7 @@ pub no_contest : (universe : ℕ) (n : Ledger) → is_otherwise (is_contested un
 unfolding contest_told
 no_contest universe n same = ap (λ (b : Bool). cond b (contest_of universe n.monitor ∷ []) []) same
 
-pub no_page : (sender : Sender) (x : Noted) (n : Ledger) → (x ≡ Page) ⊎ (x ≡ Sync) → noted_told sender x n ≡ []
+pub no_page : (sender : Endpoint) (x : Noted) (n : Ledger) → (x ≡ Page) ⊎ (x ≡ Sync) → noted_told sender x n ≡ []
 unfolding noted_told
 no_page sender x n (inl is) = ap (λ (y : Noted). noted_told sender y n) is
 no_page sender x n (inr is) = ap (λ (y : Noted). noted_told sender y n) is

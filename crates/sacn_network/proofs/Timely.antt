@@ -9,7 +9,7 @@ use Rattle.sacn_framing.specs.declared.packet.Packet.TheVariants.{DataPacket, Pa
 use Rattle.sacn_framing.specs.PacketReading.{reading_packet}
 use Rattle.sacn_sources.specs.declared.limits.TheConstants.{NETWORK_DATA_LOSS}
 use Rattle.sacn_monitor.specs.declared.account.Account.{Account}
-use Rattle.sacn_monitor.specs.declared.account.Sender.{Sender}
+use Rattle.sacn_monitor.specs.declared.account.Endpoint.{Endpoint}
 use Rattle.sacn_monitor.specs.declared.limits.TheConstants.{MAX_STREAMS}
 use Rattle.sacn_monitor.specs.declared.stream.Stream.{Stream}
 use Rattle.sacn_monitor.specs.Accounts.{after_discarded, after_taken, first_account, is_discarded}
@@ -166,22 +166,22 @@ discarded_soon t arrived s held is =
       | false ↦ still
     ]
 
-taken_soon : (t : ℕ) (sender : Sender) (d : Data) (s : Stream) → t ≤ 2 ^ 64 - 1 → t ≤ loss_of (with_account s (after_taken t sender d s.account))
+taken_soon : (t : ℕ) (sender : Endpoint) (d : Data) (s : Stream) → t ≤ 2 ^ 64 - 1 → t ≤ loss_of (with_account s (after_taken t sender d s.account))
 unfolding after_taken
 taken_soon t sender d s held = lost_later t t d.terminated held (omega arith)
 
-heard_soon : (t : ℕ) (sender : Sender) (d : Data) (s : Stream) → t ≤ 2 ^ 64 - 1 → t ≤ loss_of (stream_after t sender d s)
+heard_soon : (t : ℕ) (sender : Endpoint) (d : Data) (s : Stream) → t ≤ 2 ^ 64 - 1 → t ≤ loss_of (stream_after t sender d s)
 heard_soon t sender d s held =
     elim (is_discarded t d.number s.account) as (λ b. is_discarded t d.number s.account ≡ b → t ≤ loss_of (with_account s (cond b (after_discarded d.number s.account) (after_taken t sender d s.account)))) [
       | true ↦ λ is. discarded_soon t d.number s held is
       | false ↦ λ is. taken_soon t sender d s held
     ] refl
 
-first_soon : (t : ℕ) (sender : Sender) (d : Data) → t ≤ 2 ^ 64 - 1 → t ≤ loss_of (first_stream t sender d)
+first_soon : (t : ℕ) (sender : Endpoint) (d : Data) → t ≤ 2 ^ 64 - 1 → t ≤ loss_of (first_stream t sender d)
 unfolding first_account
 first_soon t sender d held = lost_later t t d.terminated held (omega arith)
 
-module _ (sender : Sender) (d : Data) (b : Book) (held : b.moment ≤ 2 ^ 64 - 1) (soon : b.moment ≤ next_loss b.streams) where
+module _ (sender : Endpoint) (d : Data) (b : Book) (held : b.moment ≤ 2 ^ 64 - 1) (soon : b.moment ≤ next_loss b.streams) where
   changed_soon : (i : ℕ) (o : Option Stream) → b.moment ≤ next_loss (changed (stream_after b.moment sender d) i b.streams o)
   changed_soon i None = soon
   changed_soon i (Some s) =
@@ -203,7 +203,7 @@ module _ (sender : Sender) (d : Data) (b : Book) (held : b.moment ≤ 2 ^ 64 - 1
       ]
   data_soon (Some i) = changed_soon i (slice_get b.streams i)
 
-read_soon : (sender : Sender) (b : Book) (r : Result Packet PacketFault) → b.moment ≤ 2 ^ 64 - 1 → b.moment ≤ next_loss b.streams → b.moment ≤ next_loss (after_read sender b r).streams
+read_soon : (sender : Endpoint) (b : Book) (r : Result Packet PacketFault) → b.moment ≤ 2 ^ 64 - 1 → b.moment ≤ next_loss b.streams → b.moment ≤ next_loss (after_read sender b r).streams
 read_soon sender b (Ok (DataPacket d)) held soon = data_soon sender d b held soon (place_of d.universe d.cid b.streams)
 read_soon sender b (Ok (PagePacket p)) held soon = soon
 read_soon sender b (Ok SyncPacket) held soon = soon
@@ -217,7 +217,7 @@ IsSoon b = b.moment ≤ next_loss b.streams
 silent_soon : (t : ℕ) (b : Book) → t ≤ 2 ^ 64 - 1 → b.moment ≡ t → silent_place t b.streams ≡ None → IsSoon b
 silent_soon t b held at none = let before = none_before t b.streams none in omega (arith, before, held, at)
 
-taken_soon_after : (now : ℕ) (sender : Sender) (r : Result Packet PacketFault) (b : Book) → now ≤ b.moment → b.moment ≤ 2 ^ 64 - 1 → IsSoon b → IsSoon (after_read sender (with_datagram now b) r)
+taken_soon_after : (now : ℕ) (sender : Endpoint) (r : Result Packet PacketFault) (b : Book) → now ≤ b.moment → b.moment ≤ 2 ^ 64 - 1 → IsSoon b → IsSoon (after_read sender (with_datagram now b) r)
 taken_soon_after now sender r b by held soon =
     let moment : (after_read sender (with_datagram now b) r).moment ≡ max b.moment now = read_moment sender (with_datagram now b) r in
     let rest : max b.moment now ≤ next_loss (after_read sender (with_datagram now b) r).streams = read_soon sender (with_datagram now b) r (omega (arith, by, held)) (omega (arith, by, soon)) in

@@ -7,7 +7,7 @@ use Rattle.sacn_framing.specs.Data.{Data}
 use Rattle.sacn_framing.specs.declared.packet.Packet.{Packet}
 use Rattle.sacn_framing.specs.declared.packet.Packet.TheVariants.{DataPacket, PagePacket, SyncPacket}
 use Rattle.sacn_framing.specs.PacketReading.{reading_packet}
-use Rattle.sacn_monitor.specs.declared.account.Sender.{Sender}
+use Rattle.sacn_monitor.specs.declared.account.Endpoint.{Endpoint}
 use Rattle.sacn_monitor.specs.declared.limits.TheConstants.{MAX_STREAMS}
 use Rattle.sacn_monitor.specs.declared.stream.Stream.{Stream}
 use Rattle.sacn_monitor.specs.Streams.{first_stream, stream_after}
@@ -101,7 +101,7 @@ lost_as now n held before =
 
 -- ---- a datagram
 
-data_moment : (sender : Sender) (d : Data) (b : Book) (o : Option ℕ) → (after_data sender d b o).moment ≡ b.moment
+data_moment : (sender : Endpoint) (d : Data) (b : Book) (o : Option ℕ) → (after_data sender d b o).moment ≡ b.moment
 unfolding after_data
 data_moment sender d b None =
     elim (ltb (length b.streams) MAX_STREAMS) as (λ room. (cond room (record b { streams = b.streams ++ first_stream b.moment sender d ∷ [] }) (untracked b)).moment ≡ b.moment) [
@@ -110,13 +110,13 @@ data_moment sender d b None =
     ]
 data_moment sender d b (Some i) = refl
 
-pub read_moment : (sender : Sender) (b : Book) (r : Result Packet PacketFault) → (after_read sender b r).moment ≡ b.moment
+pub read_moment : (sender : Endpoint) (b : Book) (r : Result Packet PacketFault) → (after_read sender b r).moment ≡ b.moment
 read_moment sender b (Ok (DataPacket d)) = data_moment sender d b (place_of d.universe d.cid b.streams)
 read_moment sender b (Ok (PagePacket p)) = refl
 read_moment sender b (Ok SyncPacket) = refl
 read_moment sender b (Err fault) = refl
 
-data_most : (sender : Sender) (d : Data) (b : Book) (o : Option ℕ) → length b.streams ≤ MAX_STREAMS → length (after_data sender d b o).streams ≤ MAX_STREAMS
+data_most : (sender : Endpoint) (d : Data) (b : Book) (o : Option ℕ) → length b.streams ≤ MAX_STREAMS → length (after_data sender d b o).streams ≤ MAX_STREAMS
 unfolding after_data
 data_most sender d b None most =
     elim (ltb (length b.streams) MAX_STREAMS) as (λ room. ltb (length b.streams) MAX_STREAMS ≡ room → length (cond room (record b { streams = b.streams ++ first_stream b.moment sender d ∷ [] }) (untracked b)).streams ≤ MAX_STREAMS) [
@@ -128,7 +128,7 @@ data_most sender d b None most =
     ] refl
 data_most sender d b (Some i) most = let same = heard_length (stream_after b.moment sender d) i b.streams in omega (arith, most, same)
 
-pub read_most : (sender : Sender) (b : Book) (r : Result Packet PacketFault) → length b.streams ≤ MAX_STREAMS → length (after_read sender b r).streams ≤ MAX_STREAMS
+pub read_most : (sender : Endpoint) (b : Book) (r : Result Packet PacketFault) → length b.streams ≤ MAX_STREAMS → length (after_read sender b r).streams ≤ MAX_STREAMS
 read_most sender b (Ok (DataPacket d)) most = data_most sender d b (place_of d.universe d.cid b.streams) most
 read_most sender b (Ok (PagePacket p)) most = most
 read_most sender b (Ok SyncPacket) most = most
@@ -146,12 +146,12 @@ held_in_use [] held = omega arith
 held_in_use (Take now sender octets ∷ earlier) held = let rest = held_in_use earlier held.1 in let first = held.0 in omega (arith, rest, first)
 held_in_use (Tick now ∷ earlier) held = let rest = held_in_use earlier held.1 in let first = held.0 in omega (arith, rest, first)
 
-same_arrivals : (universe : ℕ) (cid : List ℕ) (t u now : ℕ) (sender : Sender) (octets : List ℕ) (xs ys : List monitor.Arrival) → t ≡ u → xs ≡ ys
+same_arrivals : (universe : ℕ) (cid : List ℕ) (t u now : ℕ) (sender : Endpoint) (octets : List ℕ) (xs ys : List monitor.Arrival) → t ≡ u → xs ≡ ys
     → arrival_at universe cid t (Take now sender octets) ++ xs ≡ arrival_at universe cid u (Take now sender octets) ++ ys
 same_arrivals universe cid t u now sender octets xs ys same rest =
     ap (λ (k : ℕ). arrival_at universe cid k (Take now sender octets) ++ xs) same ∙ ap (λ (l : List monitor.Arrival). arrival_at universe cid u (Take now sender octets) ++ l) rest
 
-made_taken : (earlier : List Call) (now : ℕ) (sender : Sender) (octets : List ℕ) (b : Book) → b.moment ≡ max (moment_in_use earlier) now → MadeBy earlier b → MadeBy (Take now sender octets ∷ earlier) (after_take now sender octets b)
+made_taken : (earlier : List Call) (now : ℕ) (sender : Endpoint) (octets : List ℕ) (b : Book) → b.moment ≡ max (moment_in_use earlier) now → MadeBy earlier b → MadeBy (Take now sender octets ∷ earlier) (after_take now sender octets b)
 made_taken earlier now sender octets b moment (calls, is, come) =
     let in_use : moment_in_use calls ≡ b.moment = sym (kept.moments calls) ∙ sym (ap (λ (x : Book). x.moment) is) in
     let same : max (moment_in_use calls) now ≡ max (moment_in_use earlier) now = omega (arith, in_use, moment) in (
@@ -163,7 +163,7 @@ made_taken earlier now sender octets b moment (calls, is, come) =
 stands_as : (told : List Call) (b c : Book) → c ≡ b → Stands told b → Stands told c
 stands_as told b c same is = subst (Stands told) (sym same) is
 
-taken_stands : (earlier : List Call) (now : ℕ) (sender : Sender) (octets : List ℕ) (b : Book) → IsSilent (max (moment_in_use earlier) now) b → MadeBy earlier b → Stands (Take now sender octets ∷ earlier) (after_take now sender octets b)
+taken_stands : (earlier : List Call) (now : ℕ) (sender : Endpoint) (octets : List ℕ) (b : Book) → IsSilent (max (moment_in_use earlier) now) b → MadeBy earlier b → Stands (Take now sender octets ∷ earlier) (after_take now sender octets b)
 taken_stands earlier now sender octets b silent made = record {
   moment = read_moment sender (with_datagram now b) (reading_packet octets) ∙ (let at = silent.moment in omega (arith, at));
   made = made_taken earlier now sender octets b silent.moment made;

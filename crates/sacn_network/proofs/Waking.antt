@@ -6,7 +6,7 @@ use Rattle.sacn_framing.specs.Data.{Data}
 use Rattle.sacn_framing.specs.declared.packet.Packet.{Packet}
 use Rattle.sacn_framing.specs.declared.packet.Packet.TheVariants.{DataPacket, PagePacket, SyncPacket}
 use Rattle.sacn_sources.specs.declared.limits.TheConstants.{NETWORK_DATA_LOSS}
-use Rattle.sacn_monitor.specs.declared.account.Sender.{Sender}
+use Rattle.sacn_monitor.specs.declared.account.Endpoint.{Endpoint}
 use Rattle.sacn_monitor.specs.declared.limits.TheConstants.{MAX_STREAMS}
 use Rattle.sacn_monitor.specs.declared.news.Event.TheVariants.{Appeared}
 use Rattle.sacn_monitor.specs.declared.news.Noted.{Noted}
@@ -43,7 +43,7 @@ set_there (s ∷ ss) (suc i) y within = set_there ss i y (omega (arith, within))
 abbrev IsQuiet : ℕ → Noted → List Stream → Type 0
 IsQuiet w n ss = min w (soonest_loss n ss) ≤ next_loss ss
 
-module _ (w : ℕ) (sender : Sender) (d : Data) (b : Book) (before : w ≤ next_loss b.streams) where
+module _ (w : ℕ) (sender : Endpoint) (d : Data) (b : Book) (before : w ≤ next_loss b.streams) where
   appended : (y : Stream) → min w (lost_from (slice_get (b.streams ++ y ∷ []) (length b.streams))) ≤ next_loss (b.streams ++ y ∷ [])
   appended y =
       let there : lost_from (slice_get (b.streams ++ y ∷ []) (length b.streams)) ≡ lost_from (Some y) = ap lost_from (last_there b.streams y) in
@@ -69,7 +69,7 @@ module _ (w : ℕ) (sender : Sender) (d : Data) (b : Book) (before : w ≤ next_
       ]
   data_quiet (Some i) = heard_at i (slice_get b.streams i) refl
 
-pub read_quiet : (w : ℕ) (sender : Sender) (b : Book) (r : Result Packet PacketFault) → w ≤ next_loss b.streams → IsQuiet w (noted_packet sender b r) (after_read sender b r).streams
+pub read_quiet : (w : ℕ) (sender : Endpoint) (b : Book) (r : Result Packet PacketFault) → w ≤ next_loss b.streams → IsQuiet w (noted_packet sender b r) (after_read sender b r).streams
 read_quiet w sender b (Ok (DataPacket d)) before = data_quiet w sender d b before (place_of d.universe d.cid b.streams)
 read_quiet w sender b (Ok (PagePacket p)) before = omega (arith, before)
 read_quiet w sender b (Ok SyncPacket) before = omega (arith, before)

@@ -2,7 +2,7 @@
 use Rattle.std.specs.Prelude.{◌≡◌, ℕ, ◌<◌, ◌≤◌, ◌-◌, ◌^◌, max, List, ◌++◌, Result}
 use Rattle.sacn_root.specs.declared.fault.PacketFault.{PacketFault}
 use Rattle.sacn_framing.specs.declared.packet.Packet.{Packet}
-use Rattle.sacn_monitor.specs.declared.account.Sender.{Sender}
+use Rattle.sacn_monitor.specs.declared.account.Endpoint.{Endpoint}
 use Rattle.sacn_monitor.specs.declared.news.Noted.{Noted}
 use Rattle.sacn_monitor.specs.Books.{after_read, new_book, next_loss, noted_packet, with_datagram}
 use Rattle.sacn_network.specs.declared.ledger.Ledger.{Ledger}
@@ -35,15 +35,15 @@ JoinsLater now old new = (later : ℕ) → now ≤ later → (ticked later new �
 -- ---- a datagram comes, by its one reading
 
 -- of a network whose clock was moved
-abbrev pub handed : ℕ → Sender → Result Packet PacketFault → Ledger → Ledger
+abbrev pub handed : ℕ → Endpoint → Result Packet PacketFault → Ledger → Ledger
 handed now sender reading n = record n { monitor = after_read sender (with_datagram now n.monitor) reading }
 
-abbrev pub note_of : ℕ → Sender → Result Packet PacketFault → Ledger → Noted
+abbrev pub note_of : ℕ → Endpoint → Result Packet PacketFault → Ledger → Noted
 note_of now sender reading n = noted_packet sender (with_datagram now n.monitor) reading
 
 -- first what ended by silence, then what the datagram tells
-abbrev pub take_told : ℕ → Sender → Result Packet PacketFault → Ledger → List Told
+abbrev pub take_told : ℕ → Endpoint → Result Packet PacketFault → Ledger → List Told
 take_told now sender reading n = let m = ticked now n in tick_told now n ++ noted_told sender (note_of now sender reading m) (handed now sender reading m)
 
-abbrev pub taken : ℕ → Sender → Result Packet PacketFault → Ledger → Ledger
+abbrev pub taken : ℕ → Endpoint → Result Packet PacketFault → Ledger → Ledger
 taken now sender reading n = let m = ticked now n in after_noted (note_of now sender reading m) (handed now sender reading m)

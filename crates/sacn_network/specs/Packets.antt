@@ -1,6 +1,6 @@
 -- What a datagram tells, by what was noted of it.
 use Rattle.std.specs.Prelude.{ℕ, Bool, true, false, not, ◌&&◌, ◌||◌, ◌==◌, is_none, is_some, List, [], ◌∷◌, ◌++◌, slice_get, Option, None, Some, if◌then◌else◌}
-use Rattle.sacn_monitor.specs.declared.account.Sender.{Sender}
+use Rattle.sacn_monitor.specs.declared.account.Endpoint.{Endpoint}
 use Rattle.sacn_monitor.specs.declared.news.Event.{Event}
 use Rattle.sacn_monitor.specs.declared.news.Event.TheVariants.{GoesOn, Appeared, CameBack, Ended, OutOfSequence, Repeated}
 use Rattle.sacn_monitor.specs.declared.news.News.{News}
@@ -51,7 +51,7 @@ stirred None n = n
 stirred (Some universe) n = with_contest universe (with_heard universe n)
 
 -- a page and a sync packet tell nothing here
-unfoldable pub noted_told : Sender → Noted → Ledger → List Told
+unfoldable pub noted_told : Endpoint → Noted → Ledger → List Told
 noted_told sender (noted.Refused fault) n = now_told (Refused sender fault) n
 noted_told sender noted.Page n = []
 noted_told sender noted.Sync n = []

@@ -12,7 +12,7 @@ use crate::observer::Observer;
 use crate::occurrence::{Contest, Occurrence, What};
 use crate::stirring::{stirred_universe, tells_nothing, universe_at};
 use crate::universe_set::UniverseSet;
-use sacn_monitor::{MAX_STREAMS, Monitor, News, Noted, Sender};
+use sacn_monitor::{Endpoint, MAX_STREAMS, Monitor, News, Noted};
 use std::alloc::{AllocError, Global};
 
 /// So many steps tell whatever ends by silence by a moment: a loss of each stream, and then none.
@@ -72,7 +72,12 @@ impl Ledger {
 
     /// Tells what a datagram tells, by what was noted of it.
     #[tactic(auto, unfolding(crate::specs::Packets::noted_told, crate::specs::Packets::after_noted))]
-    pub(crate) fn tell_noted<O: Observer>(&mut self, sender: Sender, noted: Noted, observer: &mut O)
+    pub(crate) fn tell_noted<O: Observer>(
+        &mut self,
+        sender: Endpoint,
+        noted: Noted,
+        observer: &mut O,
+    )
         ensures told { AreTold O.Notes (noted_told sender noted self.old)
             observer.old observer.new }
         ensures ledger { self.new ≡ after_noted noted self.old }

@@ -10,7 +10,7 @@ use crate::ledger::Ledger;
 use crate::observer::Observer;
 use crate::stirring::soonest_loss;
 use sacn_framing::Reading;
-use sacn_monitor::{Monitor, Noted, Sender};
+use sacn_monitor::{Endpoint, Monitor, Noted};
 use std::alloc::{AllocError, Global};
 use std::marker::Model;
 
@@ -72,7 +72,7 @@ impl Network {
     pub fn take<O: Observer>(
         &mut self,
         now: u64,
-        sender: Sender,
+        sender: Endpoint,
         reading: &Reading<'_>,
         observer: &mut O,
     ) -> Noted
@@ -148,7 +148,7 @@ impl Network {
     }
 
     // Hands a datagram to the monitor, and sees to it that the loss of its source isn't missed.
-    fn hand(&mut self, now: u64, sender: Sender, reading: &Reading<'_>) -> Noted
+    fn hand(&mut self, now: u64, sender: Endpoint, reading: &Reading<'_>) -> Noted
         ensures noted { result ≡ note_of now sender reading.now self.old }
         ensures network { self.new ≡ handed now sender reading.now self.old }
     {

@@ -1,6 +1,6 @@
 //! What happens on a network.
 
-use sacn_monitor::{News, Sender};
+use sacn_monitor::{Endpoint, News};
 use sacn_root::PacketFault;
 
 /// So many sources light a universe at its top priority (E1.31, 6.2.3). Where these are two or more, their levels are merged.
@@ -22,9 +22,9 @@ pub enum What {
     /// A packet of the source at this place told these news.
     Heard(usize, News),
     /// A datagram of this sender is no packet of the standard.
-    Refused(Sender, PacketFault),
+    Refused(Endpoint, PacketFault),
     /// A data packet of this sender is of a source on a universe for which there is no room.
-    Untracked(Sender),
+    Untracked(Endpoint),
     /// So many sources light a universe at its top priority from now on: two or more, where it was fewer, or fewer, where it was
     /// two or more.
     Contest(Contest),

@@ -4,7 +4,7 @@ ghost use Rattle.std.specs.Prelude.{◌≡◌, false, ◌++◌, ◌∷◌, []};
 
 use crate::{Contest, Network, Observer, Occurrence, What};
 use sacn_framing::{DataFields, read_packet, write_data};
-use sacn_monitor::{Event, Monitor, News, Sender};
+use sacn_monitor::{Endpoint, Event, Monitor, News};
 use std::alloc::{AllocError, Global};
 
 /// Lists what it is told, as far as memory goes.
@@ -25,7 +25,7 @@ impl Observer for Listing {
     }
 }
 
-const SENDER: Sender = Sender {
+const SENDER: Endpoint = Endpoint {
     address: [10, 0, 0, 1],
     port: 5568,
 };

@@ -7,7 +7,7 @@ use Rattle.sacn_capture.specs.declared.faults.CaptureFault.{CaptureFault}
 use Rattle.sacn_capture.specs.Files.{IsOutside}
 use Rattle.sacn_capture.specs.Recordings.{Shown, Told}
 use Rattle.sacn_capture.specs.Streams.{Gives}
-use Rattle.sacn_monitor.specs.declared.account.Sender.{Sender}
+use Rattle.sacn_monitor.specs.declared.account.Endpoint.{Endpoint}
 use Rattle.sacn_monitor.specs.Histories.{Call, Take, Tick, moment_of}
 use Rattle.sacn_network.specs.declared.ledger.Ledger.{Ledger}
 use Rattle.sacn_network.specs.Networks.{JoinsLater, handed, note_of, take_told, taken, tick_told, ticked}
@@ -40,10 +40,10 @@ module _ (now : ℕ) (n m : Ledger) (a b : KeptAlarms) (alarms : b ≡ alarms_to
       ∙ ap (λ (os : List telling.Told). alarms_told os a) (joins later by).1
 
   -- what a network tells of a datagram, once the clock is moved
-  abbrev noted : ℕ → Sender → Result Packet PacketFault → Ledger → List telling.Told
+  abbrev noted : ℕ → Endpoint → Result Packet PacketFault → Ledger → List telling.Told
   noted later sender r l = noted_told sender (note_of later sender r l) (handed later sender r l)
 
-  take_alarms : (later : ℕ) (sender : Sender) (r : Result Packet PacketFault) → now ≤ later → alarms_told (take_told later sender r m) b ≡ alarms_told (take_told later sender r n) a
+  take_alarms : (later : ℕ) (sender : Endpoint) (r : Result Packet PacketFault) → now ≤ later → alarms_told (take_told later sender r m) b ≡ alarms_told (take_told later sender r n) a
   take_alarms later sender r by =
       alarms_both (tick_told later m) (noted later sender r (ticked later m)) b
       ∙ ap (alarms_told (noted later sender r (ticked later m))) (tick_alarms later by)
@@ -90,7 +90,7 @@ module _ (until port : ℕ) (octets : List ℕ) (f : Followed) (k : Known) (join
       ap (λ (x : Known). cond (nat_le p.clock.now later) (followed_to later port frames (at_clock p.clock x)) (after_call (Tick later) k)) (joins (call_by p.sender p.clock.now octets) (at_call p.sender))
       ∙ ap (λ (x : Known). cond (nat_le p.clock.now later) (followed_to later port frames (after_pending p octets f)) x) (joins (Tick later) by)
     where
-      at_call : (sender : Option Sender) → until ≤ moment_of (call_by sender p.clock.now octets)
+      at_call : (sender : Option Endpoint) → until ≤ moment_of (call_by sender p.clock.now octets)
       at_call None = before
       at_call (Some sender) = before
 

@@ -2,7 +2,7 @@
 use Rattle.std.specs.List.{join_by}
 use Rattle.std.specs.Prelude.{ℕ, ◌-◌, ◌==◌, List, [], ◌++◌, length, codes, decimal, slice_get, option_and_then, Option, None, Some, if◌then◌else◌}
 use Rattle.sacn_root.specs.declared.fault.PacketFault.{PacketFault}
-use Rattle.sacn_monitor.specs.declared.account.Sender.{Sender}
+use Rattle.sacn_monitor.specs.declared.account.Endpoint.{Endpoint}
 use Rattle.sacn_monitor.specs.declared.stream.Stream.{Stream}
 use Rattle.sacn_explain.specs.Foreign.{foreign_text}
 use Rattle.sacn_explain.specs.Members.{key_text, name_of, number_member, word_member}
@@ -41,7 +41,7 @@ unfoldable pub skipped_words : ℕ → List ℕ
 skipped_words count = if count == 1 then codes " skipped a number" else codes " skipped " ++ (decimal count ++ codes " numbers")
 
 -- why a datagram is no packet (E1.31, 4.3), and where it came from
-unfoldable pub refused_words : Sender → PacketFault → List ℕ
+unfoldable pub refused_words : Endpoint → PacketFault → List ℕ
 refused_words sender fault = codes "a datagram of " ++ (sender_text sender ++ (codes " is refused: " ++ fault_words fault))
 
 -- that sources share the top priority of a universe (E1.31, 6.2.3)

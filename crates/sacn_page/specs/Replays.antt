@@ -3,7 +3,7 @@ use Rattle.std.specs.Prelude.{◌≡◌, ℕ, ◌≤◌, nat_le, List, [], ◌�
 use Rattle.sacn_capture.specs.Bookmarks.{behind}
 use Rattle.sacn_capture.specs.Recordings.{Shown, Told}
 use Rattle.sacn_capture.specs.Streams.{to_come}
-use Rattle.sacn_monitor.specs.declared.account.Sender.{Sender}
+use Rattle.sacn_monitor.specs.declared.account.Endpoint.{Endpoint}
 use Rattle.sacn_monitor.specs.Histories.{Call, Take, Tick}
 use Rattle.sacn_network.specs.declared.ledger.Ledger.{Ledger}
 use Rattle.sacn_network.specs.Calls.{step, told_in}
@@ -50,7 +50,7 @@ followed_to moment port (frame ∷ frames) f =
 -- ---- from where a replay stands
 
 -- the call of a frame that was read: a datagram of these octets, where it has a sender
-abbrev pub call_by : Option Sender → ℕ → List ℕ → Call
+abbrev pub call_by : Option Endpoint → ℕ → List ℕ → Call
 call_by None now octets = Tick now
 call_by (Some sender) now octets = Take now sender octets
 

@@ -9,7 +9,7 @@ use sacn_explain::{
     fault_words, push_foreign, push_key, push_number, push_sender, push_stop, push_word,
 };
 use sacn_framing::up_to_nul;
-use sacn_monitor::{Sender, Stream};
+use sacn_monitor::{Endpoint, Stream};
 use sacn_root::PacketFault;
 use std::alloc::AllocError;
 use std::fmt::Write;
@@ -77,7 +77,7 @@ fn push_skipped(text: &mut String, count: u8) -> Result<(), AllocError>
 }
 
 #[tactic(auto, unfolding(crate::specs::AlarmTexts::refused_words))]
-fn push_refused(text: &mut String, sender: &Sender, fault: PacketFault) -> Result<(), AllocError>
+fn push_refused(text: &mut String, sender: &Endpoint, fault: PacketFault) -> Result<(), AllocError>
     ensures { OnOk result
         (string_bytes text.new ≡ string_bytes text.old ++ refused_words sender.now fault) }
 {

@@ -3,7 +3,7 @@
 ghost use Rattle.std.specs.Prelude.{◌≡◌, ◌≤◌, ◌-◌, [], IfOk, length, nat_le, not, position, vec_capacity};
 ghost use Rattle.sacn_page.specs.Alarms.{after, alarms_after, event_troubles, giving_way, is_loss, news_troubles, no_alarms, oldest, troubles_of, with_alarm, with_latest, with_troubles};
 
-use sacn_monitor::{Event, Monitor, News, Sender};
+use sacn_monitor::{Endpoint, Event, Monitor, News};
 use sacn_network::{Contest, Observer, Occurrence, What};
 use sacn_root::PacketFault;
 use std::alloc::{AllocError, Global};
@@ -26,7 +26,7 @@ pub enum Trouble {
     /// A packet of a source came out of sequence, and was discarded (E1.31, 6.7.2).
     Late(usize),
     /// A datagram is no packet of the standard.
-    Refused(Sender, PacketFault),
+    Refused(Endpoint, PacketFault),
     /// This program was stopped for so many milliseconds, in which it heard nothing.
     Stopped(u64),
     /// Two sources or more share the top priority of a universe (E1.31, 6.2.3).

@@ -15,7 +15,7 @@ ghost use Rattle.sacn_page.specs.WholeDocuments.{first_heard, universe_shown};
 
 use crate::alarms::{Alarms, Trouble};
 use sacn_framing::{Packet, Reading};
-use sacn_monitor::{Monitor, Sender, Stream};
+use sacn_monitor::{Endpoint, Monitor, Stream};
 use sacn_network::{LitUniverse, Network};
 use std::alloc::{AllocError, Global};
 
@@ -78,7 +78,7 @@ impl Board {
     pub fn take(
         &mut self,
         now: u64,
-        sender: Sender,
+        sender: Endpoint,
         reading: &Reading<'_>,
     ) -> Result<(), AllocError>
         ensures taken { (octets : List ℕ) → reading.now ≡ reading_packet octets → OnOk result

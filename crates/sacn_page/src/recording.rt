@@ -6,7 +6,7 @@ use crate::scene::{Facts, Scene, SeekFault};
 use crate::snapshots::Snapshots;
 use sacn_capture::{CaptureFault, FaultKind};
 use sacn_framing::Reading;
-use sacn_monitor::Sender;
+use sacn_monitor::Endpoint;
 use std::alloc::{AllocError, Global};
 use std::io::{self, BufRead, ErrorKind};
 
@@ -228,7 +228,7 @@ impl<T: Tape + Drop> Scene for Recording<T> {
     fn take(
         &mut self,
         _now: u64,
-        _sender: Sender,
+        _sender: Endpoint,
         _reading: &Reading<'_>,
     ) -> Result<(), AllocError> {
         Ok(())

@@ -17,7 +17,7 @@ use crate::scene::SeekFault;
 use sacn_capture::{Capture, CaptureFault, Datagram, FaultKind, Record};
 use sacn_explain::Timeline;
 use sacn_framing::read_packet;
-use sacn_monitor::Sender;
+use sacn_monitor::Endpoint;
 pub use snapshot::Snapshot;
 use std::alloc::{AllocError, Global};
 use std::io::BufRead;
@@ -28,7 +28,7 @@ struct Pending {
     /// The clock at it.
     clock: Timeline,
     /// The sender of its datagram, where it has one to the port. The datagram's octets are kept beside it.
-    sender: Option<Sender>,
+    sender: Option<Endpoint>,
 }
 
 /// What comes next of a recording.
@@ -305,7 +305,7 @@ fn with_datagram(
 {
     octets.clear();
     octets.extend_from_slice(datagram.payload)?;
-    let sender = Sender {
+    let sender = Endpoint {
         address: datagram.sender,
         port: datagram.sender_port,
     };

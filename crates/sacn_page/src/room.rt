@@ -8,7 +8,7 @@ use crate::hosts::Hosts;
 use crate::request::{Asked, Reading, Refusal};
 use crate::scene::{Scene, SeekFault};
 use crate::viewer::{Connection, Goal, Phase, Viewer};
-use sacn_monitor::Sender;
+use sacn_monitor::Endpoint;
 use slab::Slab;
 use std::alloc::{AllocError, Global};
 use std::net::SocketAddrV4;
@@ -67,7 +67,7 @@ impl<C: Connection + Drop, S: Scene + Drop> Room<C, S> {
     pub fn take(
         &mut self,
         now: u64,
-        sender: Sender,
+        sender: Endpoint,
         reading: &sacn_framing::Reading<'_>,
     ) -> Result<(), AllocError> {
         self.note_change();

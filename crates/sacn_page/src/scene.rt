@@ -3,7 +3,7 @@
 use crate::board::Board;
 use sacn_capture::{CaptureFault, FaultKind};
 use sacn_framing::Reading;
-use sacn_monitor::Sender;
+use sacn_monitor::Endpoint;
 use std::alloc::AllocError;
 use thiserror::Error;
 
@@ -49,7 +49,7 @@ pub trait Scene {
     /// Takes what a datagram was read as that was heard.
     ///
     /// Errors: OutOfMemory.
-    fn take(&mut self, now: u64, sender: Sender, reading: &Reading<'_>) -> Result<(), AllocError>;
+    fn take(&mut self, now: u64, sender: Endpoint, reading: &Reading<'_>) -> Result<(), AllocError>;
 
     /// Notes that this program was stopped for so many milliseconds.
     fn note_stop(&mut self, now: u64, millis: u64);
@@ -88,7 +88,12 @@ pub trait Scene {
 
 /// A network as it is heard.
 impl Scene for Board {
-    fn take(&mut self, now: u64, sender: Sender, reading: &Reading<'_>) -> Result<(), AllocError> {
+    fn take(
+        &mut self,
+        now: u64,
+        sender: Endpoint,
+        reading: &Reading<'_>,
+    ) -> Result<(), AllocError> {
         self.take(now, sender, reading)
     }
 

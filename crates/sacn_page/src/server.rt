@@ -6,7 +6,7 @@ use crate::viewer::Connection;
 use mio::net::{TcpListener, TcpStream};
 use mio::{Events, Interest, Poll, Token};
 use sacn_framing::Reading;
-use sacn_monitor::Sender;
+use sacn_monitor::Endpoint;
 use sacn_watch::{WatchFault, Watcher};
 use std::alloc::Global;
 use std::io::{self, ErrorKind};
@@ -145,7 +145,12 @@ impl<S: Scene + Drop> Pages<S> {
 }
 
 impl<S: Scene + Drop> Watcher for Pages<S> {
-    fn take(&mut self, now: u64, sender: Sender, reading: &Reading<'_>) -> Result<(), WatchFault> {
+    fn take(
+        &mut self,
+        now: u64,
+        sender: Endpoint,
+        reading: &Reading<'_>,
+    ) -> Result<(), WatchFault> {
         self.room.take(now, sender, reading)?;
         Ok(())
     }

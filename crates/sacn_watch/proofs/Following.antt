@@ -8,7 +8,7 @@ use Rattle.sacn_framing.specs.PacketReading.{reading_packet}
 use Rattle.sacn_framing.specs.declared.packet.Packet.{Packet}
 use Rattle.sacn_framing.specs.declared.packet.Packet.TheVariants.{DataPacket, PagePacket, SyncPacket}
 use Rattle.sacn_monitor.specs.Kinds.{more}
-use Rattle.sacn_monitor.specs.declared.account.Sender.{Sender}
+use Rattle.sacn_monitor.specs.declared.account.Endpoint.{Endpoint}
 use Rattle.sacn_monitor.specs.Streams.{is_of, first_stream}
 use Rattle.sacn_monitor.specs.Books.{Book, after_take, after_data, after_read, with_datagram}
 use Rattle.sacn_monitor.specs.Histories.{Call, Take, Tick, moment_in_use}
@@ -21,12 +21,12 @@ whatever (Err e) p = tt
 
 -- ---- the clock of a monitor
 
-data_moment : (sender : Sender) (d : Data) (b : Book) (o : Option ℕ) → (after_data sender d b o).moment ≡ b.moment
+data_moment : (sender : Endpoint) (d : Data) (b : Book) (o : Option ℕ) → (after_data sender d b o).moment ≡ b.moment
 unfolding after_data
 data_moment sender d b None = elim (ltb (length b.streams) 1024) as (λ r. (cond r (record b { streams = b.streams ++ first_stream b.moment sender d ∷ [] }) (record b { tally = record b.tally { untracked = more 1 b.tally.untracked } })).moment ≡ b.moment) [ true ↦ refl | false ↦ refl ]
 data_moment sender d b (Some i) = refl
 
-read_moment : (sender : Sender) (b : Book) (r : Result Packet PacketFault) → (after_read sender b r).moment ≡ b.moment
+read_moment : (sender : Endpoint) (b : Book) (r : Result Packet PacketFault) → (after_read sender b r).moment ≡ b.moment
 read_moment sender b (Ok (DataPacket d)) = data_moment sender d b (position (is_of d.universe d.cid) b.streams)
 read_moment sender b (Ok (PagePacket p)) = refl
 read_moment sender b (Ok SyncPacket) = refl
@@ -44,17 +44,17 @@ ticks_by : (t : ℕ) (ms : List ℕ) (b : Book) → AreBy t ms → max (after_ti
 ticks_by t [] b by = refl
 ticks_by t (m ∷ ms) b by = let before : max (after_ticks ms b).moment t ≡ max b.moment t = ticks_by t ms b by.1 in omega (arith, before, by.0)
 
-take_moment : (now : ℕ) (sender : Sender) (octets : List ℕ) (b : Book) → (after_take now sender octets b).moment ≡ max b.moment now
+take_moment : (now : ℕ) (sender : Endpoint) (octets : List ℕ) (b : Book) → (after_take now sender octets b).moment ≡ max b.moment now
 take_moment now sender octets b = read_moment sender (with_datagram now b) (reading_packet octets)
 
-same_take : (now t : ℕ) (sender : Sender) (octets : List ℕ) (b : Book) → max b.moment now ≡ max b.moment t → after_take now sender octets b ≡ after_take t sender octets b
+same_take : (now t : ℕ) (sender : Endpoint) (octets : List ℕ) (b : Book) → max b.moment now ≡ max b.moment t → after_take now sender octets b ≡ after_take t sender octets b
 same_take now t sender octets b same =
     ap (λ (n : ℕ). after_read sender (record b { moment = n; tally = record b.tally { datagrams = more 1 b.tally.datagrams } }) (reading_packet octets)) same
 
 -- ---- a screen
 
 module _ (calls : List Call) (now : ℕ) (old new : Book) (was : Follows calls old) (at : old.moment ≡ moment_in_use calls) where
-  pub shown_taken : (sender : Sender) (octets : List ℕ) → IsTaken now sender octets old new → Follows (Take now sender octets ∷ calls) new
+  pub shown_taken : (sender : Endpoint) (octets : List ℕ) → IsTaken now sender octets old new → Follows (Take now sender octets ∷ calls) new
   shown_taken sender octets (mid, (ms, by, ticked), taken) =
       let t : ℕ = max (moment_in_use calls) now in
       let later : old.moment ≤ (after_ticks ms old).moment = ticks_later ms old in
@@ -68,7 +68,7 @@ module _ (calls : List Call) (now : ℕ) (old new : Book) (was : Follows calls o
         ),
       )
 
-  pub taken_at : (sender : Sender) (octets : List ℕ) → IsTaken now sender octets old new → new.moment ≡ moment_in_use (Take now sender octets ∷ calls)
+  pub taken_at : (sender : Endpoint) (octets : List ℕ) → IsTaken now sender octets old new → new.moment ≡ moment_in_use (Take now sender octets ∷ calls)
   taken_at sender octets (mid, (ms, by, ticked), taken) =
       ap (λ (b : Book). b.moment) taken ∙ take_moment now sender octets mid ∙ ap (λ (b : Book). max b.moment now) ticked ∙ ticks_by now ms old by ∙ ap (λ (m : ℕ). max m now) at
 

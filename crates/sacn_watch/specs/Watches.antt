@@ -3,7 +3,7 @@ use Rattle.std.specs.Prelude.{◌≡◌, ℕ, ◌<◌, ◌≤◌, ◌-◌, ◌^�
 use Rattle.sacn_live.specs.Hearings.{Hearing, Came, None_there, From, Broken}
 use Rattle.sacn_live.specs.GatewayRun.{all_heard, ends_with_datagram}
 use Rattle.sacn_live.specs.declared.limits.TheConstants.{MAX_BURST}
-use Rattle.sacn_monitor.specs.declared.account.Sender.{Sender}
+use Rattle.sacn_monitor.specs.declared.account.Endpoint.{Endpoint}
 use Rattle.sacn_monitor.specs.Histories.{Call, Take, Tick}
 
 -- a receive, and the UDP port that a datagram came from

@@ -8,7 +8,7 @@ use crate::watch::Watcher;
 use sacn_capture::Counts;
 use sacn_explain::{Follower, Report};
 use sacn_framing::Reading;
-use sacn_monitor::Sender;
+use sacn_monitor::Endpoint;
 use std::io::Write;
 
 /// Tells each thing as it happens, and tables at the end, as a recording is told.
@@ -17,7 +17,12 @@ impl<'a, O: Write> Watcher for Follower<'a, O> {
 
     ghost Handed = { λ follower calls. IsFollowing calls follower };
 
-    fn take(&mut self, now: u64, sender: Sender, reading: &Reading<'_>) -> Result<(), WatchFault> {
+    fn take(
+        &mut self,
+        now: u64,
+        sender: Endpoint,
+        reading: &Reading<'_>,
+    ) -> Result<(), WatchFault> {
         self.take_reading(now, sender, reading)?;
         Ok(())
     }

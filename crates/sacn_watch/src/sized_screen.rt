@@ -8,7 +8,7 @@ use crate::terminal::Terminal;
 use crate::watch::Watcher;
 use sacn_framing::Reading;
 use sacn_live::limits::SILENT_START;
-use sacn_monitor::Sender;
+use sacn_monitor::Endpoint;
 use std::io::Write;
 
 /// What tells the size of a terminal.
@@ -67,7 +67,12 @@ impl<'a, O: Write, Z: Sizes> Watcher for Screen<'a, O, Z> {
 
     ghost Handed = { λ screen calls. IsShowing calls screen.terminal };
 
-    fn take(&mut self, now: u64, sender: Sender, reading: &Reading<'_>) -> Result<(), WatchFault> {
+    fn take(
+        &mut self,
+        now: u64,
+        sender: Endpoint,
+        reading: &Reading<'_>,
+    ) -> Result<(), WatchFault> {
         self.terminal.take(now, sender, reading)
     }
 

@@ -11,7 +11,7 @@ use crate::page::{Ink, Page, Size};
 use crate::view::View;
 use crate::watch::Watcher;
 use sacn_framing::Reading;
-use sacn_monitor::Sender;
+use sacn_monitor::Endpoint;
 use std::alloc::{AllocError, Global};
 use std::io::Write;
 
@@ -193,7 +193,12 @@ impl<'a, O: Write> Watcher for Terminal<'a, O> {
 
     ghost Handed = { λ terminal calls. IsShowing calls terminal };
 
-    fn take(&mut self, now: u64, sender: Sender, reading: &Reading<'_>) -> Result<(), WatchFault> {
+    fn take(
+        &mut self,
+        now: u64,
+        sender: Endpoint,
+        reading: &Reading<'_>,
+    ) -> Result<(), WatchFault> {
         self.view.take(now, sender, reading);
         self.is_stale = true;
         Ok(())

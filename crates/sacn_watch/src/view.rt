@@ -11,7 +11,7 @@ ghost use Rattle.sacn_watch.specs.Views.{after_packet, after_reading, chosen, pl
 
 use crate::fault::WatchFault;
 use sacn_framing::{DataView, Packet, Reading};
-use sacn_monitor::{Monitor, Sender};
+use sacn_monitor::{Endpoint, Monitor};
 use sacn_network::{LitUniverse, Network, Unobserved};
 use sacn_universe::SLOTS;
 use std::alloc::Global;
@@ -47,7 +47,7 @@ impl View {
 
     /// Takes what a datagram was read as that came at a moment from a sender: once, after the losses up to then. A data packet of
     /// the universe whose levels are shown goes to its table of sources; where none was shown yet it is the packet's from now on.
-    pub fn take(&mut self, now: u64, sender: Sender, reading: &Reading<'_>)
+    pub fn take(&mut self, now: u64, sender: Endpoint, reading: &Reading<'_>)
         ensures taken { (octets : List ℕ) → reading.now ≡ reading_packet octets →
             IsTaken now sender octets self.old.network.monitor self.new.network.monitor }
         ensures shown { shown_of self.new ≡ after_reading now reading.now (shown_of self.old) }

@@ -13,7 +13,7 @@ use sacn_edge::BUFFER_OCTETS;
 use sacn_framing::{Reading, read_packet};
 use sacn_live::Arrival;
 use sacn_live::limits::MAX_BURST;
-use sacn_monitor::Sender;
+use sacn_monitor::Endpoint;
 
 /// What is done with what is heard. Moments are in milliseconds.
 pub trait Watcher {
@@ -21,7 +21,7 @@ pub trait Watcher {
     ghost Handed: { Self → List Call → Type 0 } = { λ _ _. ⊤ };
 
     /// Takes what a datagram was read as that came at a moment from a sender.
-    fn take(&mut self, now: u64, sender: Sender, reading: &Reading<'_>) -> Result<(), WatchFault>
+    fn take(&mut self, now: u64, sender: Endpoint, reading: &Reading<'_>) -> Result<(), WatchFault>
         ensures handed { OnOk result ((calls : List Call) (octets : List ℕ)
             → reading.now ≡ reading_packet octets → Handed self.old calls
             → Handed self.new (Take now sender octets ∷ calls)) };
@@ -143,7 +143,7 @@ fn hear<L: Listener, W: Watcher>(
     tell_stop(listener, watcher, receipt.now)?;
     match receipt.arrival {
         Arrival::Datagram { octets, sender } => {
-            let sender = Sender {
+            let sender = Endpoint {
                 address: sender,
                 port: listener.sender_port(),
             };
