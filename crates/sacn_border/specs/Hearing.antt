@@ -8,8 +8,8 @@ use Rattle.sacn_monitor.specs.declared.news.Event.TheVariants.{GoesOn, Appeared,
 use Rattle.sacn_monitor.specs.declared.news.News.{News}
 use Rattle.sacn_monitor.specs.declared.news.Noted.{Noted}
 use Rattle.sacn_monitor.specs.declared.news.Noted.TheVariants.{Refused, Page, Sync, Untracked, Heard}
-use Rattle.sacn_monitor.specs.declared.stream.State.{State}
-use Rattle.sacn_monitor.specs.declared.stream.State.TheVariants as state
+use Rattle.sacn_monitor.specs.declared.stream.StreamState.{StreamState}
+use Rattle.sacn_monitor.specs.declared.stream.StreamState.TheVariants as state
 use Rattle.sacn_monitor.specs.declared.stream.Stream.{Stream}
 use Rattle.sacn_monitor.specs.Rates.{last_second}
 use Rattle.sacn_monitor.specs.Streams.{state_of}
@@ -78,7 +78,7 @@ news_told Sync = nothing_told 2
 news_told Untracked = nothing_told 3
 news_told (Heard place news) = heard_told place news
 
-abbrev pub state_number : State → ℕ
+abbrev pub state_number : StreamState → ℕ
 state_number state.Sending = 1
 state_number state.Ended = 2
 state_number state.Lost = 3

@@ -3,7 +3,7 @@ ghost use Rattle.std.specs.Prelude.{◌≡◌};
 ghost use Rattle.sacn_border.specs.Hearing.{sender_of, news_told, nothing_told, heard_told, noted_number, noted_status, state_number, event_number, stream_told};
 
 use crate::status::DONE;
-use sacn_monitor::{Endpoint, Event, News, Noted, State, Stream};
+use sacn_monitor::{Endpoint, Event, News, Noted, Stream, StreamState};
 
 /// Where a datagram came from. `sacn.h` says what each field means.
 #[repr(C)]
@@ -149,13 +149,13 @@ fn event_number(event: Event) -> u8
     }
 }
 
-fn state_number(state: State) -> u8
+fn state_number(state: StreamState) -> u8
     ensures { result ≡ state_number state }
 {
     match state {
-        State::Sending => 1,
-        State::Ended => 2,
-        State::Lost => 3,
+        StreamState::Sending => 1,
+        StreamState::Ended => 2,
+        StreamState::Lost => 3,
     }
 }
 

@@ -2,14 +2,14 @@
 use Rattle.std.specs.Prelude.{ℕ, ◌-◌, ◌+◌, ◌^◌, ◌==◌, min, List, filter}
 use Rattle.std.specs.List.{sum_by}
 use Rattle.sacn_monitor.specs.declared.stream.Stream.{Stream}
-use Rattle.sacn_monitor.specs.declared.stream.State.{State}
-use Rattle.sacn_monitor.specs.declared.stream.State.TheVariants.{Sending, Ended, Lost}
+use Rattle.sacn_monitor.specs.declared.stream.StreamState.{StreamState}
+use Rattle.sacn_monitor.specs.declared.stream.StreamState.TheVariants.{Sending, Ended, Lost}
 use Rattle.sacn_monitor.specs.Kinds.{more, total}
 use Rattle.sacn_monitor.specs.Streams.{state_of}
 use Rattle.sacn_explain.specs.declared.count.UniverseCounts.{UniverseCounts}
 
 -- one where the source sends
-abbrev pub sending_in : State → ℕ
+abbrev pub sending_in : StreamState → ℕ
 sending_in Sending = 1
 sending_in Ended = 0
 sending_in Lost = 0

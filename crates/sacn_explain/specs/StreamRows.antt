@@ -1,8 +1,8 @@
 -- The row of a source on a universe: for people, and as an object of JSON.
 use Rattle.std.specs.Prelude.{ℕ, List, ◌++◌, codes, decimal}
 use Rattle.sacn_monitor.specs.declared.stream.Stream.{Stream}
-use Rattle.sacn_monitor.specs.declared.stream.State.{State}
-use Rattle.sacn_monitor.specs.declared.stream.State.TheVariants.{Sending, Ended, Lost}
+use Rattle.sacn_monitor.specs.declared.stream.StreamState.{StreamState}
+use Rattle.sacn_monitor.specs.declared.stream.StreamState.TheVariants.{Sending, Ended, Lost}
 use Rattle.sacn_monitor.specs.Kinds.{total}
 use Rattle.sacn_monitor.specs.Rates.{last_second}
 use Rattle.sacn_monitor.specs.Streams.{state_of}
@@ -13,7 +13,7 @@ use Rattle.sacn_explain.specs.Members.{name_of, number_member, row_front, sender
 use Rattle.sacn_explain.specs.Sentences.{source_text}
 use Rattle.sacn_explain.specs.Rows.{column}
 
-abbrev pub state_word : State → List ℕ
+abbrev pub state_word : StreamState → List ℕ
 state_word Sending = codes "sending"
 state_word Ended = codes "ended"
 state_word Lost = codes "lost"

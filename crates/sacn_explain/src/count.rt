@@ -4,7 +4,7 @@ ghost use Rattle.std.specs.Prelude.{◌≡◌};
 ghost use Rattle.sacn_monitor.specs.Streams.{state_of};
 ghost use Rattle.sacn_explain.specs.Amounts.{counts_of, sending_in, with_stream};
 
-use sacn_monitor::{State, Stream};
+use sacn_monitor::{Stream, StreamState};
 
 /// What the streams of one universe amount to. Each count stops at 2^64 - 1.
 #[derive(Clone, Copy)]
@@ -57,7 +57,7 @@ fn sending_in(stream: &Stream, moment: u64) -> u64
     ensures { result ≡ sending_in (state_of moment stream.now) }
 {
     match stream.state(moment) {
-        State::Sending => 1,
-        State::Ended | State::Lost => 0,
+        StreamState::Sending => 1,
+        StreamState::Ended | StreamState::Lost => 0,
     }
 }

@@ -8,7 +8,7 @@ use crate::rows::push_column;
 use crate::spelling::{push_left, push_moment, push_sender};
 use crate::{json, words};
 use sacn_framing::up_to_nul;
-use sacn_monitor::{State, Stream};
+use sacn_monitor::{Stream, StreamState};
 use std::alloc::AllocError;
 use std::fmt::Write;
 
@@ -28,13 +28,13 @@ pub fn stream_row(
     }
 }
 
-fn state_word(state: State) -> &'static str
+fn state_word(state: StreamState) -> &'static str
     ensures { result.now ≡ state_word state }
 {
     match state {
-        State::Sending => "sending",
-        State::Ended => "ended",
-        State::Lost => "lost",
+        StreamState::Sending => "sending",
+        StreamState::Ended => "ended",
+        StreamState::Lost => "lost",
     }
 }
 

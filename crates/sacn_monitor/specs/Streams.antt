@@ -5,8 +5,8 @@ use Rattle.sacn_framing.specs.Data.{Data}
 use Rattle.sacn_sources.specs.declared.limits.TheConstants.{NETWORK_DATA_LOSS}
 use Rattle.sacn_monitor.specs.declared.account.Endpoint.{Endpoint}
 use Rattle.sacn_monitor.specs.declared.stream.Stream.{Stream}
-use Rattle.sacn_monitor.specs.declared.stream.State.{State}
-use Rattle.sacn_monitor.specs.declared.stream.State.TheVariants.{Sending, Ended, Lost}
+use Rattle.sacn_monitor.specs.declared.stream.StreamState.{StreamState}
+use Rattle.sacn_monitor.specs.declared.stream.StreamState.TheVariants.{Sending, Ended, Lost}
 use Rattle.sacn_monitor.specs.Accounts.{is_fresh, first_account, after_packet}
 
 -- the stream of this source on this universe
@@ -14,7 +14,7 @@ abbrev pub is_of : ℕ → List ℕ → Stream → Bool
 is_of universe cid s = (s.universe == universe) && bytes_eq s.cid cid
 
 -- whether the source sends, at t
-abbrev pub state_of : ℕ → Stream → State
+abbrev pub state_of : ℕ → Stream → StreamState
 state_of t s = if s.account.ended then Ended else (if is_fresh t s.account then Sending else Lost)
 
 abbrev pub first_stream : ℕ → Endpoint → Data → Stream

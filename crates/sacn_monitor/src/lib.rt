@@ -26,5 +26,5 @@ pub use monitor::Monitor;
 pub use news::{Change, Event, News, Noted};
 pub use numbering::Numbering;
 pub use rate::Rate;
-pub use stream::{State, Stream};
+pub use stream::{Stream, StreamState};
 pub use tally::Tally;

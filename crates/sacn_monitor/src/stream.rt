@@ -13,7 +13,7 @@ use sacn_sources::NETWORK_DATA_LOSS;
 
 /// Whether a source is there.
 #[derive(Clone, Copy, Debug, PartialEq, Eq)]
-pub enum State {
+pub enum StreamState {
     /// It sends.
     Sending,
     /// Its latest packet ended the stream (E1.31, 6.2.6).
@@ -36,16 +36,16 @@ pub struct Stream {
 
 impl Stream {
     /// Whether the source sends, at a moment that is no earlier than its latest packet.
-    pub fn state(&self, moment: u64) -> State
+    pub fn state(&self, moment: u64) -> StreamState
         ensures { result ≡ state_of moment self.now }
     {
         if self.account.ended {
-            return State::Ended;
+            return StreamState::Ended;
         }
         if self.account.is_fresh(moment) {
-            State::Sending
+            StreamState::Sending
         } else {
-            State::Lost
+            StreamState::Lost
         }
     }
 

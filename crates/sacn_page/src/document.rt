@@ -17,7 +17,7 @@ use crate::members::{
 };
 use crate::scene::Facts;
 use sacn_explain::{push_key, push_number, push_numbers, total};
-use sacn_monitor::{Monitor, State, Stream, Tally};
+use sacn_monitor::{Monitor, Stream, StreamState, Tally};
 use sacn_network::LitUniverse;
 use sacn_universe::SLOTS;
 use std::alloc::{AllocError, Global};
@@ -26,7 +26,7 @@ use std::alloc::{AllocError, Global};
 #[derive(Clone, Copy, PartialEq, Eq)]
 struct Row {
     stream: Stream,
-    state: State,
+    state: StreamState,
     last_second: u64,
 }
 

@@ -8,7 +8,7 @@ use crate::page::{Ink, Page, Row, Size};
 use crate::view::View;
 use sacn_explain::total;
 use sacn_framing::up_to_nul;
-use sacn_monitor::{Account, State, Stream};
+use sacn_monitor::{Account, Stream, StreamState};
 use std::alloc::{AllocError, Global};
 use std::fmt::Write;
 use std::str;
@@ -137,12 +137,12 @@ pub(crate) fn push_more(
 fn push_alarm(text: &mut String, view: &View, stream: &Stream) -> Result<(), AllocError> {
     let universe = stream.universe;
     match stream.state(view.monitor().moment()) {
-        State::Ended => Ok(()),
-        State::Lost => {
+        StreamState::Ended => Ok(()),
+        StreamState::Lost => {
             write!(text, "! universe {universe}: lost ")?;
             push_name(text, &stream.account)
         }
-        State::Sending => push_rivalry(text, view, stream),
+        StreamState::Sending => push_rivalry(text, view, stream),
     }
 }
 
@@ -241,11 +241,11 @@ fn push_sources_of(
     Ok(count)
 }
 
-fn state_word(state: State) -> &'static str {
+fn state_word(state: StreamState) -> &'static str {
     match state {
-        State::Sending => "sending",
-        State::Ended => "ended",
-        State::Lost => "lost",
+        StreamState::Sending => "sending",
+        StreamState::Ended => "ended",
+        StreamState::Lost => "lost",
     }
 }
 
