@@ -3,8 +3,8 @@ use Rattle.std.specs.Prelude.{ℕ, replicate, Option, Some, None}
 use Rattle.sacn_root.specs.FaultNumbers.{fault_number}
 use Rattle.sacn_monitor.specs.declared.account.Endpoint.{Endpoint}
 use Rattle.sacn_monitor.specs.declared.news.Change.{Change}
-use Rattle.sacn_monitor.specs.declared.news.Event.{Event}
-use Rattle.sacn_monitor.specs.declared.news.Event.TheVariants.{GoesOn, Appeared, CameBack, Ended, OutOfSequence, Repeated}
+use Rattle.sacn_monitor.specs.declared.news.StreamEvent.{StreamEvent}
+use Rattle.sacn_monitor.specs.declared.news.StreamEvent.TheVariants.{GoesOn, Appeared, CameBack, Ended, OutOfSequence, Repeated}
 use Rattle.sacn_monitor.specs.declared.news.News.{News}
 use Rattle.sacn_monitor.specs.declared.news.Noted.{Noted}
 use Rattle.sacn_monitor.specs.declared.news.Noted.TheVariants.{Refused, Page, Sync, Untracked, Heard}
@@ -37,7 +37,7 @@ noted_number Sync = 2
 noted_number Untracked = 3
 noted_number (Heard place news) = 4
 
-abbrev pub event_number : Event → ℕ
+abbrev pub event_number : StreamEvent → ℕ
 event_number GoesOn = 1
 event_number Appeared = 2
 event_number CameBack = 3

@@ -3,7 +3,7 @@ ghost use Rattle.std.specs.Prelude.{◌≡◌};
 ghost use Rattle.sacn_border.specs.Hearing.{sender_of, news_told, nothing_told, heard_told, noted_number, noted_status, state_number, event_number, stream_told};
 
 use crate::status::DONE;
-use sacn_monitor::{Endpoint, Event, News, Noted, Stream, StreamState};
+use sacn_monitor::{Endpoint, News, Noted, Stream, StreamEvent, StreamState};
 
 /// Where a datagram came from. `sacn.h` says what each field means.
 #[repr(C)]
@@ -136,16 +136,16 @@ fn put_heard(place: usize, news: &News, fields: &mut NewsFields)
     }
 }
 
-fn event_number(event: Event) -> u8
+fn event_number(event: StreamEvent) -> u8
     ensures { result ≡ event_number event }
 {
     match event {
-        Event::GoesOn => 1,
-        Event::Appeared => 2,
-        Event::CameBack => 3,
-        Event::Ended => 4,
-        Event::OutOfSequence => 5,
-        Event::Repeated => 6,
+        StreamEvent::GoesOn => 1,
+        StreamEvent::Appeared => 2,
+        StreamEvent::CameBack => 3,
+        StreamEvent::Ended => 4,
+        StreamEvent::OutOfSequence => 5,
+        StreamEvent::Repeated => 6,
     }
 }
 

@@ -4,7 +4,7 @@ use Rattle.sacn_root.specs.declared.fault.PacketFault.{PacketFault}
 use Rattle.sacn_root.specs.FaultNumbers.{fault_number}
 use Rattle.sacn_monitor.specs.declared.account.Endpoint.{Endpoint}
 use Rattle.sacn_monitor.specs.declared.news.Change.{Change}
-use Rattle.sacn_monitor.specs.declared.news.Event.{Event}
+use Rattle.sacn_monitor.specs.declared.news.StreamEvent.{StreamEvent}
 use Rattle.sacn_monitor.specs.declared.stream.Stream.{Stream}
 use Rattle.sacn_explain.specs.declared.options.Form.{Form}
 use Rattle.sacn_explain.specs.declared.options.Form.TheVariants.{Text, Json}
@@ -13,7 +13,7 @@ use Rattle.sacn_explain.specs.Refusals.{fault_name}
 use Rattle.sacn_explain.specs.Sentences.{event_key, event_words, line_front, loss_words, moved_words, omission_words, priority_words, refused_words, skipped_words, stream_front, untracked_words}
 
 -- what a packet says of its source
-abbrev pub event_line : Form → ℕ → Stream → Event → List ℕ
+abbrev pub event_line : Form → ℕ → Stream → StreamEvent → List ℕ
 event_line Text now s event = stream_front now s ++ event_words event s
 event_line Json now s event = object_front now (event_key event) ++ (stream_members s ++ (sender_members s.account.sender ++ (number_member (codes "priority") s.account.priority ++ codes "}")))
 

@@ -3,8 +3,8 @@ use Rattle.std.specs.Prelude.{ℕ, ◌/◌, ◌%◌, ◌==◌, List, [], ◌++�
 use Rattle.sacn_root.specs.declared.fault.PacketFault.{PacketFault}
 use Rattle.sacn_monitor.specs.declared.account.Endpoint.{Endpoint}
 use Rattle.sacn_monitor.specs.declared.news.Change.{Change}
-use Rattle.sacn_monitor.specs.declared.news.Event.{Event}
-use Rattle.sacn_monitor.specs.declared.news.Event.TheVariants.{GoesOn, Appeared, CameBack, Ended, OutOfSequence, Repeated}
+use Rattle.sacn_monitor.specs.declared.news.StreamEvent.{StreamEvent}
+use Rattle.sacn_monitor.specs.declared.news.StreamEvent.TheVariants.{GoesOn, Appeared, CameBack, Ended, OutOfSequence, Repeated}
 use Rattle.sacn_monitor.specs.declared.stream.Stream.{Stream}
 use Rattle.sacn_explain.specs.Spelling.{right, zeros, octets_text, sender_text, moment_text, name_text}
 use Rattle.sacn_explain.specs.Members.{name_of}
@@ -30,7 +30,7 @@ unfoldable pub presence_words : List ℕ → Stream → List ℕ
 presence_words word s = word ++ (codes " at " ++ (sender_text s.account.sender ++ (codes ", priority " ++ decimal s.account.priority)))
 
 -- what a packet says of its source
-abbrev pub event_words : Event → Stream → List ℕ
+abbrev pub event_words : StreamEvent → Stream → List ℕ
 event_words GoesOn s = []
 event_words Appeared s = presence_words (codes "appears") s
 event_words CameBack s = presence_words (codes "is back") s
@@ -39,7 +39,7 @@ event_words OutOfSequence s = codes "a packet out of sequence, discarded"
 event_words Repeated s = codes "a packet comes again, discarded"
 
 -- the key of an event in JSON
-abbrev pub event_key : Event → List ℕ
+abbrev pub event_key : StreamEvent → List ℕ
 event_key GoesOn = codes "goes_on"
 event_key Appeared = codes "appeared"
 event_key CameBack = codes "came_back"

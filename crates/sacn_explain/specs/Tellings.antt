@@ -2,7 +2,7 @@
 use Rattle.std.specs.Prelude.{◌≡◌, ℕ, nat_lt, Bool, not, List, [], ◌++◌, Option, None, Some, string_bytes, codes, if◌then◌else◌}
 use Rattle.std.specs.Io.KnownBytes.{Appends, append_known}
 use Rattle.sacn_monitor.specs.declared.news.Change.{Change}
-use Rattle.sacn_monitor.specs.declared.news.Event.{Event}
+use Rattle.sacn_monitor.specs.declared.news.StreamEvent.{StreamEvent}
 use Rattle.sacn_monitor.specs.declared.news.News.{News}
 use Rattle.sacn_monitor.specs.declared.stream.Stream.{Stream}
 use Rattle.sacn_network.specs.Packets.{goes_on}
@@ -31,7 +31,7 @@ abbrev pub where_so : Bool → List ℕ → List ℕ
 where_so happened line = if happened then with_line_end line else []
 
 -- the line of an event; none where the source goes on
-abbrev pub event_told : Form → ℕ → Stream → Event → List ℕ
+abbrev pub event_told : Form → ℕ → Stream → StreamEvent → List ℕ
 event_told form now s event = where_so (not (goes_on event)) (event_line form now s event)
 
 abbrev pub priority_told : Form → ℕ → Stream → Option Change → List ℕ

@@ -7,21 +7,21 @@ ghost use Rattle.sacn_explain.specs.PacketLines.{event_line, moved_line, renamed
 use crate::options::Form;
 use crate::refusals::fault_name;
 use crate::{json, words};
-use sacn_monitor::{Change, Endpoint, Event, News, Stream};
+use sacn_monitor::{Change, Endpoint, News, Stream, StreamEvent};
 use sacn_root::PacketFault;
 use std::alloc::AllocError;
 
 // The key of an event in JSON.
-fn event_key(event: Event) -> &'static str
+fn event_key(event: StreamEvent) -> &'static str
     ensures { result.now ≡ event_key event }
 {
     match event {
-        Event::GoesOn => "goes_on",
-        Event::Appeared => "appeared",
-        Event::CameBack => "came_back",
-        Event::Ended => "ended",
-        Event::OutOfSequence => "out_of_sequence",
-        Event::Repeated => "repeated",
+        StreamEvent::GoesOn => "goes_on",
+        StreamEvent::Appeared => "appeared",
+        StreamEvent::CameBack => "came_back",
+        StreamEvent::Ended => "ended",
+        StreamEvent::OutOfSequence => "out_of_sequence",
+        StreamEvent::Repeated => "repeated",
     }
 }
 
@@ -31,7 +31,7 @@ pub fn event_line(
     form: Form,
     now: u64,
     stream: &Stream,
-    event: Event,
+    event: StreamEvent,
 ) -> Result<(), AllocError>
     ensures { OnOk result
         (string_bytes text.new ≡ string_bytes text.old ++ event_line form now stream.now event) }

@@ -14,7 +14,7 @@ use crate::packet_lines::{
     anew_line, event_line, loss_line, moved_line, omission_line, priority_line, refused_line,
     renamed_line, skipped_line, untracked_line,
 };
-use sacn_monitor::{Change, Endpoint, Event, News, Stream};
+use sacn_monitor::{Change, Endpoint, News, Stream, StreamEvent};
 use sacn_node::PortFrame;
 use sacn_root::PacketFault;
 use std::alloc::Global;
@@ -70,11 +70,11 @@ impl<'o, O: Write> Teller<'o, O> {
         self.tell_gap(now, stream, news)
     }
 
-    fn tell_event(&mut self, now: u64, stream: &Stream, event: Event) -> Result<(), TellFault>
+    fn tell_event(&mut self, now: u64, stream: &Stream, event: StreamEvent) -> Result<(), TellFault>
         ensures { OnOk result
             (Tells O.contents self.old self.new (event_told self.old.form now stream.now event)) }
     {
-        if event == Event::GoesOn {
+        if event == StreamEvent::GoesOn {
             return Ok(());
         }
         event_line(&mut self.line, self.form, now, stream, event)?;

@@ -7,7 +7,7 @@ use crate::places::written_universe;
 use crate::refusals::fault_words;
 use crate::spelling::{push_ascii, push_cid, push_moment, push_name, push_sender};
 use sacn_framing::up_to_nul;
-use sacn_monitor::{Change, Endpoint, Event, News, Stream};
+use sacn_monitor::{Change, Endpoint, News, Stream, StreamEvent};
 use sacn_root::PacketFault;
 use std::alloc::AllocError;
 use std::fmt::Write;
@@ -53,17 +53,17 @@ pub fn push_source(text: &mut String, cid: &[u8; 16], name: &[u8]) -> Result<(),
 }
 
 /// What an event says; nothing where the source goes on.
-pub fn push_event(text: &mut String, event: Event, stream: &Stream) -> Result<(), AllocError>
+pub fn push_event(text: &mut String, event: StreamEvent, stream: &Stream) -> Result<(), AllocError>
     ensures { OnOk result
         (string_bytes text.new ≡ string_bytes text.old ++ event_words event stream.now) }
 {
     match event {
-        Event::GoesOn => Ok(()),
-        Event::Appeared => push_presence(text, "appears", stream),
-        Event::CameBack => push_presence(text, "is back", stream),
-        Event::Ended => text.push_str("ends its stream"),
-        Event::OutOfSequence => text.push_str("a packet out of sequence, discarded"),
-        Event::Repeated => text.push_str("a packet comes again, discarded"),
+        StreamEvent::GoesOn => Ok(()),
+        StreamEvent::Appeared => push_presence(text, "appears", stream),
+        StreamEvent::CameBack => push_presence(text, "is back", stream),
+        StreamEvent::Ended => text.push_str("ends its stream"),
+        StreamEvent::OutOfSequence => text.push_str("a packet out of sequence, discarded"),
+        StreamEvent::Repeated => text.push_str("a packet comes again, discarded"),
     }
 }
 

@@ -9,8 +9,8 @@ use Rattle.sacn_sources.specs.Packets.{kind_of}
 use Rattle.sacn_sources.specs.declared.limits.TheConstants.{NETWORK_DATA_LOSS}
 use Rattle.sacn_monitor.specs.declared.account.Account.{Account}
 use Rattle.sacn_monitor.specs.declared.account.Endpoint.{Endpoint}
-use Rattle.sacn_monitor.specs.declared.news.Event.{Event}
-use Rattle.sacn_monitor.specs.declared.news.Event.TheVariants.{GoesOn, CameBack, Ended, OutOfSequence, Repeated}
+use Rattle.sacn_monitor.specs.declared.news.StreamEvent.{StreamEvent}
+use Rattle.sacn_monitor.specs.declared.news.StreamEvent.TheVariants.{GoesOn, CameBack, Ended, OutOfSequence, Repeated}
 use Rattle.sacn_monitor.specs.declared.news.Change.{Change}
 use Rattle.sacn_monitor.specs.declared.news.News.{News}
 use Rattle.sacn_monitor.specs.Kinds.{more, no_packets, with_one_more}
@@ -124,13 +124,13 @@ first_account t sender d = record {
 
 -- ---- what it tells that is new
 
-abbrev pub quiet : Event → News
+abbrev pub quiet : StreamEvent → News
 quiet event = record { event = event; skipped = 0; began_anew = false; leaves_out = None; priority = None; renamed = false; moved = false }
 
-abbrev pub discarded_event : ℕ → Account → Event
+abbrev pub discarded_event : ℕ → Account → StreamEvent
 discarded_event arrived a = if arrived == a.sequence_number then Repeated else OutOfSequence
 
-abbrev pub taken_event : ℕ → Bool → Account → Event
+abbrev pub taken_event : ℕ → Bool → Account → StreamEvent
 taken_event t true a = if a.ended then GoesOn else Ended
 taken_event t false a = if a.ended || not (is_fresh t a) then CameBack else GoesOn
 

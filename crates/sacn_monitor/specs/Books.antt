@@ -10,7 +10,7 @@ use Rattle.sacn_monitor.specs.declared.account.Account.{Account}
 use Rattle.sacn_monitor.specs.declared.account.Endpoint.{Endpoint}
 use Rattle.sacn_monitor.specs.declared.stream.Stream.{Stream}
 use Rattle.sacn_monitor.specs.declared.tally.Tally.{Tally}
-use Rattle.sacn_monitor.specs.declared.news.Event.TheVariants.{Appeared}
+use Rattle.sacn_monitor.specs.declared.news.StreamEvent.TheVariants.{Appeared}
 use Rattle.sacn_monitor.specs.declared.news.Noted.{Noted}
 use Rattle.sacn_monitor.specs.declared.news.Noted.TheVariants.{Refused, Page, Sync, Untracked, Heard}
 use Rattle.sacn_monitor.specs.declared.limits.TheConstants.{MAX_STREAMS}

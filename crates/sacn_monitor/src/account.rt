@@ -6,7 +6,7 @@ ghost use Rattle.sacn_framing.specs.Naming.{padded};
 ghost use Rattle.sacn_monitor.specs.Accounts.{same_sender, is_fresh, is_discarded, begins_apart, begins_life, lost_at, numbering_at, renumbered, number_news, begins_anew, changed, taken_event, discarded_event, is_next, fitted, name_of, IsFitted, taken_news, news_of, after_packet, after_taken, after_discarded, first_account};
 
 use crate::kinds::Kinds;
-use crate::news::{Change, Event, News};
+use crate::news::{Change, News, StreamEvent};
 use crate::numbering::{NumberNews, Numbering, OPENING_STEP};
 use crate::rate::Rate;
 use sacn_framing::DataView;
@@ -112,20 +112,20 @@ impl Account {
     }
 
     // The event of a taken packet.
-    fn taken_event(&self, moment: u64, terminated: bool) -> Event
+    fn taken_event(&self, moment: u64, terminated: bool) -> StreamEvent
         ensures { result ≡ taken_event moment terminated self.now }
     {
         if terminated {
             return if self.ended {
-                Event::GoesOn
+                StreamEvent::GoesOn
             } else {
-                Event::Ended
+                StreamEvent::Ended
             };
         }
         if self.ended | !self.is_fresh(moment) {
-            Event::CameBack
+            StreamEvent::CameBack
         } else {
-            Event::GoesOn
+            StreamEvent::GoesOn
         }
     }
 
@@ -215,16 +215,16 @@ impl Account {
     }
 
     // A packet that is discarded. Returns its event.
-    fn discard(&mut self, arrived: u8) -> Event
+    fn discard(&mut self, arrived: u8) -> StreamEvent
         ensures event { result ≡ discarded_event arrived self.old }
         ensures account { self.new ≡ after_discarded arrived self.old }
     {
         if arrived == self.sequence_number {
             self.repeats = self.repeats.saturating_add(1);
-            Event::Repeated
+            StreamEvent::Repeated
         } else {
             self.late = self.late.saturating_add(1);
-            Event::OutOfSequence
+            StreamEvent::OutOfSequence
         }
     }
 

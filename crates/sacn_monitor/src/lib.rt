@@ -23,7 +23,7 @@ pub use account::{Account, Endpoint};
 pub use kinds::Kinds;
 pub use limits::MAX_STREAMS;
 pub use monitor::Monitor;
-pub use news::{Change, Event, News, Noted};
+pub use news::{Change, News, Noted, StreamEvent};
 pub use numbering::Numbering;
 pub use rate::Rate;
 pub use stream::{Stream, StreamState};

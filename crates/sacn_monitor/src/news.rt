@@ -7,7 +7,7 @@ use sacn_root::PacketFault;
 
 /// What a packet says of its source on its universe.
 #[derive(Clone, Copy, Debug, PartialEq, Eq)]
-pub enum Event {
+pub enum StreamEvent {
     /// It goes on.
     GoesOn,
     /// It wasn't heard there before.
@@ -32,7 +32,7 @@ pub struct Change {
 /// All that a data packet tells that is new. A discarded packet tells its event alone.
 #[derive(Clone, Copy, Debug, PartialEq, Eq)]
 pub struct News {
-    pub event: Event,
+    pub event: StreamEvent,
     /// The sequence numbers that were skipped: so many packets are missing. One that the source is known to leave out isn't counted.
     pub skipped: u8,
     /// The sequence numbers go back by twenty or more: the sender began them anew (E1.31, 6.7.2).
@@ -48,7 +48,7 @@ pub struct News {
 
 impl News {
     /// The news of a packet that tells its event alone.
-    pub(crate) fn quiet(event: Event) -> Self
+    pub(crate) fn quiet(event: StreamEvent) -> Self
         ensures { result ≡ quiet event }
     {
         News {

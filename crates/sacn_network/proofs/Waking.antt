@@ -8,7 +8,7 @@ use Rattle.sacn_framing.specs.declared.packet.Packet.TheVariants.{DataPacket, Pa
 use Rattle.sacn_sources.specs.declared.limits.TheConstants.{NETWORK_DATA_LOSS}
 use Rattle.sacn_monitor.specs.declared.account.Endpoint.{Endpoint}
 use Rattle.sacn_monitor.specs.declared.limits.TheConstants.{MAX_STREAMS}
-use Rattle.sacn_monitor.specs.declared.news.Event.TheVariants.{Appeared}
+use Rattle.sacn_monitor.specs.declared.news.StreamEvent.TheVariants.{Appeared}
 use Rattle.sacn_monitor.specs.declared.news.Noted.{Noted}
 use Rattle.sacn_monitor.specs.declared.news.Noted.TheVariants as noted
 use Rattle.sacn_monitor.specs.declared.stream.Stream.{Stream}

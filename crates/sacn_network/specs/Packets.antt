@@ -1,8 +1,8 @@
 -- What a datagram tells, by what was noted of it.
 use Rattle.std.specs.Prelude.{ℕ, Bool, true, false, not, ◌&&◌, ◌||◌, ◌==◌, is_none, is_some, List, [], ◌∷◌, ◌++◌, slice_get, Option, None, Some, if◌then◌else◌}
 use Rattle.sacn_monitor.specs.declared.account.Endpoint.{Endpoint}
-use Rattle.sacn_monitor.specs.declared.news.Event.{Event}
-use Rattle.sacn_monitor.specs.declared.news.Event.TheVariants.{GoesOn, Appeared, CameBack, Ended, OutOfSequence, Repeated}
+use Rattle.sacn_monitor.specs.declared.news.StreamEvent.{StreamEvent}
+use Rattle.sacn_monitor.specs.declared.news.StreamEvent.TheVariants.{GoesOn, Appeared, CameBack, Ended, OutOfSequence, Repeated}
 use Rattle.sacn_monitor.specs.declared.news.News.{News}
 use Rattle.sacn_monitor.specs.declared.news.Noted.{Noted}
 use Rattle.sacn_monitor.specs.declared.news.Noted.TheVariants as noted
@@ -14,7 +14,7 @@ use Rattle.sacn_network.specs.declared.occurrence.What.TheVariants.{Heard, Refus
 use Rattle.sacn_network.specs.Sets.{marked}
 use Rattle.sacn_network.specs.Contests.{contest_in, with_contest}
 
-abbrev pub goes_on : Event → Bool
+abbrev pub goes_on : StreamEvent → Bool
 goes_on GoesOn = true
 goes_on Appeared = false
 goes_on CameBack = false

@@ -5,14 +5,14 @@ ghost use Rattle.sacn_network.specs.Contests.{universe_of};
 ghost use Rattle.sacn_network.specs.Losses.{lost_from, soonest_loss};
 ghost use Rattle.sacn_network.specs.Packets.{stirred_universe, stirs, tells_nothing};
 
-use sacn_monitor::{Event, News, Noted, Stream};
+use sacn_monitor::{News, Noted, Stream, StreamEvent};
 use sacn_sources::NETWORK_DATA_LOSS;
 
 /// Whether a packet tells nothing new.
 pub(crate) fn tells_nothing(news: &News) -> bool
     ensures { result ≡ tells_nothing news.now }
 {
-    (news.event == Event::GoesOn)
+    (news.event == StreamEvent::GoesOn)
         & (news.skipped == 0)
         & !news.began_anew
         & news.leaves_out.is_none()
@@ -27,7 +27,7 @@ pub(crate) fn tells_nothing(news: &News) -> bool
 fn stirs(stream: &Stream, news: &News) -> bool
     ensures { result ≡ stirs stream.now news.now }
 {
-    (news.event != Event::GoesOn) | news.priority.is_some() | (stream.account.kinds.live == 1)
+    (news.event != StreamEvent::GoesOn) | news.priority.is_some() | (stream.account.kinds.live == 1)
 }
 
 /// The universe that a packet of the stream at a place stirs, if it stirs one.

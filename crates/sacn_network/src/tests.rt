@@ -4,7 +4,7 @@ ghost use Rattle.std.specs.Prelude.{◌≡◌, false, ◌++◌, ◌∷◌, []};
 
 use crate::{Contest, Network, Observer, Occurrence, What};
 use sacn_framing::{DataFields, read_packet, write_data};
-use sacn_monitor::{Endpoint, Event, Monitor, News};
+use sacn_monitor::{Endpoint, Monitor, News, StreamEvent};
 use std::alloc::{AllocError, Global};
 
 /// Lists what it is told, as far as memory goes.
@@ -49,7 +49,7 @@ fn take(network: &mut Network, now: u64, source: u8, number: u8, listing: &mut L
 
 fn appeared(at: u64, place: usize) -> Occurrence {
     let news = News {
-        event: Event::Appeared,
+        event: StreamEvent::Appeared,
         skipped: 0,
         began_anew: false,
         leaves_out: None,

@@ -1,8 +1,8 @@
 -- The things that went wrong, and which of them are kept.
 use Rattle.std.specs.Prelude.{◌≡◌, ℕ, ◌+◌, ◌-◌, ◌^◌, min, nat_le, nat_lt, Bool, true, false, not, ◌==◌, List, [], ◌∷◌, ◌++◌, length, drop, filter, position, remove, Option, None, Some, if◌then◌else◌}
 use Rattle.std.specs.Option.{option_or}
-use Rattle.sacn_monitor.specs.declared.news.Event.{Event}
-use Rattle.sacn_monitor.specs.declared.news.Event.TheVariants as event
+use Rattle.sacn_monitor.specs.declared.news.StreamEvent.{StreamEvent}
+use Rattle.sacn_monitor.specs.declared.news.StreamEvent.TheVariants as event
 use Rattle.sacn_monitor.specs.declared.news.News.{News}
 use Rattle.sacn_network.specs.declared.occurrence.What.{What}
 use Rattle.sacn_network.specs.declared.occurrence.What.TheVariants as what
@@ -85,7 +85,7 @@ after count alarms = from_place alarms (position (λ a. nat_le count a.earlier) 
 -- ---- what is told of a network
 
 -- what became of the source at a place
-abbrev pub event_troubles : ℕ → Event → List Trouble
+abbrev pub event_troubles : ℕ → StreamEvent → List Trouble
 event_troubles place event.GoesOn = []
 event_troubles place event.Appeared = []
 event_troubles place event.CameBack = CameBack place ∷ []

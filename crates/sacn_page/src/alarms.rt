@@ -3,7 +3,7 @@
 ghost use Rattle.std.specs.Prelude.{◌≡◌, ◌≤◌, ◌-◌, [], IfOk, length, nat_le, not, position, vec_capacity};
 ghost use Rattle.sacn_page.specs.Alarms.{after, alarms_after, event_troubles, giving_way, is_loss, news_troubles, no_alarms, oldest, troubles_of, with_alarm, with_latest, with_troubles};
 
-use sacn_monitor::{Endpoint, Event, Monitor, News};
+use sacn_monitor::{Endpoint, Monitor, News, StreamEvent};
 use sacn_network::{Contest, Observer, Occurrence, What};
 use sacn_root::PacketFault;
 use std::alloc::{AllocError, Global};
@@ -153,14 +153,14 @@ impl Alarms {
     }
 
     // That of what became of the source at a place.
-    fn add_event(&mut self, at: u64, place: usize, event: Event)
+    fn add_event(&mut self, at: u64, place: usize, event: StreamEvent)
         ensures { self.new ≡ with_troubles at (event_troubles place event) self.old }
     {
         match event {
-            Event::CameBack => self.add(at, Trouble::CameBack(place)),
-            Event::Ended => self.add(at, Trouble::Ended(place)),
-            Event::OutOfSequence => self.add(at, Trouble::Late(place)),
-            Event::GoesOn | Event::Appeared | Event::Repeated => {}
+            StreamEvent::CameBack => self.add(at, Trouble::CameBack(place)),
+            StreamEvent::Ended => self.add(at, Trouble::Ended(place)),
+            StreamEvent::OutOfSequence => self.add(at, Trouble::Late(place)),
+            StreamEvent::GoesOn | StreamEvent::Appeared | StreamEvent::Repeated => {}
         }
     }
 
