@@ -4,7 +4,7 @@ use crate::document::{Extent, Given, push_document};
 use crate::markup::{Subject, page};
 use crate::members::push_facts;
 use crate::request::{Asked, Refusal};
-use crate::response::{Kind, event_stream_head, refusal_response, whole};
+use crate::response::{MediaType, event_stream_head, refusal_response, whole};
 use crate::scene::Scene;
 use crate::viewer::{Connection, Goal, Phase, Viewer};
 use std::alloc::{AllocError, Global};
@@ -35,11 +35,11 @@ pub fn refuse<C: Connection + Drop>(
 fn give<C: Connection + Drop>(
     alloc: Global,
     viewer: &mut Viewer<C>,
-    kind: Kind,
+    media_type: MediaType,
     body: &str,
     now: u64,
 ) -> Result<(), AllocError> {
-    let text = whole(alloc, kind, body)?;
+    let text = whole(alloc, media_type, body)?;
     viewer.give(text.as_str(), Phase::Answered, now)
 }
 
@@ -61,7 +61,7 @@ pub fn answer<C: Connection + Drop, S: Scene + Drop>(
     match asked {
         Asked::Page => {
             let body = page(alloc, Subject::Network)?;
-            give(alloc, viewer, Kind::Page, body.as_str(), now)
+            give(alloc, viewer, MediaType::Page, body.as_str(), now)
         }
         Asked::State(named, None) => show_state(alloc, scene, viewer, named, watched, now),
         Asked::State(_, Some(_)) => refuse(alloc, viewer, Refusal::Moment, now),
@@ -81,7 +81,7 @@ fn answer_of_recording<C: Connection + Drop, S: Scene + Drop>(
     match asked {
         Asked::Page => {
             let body = page(alloc, Subject::Recording)?;
-            give(alloc, viewer, Kind::Page, body.as_str(), now)
+            give(alloc, viewer, MediaType::Page, body.as_str(), now)
         }
         Asked::State(universe, moment) => {
             viewer.wait(Goal {
@@ -97,7 +97,7 @@ fn answer_of_recording<C: Connection + Drop, S: Scene + Drop>(
             if let Some(facts) = scene.facts() {
                 push_facts(&mut body, facts)?;
             }
-            give(alloc, viewer, Kind::Json, body.as_str(), now)
+            give(alloc, viewer, MediaType::Json, body.as_str(), now)
         }
     }
 }
@@ -137,7 +137,7 @@ pub fn show_moment<C: Connection + Drop, S: Scene + Drop>(
         &mut given,
         Extent::Whole,
     )?;
-    give(alloc, viewer, Kind::Json, document.as_str(), now)
+    give(alloc, viewer, MediaType::Json, document.as_str(), now)
 }
 
 // The head of an answer whose events follow: those that are made for all who name this universe.

@@ -11,22 +11,22 @@ use std::fmt::Write;
 const POLICY: &str =
     "default-src 'none'; style-src 'unsafe-inline'; script-src 'unsafe-inline'; connect-src 'self'; img-src data:";
 
-/// What an answer is.
+/// What an answer is, by its media type (RFC 9110, 8.3.1).
 #[derive(Clone, Copy)]
-pub enum Kind {
+pub enum MediaType {
     Page,
     Json,
     Events,
     Text,
 }
 
-impl Kind {
-    fn media_type(self) -> &'static str {
+impl MediaType {
+    fn name(self) -> &'static str {
         match self {
-            Kind::Page => "text/html; charset=utf-8",
-            Kind::Json => "application/json",
-            Kind::Events => "text/event-stream",
-            Kind::Text => "text/plain; charset=utf-8",
+            MediaType::Page => "text/html; charset=utf-8",
+            MediaType::Json => "application/json",
+            MediaType::Events => "text/event-stream",
+            MediaType::Text => "text/plain; charset=utf-8",
         }
     }
 }
@@ -70,8 +70,8 @@ impl Refusal {
 /// An answer with this body.
 ///
 /// Errors: a growth was refused.
-pub fn whole(alloc: Global, kind: Kind, body: &str) -> Result<String, AllocError> {
-    let mut text = head_of(alloc, 200, "OK", kind)?;
+pub fn whole(alloc: Global, media_type: MediaType, body: &str) -> Result<String, AllocError> {
+    let mut text = head_of(alloc, 200, "OK", media_type)?;
     finish(&mut text, body)?;
     Ok(text)
 }
@@ -80,7 +80,7 @@ pub fn whole(alloc: Global, kind: Kind, body: &str) -> Result<String, AllocError
 ///
 /// Errors: a growth was refused.
 pub fn event_stream_head(alloc: Global) -> Result<String, AllocError> {
-    let mut text = head_of(alloc, 200, "OK", Kind::Events)?;
+    let mut text = head_of(alloc, 200, "OK", MediaType::Events)?;
     text.push_str("\r\n")?;
     Ok(text)
 }
@@ -89,7 +89,7 @@ pub fn event_stream_head(alloc: Global) -> Result<String, AllocError> {
 ///
 /// Errors: a growth was refused.
 pub fn refusal_response(alloc: Global, refusal: Refusal) -> Result<String, AllocError> {
-    let mut text = head_of(alloc, refusal.status(), refusal.reason(), Kind::Text)?;
+    let mut text = head_of(alloc, refusal.status(), refusal.reason(), MediaType::Text)?;
     match refusal {
         Refusal::Method => text.push_str("Allow: GET\r\n")?,
         Refusal::Busy => text.push_str("Retry-After: 5\r\n")?,
@@ -103,11 +103,16 @@ pub fn refusal_response(alloc: Global, refusal: Refusal) -> Result<String, Alloc
 }
 
 // The front of a head.
-fn head_of(alloc: Global, status: u16, reason: &str, kind: Kind) -> Result<String, AllocError> {
+fn head_of(
+    alloc: Global,
+    status: u16,
+    reason: &str,
+    media_type: MediaType,
+) -> Result<String, AllocError> {
     let mut text = String::new(alloc);
-    let media_type = kind.media_type();
+    let name = media_type.name();
     write!(text, "HTTP/1.1 {status} {reason}\r\n")?;
-    write!(text, "Content-Type: {media_type}\r\n")?;
+    write!(text, "Content-Type: {name}\r\n")?;
     text.push_str("Connection: close\r\n")?;
     text.push_str("Cache-Control: no-store\r\n")?;
     text.push_str("X-Content-Type-Options: nosniff\r\n")?;
