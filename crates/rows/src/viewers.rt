@@ -1,6 +1,6 @@
 //! One connection of a browser, in memory.
 use crate::step::{Step, StepFault};
-use sacn_page::{Asked, Connection, Hosts, Phase, Reading, Viewer};
+use sacn_page::{Connection, Hosts, Phase, Reading, Target, Viewer};
 use std::alloc::{AllocError, Global};
 use std::io::{self, ErrorKind, Read, Write};
 use std::net::{Ipv4Addr, SocketAddrV4};
@@ -112,17 +112,17 @@ impl Viewers {
 fn say_reading(step: &mut Step<'_>, reading: Reading) {
     match reading {
         Reading::More => step.say(&"more"),
-        Reading::Asked(Asked::Page) => step.say(&"page"),
-        Reading::Asked(Asked::State(universe, moment)) => {
+        Reading::Asked(Target::Page) => step.say(&"page"),
+        Reading::Asked(Target::State(universe, moment)) => {
             step.say(&"state");
             say_given(step, universe.map(u64::from));
             say_given(step, moment);
         }
-        Reading::Asked(Asked::Events(universe)) => {
+        Reading::Asked(Target::Events(universe)) => {
             step.say(&"events");
             say_given(step, universe.map(u64::from));
         }
-        Reading::Asked(Asked::Recording) => step.say(&"recording"),
+        Reading::Asked(Target::Recording) => step.say(&"recording"),
         Reading::Refused(refusal) => step.say(&format_args!("refused {}", refusal.status())),
     }
 }

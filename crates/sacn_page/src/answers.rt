@@ -3,7 +3,7 @@
 use crate::document::{Extent, Given, push_document};
 use crate::markup::{Subject, page};
 use crate::members::push_facts;
-use crate::request::{Asked, Refusal};
+use crate::request::{Refusal, Target};
 use crate::response::{MediaType, event_stream_head, refusal_response, whole};
 use crate::scene::Scene;
 use crate::viewer::{Connection, Goal, Phase, Viewer};
@@ -50,23 +50,23 @@ pub fn answer<C: Connection + Drop, S: Scene + Drop>(
     alloc: Global,
     scene: &mut S,
     viewer: &mut Viewer<C>,
-    asked: Asked,
+    target: Target,
     watched: &[u16],
     question: Question,
 ) -> Result<(), AllocError> {
     if scene.facts().is_some() {
-        return answer_of_recording(alloc, scene, viewer, asked, question);
+        return answer_of_recording(alloc, scene, viewer, target, question);
     }
     let now = question.now;
-    match asked {
-        Asked::Page => {
+    match target {
+        Target::Page => {
             let body = page(alloc, Subject::Network)?;
             give(alloc, viewer, MediaType::Page, body.as_str(), now)
         }
-        Asked::State(named, None) => show_state(alloc, scene, viewer, named, watched, now),
-        Asked::State(_, Some(_)) => refuse(alloc, viewer, Refusal::Moment, now),
-        Asked::Events(named) => begin_events(alloc, scene, viewer, named, watched, now),
-        Asked::Recording => refuse(alloc, viewer, Refusal::Missing, now),
+        Target::State(named, None) => show_state(alloc, scene, viewer, named, watched, now),
+        Target::State(_, Some(_)) => refuse(alloc, viewer, Refusal::Moment, now),
+        Target::Events(named) => begin_events(alloc, scene, viewer, named, watched, now),
+        Target::Recording => refuse(alloc, viewer, Refusal::Missing, now),
     }
 }
 
@@ -74,16 +74,16 @@ fn answer_of_recording<C: Connection + Drop, S: Scene + Drop>(
     alloc: Global,
     scene: &S,
     viewer: &mut Viewer<C>,
-    asked: Asked,
+    target: Target,
     question: Question,
 ) -> Result<(), AllocError> {
     let now = question.now;
-    match asked {
-        Asked::Page => {
+    match target {
+        Target::Page => {
             let body = page(alloc, Subject::Recording)?;
             give(alloc, viewer, MediaType::Page, body.as_str(), now)
         }
-        Asked::State(universe, moment) => {
+        Target::State(universe, moment) => {
             viewer.wait(Goal {
                 universe,
                 moment,
@@ -91,8 +91,8 @@ fn answer_of_recording<C: Connection + Drop, S: Scene + Drop>(
             });
             Ok(())
         }
-        Asked::Events(_) => refuse(alloc, viewer, Refusal::Missing, now),
-        Asked::Recording => {
+        Target::Events(_) => refuse(alloc, viewer, Refusal::Missing, now),
+        Target::Recording => {
             let mut body = String::new(alloc);
             if let Some(facts) = scene.facts() {
                 push_facts(&mut body, facts)?;

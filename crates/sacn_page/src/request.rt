@@ -18,7 +18,7 @@ pub const MAX_FIELDS: usize = 32;
 
 /// What a request asks for.
 #[derive(Clone, Copy, PartialEq, Eq)]
-pub enum Asked {
+pub enum Target {
     /// The page: `/`, whatever its query says.
     Page,
     /// The document of a universe, 1 to 63999, or of the first that was heard, and of a recording at a moment in milliseconds from
@@ -60,7 +60,7 @@ pub enum Refusal {
 pub enum Reading {
     /// Its head isn't complete yet.
     More,
-    Asked(Asked),
+    Asked(Target),
     Refused(Refusal),
 }
 
@@ -111,7 +111,7 @@ pub fn read_request(octets: &[u8], hosts: &Hosts) -> Reading
     }
 }
 
-fn decide(asked: Result<Asked, Refusal>) -> Reading
+fn decide(asked: Result<Target, Refusal>) -> Reading
     ensures open { result ≢ More }
     ensures asked { OnAsked result (IsOk asked) }
 {
@@ -122,7 +122,7 @@ fn decide(asked: Result<Asked, Refusal>) -> Reading
 }
 
 // What a whole head asks for.
-fn asked_by(request: &Request<'_, '_>, hosts: &Hosts) -> Result<Asked, Refusal>
+fn asked_by(request: &Request<'_, '_>, hosts: &Hosts) -> Result<Target, Refusal>
     ensures own { OnOk result
         (IsTrue (is_own hosts.now (map header_parts request.now.headers.now))) }
     ensures method { OnOk result (option_copied request.now.method ≡ Some (codes "GET")) }
@@ -190,25 +190,25 @@ fn has_body(fields: &[Header<'_>]) -> bool {
     false
 }
 
-fn target_asked(target: &str) -> Result<Asked, Refusal> {
+fn target_asked(target: &str) -> Result<Target, Refusal> {
     let (path, query) = match target.split_once('?') {
         Some((path, query)) => (path, query),
         None => (target, ""),
     };
     match path {
-        "/" => Ok(Asked::Page),
+        "/" => Ok(Target::Page),
         "/state" => {
             let named = named_in(query)?;
-            Ok(Asked::State(named.universe, named.moment))
+            Ok(Target::State(named.universe, named.moment))
         }
         "/events" => match named_in(query)? {
             Named {
                 universe,
                 moment: None,
-            } => Ok(Asked::Events(universe)),
+            } => Ok(Target::Events(universe)),
             _ => Err(Refusal::Moment),
         },
-        "/recording" if query.is_empty() => Ok(Asked::Recording),
+        "/recording" if query.is_empty() => Ok(Target::Recording),
         "/recording" => Err(Refusal::Malformed),
         _ => Err(Refusal::Missing),
     }

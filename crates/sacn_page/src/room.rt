@@ -5,7 +5,7 @@ mod feeding;
 use crate::answers::{Question, answer, refuse, show_moment};
 use crate::feed::Feed;
 use crate::hosts::Hosts;
-use crate::request::{Asked, Reading, Refusal};
+use crate::request::{Reading, Refusal, Target};
 use crate::scene::{Scene, SeekFault};
 use crate::viewer::{Connection, Goal, Phase, Viewer};
 use sacn_monitor::Endpoint;
@@ -206,7 +206,7 @@ impl<C: Connection + Drop, S: Scene + Drop> Room<C, S> {
         match viewer.hear()? {
             Reading::More => viewer.send(now),
             Reading::Refused(refusal) => refuse(self.alloc, viewer, refusal, now)?,
-            Reading::Asked(asked) => self.answer(key, asked, now)?,
+            Reading::Asked(target) => self.answer(key, target, now)?,
         }
         match self.viewers.get(key) {
             Some(viewer) => Ok(viewer.phase() != Phase::Gone),
@@ -215,7 +215,7 @@ impl<C: Connection + Drop, S: Scene + Drop> Room<C, S> {
     }
 
     // Answers the viewer of a key, where there is room for it.
-    fn answer(&mut self, key: usize, asked: Asked, now: u64) -> Result<(), AllocError> {
+    fn answer(&mut self, key: usize, target: Target, now: u64) -> Result<(), AllocError> {
         let has_room = self.guests() < MAX_VIEWERS;
         let watched = self.universes_watched()?;
         let question = Question {
@@ -233,7 +233,7 @@ impl<C: Connection + Drop, S: Scene + Drop> Room<C, S> {
             self.alloc,
             &mut self.scene,
             viewer,
-            asked,
+            target,
             watched.as_slice(),
             question,
         )
