@@ -1,6 +1,6 @@
 //! One connection of a browser, in memory.
 use crate::step::{Step, StepFault};
-use sacn_page::{Connection, Hosts, Phase, Reading, Target, Viewer};
+use sacn_page::{Connection, Hosts, Phase, RequestReading, Target, Viewer};
 use std::alloc::{AllocError, Global};
 use std::io::{self, ErrorKind, Read, Write};
 use std::net::{Ipv4Addr, SocketAddrV4};
@@ -109,21 +109,21 @@ impl Viewers {
 }
 
 /// Says what is known of a request: `more`, what it asks for, or the status by which it is refused.
-fn say_reading(step: &mut Step<'_>, reading: Reading) {
+fn say_reading(step: &mut Step<'_>, reading: RequestReading) {
     match reading {
-        Reading::More => step.say(&"more"),
-        Reading::Asked(Target::Page) => step.say(&"page"),
-        Reading::Asked(Target::State(universe, moment)) => {
+        RequestReading::More => step.say(&"more"),
+        RequestReading::Asked(Target::Page) => step.say(&"page"),
+        RequestReading::Asked(Target::State(universe, moment)) => {
             step.say(&"state");
             say_given(step, universe.map(u64::from));
             say_given(step, moment);
         }
-        Reading::Asked(Target::Events(universe)) => {
+        RequestReading::Asked(Target::Events(universe)) => {
             step.say(&"events");
             say_given(step, universe.map(u64::from));
         }
-        Reading::Asked(Target::Recording) => step.say(&"recording"),
-        Reading::Refused(refusal) => step.say(&format_args!("refused {}", refusal.status())),
+        RequestReading::Asked(Target::Recording) => step.say(&"recording"),
+        RequestReading::Refused(refusal) => step.say(&format_args!("refused {}", refusal.status())),
     }
 }
 

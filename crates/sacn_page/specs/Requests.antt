@@ -6,8 +6,8 @@ use Rattle.httparse.specs.Grammar.{RequestHead, ReadsRequest}
 use Rattle.httparse.specs.Spans.{name_and_value}
 use Rattle.sacn_page.specs.declared.request.Refusal.{Refusal}
 use Rattle.sacn_page.specs.declared.request.Refusal.TheVariants.{Malformed, Moment, Body, Foreign, Missing, Method, TooLarge, Busy, Version, Unread}
-use Rattle.sacn_page.specs.declared.request.Reading.{Reading}
-use Rattle.sacn_page.specs.declared.request.Reading.TheVariants.{More, Asked, Refused}
+use Rattle.sacn_page.specs.declared.request.RequestReading.{RequestReading}
+use Rattle.sacn_page.specs.declared.request.RequestReading.TheVariants.{More, Asked, Refused}
 
 -- the status of a refusal (RFC 9110, 15; RFC 6585, 5)
 abbrev pub status_of : Refusal → ℕ
@@ -51,7 +51,7 @@ pub record IsOwnGet (names : List (List ℕ)) (octets : List ℕ) : Type 0 where
   pub host : IsTrue (is_own names (map name_and_value head.fields))
 
 -- P, where something is asked for
-abbrev pub OnAsked : Reading → Type 0 → Type 0
+abbrev pub OnAsked : RequestReading → Type 0 → Type 0
 OnAsked More P = ⊤
 OnAsked (Asked asked) P = P
 OnAsked (Refused refusal) P = ⊤

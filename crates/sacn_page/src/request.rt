@@ -4,7 +4,7 @@ ghost use Rattle.std.specs.Prelude.{◌≡◌, ◌≢◌, ◌<◌, length, map, 
 ghost use Rattle.std.specs.List.{list_all};
 ghost use Rattle.httparse.specs.Borrowed.{header_parts};
 ghost use Rattle.sacn_page.specs.Requests.{status_of, is_host, says_own, is_own, IsOwnGet, OnAsked};
-ghost use Rattle.sacn_page.specs.declared.request.Reading.TheVariants.{More};
+ghost use Rattle.sacn_page.specs.declared.request.RequestReading.TheVariants.{More};
 
 use crate::hosts::{Hosts, is_word};
 use httparse::{EMPTY_HEADER, Error, Header, Request, Status};
@@ -57,7 +57,7 @@ pub enum Refusal {
 
 /// What is known of a request, of which so much came.
 #[derive(Clone, Copy, PartialEq, Eq)]
-pub enum Reading {
+pub enum RequestReading {
     /// Its head isn't complete yet.
     More,
     Asked(Target),
@@ -86,7 +86,7 @@ impl Refusal {
 
 /// What the octets ask for that came of a request so far, of one of these hosts. Something is asked for only by a whole head of a
 /// GET that names one of them; and only where fewer than `MAX_HEAD` octets came the answer may be that more have to come.
-pub fn read_request(octets: &[u8], hosts: &Hosts) -> Reading
+pub fn read_request(octets: &[u8], hosts: &Hosts) -> RequestReading
     ensures asked { OnAsked result (IsOwnGet hosts.now octets.now) }
     ensures more { result ≡ More → length octets.now < MAX_HEAD }
 {
@@ -95,29 +95,29 @@ pub fn read_request(octets: &[u8], hosts: &Hosts) -> Reading
     match request.parse(octets) {
         Ok(Status::Complete(len)) => {
             if len > MAX_HEAD {
-                return Reading::Refused(Refusal::TooLarge);
+                return RequestReading::Refused(Refusal::TooLarge);
             }
             decide(asked_by(&request, hosts))
         }
         Ok(Status::Partial) => {
             if octets.len() >= MAX_HEAD {
-                return Reading::Refused(Refusal::TooLarge);
+                return RequestReading::Refused(Refusal::TooLarge);
             }
-            Reading::More
+            RequestReading::More
         }
-        Err(Error::TooManyHeaders) => Reading::Refused(Refusal::TooLarge),
-        Err(Error::Version) => Reading::Refused(Refusal::Version),
-        Err(_) => Reading::Refused(Refusal::Malformed),
+        Err(Error::TooManyHeaders) => RequestReading::Refused(Refusal::TooLarge),
+        Err(Error::Version) => RequestReading::Refused(Refusal::Version),
+        Err(_) => RequestReading::Refused(Refusal::Malformed),
     }
 }
 
-fn decide(asked: Result<Target, Refusal>) -> Reading
+fn decide(asked: Result<Target, Refusal>) -> RequestReading
     ensures open { result ≢ More }
     ensures asked { OnAsked result (IsOk asked) }
 {
     match asked {
-        Ok(asked) => Reading::Asked(asked),
-        Err(refusal) => Reading::Refused(refusal),
+        Ok(asked) => RequestReading::Asked(asked),
+        Err(refusal) => RequestReading::Refused(refusal),
     }
 }
 

@@ -5,7 +5,7 @@ mod feeding;
 use crate::answers::{Question, answer, refuse, show_moment};
 use crate::feed::Feed;
 use crate::hosts::Hosts;
-use crate::request::{Reading, Refusal, Target};
+use crate::request::{Refusal, RequestReading, Target};
 use crate::scene::{Scene, SeekFault};
 use crate::viewer::{Connection, Goal, Phase, Viewer};
 use sacn_monitor::Endpoint;
@@ -204,9 +204,9 @@ impl<C: Connection + Drop, S: Scene + Drop> Room<C, S> {
             return Ok(true);
         };
         match viewer.hear()? {
-            Reading::More => viewer.send(now),
-            Reading::Refused(refusal) => refuse(self.alloc, viewer, refusal, now)?,
-            Reading::Asked(target) => self.answer(key, target, now)?,
+            RequestReading::More => viewer.send(now),
+            RequestReading::Refused(refusal) => refuse(self.alloc, viewer, refusal, now)?,
+            RequestReading::Asked(target) => self.answer(key, target, now)?,
         }
         match self.viewers.get(key) {
             Some(viewer) => Ok(viewer.phase() != Phase::Gone),

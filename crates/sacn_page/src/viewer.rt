@@ -7,7 +7,7 @@ ghost use Rattle.sacn_page.specs.Places.{is_guest, spare};
 use crate::feed::Feed;
 use crate::hosts::Hosts;
 use crate::outbox::Outbox;
-use crate::request::{MAX_HEAD, Reading, Refusal, read_request};
+use crate::request::{MAX_HEAD, Refusal, RequestReading, read_request};
 use std::alloc::{AllocError, Global};
 use std::io::{ErrorKind, Read, Write};
 
@@ -143,8 +143,8 @@ impl<C: Connection> Viewer<C> {
     /// passed over.
     ///
     /// Errors: OutOfMemory.
-    pub fn hear(&mut self) -> Result<Reading, AllocError> {
-        let mut reading = Reading::More;
+    pub fn hear(&mut self) -> Result<RequestReading, AllocError> {
+        let mut reading = RequestReading::More;
         let mut chunk = [0; CHUNK];
         for _ in 0..MAX_RECEIVES {
             match self.receive(&mut chunk) {
@@ -153,7 +153,7 @@ impl<C: Connection> Viewer<C> {
                     return Ok(self.conclude(reading));
                 }
                 Some(count) => {
-                    if (self.phase == Phase::Asking) & (reading == Reading::More) {
+                    if (self.phase == Phase::Asking) & (reading == RequestReading::More) {
                         self.head.extend_from_slice(&chunk[..count])?;
                         reading = read_request(self.head.as_slice(), &self.hosts);
                     }
@@ -166,14 +166,14 @@ impl<C: Connection> Viewer<C> {
     }
 
     // What is known of its request, where it sends nothing more.
-    fn conclude(&mut self, reading: Reading) -> Reading {
+    fn conclude(&mut self, reading: RequestReading) -> RequestReading {
         match self.phase {
             Phase::Asking => match reading {
-                Reading::More if self.head.is_empty() => {
+                RequestReading::More if self.head.is_empty() => {
                     self.phase = Phase::Gone;
-                    Reading::More
+                    RequestReading::More
                 }
-                Reading::More => Reading::Refused(Refusal::Malformed),
+                RequestReading::More => RequestReading::Refused(Refusal::Malformed),
                 known => known,
             },
             Phase::Answered => reading,
