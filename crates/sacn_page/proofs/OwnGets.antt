@@ -5,7 +5,7 @@ use Rattle.httparse.specs.declared.borrowed.Request.{Request}
 use Rattle.httparse.specs.Borrowed.{HoldsSomeRequest, header_parts}
 use Rattle.sacn_page.specs.Requests.{is_own, IsOwnGet, OnAsked}
 use Rattle.sacn_page.specs.declared.request.Target.{Target}
-use Rattle.sacn_page.specs.declared.request.Refusal.{Refusal}
+use Rattle.sacn_page.specs.declared.request.RequestRefusal.{RequestRefusal}
 use Rattle.sacn_page.specs.declared.request.RequestReading.{RequestReading}
 use Rattle.sacn_page.specs.declared.request.RequestReading.TheVariants as reading
 
@@ -15,7 +15,7 @@ given xs = Some xs
 same : (xs ys : List ℕ) → given xs ≡ given ys → xs ≡ ys
 same xs ys e = cc
 
-pub own_get : (names : List (List ℕ)) (octets : List ℕ) (r : Request) (len : ℕ) (asked : Result Target Refusal) (answer : RequestReading)
+pub own_get : (names : List (List ℕ)) (octets : List ℕ) (r : Request) (len : ℕ) (asked : Result Target RequestRefusal) (answer : RequestReading)
     → HoldsSomeRequest octets r len
     → OnOk asked (IsTrue (is_own names (map header_parts r.headers.now)))
     → OnOk asked (option_copied r.method ≡ Some (codes "GET"))

@@ -4,13 +4,13 @@ use Rattle.std.specs.List.{list_all, list_any}
 use Rattle.std.specs.Str.{str_eq_ignore_ascii_case}
 use Rattle.httparse.specs.Grammar.{RequestHead, ReadsRequest}
 use Rattle.httparse.specs.Spans.{name_and_value}
-use Rattle.sacn_page.specs.declared.request.Refusal.{Refusal}
-use Rattle.sacn_page.specs.declared.request.Refusal.TheVariants.{Malformed, Moment, Body, Foreign, Missing, Method, TooLarge, Busy, Version, Unread}
+use Rattle.sacn_page.specs.declared.request.RequestRefusal.{RequestRefusal}
+use Rattle.sacn_page.specs.declared.request.RequestRefusal.TheVariants.{Malformed, Moment, Body, Foreign, Missing, Method, TooLarge, Busy, Version, Unread}
 use Rattle.sacn_page.specs.declared.request.RequestReading.{RequestReading}
 use Rattle.sacn_page.specs.declared.request.RequestReading.TheVariants.{More, Asked, Refused}
 
 -- the status of a refusal (RFC 9110, 15; RFC 6585, 5)
-abbrev pub status_of : Refusal → ℕ
+abbrev pub status_of : RequestRefusal → ℕ
 status_of Malformed = 400
 status_of Moment = 400
 status_of Body = 400

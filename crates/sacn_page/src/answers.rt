@@ -3,7 +3,7 @@
 use crate::document::{Extent, Given, push_document};
 use crate::markup::{Subject, page};
 use crate::members::push_facts;
-use crate::request::{Refusal, Target};
+use crate::request::{RequestRefusal, Target};
 use crate::response::{MediaType, event_stream_head, refusal_response, whole};
 use crate::scene::Scene;
 use crate::viewer::{Connection, Goal, Phase, Viewer};
@@ -24,7 +24,7 @@ pub struct Question {
 pub fn refuse<C: Connection + Drop>(
     alloc: Global,
     viewer: &mut Viewer<C>,
-    refusal: Refusal,
+    refusal: RequestRefusal,
     now: u64,
 ) -> Result<(), AllocError> {
     let text = refusal_response(alloc, refusal)?;
@@ -64,9 +64,9 @@ pub fn answer<C: Connection + Drop, S: Scene + Drop>(
             give(alloc, viewer, MediaType::Page, body.as_str(), now)
         }
         Target::State(named, None) => show_state(alloc, scene, viewer, named, watched, now),
-        Target::State(_, Some(_)) => refuse(alloc, viewer, Refusal::Moment, now),
+        Target::State(_, Some(_)) => refuse(alloc, viewer, RequestRefusal::Moment, now),
         Target::Events(named) => begin_events(alloc, scene, viewer, named, watched, now),
-        Target::Recording => refuse(alloc, viewer, Refusal::Missing, now),
+        Target::Recording => refuse(alloc, viewer, RequestRefusal::Missing, now),
     }
 }
 
@@ -91,7 +91,7 @@ fn answer_of_recording<C: Connection + Drop, S: Scene + Drop>(
             });
             Ok(())
         }
-        Target::Events(_) => refuse(alloc, viewer, Refusal::Missing, now),
+        Target::Events(_) => refuse(alloc, viewer, RequestRefusal::Missing, now),
         Target::Recording => {
             let mut body = String::new(alloc);
             if let Some(facts) = scene.facts() {
@@ -112,7 +112,7 @@ fn show_state<C: Connection + Drop, S: Scene + Drop>(
     now: u64,
 ) -> Result<(), AllocError> {
     if !prepare(scene, named, watched, now)? {
-        return refuse(alloc, viewer, Refusal::Busy, now);
+        return refuse(alloc, viewer, RequestRefusal::Busy, now);
     }
     show_moment(alloc, scene, viewer, named, now)
 }
@@ -150,7 +150,7 @@ fn begin_events<C: Connection + Drop, S: Scene + Drop>(
     now: u64,
 ) -> Result<(), AllocError> {
     if !prepare(scene, named, watched, now)? {
-        return refuse(alloc, viewer, Refusal::Busy, now);
+        return refuse(alloc, viewer, RequestRefusal::Busy, now);
     }
     let text = event_stream_head(alloc)?;
     viewer.give(text.as_str(), Phase::Watching(named), now)

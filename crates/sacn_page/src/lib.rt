@@ -35,7 +35,7 @@ pub use members::push_facts;
 pub use quiet::Quiet;
 pub use recording::{MAX_MARKS, Recording, Tape};
 pub use replay::{Replay, Snapshot};
-pub use request::{MAX_FIELDS, MAX_HEAD, Refusal, RequestReading, Target, read_request};
+pub use request::{MAX_FIELDS, MAX_HEAD, RequestReading, RequestRefusal, Target, read_request};
 pub use response::{MediaType, event_stream_head, push_event, refusal_response, whole};
 pub use room::{MAX_SURPLUS, MAX_VIEWERS, Room};
 pub use scene::{Facts, Scene, SeekFault};

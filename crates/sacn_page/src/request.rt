@@ -32,7 +32,7 @@ pub enum Target {
 
 /// Why a request isn't answered as it asks.
 #[derive(Clone, Copy, PartialEq, Eq)]
-pub enum Refusal {
+pub enum RequestRefusal {
     /// The head isn't one of HTTP, is cut off, or names no universe where it should.
     Malformed,
     /// A moment is named that is no number, or of a network, which has none but the present.
@@ -61,25 +61,25 @@ pub enum RequestReading {
     /// Its head isn't complete yet.
     More,
     Asked(Target),
-    Refused(Refusal),
+    Refused(RequestRefusal),
 }
 
-impl Refusal {
+impl RequestRefusal {
     /// The status of the answer (RFC 9110, 15).
     pub fn status(self) -> u16
         ensures { result ≡ status_of self }
     {
         match self {
-            Refusal::Malformed => 400,
-            Refusal::Moment => 400,
-            Refusal::Body => 400,
-            Refusal::Foreign => 403,
-            Refusal::Missing => 404,
-            Refusal::Method => 405,
-            Refusal::TooLarge => 431,
-            Refusal::Busy => 503,
-            Refusal::Version => 505,
-            Refusal::Unread => 500,
+            RequestRefusal::Malformed => 400,
+            RequestRefusal::Moment => 400,
+            RequestRefusal::Body => 400,
+            RequestRefusal::Foreign => 403,
+            RequestRefusal::Missing => 404,
+            RequestRefusal::Method => 405,
+            RequestRefusal::TooLarge => 431,
+            RequestRefusal::Busy => 503,
+            RequestRefusal::Version => 505,
+            RequestRefusal::Unread => 500,
         }
     }
 }
@@ -95,23 +95,23 @@ pub fn read_request(octets: &[u8], hosts: &Hosts) -> RequestReading
     match request.parse(octets) {
         Ok(Status::Complete(len)) => {
             if len > MAX_HEAD {
-                return RequestReading::Refused(Refusal::TooLarge);
+                return RequestReading::Refused(RequestRefusal::TooLarge);
             }
             decide(asked_by(&request, hosts))
         }
         Ok(Status::Partial) => {
             if octets.len() >= MAX_HEAD {
-                return RequestReading::Refused(Refusal::TooLarge);
+                return RequestReading::Refused(RequestRefusal::TooLarge);
             }
             RequestReading::More
         }
-        Err(Error::TooManyHeaders) => RequestReading::Refused(Refusal::TooLarge),
-        Err(Error::Version) => RequestReading::Refused(Refusal::Version),
-        Err(_) => RequestReading::Refused(Refusal::Malformed),
+        Err(Error::TooManyHeaders) => RequestReading::Refused(RequestRefusal::TooLarge),
+        Err(Error::Version) => RequestReading::Refused(RequestRefusal::Version),
+        Err(_) => RequestReading::Refused(RequestRefusal::Malformed),
     }
 }
 
-fn decide(asked: Result<Target, Refusal>) -> RequestReading
+fn decide(asked: Result<Target, RequestRefusal>) -> RequestReading
     ensures open { result ≢ More }
     ensures asked { OnAsked result (IsOk asked) }
 {
@@ -122,25 +122,25 @@ fn decide(asked: Result<Target, Refusal>) -> RequestReading
 }
 
 // What a whole head asks for.
-fn asked_by(request: &Request<'_, '_>, hosts: &Hosts) -> Result<Target, Refusal>
+fn asked_by(request: &Request<'_, '_>, hosts: &Hosts) -> Result<Target, RequestRefusal>
     ensures own { OnOk result
         (IsTrue (is_own hosts.now (map header_parts request.now.headers.now))) }
     ensures method { OnOk result (option_copied request.now.method ≡ Some (codes "GET")) }
 {
     let fields: &[Header<'_>] = request.headers;
     if !is_own(fields, hosts) {
-        return Err(Refusal::Foreign);
+        return Err(RequestRefusal::Foreign);
     }
     match request.method {
         Some("GET") => {}
-        _ => return Err(Refusal::Method),
+        _ => return Err(RequestRefusal::Method),
     }
     if has_body(fields) {
-        return Err(Refusal::Body);
+        return Err(RequestRefusal::Body);
     }
     match request.path {
         Some(target) => target_asked(target),
-        None => Err(Refusal::Malformed),
+        None => Err(RequestRefusal::Malformed),
     }
 }
 
@@ -190,7 +190,7 @@ fn has_body(fields: &[Header<'_>]) -> bool {
     false
 }
 
-fn target_asked(target: &str) -> Result<Target, Refusal> {
+fn target_asked(target: &str) -> Result<Target, RequestRefusal> {
     let (path, query) = match target.split_once('?') {
         Some((path, query)) => (path, query),
         None => (target, ""),
@@ -206,11 +206,11 @@ fn target_asked(target: &str) -> Result<Target, Refusal> {
                 universe,
                 moment: None,
             } => Ok(Target::Events(universe)),
-            _ => Err(Refusal::Moment),
+            _ => Err(RequestRefusal::Moment),
         },
         "/recording" if query.is_empty() => Ok(Target::Recording),
-        "/recording" => Err(Refusal::Malformed),
-        _ => Err(Refusal::Missing),
+        "/recording" => Err(RequestRefusal::Malformed),
+        _ => Err(RequestRefusal::Missing),
     }
 }
 
@@ -223,7 +223,7 @@ struct Named {
 }
 
 // What a query names: a universe, a moment, both in either order, or neither.
-fn named_in(query: &str) -> Result<Named, Refusal> {
+fn named_in(query: &str) -> Result<Named, RequestRefusal> {
     let mut named = Named {
         universe: None,
         moment: None,
@@ -239,22 +239,22 @@ fn named_in(query: &str) -> Result<Named, Refusal> {
             Some(("at", digits)) if named.moment.is_none() => {
                 named.moment = Some(moment_of(digits)?);
             }
-            _ => return Err(Refusal::Malformed),
+            _ => return Err(RequestRefusal::Malformed),
         }
     }
     Ok(named)
 }
 
-fn universe_of(digits: &str) -> Result<u16, Refusal> {
+fn universe_of(digits: &str) -> Result<u16, RequestRefusal> {
     match sacn_files::words::short_in(digits) {
         Some(universe) if (universe >= MIN_UNIVERSE) & (universe <= MAX_UNIVERSE) => Ok(universe),
-        _ => Err(Refusal::Malformed),
+        _ => Err(RequestRefusal::Malformed),
     }
 }
 
-fn moment_of(digits: &str) -> Result<u64, Refusal> {
+fn moment_of(digits: &str) -> Result<u64, RequestRefusal> {
     match sacn_files::words::number_in(u64::MAX, digits) {
         Some(moment) => Ok(moment),
-        None => Err(Refusal::Moment),
+        None => Err(RequestRefusal::Moment),
     }
 }

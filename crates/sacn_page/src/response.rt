@@ -3,7 +3,7 @@
 ghost use Rattle.std.specs.Prelude.{◌≡◌, ◌++◌, OnOk, string_bytes};
 ghost use Rattle.sacn_page.specs.Feeds.{event_text};
 
-use crate::request::Refusal;
+use crate::request::RequestRefusal;
 use std::alloc::{AllocError, Global};
 use std::fmt::Write;
 
@@ -31,38 +31,39 @@ impl MediaType {
     }
 }
 
-impl Refusal {
+impl RequestRefusal {
     /// The phrase beside its status (RFC 9110, 15).
     fn reason(self) -> &'static str {
         match self {
-            Refusal::Malformed => "Bad Request",
-            Refusal::Moment => "Bad Request",
-            Refusal::Body => "Bad Request",
-            Refusal::Foreign => "Forbidden",
-            Refusal::Missing => "Not Found",
-            Refusal::Method => "Method Not Allowed",
-            Refusal::TooLarge => "Request Header Fields Too Large",
-            Refusal::Busy => "Service Unavailable",
-            Refusal::Version => "HTTP Version Not Supported",
-            Refusal::Unread => "Internal Server Error",
+            RequestRefusal::Malformed => "Bad Request",
+            RequestRefusal::Moment => "Bad Request",
+            RequestRefusal::Body => "Bad Request",
+            RequestRefusal::Foreign => "Forbidden",
+            RequestRefusal::Missing => "Not Found",
+            RequestRefusal::Method => "Method Not Allowed",
+            RequestRefusal::TooLarge => "Request Header Fields Too Large",
+            RequestRefusal::Busy => "Service Unavailable",
+            RequestRefusal::Version => "HTTP Version Not Supported",
+            RequestRefusal::Unread => "Internal Server Error",
         }
     }
 
     // What a person reads.
     fn explanation(self) -> &'static str {
         match self {
-            Refusal::Malformed => "The request can't be read.",
-            Refusal::Moment => {
+            RequestRefusal::Malformed => "The request can't be read.",
+            RequestRefusal::Moment => {
                 "at is a moment of a recording: milliseconds from its first packet, in decimal digits."
             }
-            Refusal::Body => "A request with a body isn't taken.",
-            Refusal::Foreign => "This isn't the name of this server.",
-            Refusal::Missing => "There is / and /state, and /events of a network or /recording.",
-            Refusal::Method => "Nothing can be ordered here: only GET is taken.",
-            Refusal::TooLarge => "The head of the request is too large.",
-            Refusal::Busy => "There is no room for a further viewer or universe.",
-            Refusal::Version => "Only HTTP/1.0 and HTTP/1.1 are spoken.",
-            Refusal::Unread => "The recording can't be read.",
+            RequestRefusal::Body => "A request with a body isn't taken.",
+            RequestRefusal::Foreign => "This isn't the name of this server.",
+            RequestRefusal::Missing =>
+                "There is / and /state, and /events of a network or /recording.",
+            RequestRefusal::Method => "Nothing can be ordered here: only GET is taken.",
+            RequestRefusal::TooLarge => "The head of the request is too large.",
+            RequestRefusal::Busy => "There is no room for a further viewer or universe.",
+            RequestRefusal::Version => "Only HTTP/1.0 and HTTP/1.1 are spoken.",
+            RequestRefusal::Unread => "The recording can't be read.",
         }
     }
 }
@@ -88,11 +89,11 @@ pub fn event_stream_head(alloc: Global) -> Result<String, AllocError> {
 /// The answer to a request that is refused.
 ///
 /// Errors: a growth was refused.
-pub fn refusal_response(alloc: Global, refusal: Refusal) -> Result<String, AllocError> {
+pub fn refusal_response(alloc: Global, refusal: RequestRefusal) -> Result<String, AllocError> {
     let mut text = head_of(alloc, refusal.status(), refusal.reason(), MediaType::Text)?;
     match refusal {
-        Refusal::Method => text.push_str("Allow: GET\r\n")?,
-        Refusal::Busy => text.push_str("Retry-After: 5\r\n")?,
+        RequestRefusal::Method => text.push_str("Allow: GET\r\n")?,
+        RequestRefusal::Busy => text.push_str("Retry-After: 5\r\n")?,
         _ => {}
     }
     let mut body = String::new(alloc);

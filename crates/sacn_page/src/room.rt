@@ -5,7 +5,7 @@ mod feeding;
 use crate::answers::{Question, answer, refuse, show_moment};
 use crate::feed::Feed;
 use crate::hosts::Hosts;
-use crate::request::{Refusal, RequestReading, Target};
+use crate::request::{RequestReading, RequestRefusal, Target};
 use crate::scene::{Scene, SeekFault};
 use crate::viewer::{Connection, Goal, Phase, Viewer};
 use sacn_monitor::Endpoint;
@@ -157,7 +157,7 @@ impl<C: Connection + Drop, S: Scene + Drop> Room<C, S> {
             return;
         }
         if viewer.phase() == Phase::Asking {
-            let _ = refuse(self.alloc, viewer, Refusal::Busy, now);
+            let _ = refuse(self.alloc, viewer, RequestRefusal::Busy, now);
         }
         let _ = self.viewers.try_remove(key);
     }
@@ -174,7 +174,7 @@ impl<C: Connection + Drop, S: Scene + Drop> Room<C, S> {
         let hosts = Hosts::of(self.alloc, address)?;
         let mut viewer = Viewer::new(self.alloc, connection, hosts, now);
         let _ = viewer.hear()?;
-        refuse(self.alloc, &mut viewer, Refusal::Busy, now)
+        refuse(self.alloc, &mut viewer, RequestRefusal::Busy, now)
     }
 
     // How many have asked and have a place.
@@ -227,7 +227,7 @@ impl<C: Connection + Drop, S: Scene + Drop> Room<C, S> {
             return Ok(());
         };
         if !has_room {
-            return refuse(self.alloc, viewer, Refusal::Busy, now);
+            return refuse(self.alloc, viewer, RequestRefusal::Busy, now);
         }
         answer(
             self.alloc,
@@ -299,8 +299,8 @@ impl<C: Connection + Drop, S: Scene + Drop> Room<C, S> {
         };
         let answered = match sought {
             Ok(()) => show_moment(self.alloc, &self.scene, viewer, goal.universe, now),
-            Err(SeekFault::OutOfMemory) => refuse(self.alloc, viewer, Refusal::Busy, now),
-            Err(SeekFault::Device) => refuse(self.alloc, viewer, Refusal::Unread, now),
+            Err(SeekFault::OutOfMemory) => refuse(self.alloc, viewer, RequestRefusal::Busy, now),
+            Err(SeekFault::Device) => refuse(self.alloc, viewer, RequestRefusal::Unread, now),
         };
         if answered.is_err() || viewer.phase() == Phase::Gone {
             let _ = self.viewers.try_remove(key);

@@ -7,7 +7,7 @@ ghost use Rattle.sacn_page.specs.Places.{is_guest, spare};
 use crate::feed::Feed;
 use crate::hosts::Hosts;
 use crate::outbox::Outbox;
-use crate::request::{MAX_HEAD, Refusal, RequestReading, read_request};
+use crate::request::{MAX_HEAD, RequestReading, RequestRefusal, read_request};
 use std::alloc::{AllocError, Global};
 use std::io::{ErrorKind, Read, Write};
 
@@ -173,7 +173,7 @@ impl<C: Connection> Viewer<C> {
                     self.phase = Phase::Gone;
                     RequestReading::More
                 }
-                RequestReading::More => RequestReading::Refused(Refusal::Malformed),
+                RequestReading::More => RequestReading::Refused(RequestRefusal::Malformed),
                 known => known,
             },
             Phase::Answered => reading,
