@@ -13,7 +13,7 @@ pub enum Spelling {
 
 /// What is given with an argument.
 #[derive(Clone, Copy)]
-pub enum Kind<'a> {
+pub enum ArgumentKind<'a> {
     /// Nothing: it is a flag.
     Flag,
     /// Nothing, and it is answered at once.
@@ -36,7 +36,7 @@ pub struct Argument<'a> {
     pub name: &'a str,
     /// What help says of it, in a line.
     pub help: &'a str,
-    pub kind: Kind<'a>,
+    pub kind: ArgumentKind<'a>,
     /// What help calls its value; none for an option that takes none.
     pub value: Option<&'a str>,
     /// The words that it takes, with a comma and a space between them; empty where it takes others.

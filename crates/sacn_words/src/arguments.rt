@@ -1,5 +1,5 @@
 //! Arguments of several commands, and what the rows of the others begin with.
-use sacn_manual::{Argument, Kind, Spelling};
+use sacn_manual::{Argument, ArgumentKind, Spelling};
 
 pub const SETUP_HELP: &str =
     "A setup: a TOML file of a node's ports, each with a universe or ranges of slots, as examples/node.toml";
@@ -28,7 +28,7 @@ pub const SHOW: Argument<'static> = Argument {
 pub const TURNS: Argument<'static> = Argument {
     name: "turns",
     help: "How many turns it makes, 1 to 1000000000",
-    kind: Kind::Number(1, 1_000_000_000),
+    kind: ArgumentKind::Number(1, 1_000_000_000),
     value: Some("N"),
     is_required: true,
     ..OPTION
@@ -37,7 +37,7 @@ pub const TURNS: Argument<'static> = Argument {
 pub const FIRST: Argument<'static> = Argument {
     name: "first",
     help: "The number of the first packet of each universe, 0 to 255",
-    kind: Kind::Octet(0, 255),
+    kind: ArgumentKind::Octet(0, 255),
     value: Some("F"),
     default: Some("0"),
     ..OPTION
@@ -60,7 +60,7 @@ pub const JOIN: Argument<'static> = Argument {
 pub const SECONDS: Argument<'static> = Argument {
     name: "seconds",
     help: "How many seconds it runs, 1 to 1000000000",
-    kind: Kind::Number(1, 1_000_000_000),
+    kind: ArgumentKind::Number(1, 1_000_000_000),
     value: Some("S"),
     ..OPTION
 };
@@ -87,7 +87,7 @@ pub const HELP_LETTER: Argument<'static> = Argument {
 pub const HELP: Argument<'static> = Argument {
     name: "help",
     help: "Print help",
-    kind: Kind::Answered,
+    kind: ArgumentKind::Answered,
     ..FLAG
 };
 
@@ -100,7 +100,7 @@ pub const VERSION_LETTER: Argument<'static> = Argument {
 pub const VERSION_NAME: Argument<'static> = Argument {
     name: "version",
     help: "Print version",
-    kind: Kind::Answered,
+    kind: ArgumentKind::Answered,
     ..FLAG
 };
 
@@ -113,7 +113,7 @@ pub const OPERAND: Argument<'static> = Argument {
 
 /// An option that is given or not.
 pub const FLAG: Argument<'static> = Argument {
-    kind: Kind::Flag,
+    kind: ArgumentKind::Flag,
     ..OPTION
 };
 
@@ -122,7 +122,7 @@ pub const OPTION: Argument<'static> = Argument {
     spelling: Spelling::Long,
     name: "",
     help: "",
-    kind: Kind::Word,
+    kind: ArgumentKind::Word,
     value: None,
     choices: "",
     default: None,

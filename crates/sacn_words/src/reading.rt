@@ -4,7 +4,7 @@ use crate::table::commands;
 use crate::tree::error_of;
 use clap::parser::ValueSource;
 use clap::{ArgMatches, Error};
-use sacn_manual::{Command, Kind};
+use sacn_manual::{ArgumentKind, Command};
 use std::alloc::{AllocError, Global};
 
 /// The word for standard input where a file is read. A file of this name is `./-`.
@@ -253,8 +253,8 @@ fn range_of(commands: &[Command<'_>], name: &str) -> (u64, u64) {
     for command in commands {
         for row in command.arguments {
             match row.kind {
-                Kind::Number(least, most) if row.name == name => return (least, most),
-                Kind::Octet(least, most) if row.name == name => {
+                ArgumentKind::Number(least, most) if row.name == name => return (least, most),
+                ArgumentKind::Octet(least, most) if row.name == name => {
                     return (u64::from(least), u64::from(most));
                 }
                 _ => {}

@@ -3,7 +3,7 @@ use crate::arguments::{
     DESK_SCRIPT_HELP, FIRST, FLAG, HELP, HELP_LETTER, JOIN, JSON, LISTEN, OPERAND, OPTION, PAGE,
     SCRIPT_HELP, SECONDS, SETUP, SETUP_HELP, SHOW, TURNS,
 };
-use sacn_manual::{Argument, Command, Kind, SHELL_WORDS, SHELLS};
+use sacn_manual::{Argument, ArgumentKind, Command, SHELL_WORDS, SHELLS};
 use std::alloc::{AllocError, Global};
 
 const DECODE: Command<'static> = Command {
@@ -129,7 +129,7 @@ const DESK: Command<'static> = Command {
         Argument {
             name: "ttl",
             help: "The time to live of a group's packets, 1 to 255: with 1 no router passes them on",
-            kind: Kind::Octet(1, 255),
+            kind: ArgumentKind::Octet(1, 255),
             value: Some("N"),
             default: Some("1"),
             ..OPTION
@@ -292,7 +292,7 @@ const COMPLETION: Command<'static> = Command {
         Argument {
             name: "SHELL",
             help: "The shell that they are for",
-            kind: Kind::Choice(SHELLS),
+            kind: ArgumentKind::Choice(SHELLS),
             value: Some("SHELL"),
             choices: SHELL_WORDS,
             ..OPERAND

@@ -4,16 +4,16 @@ use crate::table::commands;
 use clap::builder::ValueParser;
 use clap::error::ErrorKind;
 use clap::{Arg, ArgAction, ArgMatches, Command, Error};
-use sacn_manual::{Argument, Command as Row, Kind, Spelling};
+use sacn_manual::{Argument, ArgumentKind, Command as Row, Spelling};
 use std::alloc::{AllocError, Global};
 
-fn parser_of<'a>(kind: Kind<'a>) -> ValueParser<'a> {
+fn parser_of<'a>(kind: ArgumentKind<'a>) -> ValueParser<'a> {
     match kind {
-        Kind::Flag | Kind::Answered => ValueParser::bool(),
-        Kind::Word => ValueParser::string(),
-        Kind::Choice(words) => ValueParser::from(words),
-        Kind::Number(least, most) => ValueParser::unsigned(least, most),
-        Kind::Octet(least, most) => ValueParser::signed(i64::from(least), i64::from(most)),
+        ArgumentKind::Flag | ArgumentKind::Answered => ValueParser::bool(),
+        ArgumentKind::Word => ValueParser::string(),
+        ArgumentKind::Choice(words) => ValueParser::from(words),
+        ArgumentKind::Number(least, most) => ValueParser::unsigned(least, most),
+        ArgumentKind::Octet(least, most) => ValueParser::signed(i64::from(least), i64::from(most)),
     }
 }
 
@@ -50,7 +50,7 @@ fn argument_of<'a>(alloc: Global, row: &Argument<'a>) -> Arg<'a> {
 fn arguments_of<'a>(alloc: Global, rows: &[Argument<'a>]) -> Result<Vec<Arg<'a>>, AllocError> {
     let mut arguments = Vec::new(alloc);
     for row in rows {
-        if !matches!(row.kind, Kind::Answered) {
+        if !matches!(row.kind, ArgumentKind::Answered) {
             arguments.push(argument_of(alloc, row))?;
         }
     }
