@@ -4,7 +4,7 @@ use Rattle.std.proofs.lemmas.List.{take_all}
 use Rattle.std.proofs.lemmas.List.Elements.{All-more}
 use Rattle.std.specs.Prelude.{All}
 use Rattle.sacn_manual.specs.declared.tree.Argument.{Argument}
-use Rattle.sacn_manual.specs.declared.tree.Command.{Command}
+use Rattle.sacn_manual.specs.declared.tree.Subcommand.{Subcommand}
 use Rattle.sacn_manual.specs.declared.form.Form.{Form}
 use Rattle.sacn_manual.specs.Forms.{written}
 use Rattle.sacn_manual.specs.Texts.{Grows, Holds, IsTold, TellsArgument, TellsCommand}
@@ -55,13 +55,13 @@ pub more_told : (form : Form) (old new : List ℕ) (xs : List Argument) (i : ℕ
 more_told form old new xs i d l g a t = All-more (TellsArgument form new) xs i d l (all_kept form old new (take i xs) a g) t
 
 -- the same of commands
-pub command_kept : (form : Form) (old new : List ℕ) (c : Command) → TellsCommand form old c → Grows old new → TellsCommand form new c
+pub command_kept : (form : Form) (old new : List ℕ) (c : Subcommand) → TellsCommand form old c → Grows old new → TellsCommand form new c
 command_kept form old new c t g = record { told = kept_told form _ _ _ old new t.told g; arguments = all_kept form old new c.arguments.now t.arguments g }
 
-pub commands_kept : (form : Form) (old new : List ℕ) (xs : List Command) → All (TellsCommand form old) xs → Grows old new → All (TellsCommand form new) xs
+pub commands_kept : (form : Form) (old new : List ℕ) (xs : List Subcommand) → All (TellsCommand form old) xs → Grows old new → All (TellsCommand form new) xs
 commands_kept form old new xs a g = λ k d l. command_kept form old new _ (a k d l) g
 
-pub more_commands : (form : Form) (old new : List ℕ) (xs : List Command) (i : ℕ) (d : Command) → i < length xs → Grows old new
+pub more_commands : (form : Form) (old new : List ℕ) (xs : List Subcommand) (i : ℕ) (d : Subcommand) → i < length xs → Grows old new
     → All (TellsCommand form old) (take i xs) → TellsCommand form new (get_or xs i d) → All (TellsCommand form new) (take (i + 1) xs)
 more_commands form old new xs i d l g a t = All-more (TellsCommand form new) xs i d l (commands_kept form old new (take i xs) a g) t
 

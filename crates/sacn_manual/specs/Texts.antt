@@ -2,7 +2,7 @@
 use Rattle.std.specs.Prelude.{◌≡◌, ℕ, List, [], ◌++◌, All}
 use Rattle.sacn_manual.specs.declared.form.Form.{Form}
 use Rattle.sacn_manual.specs.declared.tree.Argument.{Argument}
-use Rattle.sacn_manual.specs.declared.tree.Command.{Command}
+use Rattle.sacn_manual.specs.declared.tree.Subcommand.{Subcommand}
 use Rattle.sacn_manual.specs.declared.tree.Program.{Program}
 use Rattle.sacn_manual.specs.Forms.{mark, written}
 
@@ -27,7 +27,7 @@ abbrev pub TellsArgument : Form → List ℕ → Argument → Type 0
 TellsArgument form text a = IsTold form (mark form a.spelling) a.name.now a.help.now text
 
 -- a command: its name, what it does, and each of its arguments
-pub record TellsCommand (form : Form) (text : List ℕ) (c : Command) : Type 0 where
+pub record TellsCommand (form : Form) (text : List ℕ) (c : Subcommand) : Type 0 where
   pub told : IsTold form [] c.name.now c.about.now text
   pub arguments : All (TellsArgument form text) c.arguments.now
 

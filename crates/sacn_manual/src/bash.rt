@@ -3,7 +3,7 @@ use crate::action::{Action, action_of};
 use crate::form::{Form, mark};
 use crate::pieces::Piece::{self, Raw, Text, Words};
 use crate::pieces::join;
-use crate::tree::{Argument, Command, Spelling};
+use crate::tree::{Argument, Spelling, Subcommand};
 use std::alloc::{AllocError, Global};
 
 const FORM: Form = Form::Bash;
@@ -56,7 +56,7 @@ pub fn before_command(alloc: Global) -> Result<Vec<u8>, AllocError> {
 }
 
 /// What stands between a command's name and what it does.
-pub fn before_about(alloc: Global, command: &Command<'_>) -> Result<Vec<u8>, AllocError> {
+pub fn before_about(alloc: Global, command: &Subcommand<'_>) -> Result<Vec<u8>, AllocError> {
     let name = command.name;
     join(
         alloc,

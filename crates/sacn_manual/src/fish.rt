@@ -3,7 +3,7 @@ use crate::action::{Action, action_of};
 use crate::form::Form;
 use crate::pieces::Piece::{self, Raw, Text, Words};
 use crate::pieces::join;
-use crate::tree::{Argument, Command, Spelling};
+use crate::tree::{Argument, Spelling, Subcommand};
 use std::alloc::{AllocError, Global};
 
 const FORM: Form = Form::Fish;
@@ -38,7 +38,7 @@ pub fn before_about(alloc: Global) -> Result<Vec<u8>, AllocError> {
 }
 
 /// What stands between what a command does and its arguments.
-pub fn after_about(alloc: Global, command: &Command<'_>) -> Result<Vec<u8>, AllocError> {
+pub fn after_about(alloc: Global, command: &Subcommand<'_>) -> Result<Vec<u8>, AllocError> {
     join(
         alloc,
         FORM,

@@ -15,4 +15,4 @@ mod zsh;
 
 pub use form::{Form, SHELL_WORDS, SHELLS, shell_of};
 pub use print::render;
-pub use tree::{Argument, ArgumentKind, Command, Program, Spelling};
+pub use tree::{Argument, ArgumentKind, Program, Spelling, Subcommand};

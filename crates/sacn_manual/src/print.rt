@@ -7,7 +7,7 @@ ghost use Rattle.sacn_manual.specs.Texts.{Grows, IsTold, TellsArgument, TellsCom
 use crate::form::{Form, mark};
 use crate::pieces::Piece::{Raw, Text};
 use crate::pieces::{join, push_all};
-use crate::tree::{Argument, Command, Program};
+use crate::tree::{Argument, Program, Subcommand};
 use crate::{bash, fish, roff, zsh};
 use std::alloc::{AllocError, Global};
 
@@ -49,7 +49,11 @@ fn before_command(alloc: Global, form: Form) -> Result<Vec<u8>, AllocError> {
     }
 }
 
-fn before_about(alloc: Global, form: Form, command: &Command<'_>) -> Result<Vec<u8>, AllocError> {
+fn before_about(
+    alloc: Global,
+    form: Form,
+    command: &Subcommand<'_>,
+) -> Result<Vec<u8>, AllocError> {
     match form {
         Form::Manual => roff::before_about(alloc, command),
         Form::Bash => bash::before_about(alloc, command),
@@ -58,7 +62,7 @@ fn before_about(alloc: Global, form: Form, command: &Command<'_>) -> Result<Vec<
     }
 }
 
-fn after_about(alloc: Global, form: Form, command: &Command<'_>) -> Result<Vec<u8>, AllocError> {
+fn after_about(alloc: Global, form: Form, command: &Subcommand<'_>) -> Result<Vec<u8>, AllocError> {
     match form {
         Form::Manual | Form::Bash => join(alloc, form, &[Raw("\n")]),
         Form::Zsh => zsh::after_about(alloc, command),
@@ -128,7 +132,11 @@ fn around_argument<'a>(
     })
 }
 
-fn around_command(alloc: Global, form: Form, command: &Command<'_>) -> Result<Around, AllocError> {
+fn around_command(
+    alloc: Global,
+    form: Form,
+    command: &Subcommand<'_>,
+) -> Result<Around, AllocError> {
     Ok(Around {
         before: before_command(alloc, form)?,
         between: before_about(alloc, form, command)?,
@@ -210,7 +218,7 @@ fn push_name(
     alloc: Global,
     text: &mut Vec<u8>,
     form: Form,
-    command: &Command<'_>,
+    command: &Subcommand<'_>,
 ) -> Result<(), AllocError>
     ensures grows { OnOk result (Grows text.old.items text.new.items) }
     ensures told { OnOk result
@@ -225,7 +233,7 @@ fn push_command(
     alloc: Global,
     text: &mut Vec<u8>,
     form: Form,
-    command: &Command<'_>,
+    command: &Subcommand<'_>,
 ) -> Result<(), AllocError>
     ensures grows { OnOk result (Grows text.old.items text.new.items) }
     ensures told { OnOk result (TellsCommand form text.new.items command.now) }
@@ -242,7 +250,7 @@ fn push_commands(
     alloc: Global,
     text: &mut Vec<u8>,
     form: Form,
-    commands: &[Command<'_>],
+    commands: &[Subcommand<'_>],
 ) -> Result<(), AllocError>
     ensures grows { OnOk result (Grows text.old.items text.new.items) }
     ensures told { OnOk result (All (TellsCommand form text.new.items) commands.now) }

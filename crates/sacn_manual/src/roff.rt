@@ -2,7 +2,7 @@
 use crate::form::Form;
 use crate::pieces::Piece::{Raw, Text};
 use crate::pieces::{join, push_all};
-use crate::tree::{Argument, Command, Program, Spelling};
+use crate::tree::{Argument, Program, Spelling, Subcommand};
 use std::alloc::{AllocError, Global};
 
 const FORM: Form = Form::Manual;
@@ -114,7 +114,7 @@ pub fn before_command(alloc: Global) -> Result<Vec<u8>, AllocError> {
 }
 
 /// What stands between a command's name and what it does.
-pub fn before_about(alloc: Global, command: &Command<'_>) -> Result<Vec<u8>, AllocError> {
+pub fn before_about(alloc: Global, command: &Subcommand<'_>) -> Result<Vec<u8>, AllocError> {
     join(
         alloc,
         FORM,

@@ -51,7 +51,7 @@ pub struct Argument<'a> {
 
 /// A command of a program.
 #[derive(Drop)]
-pub struct Command<'a> {
+pub struct Subcommand<'a> {
     pub name: &'a str,
     /// What help says of it, in a line.
     pub about: &'a str,
@@ -73,5 +73,5 @@ pub struct Program<'a> {
     pub notes: &'a str,
     /// What is given without a command.
     pub arguments: &'a [Argument<'a>],
-    pub commands: &'a [Command<'a>],
+    pub commands: &'a [Subcommand<'a>],
 }

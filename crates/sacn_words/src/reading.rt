@@ -4,7 +4,7 @@ use crate::table::commands;
 use crate::tree::error_of;
 use clap::parser::ValueSource;
 use clap::{ArgMatches, Error};
-use sacn_manual::{ArgumentKind, Command};
+use sacn_manual::{ArgumentKind, Subcommand};
 use std::alloc::{AllocError, Global};
 
 /// The word for standard input where a file is read. A file of this name is `./-`.
@@ -249,7 +249,7 @@ impl<'m, 'a> Words<'m, 'a> {
 }
 
 // What a number has to be.
-fn range_of(commands: &[Command<'_>], name: &str) -> (u64, u64) {
+fn range_of(commands: &[Subcommand<'_>], name: &str) -> (u64, u64) {
     for command in commands {
         for row in command.arguments {
             match row.kind {

@@ -3,10 +3,10 @@ use crate::arguments::{
     DESK_SCRIPT_HELP, FIRST, FLAG, HELP, HELP_LETTER, JOIN, JSON, LISTEN, OPERAND, OPTION, PAGE,
     SCRIPT_HELP, SECONDS, SETUP, SETUP_HELP, SHOW, TURNS,
 };
-use sacn_manual::{Argument, ArgumentKind, Command, SHELL_WORDS, SHELLS};
+use sacn_manual::{Argument, ArgumentKind, SHELL_WORDS, SHELLS, Subcommand};
 use std::alloc::{AllocError, Global};
 
-const DECODE: Command<'static> = Command {
+const DECODE: Subcommand<'static> = Subcommand {
     name: "decode",
     about: "Prints the packets in files of one datagram each, raw octets, in their order",
     usage: "sacn decode <FILE>...",
@@ -23,7 +23,7 @@ const DECODE: Command<'static> = Command {
     ],
 };
 
-const SIM: Command<'static> = Command {
+const SIM: Subcommand<'static> = Subcommand {
     name: "sim",
     about: "Runs a world of consoles and nodes by a schedule of events, and prints what each look shows",
     usage: "sacn sim <WORLD> <SCHEDULE>",
@@ -45,7 +45,7 @@ const SIM: Command<'static> = Command {
     ],
 };
 
-const CONSOLE: Command<'static> = Command {
+const CONSOLE: Subcommand<'static> = Subcommand {
     name: "console",
     about: "Sends a show's universes on 127.0.0.1 as a script orders, and prints how many datagrams that were",
     usage: "sacn console [OPTIONS] --turns <N> <SHOW> <SCRIPT>",
@@ -64,14 +64,14 @@ const CONSOLE: Command<'static> = Command {
     ],
 };
 
-const NODE: Command<'static> = Command {
+const NODE: Subcommand<'static> = Subcommand {
     name: "node",
     about: "Hears datagrams on 127.0.0.1, and prints each port's frame whenever it is another",
     usage: "sacn node --turns <N> <SETUP>",
     arguments: &[SETUP, TURNS, HELP_LETTER, HELP],
 };
 
-const GATEWAY: Command<'static> = Command {
+const GATEWAY: Subcommand<'static> = Subcommand {
     name: "gateway",
     about: "Hears a rig until it is stopped, and prints each port's frame whenever it is another",
     usage: "sacn gateway [OPTIONS] <SETUP>",
@@ -108,7 +108,7 @@ const GATEWAY: Command<'static> = Command {
     ],
 };
 
-const DESK: Command<'static> = Command {
+const DESK: Subcommand<'static> = Subcommand {
     name: "desk",
     about: "Sends a show's universes to a rig as a script and standard input order, until these end",
     usage: "sacn desk [OPTIONS] <SHOW>",
@@ -157,7 +157,7 @@ const DESK: Command<'static> = Command {
     ],
 };
 
-const GROUPS: Command<'static> = Command {
+const GROUPS: Subcommand<'static> = Subcommand {
     name: "groups",
     about: "Prints the commands by which a device joins the groups of a setup's or a show's universes",
     usage: "sacn groups --device <DEV> <FILE>",
@@ -180,7 +180,7 @@ const GROUPS: Command<'static> = Command {
     ],
 };
 
-const EXPLAIN: Command<'static> = Command {
+const EXPLAIN: Subcommand<'static> = Subcommand {
     name: "explain",
     about: "Tells what a recording of a network holds: a line for each thing that happened, then tables",
     usage: "sacn explain [OPTIONS] <CAPTURE>",
@@ -221,7 +221,7 @@ const EXPLAIN: Command<'static> = Command {
     ],
 };
 
-const WATCH: Command<'static> = Command {
+const WATCH: Subcommand<'static> = Subcommand {
     name: "watch",
     about: "Hears a network until it is stopped, and tells each thing that happens, then tables; in a terminal it shows a screen",
     usage: "sacn watch [OPTIONS]",
@@ -254,7 +254,7 @@ const WATCH: Command<'static> = Command {
     ],
 };
 
-const CHECK: Command<'static> = Command {
+const CHECK: Subcommand<'static> = Subcommand {
     name: "check",
     about: "Says what is wrong with shows, setups, worlds, scripts and schedules, each fault with its place",
     usage: "sacn check [OPTIONS] <FILE>...",
@@ -277,14 +277,14 @@ const CHECK: Command<'static> = Command {
     ],
 };
 
-const MANUAL: Command<'static> = Command {
+const MANUAL: Subcommand<'static> = Subcommand {
     name: "manual",
     about: "Prints this program's manual, a page in roff that `man -l` shows",
     usage: "sacn manual",
     arguments: &[HELP_LETTER, HELP],
 };
 
-const COMPLETION: Command<'static> = Command {
+const COMPLETION: Subcommand<'static> = Subcommand {
     name: "completion",
     about: "Prints what completes this program's words in a shell",
     usage: "sacn completion <SHELL>",
@@ -304,56 +304,56 @@ const COMPLETION: Command<'static> = Command {
 
 // Each in a function of its own: all the rows at once are too many for the borrow checker's part of a proof.
 
-fn decode() -> Command<'static> {
+fn decode() -> Subcommand<'static> {
     DECODE
 }
 
-fn sim() -> Command<'static> {
+fn sim() -> Subcommand<'static> {
     SIM
 }
 
-fn console() -> Command<'static> {
+fn console() -> Subcommand<'static> {
     CONSOLE
 }
 
-fn node() -> Command<'static> {
+fn node() -> Subcommand<'static> {
     NODE
 }
 
-fn gateway() -> Command<'static> {
+fn gateway() -> Subcommand<'static> {
     GATEWAY
 }
 
-fn desk() -> Command<'static> {
+fn desk() -> Subcommand<'static> {
     DESK
 }
 
-fn groups() -> Command<'static> {
+fn groups() -> Subcommand<'static> {
     GROUPS
 }
 
-fn explain() -> Command<'static> {
+fn explain() -> Subcommand<'static> {
     EXPLAIN
 }
 
-fn watch() -> Command<'static> {
+fn watch() -> Subcommand<'static> {
     WATCH
 }
 
-fn check() -> Command<'static> {
+fn check() -> Subcommand<'static> {
     CHECK
 }
 
-fn manual() -> Command<'static> {
+fn manual() -> Subcommand<'static> {
     MANUAL
 }
 
-fn completion() -> Command<'static> {
+fn completion() -> Subcommand<'static> {
     COMPLETION
 }
 
 /// The commands, in the order of help.
-pub fn commands(alloc: Global) -> Result<Vec<Command<'static>>, AllocError> {
+pub fn commands(alloc: Global) -> Result<Vec<Subcommand<'static>>, AllocError> {
     let commands = vec![in alloc;
         decode(),
         sim(),

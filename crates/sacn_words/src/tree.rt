@@ -4,7 +4,7 @@ use crate::table::commands;
 use clap::builder::ValueParser;
 use clap::error::ErrorKind;
 use clap::{Arg, ArgAction, ArgMatches, Command, Error};
-use sacn_manual::{Argument, ArgumentKind, Command as Row, Spelling};
+use sacn_manual::{Argument, ArgumentKind, Spelling, Subcommand};
 use std::alloc::{AllocError, Global};
 
 fn parser_of<'a>(kind: ArgumentKind<'a>) -> ValueParser<'a> {
@@ -66,7 +66,7 @@ fn subcommands<'a>(alloc: Global) -> Result<Vec<Command<'a>>, AllocError> {
     Ok(subcommands)
 }
 
-fn subcommand<'a>(alloc: Global, row: &Row<'a>) -> Result<Command<'a>, AllocError> {
+fn subcommand<'a>(alloc: Global, row: &Subcommand<'a>) -> Result<Command<'a>, AllocError> {
     let arguments = arguments_of(alloc, row.arguments)?;
     Command::new(alloc, row.name)
         .about(row.about)
