@@ -1,12 +1,12 @@
 -- How many frames there were of each kind.
 use Rattle.std.specs.Prelude.{ℕ, ◌+◌, ◌-◌, ◌^◌, min, Option, None, Some, Result, Ok, Err}
-use Rattle.sacn_capture.specs.declared.counts.Counts.{Counts}
+use Rattle.sacn_capture.specs.declared.frame_counts.FrameCounts.{FrameCounts}
 use Rattle.sacn_capture.specs.declared.frame.Datagram.{Datagram}
 use Rattle.sacn_capture.specs.Frames.{Sent}
 use Rattle.sacn_capture.specs.declared.links.Passed.{Passed}
 use Rattle.sacn_capture.specs.declared.links.Passed.TheVariants.{NotIp, NotIpv4, NotUdp, Fragment, Cut, OtherLink, TooLong}
 
-abbrev pub none_counted : Counts
+abbrev pub none_counted : FrameCounts
 none_counted = record { datagrams = 0; not_ip = 0; not_ipv4 = 0; not_udp = 0; fragments = 0; cut = 0; other_links = 0; too_long = 0 }
 
 -- why a frame was passed over; none where it has a datagram
@@ -24,7 +24,7 @@ abbrev pub more : ℕ → ℕ
 more n = min (n + 1) (2 ^ 64 - 1)
 
 -- the counts with one more frame
-abbrev pub count_frame : Option Passed → Counts → Counts
+abbrev pub count_frame : Option Passed → FrameCounts → FrameCounts
 count_frame None counts = record counts { datagrams = more counts.datagrams }
 count_frame (Some NotIp) counts = record counts { not_ip = more counts.not_ip }
 count_frame (Some NotIpv4) counts = record counts { not_ipv4 = more counts.not_ipv4 }

@@ -1,7 +1,7 @@
 -- What a recording that is read shows of itself.
 use Rattle.std.specs.Prelude.{◌≡◌, ℕ, ◌<◌, ◌⊎◌, List, [], length, take, map, ⊤, IfSome, option_map, Option, None, Some, Result, Ok, Err}
 use Rattle.std.specs.Io.KnownBytes.{Consumes}
-use Rattle.sacn_capture.specs.declared.counts.Counts.{Counts}
+use Rattle.sacn_capture.specs.declared.frame_counts.FrameCounts.{FrameCounts}
 use Rattle.sacn_capture.specs.declared.faults.CaptureFault.{CaptureFault}
 use Rattle.sacn_capture.specs.declared.links.Passed.{Passed}
 use Rattle.sacn_capture.specs.declared.links.Passed.TheVariants.{OtherLink, TooLong}
@@ -27,7 +27,7 @@ use Rattle.sacn_capture.specs.Inputs.{place_of}
 use Rattle.sacn_capture.specs.Recordings.{Shown, State, Piece, Told, start_of, ends, faulted, recording, rest_of, with_frame}
 
 -- what the frames so far were
-abbrev pub counts_of : {R : Type 0} → Capture R → Counts
+abbrev pub counts_of : {R : Type 0} → Capture R → FrameCounts
 counts_of capture = capture.counts
 
 -- how many octets of the file were read
@@ -159,7 +159,7 @@ abbrev pub passed_in : {R : Type 0} → Frame → Pieces R → Option Passed
 passed_in frame pieces = passed_by (content_in frame pieces.buffer.octets.items)
 
 -- a call counts the frame that it gives
-abbrev pub counted_with : Result (Option Shown) CaptureFault → Counts → Counts
+abbrev pub counted_with : Result (Option Shown) CaptureFault → FrameCounts → FrameCounts
 counted_with (Ok None) counts = counts
 counted_with (Ok (Some frame)) counts = count_frame (passed_by frame.content) counts
 counted_with (Err fault) counts = counts

@@ -5,8 +5,8 @@ ghost use Rattle.sacn_capture.specs.Bookmarks.{behind, state_at};
 ghost use Rattle.sacn_capture.specs.Streams.{counts_of, left_in, place_of_reading, state_of, to_come};
 
 use crate::buffer::Buffer;
-use crate::counts::Counts;
 use crate::faults::{CaptureFault, FaultKind};
+use crate::frame_counts::FrameCounts;
 use crate::headers::Format;
 use crate::input::Input;
 use crate::interface::Described;
@@ -23,7 +23,7 @@ pub struct Bookmark {
     interfaces: Vec<Described>,
     moment: u64,
     mark: u64,
-    counts: Counts,
+    counts: FrameCounts,
     stopped: Option<CaptureFault>,
 }
 

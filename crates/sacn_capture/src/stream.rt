@@ -11,9 +11,9 @@ ghost use Rattle.sacn_capture.specs.Placement.{content_in};
 ghost use Rattle.sacn_capture.specs.Streams.{passed_in, Gives, GivesFirst, GivesNext, GivesRecord, IsPcap, Opens, ReadsRecord, StepReads, Steps, counts_of, frame_shown, left_in, place_of_reading, shown_of, stopped_by, to_come};
 
 use crate::buffer::Frame;
-use crate::counts::Counts;
 use crate::faults::{CaptureFault, FaultKind};
 use crate::frame::{Datagram, Sighting};
+use crate::frame_counts::FrameCounts;
 use crate::links::Passed;
 use crate::pcap::PcapHeader;
 use crate::pieces::Pieces;
@@ -36,7 +36,7 @@ pub struct Capture<R> {
     pub(crate) pieces: Pieces<R>,
     /// Where the header, the block or the record begins that is read.
     pub(crate) mark: u64,
-    pub(crate) counts: Counts,
+    pub(crate) counts: FrameCounts,
     pub(crate) stopped: Option<CaptureFault>,
 }
 
@@ -56,7 +56,7 @@ impl<R: BufRead + Drop> Capture<R> {
         Ok(Capture {
             pieces,
             mark: 0,
-            counts: Counts::new(),
+            counts: FrameCounts::new(),
             stopped: None,
         })
     }
@@ -104,7 +104,7 @@ impl<R: BufRead> Capture<R> {
     }
 
     /// What the frames so far were.
-    pub fn counts(&self) -> Counts
+    pub fn counts(&self) -> FrameCounts
         ensures { result ≡ counts_of self.now }
     {
         self.counts

@@ -1,7 +1,7 @@
 -- What a recording tells, frame by frame: what was heard, and then what is still to come, is all.
 use Rattle.std.proofs.Common.{◌≡◌, inl, inr, ℕ, ◌==◌, Bool, cond, true, false, max, List, ◌∷◌, length, Option, None, Some, Result, Ok, Err, IfSome, refl, sym, ap, subst, ◌∙◌, arith}
 use Rattle.std.specs.Prelude.{option_map, ⊤}
-use Rattle.sacn_capture.specs.declared.counts.Counts.{Counts}
+use Rattle.sacn_capture.specs.declared.frame_counts.FrameCounts.{FrameCounts}
 use Rattle.sacn_capture.specs.declared.faults.CaptureFault.{CaptureFault}
 use Rattle.sacn_capture.specs.declared.links.Passed.{Passed}
 use Rattle.sacn_capture.specs.declared.stream.Record.{Record}
@@ -19,7 +19,7 @@ use Rattle.sacn_explain.specs.KeptLists.{listed_by, listed_with}
 use Rattle.sacn_explain.proofs.Counts.{counts_are_of_what_was_handed}
 use Rattle.sacn_explain.specs.Story.{Heard, Hears, Kept, IsHeard, IsHeardTo, after_frame, after_frames, at_moment, call_of, elsewhere, heard_in}
 
-abbrev heard_by : Progress → Counts → List Call → Heard
+abbrev heard_by : Progress → FrameCounts → List Call → Heard
 heard_by progress frames calls = record { frames = frames; clock = progress.timeline; other_ports = progress.other_ports; calls = calls }
 
 -- what was heard, and then what is still to come, is all that there is to hear
@@ -40,19 +40,19 @@ pub nothing_given : (result : Result (Option Record) CaptureFault) (found : Opti
     → GivesFirst (map_ok (λ x. option_map shown_of x) result) before → GivesFirst (Ok None) before
 nothing_given result found before is none gives = subst (λ (r : Result (Option Record) CaptureFault). GivesFirst (map_ok (λ x. option_map shown_of x) r) before) (is ∙ ap Ok none) gives
 
-pub frame_counted : (result : Result (Option Record) CaptureFault) (found : Option Record) (given : Record) (before after : Counts) → result ≡ Ok found → found ≡ Some given
+pub frame_counted : (result : Result (Option Record) CaptureFault) (found : Option Record) (given : Record) (before after : FrameCounts) → result ≡ Ok found → found ≡ Some given
     → after ≡ counted_with (map_ok (λ x. option_map shown_of x) result) before → after ≡ count_frame (passed_by (shown_of given).content) before
 frame_counted result found given before after is some counts =
     subst (λ (r : Result (Option Record) CaptureFault). after ≡ counted_with (map_ok (λ x. option_map shown_of x) r) before) (is ∙ ap Ok some) counts
 
-pub nothing_counted : (result : Result (Option Record) CaptureFault) (found : Option Record) (before after : Counts) → result ≡ Ok found → found ≡ None
+pub nothing_counted : (result : Result (Option Record) CaptureFault) (found : Option Record) (before after : FrameCounts) → result ≡ Ok found → found ≡ None
     → after ≡ counted_with (map_ok (λ x. option_map shown_of x) result) before → after ≡ before
 nothing_counted result found before after is none counts =
     subst (λ (r : Result (Option Record) CaptureFault). after ≡ counted_with (map_ok (λ x. option_map shown_of x) r) before) (is ∙ ap Ok none) counts
 
-pub counts_stay : (port : ℕ) (all : Option Told) (progress : Progress) (kept : Kept) (before after : Counts) → after ≡ before
+pub counts_stay : (port : ℕ) (all : Option Told) (progress : Progress) (kept : Kept) (before after : FrameCounts) → after ≡ before
     → IfSome all (λ told. IsHeard port told progress (record kept { frames = before })) → IfSome all (λ told. IsHeard port told progress (record kept { frames = after }))
-counts_stay port all progress kept before after same heard = subst (λ (c : Counts). IfSome all (λ told. IsHeard port told progress (record kept { frames = c }))) (sym same) heard
+counts_stay port all progress kept before after same heard = subst (λ (c : FrameCounts). IfSome all (λ told. IsHeard port told progress (record kept { frames = c }))) (sym same) heard
 
 -- a call has the moment that was handed in
 call_moment_by : (b : Bool) (now : ℕ) (take : Call) → moment_of take ≡ now → moment_of (cond b take (Tick now)) ≡ now
@@ -68,12 +68,12 @@ follows_on (Take now sender octets) earlier old new follows hears = (old, follow
 follows_on (Tick now) earlier old new follows hears = (old, follows, hears)
 
 module _ (port : ℕ) (frame : Shown) (old new : Progress) (clock : new.timeline ≡ at_moment frame.moment old.timeline) (others : new.other_ports ≡ elsewhere port frame.content old.other_ports) where
-  heard_on : (c d : Counts) (calls : List Call) → d ≡ count_frame (passed_by frame.content) c
+  heard_on : (c d : FrameCounts) (calls : List Call) → d ≡ count_frame (passed_by frame.content) c
       → after_frame port frame (heard_by old c calls) ≡ heard_by new d (call_of port new.timeline.now frame.content ∷ calls)
   heard_on c d calls more =
       ap (λ (t : Timeline). record { frames = count_frame (passed_by frame.content) c; clock = t; other_ports = elsewhere port frame.content old.other_ports; calls = call_of port t.now frame.content ∷ calls }) (sym clock)
       ∙ ap (λ (n : ℕ). record { frames = count_frame (passed_by frame.content) c; clock = new.timeline; other_ports = n; calls = call_of port new.timeline.now frame.content ∷ calls }) (sym others)
-      ∙ ap (λ (x : Counts). heard_by new x (call_of port new.timeline.now frame.content ∷ calls)) (sym more)
+      ∙ ap (λ (x : FrameCounts). heard_by new x (call_of port new.timeline.now frame.content ∷ calls)) (sym more)
 
   now_on : (calls : List Call) → old.timeline.now ≡ moment_in_use calls → new.timeline.now ≡ moment_in_use (call_of port new.timeline.now frame.content ∷ calls)
   now_on calls now =

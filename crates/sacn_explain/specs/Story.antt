@@ -2,7 +2,7 @@
 use Rattle.std.specs.Prelude.{◌≡◌, ◌⊎◌, ℕ, ◌-◌, ◌==◌, max, nat_lt, List, [], ◌∷◌, length, Option, None, Some, unwrap_or, Result, Ok, Err, if◌then◌else◌}
 use Rattle.sacn_capture.specs.declared.links.Passed.{Passed}
 use Rattle.sacn_capture.specs.declared.faults.CaptureFault.{CaptureFault}
-use Rattle.sacn_capture.specs.declared.counts.Counts.{Counts}
+use Rattle.sacn_capture.specs.declared.frame_counts.FrameCounts.{FrameCounts}
 use Rattle.sacn_capture.specs.Counting.{count_frame, none_counted, passed_by}
 use Rattle.sacn_capture.specs.Files.{IsOutside}
 use Rattle.sacn_capture.specs.Frames.{Sent}
@@ -44,7 +44,7 @@ elsewhere port (Err passed) n = n
 
 -- what frames make: what they were, the clock, how many datagrams are to other ports, and the calls, the latest first
 pub record Heard : Type 0 where
-  pub frames : Counts
+  pub frames : FrameCounts
   pub clock : Timeline
   pub other_ports : ℕ
   pub calls : List Call
@@ -91,7 +91,7 @@ progress_at_start = record { timeline = no_clock; other_ports = 0; stopped = Non
 
 -- what is kept of a recording that is followed: what its frames were, what it told, and the lists
 pub record Kept : Type 0 where
-  pub frames : Counts
+  pub frames : FrameCounts
   pub book : Book
   pub listed : Listed
 

@@ -1,13 +1,13 @@
 //! What a recording had.
 
-use sacn_capture::Counts;
+use sacn_capture::FrameCounts;
 use sacn_monitor::Tally;
 
 /// What a recording had.
 #[derive(Clone, Copy)]
 pub struct Report {
     /// Its frames, by what they were.
-    pub frames: Counts,
+    pub frames: FrameCounts,
     /// Its datagrams to the port that was asked for, by what they were.
     pub tally: Tally,
     /// Pages of sources for whose lists there was no room.

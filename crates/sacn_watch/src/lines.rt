@@ -5,7 +5,7 @@ ghost use Rattle.sacn_monitor.specs.Books.{next_loss};
 
 use crate::fault::WatchFault;
 use crate::watch::Watcher;
-use sacn_capture::Counts;
+use sacn_capture::FrameCounts;
 use sacn_explain::{Follower, Report};
 use sacn_framing::Reading;
 use sacn_monitor::Endpoint;
@@ -45,7 +45,7 @@ impl<'a, O: Write> Watcher for Follower<'a, O> {
 
     fn end(&mut self, now: u64) -> Result<(), WatchFault> {
         self.tick(now)?;
-        let mut frames = Counts::new();
+        let mut frames = FrameCounts::new();
         frames.datagrams = self.tally().datagrams;
         let report = Report {
             frames,

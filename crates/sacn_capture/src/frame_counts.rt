@@ -8,7 +8,7 @@ use crate::links::Passed;
 
 /// How many frames there were of each kind. Each count stops at 2^64 - 1.
 #[derive(Clone, Copy, PartialEq, Eq)]
-pub struct Counts {
+pub struct FrameCounts {
     /// Frames with a datagram.
     pub datagrams: u64,
     pub not_ip: u64,
@@ -22,12 +22,12 @@ pub struct Counts {
     pub too_long: u64,
 }
 
-impl Counts {
+impl FrameCounts {
     /// No frame yet.
     pub fn new() -> Self
         ensures { result ≡ none_counted }
     {
-        Counts {
+        FrameCounts {
             datagrams: 0,
             not_ip: 0,
             not_ipv4: 0,
