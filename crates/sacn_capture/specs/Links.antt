@@ -4,8 +4,8 @@ use Rattle.sacn_capture.specs.declared.links.LinkType.{LinkType}
 use Rattle.sacn_capture.specs.declared.links.LinkType.TheVariants.{Ethernet, RawIp, CookedV1, CookedV2, BsdNull, BsdLoop}
 use Rattle.sacn_capture.specs.declared.links.Passed.{Passed}
 use Rattle.sacn_capture.specs.declared.links.Passed.TheVariants.{NotIp, NotIpv4, Cut}
-use Rattle.sacn_capture.specs.declared.links.Network.{Network}
-use Rattle.sacn_capture.specs.declared.links.Network.TheVariants.{Ipv4, Ipv6, Other}
+use Rattle.sacn_capture.specs.declared.links.NetworkProtocol.{NetworkProtocol}
+use Rattle.sacn_capture.specs.declared.links.NetworkProtocol.TheVariants.{Ipv4, Ipv6, Other}
 use Rattle.sacn_capture.specs.declared.octets.ByteOrder.TheVariants.{Big, Little}
 use Rattle.sacn_capture.specs.Octets.{number16, number32}
 
@@ -24,15 +24,15 @@ link_of n =
     else None
 
 -- what an Ethernet type names
-abbrev pub network_by_type : ℕ → Network
+abbrev pub network_by_type : ℕ → NetworkProtocol
 network_by_type t = if t == 0x0800 then Ipv4 else if t == 0x86dd then Ipv6 else Other
 
 -- what the version in a packet's high four bits says
-abbrev pub network_by_version : ℕ → Network
+abbrev pub network_by_version : ℕ → NetworkProtocol
 network_by_version v = if v == 4 then Ipv4 else if v == 6 then Ipv6 else Other
 
 -- what an address family names: 2 is IPv4 everywhere; 24, 28 and 30 are IPv6 on the BSDs and macOS
-abbrev pub network_by_family : ℕ → Network
+abbrev pub network_by_family : ℕ → NetworkProtocol
 network_by_family f = if f == 2 then Ipv4 else if f == 24 then Ipv6 else if f == 28 then Ipv6 else if f == 30 then Ipv6 else Other
 
 -- whether the type at a place is that of a VLAN's tag
@@ -44,7 +44,7 @@ abbrev pub type_place : List ℕ → ℕ
 type_place frame = if is_tagged_at frame 12 then if is_tagged_at frame 16 then 20 else 16 else 12
 
 -- a place, where IPv4 stands there
-abbrev pub placed_at : Network → ℕ → Result ℕ Passed
+abbrev pub placed_at : NetworkProtocol → ℕ → Result ℕ Passed
 placed_at Ipv4 place = Ok place
 placed_at Ipv6 place = Err NotIpv4
 placed_at Other place = Err NotIp

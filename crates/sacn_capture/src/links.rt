@@ -42,9 +42,9 @@ pub enum Passed {
     TooLong,
 }
 
-/// What a link's header names.
+/// The protocol of the network layer that a link's header names.
 #[derive(Clone, Copy)]
-pub enum Network {
+pub enum NetworkProtocol {
     Ipv4,
     Ipv6,
     Other,
@@ -161,13 +161,13 @@ fn loop_place(frame: &[u8]) -> Result<usize, Passed>
     ipv4_at(network_of_family(ByteOrder::Big.u32_at(frame, 0)), 4)
 }
 
-fn ipv4_at(network: Network, place: usize) -> Result<usize, Passed>
+fn ipv4_at(network: NetworkProtocol, place: usize) -> Result<usize, Passed>
     ensures { result ≡ placed_at network place }
 {
     match network {
-        Network::Ipv4 => Ok(place),
-        Network::Ipv6 => Err(Passed::NotIpv4),
-        Network::Other => Err(Passed::NotIp),
+        NetworkProtocol::Ipv4 => Ok(place),
+        NetworkProtocol::Ipv6 => Err(Passed::NotIpv4),
+        NetworkProtocol::Other => Err(Passed::NotIp),
     }
 }
 
@@ -196,35 +196,35 @@ fn is_tagged(frame: &[u8], at: usize) -> bool
     kind == TYPE_TAG || kind == TYPE_OUTER_TAG
 }
 
-fn network_of_type(kind: u16) -> Network
+fn network_of_type(kind: u16) -> NetworkProtocol
     ensures { result ≡ network_by_type kind }
 {
     match kind {
-        TYPE_IPV4 => Network::Ipv4,
-        TYPE_IPV6 => Network::Ipv6,
-        _ => Network::Other,
+        TYPE_IPV4 => NetworkProtocol::Ipv4,
+        TYPE_IPV6 => NetworkProtocol::Ipv6,
+        _ => NetworkProtocol::Other,
     }
 }
 
-fn network_of_version(version: u8) -> Network
+fn network_of_version(version: u8) -> NetworkProtocol
     ensures { result ≡ network_by_version version }
 {
     match version {
-        4 => Network::Ipv4,
-        6 => Network::Ipv6,
-        _ => Network::Other,
+        4 => NetworkProtocol::Ipv4,
+        6 => NetworkProtocol::Ipv6,
+        _ => NetworkProtocol::Other,
     }
 }
 
-fn network_of_family(family: u32) -> Network
+fn network_of_family(family: u32) -> NetworkProtocol
     ensures { result ≡ network_by_family family }
 {
     match family {
-        2 => Network::Ipv4,
-        24 => Network::Ipv6,
-        28 => Network::Ipv6,
-        30 => Network::Ipv6,
-        _ => Network::Other,
+        2 => NetworkProtocol::Ipv4,
+        24 => NetworkProtocol::Ipv6,
+        28 => NetworkProtocol::Ipv6,
+        30 => NetworkProtocol::Ipv6,
+        _ => NetworkProtocol::Other,
     }
 }
 
