@@ -1,5 +1,5 @@
 //! What clap matched, read: what a word spells, or else the first of the faults.
-use crate::spelled::{Cause, is_device, universes, widget};
+use crate::spelled::{WordFault, is_device, universes, widget};
 use crate::table::commands;
 use crate::tree::error_of;
 use clap::parser::ValueSource;
@@ -15,7 +15,7 @@ pub const STANDARD_INPUT: &str = "-";
 pub enum Fault<'a> {
     OutOfMemory,
     /// A word, and what it isn't.
-    Word(&'a str, Cause),
+    Word(&'a str, WordFault),
     TooManyDestinations,
     /// A number that isn't spelled by digits alone: clap takes a sign before them.
     Number(&'static str),
@@ -123,7 +123,7 @@ impl<'m, 'a> Words<'m, 'a> {
     }
 
     /// What the word of an option spells, where it is given.
-    pub fn value<T: Drop, F: Fn(&str) -> Result<T, Cause> + Drop>(
+    pub fn value<T: Drop, F: Fn(&str) -> Result<T, WordFault> + Drop>(
         &mut self,
         name: &str,
         read: F,
@@ -133,15 +133,15 @@ impl<'m, 'a> Words<'m, 'a> {
         let word = self.word(name)?;
         match read(word) {
             Ok(value) => Some(value),
-            Err(cause) => {
-                self.refuse(Fault::Word(word, cause));
+            Err(fault) => {
+                self.refuse(Fault::Word(word, fault));
                 None
             }
         }
     }
 
     /// What the words of an option spell, one after another.
-    pub fn values<T: Drop, F: Fn(&str) -> Result<T, Cause> + Drop>(
+    pub fn values<T: Drop, F: Fn(&str) -> Result<T, WordFault> + Drop>(
         &mut self,
         name: &str,
         read: F,
@@ -154,7 +154,7 @@ impl<'m, 'a> Words<'m, 'a> {
             for word in words {
                 match read(word) {
                     Ok(value) => self.push(&mut values, value),
-                    Err(cause) => self.refuse(Fault::Word(word, cause)),
+                    Err(fault) => self.refuse(Fault::Word(word, fault)),
                 }
             }
         }
@@ -179,7 +179,7 @@ impl<'m, 'a> Words<'m, 'a> {
             return;
         }
         if self.input_is_taken {
-            self.refuse(Fault::Word(path, Cause::InputTaken));
+            self.refuse(Fault::Word(path, WordFault::InputTaken));
         }
         self.input_is_taken = true;
     }
@@ -219,7 +219,7 @@ impl<'m, 'a> Words<'m, 'a> {
             for word in words {
                 match widget(word) {
                     Ok(widget) => self.push(&mut widgets, widget),
-                    Err(cause) => self.refuse(Fault::Word(word, cause)),
+                    Err(fault) => self.refuse(Fault::Word(word, fault)),
                 }
             }
         }
@@ -242,7 +242,7 @@ impl<'m, 'a> Words<'m, 'a> {
     pub fn device(&mut self) -> &'a str {
         let word = self.text("device");
         if !is_device(word) {
-            self.refuse(Fault::Word(word, Cause::Device));
+            self.refuse(Fault::Word(word, WordFault::Device));
         }
         word
     }
@@ -267,9 +267,9 @@ fn range_of(commands: &[Subcommand<'_>], name: &str) -> (u64, u64) {
 fn message_of(alloc: Global, fault: Fault<'_>) -> Result<String, AllocError> {
     match fault {
         Fault::OutOfMemory => Err(AllocError),
-        Fault::Word(word, cause) => {
-            let cause = cause.name();
-            format!(in alloc; "{word}: {cause}")
+        Fault::Word(word, fault) => {
+            let fault = fault.name();
+            format!(in alloc; "{word}: {fault}")
         }
         Fault::TooManyDestinations => String::from_str(alloc, "--to: TooManyDestinations"),
         Fault::Beside(name, other) => format!(in alloc; "--{name}: beside --{other}"),

@@ -8,7 +8,7 @@ use std::net::{Ipv4Addr, SocketAddrV4};
 
 /// What a word isn't.
 #[derive(Clone, Copy)]
-pub enum Cause {
+pub enum WordFault {
     Address,
     Port,
     Universe,
@@ -19,16 +19,16 @@ pub enum Cause {
     InputTaken,
 }
 
-impl Cause {
+impl WordFault {
     pub fn name(self) -> &'static str {
         match self {
-            Cause::Address => "Address",
-            Cause::Port => "Port",
-            Cause::Universe => "Universe",
-            Cause::Widget => "Widget",
-            Cause::Device => "Device",
-            Cause::Kind => "Kind",
-            Cause::InputTaken => "InputTaken",
+            WordFault::Address => "Address",
+            WordFault::Port => "Port",
+            WordFault::Universe => "Universe",
+            WordFault::Widget => "Widget",
+            WordFault::Device => "Device",
+            WordFault::Kind => "Kind",
+            WordFault::InputTaken => "InputTaken",
         }
     }
 }
@@ -36,77 +36,77 @@ impl Cause {
 /// The letters of the longest name that Linux gives a network device.
 const MAX_DEVICE: usize = 127;
 
-fn of_address<T>(read: Result<T, AddressFault>) -> Result<T, Cause> {
+fn of_address<T>(read: Result<T, AddressFault>) -> Result<T, WordFault> {
     match read {
         Ok(address) => Ok(address),
-        Err(AddressFault::Address) => Err(Cause::Address),
-        Err(AddressFault::Port) => Err(Cause::Port),
+        Err(AddressFault::Address) => Err(WordFault::Address),
+        Err(AddressFault::Port) => Err(WordFault::Port),
     }
 }
 
-pub fn host(word: &str) -> Result<Ipv4Addr, Cause> {
+pub fn host(word: &str) -> Result<Ipv4Addr, WordFault> {
     of_address(host_of(word))
 }
 
-pub fn sender(word: &str) -> Result<Octets4, Cause> {
+pub fn sender(word: &str) -> Result<Octets4, WordFault> {
     match host_of(word) {
         Ok(host) => Ok(host.octets()),
-        Err(_) => Err(Cause::Address),
+        Err(_) => Err(WordFault::Address),
     }
 }
 
 /// A host that is sent to, with its port.
-pub fn destination(word: &str) -> Result<SocketAddrV4, Cause> {
+pub fn destination(word: &str) -> Result<SocketAddrV4, WordFault> {
     of_address(destination_of(word, DEFAULT_UDP_PORT))
 }
 
 /// Where a page is served: a port alone is one of this machine.
-pub fn page(word: &str) -> Result<SocketAddrV4, Cause> {
+pub fn page(word: &str) -> Result<SocketAddrV4, WordFault> {
     if word.contains(':') {
         return of_address(destination_of(word, 1));
     }
     match short_in(word) {
         Some(port) if port > 0 => Ok(SocketAddrV4::new(Ipv4Addr::LOCALHOST, port)),
-        None if word.contains('.') => Err(Cause::Address),
-        _ => Err(Cause::Port),
+        None if word.contains('.') => Err(WordFault::Address),
+        _ => Err(WordFault::Port),
     }
 }
 
-pub fn port(word: &str) -> Result<u16, Cause> {
+pub fn port(word: &str) -> Result<u16, WordFault> {
     match short_in(word) {
         Some(port) if port > 0 => Ok(port),
-        _ => Err(Cause::Port),
+        _ => Err(WordFault::Port),
     }
 }
 
 // A universe that data may be of (E1.31, 6.2.7).
-fn universe(word: &str) -> Result<u16, Cause> {
+fn universe(word: &str) -> Result<u16, WordFault> {
     match short_in(word) {
         Some(universe) if (MIN_UNIVERSE <= universe) & (universe <= MAX_UNIVERSE) => Ok(universe),
-        _ => Err(Cause::Universe),
+        _ => Err(WordFault::Universe),
     }
 }
 
 /// A universe, or the first and the last of several, as `1-512`.
-pub fn universes(word: &str) -> Result<(u16, u16), Cause> {
+pub fn universes(word: &str) -> Result<(u16, u16), WordFault> {
     let (first, last) = word.split_once('-').unwrap_or((word, word));
     let first = universe(first)?;
     let last = universe(last)?;
     if first <= last {
         Ok((first, last))
     } else {
-        Err(Cause::Universe)
+        Err(WordFault::Universe)
     }
 }
 
 /// A port's number, an equals sign and a path.
-pub fn widget<'a>(word: &'a str) -> Result<(u8, &'a str), Cause> {
+pub fn widget<'a>(word: &'a str) -> Result<(u8, &'a str), WordFault> {
     let Some((port, path)) = word.split_once('=') else {
-        return Err(Cause::Widget);
+        return Err(WordFault::Widget);
     };
     match byte_in(port) {
         Some(port) if (port > 0) & !path.is_empty() => Ok((port, path)),
-        _ => Err(Cause::Widget),
+        _ => Err(WordFault::Widget),
     }
 }
 
@@ -121,13 +121,13 @@ pub fn is_device(word: &str) -> bool {
     !letters.is_empty() && letters.len() <= MAX_DEVICE && letters.iter().all(is_of_device)
 }
 
-pub fn kind(word: &str) -> Result<FileKind, Cause> {
+pub fn kind(word: &str) -> Result<FileKind, WordFault> {
     match word {
         "show" => Ok(FileKind::Show),
         "setup" => Ok(FileKind::Setup),
         "world" => Ok(FileKind::World),
         "script" => Ok(FileKind::Script),
         "schedule" => Ok(FileKind::Schedule),
-        _ => Err(Cause::Kind),
+        _ => Err(WordFault::Kind),
     }
 }
