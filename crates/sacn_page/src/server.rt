@@ -1,6 +1,6 @@
 //! A server of pages beside a watch.
 
-use crate::room::Room;
+use crate::audience::Audience;
 use crate::scene::Scene;
 use crate::viewer::Connection;
 use mio::net::{TcpListener, TcpStream};
@@ -34,7 +34,7 @@ impl Connection for TcpStream {
 /// Serves the page of a network or of a recording to browsers.
 #[derive(Drop)]
 pub struct Pages<S: Scene + Drop> {
-    room: Room<TcpStream, S>,
+    audience: Audience<TcpStream, S>,
     address: SocketAddrV4,
     listener: TcpListener,
     poll: Poll,
@@ -60,14 +60,14 @@ impl<S: Scene + Drop> Pages<S> {
     }
 
     fn open<R: Net>(rt: &R, alloc: Global, address: SocketAddrV4, scene: S) -> io::Result<Self> {
-        let room = Room::new(alloc, scene)?;
+        let audience = Audience::new(alloc, scene)?;
         let poll = Poll::new(rt)?;
         let events = Events::with_capacity(alloc, MAX_EVENTS)?;
         let mut listener = TcpListener::bind(rt, SocketAddr::V4(address))?;
         poll.registry()
             .register(&mut listener, LISTENER, Interest::READABLE)?;
         Ok(Pages {
-            room,
+            audience,
             address,
             listener,
             poll,
@@ -109,9 +109,9 @@ impl<S: Scene + Drop> Pages<S> {
             Ok(SocketAddr::V4(address)) => address,
             _ => self.address,
         };
-        self.room.make_place(now);
-        let Some(key) = self.room.vacancy() else {
-            let _ = self.room.turn_away(stream, address, now);
+        self.audience.make_place(now);
+        let Some(key) = self.audience.vacancy() else {
+            let _ = self.audience.turn_away(stream, address, now);
             return;
         };
         let _ = stream.set_nodelay(true);
@@ -120,8 +120,8 @@ impl<S: Scene + Drop> Pages<S> {
             .poll
             .registry()
             .register(&mut stream, Token(key), interests);
-        if registered.is_ok() && self.room.admit(stream, address, now).is_ok() {
-            self.room.serve(key, now);
+        if registered.is_ok() && self.audience.admit(stream, address, now).is_ok() {
+            self.audience.serve(key, now);
         }
     }
 
@@ -134,7 +134,7 @@ impl<S: Scene + Drop> Pages<S> {
             if token == LISTENER {
                 calls = true;
             } else {
-                self.room.serve(token.0, now);
+                self.audience.serve(token.0, now);
             }
         }
         if calls {
@@ -151,24 +151,24 @@ impl<S: Scene + Drop> Watcher for Pages<S> {
         sender: Endpoint,
         reading: &Reading<'_>,
     ) -> Result<(), WatchFault> {
-        self.room.take(now, sender, reading)?;
+        self.audience.take(now, sender, reading)?;
         Ok(())
     }
 
     fn note_stop(&mut self, now: u64, millis: u64) -> Result<(), WatchFault> {
-        self.room.note_stop(now, millis);
+        self.audience.note_stop(now, millis);
         Ok(())
     }
 
     fn show(&mut self, now: u64) -> Result<(), WatchFault> {
-        self.room.tick(now);
+        self.audience.tick(now);
         self.serve(now)?;
-        self.room.show(now);
+        self.audience.show(now);
         Ok(())
     }
 
     fn wakes(&self) -> u64 {
-        self.room.wakes().min(self.calls)
+        self.audience.wakes().min(self.calls)
     }
 
     fn end(&mut self, _now: u64) -> Result<(), WatchFault> {

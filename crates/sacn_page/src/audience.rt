@@ -26,7 +26,7 @@ const MAX_STEPS: usize = 4096;
 
 /// A network or a recording, and those who look at it. Moments are milliseconds.
 #[derive(Drop)]
-pub struct Room<C: Drop, S: Scene + Drop> {
+pub struct Audience<C: Drop, S: Scene + Drop> {
     alloc: Global,
     scene: S,
     viewers: Slab<Viewer<C>>,
@@ -43,12 +43,12 @@ pub struct Room<C: Drop, S: Scene + Drop> {
     turns: u64,
 }
 
-impl<C: Connection + Drop, S: Scene + Drop> Room<C, S> {
+impl<C: Connection + Drop, S: Scene + Drop> Audience<C, S> {
     /// No viewer yet.
     ///
     /// Errors: OutOfMemory.
     pub fn new(alloc: Global, scene: S) -> Result<Self, AllocError> {
-        Ok(Room {
+        Ok(Audience {
             alloc,
             scene,
             viewers: Slab::with_capacity(alloc, MAX_CONNECTIONS)?,

@@ -1,6 +1,6 @@
 //! How viewers are given events.
 
-use super::{MAX_CONNECTIONS, Room};
+use super::{Audience, MAX_CONNECTIONS};
 use crate::feed::{Feed, Occasion, Owed};
 use crate::scene::Scene;
 use crate::viewer::{Connection, Phase, Viewer};
@@ -37,7 +37,7 @@ fn lacks_whole(feed: &Feed, seen: u64) -> bool {
     (feed.owed(seen) == Owed::Whole) & feed.text(Owed::Whole).is_empty()
 }
 
-impl<C: Connection + Drop, S: Scene + Drop> Room<C, S> {
+impl<C: Connection + Drop, S: Scene + Drop> Audience<C, S> {
     // Gives viewers, one after another, what they are owed. Returns whether some may be left: one turn makes one event, or gives
     // so many octets.
     pub(super) fn feed_viewers(&mut self, now: u64) -> bool {
