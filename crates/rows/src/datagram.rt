@@ -2,7 +2,7 @@
 use crate::packet::cid_in;
 use crate::step::{Step, StepFault};
 use fixtures::packets::{DESK, data, page, sync};
-use sacn_live::memory::Incoming;
+use sacn_live::memory::TimedArrival;
 use sacn_live::{Octets4, host_of};
 
 /// The datagram that the words left say: `data ..`, `page ..`, `sync`, or `octets` and hexadecimal digits.
@@ -95,12 +95,12 @@ fn page_in(step: &mut Step<'_>) -> Result<Vec<u8>, StepFault> {
 /// # Errors
 ///
 /// No memory.
-pub fn incoming_in(step: &mut Step<'_>) -> Result<Incoming, StepFault> {
+pub fn incoming_in(step: &mut Step<'_>) -> Result<TimedArrival, StepFault> {
     let now = step.number();
     match step.word() {
-        "nothing" => Ok(Incoming::Nothing(now)),
-        "failed" => Ok(Incoming::Failed(now)),
-        word => Ok(Incoming::Datagram(now, sender_of(word)?, datagram_in(step)?)),
+        "nothing" => Ok(TimedArrival::Nothing(now)),
+        "failed" => Ok(TimedArrival::Failed(now)),
+        word => Ok(TimedArrival::Datagram(now, sender_of(word)?, datagram_in(step)?)),
     }
 }
 

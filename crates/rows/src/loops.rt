@@ -4,9 +4,9 @@ use crate::datagram::{incoming_in, sender_of};
 use crate::step::{Step, StepFault};
 use crate::tellers::{ListOrders, Tally};
 use sacn_console::{Command, ConsoleCore, read_script, read_show};
-use sacn_edge::memory::{Incoming as Bringing, ListClock, MemoryLink};
+use sacn_edge::memory::{Incoming, ListClock, MemoryLink};
 use sacn_edge::{ConsoleReport, WriterOut, run_console, run_node};
-use sacn_live::memory::{Incoming, MemoryReceiver};
+use sacn_live::memory::{MemoryReceiver, TimedArrival};
 use sacn_live::memory_device::MemoryDevice;
 use sacn_live::{
     DeskLink, DeviceFault, Interface, Octets4, Opening, Span, Took, run_desk, run_gateway,
@@ -18,7 +18,7 @@ use std::mem;
 /// What comes to a loop, the orders that it is given, and what it wrote and handed over.
 #[derive(Drop)]
 pub struct Loops {
-    incoming: Vec<Incoming>,
+    incoming: Vec<TimedArrival>,
     senders: Vec<Octets4>,
     interfaces: Vec<Interface<'static, MemoryDevice>>,
     orders: Vec<(u64, Command)>,
@@ -83,7 +83,10 @@ impl Loops {
             return Err(StepFault::NotReady);
         };
         let octets = Vec::from_slice(step.alloc(), octets.as_slice())?;
-        push(&mut self.incoming, Incoming::Datagram(now, sender, octets))
+        push(
+            &mut self.incoming,
+            TimedArrival::Datagram(now, sender, octets),
+        )
     }
 
     /// An interface of a port, whose device answers these words and then `whole`.
@@ -125,13 +128,13 @@ impl Loops {
     /// What comes, as a link brings it.
     fn link(&mut self, alloc: Global, failing: Option<u64>) -> Result<MemoryLink, StepFault> {
         let mut list = Vec::new(alloc);
-        for incoming in mem::replace(&mut self.incoming, Vec::new(alloc)) {
-            let bringing = match incoming {
-                Incoming::Nothing(_) => Bringing::Nothing,
-                Incoming::Failed(_) => Bringing::Failed,
-                Incoming::Datagram(_, _, octets) => Bringing::Datagram(octets),
+        for arrival in mem::replace(&mut self.incoming, Vec::new(alloc)) {
+            let incoming = match arrival {
+                TimedArrival::Nothing(_) => Incoming::Nothing,
+                TimedArrival::Failed(_) => Incoming::Failed,
+                TimedArrival::Datagram(_, _, octets) => Incoming::Datagram(octets),
             };
-            push(&mut list, bringing)?;
+            push(&mut list, incoming)?;
         }
         Ok(MemoryLink::new(alloc, list, failing))
     }

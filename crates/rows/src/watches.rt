@@ -6,7 +6,7 @@ use crate::step::{Step, StepFault};
 use sacn_edge::WriterOut;
 use sacn_explain::{Form, Options};
 use sacn_framing::read_packet;
-use sacn_live::memory::{Incoming, MemoryReceiver};
+use sacn_live::memory::{MemoryReceiver, TimedArrival};
 use sacn_monitor::Endpoint;
 use sacn_text::decode_text;
 use sacn_watch::{Size, View, screen, watch_lines};
@@ -18,7 +18,7 @@ use std::mem;
 pub struct Watches {
     alloc: Global,
     datagrams: Vec<Vec<u8>>,
-    incoming: Vec<Incoming>,
+    incoming: Vec<TimedArrival>,
     view: View,
     output: Vec<u8>,
 }

@@ -1,6 +1,6 @@
 -- What a receiver over memory tells.
 use Rattle.std.specs.Prelude.{◌==◌, ℕ, List, Option, None, Some, if◌then◌else◌}
-use Rattle.sacn_live.specs.declared.memory.Incoming.{Incoming}
+use Rattle.sacn_live.specs.declared.memory.TimedArrival.{TimedArrival}
 use Rattle.sacn_live.specs.declared.memory.MemoryReceiver.{MemoryReceiver}
 use Rattle.sacn_live.specs.Hearings.{Hearing}
 use Rattle.sacn_live.specs.MemoryHearings.{first_brought}
@@ -10,7 +10,7 @@ abbrev pub receiver_told : MemoryReceiver → Option (List Hearing)
 receiver_told r = if r.received == 18446744073709551615 then None else Some (first_brought r.last r.incoming.items r.received)
 
 -- what it will bring, in order, and the reading past that
-abbrev pub brings : MemoryReceiver → List Incoming
+abbrev pub brings : MemoryReceiver → List TimedArrival
 brings r = r.incoming.items
 
 abbrev pub ends_at : MemoryReceiver → ℕ

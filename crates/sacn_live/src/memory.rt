@@ -10,9 +10,9 @@ use crate::receiver::{Arrival, Octets4, Receipt, Receiver};
 use sacn_edge::memory::MemoryLink;
 use sacn_edge::{BUFFER_OCTETS, Link};
 
-/// What a receive brings, and what the clock reads before it.
+/// What a receive brings, with what the clock reads before it.
 #[derive(Drop)]
-pub enum Incoming {
+pub enum TimedArrival {
     /// Nothing is there.
     Nothing(u64),
     /// These octets, from this address; those past the buffer are cut.
@@ -26,7 +26,7 @@ pub enum Incoming {
 /// It tells what it brought, until `u64::MAX` receives were made.
 #[derive(Drop)]
 pub struct MemoryReceiver {
-    incoming: Vec<Incoming>,
+    incoming: Vec<TimedArrival>,
     last: u64,
     received: u64,
 }
@@ -35,7 +35,7 @@ impl MemoryReceiver {
     ghost use Rattle.sacn_live.specs.MemoryReceiver.{receiver_told, brings, ends_at};
 
     /// A receiver of which nothing was asked yet.
-    pub fn new(incoming: Vec<Incoming>, last: u64) -> MemoryReceiver
+    pub fn new(incoming: Vec<TimedArrival>, last: u64) -> MemoryReceiver
         ensures told { receiver_told result ≡ Some [] }
         ensures brings { brings result ≡ incoming.items }
         ensures last { ends_at result ≡ last }
@@ -63,12 +63,12 @@ fn put_octets(octets: &[u8], buffer: &mut [u8; BUFFER_OCTETS]) -> usize
     count
 }
 
-fn bring_item(item: &Incoming, buffer: &mut [u8; BUFFER_OCTETS]) -> Receipt
+fn bring_item(item: &TimedArrival, buffer: &mut [u8; BUFFER_OCTETS]) -> Receipt
     ensures fits { FitsBuffer result.arrival }
     ensures brings { hearing_of result buffer.new ≡ brought 0 (Some item.now) }
 {
     match item {
-        Incoming::Datagram(now, sender, octets) => {
+        TimedArrival::Datagram(now, sender, octets) => {
             let octets = put_octets(octets.as_slice(), buffer);
             let sender = *sender;
             Receipt {
@@ -76,18 +76,18 @@ fn bring_item(item: &Incoming, buffer: &mut [u8; BUFFER_OCTETS]) -> Receipt
                 arrival: Arrival::Datagram { octets, sender },
             }
         }
-        Incoming::Failed(now) => Receipt {
+        TimedArrival::Failed(now) => Receipt {
             now: *now,
             arrival: Arrival::Failed,
         },
-        Incoming::Nothing(now) => Receipt {
+        TimedArrival::Nothing(now) => Receipt {
             now: *now,
             arrival: Arrival::Nothing,
         },
     }
 }
 
-fn bring(item: Option<&Incoming>, last: u64, buffer: &mut [u8; BUFFER_OCTETS]) -> Receipt
+fn bring(item: Option<&TimedArrival>, last: u64, buffer: &mut [u8; BUFFER_OCTETS]) -> Receipt
     ensures fits { FitsBuffer result.arrival }
     ensures brings { hearing_of result buffer.new ≡ brought last (option_copied item.entry) }
 {
