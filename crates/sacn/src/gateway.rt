@@ -3,11 +3,11 @@ use crate::page::say_page;
 use crate::screen::{screen_of, size_file};
 use crate::watch::watch_end;
 use sacn_commands::ending::Ending;
-use sacn_commands::gateway::{receiver_of, run_setup, setup_of, watch_of};
+use sacn_commands::gateway::{diagnosis_of, receiver_of, run_setup, setup_of};
 use sacn_commands::live::{clock_of, joined_groups, of_socket, universes_of_setup};
 use sacn_framing::Reading;
 use sacn_live::{
-    DeviceFault, Lines, Notes, Octets4, Outputs, PassedOver, UdpReceiver, Watch,
+    DeviceFault, Diagnosis, Lines, Notes, Octets4, Outputs, PassedOver, UdpReceiver,
     guard_standard_descriptors, output_is_terminal,
 };
 use sacn_monitor::Endpoint;
@@ -64,9 +64,9 @@ fn run_alone<'a, R: AllocGlobal + Net + Clock>(
 ) -> Result<(), Ending> {
     let mut receiver = receiver_of(rt, asked, setup, &mut outputs.err())?;
     receiver.tend(outputs, joined);
-    let mut watch = watch_of(rt, &receiver, outputs.err())?;
+    let mut diagnosis = diagnosis_of(rt, &receiver, outputs.err())?;
     let out = outputs.out();
-    run_setup(rt, asked, setup, &mut receiver, &mut watch, out)
+    run_setup(rt, asked, setup, &mut receiver, &mut diagnosis, out)
 }
 
 // Runs a gateway that serves a page at this place.
@@ -86,7 +86,7 @@ fn run_shown<'a, R: AllocGlobal + Net + Clock>(
     receiver.wait_beside(pages.descriptor());
     say_page(place, &mut outputs.err());
     let mut shown = Shown {
-        watch: watch_of(rt, &receiver, outputs.err())?,
+        diagnosis: diagnosis_of(rt, &receiver, outputs.err())?,
         viewers: &mut pages,
         name: "page",
         err: outputs.err(),
@@ -127,7 +127,7 @@ fn run_beside_screen<'a, R: AllocGlobal + Net + Clock, W: Watcher>(
     outputs: &'a Outputs,
 ) -> Result<(), Ending> {
     let mut shown = Shown {
-        watch: watch_of(rt, receiver, outputs.err())?,
+        diagnosis: diagnosis_of(rt, receiver, outputs.err())?,
         viewers: screen,
         name: "screen",
         err: outputs.err(),
@@ -228,7 +228,7 @@ impl<'s, 'o, O: Write, Z: Sizes> Watcher for PatientScreen<'s, 'o, O, Z> {
 /// Looks on at a gateway, for its standard error and for those who view what it hears.
 #[derive(Drop)]
 struct Shown<'a, E, W> {
-    watch: Watch<E>,
+    diagnosis: Diagnosis<E>,
     viewers: &'a mut W,
     /// What they look at.
     name: &'static str,
@@ -263,7 +263,7 @@ impl<'a, E: Write, W: Watcher> Notes for Shown<'a, E, W> {
         reading: &Reading<'_>,
         taken: NodeTaken,
     ) {
-        self.watch.note_taken(now, sender, reading, taken);
+        self.diagnosis.note_taken(now, sender, reading, taken);
         let sender = Endpoint {
             address: sender.ip().octets(),
             port: sender.port(),
@@ -273,19 +273,19 @@ impl<'a, E: Write, W: Watcher> Notes for Shown<'a, E, W> {
     }
 
     fn note_passed_over(&mut self, now: u64, sender: Octets4, why: PassedOver) {
-        self.watch.note_passed_over(now, sender, why);
+        self.diagnosis.note_passed_over(now, sender, why);
     }
 
     fn note_failure(&mut self, now: u64) {
-        self.watch.note_failure(now);
+        self.diagnosis.note_failure(now);
     }
 
     fn note_interface(&mut self, port: u8, name: &str, fault: Option<DeviceFault>) {
-        self.watch.note_interface(port, name, fault);
+        self.diagnosis.note_interface(port, name, fault);
     }
 
     fn note_turn(&mut self, now: u64) {
-        self.watch.note_turn(now);
+        self.diagnosis.note_turn(now);
         let came = self.viewers.show(now);
         self.note_viewers(came);
     }

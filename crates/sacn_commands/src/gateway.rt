@@ -4,7 +4,7 @@ use crate::live::{clock_of, of_socket, say_hearing, setup_of_word, universes_of_
 use crate::naming::of_file;
 use sacn_edge::WriterOut;
 use sacn_framing::multicast_group;
-use sacn_live::{Interface, Notes, Span, UdpReceiver, Watch, Widget, run_gateway};
+use sacn_live::{Diagnosis, Interface, Notes, Span, UdpReceiver, Widget, run_gateway};
 use sacn_node::{NodeCore, NodeSetup};
 use sacn_words::{GatewayAsked, moment_of};
 use std::io::{Read, Write};
@@ -63,14 +63,14 @@ pub fn setup_of<R: AllocGlobal + Files, I: Read + Drop, E: Write>(
 }
 
 /// What says on standard error what a receiver's gateway hears, and what the machine drops.
-pub fn watch_of<'a, R: AllocGlobal + Net + Clock, E: Write + Drop>(
+pub fn diagnosis_of<'a, R: AllocGlobal + Net + Clock, E: Write + Drop>(
     rt: &'a R,
     receiver: &UdpReceiver<'a, R>,
     err: E,
-) -> Result<Watch<E>, Ending> {
-    let mut watch = Watch::new(err);
-    watch.count_drops(receiver.drops(rt.alloc())?);
-    Ok(watch)
+) -> Result<Diagnosis<E>, Ending> {
+    let mut diagnosis = Diagnosis::new(err);
+    diagnosis.count_drops(receiver.drops(rt.alloc())?);
+    Ok(diagnosis)
 }
 
 /// Runs a gateway of a setup, which prints its frames here. (The check of a function takes much longer the more values it

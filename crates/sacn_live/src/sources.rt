@@ -6,7 +6,7 @@ use sacn_node::MAX_UNIVERSES;
 use sacn_sources::{MAX_SOURCES, NETWORK_DATA_LOSS};
 use std::io::Write;
 
-/// The most sources of which the watch knows: those of all universes that a node may show.
+/// The most sources of which the diagnosis knows: those of all universes that a node may show.
 const MAX_WATCHED: usize = MAX_SOURCES * MAX_UNIVERSES;
 
 /// A source on a universe, and its latest packet that renewed it.

@@ -15,7 +15,7 @@ use std::net::SocketAddrV4;
 /// Looks on while a gateway runs, and says on an output what it sees: sources that come, end, are lost or find no room,
 /// and what isn't taken, each name at most once a second with how often; and what becomes of interfaces.
 #[derive(Drop)]
-pub struct Watch<E> {
+pub struct Diagnosis<E> {
     err: E,
     sources: Sources,
     counts: Counts,
@@ -46,10 +46,10 @@ fn fault_name(fault: PacketFault) -> &'static str {
     }
 }
 
-impl<E: Write> Watch<E> {
-    /// A watch that has seen nothing.
-    pub fn new(err: E) -> Watch<E> {
-        Watch {
+impl<E: Write> Diagnosis<E> {
+    /// A diagnosis that has seen nothing.
+    pub fn new(err: E) -> Diagnosis<E> {
+        Diagnosis {
             err,
             sources: Sources::new(),
             counts: Counts::new(),
@@ -79,7 +79,7 @@ impl<E: Write> Watch<E> {
     }
 }
 
-impl<E: Write> Notes for Watch<E> {
+impl<E: Write> Notes for Diagnosis<E> {
     fn note_taken(
         &mut self,
         now: u64,
