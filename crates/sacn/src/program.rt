@@ -72,7 +72,7 @@ fn run_beside<R: AllocGlobal + Files + Env + Net + Clock, I: Read + Drop, O: Wri
         Asked::Gateway(asked) => gateway::gateway(rt, asked, input),
         Asked::Desk(asked) => live::desk(rt, asked),
         Asked::Groups { file, device } => live::groups(rt, (*file, *device), input, out, err),
-        Asked::Manual(form) => manual::print(rt.alloc(), *form, out),
+        Asked::Manual(syntax) => manual::print(rt.alloc(), *syntax, out),
         Asked::Watch(asked) => watch::watch(rt, asked, out, err),
         Asked::Explain(asked) => {
             let mut out = Piped::new(out);

@@ -1,12 +1,12 @@
 //! Completions for bash.
 use crate::action::{Action, action_of};
-use crate::form::{Form, mark};
 use crate::pieces::Piece::{self, Raw, Text, Words};
 use crate::pieces::join;
+use crate::syntax::{Syntax, mark};
 use crate::tree::{Argument, Spelling, Subcommand};
 use std::alloc::{AllocError, Global};
 
-const FORM: Form = Form::Bash;
+const SYNTAX: Syntax = Syntax::Bash;
 
 pub const HEAD: &str = r#"# Completions of sacn for bash, made by `sacn completion bash`.
 _sacn() {
@@ -52,7 +52,7 @@ fn action_word<'a>(argument: &Argument<'a>) -> [Piece<'a>; 3] {
 
 /// What stands before a command's name.
 pub fn before_command(alloc: Global) -> Result<Vec<u8>, AllocError> {
-    join(alloc, FORM, &[Raw("    commands+=' ")])
+    join(alloc, SYNTAX, &[Raw("    commands+=' ")])
 }
 
 /// What stands between a command's name and what it does.
@@ -60,7 +60,7 @@ pub fn before_about(alloc: Global, command: &Subcommand<'_>) -> Result<Vec<u8>, 
     let name = command.name;
     join(
         alloc,
-        FORM,
+        SYNTAX,
         &[
             Raw("'\n    if [[ $command == "),
             Text(name),
@@ -72,12 +72,12 @@ pub fn before_about(alloc: Global, command: &Subcommand<'_>) -> Result<Vec<u8>, 
 /// What stands before an argument's name.
 pub fn before_argument(alloc: Global, argument: &Argument<'_>) -> Result<Vec<u8>, AllocError> {
     if !matches!(argument.spelling, Spelling::Positional) {
-        return join(alloc, FORM, &[Raw("        options+=' ")]);
+        return join(alloc, SYNTAX, &[Raw("        options+=' ")]);
     }
     let [open, words, close] = action_word(argument);
     join(
         alloc,
-        FORM,
+        SYNTAX,
         &[Raw("        operand="), open, words, close, Raw(" # ")],
     )
 }
@@ -85,18 +85,18 @@ pub fn before_argument(alloc: Global, argument: &Argument<'_>) -> Result<Vec<u8>
 /// What stands between an argument's name and what help says of it.
 pub fn before_help(alloc: Global, argument: &Argument<'_>) -> Result<Vec<u8>, AllocError> {
     if matches!(argument.spelling, Spelling::Positional) {
-        return join(alloc, FORM, &[Raw(": ")]);
+        return join(alloc, SYNTAX, &[Raw(": ")]);
     }
     if argument.value.is_none() {
-        return join(alloc, FORM, &[Raw("' # ")]);
+        return join(alloc, SYNTAX, &[Raw("' # ")]);
     }
     let [open, words, close] = action_word(argument);
     join(
         alloc,
-        FORM,
+        SYNTAX,
         &[
             Raw("'; if [[ $previous == "),
-            Raw(mark(FORM, argument.spelling)),
+            Raw(mark(SYNTAX, argument.spelling)),
             Text(argument.name),
             Raw(" ]]; then action="),
             open,

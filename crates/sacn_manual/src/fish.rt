@@ -1,12 +1,12 @@
 //! Completions for fish.
 use crate::action::{Action, action_of};
-use crate::form::Form;
 use crate::pieces::Piece::{self, Raw, Text, Words};
 use crate::pieces::join;
+use crate::syntax::Syntax;
 use crate::tree::{Argument, Spelling, Subcommand};
 use std::alloc::{AllocError, Global};
 
-const FORM: Form = Form::Fish;
+const SYNTAX: Syntax = Syntax::Fish;
 
 pub const HEAD: &str = "# Completions of sacn for fish, made by `sacn completion fish`.
 complete -c sacn -e
@@ -27,21 +27,21 @@ fn action_words<'a>(argument: &Argument<'a>) -> [Piece<'a>; 3] {
 pub fn before_command(alloc: Global) -> Result<Vec<u8>, AllocError> {
     join(
         alloc,
-        FORM,
+        SYNTAX,
         &[Raw("complete -c sacn -n __fish_use_subcommand -f -a ")],
     )
 }
 
 /// What stands between a command's name and what it does.
 pub fn before_about(alloc: Global) -> Result<Vec<u8>, AllocError> {
-    join(alloc, FORM, &[Raw(" -d '")])
+    join(alloc, SYNTAX, &[Raw(" -d '")])
 }
 
 /// What stands between what a command does and its arguments.
 pub fn after_about(alloc: Global, command: &Subcommand<'_>) -> Result<Vec<u8>, AllocError> {
     join(
         alloc,
-        FORM,
+        SYNTAX,
         &[
             Raw("'\ncomplete -c sacn -n '__fish_seen_subcommand_from "),
             Text(command.name),
@@ -64,14 +64,14 @@ pub fn before_argument<'a>(
     if !matches!(argument.spelling, Spelling::Positional) {
         return join(
             alloc,
-            FORM,
+            SYNTAX,
             &[Raw("complete -c sacn -n '"), test, name, Raw("' ")],
         );
     }
     let [open, words, close] = action_words(argument);
     join(
         alloc,
-        FORM,
+        SYNTAX,
         &[
             Raw("complete -c sacn -n '"),
             test,
@@ -88,13 +88,17 @@ pub fn before_argument<'a>(
 /// What stands between an argument's name and what help says of it.
 pub fn before_help(alloc: Global, argument: &Argument<'_>) -> Result<Vec<u8>, AllocError> {
     if matches!(argument.spelling, Spelling::Positional) {
-        return join(alloc, FORM, &[Raw(": ")]);
+        return join(alloc, SYNTAX, &[Raw(": ")]);
     }
     if argument.value.is_none() {
-        return join(alloc, FORM, &[Raw(" -d '")]);
+        return join(alloc, SYNTAX, &[Raw(" -d '")]);
     }
     let [open, words, close] = action_words(argument);
-    join(alloc, FORM, &[Raw(" -r"), open, words, close, Raw(" -d '")])
+    join(
+        alloc,
+        SYNTAX,
+        &[Raw(" -r"), open, words, close, Raw(" -d '")],
+    )
 }
 
 /// What stands after what help says of an argument.
@@ -103,5 +107,5 @@ pub fn after_help(alloc: Global, argument: &Argument<'_>) -> Result<Vec<u8>, All
         Spelling::Positional => "\n",
         Spelling::Short | Spelling::Long => "'\n",
     };
-    join(alloc, FORM, &[Raw(end)])
+    join(alloc, SYNTAX, &[Raw(end)])
 }

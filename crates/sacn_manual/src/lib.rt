@@ -6,13 +6,13 @@
 mod action;
 mod bash;
 mod fish;
-mod form;
 mod pieces;
 mod print;
 mod roff;
+mod syntax;
 mod tree;
 mod zsh;
 
-pub use form::{Form, SHELL_WORDS, SHELLS, shell_of};
 pub use print::render;
+pub use syntax::{SHELL_WORDS, SHELLS, Syntax, shell_of};
 pub use tree::{Argument, ArgumentKind, Program, Spelling, Subcommand};

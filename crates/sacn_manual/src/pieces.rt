@@ -1,9 +1,9 @@
 //! Pieces of a text, of which the foreign ones are escaped.
 
 ghost use Rattle.std.specs.Prelude.{◌≡◌, ◌++◌, OnOk};
-ghost use Rattle.sacn_manual.specs.Forms.{written, octet_text, words_text, piece_text, pieces_text};
+ghost use Rattle.sacn_manual.specs.Syntaxes.{written, octet_text, words_text, piece_text, pieces_text};
 
-use crate::form::{Form, escape};
+use crate::syntax::{Syntax, escape};
 use std::alloc::{AllocError, Global};
 
 const COMMA: u8 = b',';
@@ -19,21 +19,21 @@ pub enum Piece<'a> {
     Words(&'a str),
 }
 
-fn push_octet(text: &mut Vec<u8>, form: Form, octet: u8) -> Result<(), AllocError>
-    ensures { OnOk result (text.new.items ≡ text.old.items ++ octet_text form octet) }
+fn push_octet(text: &mut Vec<u8>, syntax: Syntax, octet: u8) -> Result<(), AllocError>
+    ensures { OnOk result (text.new.items ≡ text.old.items ++ octet_text syntax octet) }
 {
-    match escape(form, octet) {
+    match escape(syntax, octet) {
         Some(word) => text.extend_from_slice(word.as_bytes())?,
         None => text.push(octet)?,
     }
     Ok(())
 }
 
-fn push_escaped(text: &mut Vec<u8>, form: Form, foreign: &[u8]) -> Result<(), AllocError>
-    ensures { OnOk result (text.new.items ≡ text.old.items ++ written form foreign.now) }
+fn push_escaped(text: &mut Vec<u8>, syntax: Syntax, foreign: &[u8]) -> Result<(), AllocError>
+    ensures { OnOk result (text.new.items ≡ text.old.items ++ written syntax foreign.now) }
 {
     for i in 0..foreign.len() {
-        push_octet(text, form, foreign[i])?;
+        push_octet(text, syntax, foreign[i])?;
     }
     Ok(())
 }
@@ -49,12 +49,12 @@ fn push_words(text: &mut Vec<u8>, words: &[u8]) -> Result<(), AllocError>
     Ok(())
 }
 
-fn push_piece(text: &mut Vec<u8>, form: Form, piece: Piece<'_>) -> Result<(), AllocError>
-    ensures { OnOk result (text.new.items ≡ text.old.items ++ piece_text form piece.entry) }
+fn push_piece(text: &mut Vec<u8>, syntax: Syntax, piece: Piece<'_>) -> Result<(), AllocError>
+    ensures { OnOk result (text.new.items ≡ text.old.items ++ piece_text syntax piece.entry) }
 {
     match piece {
         Piece::Raw(own) => text.extend_from_slice(own.as_bytes()),
-        Piece::Text(foreign) => push_escaped(text, form, foreign.as_bytes()),
+        Piece::Text(foreign) => push_escaped(text, syntax, foreign.as_bytes()),
         Piece::Words(words) => push_words(text, words.as_bytes()),
     }
 }
@@ -62,11 +62,11 @@ fn push_piece(text: &mut Vec<u8>, form: Form, piece: Piece<'_>) -> Result<(), Al
 /// Writes pieces one after another.
 ///
 /// Errors: a growth was refused.
-pub fn push_all(text: &mut Vec<u8>, form: Form, pieces: &[Piece<'_>]) -> Result<(), AllocError>
-    ensures { OnOk result (text.new.items ≡ text.old.items ++ pieces_text form pieces.now) }
+pub fn push_all(text: &mut Vec<u8>, syntax: Syntax, pieces: &[Piece<'_>]) -> Result<(), AllocError>
+    ensures { OnOk result (text.new.items ≡ text.old.items ++ pieces_text syntax pieces.now) }
 {
     for i in 0..pieces.len() {
-        push_piece(text, form, pieces[i])?;
+        push_piece(text, syntax, pieces[i])?;
     }
     Ok(())
 }
@@ -74,8 +74,8 @@ pub fn push_all(text: &mut Vec<u8>, form: Form, pieces: &[Piece<'_>]) -> Result<
 /// The text of pieces.
 ///
 /// Errors: a growth was refused.
-pub fn join(alloc: Global, form: Form, pieces: &[Piece<'_>]) -> Result<Vec<u8>, AllocError> {
+pub fn join(alloc: Global, syntax: Syntax, pieces: &[Piece<'_>]) -> Result<Vec<u8>, AllocError> {
     let mut text = Vec::new(alloc);
-    push_all(&mut text, form, pieces)?;
+    push_all(&mut text, syntax, pieces)?;
     Ok(text)
 }

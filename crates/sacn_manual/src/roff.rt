@@ -1,11 +1,11 @@
 //! A page of a manual, in roff with the macros of man(7).
-use crate::form::Form;
 use crate::pieces::Piece::{Raw, Text};
 use crate::pieces::{join, push_all};
+use crate::syntax::Syntax;
 use crate::tree::{Argument, Program, Spelling, Subcommand};
 use std::alloc::{AllocError, Global};
 
-const FORM: Form = Form::Manual;
+const SYNTAX: Syntax = Syntax::Manual;
 
 /// What stands between the options and the commands.
 pub const BETWEEN: &str = ".SH COMMANDS\n";
@@ -60,7 +60,7 @@ fn first_line(text: &str) -> &str {
 pub fn head(alloc: Global, program: &Program<'_>) -> Result<Vec<u8>, AllocError> {
     let mut text = join(
         alloc,
-        FORM,
+        SYNTAX,
         &[
             Raw(".TH SACN 1 \""),
             Raw(program.date),
@@ -69,13 +69,13 @@ pub fn head(alloc: Global, program: &Program<'_>) -> Result<Vec<u8>, AllocError>
             Raw("\n.SH SYNOPSIS\n.nf\n"),
         ],
     )?;
-    push_all(&mut text, FORM, &[Text(program.usage), Raw("\n")])?;
+    push_all(&mut text, SYNTAX, &[Text(program.usage), Raw("\n")])?;
     for command in program.commands.iter() {
-        push_all(&mut text, FORM, &[Text(command.usage), Raw("\n")])?;
+        push_all(&mut text, SYNTAX, &[Text(command.usage), Raw("\n")])?;
     }
-    push_all(&mut text, FORM, &[Raw(".fi\n.SH DESCRIPTION\n")])?;
+    push_all(&mut text, SYNTAX, &[Raw(".fi\n.SH DESCRIPTION\n")])?;
     push_paragraphs(&mut text, program.about)?;
-    push_all(&mut text, FORM, &[Raw(".SH OPTIONS\n")])?;
+    push_all(&mut text, SYNTAX, &[Raw(".SH OPTIONS\n")])?;
     Ok(text)
 }
 
@@ -88,7 +88,7 @@ fn push_paragraphs(text: &mut Vec<u8>, about: &str) -> Result<(), AllocError> {
             is_apart = !is_first;
         } else {
             let macro_line = if is_apart { ".PP\n" } else { "" };
-            push_all(text, FORM, &[Raw(macro_line), Text(line), Raw("\n")])?;
+            push_all(text, SYNTAX, &[Raw(macro_line), Text(line), Raw("\n")])?;
             is_apart = false;
             is_first = false;
         }
@@ -98,26 +98,26 @@ fn push_paragraphs(text: &mut Vec<u8>, about: &str) -> Result<(), AllocError> {
 
 /// The page after its commands.
 pub fn tail(alloc: Global, program: &Program<'_>) -> Result<Vec<u8>, AllocError> {
-    let mut text = join(alloc, FORM, &[Raw(ENDS), Raw(".SH EXAMPLES\n.nf\n")])?;
+    let mut text = join(alloc, SYNTAX, &[Raw(ENDS), Raw(".SH EXAMPLES\n.nf\n")])?;
     for line in program.notes.lines() {
         if let Some(("", example)) = line.split_once("  ") {
-            push_all(&mut text, FORM, &[Text(example), Raw("\n")])?;
+            push_all(&mut text, SYNTAX, &[Text(example), Raw("\n")])?;
         }
     }
-    push_all(&mut text, FORM, &[Raw(".fi\n"), Raw(LAST)])?;
+    push_all(&mut text, SYNTAX, &[Raw(".fi\n"), Raw(LAST)])?;
     Ok(text)
 }
 
 /// What stands before a command's name.
 pub fn before_command(alloc: Global) -> Result<Vec<u8>, AllocError> {
-    join(alloc, FORM, &[Raw(".SS ")])
+    join(alloc, SYNTAX, &[Raw(".SS ")])
 }
 
 /// What stands between a command's name and what it does.
 pub fn before_about(alloc: Global, command: &Subcommand<'_>) -> Result<Vec<u8>, AllocError> {
     join(
         alloc,
-        FORM,
+        SYNTAX,
         &[Raw("\n.B "), Text(command.usage), Raw("\n.PP\n")],
     )
 }
@@ -128,7 +128,7 @@ pub fn before_argument(alloc: Global, argument: &Argument<'_>) -> Result<Vec<u8>
         Spelling::Positional => ".TP\n\\fI",
         Spelling::Short | Spelling::Long => ".TP\n\\fB",
     };
-    join(alloc, FORM, &[Raw(font)])
+    join(alloc, SYNTAX, &[Raw(font)])
 }
 
 /// What stands between an argument's name and what help says of it.
@@ -137,10 +137,10 @@ pub fn before_help(alloc: Global, argument: &Argument<'_>) -> Result<Vec<u8>, Al
     match (argument.spelling, argument.value) {
         (Spelling::Short | Spelling::Long, Some(value)) => join(
             alloc,
-            FORM,
+            SYNTAX,
             &[Raw("\\fR \\fI"), Text(value), Raw("\\fR"), Raw(end)],
         ),
-        _ => join(alloc, FORM, &[Raw("\\fR"), Raw(end)]),
+        _ => join(alloc, SYNTAX, &[Raw("\\fR"), Raw(end)]),
     }
 }
 
@@ -149,16 +149,16 @@ pub fn after_help(alloc: Global, argument: &Argument<'_>) -> Result<Vec<u8>, All
     if !argument.choices.is_empty() {
         return join(
             alloc,
-            FORM,
+            SYNTAX,
             &[Raw(" (one of: "), Text(argument.choices), Raw(")\n")],
         );
     }
     match argument.default {
         Some(default) => join(
             alloc,
-            FORM,
+            SYNTAX,
             &[Raw(" (default: "), Text(default), Raw(")\n")],
         ),
-        None => join(alloc, FORM, &[Raw("\n")]),
+        None => join(alloc, SYNTAX, &[Raw("\n")]),
     }
 }

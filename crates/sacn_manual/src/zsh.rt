@@ -1,12 +1,12 @@
 //! Completions for zsh.
 use crate::action::{Action, action_of};
-use crate::form::Form;
 use crate::pieces::Piece::{self, Raw, Text, Words};
 use crate::pieces::join;
+use crate::syntax::Syntax;
 use crate::tree::{Argument, Spelling, Subcommand};
 use std::alloc::{AllocError, Global};
 
-const FORM: Form = Form::Zsh;
+const SYNTAX: Syntax = Syntax::Zsh;
 
 pub const HEAD: &str = r#"#compdef sacn
 # Completions of sacn for zsh, made by `sacn completion zsh`.
@@ -44,12 +44,12 @@ fn action_word<'a>(argument: &Argument<'a>) -> [Piece<'a>; 3] {
 
 /// What stands before a command's name.
 pub fn before_command(alloc: Global) -> Result<Vec<u8>, AllocError> {
-    join(alloc, FORM, &[Raw("    commands+=('")])
+    join(alloc, SYNTAX, &[Raw("    commands+=('")])
 }
 
 /// What stands between a command's name and what it does.
 pub fn before_about(alloc: Global) -> Result<Vec<u8>, AllocError> {
-    join(alloc, FORM, &[Raw(":")])
+    join(alloc, SYNTAX, &[Raw(":")])
 }
 
 /// What stands between what a command does and its arguments.
@@ -57,7 +57,7 @@ pub fn after_about(alloc: Global, command: &Subcommand<'_>) -> Result<Vec<u8>, A
     let name = command.name;
     join(
         alloc,
-        FORM,
+        SYNTAX,
         &[
             Raw("')\n    if [[ $command == "),
             Text(name),
@@ -75,7 +75,7 @@ pub fn before_argument(alloc: Global, argument: &Argument<'_>) -> Result<Vec<u8>
     };
     join(
         alloc,
-        FORM,
+        SYNTAX,
         &[Raw("        arguments+=('"), Raw(repeated), Raw(place)],
     )
 }
@@ -86,7 +86,7 @@ pub fn before_help(alloc: Global, argument: &Argument<'_>) -> Result<Vec<u8>, Al
         Spelling::Positional => " (",
         Spelling::Short | Spelling::Long => "[",
     };
-    join(alloc, FORM, &[Raw(between)])
+    join(alloc, SYNTAX, &[Raw(between)])
 }
 
 /// What stands after what help says of an argument.
@@ -94,12 +94,12 @@ pub fn after_help(alloc: Global, argument: &Argument<'_>) -> Result<Vec<u8>, All
     let [open, words, close] = action_word(argument);
     match (argument.spelling, argument.value) {
         (Spelling::Positional, _) => {
-            join(alloc, FORM, &[Raw(")"), open, words, close, Raw("')\n")])
+            join(alloc, SYNTAX, &[Raw(")"), open, words, close, Raw("')\n")])
         }
-        (_, None) => join(alloc, FORM, &[Raw("]')\n")]),
+        (_, None) => join(alloc, SYNTAX, &[Raw("]')\n")]),
         (_, Some(value)) => join(
             alloc,
-            FORM,
+            SYNTAX,
             &[Raw("]:"), Text(value), open, words, close, Raw("')\n")],
         ),
     }

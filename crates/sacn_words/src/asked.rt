@@ -6,7 +6,7 @@ use clap::{ArgMatches, Error};
 use sacn_check::FileKind;
 use sacn_files::limits::DEFAULT_UDP_PORT;
 use sacn_live::{MAX_HOSTS, Octets4};
-use sacn_manual::{Form, shell_of};
+use sacn_manual::{Syntax, shell_of};
 use std::alloc::Global;
 use std::net::{Ipv4Addr, SocketAddrV4};
 
@@ -45,7 +45,7 @@ pub enum Asked<'a> {
     Watch(WatchAsked),
     Check(CheckAsked<'a>),
     /// A text that is made from the table of commands.
-    Manual(Form),
+    Manual(Syntax),
 }
 
 /// What a gateway is asked.
@@ -265,8 +265,8 @@ fn asked_of<'a>(command: &str, words: &mut Words<'_, 'a>) -> Asked<'a> {
             kind: words.value("as", kind),
             files: words.paths(),
         }),
-        "manual" => Asked::Manual(Form::Manual),
-        "completion" => Asked::Manual(shell_of(words.text("SHELL")).unwrap_or(Form::Bash)),
+        "manual" => Asked::Manual(Syntax::Manual),
+        "completion" => Asked::Manual(shell_of(words.text("SHELL")).unwrap_or(Syntax::Bash)),
         _ => Asked::Decode(words.paths()),
     }
 }

@@ -1,7 +1,7 @@
 //! The program without a command, and the texts that are made from the table.
 use crate::arguments::{HELP, HELP_LETTER, VERSION_LETTER, VERSION_NAME};
 use crate::table::commands;
-use sacn_manual::{Argument, Form, Program, render};
+use sacn_manual::{Argument, Program, Syntax, render};
 use std::alloc::{AllocError, Global};
 
 /// The version, and the kits that may prove it.
@@ -44,7 +44,7 @@ Exit status: 0; 2 bad words; 3 refused input; 4 a device failed.";
 const ARGUMENTS: &[Argument<'static>] = &[HELP_LETTER, HELP, VERSION_LETTER, VERSION_NAME];
 
 /// A text that is made from the table.
-pub fn manual_text(alloc: Global, form: Form) -> Result<Vec<u8>, AllocError> {
+pub fn manual_text(alloc: Global, syntax: Syntax) -> Result<Vec<u8>, AllocError> {
     let commands = commands(alloc)?;
     let program = Program {
         date: DATE,
@@ -54,5 +54,5 @@ pub fn manual_text(alloc: Global, form: Form) -> Result<Vec<u8>, AllocError> {
         arguments: ARGUMENTS,
         commands: commands.as_slice(),
     };
-    render(alloc, form, &program)
+    render(alloc, syntax, &program)
 }

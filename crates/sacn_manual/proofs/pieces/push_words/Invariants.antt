@@ -1,5 +1,5 @@
 use Rattle.std.proofs.Common.{◌≡◌, ◌++◌, drop}
-use Rattle.sacn_manual.specs.Forms.{words_text}
+use Rattle.sacn_manual.specs.Syntaxes.{words_text}
 use Rattle.sacn_manual.proofs.pieces.push_words.Given as goal
 
 abbrev pub invariant-loop-i : goal.invariant-loop-i

@@ -10,4 +10,4 @@ loop-i-preserved c = record {
 }
 
 pub returns-clause-told : goal.returns-clause-told
-returns-clause-told c = all_taken (TellsArgument c.args.form c.loop-i.text.items) c.args.arguments.now c.loop-i.i (omega arith) c.loop-i.invariant.told
+returns-clause-told c = all_taken (TellsArgument c.args.syntax c.loop-i.text.items) c.args.arguments.now c.loop-i.i (omega arith) c.loop-i.invariant.told

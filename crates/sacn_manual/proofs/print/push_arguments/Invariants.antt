@@ -7,5 +7,5 @@ use Rattle.sacn_manual.proofs.print.push_arguments.Given as goal
 abbrev pub invariant-loop-i : goal.invariant-loop-i
 invariant-loop-i l = record {
   grown : Grows l.fn.text.items l.text.items;
-  told : All (TellsArgument l.form l.text.items) (take l.i l.arguments);
+  told : All (TellsArgument l.syntax l.text.items) (take l.i l.arguments);
 }

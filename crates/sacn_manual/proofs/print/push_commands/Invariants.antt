@@ -7,5 +7,5 @@ use Rattle.sacn_manual.proofs.print.push_commands.Given as goal
 abbrev pub invariant-loop-i : goal.invariant-loop-i
 invariant-loop-i l = record {
   grown : Grows l.fn.text.items l.text.items;
-  told : All (TellsCommand l.form l.text.items) (take l.i l.commands);
+  told : All (TellsCommand l.syntax l.text.items) (take l.i l.commands);
 }

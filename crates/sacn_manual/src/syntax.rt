@@ -2,7 +2,7 @@
 
 ghost use Rattle.std.specs.Prelude.{◌≡◌};
 ghost use Rattle.std.specs.Option.{option_map};
-ghost use Rattle.sacn_manual.specs.Forms.{mark, escape, roff_escape, bash_escape, zsh_escape, fish_escape};
+ghost use Rattle.sacn_manual.specs.Syntaxes.{mark, escape, roff_escape, bash_escape, zsh_escape, fish_escape};
 
 use crate::tree::Spelling;
 
@@ -12,9 +12,9 @@ pub const SHELLS: &[&str] = &["bash", "zsh", "fish"];
 /// The same, with a comma and a space between them.
 pub const SHELL_WORDS: &str = "bash, zsh, fish";
 
-/// A text that is made from a tree.
+/// The syntax of a text that is made from a tree.
 #[derive(Clone, Copy)]
-pub enum Form {
+pub enum Syntax {
     /// A page of a manual: roff with the macros of man(7).
     Manual,
     /// Completions for bash.
@@ -26,44 +26,44 @@ pub enum Form {
 }
 
 /// The completions for a shell of this name.
-pub fn shell_of(name: &str) -> Option<Form> {
+pub fn shell_of(name: &str) -> Option<Syntax> {
     match name {
-        "bash" => Some(Form::Bash),
-        "zsh" => Some(Form::Zsh),
-        "fish" => Some(Form::Fish),
+        "bash" => Some(Syntax::Bash),
+        "zsh" => Some(Syntax::Zsh),
+        "fish" => Some(Syntax::Fish),
         _ => None,
     }
 }
 
 /// What stands before an argument's name.
-pub fn mark(form: Form, spelling: Spelling) -> &'static str
-    ensures { result.now ≡ mark form spelling }
+pub fn mark(syntax: Syntax, spelling: Spelling) -> &'static str
+    ensures { result.now ≡ mark syntax spelling }
 {
     match spelling {
         Spelling::Positional => "",
-        Spelling::Short => match form {
-            Form::Manual => "\\-",
-            Form::Bash | Form::Zsh => "-",
-            Form::Fish => "-s ",
+        Spelling::Short => match syntax {
+            Syntax::Manual => "\\-",
+            Syntax::Bash | Syntax::Zsh => "-",
+            Syntax::Fish => "-s ",
         },
-        Spelling::Long => match form {
-            Form::Manual => "\\-\\-",
-            Form::Bash | Form::Zsh => "--",
-            Form::Fish => "-l ",
+        Spelling::Long => match syntax {
+            Syntax::Manual => "\\-\\-",
+            Syntax::Bash | Syntax::Zsh => "--",
+            Syntax::Fish => "-l ",
         },
     }
 }
 
 /// How an octet of a foreign text is written where that isn't by itself. What is written ends no line; in a page it
 /// begins no request either, which a dot or an apostrophe at the start of a line would.
-pub fn escape(form: Form, octet: u8) -> Option<&'static str>
-    ensures { option_map (λ s. s.now) result ≡ escape form octet }
+pub fn escape(syntax: Syntax, octet: u8) -> Option<&'static str>
+    ensures { option_map (λ s. s.now) result ≡ escape syntax octet }
 {
-    match form {
-        Form::Manual => roff_escape(octet),
-        Form::Bash => bash_escape(octet),
-        Form::Zsh => zsh_escape(octet),
-        Form::Fish => fish_escape(octet),
+    match syntax {
+        Syntax::Manual => roff_escape(octet),
+        Syntax::Bash => bash_escape(octet),
+        Syntax::Zsh => zsh_escape(octet),
+        Syntax::Fish => fish_escape(octet),
     }
 }
 

@@ -1,8 +1,8 @@
 -- How a foreign text is written in a page and in completions.
 use Rattle.std.specs.Prelude.{ℕ, List, [], ◌∷◌, ◌==◌, codes, Option, Some, None, unwrap_or, if◌then◌else◌, filter, not}
 use Rattle.std.specs.List.{flat_map}
-use Rattle.sacn_manual.specs.declared.form.Form.{Form}
-use Rattle.sacn_manual.specs.declared.form.Form.TheVariants.{Manual, Bash, Zsh, Fish}
+use Rattle.sacn_manual.specs.declared.syntax.Syntax.{Syntax}
+use Rattle.sacn_manual.specs.declared.syntax.Syntax.TheVariants.{Manual, Bash, Zsh, Fish}
 use Rattle.sacn_manual.specs.declared.tree.Spelling.{Spelling}
 use Rattle.sacn_manual.specs.declared.tree.Spelling.TheVariants.{Positional, Short, Long}
 use Rattle.sacn_manual.specs.declared.pieces.Piece.{Piece}
@@ -29,34 +29,34 @@ zsh_escape o =
 abbrev pub fish_escape : ℕ → Option (List ℕ)
 fish_escape o = if o == 10 then Some (codes " ") else if o == 39 then Some (codes "\\'") else if o == 92 then Some (codes "\\\\") else None
 
-abbrev pub escape : Form → ℕ → Option (List ℕ)
+abbrev pub escape : Syntax → ℕ → Option (List ℕ)
 escape Manual o = roff_escape o
 escape Bash o = bash_escape o
 escape Zsh o = zsh_escape o
 escape Fish o = fish_escape o
 
-abbrev pub octet_text : Form → ℕ → List ℕ
-octet_text form o = unwrap_or (escape form o) (o ∷ [])
+abbrev pub octet_text : Syntax → ℕ → List ℕ
+octet_text syntax o = unwrap_or (escape syntax o) (o ∷ [])
 
 -- a foreign text, octet by octet
-abbrev pub written : Form → List ℕ → List ℕ
-written form octets = flat_map (octet_text form) octets
+abbrev pub written : Syntax → List ℕ → List ℕ
+written syntax octets = flat_map (octet_text syntax) octets
 
 -- words, without the commas between them
 abbrev pub words_text : List ℕ → List ℕ
 words_text words = filter (λ o. not (o == 44)) words
 
-abbrev pub piece_text : Form → Piece → List ℕ
-piece_text form (Raw own) = own.now
-piece_text form (Text foreign) = written form foreign.now
-piece_text form (Words words) = words_text words.now
+abbrev pub piece_text : Syntax → Piece → List ℕ
+piece_text syntax (Raw own) = own.now
+piece_text syntax (Text foreign) = written syntax foreign.now
+piece_text syntax (Words words) = words_text words.now
 
-abbrev pub pieces_text : Form → List Piece → List ℕ
-pieces_text form pieces = flat_map (piece_text form) pieces
+abbrev pub pieces_text : Syntax → List Piece → List ℕ
+pieces_text syntax pieces = flat_map (piece_text syntax) pieces
 
 -- what stands before an argument's name
-abbrev pub mark : Form → Spelling → List ℕ
-mark form Positional = []
+abbrev pub mark : Syntax → Spelling → List ℕ
+mark syntax Positional = []
 mark Manual Short = codes "\\-"
 mark Manual Long = codes "\\-\\-"
 mark Bash Short = codes "-"
