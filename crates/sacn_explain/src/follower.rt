@@ -215,7 +215,7 @@ impl<'a, O: Write> Follower<'a, O> {
         if self.stays_lit(until) {
             return Ok(until);
         }
-        self.tell_darks(now)
+        self.look_for_dark(now)
     }
 
     // Whether the node loses nothing up to a moment, as far as is known without a look at it.
@@ -230,7 +230,7 @@ impl<'a, O: Write> Follower<'a, O> {
 
     // The same as `tell_dark`, by a look at the node. (Out of line: most calls have nothing to look for.)
     #[inline(never)]
-    fn tell_darks(&mut self, now: u64) -> Result<u64, TellFault>
+    fn look_for_dark(&mut self, now: u64) -> Result<u64, TellFault>
         ensures moment { IfOk result (λ t. t ≡ max self.old.network.monitor.moment now) }
         ensures by { self.new.network.monitor.moment
             ≤ max self.old.network.monitor.moment now }
