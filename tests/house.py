@@ -127,14 +127,32 @@ def lost_steps():
                 yield f"{title}: {word} isn't in {path}"
 
 
+def product_code():
+    """The product's code by file, without comments and tests."""
+    files = [it for it in glob.glob("crates/*/src/**/*.rt", recursive=True) if it.split("/")[1] not in BESIDE and not it.endswith("tests.rt")]
+    return {it: re.sub(r"//[^\n]*", "", text_of(it)) for it in sorted(files)}
+
+
 def repeated_rules():
     """Rules that stand more often in the product's code than MOST says. Comments and tests don't count."""
-    files = [it for it in glob.glob("crates/*/src/**/*.rt", recursive=True) if it.split("/")[1] not in BESIDE and not it.endswith("tests.rt")]
-    code = {it: re.sub(r"//[^\n]*", "", text_of(it)) for it in files}
+    code = product_code()
     for what, (pattern, most) in MOST.items():
-        found = [it for it in sorted(code) for _ in re.findall(pattern, code[it])]
+        found = [it for it in code for _ in re.findall(pattern, code[it])]
         if not 1 <= len(found) <= most:
             yield f"{what} {len(found)} times: {' '.join(found)}"
+
+
+def shared_names():
+    """Public types of the product that share their name with another one."""
+    places = {}
+    for path, text in product_code().items():
+        for name in re.findall(r"^\s*pub (?:struct|enum|trait|type) (\w+)", text, re.M):
+            places.setdefault(name, []).append(path)
+    if not places:
+        yield "no public type was found"
+    for name, found in sorted(places.items()):
+        if len(found) > 1:
+            yield f"{name} is {len(found)} types: {' '.join(found)}"
 
 
 def long_readme():
@@ -159,6 +177,7 @@ LOOKS = {
     "what crates.txt names is used": idle_crates,
     "each step of the three ways is there": lost_steps,
     "one rule stands once": repeated_rules,
+    "a public type's name stands once": shared_names,
     "the README is short": long_readme,
 }
 
