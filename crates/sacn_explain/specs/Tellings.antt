@@ -31,7 +31,7 @@ abbrev pub where_so : Bool → List ℕ → List ℕ
 where_so happened line = if happened then with_line_end line else []
 
 -- the line of an event; none where the source goes on
-abbrev pub event_told : Form → ℕ → Stream → StreamEvent → List ℕ
+unfoldable pub event_told : Form → ℕ → Stream → StreamEvent → List ℕ
 event_told form now s event = where_so (not (goes_on event)) (event_line form now s event)
 
 abbrev pub priority_told : Form → ℕ → Stream → Option Change → List ℕ

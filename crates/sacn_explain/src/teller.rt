@@ -70,6 +70,7 @@ impl<'o, O: Write> Teller<'o, O> {
         self.tell_gap(now, stream, news)
     }
 
+    #[tactic(auto, unfolding(crate::specs::Tellings::event_told))]
     fn tell_event(&mut self, now: u64, stream: &Stream, event: StreamEvent) -> Result<(), TellFault>
         ensures { OnOk result
             (Tells O.contents self.old self.new (event_told self.old.form now stream.now event)) }
