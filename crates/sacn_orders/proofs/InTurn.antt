@@ -1,0 +1,2 @@
+-- The chosen channels, one after another.
+use Rattle.std.proofs.Common.{◌≡◌, refl}

@@ -1,0 +1,2 @@
+-- The pieces of a word as it is scanned.
+use Rattle.std.proofs.Common.{◌≡◌, refl}
