@@ -1,3 +1,4 @@
 pub mod InTurn
-pub mod Selecting
+pub mod Lines
 pub mod PieceLemmas
+pub mod Selecting

@@ -188,12 +188,12 @@ abbrev pub to_level : List (List ℕ) → Result ℕ OrderFault
 to_level [] = Err Word
 to_level (w ∷ ws) = level_in ws
 
--- a selection, the first `at`, and a level
+abbrev pub levels_said : List (List ℕ) → List (List ℕ) → Result Order OrderFault
+levels_said before behind = selection_in before >>= λ parts. to_level behind >>= λ level. Ok (Levels parts level)
+
+-- a selection stands before the first `at`, and a level behind it
 abbrev pub levels_in : List (List ℕ) → Result Order OrderFault
-levels_in ws =
-    selection_in (before_first is_at ws) >>= λ parts.
-    to_level (drop (position_or_len is_at ws) ws) >>= λ level.
-    Ok (Levels parts level)
+levels_in ws = levels_said (before_first is_at ws) (drop (position_or_len is_at ws) ws)
 
 -- an order of one word
 abbrev pub alone : ℕ → Order → List (List ℕ) → Result Order OrderFault

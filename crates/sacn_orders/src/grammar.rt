@@ -1,7 +1,7 @@
 //! The pieces of a line that speaks of channels: a selection, `at` and a level.
-ghost use Rattle.std.specs.Prelude.{◌≡◌, map};
+ghost use Rattle.std.specs.Prelude.{◌≡◌, ◌≤◌, length, map};
 ghost use Rattle.std.specs.List.{position_or_len};
-ghost use Rattle.sacn_orders.specs.Orders.{all_in, is_at, is_joining, is_plus, levels_in, one_more, parts_in, selection_in, to_level};
+ghost use Rattle.sacn_orders.specs.Orders.{all_in, is_at, is_joining, is_plus, levels_in, levels_said, one_more, parts_in, selection_in, to_level};
 
 use crate::fault::OrderFault;
 use crate::level::level_in;
@@ -28,7 +28,7 @@ fn one_more(selection: Selection, is_added: bool, pieces: &[&str]) -> Result<Sel
     ensures { result ≡ one_more selection is_added (map (λ w. w.now) pieces.now) }
 {
     let mut selection = selection;
-    if selection.is_full() {
+    if !selection.has_room() {
         return Err(OrderFault::TooManyParts);
     }
     let part = part_in(is_added, pieces)?;
@@ -81,7 +81,8 @@ fn selection_in(pieces: &[&str]) -> Result<Selection, OrderFault>
 
 /// The place of the first `at`, or where the pieces end.
 fn place_of_at(pieces: &[&str]) -> usize
-    ensures { result ≡ position_or_len is_at (map (λ w. w.now) pieces.now) }
+    ensures place { result ≡ position_or_len is_at (map (λ w. w.now) pieces.now) }
+    ensures within { result ≤ length pieces.now }
 {
     for i in 0..pieces.len() {
         if pieces[i] == "at" {
@@ -101,12 +102,19 @@ fn to_level(pieces: &[&str]) -> Result<u16, OrderFault>
     }
 }
 
+/// The order of what stands before `at`, and of the pieces from there on.
+fn levels_said(before: &[&str], behind: &[&str]) -> Result<Order, OrderFault>
+    ensures { result ≡ levels_said (map (λ w. w.now) before.now) (map (λ w. w.now) behind.now) }
+{
+    let selection = selection_in(before)?;
+    let level = to_level(behind)?;
+    Ok(Order::Levels(selection, level))
+}
+
 /// The order of a line's pieces, where it speaks of channels. Errors: the first fault in the order of the pieces.
 pub(crate) fn levels_in(pieces: &[&str]) -> Result<Order, OrderFault>
     ensures { result ≡ levels_in (map (λ w. w.now) pieces.now) }
 {
     let at = place_of_at(pieces);
-    let selection = selection_in(&pieces[..at])?;
-    let level = to_level(&pieces[at..])?;
-    Ok(Order::Levels(selection, level))
+    levels_said(&pieces[..at], &pieces[at..])
 }

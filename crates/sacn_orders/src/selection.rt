@@ -1,5 +1,5 @@
 //! Which channels an order sets.
-ghost use Rattle.std.specs.Prelude.{◌≡◌, ◌++◌, ◌<◌, ◌≤◌, true, false, [], ◌∷◌, length, max};
+ghost use Rattle.std.specs.Prelude.{◌≡◌, ◌++◌, ◌<◌, ◌≤◌, [], ◌∷◌, length, max, nat_lt};
 ghost use Rattle.sacn_orders.specs.declared.limits.TheConstants.{MAX_PARTS};
 ghost use Rattle.sacn_orders.specs.Orders.{is_chosen, next_chosen};
 
@@ -46,12 +46,11 @@ impl Selection {
         }
     }
 
-    /// Whether there is no room for a part.
-    pub(crate) fn is_full(&self) -> bool
-        ensures full { result ≡ true → MAX_PARTS ≤ length self.now }
-        ensures room { result ≡ false → length self.now < MAX_PARTS }
+    /// Whether there is room for a part more.
+    pub(crate) fn has_room(&self) -> bool
+        ensures { result ≡ nat_lt (length self.now) MAX_PARTS }
     {
-        self.count >= MAX_PARTS
+        self.parts().len() < MAX_PARTS
     }
 
     /// Adds a part behind the others.
