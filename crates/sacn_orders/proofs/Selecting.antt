@@ -1,7 +1,7 @@
 -- The parts of a selection, one after another.
-use Rattle.std.proofs.Common.{◌≡◌, ◌∙◌, ap, refl, sym, ℕ, zero, suc, ◌+◌, ◌-◌, ◌<◌, ◌≤◌, nat_lt, Bool, true, false, if◌then◌else◌, List, [], ◌∷◌, ◌++◌, map, length, take, drop, get_or, Result, Ok, Err, arith, append_assoc, append-nil, length-append, length-drop}
+use Rattle.std.proofs.Common.{Bor, ◌≡◌, ◌∙◌, ap, refl, sym, ℕ, zero, suc, ◌+◌, ◌-◌, ◌<◌, ◌≤◌, nat_lt, Bool, true, false, cond, if◌then◌else◌, List, [], ◌∷◌, ◌++◌, map, length, take, drop, get_or, Result, Ok, Err, arith, append_assoc, append-nil, length-append, length-drop}
 use Rattle.std.proofs.lemmas.List.{drop_more, get_or-drop, map-append, take_more}
-use Rattle.std.proofs.lemmas.Bool.{lt-leb, lt-ltb, le-leb, le-ltb}
+use Rattle.std.proofs.lemmas.Bool.{le-ltb, lt-ltb, ltb-false, ltb-true}
 use Rattle.sacn_universe.specs.Results.{◌>>=◌}
 use Rattle.sacn_orders.specs.declared.part.Part.{Part}
 use Rattle.sacn_orders.specs.declared.fault.OrderFault.{OrderFault}
@@ -36,7 +36,7 @@ later_same n done js (Err f) same = refl
 
 full_fault : (done : List Part) (j : Joined) (js : List Joined) → length done + 0 ≡ MAX_PARTS → Err TooManyParts ≡ more_parts done (j ∷ js)
 full_fault done j js e =
-    let full : nat_lt (length done) MAX_PARTS ≡ false = le-ltb MAX_PARTS (length done) (omega arith) in
+    let full : nat_lt (length done) MAX_PARTS ≡ false = le-ltb (length done) MAX_PARTS (omega arith) in
     rw full refl
 
 roomy : (n : ℕ) (done : List Part) (j : Joined) (js : List Joined) → length done + suc n ≡ MAX_PARTS
@@ -47,16 +47,33 @@ roomy n done j js e =
 
 none_left : (room : ℕ) (done : List Part) → with_room room done [] ≡ Ok done
 none_left zero done = ap (λ (ps : List Part). Ok ps) (append-nil done)
-none_left (suc n) done = ap (λ (ps : List Part). Ok ps) (append-nil done)
+none_left (suc n) done = ap (λ b. cond b (Err TooManyParts) (Ok (done ++ []))) (le-ltb (suc n) 0 (omega arith)) ∙ ap (λ (ps : List Part). Ok ps) (append-nil done)
+
+order_by : (n m : ℕ) (b : Bool) → nat_lt n m ≡ b → nat_lt (suc n) (suc m) ≡ nat_lt n m
+order_by n m true h =
+    let lt : n < m = ltb-true n m h in
+    lt-ltb (suc n) (suc m) (omega arith) ∙ sym h
+order_by n m false h =
+    let le : m ≤ n = ltb-false n m h in
+    le-ltb (suc n) (suc m) (omega arith) ∙ sym h
+
+-- so many parts are over where one fewer are over one fewer
+same_order : (n m : ℕ) → nat_lt (suc n) (suc m) ≡ nat_lt n m
+same_order n m = order_by n m (nat_lt n m) refl
+
+over_same : (n : ℕ) (done : List Part) (js : List Joined) (r : Result (List Part) OrderFault)
+    → (r >>= λ parts. if nat_lt (suc n) (suc (length js)) then Err TooManyParts else Ok (done ++ parts)) ≡ (r >>= λ parts. if nat_lt n (length js) then Err TooManyParts else Ok (done ++ parts))
+over_same n done js r = ap (λ b. r >>= λ parts. cond b (Err TooManyParts) (Ok (done ++ parts))) (same_order n (length js))
 
 length_more : (done : List Part) (part : Part) (n : ℕ) → length done + suc n ≡ MAX_PARTS → length (done ++ part ∷ []) + n ≡ MAX_PARTS
 length_more done part n e = omega (arith, length-append done (part ∷ []))
 
 turns : (room : ℕ) (done : List Part) (js : List Joined) → length done + room ≡ MAX_PARTS → with_room room done js ≡ more_parts done js
 turns room done [] e = none_left room done
-turns zero done (j ∷ js) e = full_fault done j js e
+turns zero done (j ∷ js) e = ap (λ b. cond b (Err TooManyParts) (Ok (done ++ []))) (lt-ltb 0 (suc (length js)) (omega arith)) ∙ full_fault done j js e
 turns (suc n) done (j ∷ js) e =
-    in_front done (nat_lt n (length js)) (part_in j.0 j.1) (parts_of (take n js))
+    over_same n done js (parts_of (j ∷ take n js))
+    ∙ in_front done (nat_lt n (length js)) (part_in j.0 j.1) (parts_of (take n js))
     ∙ later_same n done js (part_in j.0 j.1) (λ part. turns n (done ++ part ∷ []) js (length_more done part n e))
     ∙ sym (roomy n done j js e)
 
@@ -65,7 +82,6 @@ pub parts_in_turn : (ws : List (List ℕ)) → parts_in ws ≡ more_parts [] (jo
 parts_in_turn ws = turns MAX_PARTS [] (joined_after true [] ws) refl
 
 -- ---- one piece more
-
 
 abbrev said : List (Bor (List ℕ)) → List (List ℕ)
 said ws = map (λ w. w.now) ws

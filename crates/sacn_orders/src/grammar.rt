@@ -60,7 +60,11 @@ fn all_in(pieces: &[&str]) -> Result<Selection, OrderFault>
     match pieces {
         [] => {
             let mut selection = Selection::new();
-            selection.push(Part { first: 1, last: LAST_CHANNEL, is_added: true });
+            selection.push(Part {
+                first: 1,
+                last: LAST_CHANNEL,
+                is_added: true,
+            });
             Ok(selection)
         }
         _ => Err(OrderFault::Word),
@@ -74,7 +78,11 @@ fn selection_in(pieces: &[&str]) -> Result<Selection, OrderFault>
     match pieces {
         [] => Err(OrderFault::NoChannels),
         [piece, rest @ ..] => {
-            if *piece == "all" { all_in(rest) } else { parts_in(pieces) }
+            if *piece == "all" {
+                all_in(rest)
+            } else {
+                parts_in(pieces)
+            }
         }
     }
 }

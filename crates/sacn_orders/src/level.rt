@@ -39,7 +39,11 @@ fn percent_of(percents: u64, hundredths: u64) -> Option<u64>
     ensures small { IfSome result (λ n. n ≤ FULL_HUNDREDTHS) }
 {
     let all = percents * 100 + hundredths;
-    if all <= FULL_HUNDREDTHS as u64 { Some(all) } else { None }
+    if all <= FULL_HUNDREDTHS as u64 {
+        Some(all)
+    } else {
+        None
+    }
 }
 
 /// A percent in hundredths: 0 to 100, with one decimal or two behind a point, or with none and no point.
@@ -85,10 +89,18 @@ pub(crate) fn level_in(pieces: &[&str]) -> Result<u16, OrderFault>
 {
     match pieces {
         [piece] => {
-            if *piece == "full" { Ok(FULL_LEVEL) } else { level_said(piece) }
+            if *piece == "full" {
+                Ok(FULL_LEVEL)
+            } else {
+                level_said(piece)
+            }
         }
         [piece, sign] => {
-            if *sign == "%" { level_said(piece) } else { Err(OrderFault::Level) }
+            if *sign == "%" {
+                level_said(piece)
+            } else {
+                Err(OrderFault::Level)
+            }
         }
         _ => Err(OrderFault::Level),
     }

@@ -48,7 +48,13 @@ fn channel_in(piece: &str) -> Result<u16, OrderFault>
         return Err(OrderFault::Word);
     }
     match number_in(LAST_CHANNEL as u64, piece) {
-        Some(channel) => { if channel == 0 { Err(OrderFault::Channel) } else { Ok(channel as u16) } }
+        Some(channel) => {
+            if channel == 0 {
+                Err(OrderFault::Channel)
+            } else {
+                Ok(channel as u16)
+            }
+        }
         None => Err(OrderFault::Channel),
     }
 }
@@ -71,7 +77,11 @@ fn span_to(first: u16, pieces: &[&str]) -> Result<u16, OrderFault>
         [] => Err(OrderFault::Word),
         [piece, rest @ ..] => {
             let last = channel_in(piece)?;
-            if last < first { Err(OrderFault::Backwards) } else { ended(last, rest) }
+            if last < first {
+                Err(OrderFault::Backwards)
+            } else {
+                ended(last, rest)
+            }
         }
     }
 }
@@ -83,7 +93,11 @@ fn last_in(first: u16, pieces: &[&str]) -> Result<u16, OrderFault>
     match pieces {
         [] => Ok(first),
         [piece, rest @ ..] => {
-            if *piece == "thru" { span_to(first, rest) } else { Err(OrderFault::Word) }
+            if *piece == "thru" {
+                span_to(first, rest)
+            } else {
+                Err(OrderFault::Word)
+            }
         }
     }
 }
@@ -99,7 +113,11 @@ pub(crate) fn part_in(is_added: bool, pieces: &[&str]) -> Result<Part, OrderFaul
         [piece, rest @ ..] => {
             let first = channel_in(piece)?;
             let last = last_in(first, rest)?;
-            Ok(Part { first, last, is_added })
+            Ok(Part {
+                first,
+                last,
+                is_added,
+            })
         }
     }
 }

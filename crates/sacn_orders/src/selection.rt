@@ -41,7 +41,11 @@ impl Selection {
         ensures { result ≡ [] }
     {
         Selection {
-            parts: [Part { first: 0, last: 0, is_added: false }; MAX_PARTS],
+            parts: [Part {
+                first: 0,
+                last: 0,
+                is_added: false,
+            }; MAX_PARTS],
             count: 0,
         }
     }
