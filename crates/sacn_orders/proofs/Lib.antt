@@ -1,0 +1,4 @@
+pub mod InTurn
+pub mod Lines
+pub mod PieceLemmas
+pub mod Selecting

@@ -1,0 +1,3 @@
+pub mod FaultNumbers
+pub mod Pieces
+pub mod Orders
