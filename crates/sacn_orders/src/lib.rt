@@ -1,7 +1,7 @@
 //! Orders as a lighting crew says them, read into a console's commands.
 //!
 //! A line's words are cut at the signs `+`, `-` and `%` (`pieces`). A line that speaks of channels is a selection, `at`
-//! and a level: `selecting` and `part` read the first, `level` the last. `order_of` says what a line is, and
+//! and a level: `grammar` and `part` read the first, `level` the last. `order_of` says what a line is, and
 //! `Selection::next_from` gives the channels that it sets in turn. Each contract is the word's definition in
 //! `specs/Orders.antt`.
 #![tactic(auto)]
