@@ -97,7 +97,7 @@ def sinking_crates():
 
 
 def idle_crates():
-    """Crates that a line of crates.txt names and that no file of its crate does."""
+    """Crates of a line of crates.txt whose names stand in no file of the crate that the line is of."""
     for line in text_of("crates.txt").split("\n"):
         head, _, below = line.partition("#")[0].partition(":")
         if not below.strip():
