@@ -3,8 +3,8 @@ use sacn_console::{ConsoleFault, ShowFault};
 use sacn_cues::{CueFault, PlayFault};
 use sacn_discovery::DiscoveryFault;
 use sacn_node::SetupFault;
+use sacn_packets::PacketFault;
 use sacn_patch::PatchFault;
-use sacn_root::PacketFault;
 use sacn_sources::TableFault;
 use std::test::*;
 

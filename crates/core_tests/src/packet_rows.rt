@@ -1,9 +1,8 @@
 //! Data packets as rows of tables say them.
 ghost use Rattle.std.specs.Prelude.{◌≤◌};
 
-use sacn_framing::{DataFields, write_data};
+use sacn_packets::{DataFields, SLOTS, write_data};
 use sacn_sources::{HeldView, Kind};
-use sacn_universe::SLOTS;
 
 /// A packet of a source, whose CID repeats four octets.
 #[derive(Clone, Copy)]

@@ -1,6 +1,6 @@
 //! A patch, where requests for memory are refused.
+use sacn_packets::SLOTS;
 use sacn_patch::{LevelOf, Patch, PatchFault};
-use sacn_universe::SLOTS;
 use std::test::*;
 
 // Channel 1 at 4660, which is 18 and 52, and every other channel full.

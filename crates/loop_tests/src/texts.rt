@@ -2,7 +2,7 @@
 use fixtures::packets::{empty_data, empty_page};
 use fixtures::writers::Stopping;
 use sacn_edge::WriterOut;
-use sacn_root::PacketFault;
+use sacn_packets::PacketFault;
 use sacn_schedule::examples::{SCHEDULE, WORLD};
 use sacn_text::{DecodeFault, MarkedWriter, SimFault, decode_text, sim_text};
 use sacn_world::{TextFault, WorldFault, WorldTextFault};

@@ -1,7 +1,7 @@
 //! The collector of discovery pages.
 use crate::Outcome;
 use sacn_discovery::{Collector, DiscoveryFault};
-use sacn_framing::{Packet, read_packet};
+use sacn_packets::{Packet, read_packet};
 use std::alloc::Global;
 
 /// A page of one universe number, from a source whose CID has sixteen octets `source`.

@@ -1,7 +1,7 @@
 //! The patch.
 use crate::Outcome;
+use sacn_packets::SLOTS;
 use sacn_patch::{LevelOf, Patch, PatchFault};
-use sacn_universe::SLOTS;
 use std::alloc::Global;
 
 /// Every channel at one level, 0x1234: a wide channel shows 0x12 and 0x34.

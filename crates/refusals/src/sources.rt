@@ -1,6 +1,6 @@
 //! The source table: all its room is taken where it is made.
 use crate::Outcome;
-use sacn_framing::{Packet, read_packet};
+use sacn_packets::{Packet, read_packet};
 use sacn_sources::{SourceTable, TableFault, Taken};
 use std::alloc::Global;
 

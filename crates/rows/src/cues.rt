@@ -2,8 +2,8 @@
 use crate::patch::add_entry;
 use crate::step::{Step, StepFault};
 use sacn_cues::{Cue, CueList, Player};
+use sacn_packets::SLOTS;
 use sacn_patch::{LevelOf, Patch};
-use sacn_universe::SLOTS;
 use std::alloc::{AllocError, Global};
 use std::mem;
 

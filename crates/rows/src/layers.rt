@@ -1,9 +1,9 @@
 //! Calls of single layers, of octets, and of the sequence rule.
 use crate::packet::cid_in;
 use crate::step::{Step, StepFault};
-use sacn_dmp::{read_dmp, write_dmp};
-use sacn_root::{
-    DATA_VECTOR, flags_at, length_at, pdu_field, read_root, u16_at, u32_at, write_root,
+use sacn_packets::{
+    DATA_VECTOR, flags_at, length_at, pdu_field, read_dmp, read_root, u16_at, u32_at, write_dmp,
+    write_root,
 };
 use sacn_sequence::{in_sequence, signed_step};
 

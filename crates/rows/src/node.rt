@@ -4,8 +4,8 @@ ghost use Rattle.std.specs.Prelude.{◌≤◌};
 use crate::packet::{cid_in, cid_of, packet_in};
 use crate::sources::{say_held, say_moment, say_taken};
 use crate::step::{Step, StepFault};
-use sacn_framing::{DataFields, write_data};
 use sacn_node::{NodeCore, NodeTaken, read_node};
+use sacn_packets::{DataFields, write_data};
 use std::alloc::Global;
 
 /// A node, once its setup was read.

@@ -4,7 +4,7 @@ ghost use Rattle.std.specs.Prelude.{◌≤◌, IfOk};
 use crate::step::{Step, StepFault};
 use hex::FromHex;
 use sacn_files::words::number_in;
-use sacn_framing::{DataFields, source_name, write_data};
+use sacn_packets::{DataFields, source_name, write_data};
 
 /// A CID that repeats the four octets of a number.
 pub fn cid_of(number: u64) -> [u8; 16] {

@@ -7,8 +7,7 @@ use crate::packet::{cid_in, write_packet};
 use crate::readings::{say_faults, say_frame, say_prefixes, say_reading};
 use crate::step::{Step, StepFault};
 use sacn_discovery::{Collector, page_count, write_page};
-use sacn_framing::{Packet, multicast_group, read_packet, source_name};
-use sacn_root::put;
+use sacn_packets::{Packet, multicast_group, put, read_packet, source_name};
 use std::alloc::Global;
 
 /// The octets of a datagram, a list of universes that pages are laid out of, and the lists that are known.

@@ -1,7 +1,7 @@
 //! Calls of a patch.
 use crate::step::{Step, StepFault};
+use sacn_packets::SLOTS;
 use sacn_patch::{LevelOf, Patch, RestOf};
-use sacn_universe::SLOTS;
 use std::alloc::Global;
 
 /// Channel 1 at 4660, which is 18 and 52, and every other channel full.

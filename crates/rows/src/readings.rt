@@ -1,7 +1,6 @@
 //! What is read of octets, as words.
 use crate::step::{Step, StepFault};
-use sacn_framing::{DataView, Packet, PageView, read_packet};
-use sacn_root::PacketFault;
+use sacn_packets::{DataView, Packet, PacketFault, PageView, read_packet};
 
 /// Says what packet the octets are, or how they are refused.
 pub fn say_reading(step: &mut Step<'_>, octets: &[u8]) {

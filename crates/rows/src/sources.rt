@@ -1,9 +1,8 @@
 //! Calls of a source table.
 use crate::packet::{cid_in, packet_in};
 use crate::step::{Step, StepFault};
-use sacn_framing::{Packet, read_packet};
+use sacn_packets::{Packet, SLOTS, read_packet};
 use sacn_sources::{HeldView, SourceTable, Taken};
-use sacn_universe::SLOTS;
 use std::alloc::Global;
 
 /// A table of the sources of one universe.

@@ -2,9 +2,9 @@
 use crate::step::Step;
 use sacn_console::{Command, ConsoleCore, ConsoleFault};
 use sacn_edge::ConsoleReport;
-use sacn_framing::Reading;
 use sacn_live::{DeviceFault, Notes, Octets4, Orders, PassedOver};
 use sacn_node::NodeTaken;
+use sacn_packets::Reading;
 use std::net::SocketAddrV4;
 
 /// Counts what a gateway notes.

@@ -5,13 +5,13 @@ use crate::watch::watch_end;
 use sacn_commands::ending::Ending;
 use sacn_commands::gateway::{diagnosis_of, receiver_of, run_setup, setup_of};
 use sacn_commands::live::{clock_of, joined_groups, of_socket, universes_of_setup};
-use sacn_framing::Reading;
 use sacn_live::{
     DeviceFault, Diagnosis, Lines, Notes, Octets4, Outputs, PassedOver, UdpReceiver,
     guard_standard_descriptors, output_is_terminal,
 };
 use sacn_monitor::Endpoint;
 use sacn_node::{NodeSetup, NodeTaken};
+use sacn_packets::Reading;
 use sacn_page::{Board, MAX_ALARMS, Pages};
 use sacn_watch::{Screen, Sizes, WatchFault, Watcher};
 use sacn_words::GatewayAsked;

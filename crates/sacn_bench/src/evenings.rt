@@ -9,7 +9,7 @@ use crate::work::Work;
 use sacn_console::limits::MAX_DATAGRAM;
 use sacn_console::{Command, ConsoleCore, read_show};
 use sacn_node::{NodeCore, read_node};
-use sacn_universe::FRAME_OCTETS;
+use sacn_packets::FRAME_OCTETS;
 use std::alloc::{AllocError, Global};
 
 /// Evenings of consoles of 4, 64 and 1024 universes and of nodes that show 16 universes of 16 sources, or of 2, in a flood of others.

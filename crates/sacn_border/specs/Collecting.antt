@@ -1,9 +1,9 @@
 -- What a datagram does to a collector, and how C is given a list.
 use Rattle.std.specs.Prelude.{◌≡◌, ◌==◌, ℕ, List, length, take, Option, Some, None, Result, Ok, Err, if◌then◌else◌}
-use Rattle.sacn_root.specs.FaultNumbers.{fault_number}
-use Rattle.sacn_root.specs.declared.fault.PacketFault.{PacketFault}
-use Rattle.sacn_framing.specs.declared.packet.Packet.{Packet}
-use Rattle.sacn_framing.specs.declared.packet.Packet.TheVariants.{DataPacket, PagePacket, SyncPacket}
+use Rattle.sacn_packets.specs.FaultNumbers.{fault_number}
+use Rattle.sacn_packets.specs.declared.root.fault.PacketFault.{PacketFault}
+use Rattle.sacn_packets.specs.declared.framing.packet.Packet.{Packet}
+use Rattle.sacn_packets.specs.declared.framing.packet.Packet.TheVariants.{DataPacket, PagePacket, SyncPacket}
 use Rattle.sacn_border.specs.Rooms.{room_status, room_with}
 use Rattle.sacn_border.specs.declared.status.TheConstants.{DONE, RANGE, OUT_OF_MEMORY}
 use Rattle.sacn_discovery.specs.Collection.{State, after_take, after_expire}

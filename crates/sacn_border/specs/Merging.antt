@@ -1,8 +1,8 @@
 -- What a datagram does to the sources of one universe.
 use Rattle.std.specs.Prelude.{ℕ, List, [], replicate, Option, Some, None, is_none, Result, Ok, Err}
-use Rattle.sacn_root.specs.declared.fault.PacketFault.{PacketFault}
-use Rattle.sacn_framing.specs.declared.packet.Packet.{Packet}
-use Rattle.sacn_framing.specs.declared.packet.Packet.TheVariants.{DataPacket, PagePacket, SyncPacket}
+use Rattle.sacn_packets.specs.declared.root.fault.PacketFault.{PacketFault}
+use Rattle.sacn_packets.specs.declared.framing.packet.Packet.{Packet}
+use Rattle.sacn_packets.specs.declared.framing.packet.Packet.TheVariants.{DataPacket, PagePacket, SyncPacket}
 use Rattle.sacn_sources.specs.Packets.{packet_of}
 use Rattle.sacn_sources.specs.Rows.{Row, answer}
 use Rattle.sacn_sources.specs.HeldViews.{priority_shown}

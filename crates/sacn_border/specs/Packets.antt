@@ -1,14 +1,14 @@
 -- What C is told of a packet, and what it tells to a writer.
 use Rattle.std.specs.Prelude.{◌≡◌, ℕ, nat_lt, Bool, true, false, not, ◌==◌, ◌||◌, List, [], ◌∷◌, ◌++◌, length, ⊤, Result, Ok, Err, if◌then◌else◌}
 use Rattle.std.specs.List.{before_first}
-use Rattle.sacn_root.specs.FaultNumbers.{fault_number}
-use Rattle.sacn_root.specs.declared.fault.PacketFault.{PacketFault}
-use Rattle.sacn_root.specs.declared.fault.PacketFault.TheVariants.{Priority, Universe, ValueCount}
-use Rattle.sacn_universe.specs.declared.limits.TheConstants.{MAX_PRIORITY, MAX_UNIVERSE}
-use Rattle.sacn_framing.specs.Data.{Data, frame_of}
-use Rattle.sacn_framing.specs.Page.{Page}
-use Rattle.sacn_framing.specs.declared.packet.Packet.{Packet}
-use Rattle.sacn_framing.specs.declared.packet.Packet.TheVariants.{DataPacket, PagePacket, SyncPacket}
+use Rattle.sacn_packets.specs.FaultNumbers.{fault_number}
+use Rattle.sacn_packets.specs.declared.root.fault.PacketFault.{PacketFault}
+use Rattle.sacn_packets.specs.declared.root.fault.PacketFault.TheVariants.{Priority, Universe, ValueCount}
+use Rattle.sacn_packets.specs.declared.universe.TheConstants.{MAX_PRIORITY, MAX_UNIVERSE}
+use Rattle.sacn_packets.specs.Data.{Data, frame_of}
+use Rattle.sacn_packets.specs.Page.{Page}
+use Rattle.sacn_packets.specs.declared.framing.packet.Packet.{Packet}
+use Rattle.sacn_packets.specs.declared.framing.packet.Packet.TheVariants.{DataPacket, PagePacket, SyncPacket}
 use Rattle.sacn_discovery.specs.Pages.{page_of_list}
 use Rattle.sacn_monitor.specs.Accounts.{fitted}
 use Rattle.sacn_border.specs.declared.status.TheConstants.{DONE}

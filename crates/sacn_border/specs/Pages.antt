@@ -1,10 +1,10 @@
 -- How C is given the universe numbers of a page, and what it asks to be written as one.
 use Rattle.std.specs.Prelude.{ℕ, ◌<◌, List, length, Result, Ok, Err}
 use Rattle.std.specs.List.Sorted.{IsStrictlyIncreasing}
-use Rattle.sacn_root.specs.FaultNumbers.{fault_number}
-use Rattle.sacn_root.specs.declared.fault.PacketFault.{PacketFault}
-use Rattle.sacn_framing.specs.declared.packet.Packet.{Packet}
-use Rattle.sacn_framing.specs.declared.packet.Packet.TheVariants.{DataPacket, PagePacket, SyncPacket}
+use Rattle.sacn_packets.specs.FaultNumbers.{fault_number}
+use Rattle.sacn_packets.specs.declared.root.fault.PacketFault.{PacketFault}
+use Rattle.sacn_packets.specs.declared.framing.packet.Packet.{Packet}
+use Rattle.sacn_packets.specs.declared.framing.packet.Packet.TheVariants.{DataPacket, PagePacket, SyncPacket}
 use Rattle.sacn_discovery.specs.Pages.{page_count}
 use Rattle.sacn_border.specs.Rooms.{room_status, room_with}
 use Rattle.sacn_border.specs.declared.packets.PacketFields.{PacketFields}

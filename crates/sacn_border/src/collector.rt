@@ -1,7 +1,7 @@
 //! Collectors of universe discovery.
 ghost use Rattle.std.specs.Prelude.{◌≡◌, ◌+◌, true, false, None, IfOk, IfErr, IfSome};
 ghost use Rattle.std.specs.FinMap as map;
-ghost use Rattle.sacn_framing.specs.PacketReading.{reading_packet};
+ghost use Rattle.sacn_packets.specs.PacketReading.{reading_packet};
 ghost use Rattle.sacn_discovery.specs.Lists.{forgotten as gone};
 ghost use Rattle.sacn_discovery.specs.Collection.{State, nothing_known, after_expire, known_list};
 ghost use Rattle.sacn_border.specs.Collecting.{after_reading, collect_status, collected, list_status, list_count, list_room, ShowsList};
@@ -13,7 +13,7 @@ use crate::reading::packet_at;
 use crate::rooms::put_list;
 use crate::status::{DONE, OUT_OF_MEMORY, RANGE, WRONG_HANDLE};
 use sacn_discovery::Collector;
-use sacn_framing::Packet;
+use sacn_packets::Packet;
 use std::alloc::Global;
 
 /// A collector that knows nothing, as `Collector::new`.

@@ -5,7 +5,7 @@ ghost use Rattle.std.specs.Option.{option_map};
 ghost use Rattle.std.specs.Str.{IsUtf8};
 ghost use Rattle.toml.specs.Parse.{parse_document};
 ghost use Rattle.sacn_files.specs.Document.{Gives};
-ghost use Rattle.sacn_framing.specs.PacketReading.{reading_packet};
+ghost use Rattle.sacn_packets.specs.PacketReading.{reading_packet};
 ghost use Rattle.sacn_node.specs.Cores.{core_at, core_lost, core_row, node_frame};
 ghost use Rattle.sacn_node.specs.Readings.{reply_to, after_reading};
 ghost use Rattle.sacn_node.specs.Setup.{port_numbers};
@@ -25,7 +25,7 @@ use crate::rooms::put_list;
 use crate::sources::{SourceFields, put_source};
 use crate::status::{DONE, RANGE, WRONG_HANDLE};
 use sacn_node::{NodeCore, NodeSetup, SetupFault, read_node};
-use sacn_universe::FRAME_OCTETS;
+use sacn_packets::FRAME_OCTETS;
 use std::alloc::Global;
 
 /// A setup of octets, as `read_node`; `Toml` where they aren't UTF-8.

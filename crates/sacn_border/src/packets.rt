@@ -1,24 +1,23 @@
 //! Packets.
 ghost use Rattle.std.specs.Prelude.{◌≡◌, ◌↔◌, ◌≤◌, ◌==◌, ◌+◌, ◌-◌, ◌%◌, ◌++◌, ◌∷◌, [], List, ℕ, length, take, drop, not, IfOk, IfErr, Ok, if◌then◌else◌};
-ghost use Rattle.sacn_framing.specs.Naming.{group_of};
+ghost use Rattle.sacn_packets.specs.Naming.{group_of};
 ghost use Rattle.sacn_sequence.specs.Sequence.{is_late, IsOutOfSequence};
-ghost use Rattle.sacn_framing.specs.FramingText.{nothing};
-ghost use Rattle.sacn_framing.specs.PacketReading.{reading_packet};
-ghost use Rattle.sacn_framing.specs.PacketText.{Reads, data_text};
-ghost use Rattle.sacn_framing.specs.declared.packet.Packet.{Packet};
-ghost use Rattle.sacn_framing.specs.declared.packet.Packet.TheVariants.{DataPacket};
+ghost use Rattle.sacn_packets.specs.FramingText.{nothing};
+ghost use Rattle.sacn_packets.specs.PacketReading.{reading_packet};
+ghost use Rattle.sacn_packets.specs.PacketText.{Reads, data_text};
+ghost use Rattle.sacn_packets.specs.declared.framing.packet.Packet.{Packet};
+ghost use Rattle.sacn_packets.specs.declared.framing.packet.Packet.TheVariants.{DataPacket};
 ghost use Rattle.sacn_monitor.specs.Accounts.{fitted};
 ghost use Rattle.sacn_border.specs.Packets.{packet_status, write_status, Tells, AskFor, fields_with, fields_after, ShowsFrame, bit_of, text_of, written};
 ghost use Rattle.sacn_border.specs.declared.status.TheConstants.{DONE};
 
 use crate::reading::packet_at;
 use crate::status::DONE;
-use sacn_framing::{
-    DataFields, DataView, Packet, PageView, multicast_group, up_to_nul, write_data,
+use sacn_packets::{
+    DataFields, DataView, MAX_PRIORITY, MAX_UNIVERSE, Packet, PacketFault, PageView,
+    multicast_group, put, up_to_nul, write_data,
 };
-use sacn_root::{PacketFault, put};
 use sacn_sequence::in_sequence;
-use sacn_universe::{MAX_PRIORITY, MAX_UNIVERSE};
 
 /// What a packet says, but its slots and universe numbers. `sacn.h` says what each field means.
 #[repr(C)]

@@ -1,9 +1,9 @@
 //! Pages of universe discovery (E1.31, 6.4 and 8).
 ghost use Rattle.std.specs.Prelude.{◌≡◌, ◌++◌, ◌+◌, ◌*◌, ◌≤◌, List, ℕ, length, take, drop, true, Ok};
 ghost use Rattle.std.specs.List.Sorted.{IsStrictlyIncreasing};
-ghost use Rattle.sacn_framing.specs.PacketReading.{reading_packet};
-ghost use Rattle.sacn_framing.specs.PacketText.{page_text, unused};
-ghost use Rattle.sacn_framing.specs.declared.packet.Packet.TheVariants.{PagePacket};
+ghost use Rattle.sacn_packets.specs.PacketReading.{reading_packet};
+ghost use Rattle.sacn_packets.specs.PacketText.{page_text, unused};
+ghost use Rattle.sacn_packets.specs.declared.framing.packet.Packet.TheVariants.{PagePacket};
 ghost use Rattle.sacn_discovery.specs.Pages.{numbers_on, page_of_list};
 ghost use Rattle.sacn_border.specs.Pages.{universes_status, universes_count, universes_room, IsPageOf};
 ghost use Rattle.sacn_border.specs.Rooms.{room_status, room_with};
@@ -13,7 +13,7 @@ use crate::packets::PacketFields;
 use crate::reading::packet_at;
 use crate::status::{DONE, LENGTH, RANGE};
 use sacn_discovery::{page_count, write_page};
-use sacn_framing::{Packet, PageView};
+use sacn_packets::{Packet, PageView};
 
 /// Reads the universe numbers of a page as they came, to the front of a room, and tells how many there are. The status is the fault of octets
 /// that are no packet, `RANGE` where the packet is no page, and `LENGTH` where there is too little room.

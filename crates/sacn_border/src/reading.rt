@@ -1,11 +1,11 @@
 //! What a datagram is read as, and the status of one that is no packet.
 ghost use Rattle.std.specs.Prelude.{◌≡◌, IfOk, Ok};
-ghost use Rattle.sacn_framing.specs.PacketReading.{reading_packet};
-ghost use Rattle.sacn_framing.specs.PacketText.{Reads};
-ghost use Rattle.sacn_framing.specs.declared.packet.Packet.{Packet};
+ghost use Rattle.sacn_packets.specs.PacketReading.{reading_packet};
+ghost use Rattle.sacn_packets.specs.PacketText.{Reads};
+ghost use Rattle.sacn_packets.specs.declared.framing.packet.Packet.{Packet};
 ghost use Rattle.sacn_border.specs.Packets.{packet_or_status};
 
-use sacn_framing::{Packet, Reading, read_packet};
+use sacn_packets::{Packet, Reading, read_packet};
 
 /// What the octets are read as. Every call of this crate that takes a datagram reads it by this one, but a node's and a monitor's, which read it themselves.
 #[inline(always)]

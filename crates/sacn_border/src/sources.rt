@@ -1,7 +1,7 @@
 //! The sources of one universe.
 ghost use Rattle.std.specs.Prelude.{◌≡◌, ◌==◌, ◌<◌, ◌≤◌, ◌^◌, ◌-◌, ℕ, max, None, slice_index, IfOk, IfErr, IfSome, if◌then◌else◌};
 ghost use Rattle.std.specs.Option.{option_map};
-ghost use Rattle.sacn_framing.specs.PacketReading.{reading_packet};
+ghost use Rattle.sacn_packets.specs.PacketReading.{reading_packet};
 ghost use Rattle.sacn_sources.specs.LatestMerge.{new_kept, kept_after_expire, kept_after_merged};
 ghost use Rattle.sacn_sources.specs.Rows.{after_expire, row_of, rows_lost, slots_of};
 ghost use Rattle.sacn_sources.specs.declared.limits.TheConstants.{MAX_SOURCES};
@@ -15,7 +15,7 @@ use crate::held_value::Held;
 use crate::numbers::taken_number;
 use crate::reading::packet_at;
 use crate::status::{DONE, RANGE, WRONG_HANDLE};
-use sacn_framing::Packet;
+use sacn_packets::Packet;
 use sacn_slots::Levels;
 use sacn_sources::{HeldView, SourceTable, TableFault};
 use std::alloc::Global;

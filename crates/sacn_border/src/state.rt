@@ -1,7 +1,7 @@
 //! What a console tells of itself: its universes, and its cue.
 ghost use Rattle.std.specs.Prelude.{◌≡◌, [], slice_get};
 ghost use Rattle.std.specs.Option.{option_map};
-ghost use Rattle.sacn_universe.specs.Universe.{Rising};
+ghost use Rattle.sacn_packets.specs.Universe.{Rising};
 ghost use Rattle.sacn_console.specs.Core.{universes_of};
 ghost use Rattle.sacn_border.specs.Kinds.{of_console};
 ghost use Rattle.sacn_border.specs.Numbers.{found_status, found_or};

@@ -2,7 +2,7 @@
 ghost use Rattle.std.specs.Prelude.{◌≡◌, ◌+◌, is_some, true, false, None, Some, IfSome};
 ghost use Rattle.std.specs.FinMap as map;
 ghost use Rattle.std.specs.Option.{option_map};
-ghost use Rattle.sacn_framing.specs.PacketReading.{reading_packet};
+ghost use Rattle.sacn_packets.specs.PacketReading.{reading_packet};
 ghost use Rattle.sacn_discovery.specs.Lists.{forgotten as gone};
 ghost use Rattle.sacn_discovery.specs.Collection.{State, nothing_known, after_expire, known_list};
 ghost use Rattle.sacn_border.specs.Collecting.{after_reading, collect_status, collected, list_status, list_count, list_room, ShowsList};

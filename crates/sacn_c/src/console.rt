@@ -4,7 +4,7 @@ ghost use Rattle.std.specs.Option.{option_map};
 ghost use Rattle.std.specs.Str.{IsUtf8};
 ghost use Rattle.toml.specs.Parse.{parse_document};
 ghost use Rattle.sacn_cues.specs.Playing.{is_still};
-ghost use Rattle.sacn_universe.specs.Universe.{Rising};
+ghost use Rattle.sacn_packets.specs.Universe.{Rising};
 ghost use Rattle.sacn_console.specs.Core.{Core, IsLawful, after_command, after_poll, answer, at, due, over, universes_of};
 ghost use Rattle.sacn_console.specs.Lines.{Datagram};
 ghost use Rattle.sacn_console.specs.ShowReading.{show_or_toml};

@@ -1,12 +1,12 @@
 //! Packets, for C.
 ghost use Rattle.std.specs.Prelude.{◌≡◌, ◌↔◌, ◌≤◌, ◌==◌, ◌+◌, ◌-◌, ◌*◌, ◌%◌, ◌++◌, List, ℕ, length, take, drop, not, IfOk, IfErr, Ok, if◌then◌else◌};
-ghost use Rattle.sacn_framing.specs.Naming.{group_of};
+ghost use Rattle.sacn_packets.specs.Naming.{group_of};
 ghost use Rattle.sacn_sequence.specs.Sequence.{is_late, IsOutOfSequence};
-ghost use Rattle.sacn_framing.specs.FramingText.{nothing};
-ghost use Rattle.sacn_framing.specs.PacketReading.{reading_packet};
-ghost use Rattle.sacn_framing.specs.PacketText.{Reads, data_text, page_text, unused};
-ghost use Rattle.sacn_framing.specs.declared.packet.Packet.{Packet};
-ghost use Rattle.sacn_framing.specs.declared.packet.Packet.TheVariants.{DataPacket, PagePacket};
+ghost use Rattle.sacn_packets.specs.FramingText.{nothing};
+ghost use Rattle.sacn_packets.specs.PacketReading.{reading_packet};
+ghost use Rattle.sacn_packets.specs.PacketText.{Reads, data_text, page_text, unused};
+ghost use Rattle.sacn_packets.specs.declared.framing.packet.Packet.{Packet};
+ghost use Rattle.sacn_packets.specs.declared.framing.packet.Packet.TheVariants.{DataPacket, PagePacket};
 ghost use Rattle.sacn_discovery.specs.Pages.{numbers_on, page_of_list};
 ghost use Rattle.sacn_border.specs.Pages.{universes_status, universes_count, universes_room, IsPageOf};
 ghost use Rattle.sacn_border.specs.Packets.{packet_status, write_status, Tells, AskFor, fields_with, fields_after, ShowsFrame, bit_of, text_of, written};

@@ -1,7 +1,7 @@
 //! The sources of one universe, for C.
 ghost use Rattle.std.specs.Prelude.{◌≡◌, ◌==◌, ◌<◌, ◌≤◌, ◌^◌, ◌-◌, ℕ, max, is_some, true, Some, None, IfSome, slice_index, if◌then◌else◌};
 ghost use Rattle.std.specs.Option.{option_map};
-ghost use Rattle.sacn_framing.specs.PacketReading.{reading_packet};
+ghost use Rattle.sacn_packets.specs.PacketReading.{reading_packet};
 ghost use Rattle.sacn_sources.specs.LatestMerge.{new_kept, kept_after_expire, kept_after_merged};
 ghost use Rattle.sacn_sources.specs.Rows.{after_expire, row_of, rows_lost, slots_of};
 ghost use Rattle.sacn_sources.specs.declared.limits.TheConstants.{MAX_SOURCES};

@@ -3,7 +3,7 @@
 use sacn_cues::{FULL, MAX_CHANNELS, MAX_FADE};
 use sacn_files::limits::{MAX_UDP_PORT, MIN_UDP_PORT};
 use sacn_node::{MAX_PORT, MIN_PORT};
-use sacn_universe::{MAX_PRIORITY, MAX_UNIVERSE, MIN_UNIVERSE, SLOTS};
+use sacn_packets::{MAX_PRIORITY, MAX_UNIVERSE, MIN_UNIVERSE, SLOTS};
 
 /// The tables that have keys of their own.
 #[derive(Clone, Copy)]

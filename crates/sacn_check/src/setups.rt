@@ -6,7 +6,7 @@ use crate::refusal::Owner;
 use crate::rules::Wanted;
 use sacn_files::values::{byte_at, inner_rows, rows_at, short_at, value_in};
 use sacn_node::{MAX_PORT, MAX_PORTS, MAX_UNIVERSES, MIN_PORT, SetupFault};
-use sacn_universe::{MAX_UNIVERSE, MIN_UNIVERSE, SLOTS};
+use sacn_packets::{MAX_UNIVERSE, MIN_UNIVERSE, SLOTS};
 use std::alloc::{AllocError, Global};
 use std::collections::BTreeSet;
 use toml::{Table, Value};

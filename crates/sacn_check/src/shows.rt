@@ -10,8 +10,8 @@ use sacn_cues::MAX_CUES;
 use sacn_files::values::{
     array_at, array_values, number_in, rows_at, short_at, value_at, value_in,
 };
+use sacn_packets::MAX_UNIVERSE;
 use sacn_patch::{Patch, PatchFault};
-use sacn_universe::MAX_UNIVERSE;
 use std::alloc::{AllocError, Global};
 use std::collections::BTreeSet;
 use toml::{Table, Value};

@@ -9,7 +9,7 @@ use sacn_check::ReportFault;
 use sacn_console::{ShowFault, TextFault};
 use sacn_edge::{SocketFailed, WriteFailed};
 use sacn_node::SetupFault;
-use sacn_root::PacketFault;
+use sacn_packets::PacketFault;
 use sacn_sources::TableFault;
 use sacn_text::{DecodeFault, ReadFault, SimFault};
 use sacn_world::{WorldFault, WorldTextFault};

@@ -7,13 +7,13 @@ use sacn_check::{FileKind, kind_of};
 use sacn_console::limits::CONSOLE_UNIVERSES;
 use sacn_console::{Command, ConsoleCore, Show, read_script, read_show};
 use sacn_edge::ConsoleReport;
-use sacn_framing::multicast_group;
 use sacn_live::limits::{MAX_ROUNDS, RECEIVE_ROOM};
 use sacn_live::{
     DISCOVERY_UNIVERSE, DeskLink, DeskOrders, DeskSender, Destinations, Lines, Opening, Origin,
     Outputs, Plan, RigClock, guard_standard_descriptors, run_desk,
 };
 use sacn_node::{NodeSetup, read_node};
+use sacn_packets::multicast_group;
 use sacn_words::DeskAsked;
 use std::alloc::Global;
 use std::env::{self, Env};

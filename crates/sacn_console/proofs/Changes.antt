@@ -9,12 +9,12 @@ use Rattle.std.specs.List.Sorted.{IsStrictlyIncreasing}
 use Rattle.sacn_cues.specs.Playing.{Played, moved, refusal}
 use Rattle.sacn_cues.specs.Playing as play
 use Rattle.sacn_cues.specs.declared.fault.PlayFault.{PlayFault}
-use Rattle.sacn_universe.specs.Universe.{IsUniverse}
+use Rattle.sacn_packets.specs.Universe.{IsUniverse}
 use Rattle.sacn_console.specs.Lights.{Lights, frame, player_command, console_fault, play_answer, console_answer}
 use Rattle.sacn_console.specs.declared.limits.TheConstants.{TERMINATIONS}
 use Rattle.sacn_console.proofs.Frames.{settled}
 use Rattle.sacn_console.specs.Lines.{Page, Packet, Paged, Gave, Accepted, line_in, is_stopped, line_sent, line_after}
-use Rattle.sacn_universe.specs.Universe.{Rising}
+use Rattle.sacn_packets.specs.Universe.{Rising}
 use Rattle.sacn_console.specs.Core.{Core, CoreOk, taken, answer, is_of, end_answer, start_answer, universes_of, packet_with, packet_of, packet_at, packet_text, line_at, no_line, standing, after, over, size, due_datagram}
 use Rattle.sacn_console.specs.declared.console.DueDatagram.{DueDatagram}
 use Rattle.sacn_console.specs.declared.line.Begun.{Begun}

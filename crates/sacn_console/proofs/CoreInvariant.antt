@@ -1,7 +1,7 @@
 -- A core keeps what is asked of the list of deeds, and its steps keep it so.
 use Rattle.std.proofs.Common.{◌≡◌, ℕ, ◌+◌, ◌-◌, ◌%◌, ◌<◌, max, Bool, true, false, not, ◌&&◌, ◌==◌, cond, nat_lt, nat_le, if◌then◌else◌, List, [], ◌∷◌, length, map, filter, find, Option, Some, None, Result, Ok, Err, suc, zero, refl, arith, ap, sym, ◌∙◌}
 use Rattle.std.specs.Option.{option_map}
-use Rattle.sacn_framing.specs.Data.{Data}
+use Rattle.sacn_packets.specs.Data.{Data}
 use Rattle.sacn_patch.specs.Patch.{universe_frame}
 use Rattle.sacn_cues.specs.Playing.{Played, moved, level_mastered}
 use Rattle.sacn_cues.specs.Playing as play

@@ -5,10 +5,10 @@ use Rattle.std.specs.Option.{option_map}
 use Rattle.std.specs.List.{AllByRecursion}
 use Rattle.std.proofs.lemmas.Bool.{ltb-true}
 use Rattle.std.proofs.lemmas.Option.{same_Some}
-use Rattle.sacn_framing.specs.Data.{IsData}
-use Rattle.sacn_framing.specs.Page.{IsPage}
+use Rattle.sacn_packets.specs.Data.{IsData}
+use Rattle.sacn_packets.specs.Page.{IsPage}
 use Rattle.sacn_discovery.specs.Pages.{page_count, page_of_list}
-use Rattle.sacn_universe.specs.Universe.{IsUniverse}
+use Rattle.sacn_packets.specs.Universe.{IsUniverse}
 use Rattle.sacn_console.specs.Lights.{Lights}
 use Rattle.sacn_console.specs.Lines.{Page, Datagram, Paged, line_due, is_stopped}
 use Rattle.sacn_console.specs.Core.{Core, IsLawful, at, due, due_by, line_found, page_by, page_due, standing, packet_with, packet_of, universes_of}

@@ -2,10 +2,10 @@
 use Rattle.std.proofs.Common.{◌≡◌, ℕ, ◌<◌, ◌≤◌, Bool, true, false, if◌then◌else◌, List, [], ◌∷◌, get_or, length, find, Option, Some, None, suc, zero, refl, arith, ap, sym, ◌∙◌}
 use Rattle.std.specs.List.{AllByRecursion}
 use Rattle.std.proofs.lemmas.List.Kept.{AllPairs-from_increasing}
-use Rattle.sacn_framing.specs.Data.{Data}
+use Rattle.sacn_packets.specs.Data.{Data}
 use Rattle.std.specs.Option.{option_map}
 use Rattle.sacn_console.specs.Lines.{Page, Packet, Paged, Deed}
-use Rattle.sacn_universe.specs.Universe.{Rising}
+use Rattle.sacn_packets.specs.Universe.{Rising}
 use Rattle.sacn_console.specs.Due.{Life, universe_due, due_with, due_by_list, packet_by}
 use Rattle.sacn_console.specs.Least.{IsLeastDue, LeastGoesFirst}
 use Rattle.sacn_console.proofs.Openings.{rises}

@@ -1,6 +1,6 @@
 -- The packets of a life are numbered in turn.
 use Rattle.std.proofs.Common.{◌≡◌, ℕ, max, Bool, true, false, ◌==◌, if◌then◌else◌, List, [], ◌∷◌, find, Option, Some, None, Result, Ok, Err, refl, ap, sym, ◌∙◌}
-use Rattle.sacn_framing.specs.Data.{Data}
+use Rattle.sacn_packets.specs.Data.{Data}
 use Rattle.sacn_console.specs.Lines.{Page, Datagram, Packet, Paged, Deed}
 use Rattle.sacn_console.specs.Due.{Life, packets, number_by, packet_by, due_with, due_by_list, answer_by_list, universe_due}
 use Rattle.sacn_console.specs.Runs.{Call, Order, Poll, with_order, with_datagram, deeds_after, IsNumbered, PacketsAreNumbered}

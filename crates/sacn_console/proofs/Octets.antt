@@ -1,8 +1,8 @@
 -- The octets of a packet in the datagram's buffer.
 use Rattle.std.proofs.Common.{◌≡◌, ℕ, ◌≤◌, Bool, false, List, [], ◌∷◌, ◌++◌, length, take, drop, refl, suc, zero, append-nil, arith, ap, ◌∙◌}
-use Rattle.sacn_framing.specs.Data.{Data}
-use Rattle.sacn_framing.specs.FramingText.{nothing}
-use Rattle.sacn_framing.specs.PacketText.{data_text}
+use Rattle.sacn_packets.specs.Data.{Data}
+use Rattle.sacn_packets.specs.FramingText.{nothing}
+use Rattle.sacn_packets.specs.PacketText.{data_text}
 use Rattle.sacn_console.specs.Core.{packet_text, packet_with}
 use Rattle.sacn_console.specs.Lines.{is_ending}
 use Rattle.sacn_console.specs.declared.sender.Sender.{Sender}

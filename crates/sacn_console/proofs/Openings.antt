@@ -3,7 +3,7 @@ use Rattle.std.proofs.Common.{◌≡◌, ℕ, ◌+◌, ◌%◌, ◌<◌, ◌≤�
 use Rattle.std.proofs.lemmas.List.{length-map}
 use Rattle.std.specs.List.{AllByRecursion, AllPairs}
 use Rattle.std.proofs.lemmas.List.Kept.{AllPairs-from_increasing}
-use Rattle.sacn_universe.specs.Universe.{Rising}
+use Rattle.sacn_packets.specs.Universe.{Rising}
 use Rattle.sacn_console.specs.Core.{universes_of}
 use Rattle.sacn_console.specs.Wakes.{Sound, Waking, awake}
 use Rattle.sacn_console.specs.Shows.{ShowContent, ShowOk}

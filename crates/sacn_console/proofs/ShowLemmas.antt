@@ -8,14 +8,14 @@ use Rattle.std.proofs.lemmas.Bool.{and_parts}
 use Rattle.std.proofs.lemmas.List.Elements.{All-from_recursion, recursion_from_All}
 use Rattle.std.proofs.lemmas.List.Sorted.{All-permutation, length_permutation}
 use Rattle.toml.specs.Data.{Data, string, integer, float, boolean, datetime, array, table}
-use Rattle.sacn_universe.specs.declared.limits.TheConstants.{MAX_UNIVERSE}
+use Rattle.sacn_packets.specs.declared.universe.TheConstants.{MAX_UNIVERSE}
 use Rattle.sacn_files.specs.Values.{number_in}
 use Rattle.sacn_files.specs.Rows.{each}
 use Rattle.sacn_files.specs.Numbers.{has_repeat, in_order}
 use Rattle.sacn_files.proofs.AscentLemmas.{in_order_rises, in_order_keeps}
 use Rattle.sacn_console.specs.declared.limits.TheConstants.{CONSOLE_UNIVERSES, MAX_DESTINATIONS}
 use Rattle.sacn_files.specs.declared.limits.TheConstants.{MIN_UDP_PORT, MAX_UDP_PORT}
-use Rattle.sacn_universe.specs.Universe.{IsUniverse}
+use Rattle.sacn_packets.specs.Universe.{IsUniverse}
 use Rattle.sacn_console.specs.Shows.{AreUniverses}
 use Rattle.sacn_console.specs.ShowReading.{required}
 

@@ -2,15 +2,15 @@
 use Rattle.std.specs.Prelude.{◌≡◌, ℕ, ◌+◌, ◌-◌, ◌*◌, max, Bool, false, not, ◌==◌, nat_lt, nat_le, if◌then◌else◌, List, ◌++◌, map, filter, find, length, drop, Option, Some, None, Result, Ok, Err, ◌<◌, ◌≤◌, slice_index_or}
 use Rattle.std.specs.Option.{option_map}
 use Rattle.std.specs.List.{AllByRecursion}
-use Rattle.sacn_framing.specs.Data.{Data, IsData}
-use Rattle.sacn_framing.specs.Page.{IsPage}
-use Rattle.sacn_framing.specs.FramingText.{nothing}
-use Rattle.sacn_framing.specs.PacketText.{data_text, page_text, unused}
+use Rattle.sacn_packets.specs.Data.{Data, IsData}
+use Rattle.sacn_packets.specs.Page.{IsPage}
+use Rattle.sacn_packets.specs.FramingText.{nothing}
+use Rattle.sacn_packets.specs.PacketText.{data_text, page_text, unused}
 use Rattle.sacn_discovery.specs.Pages.{page_count, page_of_list, numbers_on}
 use Rattle.sacn_cues.specs.Playing.{refusal}
 use Rattle.sacn_cues.specs.Playing as play
 use Rattle.sacn_console.specs.Lights.{Lights, frame, lights_at, player_command, lights_by_command, play_answer}
-use Rattle.sacn_universe.specs.Universe.{IsUniverse, IsPriority, Rising}
+use Rattle.sacn_packets.specs.Universe.{IsUniverse, IsPriority, Rising}
 use Rattle.sacn_console.specs.declared.limits.TheConstants.{CONSOLE_UNIVERSES, DISCOVERY_INTERVAL}
 use Rattle.sacn_console.specs.Lines.{Page, Datagram, Packet, Paged, Deed, Accepted, Gave, line_due, line_after, is_ending, is_stopped}
 use Rattle.sacn_console.specs.declared.console.DueDatagram.{DueDatagram}

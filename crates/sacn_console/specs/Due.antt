@@ -1,7 +1,7 @@
 -- The datagram of a poll, by the list of earlier commands and sent datagrams of this life alone. The lists have the latest first.
 use Rattle.std.specs.Prelude.{ℕ, ◌+◌, ◌*◌, ◌/◌, ◌%◌, Bool, true, false, not, ◌&&◌, ◌||◌, ◌==◌, nat_lt, if◌then◌else◌, List, [], ◌∷◌, filter, find, length, Option, Some, None, Result, Ok, Err}
 use Rattle.std.specs.Option.{option_map}
-use Rattle.sacn_framing.specs.Data.{Data}
+use Rattle.sacn_packets.specs.Data.{Data}
 use Rattle.sacn_patch.specs.Patch.{Patched, universe_frame}
 use Rattle.sacn_cues.specs.Cues.{Cues}
 use Rattle.sacn_cues.specs.Playing.{refusal}
@@ -11,7 +11,7 @@ use Rattle.sacn_cues.specs.declared.limits.TheConstants.{FULL}
 use Rattle.sacn_console.specs.Lights.{player_command, play_answer}
 use Rattle.sacn_console.specs.Shows.{ShowContent}
 use Rattle.sacn_console.specs.declared.limits.TheConstants.{MIN_GAP, KEEP_ALIVE, REPEATS, TERMINATIONS}
-use Rattle.sacn_framing.specs.Naming.{padded}
+use Rattle.sacn_packets.specs.Naming.{padded}
 use Rattle.sacn_console.specs.Lines.{Datagram, Packet, Paged, Deed, Accepted, Gave, same, has_passed}
 use Rattle.sacn_console.specs.Core.{page_by}
 use Rattle.sacn_console.specs.declared.sender.Sender.{Sender}

@@ -1,7 +1,7 @@
 -- The least-numbered due universe goes first.
 use Rattle.std.specs.Prelude.{◌≡◌, ℕ, ◌<◌, ◌≤◌, true, List, get_or, length, Some}
 use Rattle.std.specs.List.Sorted.{IsStrictlyIncreasing}
-use Rattle.sacn_framing.specs.Data.{Data}
+use Rattle.sacn_packets.specs.Data.{Data}
 use Rattle.sacn_console.specs.Lines.{Packet, Deed}
 use Rattle.sacn_console.specs.Due.{Life, universe_due, due_by_list}
 

@@ -2,7 +2,7 @@
 use Rattle.std.specs.Prelude.{ℕ, ◌+◌, ◌-◌, ◌%◌, Bool, true, false, not, ◌&&◌, ◌||◌, ◌==◌, nat_lt, nat_le, if◌then◌else◌, List, Option, Some, None}
 use Rattle.std.specs.Cmp.Lexicographic.{pointwise}
 use Rattle.std.specs.Bool.{nat_eq}
-use Rattle.sacn_framing.specs.Data.{Data}
+use Rattle.sacn_packets.specs.Data.{Data}
 use Rattle.sacn_console.specs.Lights.{Lights, frame}
 use Rattle.sacn_console.specs.declared.limits.TheConstants.{MIN_GAP, KEEP_ALIVE, REPEATS, TERMINATIONS}
 use Rattle.sacn_console.specs.declared.command.Command.{Command}

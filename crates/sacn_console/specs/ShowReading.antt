@@ -4,17 +4,17 @@ use Rattle.std.specs.List.{list_any}
 use Rattle.std.specs.FinMap.{empty}
 use Rattle.toml.specs.Data.{Data, Members, get_member, as_str, as_bool}
 use Rattle.uuid.specs.Text.{parsed}
-use Rattle.sacn_framing.specs.Naming.{is_nameable}
-use Rattle.sacn_universe.specs.declared.limits.TheConstants.{MAX_PRIORITY}
+use Rattle.sacn_packets.specs.Naming.{is_nameable}
+use Rattle.sacn_packets.specs.declared.universe.TheConstants.{MAX_PRIORITY}
 use Rattle.sacn_patch.specs.Patch.{Patched, with_slot, refusal}
 use Rattle.sacn_patch.specs.declared.fault.PatchFault.{PatchFault}
 use Rattle.sacn_patch.specs.declared.fault.PatchFault.TheVariants as patch
-use Rattle.sacn_universe.specs.declared.limits.TheConstants.{MAX_UNIVERSE}
+use Rattle.sacn_packets.specs.declared.universe.TheConstants.{MAX_UNIVERSE}
 use Rattle.sacn_cues.specs.Adding.{cue_refusal, with_cue}
 use Rattle.sacn_cues.specs.Cues.{Cues, KeptCue}
 use Rattle.sacn_cues.specs.declared.fault.CueFault.{CueFault}
 use Rattle.sacn_cues.specs.declared.fault.CueFault.TheVariants as cue
-use Rattle.sacn_universe.specs.Results.{◌>>=◌}
+use Rattle.sacn_packets.specs.Results.{◌>>=◌}
 use Rattle.sacn_files.specs.Keys.{KeyTable, has_known_keys, has_keys, rows_are_known, rows_have_keys}
 use Rattle.sacn_files.specs.Values.{rows_at, has_rows, number_in, number_at, array_values, array_at, members_or_none, value_or}
 use Rattle.sacn_files.specs.Rows.{each}

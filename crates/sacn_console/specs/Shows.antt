@@ -3,9 +3,9 @@ use Rattle.std.specs.Prelude.{◌≡◌, ℕ, ◌≤◌, true, List, length}
 use Rattle.std.specs.List.{AllByRecursion}
 use Rattle.std.specs.List.Sorted.{IsStrictlyIncreasing}
 use Rattle.sacn_patch.specs.Patch.{Patched}
-use Rattle.sacn_universe.specs.Universe.{IsUniverse, IsPriority}
+use Rattle.sacn_packets.specs.Universe.{IsUniverse, IsPriority}
 use Rattle.sacn_cues.specs.Cues.{Cues}
-use Rattle.sacn_framing.specs.Naming.{is_nameable}
+use Rattle.sacn_packets.specs.Naming.{is_nameable}
 use Rattle.sacn_console.specs.declared.limits.TheConstants.{CONSOLE_UNIVERSES, MAX_DESTINATIONS}
 
 pub record ShowContent : Type 0 where

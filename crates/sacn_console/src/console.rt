@@ -70,7 +70,7 @@ impl ConsoleCore {
     ghost use Rattle.sacn_console.specs.Lights.{frame};
     ghost use Rattle.sacn_console.specs.Due.{life_of};
     ghost use Rattle.sacn_console.specs.Runs.{core_by};
-    ghost use Rattle.sacn_universe.specs.Universe.{Rising};
+    ghost use Rattle.sacn_packets.specs.Universe.{Rising};
     ghost use Rattle.sacn_console.specs.Core.{Core, universes_of, taken, is_of, end_answer, start_answer, line_found, line_at, packet_at, page_due, standing, due, due_datagram, IsLawful, at, after, after_poll, after_command, given, answer, over, size, text};
     ghost use Rattle.sacn_console.specs.Lines.{line_in, Datagram, Packet, Paged, Gave, Accepted, Page};
     ghost use Rattle.sacn_console.specs.declared.line.UniverseLine.{UniverseLine as KeptLine};

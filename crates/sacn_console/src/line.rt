@@ -11,8 +11,8 @@ ghost use Rattle.sacn_console.specs.declared.limits.TheConstants as limits;
 use crate::command::ConsoleFault;
 use crate::limits::{KEEP_ALIVE, MIN_GAP, REPEATS};
 use sacn_cues::PlayerAt;
+use sacn_packets::SLOTS;
 use sacn_patch::FlatPatch;
-use sacn_universe::SLOTS;
 
 /// The frame of the latest packet, and how many repeats of it are owed.
 #[derive(Clone, Copy)]

@@ -14,8 +14,8 @@ use crate::line::{Look, State, UniverseLine};
 use crate::waking::Wakes;
 use arrayvec::ArrayVec;
 use sacn_cues::PlayerAt;
+use sacn_packets::SLOTS;
 use sacn_patch::FlatPatch;
-use sacn_universe::SLOTS;
 use std::alloc::{AllocError, Global};
 
 /// Where the first due universe stands; its frame is then in `slots`. A universe is looked at only

@@ -36,7 +36,7 @@ pub struct Show {
 
 impl Model for Show {
     ghost use Rattle.std.specs.Prelude.{◌≡◌, string_bytes};
-    ghost use Rattle.sacn_framing.specs.Naming.{padded};
+    ghost use Rattle.sacn_packets.specs.Naming.{padded};
     ghost use Rattle.sacn_console.specs.Shows.{ShowContent, ShowOk};
     ghost use Rattle.std.specs.Coded.{codes};
     ghost use Rattle.sacn_patch.specs.Patch.{patch_code};
@@ -55,8 +55,8 @@ impl Show {
     ghost use Rattle.std.specs.Prelude.{◌≤◌, true, length};
     ghost use Rattle.std.specs.List.{AllByRecursion};
     ghost use Rattle.std.specs.List.Sorted.{IsStrictlyIncreasing};
-    ghost use Rattle.sacn_framing.specs.Naming.{padded, is_nameable};
-    ghost use Rattle.sacn_universe.specs.Universe.{IsUniverse};
+    ghost use Rattle.sacn_packets.specs.Naming.{padded, is_nameable};
+    ghost use Rattle.sacn_packets.specs.Universe.{IsUniverse};
     ghost use Rattle.sacn_console.specs.Shows.{ShowContent, ShowOk};
     ghost use Rattle.sacn_console.specs.declared.limits.TheConstants.{CONSOLE_UNIVERSES, MAX_DESTINATIONS};
 

@@ -2,13 +2,13 @@
 use Rattle.std.proofs.Common.{◌≡◌, ℕ, zero, suc, ◌+◌, ◌*◌, ◌<◌, List, [], ◌∷◌, ◌++◌, length, get_or, take, drop, min, ◌-◌, refl, sym, ap, ◌∙◌, append_assoc, arith}
 use Rattle.std.specs.Int.{w16, w32, to_be_bytes}
 use Rattle.std.proofs.lemmas.List.{length-append, length-take, length-drop, take_min}
-use Rattle.sacn_root.specs.RootText.{root_head, flags_and_length}
-use Rattle.sacn_framing.specs.Page.{Page}
-use Rattle.sacn_framing.specs.PageText.{numbers_text, discovery_text, page_framing_text}
-use Rattle.sacn_framing.specs.PacketText.{page_layer}
-use Rattle.sacn_framing.proofs.Numbers.{length_text}
-use Rattle.sacn_framing.proofs.PageLaws.{length_page_text}
-use Rattle.sacn_framing.specs.PacketText.{page_text, unused}
+use Rattle.sacn_packets.specs.RootText.{root_head, flags_and_length}
+use Rattle.sacn_packets.specs.Page.{Page}
+use Rattle.sacn_packets.specs.PageText.{numbers_text, discovery_text, page_framing_text}
+use Rattle.sacn_packets.specs.PacketText.{page_layer}
+use Rattle.sacn_packets.proofs.Numbers.{length_text}
+use Rattle.sacn_packets.proofs.PageLaws.{length_page_text}
+use Rattle.sacn_packets.specs.PacketText.{page_text, unused}
 use Rattle.sacn_discovery.specs.Pages.{page_head}
 
 pub numbers_more : (xs : List ℕ) (i : ℕ) → i < length xs → numbers_text (take i xs) ++ to_be_bytes w16 (get_or xs i 0) ≡ numbers_text (take (i + 1) xs)

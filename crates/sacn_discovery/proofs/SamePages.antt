@@ -6,7 +6,7 @@ use Rattle.std.specs.FinMap.{get, get-insert}
 use Rattle.std.specs.Option.{option_map}
 use Rattle.std.proofs.lemmas.List.{get_or-map, set-get_or}
 use Rattle.std.proofs.Math.Dec.{eqb_refl}
-use Rattle.sacn_framing.specs.Page.{Page}
+use Rattle.sacn_packets.specs.Page.{Page}
 use Rattle.sacn_discovery.specs.Collection.{Known, State, after_acceptance, ascending, goes_on, joined, known_list, list_for, list_in, one_more, with_page}
 use Rattle.sacn_discovery.specs.SourceViews.{pages_of}
 use Rattle.sacn_discovery.specs.Storage.{HoldsPage}

@@ -7,7 +7,7 @@ use Rattle.std.specs.Cmp.Lexicographic.{slice_cmp}
 use Rattle.std.specs.FinMap.{FinMap, get, insert, entries, from_sorted}
 use Rattle.std.specs.FinMap as finmap
 use Rattle.std.specs.Coded.{Coded, code_by, coded×, coded_ℕ, coded_list, coded_option}
-use Rattle.sacn_framing.specs.Page.{Page}
+use Rattle.sacn_packets.specs.Page.{Page}
 use Rattle.sacn_discovery.specs.declared.limits.TheConstants.{FORGOTTEN_AFTER}
 
 -- what is kept of one CID: by page number the latest copy, where one came

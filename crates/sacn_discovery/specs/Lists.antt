@@ -5,7 +5,7 @@ use Rattle.std.specs.Option.{option_map}
 use Rattle.std.specs.Ordering.{nat_cmp, eq_by_cmp}
 use Rattle.std.specs.Cmp.Lexicographic.{slice_cmp}
 use Rattle.std.specs.FinMap.{get, len}
-use Rattle.sacn_framing.specs.Page.{Page}
+use Rattle.sacn_packets.specs.Page.{Page}
 use Rattle.sacn_discovery.specs.declared.limits.TheConstants.{FORGOTTEN_AFTER}
 use Rattle.sacn_discovery.specs.Collection.{State, nothing_known, after_expire, after_take, ascending, joined, known_list}
 

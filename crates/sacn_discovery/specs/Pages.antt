@@ -1,9 +1,9 @@
 -- The pages of a list of universes (E1.31, 8).
 use Rattle.std.specs.Prelude.{◌≡◌, ℕ, zero, suc, ◌+◌, ◌-◌, ◌*◌, ◌/◌, List, [], ◌∷◌, ◌++◌, length, take, drop, ◌==◌, if◌then◌else◌}
 use Rattle.std.specs.Int.{w32, to_be_bytes}
-use Rattle.sacn_root.specs.RootText.{flags_and_length}
-use Rattle.sacn_framing.specs.Page.{Page}
-use Rattle.sacn_framing.specs.PacketText.{unused}
+use Rattle.sacn_packets.specs.RootText.{flags_and_length}
+use Rattle.sacn_packets.specs.Page.{Page}
+use Rattle.sacn_packets.specs.PacketText.{unused}
 
 -- one page of an empty list, else n divided by 512, rounded up
 abbrev pub page_count : ℕ → ℕ

@@ -9,7 +9,7 @@ ghost use Rattle.sacn_discovery.specs.declared.source_pages.Standing.TheVariants
 use crate::fault::DiscoveryFault;
 use crate::limits::FORGOTTEN_AFTER;
 use crate::source_pages::{SourcePages, Standing};
-use sacn_framing::PageView;
+use sacn_packets::PageView;
 use std::alloc::{AllocError, Global};
 use std::collections::BTreeMap;
 use std::marker::Model;

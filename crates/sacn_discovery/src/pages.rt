@@ -1,19 +1,20 @@
 //! The pages of a list of universes (E1.31, 6.4 and 8).
 
 ghost use Rattle.std.specs.Prelude.{◌≡◌, ℕ, ◌+◌, ◌*◌, ◌-◌, ◌<◌, ◌≤◌, List, ◌++◌, length, drop, take, Ok};
-ghost use Rattle.sacn_framing.specs.PacketReading.{reading_packet};
-ghost use Rattle.sacn_framing.specs.PageText.{numbers_text};
-ghost use Rattle.sacn_framing.specs.PacketText.{page_text, unused};
-ghost use Rattle.sacn_framing.specs.declared.packet.Packet.TheVariants.{PagePacket};
+ghost use Rattle.sacn_packets.specs.PacketReading.{reading_packet};
+ghost use Rattle.sacn_packets.specs.PageText.{numbers_text};
+ghost use Rattle.sacn_packets.specs.PacketText.{page_text, unused};
+ghost use Rattle.sacn_packets.specs.declared.framing.packet.Packet.TheVariants.{PagePacket};
 ghost use Rattle.sacn_discovery.specs.Pages.{page_count, numbers_on, page_of_list, page_head};
 ghost use Rattle.std.specs.List.Sorted.{IsStrictlyIncreasing};
 
-use sacn_framing::layout::{
+use sacn_packets::framing::layout::{
     DISCOVERY_AT, LAST_PAGE_AT, LIST_VECTOR_AT, NAME_AT, PAGE_AT, UNIVERSES_AT, VECTOR_AT,
 };
-use sacn_framing::{DISCOVERY_VECTOR, LIST_VECTOR, PAGE_NUMBERS};
-use sacn_root::layout::BODY_AT;
-use sacn_root::{EXTENDED_VECTOR, pdu_field, put, write_root};
+use sacn_packets::root::layout::BODY_AT;
+use sacn_packets::{
+    DISCOVERY_VECTOR, EXTENDED_VECTOR, LIST_VECTOR, PAGE_NUMBERS, pdu_field, put, write_root,
+};
 
 /// Where the framing layer begins, and where the universe numbers do.
 const FRAMING_AT: usize = BODY_AT;

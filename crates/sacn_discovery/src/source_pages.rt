@@ -9,7 +9,7 @@ ghost use Rattle.sacn_discovery.specs.declared.source_pages.Standing.TheVariants
 ghost use Rattle.sacn_discovery.specs.Collection.{first_page, one_more, is_fresh, ascending, joined, list_in, other_than};
 
 use crate::limits::FORGOTTEN_AFTER;
-use sacn_framing::PageView;
+use sacn_packets::PageView;
 use std::alloc::{AllocError, Global};
 use std::marker::Model;
 

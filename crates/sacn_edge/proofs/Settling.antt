@@ -1,6 +1,6 @@
 -- After a turn's call at a moment, nothing more is lost at it.
 use Rattle.std.proofs.Common.{◌≡◌, ℕ}
-use Rattle.sacn_framing.specs.PacketReading.{reading_packet}
+use Rattle.sacn_packets.specs.PacketReading.{reading_packet}
 use Rattle.sacn_node.specs.Cores.{Core, core_at}
 use Rattle.sacn_node.specs.Calls.{core_step}
 use Rattle.sacn_node.proofs.Settled.{expired, reading_settled}

@@ -6,7 +6,7 @@ ghost use Rattle.sacn_edge.specs.NodeText.{FrameLine, line_text};
 use crate::digits::write_digits;
 use arrayvec::ArrayVec;
 use itoa::Buffer;
-use sacn_universe::FRAME_OCTETS;
+use sacn_packets::FRAME_OCTETS;
 
 /// Two digits for each octet of a frame.
 const FRAME_DIGITS: usize = 1026;

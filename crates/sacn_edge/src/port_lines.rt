@@ -7,7 +7,7 @@ use crate::line::line_of;
 use crate::out::Out;
 use crate::text::{WriteFailed, write_text};
 use sacn_node::PortFrame;
-use sacn_universe::FRAME_OCTETS;
+use sacn_packets::FRAME_OCTETS;
 
 /// Writes the line of a port, where the latest look found another frame than the one before.
 fn write_port<O: Out>(out: &mut O, moment: u64, port: &PortFrame) -> Result<(), WriteFailed>

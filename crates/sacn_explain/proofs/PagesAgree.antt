@@ -12,7 +12,7 @@ use Rattle.std.proofs.lemmas.List.Quantifiers.{position-Some}
 use Rattle.std.proofs.lemmas.Map.Text.{is_eq-slice_cmp}
 use Rattle.std.proofs.lemmas.Option.{slice_get-get_or}
 use Rattle.std.proofs.lemmas.Slice.Eq.{bytes_eq-Decides}
-use Rattle.sacn_framing.specs.Page.{Page as PageFields}
+use Rattle.sacn_packets.specs.Page.{Page as PageFields}
 use Rattle.sacn_discovery.specs.Collection.{Known, State, after_expire, after_take, is_fresh, known_list, list_for, nothing_known, with_page}
 use Rattle.sacn_discovery.proofs.FreshSources.{get_fresh, unless_old}
 use Rattle.sacn_explain.specs.declared.listings.Listing.{Listing}

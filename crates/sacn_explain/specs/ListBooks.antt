@@ -3,10 +3,10 @@ use Rattle.std.specs.Prelude.{ℕ, Bool, false, ◌==◌, Option, None, Some, sl
 use Rattle.std.specs.Str.{bytes_eq}
 use Rattle.std.specs.List.{before_first, list_any, position}
 use Rattle.std.specs.Option.{option_and_then}
-use Rattle.sacn_root.specs.declared.fault.PacketFault.{PacketFault}
-use Rattle.sacn_framing.specs.declared.packet.Packet.{Packet}
-use Rattle.sacn_framing.specs.declared.packet.Packet.TheVariants.{DataPacket, PagePacket, SyncPacket}
-use Rattle.sacn_framing.specs.Page.{Page as PageFields}
+use Rattle.sacn_packets.specs.declared.root.fault.PacketFault.{PacketFault}
+use Rattle.sacn_packets.specs.declared.framing.packet.Packet.{Packet}
+use Rattle.sacn_packets.specs.declared.framing.packet.Packet.TheVariants.{DataPacket, PagePacket, SyncPacket}
+use Rattle.sacn_packets.specs.Page.{Page as PageFields}
 use Rattle.sacn_discovery.specs.Collection.{State, known_list}
 use Rattle.sacn_monitor.specs.Kinds.{more}
 use Rattle.sacn_explain.specs.declared.listings.Listings.{Listings}

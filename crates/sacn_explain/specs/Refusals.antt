@@ -1,7 +1,7 @@
 -- Why octets are no packet: what is said of each fault.
 use Rattle.std.specs.Prelude.{ℕ, List, codes}
-use Rattle.sacn_root.specs.declared.fault.PacketFault.{PacketFault}
-use Rattle.sacn_root.specs.declared.fault.PacketFault.TheVariants.{TooShort, Preamble, Postamble, Identifier, Flags, Length, RootVector, FramingVector, DmpVector, AddressType, FirstAddress, Increment, ValueCount, Priority, Universe, DiscoveryVector, PageRange, TooManyUniverses}
+use Rattle.sacn_packets.specs.declared.root.fault.PacketFault.{PacketFault}
+use Rattle.sacn_packets.specs.declared.root.fault.PacketFault.TheVariants.{TooShort, Preamble, Postamble, Identifier, Flags, Length, RootVector, FramingVector, DmpVector, AddressType, FirstAddress, Increment, ValueCount, Priority, Universe, DiscoveryVector, PageRange, TooManyUniverses}
 
 abbrev pub fault_words : PacketFault → List ℕ
 fault_words TooShort = codes "the octets end too early"

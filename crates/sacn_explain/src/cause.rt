@@ -4,8 +4,8 @@ ghost use Rattle.std.specs.Prelude.{◌≡◌, ◌++◌, OnOk, string_bytes};
 ghost use Rattle.sacn_explain.specs.Causes.{on_universe, by_words, cause_among, cause_words, by_members, cause_members, reason_of};
 
 use crate::{json, words};
-use sacn_framing::up_to_nul;
 use sacn_monitor::{Noted, Stream};
+use sacn_packets::up_to_nul;
 use std::alloc::AllocError;
 use std::fmt::Write;
 

@@ -5,7 +5,7 @@ ghost use Rattle.sacn_capture.specs.Frames.{sent_of};
 ghost use Rattle.sacn_capture.specs.Recordings.{recording};
 ghost use Rattle.sacn_capture.specs.Counting.{none_counted};
 ghost use Rattle.sacn_capture.specs.Streams.{counts_of, shown_of, to_come};
-ghost use Rattle.sacn_framing.specs.PacketReading.{reading_packet};
+ghost use Rattle.sacn_packets.specs.PacketReading.{reading_packet};
 ghost use Rattle.sacn_network.specs.Networks.{new_network};
 ghost use Rattle.sacn_explain.specs.Faults.{IsFaultOf, IsOfTelling};
 ghost use Rattle.sacn_explain.specs.Following.{IsTaken};

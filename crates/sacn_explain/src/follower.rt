@@ -1,7 +1,7 @@
 //! What happens, told as it happens.
 
 ghost use Rattle.std.specs.Prelude.{◌≡◌, ◌≤◌, ℕ, List, IfErr, IfNone, IfOk, IfSome, OnErr, OnOk, is_some, max, true};
-ghost use Rattle.sacn_framing.specs.PacketReading.{reading_packet};
+ghost use Rattle.sacn_packets.specs.PacketReading.{reading_packet};
 ghost use Rattle.sacn_monitor.specs.Books.{next_loss};
 ghost use Rattle.sacn_network.specs.Networks.{new_network};
 ghost use Rattle.sacn_explain.specs.Causes.{cause_among};
@@ -23,10 +23,10 @@ use crate::listings::{Listings, PageNews};
 use crate::options::Options;
 use crate::report::Report;
 use crate::stage::Stage;
-use sacn_framing::{Packet, Reading, read_packet};
 use sacn_monitor::{Endpoint, Noted, Stream, Tally};
 use sacn_network::{Network, Unobserved};
 use sacn_node::NodeSetup;
+use sacn_packets::{Packet, Reading, read_packet};
 use std::alloc::Global;
 use std::io::Write;
 

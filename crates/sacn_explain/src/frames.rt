@@ -11,7 +11,7 @@ use crate::options::Form;
 use crate::teller::Teller;
 use sacn_edge::line_of;
 use sacn_node::PortFrame;
-use sacn_universe::FRAME_OCTETS;
+use sacn_packets::FRAME_OCTETS;
 use std::io::Write;
 
 /// Tells the frames of these ports, each where the latest look found it new. `moment` is the node's,

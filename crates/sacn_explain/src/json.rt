@@ -7,8 +7,8 @@ mod foreign;
 
 use crate::spelling::{push_address, push_cid, push_decimal, push_name};
 pub use foreign::push_foreign;
-use sacn_framing::up_to_nul;
 use sacn_monitor::{Endpoint, Stream};
+use sacn_packets::up_to_nul;
 use std::alloc::AllocError;
 
 /// The front of an event's object: the moment and the event's key.

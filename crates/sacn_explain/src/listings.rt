@@ -10,7 +10,7 @@ ghost use Rattle.sacn_explain.specs.Lines.{kept_list};
 ghost use Rattle.sacn_explain.specs.ListsOfPages.{AgreeWithPages};
 
 use sacn_discovery::{Collector, DiscoveryFault};
-use sacn_framing::PageView;
+use sacn_packets::PageView;
 use std::alloc::Global;
 
 /// The most sources whose lists are kept. Pages of further sources are counted alone.

@@ -8,7 +8,7 @@ use crate::options::Form;
 use crate::refusals::fault_name;
 use crate::{json, words};
 use sacn_monitor::{Change, Endpoint, News, Stream, StreamEvent};
-use sacn_root::PacketFault;
+use sacn_packets::PacketFault;
 use std::alloc::AllocError;
 
 // The key of an event in JSON.

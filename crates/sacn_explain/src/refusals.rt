@@ -3,7 +3,7 @@
 ghost use Rattle.std.specs.Prelude.{◌≡◌};
 ghost use Rattle.sacn_explain.specs.Refusals.{fault_name, fault_words};
 
-use sacn_root::PacketFault;
+use sacn_packets::PacketFault;
 
 /// What is said of a fault: the text of its `Display`.
 pub fn fault_words(fault: PacketFault) -> &'static str

@@ -11,7 +11,7 @@ use crate::numbers::{push_numbers, push_ranges};
 use crate::options::Form;
 use crate::refusals::fault_name;
 use crate::spelling::push_left;
-use sacn_root::PacketFault;
+use sacn_packets::PacketFault;
 use std::alloc::AllocError;
 use std::fmt::Write;
 

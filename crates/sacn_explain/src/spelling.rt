@@ -8,7 +8,7 @@ use crate::places::{ROOM, SECONDS, put_address, put_port, put_seconds};
 use itoa::Buffer;
 use sacn_edge::write_digits;
 use sacn_monitor::Endpoint;
-use sacn_universe::SLOTS;
+use sacn_packets::SLOTS;
 use std::alloc::AllocError;
 use std::fmt::Write;
 use std::str;

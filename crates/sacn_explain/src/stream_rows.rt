@@ -7,8 +7,8 @@ use crate::options::Form;
 use crate::rows::push_column;
 use crate::spelling::{push_left, push_moment, push_sender};
 use crate::{json, words};
-use sacn_framing::up_to_nul;
 use sacn_monitor::{Stream, StreamState};
+use sacn_packets::up_to_nul;
 use std::alloc::AllocError;
 use std::fmt::Write;
 

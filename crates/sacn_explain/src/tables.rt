@@ -18,7 +18,7 @@ use crate::stream_rows::stream_row;
 use crate::teller::Teller;
 use crate::totals::counts_row;
 use sacn_monitor::{Monitor, Stream, Tally};
-use sacn_root::PacketFault;
+use sacn_packets::PacketFault;
 use std::alloc::{AllocError, Global};
 use std::io::Write;
 

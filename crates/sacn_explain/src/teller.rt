@@ -16,7 +16,7 @@ use crate::packet_lines::{
 };
 use sacn_monitor::{Change, Endpoint, News, Stream, StreamEvent};
 use sacn_node::PortFrame;
-use sacn_root::PacketFault;
+use sacn_packets::PacketFault;
 use std::alloc::Global;
 use std::io::Write;
 

@@ -6,9 +6,8 @@ ghost use Rattle.sacn_explain.specs.Sentences.{line_front, source_text, universe
 use crate::places::written_universe;
 use crate::refusals::fault_words;
 use crate::spelling::{push_ascii, push_cid, push_moment, push_name, push_sender};
-use sacn_framing::up_to_nul;
 use sacn_monitor::{Change, Endpoint, News, Stream, StreamEvent};
-use sacn_root::PacketFault;
+use sacn_packets::{PacketFault, up_to_nul};
 use std::alloc::AllocError;
 use std::fmt::Write;
 

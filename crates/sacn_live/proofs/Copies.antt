@@ -3,17 +3,17 @@ use Rattle.std.proofs.Common.{◌≡◌, ℕ, ◌+◌, Bool, true, false, ◌&&�
 use Rattle.std.specs.Int.{w16, w32, to_be_bytes}
 use Rattle.std.proofs.lemmas.List.{length-append}
 use Rattle.std.proofs.lemmas.Option.{same_Some}
-use Rattle.sacn_root.specs.declared.fault.PacketFault.{PacketFault}
-use Rattle.sacn_root.specs.RootText.{flags_and_length, root_head}
-use Rattle.sacn_root.proofs.Pieces.{IsBytes}
-use Rattle.sacn_framing.specs.Data.{Data}
-use Rattle.sacn_framing.specs.FramingText.{Ignored, framing_text, options}
-use Rattle.sacn_framing.specs.PacketText.{ReadsData, data_text, framing}
-use Rattle.sacn_framing.specs.PacketReading.{reading_packet}
-use Rattle.sacn_framing.specs.declared.packet.Packet.{Packet}
-use Rattle.sacn_framing.specs.declared.packet.Packet.TheVariants.{DataPacket, PagePacket, SyncPacket}
-use Rattle.sacn_framing.proofs.FramingLaws.{length_framing_text}
-use Rattle.sacn_framing.proofs.Packets.{packet_found, data_only}
+use Rattle.sacn_packets.specs.declared.root.fault.PacketFault.{PacketFault}
+use Rattle.sacn_packets.specs.RootText.{flags_and_length, root_head}
+use Rattle.sacn_packets.proofs.Pieces.{IsBytes}
+use Rattle.sacn_packets.specs.Data.{Data}
+use Rattle.sacn_packets.specs.FramingText.{Ignored, framing_text, options}
+use Rattle.sacn_packets.specs.PacketText.{ReadsData, data_text, framing}
+use Rattle.sacn_packets.specs.PacketReading.{reading_packet}
+use Rattle.sacn_packets.specs.declared.framing.packet.Packet.{Packet}
+use Rattle.sacn_packets.specs.declared.framing.packet.Packet.TheVariants.{DataPacket, PagePacket, SyncPacket}
+use Rattle.sacn_packets.proofs.FramingLaws.{length_framing_text}
+use Rattle.sacn_packets.proofs.Packets.{packet_found, data_only}
 use Rattle.sacn_live.specs.Groups.{universe_read}
 use Rattle.sacn_live.specs.Openings.{begins, begins_read, has_room, opening_copy, opening_number}
 

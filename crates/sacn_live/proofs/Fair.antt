@@ -3,7 +3,7 @@ use Rattle.std.proofs.Common.{◌≡◌, ◌==◌, ◌&&◌, ◌||◌, ◌+◌, 
 use Rattle.std.specs.List.{list_any}
 use Rattle.std.specs.Option.{option_map}
 use Rattle.std.proofs.lemmas.List.Sums.{sum_by-append}
-use Rattle.sacn_framing.specs.Data.{Data}
+use Rattle.sacn_packets.specs.Data.{Data}
 use Rattle.sacn_console.specs.declared.line.UniverseLine.{UniverseLine}
 use Rattle.sacn_console.specs.Lights.{Lights, lights_at}
 use Rattle.sacn_console.specs.Lines.{Page, Datagram, Packet, Paged, Gave, line_due, line_after, line_sent}

@@ -2,8 +2,8 @@
 use Rattle.std.proofs.Common.{◌≡◌, ◌≤◌, ℕ, ◌+◌, ◌*◌, List, [], ◌++◌, length, take, drop, Option, Some, None, refl, sym, ap, subst, ◌∙◌, arith}
 use Rattle.std.specs.Option.{option_map}
 use Rattle.std.proofs.lemmas.Option.{same_Some}
-use Rattle.sacn_framing.specs.PacketReading.{reading_packet}
-use Rattle.sacn_framing.proofs.Packets.{data_reads_back, page_reads_back}
+use Rattle.sacn_packets.specs.PacketReading.{reading_packet}
+use Rattle.sacn_packets.proofs.Packets.{data_reads_back, page_reads_back}
 use Rattle.sacn_discovery.specs.Pages.{page_of_list, numbers_on}
 use Rattle.sacn_console.specs.declared.sender.Sender.{Sender}
 use Rattle.sacn_console.specs.declared.console.DueDatagram.{DueDatagram}

@@ -1,7 +1,7 @@
 -- Which universes are due at a reading, and what the polls at it give.
 use Rattle.std.specs.Prelude.{◌≡◌, ◌==◌, ◌<◌, ◌≤◌, ◌&&◌, ℕ, zero, suc, ◌+◌, Bool, true, false, ⊤, if◌then◌else◌, List, [], ◌∷◌, ◌++◌, map, count_by, length, Option, None, Some}
 use Rattle.std.specs.List.{list_any}
-use Rattle.sacn_framing.specs.Data.{Data}
+use Rattle.sacn_packets.specs.Data.{Data}
 use Rattle.sacn_discovery.specs.Pages.{page_count}
 use Rattle.sacn_console.specs.Lines.{Datagram, Packet, Paged, line_due}
 use Rattle.sacn_console.specs.Core.{Core, at, due, text}

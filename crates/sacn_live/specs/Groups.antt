@@ -1,9 +1,9 @@
 -- Where a datagram goes by multicast (E1.31, 9.3).
 use Rattle.std.specs.Prelude.{ℕ, List, Option, None, Some, Ok, Err}
 use Rattle.std.specs.Option.{option_map}
-use Rattle.sacn_framing.specs.Naming.{group_of}
-use Rattle.sacn_framing.specs.PacketReading.{Reading}
-use Rattle.sacn_framing.specs.declared.packet.Packet.TheVariants.{DataPacket, PagePacket, SyncPacket}
+use Rattle.sacn_packets.specs.Naming.{group_of}
+use Rattle.sacn_packets.specs.PacketReading.{Reading}
+use Rattle.sacn_packets.specs.declared.framing.packet.Packet.TheVariants.{DataPacket, PagePacket, SyncPacket}
 use Rattle.sacn_live.specs.declared.destinations.TheConstants.{DISCOVERY_UNIVERSE}
 
 -- what is told of a datagram that is read so: of a data packet its universe, of a page that it has none; of others nothing

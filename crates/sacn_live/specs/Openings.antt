@@ -1,9 +1,9 @@
 -- How a desk opens the stream of a universe, so that it is taken whatever came before (E1.31, 6.7.2).
 use Rattle.std.specs.Prelude.{◌≡◌, ℕ, ◌+◌, ◌-◌, ◌%◌, ◌<◌, nat_le, nat_lt, Bool, true, false, not, ◌&&◌, List, [], ◌∷◌, length, get_or, replicate, set, Result, Ok, Err, if◌then◌else◌}
-use Rattle.sacn_root.specs.declared.fault.PacketFault.{PacketFault}
-use Rattle.sacn_framing.specs.PacketReading.{reading_packet}
-use Rattle.sacn_framing.specs.declared.packet.Packet.{Packet}
-use Rattle.sacn_framing.specs.declared.packet.Packet.TheVariants.{DataPacket, PagePacket, SyncPacket}
+use Rattle.sacn_packets.specs.declared.root.fault.PacketFault.{PacketFault}
+use Rattle.sacn_packets.specs.PacketReading.{reading_packet}
+use Rattle.sacn_packets.specs.declared.framing.packet.Packet.{Packet}
+use Rattle.sacn_packets.specs.declared.framing.packet.Packet.TheVariants.{DataPacket, PagePacket, SyncPacket}
 use Rattle.sacn_sequence.specs.Sequence.{is_late}
 use Rattle.sacn_console.specs.declared.limits.TheConstants.{MAX_DATAGRAM}
 use Rattle.sacn_edge.specs.ConsoleSends.{Handed}

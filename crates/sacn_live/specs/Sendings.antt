@@ -3,7 +3,7 @@ use Rattle.std.specs.Prelude.{◌≡◌, ℕ, Bool, not, All, List, [], ◌∷�
 use Rattle.std.specs.declared.net.socket_addr.SocketAddrV4.{SocketAddrV4}
 use Rattle.std.specs.Net.Socket.{v4_ip, v4_port}
 use Rattle.std.specs.Net.Addr.{ipv4_octets}
-use Rattle.sacn_framing.specs.PacketReading.{reading_packet}
+use Rattle.sacn_packets.specs.PacketReading.{reading_packet}
 use Rattle.sacn_files.specs.declared.limits.TheConstants.{DEFAULT_UDP_PORT}
 use Rattle.sacn_live.specs.declared.destinations.Destinations.{Destinations}
 use Rattle.sacn_live.specs.declared.destinations.Destinations.TheVariants.{Hosts, Groups}

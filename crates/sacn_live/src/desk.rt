@@ -1,6 +1,6 @@
 //! The desk's loop.
 ghost use Rattle.std.specs.Prelude.{◌≡◌, ◌≤◌, ◌<◌, ◌+◌, ◌-◌, ◌^◌, ◌++◌, ◌∷◌, [], List, ℕ, Bool, length, take, Some, None, is_ok, is_some, if◌then◌else◌};
-ghost use Rattle.sacn_framing.specs.PacketReading.{reading_packet};
+ghost use Rattle.sacn_packets.specs.PacketReading.{reading_packet};
 ghost use Rattle.sacn_console.specs.Core.{due, at, answer, after_command, after_poll};
 ghost use Rattle.sacn_console.specs.declared.command.Command.{Command as Order};
 ghost use Rattle.sacn_edge.specs.Additions.{Extends};

@@ -1,6 +1,6 @@
 //! A datagram of a desk.
 ghost use Rattle.std.specs.Prelude.{◌≡◌, Some};
-ghost use Rattle.sacn_framing.specs.PacketReading.{reading_packet};
+ghost use Rattle.sacn_packets.specs.PacketReading.{reading_packet};
 ghost use Rattle.sacn_live.specs.Groups.{universe_read};
 
 use std::marker::Model;
@@ -16,7 +16,7 @@ pub struct DeskDatagram<'a> {
 
 impl<'a> Model for DeskDatagram<'a> {
     ghost use Rattle.std.specs.Prelude.{◌≡◌, ℕ, List, Some};
-    ghost use Rattle.sacn_framing.specs.PacketReading.{reading_packet};
+    ghost use Rattle.sacn_packets.specs.PacketReading.{reading_packet};
     ghost use Rattle.sacn_live.specs.Groups.{universe_read};
 
     ghost Value = { List ℕ };

@@ -4,7 +4,7 @@ ghost use Rattle.sacn_live.specs.Groups.{group_told};
 ghost use Rattle.sacn_live.specs.Sendings.{IsGroupAddress};
 
 use sacn_files::limits::DEFAULT_UDP_PORT;
-use sacn_framing::multicast_group;
+use sacn_packets::multicast_group;
 use std::net::{Ipv4Addr, SocketAddrV4};
 
 /// The most hosts that a desk sends to.

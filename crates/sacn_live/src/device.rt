@@ -3,7 +3,7 @@ ghost use Rattle.std.specs.Prelude.{Option, None, List, [], ◌∷◌};
 ghost use Rattle.sacn_edge.specs.Additions.{Extends};
 ghost use Rattle.sacn_live.specs.declared.device.Offer.{Offer};
 
-use sacn_universe::FRAME_OCTETS;
+use sacn_packets::FRAME_OCTETS;
 use std::io::ErrorKind;
 
 /// The octets of a packet that sends a frame: four before it, and one after.

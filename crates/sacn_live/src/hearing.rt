@@ -12,8 +12,8 @@ use crate::backlog::Backlog;
 use crate::device::DeviceFault;
 use crate::receiver::{Arrival, Octets4, Receiver};
 use sacn_edge::BUFFER_OCTETS;
-use sacn_framing::{Reading, read_packet};
 use sacn_node::{NodeCore, NodeTaken, Showing};
+use sacn_packets::{Reading, read_packet};
 use std::net::{Ipv4Addr, SocketAddrV4};
 
 /// Why a datagram doesn't go to the node.

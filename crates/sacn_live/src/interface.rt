@@ -9,7 +9,7 @@ use crate::hearing::Notes;
 use crate::limits::{LATER_WAIT, REFRESH, RETRY};
 use crate::widget::{is_packet_of, widget_packet};
 use sacn_node::PortFrame;
-use sacn_universe::FRAME_OCTETS;
+use sacn_packets::FRAME_OCTETS;
 
 /// A device that shows the frames of a port, by its name, and the latest packet that it was offered.
 #[derive(Drop)]

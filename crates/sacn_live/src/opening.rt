@@ -3,7 +3,7 @@ ghost use Rattle.std.specs.Prelude.{◌≡◌, ◌≤◌, ◌<◌, ℕ, Bool, Li
 ghost use Rattle.std.specs.Result.{IfOk};
 ghost use Rattle.sacn_edge.specs.ConsoleSends.{Handed};
 ghost use Rattle.sacn_edge.specs.Hearings.{Hands};
-ghost use Rattle.sacn_framing.specs.PacketReading.{reading_packet};
+ghost use Rattle.sacn_packets.specs.PacketReading.{reading_packet};
 ghost use Rattle.sacn_live.specs.Groups.{universe_read};
 ghost use Rattle.sacn_live.specs.Openings.{IsHanded, begins, begins_by, begun_after, begun_by, begun_of, link_of, none_begun, opening_copy};
 

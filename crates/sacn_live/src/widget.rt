@@ -5,7 +5,7 @@ ghost use Rattle.sacn_live.specs.Widgets.{widget_text};
 
 use crate::device::{Device, DeviceFault, Took, WIDGET_OCTETS};
 use crate::sys::{open_device, write_device};
-use sacn_universe::FRAME_OCTETS;
+use sacn_packets::FRAME_OCTETS;
 use std::io::ErrorKind;
 use std::os::fd::OwnedFd;
 

@@ -1,8 +1,8 @@
 -- A name as it is kept, and what is read from it.
 use Rattle.std.proofs.Common.{◌≡◌, ℕ, zero, suc, ◌+◌, ◌-◌, ◌<◌, Bool, true, false, not, nat_le, cond, ◌==◌, List, [], ◌∷◌, ◌++◌, length, take, get_or, replicate, refl, sym, ap, subst, ◌∙◌, arith}
 use Rattle.std.specs.List.{All, before_first, position_or_len}
-use Rattle.sacn_framing.specs.Data.{Data}
-use Rattle.sacn_framing.specs.Naming.{padded}
+use Rattle.sacn_packets.specs.Data.{Data}
+use Rattle.sacn_packets.specs.Naming.{padded}
 use Rattle.sacn_monitor.specs.declared.account.Account.{Account}
 use Rattle.sacn_monitor.specs.declared.account.Endpoint.{Endpoint}
 use Rattle.sacn_monitor.specs.declared.stream.Stream.{Stream}

@@ -2,8 +2,8 @@
 use Rattle.std.specs.Prelude.{◌≡◌, ℕ, pos, ◌-◌, max, nat_lt, int_lt, Bool, true, false, not, nat_le, List, length, replicate, ◌&&◌, ◌||◌, ◌==◌, Option, Some, None, if◌then◌else◌}
 use Rattle.std.specs.Str.{bytes_eq}
 use Rattle.std.specs.List.{before_first}
-use Rattle.sacn_framing.specs.Naming.{padded}
-use Rattle.sacn_framing.specs.Data.{Data}
+use Rattle.sacn_packets.specs.Naming.{padded}
+use Rattle.sacn_packets.specs.Data.{Data}
 use Rattle.sacn_sequence.specs.Sequence.{step, is_late}
 use Rattle.sacn_sources.specs.Packets.{kind_of}
 use Rattle.sacn_sources.specs.declared.limits.TheConstants.{NETWORK_DATA_LOSS}

@@ -1,8 +1,8 @@
 -- How many datagrams there were, by what they were.
 use Rattle.std.specs.Prelude.{ℕ, List, replicate, slice_index_or, slice_set}
-use Rattle.sacn_root.specs.declared.fault.PacketFault.{PacketFault}
-use Rattle.sacn_root.specs.declared.fault.TheConstants.{FAULT_NUMBERS}
-use Rattle.sacn_root.specs.FaultNumbers.{fault_number}
+use Rattle.sacn_packets.specs.declared.root.fault.PacketFault.{PacketFault}
+use Rattle.sacn_packets.specs.declared.root.fault.TheConstants.{FAULT_NUMBERS}
+use Rattle.sacn_packets.specs.FaultNumbers.{fault_number}
 use Rattle.sacn_monitor.specs.declared.tally.Tally.{Tally}
 use Rattle.sacn_monitor.specs.Kinds.{more}
 

@@ -2,15 +2,14 @@
 
 ghost use Rattle.std.specs.Prelude.{◌≡◌, ◌≤◌, not, length};
 ghost use Rattle.std.specs.Str.{bytes_eq};
-ghost use Rattle.sacn_framing.specs.Naming.{padded};
+ghost use Rattle.sacn_packets.specs.Naming.{padded};
 ghost use Rattle.sacn_monitor.specs.Accounts.{same_sender, is_fresh, is_discarded, begins_apart, begins_life, lost_at, numbering_at, renumbered, number_news, begins_anew, changed, taken_event, discarded_event, is_next, fitted, name_of, IsFitted, taken_news, news_of, after_packet, after_taken, after_discarded, first_account};
 
 use crate::kinds::Kinds;
 use crate::news::{Change, News, StreamEvent};
 use crate::numbering::{NumberNews, Numbering, OPENING_STEP};
 use crate::rate::Rate;
-use sacn_framing::DataView;
-use sacn_root::put;
+use sacn_packets::{DataView, put};
 use sacn_sequence::{in_sequence, signed_step};
 use sacn_sources::NETWORK_DATA_LOSS;
 

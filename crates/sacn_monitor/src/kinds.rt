@@ -4,7 +4,7 @@ ghost use Rattle.std.specs.Prelude.{◌≡◌};
 ghost use Rattle.sacn_sources.specs.Packets.{kind_of};
 ghost use Rattle.sacn_monitor.specs.Kinds.{no_packets, with_one_more, total};
 
-use sacn_framing::DataView;
+use sacn_packets::DataView;
 use sacn_sources::{Kind, kind_of};
 
 /// How many packets were taken of each kind. Each count stops at 2^64 - 1.

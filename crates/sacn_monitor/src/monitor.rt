@@ -14,7 +14,7 @@ use crate::rivals::{rivals, top_priority};
 use crate::silence::next_loss;
 use crate::stream::Stream;
 use crate::tally::Tally;
-use sacn_framing::{DataView, Packet, Reading, read_packet};
+use sacn_packets::{DataView, Packet, Reading, read_packet};
 use std::alloc::{AllocError, Global};
 use std::marker::Model;
 

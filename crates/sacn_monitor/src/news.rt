@@ -3,7 +3,7 @@
 ghost use Rattle.std.specs.Prelude.{◌≡◌};
 ghost use Rattle.sacn_monitor.specs.Accounts.{quiet};
 
-use sacn_root::PacketFault;
+use sacn_packets::PacketFault;
 
 /// What a packet says of its source on its universe.
 #[derive(Clone, Copy, Debug, PartialEq, Eq)]

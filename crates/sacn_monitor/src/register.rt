@@ -15,7 +15,7 @@ use crate::limits::{
 use crate::news::News;
 use crate::silence::{next_loss, silent_place};
 use crate::stream::Stream;
-use sacn_framing::DataView;
+use sacn_packets::DataView;
 use std::alloc::{AllocError, Global};
 use std::marker::Model;
 

@@ -8,7 +8,7 @@ ghost use Rattle.sacn_monitor.specs.Streams.{is_of, first_stream, stream_after, 
 
 use crate::account::{Account, Endpoint};
 use crate::news::News;
-use sacn_framing::DataView;
+use sacn_packets::DataView;
 use sacn_sources::NETWORK_DATA_LOSS;
 
 /// Whether a source is there.

@@ -3,7 +3,7 @@
 ghost use Rattle.std.specs.Prelude.{◌≡◌};
 ghost use Rattle.sacn_monitor.specs.Tallies.{nothing_tallied, refused_more};
 
-use sacn_root::{FAULT_NUMBERS, PacketFault};
+use sacn_packets::{FAULT_NUMBERS, PacketFault};
 
 /// How many datagrams there were. Each count stops at 2^64 - 1.
 #[derive(Clone, Copy)]

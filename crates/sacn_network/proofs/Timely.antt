@@ -2,11 +2,11 @@
 use Rattle.std.proofs.Common.{◌≡◌, ◌<◌, ◌≤◌, ◌+◌, ◌-◌, ◌^◌, ℕ, zero, suc, min, max, nat_lt, ltb, Bool, true, false, not, ◌&&◌, ◌==◌, cond, is_some, List, [], ◌∷◌, ◌++◌, set, slice_get, Option, None, Some, Result, Ok, Err, refl, sym, ap, subst, ◌∙◌, arith, length, ltb-true}
 use Rattle.std.specs.Option.{option_map}
 use Rattle.std.proofs.lemmas.Bool.{ltb-false}
-use Rattle.sacn_root.specs.declared.fault.PacketFault.{PacketFault}
-use Rattle.sacn_framing.specs.Data.{Data}
-use Rattle.sacn_framing.specs.declared.packet.Packet.{Packet}
-use Rattle.sacn_framing.specs.declared.packet.Packet.TheVariants.{DataPacket, PagePacket, SyncPacket}
-use Rattle.sacn_framing.specs.PacketReading.{reading_packet}
+use Rattle.sacn_packets.specs.declared.root.fault.PacketFault.{PacketFault}
+use Rattle.sacn_packets.specs.Data.{Data}
+use Rattle.sacn_packets.specs.declared.framing.packet.Packet.{Packet}
+use Rattle.sacn_packets.specs.declared.framing.packet.Packet.TheVariants.{DataPacket, PagePacket, SyncPacket}
+use Rattle.sacn_packets.specs.PacketReading.{reading_packet}
 use Rattle.sacn_sources.specs.declared.limits.TheConstants.{NETWORK_DATA_LOSS}
 use Rattle.sacn_monitor.specs.declared.account.Account.{Account}
 use Rattle.sacn_monitor.specs.declared.account.Endpoint.{Endpoint}

@@ -7,10 +7,9 @@ ghost use Rattle.sacn_sources.specs.Rows.{after_expire, slots_of};
 ghost use Rattle.sacn_sources.specs.LatestMerge.{kept_after_take, kept_after_merged};
 
 use crate::places::giver_places;
-use sacn_framing::DataView;
 use sacn_monitor::Monitor;
+use sacn_packets::{DataView, SLOTS};
 use sacn_sources::{Givers, SourceTable, TableFault};
-use sacn_universe::SLOTS;
 use std::alloc::{AllocError, Global};
 use std::marker::Model;
 

@@ -9,8 +9,8 @@ ghost use Rattle.sacn_network.specs.Telling.{AreTold};
 use crate::ledger::Ledger;
 use crate::observer::Observer;
 use crate::stirring::soonest_loss;
-use sacn_framing::Reading;
 use sacn_monitor::{Endpoint, Monitor, Noted};
+use sacn_packets::Reading;
 use std::alloc::{AllocError, Global};
 use std::marker::Model;
 

@@ -1,7 +1,7 @@
 //! What happens on a network.
 
 use sacn_monitor::{Endpoint, News};
-use sacn_root::PacketFault;
+use sacn_packets::PacketFault;
 
 /// So many sources light a universe at its top priority (E1.31, 6.2.3). Where these are two or more, their levels are merged.
 #[derive(Clone, Copy, Debug, PartialEq, Eq)]

@@ -5,8 +5,8 @@ ghost use Rattle.sacn_monitor.specs.Books.{place_of};
 ghost use Rattle.sacn_network.specs.LitUniverses.{giver_places};
 
 use sacn_monitor::Monitor;
+use sacn_packets::SLOTS;
 use sacn_sources::{Givers, MAX_SOURCES};
-use sacn_universe::SLOTS;
 
 /// For each slot the place of the stream, on this universe, of the source that gives it its level: none where no one does, or no
 /// packet of the source was heard there. Each source is looked up once.

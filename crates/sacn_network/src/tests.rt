@@ -3,8 +3,8 @@
 ghost use Rattle.std.specs.Prelude.{◌≡◌, false, ◌++◌, ◌∷◌, []};
 
 use crate::{Contest, Network, Observer, Occurrence, What};
-use sacn_framing::{DataFields, read_packet, write_data};
 use sacn_monitor::{Endpoint, Monitor, News, StreamEvent};
+use sacn_packets::{DataFields, read_packet, write_data};
 use std::alloc::{AllocError, Global};
 
 /// Lists what it is told, as far as memory goes.

@@ -5,7 +5,7 @@ use Rattle.std.proofs.lemmas.Bool.Decides.{nat_tests}
 use Rattle.std.proofs.lemmas.List.{length-map, get_or-map}
 use Rattle.std.proofs.lemmas.Option.{same_Some}
 use Rattle.std.proofs.lemmas.List.Elements.{All-tail}
-use Rattle.sacn_universe.specs.Universe.{Rising}
+use Rattle.sacn_packets.specs.Universe.{Rising}
 use Rattle.sacn_files.specs.Numbers.{placed}
 use Rattle.sacn_node.specs.declared.setup.SlotRange.{SlotRange}
 use Rattle.sacn_node.specs.Setup.{Port, Setup, IsSetup, with_universe, universes_after, universes_from, universes}

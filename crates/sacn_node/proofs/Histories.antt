@@ -3,15 +3,15 @@
 use Rattle.std.proofs.Common.{◌≡◌, ℕ, ◌<◌, ◌==◌, max, Bool, true, false, cond, ◌||◌, List, [], ◌∷◌, map, Option, Some, None, Ok, Err, refl, sym, ap, subst, ◌∙◌, arith, eqb-true}
 use Rattle.std.specs.List.{list_any, AllByRecursion}
 use Rattle.std.proofs.lemmas.Bool.Decides.{nat_tests}
-use Rattle.sacn_framing.specs.PacketReading.{reading_packet}
-use Rattle.sacn_framing.specs.declared.packet.Packet.TheVariants.{DataPacket, PagePacket, SyncPacket}
+use Rattle.sacn_packets.specs.PacketReading.{reading_packet}
+use Rattle.sacn_packets.specs.declared.framing.packet.Packet.TheVariants.{DataPacket, PagePacket, SyncPacket}
 use Rattle.sacn_sources.specs.Rows.{Row, Packet, rows_kept, take_row}
 use Rattle.sacn_sources.specs.Packets.{packet_of}
 use Rattle.sacn_sources.specs.PlainRule.{Sources, unexpired}
 use Rattle.sacn_sources.specs.Calls as one
 use Rattle.sacn_sources.specs.PlainRule as plain
 use Rattle.sacn_node.specs.Setup.{Port, universes}
-use Rattle.sacn_universe.specs.Universe.{Rising}
+use Rattle.sacn_packets.specs.Universe.{Rising}
 use Rattle.sacn_node.specs.Cores.{Table, Core, new_table, rows_kept_all, table_of, change_rows, core_at}
 use Rattle.sacn_node.specs.Readings.{Reading, after_reading}
 use Rattle.sacn_node.specs.Calls.{Call, Take, Tick, Frame, moment_of, core_step, after_calls, moment_in_use}

@@ -8,8 +8,8 @@ use Rattle.std.proofs.lemmas.Bool.{and_parts}
 use Rattle.std.proofs.lemmas.List.Elements.{All-from_recursion}
 use Rattle.std.proofs.lemmas.List.Sorted.{All-permutation, length_permutation}
 use Rattle.toml.specs.Data.{Data, Members, string, integer, float, boolean, datetime, array, table, get_member}
-use Rattle.sacn_universe.specs.declared.limits.TheConstants.{MIN_UNIVERSE, MAX_UNIVERSE}
-use Rattle.sacn_universe.specs.declared.limits.TheConstants.{SLOTS}
+use Rattle.sacn_packets.specs.declared.universe.TheConstants.{MIN_UNIVERSE, MAX_UNIVERSE}
+use Rattle.sacn_packets.specs.declared.universe.TheConstants.{SLOTS}
 use Rattle.sacn_files.specs.declared.limits.TheConstants.{DEFAULT_UDP_PORT, MIN_UDP_PORT, MAX_UDP_PORT}
 use Rattle.sacn_files.specs.Values.{number_in, number_at, value_or, array_at, members_or_none}
 use Rattle.sacn_files.specs.Rows.{each}
@@ -22,7 +22,7 @@ use Rattle.sacn_node.specs.declared.setup.fault.SetupFault.{SetupFault}
 use Rattle.sacn_node.specs.declared.setup.fault.SetupFault.TheVariants.{Limit, RangeEnd, Overlap}
 use Rattle.sacn_node.specs.Setup.{Port, port_numbers, universes, passes_end, has_overlap, IsRange, IsPort, Fits, IsSetup}
 use Rattle.sacn_node.specs.SetupReading.{universe_at, slot_at, range_in, whole, ranges_in, ranges_of, port_in, ports_in, udp_port_of, order_fault, required}
-use Rattle.sacn_universe.specs.Results.{◌>>=◌}
+use Rattle.sacn_packets.specs.Results.{◌>>=◌}
 
 -- chains of readings
 some_is : {X : Type 0} (x y : X) → Some x ≡ Some y → x ≡ y

@@ -1,6 +1,6 @@
 -- Calls on one node, and the steps that they make of its value. A history is the list of the calls so far, the latest first.
 use Rattle.std.specs.Prelude.{◌≡◌, ℕ, ◌≤◌, ◌⊎◌, max, List, [], ◌∷◌, All, Any, Option}
-use Rattle.sacn_framing.specs.PacketReading.{reading_packet}
+use Rattle.sacn_packets.specs.PacketReading.{reading_packet}
 use Rattle.sacn_node.specs.declared.answer.NodeTaken.{NodeTaken}
 use Rattle.sacn_node.specs.Setup.{Port}
 use Rattle.sacn_node.specs.Cores.{Core, Node, new_node, core_at, core_lost, node_frame}

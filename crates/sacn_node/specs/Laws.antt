@@ -5,7 +5,7 @@ use Rattle.std.specs.Option.{option_map}
 use Rattle.std.specs.FinMap.{get}
 use Rattle.sacn_sources.specs.Laws.{row_with}
 use Rattle.sacn_node.specs.Setup.{Port, universes}
-use Rattle.sacn_universe.specs.Universe.{Rising}
+use Rattle.sacn_packets.specs.Universe.{Rising}
 use Rattle.sacn_node.specs.Cores.{core_row}
 use Rattle.sacn_node.specs.Calls.{Call, answer_to, after_calls, moment_in_use, IsGreatestMoment}
 use Rattle.sacn_node.specs.PlainRule.{has_universe, holding, plain_rule}

@@ -2,7 +2,7 @@
 -- ranges are profile).
 use Rattle.std.specs.Prelude.{ℕ, ◌+◌, ◌-◌, ◌≤◌, Bool, ◌&&◌, ◌==◌, nat_le, nat_lt, if◌then◌else◌, List, map, find, get_or, Option, Some, None}
 use Rattle.std.specs.List.{range_with_len}
-use Rattle.sacn_universe.specs.declared.limits.TheConstants.{SLOTS, FRAME_OCTETS}
+use Rattle.sacn_packets.specs.declared.universe.TheConstants.{SLOTS, FRAME_OCTETS}
 use Rattle.sacn_node.specs.declared.setup.SlotRange.{SlotRange}
 use Rattle.sacn_node.specs.Setup.{Port}
 

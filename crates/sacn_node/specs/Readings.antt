@@ -1,7 +1,7 @@
 -- What octets do to a node core, by their one reading.
 use Rattle.std.specs.Prelude.{ℕ, Ok, Err}
-use Rattle.sacn_framing.specs.declared.packet.Packet.TheVariants.{DataPacket, PagePacket, SyncPacket}
-pub use Rattle.sacn_framing.specs.PacketReading.{Reading}
+use Rattle.sacn_packets.specs.declared.framing.packet.Packet.TheVariants.{DataPacket, PagePacket, SyncPacket}
+pub use Rattle.sacn_packets.specs.PacketReading.{Reading}
 use Rattle.sacn_sources.specs.Packets.{packet_of}
 use Rattle.sacn_node.specs.declared.answer.NodeTaken.{NodeTaken}
 use Rattle.sacn_node.specs.declared.answer.NodeTaken.TheVariants.{Discovery, Sync, Refused}

@@ -3,9 +3,9 @@ use Rattle.std.specs.Prelude.{◌≡◌, ◌⊎◌, ◌&&◌, ◌==◌, ◌||◌
 use Rattle.std.specs.declared.alloc.Global.{Global}
 use Rattle.std.specs.List.{list_any}
 use Rattle.toml.specs.Data.{Data, Members, get_member}
-use Rattle.sacn_universe.specs.declared.limits.TheConstants.{MIN_UNIVERSE, MAX_UNIVERSE}
-use Rattle.sacn_universe.specs.declared.limits.TheConstants.{SLOTS}
-use Rattle.sacn_universe.specs.Results.{◌>>=◌}
+use Rattle.sacn_packets.specs.declared.universe.TheConstants.{MIN_UNIVERSE, MAX_UNIVERSE}
+use Rattle.sacn_packets.specs.declared.universe.TheConstants.{SLOTS}
+use Rattle.sacn_packets.specs.Results.{◌>>=◌}
 use Rattle.sacn_files.specs.declared.limits.TheConstants.{DEFAULT_UDP_PORT, MIN_UDP_PORT, MAX_UDP_PORT}
 use Rattle.sacn_files.specs.declared.faults.FileFault.{FileFault}
 use Rattle.sacn_files.specs.Document.{version_in}

@@ -3,7 +3,7 @@
 ghost use Rattle.std.specs.Prelude.{◌≡◌};
 ghost use Rattle.sacn_node.specs.Changes.{universe_by};
 
-use sacn_root::PacketFault;
+use sacn_packets::PacketFault;
 use sacn_sources::Taken;
 
 /// What became of a datagram. Only `FromTable` may have changed more than the clock and what is lost.

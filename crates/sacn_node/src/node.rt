@@ -9,9 +9,8 @@ use crate::ports::{NodePort, copy_numbers, copy_ports, fill_frame, find_port, sh
 use crate::setup::{NodeSetup, universes_of};
 use crate::tables::Tables;
 use arrayvec::ArrayVec;
-use sacn_framing::{Packet, Reading, read_packet};
+use sacn_packets::{FRAME_OCTETS, Packet, Reading, read_packet};
 use sacn_sources::{HeldView, TableFault};
-use sacn_universe::FRAME_OCTETS;
 use std::alloc::Global;
 use std::marker::Model;
 
@@ -44,7 +43,7 @@ impl Model for NodeCore {
 }
 
 impl NodeCore {
-    ghost use Rattle.sacn_framing.specs.PacketReading.{reading_packet};
+    ghost use Rattle.sacn_packets.specs.PacketReading.{reading_packet};
     ghost use Rattle.sacn_node.specs.Setup.{port_numbers};
     ghost use Rattle.sacn_node.specs.Cores.{new_node, core_at, core_lost, core_row, node_frame};
     ghost use Rattle.sacn_node.specs.Calls.{with_reading};

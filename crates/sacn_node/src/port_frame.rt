@@ -5,7 +5,7 @@ ghost use Rattle.sacn_node.specs.Showings.{IsCurrent, is_shown, port_after, with
 
 use crate::answer::NoPort;
 use crate::node::NodeCore;
-use sacn_universe::FRAME_OCTETS;
+use sacn_packets::FRAME_OCTETS;
 
 /// A port of a node, and its frame at the latest look.
 #[derive(Clone, Copy, Default)]

@@ -4,7 +4,7 @@ ghost use Rattle.std.specs.Prelude.{◌≡◌, ◌==◌, ◌+◌, ◌≤◌, ◌
 ghost use Rattle.std.specs.Option.{option_map};
 ghost use Rattle.std.specs.List.{list_any};
 ghost use Rattle.std.specs.List.Sorted.{IsStrictlyIncreasing};
-ghost use Rattle.sacn_universe.specs.declared.limits.TheConstants.{SLOTS, FRAME_OCTETS};
+ghost use Rattle.sacn_packets.specs.declared.universe.TheConstants.{SLOTS, FRAME_OCTETS};
 ghost use Rattle.sacn_node.specs.Cores.{core_at, core_slots};
 ghost use Rattle.sacn_node.specs.Setup.{port_numbers};
 ghost use Rattle.sacn_node.specs.Ports.{IsShown, covers, level_in, port_frame, port_of};
@@ -13,8 +13,8 @@ use crate::limits::MAX_PORTS;
 use crate::setup::{PortSetup, SlotRange};
 use crate::tables::Tables;
 use arrayvec::ArrayVec;
+use sacn_packets::{FRAME_OCTETS, SLOTS};
 use sacn_sources::TableFault;
-use sacn_universe::{FRAME_OCTETS, SLOTS};
 use std::alloc::Global;
 use std::marker::Model;
 

@@ -5,7 +5,7 @@ ghost use Rattle.std.specs.List.Sorted.{IsStrictlyIncreasing};
 ghost use Rattle.sacn_node.specs.Setup.{port_numbers};
 ghost use Rattle.sacn_node.specs.Cores.{core_lost};
 ghost use Rattle.sacn_node.specs.Calls.{step, Tick, with_reading};
-ghost use Rattle.sacn_framing.specs.PacketReading.{reading_packet};
+ghost use Rattle.sacn_packets.specs.PacketReading.{reading_packet};
 ghost use Rattle.sacn_node.specs.Readings.{reply_to};
 ghost use Rattle.sacn_node.specs.Changes.{universe_changed};
 ghost use Rattle.sacn_node.specs.Showings.{AreCurrentBut, IsNewsOf, IsShowingOf, changes_universe, concerns, news_in, news_of, port_after, ports_of, unseen, with_found};
@@ -15,7 +15,7 @@ use crate::limits::{MAX_PORTS, MAX_UNIVERSES};
 use crate::node::NodeCore;
 use crate::port_frame::PortFrame;
 use arrayvec::ArrayVec;
-use sacn_framing::Reading;
+use sacn_packets::Reading;
 
 /// What a node shows on its ports: the frame of each at the latest look, and what may have changed since.
 ///

@@ -1,19 +1,18 @@
 //! The tables of a node, one for each of its universes.
 ghost use Rattle.std.specs.Prelude.{◌≡◌, ◌+◌, ◌<◌, ◌≤◌, ◌^◌, ℕ, List, [], map, length, take, drop, slice_index_or, slice_set, IfOk, IfErr, IfSome, IfNone, AllPairs};
 ghost use Rattle.sacn_sources.specs.Packets.{packet_of};
-ghost use Rattle.sacn_universe.specs.declared.limits.TheConstants.{SLOTS};
+ghost use Rattle.sacn_packets.specs.declared.universe.TheConstants.{SLOTS};
 ghost use Rattle.sacn_sources.specs.Rows.{slots_of};
-ghost use Rattle.sacn_universe.specs.Universe.{Rising};
+ghost use Rattle.sacn_packets.specs.Universe.{Rising};
 ghost use Rattle.sacn_node.specs.declared.limits.TheConstants.{MAX_UNIVERSES};
 ghost use Rattle.sacn_node.specs.Storage.{one_expired, lost_in, new_one};
 ghost use Rattle.sacn_sources.specs.Wakes.{oldest_by, oldest_of};
 
 use crate::answer::{NodeChange, NodeTaken, change_by};
 use crate::limits::MAX_UNIVERSES;
-use sacn_framing::DataView;
+use sacn_packets::{DataView, SLOTS};
 use sacn_slots::merge_into;
 use sacn_sources::{HeldView, NETWORK_DATA_LOSS, SourceTable, TableFault, Taken};
-use sacn_universe::SLOTS;
 use std::alloc::Global;
 use std::marker::Model;
 

@@ -2,7 +2,7 @@
 use Rattle.std.proofs.Common.{Bor, ◌≡◌, ◌∙◌, ap, refl, sym, ℕ, zero, suc, ◌+◌, ◌-◌, ◌<◌, ◌≤◌, nat_lt, Bool, true, false, cond, if◌then◌else◌, List, [], ◌∷◌, ◌++◌, map, length, take, drop, get_or, Result, Ok, Err, arith, append_assoc, append-nil, length-append, length-drop}
 use Rattle.std.proofs.lemmas.List.{drop_more, get_or-drop, map-append, take_more}
 use Rattle.std.proofs.lemmas.Bool.{le-ltb, lt-ltb, ltb-false, ltb-true}
-use Rattle.sacn_universe.specs.Results.{◌>>=◌}
+use Rattle.sacn_packets.specs.Results.{◌>>=◌}
 use Rattle.sacn_orders.specs.declared.part.Part.{Part}
 use Rattle.sacn_orders.specs.declared.fault.OrderFault.{OrderFault}
 use Rattle.sacn_orders.specs.declared.fault.OrderFault.TheVariants.{TooManyParts}

@@ -4,7 +4,7 @@ use Rattle.std.specs.Option.{option_map}
 use Rattle.std.specs.List.{list_all, position_or_len, before_first, after_first, range_with_len}
 use Rattle.std.specs.Str.{bytes_eq}
 use Rattle.std.specs.Char.{is_ascii_digit}
-use Rattle.sacn_universe.specs.Results.{◌>>=◌}
+use Rattle.sacn_packets.specs.Results.{◌>>=◌}
 use Rattle.sacn_files.specs.Words.{number_in}
 use Rattle.sacn_files.specs.declared.faults.TextFault.{TextFault}
 use Rattle.sacn_files.specs.declared.faults.TextFault.TheVariants.{WordCount}

@@ -1,7 +1,7 @@
 -- The document of a viewer as a whole.
 use Rattle.std.specs.Prelude.{ℕ, ◌==◌, List, [], ◌∷◌, ◌++◌, codes, find, map, replicate, option_and_then, Option, None, Some}
 use Rattle.std.specs.Option.{option_or}
-use Rattle.sacn_universe.specs.declared.limits.TheConstants.{SLOTS}
+use Rattle.sacn_packets.specs.declared.universe.TheConstants.{SLOTS}
 use Rattle.sacn_monitor.specs.declared.stream.Stream.{Stream}
 use Rattle.sacn_network.specs.LitUniverses.{Lit, giver_places}
 use Rattle.sacn_network.specs.Sets.{universes_in}

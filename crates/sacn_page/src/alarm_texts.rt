@@ -8,9 +8,8 @@ use crate::members::push_first_number;
 use sacn_explain::{
     fault_words, push_foreign, push_key, push_number, push_sender, push_stop, push_word,
 };
-use sacn_framing::up_to_nul;
 use sacn_monitor::{Endpoint, Stream};
-use sacn_root::PacketFault;
+use sacn_packets::{PacketFault, up_to_nul};
 use std::alloc::AllocError;
 use std::fmt::Write;
 

@@ -5,7 +5,7 @@ ghost use Rattle.sacn_page.specs.Alarms.{after, alarms_after, event_troubles, gi
 
 use sacn_monitor::{Endpoint, Monitor, News, StreamEvent};
 use sacn_network::{Contest, Observer, Occurrence, What};
-use sacn_root::PacketFault;
+use sacn_packets::PacketFault;
 use std::alloc::{AllocError, Global};
 use std::marker::Model;
 

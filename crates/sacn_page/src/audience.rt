@@ -68,7 +68,7 @@ impl<C: Connection + Drop, S: Scene + Drop> Audience<C, S> {
         &mut self,
         now: u64,
         sender: Endpoint,
-        reading: &sacn_framing::Reading<'_>,
+        reading: &sacn_packets::Reading<'_>,
     ) -> Result<(), AllocError> {
         self.note_change();
         self.scene.take(now, sender, reading)

@@ -1,7 +1,7 @@
 //! What is known of a network, for all viewers.
 
 ghost use Rattle.std.specs.Prelude.{◌≡◌, ◌≤◌, ◌==◌, ℕ, List, IfOk, OnOk, find, is_some, max, option_copied};
-ghost use Rattle.sacn_framing.specs.PacketReading.{reading_packet};
+ghost use Rattle.sacn_packets.specs.PacketReading.{reading_packet};
 ghost use Rattle.sacn_monitor.specs.Books.{new_book, next_loss, silent_place};
 ghost use Rattle.sacn_monitor.specs.Histories.{Call, moment_of};
 ghost use Rattle.sacn_explain.specs.Following.{IsTicked, IsTaken};
@@ -14,9 +14,9 @@ ghost use Rattle.sacn_page.specs.Replays.{after_call, known_to};
 ghost use Rattle.sacn_page.specs.WholeDocuments.{first_heard, universe_shown};
 
 use crate::alarms::{Alarms, Trouble};
-use sacn_framing::{Packet, Reading};
 use sacn_monitor::{Endpoint, Monitor, Stream};
 use sacn_network::{LitUniverse, Network};
+use sacn_packets::{Packet, Reading};
 use std::alloc::{AllocError, Global};
 
 /// The most universes that are merged at once.

@@ -19,7 +19,7 @@ use crate::scene::Facts;
 use sacn_explain::{push_key, push_number, push_numbers, total};
 use sacn_monitor::{Monitor, Stream, StreamState, Tally};
 use sacn_network::LitUniverse;
-use sacn_universe::SLOTS;
+use sacn_packets::SLOTS;
 use std::alloc::{AllocError, Global};
 
 /// A source on a universe, as a viewer sees it at a moment.

@@ -3,7 +3,7 @@
 ghost use Rattle.std.specs.Prelude.{◌≡◌, map};
 ghost use Rattle.sacn_page.specs.Marks.{mark_of};
 
-use sacn_universe::SLOTS;
+use sacn_packets::SLOTS;
 
 /// For each slot a place plus one, and 0 for none.
 pub(crate) fn marks_of(places: &[Option<usize>; SLOTS]) -> [u16; SLOTS]

@@ -10,8 +10,8 @@ use sacn_explain::{
     push_cid, push_counts, push_decimal, push_digits, push_foreign, push_key, push_long_digits,
     push_number, push_sender_members, push_state_members, push_word,
 };
-use sacn_framing::up_to_nul;
 use sacn_monitor::Stream;
+use sacn_packets::up_to_nul;
 use std::alloc::AllocError;
 
 /// Writes what is known of a recording as a whole, as an object.

@@ -5,8 +5,8 @@ use crate::replay::Replay;
 use crate::scene::{Facts, Scene, SeekFault};
 use crate::snapshots::Snapshots;
 use sacn_capture::{CaptureFault, FaultKind};
-use sacn_framing::Reading;
 use sacn_monitor::Endpoint;
+use sacn_packets::Reading;
 use std::alloc::{AllocError, Global};
 use std::io::{self, BufRead, ErrorKind};
 

@@ -8,7 +8,7 @@ ghost use Rattle.sacn_page.specs.declared.request.RequestReading.TheVariants.{Mo
 
 use crate::hosts::{Hosts, is_word};
 use httparse::{EMPTY_HEADER, Error, Header, Request, Status};
-use sacn_universe::{MAX_UNIVERSE, MIN_UNIVERSE};
+use sacn_packets::{MAX_UNIVERSE, MIN_UNIVERSE};
 
 /// The most octets of a request's head.
 pub const MAX_HEAD: usize = 4096;

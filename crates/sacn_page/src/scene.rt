@@ -2,8 +2,8 @@
 
 use crate::board::Board;
 use sacn_capture::{CaptureFault, FaultKind};
-use sacn_framing::Reading;
 use sacn_monitor::Endpoint;
+use sacn_packets::Reading;
 use std::alloc::AllocError;
 use thiserror::Error;
 

@@ -7,7 +7,7 @@ use Rattle.std.specs.FinMap.{FinMap, get, insert}
 use Rattle.std.specs.FinMap as finmap
 use Rattle.std.specs.Coded.{Coded, coded×, coded_ℕ}
 use Rattle.sacn_patch.specs.declared.limits.TheConstants.{MAX_CHANNELS}
-use Rattle.sacn_universe.specs.declared.limits.TheConstants.{MAX_UNIVERSE, SLOTS}
+use Rattle.sacn_packets.specs.declared.universe.TheConstants.{MAX_UNIVERSE, SLOTS}
 use Rattle.sacn_patch.specs.declared.part.Part.{Part}
 use Rattle.sacn_patch.specs.declared.fault.PatchFault.{PatchFault}
 use Rattle.sacn_patch.specs.declared.fault.PatchFault.TheVariants.{ChannelRange, SlotRange, SlotTaken}

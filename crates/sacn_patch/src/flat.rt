@@ -1,12 +1,12 @@
 //! A patch in one row.
 ghost use Rattle.std.specs.Prelude.{◌≡◌, ◌+◌, ◌*◌, ◌<◌, ◌≤◌, ◌&&◌, nat_le, ℕ, length, slice_index_or, map, get_or, true, IfOk};
-ghost use Rattle.sacn_universe.specs.declared.limits.TheConstants.{SLOTS};
+ghost use Rattle.sacn_packets.specs.declared.universe.TheConstants.{SLOTS};
 ghost use Rattle.std.specs.Option.{ForSome};
 ghost use Rattle.sacn_patch.specs.Flat.{Row, IsRowOfTree, AllBelow, AllFrom, IsStart, AreStarts, AreMarks, IsMark, IsThere, AreThere, is_within, mark_of, with_octet, with_run};
 
 use crate::level::{LevelOf, RestOf};
 use crate::part::{Part, byte_of, octet_place};
-use sacn_universe::SLOTS;
+use sacn_packets::SLOTS;
 use std::alloc::{AllocError, Global};
 use std::marker::Model;
 

@@ -9,7 +9,7 @@ use crate::flat::FlatPatch;
 use crate::level::LevelOf;
 use crate::limits::MAX_CHANNELS;
 use crate::part::{Part, byte_of, high_part, low_part};
-use sacn_universe::{MAX_UNIVERSE, SLOTS};
+use sacn_packets::{MAX_UNIVERSE, SLOTS};
 use std::alloc::{AllocError, Global};
 use std::collections::BTreeMap;
 use std::marker::Model;

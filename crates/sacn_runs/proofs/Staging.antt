@@ -3,8 +3,8 @@ use Rattle.std.proofs.Common.{◌≡◌, ℕ, zero, suc, ◌<◌, true, false, L
 use Rattle.std.specs.Prelude.{Contains, if◌then◌else◌}
 use Rattle.std.proofs.lemmas.Option.{same_Some, slice_get-get_or}
 use Rattle.std.proofs.lemmas.List.{take-append-drop}
-use Rattle.sacn_framing.specs.FramingText.{nothing}
-use Rattle.sacn_framing.specs.PacketText.{data_text}
+use Rattle.sacn_packets.specs.FramingText.{nothing}
+use Rattle.sacn_packets.specs.PacketText.{data_text}
 use Rattle.sacn_sources.specs.Order.{same}
 use Rattle.sacn_node.specs.Setup.{Port}
 use Rattle.sacn_schedule.specs.Cids.{Desk}

@@ -1,6 +1,6 @@
 -- The visits of a loop's turns make the lines that it writes.
 use Rattle.std.proofs.Common.{◌≡◌, ℕ, List, [], ◌∷◌, map, Ok, Err, refl, sym, ap, ◌∙◌}
-use Rattle.sacn_framing.specs.PacketReading.{reading_packet}
+use Rattle.sacn_packets.specs.PacketReading.{reading_packet}
 use Rattle.sacn_node.specs.Setup.{Port, port_numbers}
 use Rattle.sacn_node.specs.Cores.{Core, Node, core_at, node_frame}
 use Rattle.sacn_node.specs.Readings.{Reading, after_reading}

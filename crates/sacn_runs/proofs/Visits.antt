@@ -1,7 +1,7 @@
 -- What visits make of a node core and of its lines.
 use Rattle.std.proofs.Common.{◌≡◌, ℕ, max, List, [], ◌∷◌, ◌++◌, Option, Some, None, Ok, Err, refl}
-use Rattle.sacn_framing.specs.declared.packet.Packet.{Packet}
-use Rattle.sacn_framing.specs.declared.packet.Packet.TheVariants.{DataPacket, PagePacket, SyncPacket}
+use Rattle.sacn_packets.specs.declared.framing.packet.Packet.{Packet}
+use Rattle.sacn_packets.specs.declared.framing.packet.Packet.TheVariants.{DataPacket, PagePacket, SyncPacket}
 use Rattle.sacn_node.specs.Setup.{Port, universes}
 use Rattle.sacn_node.specs.Cores.{Core, Node, new_core, core_at, node_frame}
 use Rattle.sacn_node.specs.Readings.{Reading, after_reading}

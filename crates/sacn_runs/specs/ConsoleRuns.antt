@@ -1,9 +1,9 @@
 -- A console that runs in its loop is a console of a world.
 use Rattle.std.specs.Prelude.{◌≡◌, ℕ, ◌+◌, ◌==◌, is_ok, if◌then◌else◌, List, [], ◌∷◌, ◌++◌, map, filter, length, drop, slice_get, Option, Some, None}
-use Rattle.sacn_framing.specs.FramingText.{nothing}
-use Rattle.sacn_framing.specs.PacketText.{data_text, page_text, unused}
-use Rattle.sacn_framing.specs.declared.packet.Packet.{Packet}
-use Rattle.sacn_framing.specs.declared.packet.Packet.TheVariants.{DataPacket, PagePacket, SyncPacket}
+use Rattle.sacn_packets.specs.FramingText.{nothing}
+use Rattle.sacn_packets.specs.PacketText.{data_text, page_text, unused}
+use Rattle.sacn_packets.specs.declared.framing.packet.Packet.{Packet}
+use Rattle.sacn_packets.specs.declared.framing.packet.Packet.TheVariants.{DataPacket, PagePacket, SyncPacket}
 use Rattle.sacn_sources.specs.Order.{same}
 use Rattle.sacn_console.specs.Runs.{Call, Order, Poll}
 use Rattle.sacn_node.specs.Setup.{Port}

@@ -1,9 +1,9 @@
 -- The stage: what a run of a world says of its desks, of its gateways and of the octets of their interfaces.
 use Rattle.std.specs.Prelude.{◌≡◌, ℕ, ◌<◌, ◌≤◌, List, ◌++◌, map, take, drop, length, get_or, slice_get, Contains, Option, Some}
-use Rattle.sacn_framing.specs.FramingText.{nothing}
-use Rattle.sacn_framing.specs.PacketText.{data_text}
+use Rattle.sacn_packets.specs.FramingText.{nothing}
+use Rattle.sacn_packets.specs.PacketText.{data_text}
 use Rattle.sacn_slots.specs.Merge.{Shown}
-use Rattle.sacn_universe.specs.declared.limits.TheConstants.{SLOTS}
+use Rattle.sacn_packets.specs.declared.universe.TheConstants.{SLOTS}
 use Rattle.sacn_node.specs.Setup.{Port, port_numbers}
 use Rattle.sacn_node.specs.Cores as core
 use Rattle.sacn_schedule.specs.Cids.{Desk}

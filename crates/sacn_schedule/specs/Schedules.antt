@@ -4,7 +4,7 @@ use Rattle.std.specs.declared.alloc.Global.{Global}
 use Rattle.std.specs.Str.{bytes_eq}
 use Rattle.hex.specs.Hex.{decode_of}
 use Rattle.hex.specs.declared.error.FromHexError.{FromHexError}
-use Rattle.sacn_universe.specs.Results.{◌>>=◌}
+use Rattle.sacn_packets.specs.Results.{◌>>=◌}
 use Rattle.sacn_files.specs.Words.{number_in}
 use Rattle.sacn_files.specs.Lines.{Said, entries_in}
 use Rattle.sacn_files.specs.declared.faults.TextFault.{TextFault}

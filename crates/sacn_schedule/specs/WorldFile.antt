@@ -3,7 +3,7 @@ use Rattle.std.specs.Prelude.{◌&&◌, ◌+◌, ℕ, Bool, not, List, [], ◌�
 use Rattle.std.specs.declared.alloc.Global.{Global}
 use Rattle.std.specs.List.{list_all}
 use Rattle.toml.specs.Data.{Data, Members, get_member, as_table}
-use Rattle.sacn_universe.specs.Results.{◌>>=◌}
+use Rattle.sacn_packets.specs.Results.{◌>>=◌}
 use Rattle.sacn_files.specs.declared.faults.FileFault.{FileFault}
 use Rattle.sacn_files.specs.Document.{version_in}
 use Rattle.sacn_files.specs.Keys.{KeyTable, has_known_keys, has_keys, rows_are_known, rows_have_keys}

@@ -1,7 +1,7 @@
 //! A block of slots, kept in the processor's registers while the layers go by.
 ghost use Rattle.std.specs.Prelude.{◌+◌, ◌*◌, ◌≡◌, ◌<◌, ◌≤◌, ℕ, slice_index, max};
 
-use sacn_universe::SLOTS;
+use sacn_packets::SLOTS;
 use std::simd::prelude::*;
 
 /// Slots in lanes, one lane for each: as many as a vector of octets may have.

@@ -1,7 +1,7 @@
 //! The frame of a universe.
 ghost use Rattle.std.specs.Prelude.{◌≡◌, ◌∷◌};
 
-use sacn_universe::{FRAME_OCTETS, NULL_START_CODE, SLOTS};
+use sacn_packets::{FRAME_OCTETS, NULL_START_CODE, SLOTS};
 
 /// Writes the frame of these slots: the null start code, and after it the 512 slots. (E1.11.)
 ///

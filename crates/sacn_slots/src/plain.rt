@@ -7,7 +7,7 @@ ghost use Rattle.sacn_slots.specs.Merge.{merge, highest_at, IsMergedLevel};
 ghost use Rattle.sacn_slots.specs.Layers.{shown_of};
 
 use crate::merge::{Layer, top_priority};
-use sacn_universe::SLOTS;
+use sacn_packets::SLOTS;
 
 /// Writes the merge of the layers over all 512 slots, slot by slot.
 pub(crate) fn merge_into(layers: &[Layer<'_>], slots: &mut [u8; SLOTS])

@@ -1,5 +1,5 @@
 use super::*;
-use sacn_universe::{FRAME_OCTETS, SLOTS};
+use sacn_packets::{FRAME_OCTETS, SLOTS};
 use std::test::Fail;
 
 // The slots that begin with these levels and are at 0 after them.

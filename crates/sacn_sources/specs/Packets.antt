@@ -1,6 +1,6 @@
 -- What a data packet says to a table.
 use Rattle.std.specs.Prelude.{◌==◌, if◌then◌else◌}
-use Rattle.sacn_framing.specs.Data.{Data}
+use Rattle.sacn_packets.specs.Data.{Data}
 use Rattle.sacn_sources.specs.Rows.{Packet, Kind, Termination, Preview, Live, Other}
 
 -- a termination, else a preview, else live at start code 0 (E1.31, 6.2.6; the order is profile)

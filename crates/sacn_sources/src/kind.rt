@@ -3,7 +3,7 @@
 ghost use Rattle.std.specs.Prelude.{◌≡◌};
 ghost use Rattle.sacn_sources.specs.Packets.{kind_of};
 
-use sacn_framing::DataView;
+use sacn_packets::DataView;
 
 /// What a data packet says to the receiver that holds its source (profile). The first that fits counts, from the top.
 #[derive(Clone, Copy)]

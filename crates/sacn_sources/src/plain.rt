@@ -7,7 +7,7 @@ ghost use Rattle.std.specs.Prelude.{◌≡◌, ◌≤◌, max};
 use crate::answer::Taken;
 use crate::held_view::HeldView;
 use crate::limits::MAX_SOURCES;
-use sacn_framing::DataView;
+use sacn_packets::DataView;
 use std::marker::Model;
 
 mod entries;

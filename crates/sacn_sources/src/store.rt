@@ -12,7 +12,7 @@ use crate::held_view::HeldView;
 use crate::kind::{Kind, kind_of};
 use crate::limits::{MAX_SOURCES, NETWORK_DATA_LOSS};
 use arrayvec::ArrayVec;
-use sacn_framing::DataView;
+use sacn_packets::DataView;
 use sacn_sequence::in_sequence;
 use sacn_slots::{Layer, Levels, merge_into};
 use slab::Slab;

@@ -8,7 +8,7 @@ use crate::givers::Givers;
 use crate::held_view::HeldView;
 use crate::limits::{MAX_SOURCES, NETWORK_DATA_LOSS};
 use crate::store::Store;
-use sacn_framing::DataView;
+use sacn_packets::DataView;
 use std::alloc::{AllocError, Global};
 use std::marker::Model;
 

@@ -2,9 +2,9 @@
 use Rattle.std.proofs.Common.{◌≡◌, ℕ, zero, suc, ◌+◌, ◌<◌, ◌≤◌, List, [], ◌∷◌, ◌++◌, length, get_or, take, drop, Some, None, Result, Ok, Err, refl, sym, ap, ◌∙◌, append_assoc, arith, Vec, Global}
 use Rattle.std.proofs.lemmas.List.{length-append, append-nil, drop_all, take-append-le, take_at}
 use Rattle.std.specs.Fmt.{decimal}
-use Rattle.sacn_root.specs.declared.fault.PacketFault.{PacketFault}
-use Rattle.sacn_framing.specs.declared.packet.Packet.{Packet}
-use Rattle.sacn_framing.specs.PacketReading.{reading_packet}
+use Rattle.sacn_packets.specs.declared.root.fault.PacketFault.{PacketFault}
+use Rattle.sacn_packets.specs.declared.framing.packet.Packet.{Packet}
+use Rattle.sacn_packets.specs.PacketReading.{reading_packet}
 use Rattle.sacn_discovery.specs.Collection.{State}
 use Rattle.sacn_text.specs.Words.{spaced}
 use Rattle.sacn_text.specs.Decoding.{Decoded, decoded, decoded_by, then_text, block, state_after, octets_of}

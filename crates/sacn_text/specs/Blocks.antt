@@ -3,8 +3,8 @@ use Rattle.std.specs.Prelude.{ℕ, List, [], ◌++◌, codes, length, ◌==◌, 
 use Rattle.std.specs.List.{before_first}
 use Rattle.std.specs.Fmt.{decimal}
 use Rattle.hex.specs.Hex.{encode_lower}
-use Rattle.sacn_framing.specs.Data.{Data, frame_of}
-use Rattle.sacn_framing.specs.Page.{Page}
+use Rattle.sacn_packets.specs.Data.{Data, frame_of}
+use Rattle.sacn_packets.specs.Page.{Page}
 use Rattle.sacn_text.specs.Words.{escaped, list_text, yes_or_no}
 use Rattle.uuid.specs.Text.{hyphenated_text, lower}
 

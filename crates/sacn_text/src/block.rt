@@ -5,7 +5,7 @@ ghost use Rattle.std.specs.Option.{option_map};
 ghost use Rattle.sacn_text.specs.Blocks.{top_text, data_rest, counts_words, options_words, place_words, values_words, data_values, data_place, data_options, data_block, page_block, page_rest, page_places, known_words, name_text};
 
 use crate::words::{escaped, join, list_text, yes_or_no};
-use sacn_framing::{DataView, PageView, multicast_group};
+use sacn_packets::{DataView, PageView, multicast_group};
 use std::alloc::{AllocError, Global};
 use uuid::Uuid;
 

@@ -2,9 +2,9 @@
 
 ghost use Rattle.std.specs.Prelude.{◌≡◌, ◌+◌, ◌<◌, false, IfOk, IfErr, OnOk, Ok, Err, Some, None, List, ℕ, length, take, map};
 ghost use Rattle.std.specs.Option.{option_map};
-ghost use Rattle.sacn_framing.specs.PacketReading.{reading_packet};
+ghost use Rattle.sacn_packets.specs.PacketReading.{reading_packet};
 ghost use Rattle.sacn_discovery.specs.Collection.{nothing_known};
-ghost use Rattle.sacn_framing.specs.declared.packet.Packet.TheVariants.{PagePacket};
+ghost use Rattle.sacn_packets.specs.declared.framing.packet.Packet.TheVariants.{PagePacket};
 ghost use Rattle.sacn_edge.specs.Additions.{Adds};
 ghost use Rattle.sacn_text.specs.Decoding.{block, state_after, decoded, octets_of, Stops};
 
@@ -12,7 +12,7 @@ use crate::block::{data_block, page_block};
 use crate::fault::DecodeFault;
 use sacn_discovery::Collector;
 use sacn_edge::{Out, write_text};
-use sacn_framing::{Packet, PageView, read_packet};
+use sacn_packets::{Packet, PageView, read_packet};
 use std::alloc::{AllocError, Global};
 
 // The text of a page, after the collector took it.

@@ -1,7 +1,7 @@
 //! Why datagrams aren't all decoded, and why a simulation ends early.
 ghost use Rattle.std.specs.Prelude.{◌≡◌};
 
-use sacn_root::PacketFault;
+use sacn_packets::PacketFault;
 use sacn_world::{TextFault, WorldFault, WorldTextFault};
 use thiserror::Error;
 

@@ -1,9 +1,9 @@
 -- What a screen shows of a network.
 use Rattle.std.specs.Prelude.{ℕ, ◌==◌, List, replicate, Option, None, Some, Result, Ok, Err, if◌then◌else◌}
-use Rattle.sacn_root.specs.declared.fault.PacketFault.{PacketFault}
-use Rattle.sacn_framing.specs.Data.{Data}
-use Rattle.sacn_framing.specs.declared.packet.Packet.{Packet}
-use Rattle.sacn_framing.specs.declared.packet.Packet.TheVariants.{DataPacket, PagePacket, SyncPacket}
+use Rattle.sacn_packets.specs.declared.root.fault.PacketFault.{PacketFault}
+use Rattle.sacn_packets.specs.Data.{Data}
+use Rattle.sacn_packets.specs.declared.framing.packet.Packet.{Packet}
+use Rattle.sacn_packets.specs.declared.framing.packet.Packet.TheVariants.{DataPacket, PagePacket, SyncPacket}
 use Rattle.sacn_monitor.specs.declared.stream.Stream.{Stream}
 use Rattle.sacn_network.specs.LitUniverses.{giver_places}
 use Rattle.sacn_watch.specs.declared.view.View.{View}

@@ -6,7 +6,7 @@ ghost use Rattle.sacn_watch.specs.Pages.{FitsOn};
 use crate::layout::{letter_of, push_more};
 use crate::page::{Ink, Page, Row};
 use crate::view::View;
-use sacn_universe::SLOTS;
+use sacn_packets::SLOTS;
 use std::alloc::{AllocError, Global};
 use std::fmt::Write;
 

@@ -7,8 +7,8 @@ use crate::fault::WatchFault;
 use crate::watch::Watcher;
 use sacn_capture::FrameCounts;
 use sacn_explain::{Follower, Report};
-use sacn_framing::Reading;
 use sacn_monitor::Endpoint;
+use sacn_packets::Reading;
 use std::io::Write;
 
 /// Tells each thing as it happens, and tables at the end, as a recording is told.

@@ -10,8 +10,8 @@ use crate::layout::screen;
 use crate::page::{Ink, Page, Size};
 use crate::view::View;
 use crate::watch::Watcher;
-use sacn_framing::Reading;
 use sacn_monitor::Endpoint;
+use sacn_packets::Reading;
 use std::alloc::{AllocError, Global};
 use std::io::Write;
 

@@ -1,7 +1,7 @@
 //! What a screen shows.
 
 ghost use Rattle.std.specs.Prelude.{◌≡◌, ℕ, List, IfOk, is_some, max, true};
-ghost use Rattle.sacn_framing.specs.PacketReading.{reading_packet};
+ghost use Rattle.sacn_packets.specs.PacketReading.{reading_packet};
 ghost use Rattle.sacn_monitor.specs.Books.{new_book, silent_place};
 ghost use Rattle.sacn_sources.specs.LatestMerge.{new_kept, kept_after_merged};
 ghost use Rattle.sacn_sources.specs.Rows.{after_expire, slots_of};
@@ -10,10 +10,9 @@ ghost use Rattle.sacn_explain.specs.Following.{IsTaken, IsTicked};
 ghost use Rattle.sacn_watch.specs.Views.{after_packet, after_reading, chosen, places_shown, shown_of, shown_with};
 
 use crate::fault::WatchFault;
-use sacn_framing::{DataView, Packet, Reading};
 use sacn_monitor::{Endpoint, Monitor};
 use sacn_network::{LitUniverse, Network, Unobserved};
-use sacn_universe::SLOTS;
+use sacn_packets::{DataView, Packet, Reading, SLOTS};
 use std::alloc::Global;
 
 /// What is known of a network, and the levels of one of its universes.

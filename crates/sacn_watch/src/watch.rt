@@ -1,7 +1,7 @@
 //! The loop of a watch.
 
 ghost use Rattle.std.specs.Prelude.{◌≡◌, ℕ, ◌∷◌, ◌++◌, [], List, IfOk, OnOk, ⊤};
-ghost use Rattle.sacn_framing.specs.PacketReading.{reading_packet};
+ghost use Rattle.sacn_packets.specs.PacketReading.{reading_packet};
 ghost use Rattle.sacn_edge.specs.Additions.{Extends};
 ghost use Rattle.sacn_live.specs.Hearings.{in_order, is_datagram};
 ghost use Rattle.sacn_monitor.specs.Histories.{Call, Take, Tick};
@@ -10,10 +10,10 @@ ghost use Rattle.sacn_watch.specs.Watches.{Receive, heard_in, heard_by, reading_
 use crate::fault::WatchFault;
 use crate::listener::Listener;
 use sacn_edge::BUFFER_OCTETS;
-use sacn_framing::{Reading, read_packet};
 use sacn_live::Arrival;
 use sacn_live::limits::MAX_BURST;
 use sacn_monitor::Endpoint;
+use sacn_packets::{Reading, read_packet};
 
 /// What is done with what is heard. Moments are in milliseconds.
 pub trait Watcher {

@@ -27,10 +27,10 @@ use Rattle.sacn_world.specs.declared.console.Console.{Console}
 use Rattle.sacn_world.specs.Worlds.{NodeOk, WorldOk, World, Outcome, step, sent_by, with_node, order_step, poll_by, poll_step, restart_console, come, arrive, deliver_step, look_step, hear_noise, noise_step, restart_node, left_by, after, new_console, new_world, Apart}
 use Rattle.sacn_world.specs.Counts.{Count, no_count, count_reply, count_come, count_deliver, count_step, count_run, Shows, count_arrive}
 use Rattle.std.specs.Prelude.{Ok, Err}
-use Rattle.sacn_framing.specs.Data.{Data}
-use Rattle.sacn_framing.specs.declared.packet.Packet.{Packet}
-use Rattle.sacn_framing.specs.declared.packet.Packet.TheVariants.{DataPacket, PagePacket, SyncPacket}
-use Rattle.sacn_framing.specs.PacketReading.{reading_packet}
+use Rattle.sacn_packets.specs.Data.{Data}
+use Rattle.sacn_packets.specs.declared.framing.packet.Packet.{Packet}
+use Rattle.sacn_packets.specs.declared.framing.packet.Packet.TheVariants.{DataPacket, PagePacket, SyncPacket}
+use Rattle.sacn_packets.specs.PacketReading.{reading_packet}
 use Rattle.sacn_console.specs.declared.command.Command.{Command}
 use Rattle.sacn_console.specs.Shows.{ShowContent}
 use Rattle.sacn_console.specs.Lines as line

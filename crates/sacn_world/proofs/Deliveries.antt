@@ -3,11 +3,11 @@ use Rattle.std.proofs.Common.{◌≡◌, ℕ, ◌+◌, ◌≤◌, max, Bool, tru
 use Rattle.std.specs.Prelude.{option_map, slice_get, nat_lt, nat_le, ◌==◌, ◌&&◌, if◌then◌else◌}
 use Rattle.std.specs.List.{AllByRecursion}
 use Rattle.std.proofs.lemmas.Bool.{and_parts, and_from, eqb-true, eq-eqb, leb-true, le-leb, cases_lt}
-use Rattle.sacn_framing.specs.declared.packet.Packet.{Packet}
-use Rattle.sacn_framing.specs.declared.packet.Packet.TheVariants.{DataPacket, PagePacket, SyncPacket}
+use Rattle.sacn_packets.specs.declared.framing.packet.Packet.{Packet}
+use Rattle.sacn_packets.specs.declared.framing.packet.Packet.TheVariants.{DataPacket, PagePacket, SyncPacket}
 use Rattle.sacn_node.specs.Cores.{Core, core_at}
 use Rattle.sacn_node.specs.Readings.{reply_to, after_reading}
-use Rattle.sacn_universe.specs.Universe.{Rising}
+use Rattle.sacn_packets.specs.Universe.{Rising}
 use Rattle.sacn_world.specs.declared.limits.TheConstants.{TOO_FAR_BEHIND}
 use Rattle.sacn_world.specs.declared.fault.WorldFault.TheVariants.{TooFarBehind, OldLife}
 use Rattle.sacn_world.specs.Streams.{Sent, is_of, is_on, stream_of, life_at, place_of}

@@ -6,24 +6,24 @@ use Rattle.std.proofs.lemmas.Option.{same_Some}
 use Rattle.std.specs.List.{AllByRecursion}
 use Rattle.std.proofs.lemmas.List.{map-set}
 use Rattle.std.proofs.lemmas.Option.{slice_get-map, slice_get_past}
-use Rattle.sacn_framing.specs.PacketReading.{reading_packet}
+use Rattle.sacn_packets.specs.PacketReading.{reading_packet}
 use Rattle.sacn_console.specs.declared.command.Command.{Command}
 use Rattle.sacn_console.specs.Core as console
 use Rattle.sacn_node.specs.Cores.{core_at, core_slots, node_frame}
 use Rattle.sacn_node.specs.Ports.{port_of, frame_on}
 use Rattle.sacn_node.specs.Readings.{Reading, reply_to}
-use Rattle.sacn_framing.specs.declared.packet.Packet.{Packet}
+use Rattle.sacn_packets.specs.declared.framing.packet.Packet.{Packet}
 use Rattle.std.specs.Prelude.{Vec}
 use Rattle.std.specs.declared.alloc.Global.{Global}
 use Rattle.sacn_node.specs.declared.answer.NodeTaken.{NodeTaken}
 use Rattle.sacn_node.specs.declared.answer.NodeTaken.TheVariants.{Refused}
 use Rattle.sacn_node.specs.Setup.{Port, universes}
-use Rattle.sacn_universe.specs.Universe.{Rising}
+use Rattle.sacn_packets.specs.Universe.{Rising}
 use Rattle.sacn_node.specs.Laws.{HasTheUniversesOfItsRanges}
 use Rattle.sacn_node.specs.Cores as numbers
 use Rattle.sacn_world.specs.Holdings.{RisingByCid}
 use Rattle.sacn_world.specs.Nodes.{Holding, nothing_held, seen_table}
-use Rattle.sacn_root.specs.declared.fault.PacketFault.{PacketFault}
+use Rattle.sacn_packets.specs.declared.root.fault.PacketFault.{PacketFault}
 use Rattle.sacn_world.specs.declared.answer.Answer.{Answer}
 use Rattle.sacn_world.specs.declared.answer.Answer.TheVariants as answered
 use Rattle.sacn_world.specs.declared.console.Console.{Console}

@@ -5,7 +5,7 @@ use Rattle.std.specs.List.{AllByRecursion}
 use Rattle.std.proofs.lemmas.Bool.{and_from, eq-eqb}
 use Rattle.std.proofs.lemmas.Option.{same_Some}
 use Rattle.std.proofs.lemmas.List.{take_at, get_or_push}
-use Rattle.sacn_framing.specs.Data.{Data}
+use Rattle.sacn_packets.specs.Data.{Data}
 use Rattle.sacn_sources.specs.Packets.{packet_of, kind_of}
 use Rattle.sacn_sources.specs.declared.kind.Kind.TheVariants.{Live, Termination, Preview, Other}
 use Rattle.sacn_console.specs.declared.line.UniverseLine.{UniverseLine}

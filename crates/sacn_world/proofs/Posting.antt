@@ -4,14 +4,14 @@ use Rattle.std.specs.Prelude.{slice_set, option_map, count_by, ◌&&◌}
 use Rattle.std.specs.List.{AllByRecursion}
 use Rattle.std.proofs.lemmas.List.{take_at, map-append, length-map}
 use Rattle.std.proofs.lemmas.Option.{slice_get-map}
-use Rattle.sacn_framing.specs.Data.{Data, IsData}
-use Rattle.sacn_framing.specs.Page.{IsPage}
-use Rattle.sacn_framing.specs.Page as paged
-use Rattle.sacn_framing.specs.FramingText.{nothing}
-use Rattle.sacn_framing.specs.PacketText.{data_text, page_text, unused}
-use Rattle.sacn_framing.specs.PacketReading.{reading_packet}
-use Rattle.sacn_framing.specs.declared.packet.Packet.{Packet}
-use Rattle.sacn_framing.specs.declared.packet.Packet.TheVariants.{DataPacket, PagePacket, SyncPacket}
+use Rattle.sacn_packets.specs.Data.{Data, IsData}
+use Rattle.sacn_packets.specs.Page.{IsPage}
+use Rattle.sacn_packets.specs.Page as paged
+use Rattle.sacn_packets.specs.FramingText.{nothing}
+use Rattle.sacn_packets.specs.PacketText.{data_text, page_text, unused}
+use Rattle.sacn_packets.specs.PacketReading.{reading_packet}
+use Rattle.sacn_packets.specs.declared.framing.packet.Packet.{Packet}
+use Rattle.sacn_packets.specs.declared.framing.packet.Packet.TheVariants.{DataPacket, PagePacket, SyncPacket}
 use Rattle.sacn_discovery.specs.Pages.{page_of_list}
 use Rattle.sacn_sources.specs.Order.{same}
 use Rattle.sacn_console.specs.declared.sender.Sender.{Sender}

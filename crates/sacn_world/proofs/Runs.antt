@@ -4,10 +4,10 @@ use Rattle.std.specs.Prelude.{slice_get, slice_set, option_map}
 use Rattle.std.specs.List.{AllByRecursion}
 use Rattle.std.proofs.lemmas.Bool.{and_from, eq-eqb}
 use Rattle.std.proofs.lemmas.Option.{slice_get-map, same_Some}
-use Rattle.sacn_framing.specs.Data.{Data}
-use Rattle.sacn_framing.specs.declared.packet.Packet.{Packet}
-use Rattle.sacn_framing.specs.declared.packet.Packet.TheVariants.{DataPacket, PagePacket, SyncPacket}
-use Rattle.sacn_framing.specs.PacketReading.{reading_packet}
+use Rattle.sacn_packets.specs.Data.{Data}
+use Rattle.sacn_packets.specs.declared.framing.packet.Packet.{Packet}
+use Rattle.sacn_packets.specs.declared.framing.packet.Packet.TheVariants.{DataPacket, PagePacket, SyncPacket}
+use Rattle.sacn_packets.specs.PacketReading.{reading_packet}
 use Rattle.sacn_sources.specs.Packets.{packet_of}
 use Rattle.sacn_console.specs.declared.command.Command.{Command}
 use Rattle.sacn_console.specs.Shows.{ShowContent}

@@ -1,7 +1,7 @@
 -- What an event leaves of a place that a node holds, and how long an entry lasts.
 use Rattle.std.specs.Prelude.{◌≡◌, ◌≢◌, ⊤, ℕ, ◌<◌, ◌≤◌, max, true, ◌==◌, if◌then◌else◌, List, [], ◌∷◌, slice_get, Some, Ok}
-use Rattle.sacn_framing.specs.Data.{Data}
-use Rattle.sacn_framing.specs.declared.packet.Packet.TheVariants.{DataPacket}
+use Rattle.sacn_packets.specs.Data.{Data}
+use Rattle.sacn_packets.specs.declared.framing.packet.Packet.TheVariants.{DataPacket}
 use Rattle.sacn_sources.specs.declared.answer.Taken.{Taken as TableTaken}
 use Rattle.sacn_node.specs.declared.answer.NodeTaken.TheVariants.{FromTable}
 use Rattle.sacn_world.specs.declared.answer.Answer.{Answer}

@@ -1,8 +1,8 @@
 -- The headline: what holds of every run of a world of consoles and nodes, whatever was commanded, sent, delivered, lost, repeated
 -- and delayed, whatever the clocks read, and whoever started anew.
 use Rattle.std.specs.Prelude.{◌≡◌, ◌↔◌, ℕ, ◌+◌, ◌≤◌, List, take, drop, map, slice_get, Some}
-use Rattle.sacn_framing.specs.Data.{Data}
-use Rattle.sacn_framing.specs.declared.packet.Packet.TheVariants.{DataPacket}
+use Rattle.sacn_packets.specs.Data.{Data}
+use Rattle.sacn_packets.specs.declared.framing.packet.Packet.TheVariants.{DataPacket}
 use Rattle.sacn_node.specs.Setup.{Port}
 use Rattle.sacn_world.specs.declared.answer.Answer.{Answer}
 use Rattle.sacn_schedule.specs.declared.event.Event.{Event}

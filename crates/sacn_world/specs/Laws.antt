@@ -1,8 +1,8 @@
 -- What is so in every world that can be come to, whatever was sent, lost, repeated, delayed and restarted.
 use Rattle.std.specs.Prelude.{◌≡◌, ℕ, ◌+◌, ◌-◌, ◌<◌, ◌≤◌, true, List, map, find, slice_get, Some, Ok}
 use Rattle.std.specs.Option.{option_map}
-use Rattle.sacn_framing.specs.Data.{Data}
-use Rattle.sacn_framing.specs.declared.packet.Packet.TheVariants.{DataPacket}
+use Rattle.sacn_packets.specs.Data.{Data}
+use Rattle.sacn_packets.specs.declared.framing.packet.Packet.TheVariants.{DataPacket}
 use Rattle.sacn_sources.specs.Rows.{row_of}
 use Rattle.sacn_console.specs.Shows.{ShowContent}
 use Rattle.sacn_node.specs.declared.setup.SlotRange.{SlotRange}

@@ -1,7 +1,7 @@
 -- Looks at the ports of a run, and when two of them agree.
 use Rattle.std.specs.Prelude.{◌≡◌, ◌↔◌, ℕ, ◌<◌, ◌≤◌, List, take, map, get_or, slice_get, Some}
 use Rattle.sacn_slots.specs.Merge.{Shown}
-use Rattle.sacn_universe.specs.declared.limits.TheConstants.{SLOTS}
+use Rattle.sacn_packets.specs.declared.universe.TheConstants.{SLOTS}
 use Rattle.sacn_node.specs.Setup.{Port}
 use Rattle.sacn_node.specs.Ports.{port_of}
 use Rattle.sacn_world.specs.declared.answer.Answer.{Answer}

@@ -1,7 +1,7 @@
 -- Runs of a world: what is kept of it, what each event of a run was answered, and catch-up from any world of a run.
 use Rattle.std.specs.Prelude.{◌≡◌, ℕ, ◌+◌, ◌≤◌, List, ◌++◌, map, take, length, slice_get, Some, Ok, ◌↔◌}
-use Rattle.sacn_framing.specs.Data.{Data}
-use Rattle.sacn_framing.specs.declared.packet.Packet.TheVariants.{DataPacket}
+use Rattle.sacn_packets.specs.Data.{Data}
+use Rattle.sacn_packets.specs.declared.framing.packet.Packet.TheVariants.{DataPacket}
 use Rattle.sacn_sources.specs.Rows.{Row}
 use Rattle.sacn_node.specs.Setup.{Port}
 use Rattle.sacn_world.specs.declared.answer.Answer.{Answer}

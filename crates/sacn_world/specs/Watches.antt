@@ -15,7 +15,7 @@ use Rattle.sacn_world.specs.declared.fault.WorldFault.{WorldFault}
 use Rattle.sacn_world.specs.declared.fault.WorldFault.TheVariants.{TooFarBehind, OldLife}
 use Rattle.sacn_world.specs.declared.limits.TheConstants.{TOO_FAR_BEHIND}
 use Rattle.sacn_world.specs.Streams.{Sent, stream_of, life_at}
-use Rattle.sacn_universe.specs.Universe.{Rising}
+use Rattle.sacn_packets.specs.Universe.{Rising}
 use Rattle.sacn_world.specs.Holdings.{Hold, Delivery, RisingByCid}
 use Rattle.sacn_world.specs.Nodes.{Holding, Node, seen_core}
 

@@ -1,8 +1,8 @@
 -- A datagram as a world keeps it: its octets, and where it stands in its stream.
 use Rattle.std.specs.Prelude.{◌≡◌, ◌==◌, ◌&&◌, Bool, false, ℕ, List, take, count_by, slice_get, if◌then◌else◌, Option, Some, None, Ok, Err}
-use Rattle.sacn_framing.specs.declared.packet.Packet.{Packet}
-use Rattle.sacn_framing.specs.declared.packet.Packet.TheVariants.{DataPacket, PagePacket, SyncPacket}
-use Rattle.sacn_framing.specs.PacketReading.{reading_packet}
+use Rattle.sacn_packets.specs.declared.framing.packet.Packet.{Packet}
+use Rattle.sacn_packets.specs.declared.framing.packet.Packet.TheVariants.{DataPacket, PagePacket, SyncPacket}
+use Rattle.sacn_packets.specs.PacketReading.{reading_packet}
 use Rattle.sacn_sources.specs.Order.{same}
 use Rattle.sacn_node.specs.Readings.{Reading}
 pub use Rattle.sacn_world.specs.declared.datagram.SentDatagram.{SentDatagram}

@@ -1,7 +1,7 @@
 //! A node of a world.
 
 ghost use Rattle.std.specs.Prelude.{◌≡◌, IfOk, OnOk, OnErr, Some, None, Ok, []};
-ghost use Rattle.sacn_framing.specs.PacketReading.{reading_packet};
+ghost use Rattle.sacn_packets.specs.PacketReading.{reading_packet};
 ghost use Rattle.sacn_node.specs.Cores.{core_at, core_row, node_frame};
 ghost use Rattle.sacn_node.specs.Readings.{reply_to, after_reading};
 ghost use Rattle.sacn_world.specs.Watches.{mark_of, held_place, place_noted, mark_refusal, marks_after, with_core, new_watch, taken_by};

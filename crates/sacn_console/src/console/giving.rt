@@ -10,8 +10,7 @@ use crate::lines::{first_due, list_standing};
 use crate::sender::Sender;
 use sacn_cues::Player;
 use sacn_discovery::{page_count, write_page};
-use sacn_framing::{DataFields, write_data};
-use sacn_universe::SLOTS;
+use sacn_packets::{DataFields, SLOTS, write_data};
 
 impl ConsoleCore {
     ghost use Rattle.std.specs.Prelude.{Some, None, MatchOption, ℕ, is_some, true, ◌+◌, min};

@@ -3,15 +3,14 @@ ghost use Rattle.std.specs.Prelude.{◌≡◌, ◌≤◌, codes, true, option_ma
 ghost use Rattle.toml.specs.Data.{get_member, as_str};
 ghost use Rattle.toml.specs.View.{view, table_view};
 ghost use Rattle.sacn_files.specs.Document.{Gives};
-ghost use Rattle.sacn_framing.specs.Naming.{is_nameable, padded};
+ghost use Rattle.sacn_packets.specs.Naming.{is_nameable, padded};
 ghost use Rattle.sacn_console.specs.ShowReading.{name_in, cid_in, priority_of, identity_in};
 
 use super::ShowFault;
 use crate::limits::DEFAULT_PRIORITY;
 use crate::sender::Sender;
 use sacn_files::values::{byte_in, value_at};
-use sacn_framing::source_name;
-use sacn_universe::MAX_PRIORITY;
+use sacn_packets::{MAX_PRIORITY, source_name};
 use std::alloc::Global;
 use std::marker::Model;
 use toml::{Table, Value};
@@ -26,7 +25,7 @@ pub(super) struct Identity {
 
 impl Model for Identity {
     ghost use Rattle.std.specs.Prelude.{◌≡◌, ◌≤◌, true, string_bytes};
-    ghost use Rattle.sacn_framing.specs.Naming.{is_nameable, padded};
+    ghost use Rattle.sacn_packets.specs.Naming.{is_nameable, padded};
     ghost use Rattle.sacn_console.specs.ShowReading.{Identity as Value_of};
 
     ghost Value = { Value_of };

@@ -7,7 +7,7 @@ ghost use Rattle.sacn_node.specs.SetupReading.{order_fault};
 use super::{PortSetup, SetupFault, SlotRange};
 use crate::limits::MAX_UNIVERSES;
 use sacn_files::numbers::place;
-use sacn_universe::SLOTS;
+use sacn_packets::SLOTS;
 use std::alloc::{AllocError, Global};
 
 /// The place after the last slot; slots count from 1.

@@ -1,5 +1,5 @@
 use Rattle.std.proofs.Common.{◌≡◌, ◌<◌, ◌+◌, ◌++◌, ◌∙◌, sym, ap, subst, List, ℕ, length, take, drop, arith, Vec, Global}
-use Rattle.sacn_framing.specs.PacketReading.{reading_packet}
+use Rattle.sacn_packets.specs.PacketReading.{reading_packet}
 use Rattle.sacn_discovery.specs.Collection.{nothing_known, State}
 use Rattle.sacn_edge.specs.Additions.{Adds}
 use Rattle.sacn_text.specs.Decoding.{block, decoded, then_text, octets_of}

@@ -1,5 +1,5 @@
 use Rattle.std.proofs.Common.{◌≡◌, ◌==◌, List, ℕ, Bool, true, Some, [], ◌∷◌, ap, subst, sym, ◌∙◌}
-use Rattle.sacn_framing.specs.PacketReading.{reading_packet}
+use Rattle.sacn_packets.specs.PacketReading.{reading_packet}
 use Rattle.sacn_edge.specs.ConsoleSends.{Handed}
 use Rattle.sacn_edge.proofs.ConsoleLemmas.{Hands-append}
 use Rattle.sacn_live.specs.Groups.{universe_read}

@@ -1,6 +1,6 @@
 use Rattle.std.proofs.Common.{sym, subst, ◌∙◌, ap}
 use Rattle.sacn_node.specs.Setup.{universes}
-use Rattle.sacn_universe.specs.Universe.{Rising}
+use Rattle.sacn_packets.specs.Universe.{Rising}
 use Rattle.sacn_node.proofs.Guarantees.{universes_rise}
 use Rattle.sacn_node.proofs.node.NodeCore.new.Goals as goal
 

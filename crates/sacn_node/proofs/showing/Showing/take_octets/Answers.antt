@@ -1,5 +1,5 @@
 use Rattle.std.proofs.Common.{ap}
-use Rattle.sacn_framing.specs.PacketReading.{reading_packet}
+use Rattle.sacn_packets.specs.PacketReading.{reading_packet}
 use Rattle.sacn_node.proofs.Looks.{taken_showing}
 use Rattle.sacn_node.proofs.showing.Showing.take_octets.Goals as goal
 

@@ -1,6 +1,6 @@
 use Rattle.std.proofs.Common.{rules, refl, sym, ap, subst, ◌∙◌, arith, inl, inr, ◌≡◌, None}
 use Rattle.std.proofs.lemmas.Option.{slice_get_read, same_Some}
-use Rattle.sacn_framing.specs.PacketReading.{reading_packet}
+use Rattle.sacn_packets.specs.PacketReading.{reading_packet}
 use Rattle.sacn_world.specs.declared.datagram.SentDatagram.{SentDatagram}
 use Rattle.sacn_world.specs.Watches.{Watch, taken_by}
 use Rattle.sacn_world.specs.Wire.{came_of, refusal_by}

@@ -1,6 +1,6 @@
 use Rattle.std.proofs.Common.{rules, refl, sym, ap, ◌∙◌, arith}
 use Rattle.std.proofs.lemmas.Option.{slice_get_read}
-use Rattle.sacn_framing.specs.PacketReading.{reading_packet}
+use Rattle.sacn_packets.specs.PacketReading.{reading_packet}
 use Rattle.sacn_node.specs.Readings.{reply_to}
 use Rattle.std.specs.Prelude.{is_ok, None}
 use Rattle.sacn_world.specs.Watches.{Watch, taken_by}

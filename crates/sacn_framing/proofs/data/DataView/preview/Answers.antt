@@ -1,8 +1,0 @@
-use Rattle.std.proofs.Common.{ℕ, ◌∙◌, ap}
-use Rattle.sacn_framing.specs.Data.{Data}
-use Rattle.sacn_framing.specs.FramingText.{is_set}
-use Rattle.sacn_framing.proofs.LayersRead.{options_there}
-use Rattle.sacn_framing.proofs.data.DataView.preview.Goals as goal
-
-pub returns : goal.returns
-returns c = c.is_preview.ensures ∙ ap (λ (octet : ℕ). is_set octet 7) (options_there c.self.inside.octets.now c.self.invariant.laid_out) ∙ ap (λ (d : Data). d.preview) c.self.view_is

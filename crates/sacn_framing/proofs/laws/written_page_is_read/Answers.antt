@@ -1,5 +1,0 @@
-use Rattle.sacn_framing.proofs.Packets.{page_written}
-use Rattle.sacn_framing.proofs.laws.written_page_is_read.Goals as goal
-
-pub returns : goal.returns
-returns c = page_written

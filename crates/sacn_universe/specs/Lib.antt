@@ -1,2 +1,0 @@
-pub mod Universe
-pub mod Results
