@@ -1,5 +1,5 @@
 //! Outputs whose sinks take little, nothing, or fail.
-use sacn_live::{Lines, Output, Sink};
+use sacn_machine::{Lines, Output, Sink};
 use std::alloc::{AllocError, Global};
 use std::cell::RefCell;
 use std::io::{self, ErrorKind, Write};

@@ -2,8 +2,8 @@
 use crate::packet::cid_in;
 use crate::step::{Step, StepFault};
 use fixtures::packets::{DESK, data, page, sync};
-use sacn_live::memory::TimedArrival;
-use sacn_live::{Octets4, host_of};
+use sacn_machine::memory::TimedArrival;
+use sacn_machine::{Octets4, host_of};
 
 /// The datagram that the words left say: `data ..`, `page ..`, `sync`, or `octets` and hexadecimal digits.
 ///

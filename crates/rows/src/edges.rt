@@ -1,6 +1,6 @@
 //! Values at the edge: addresses in words, an interface's packets, and lines that come in pieces.
 use crate::step::{Step, StepFault};
-use sacn_live::{Gathered, LineBuffer, destination_of, host_of, widget_packet};
+use sacn_machine::{Gathered, LineBuffer, destination_of, host_of, widget_packet};
 use std::alloc::Global;
 
 /// A line that is being gathered.

@@ -4,13 +4,13 @@ use crate::datagram::{incoming_in, sender_of};
 use crate::step::{Step, StepFault};
 use crate::tellers::{ListOrders, Tally};
 use sacn_console::{Command, ConsoleCore, read_script, read_show};
+use sacn_desk::{DeskLink, Opening, run_desk};
 use sacn_edge::memory::{Incoming, ListClock, MemoryLink};
 use sacn_edge::{ConsoleReport, WriterOut, run_console, run_node};
-use sacn_live::memory::{MemoryReceiver, TimedArrival};
-use sacn_live::memory_device::MemoryDevice;
-use sacn_live::{
-    DeskLink, DeviceFault, Interface, Octets4, Opening, Span, Took, run_desk, run_gateway,
-};
+use sacn_gateway::{Interface, Span, run_gateway};
+use sacn_machine::memory::{MemoryReceiver, TimedArrival};
+use sacn_machine::memory_device::MemoryDevice;
+use sacn_machine::{DeviceFault, Octets4, Took};
 use sacn_node::{NodeCore, read_node};
 use std::alloc::Global;
 use std::mem;

@@ -1,8 +1,10 @@
 //! What stands beside a loop: what counts at a gateway, and what gives a desk its orders.
 use crate::step::Step;
 use sacn_console::{Command, ConsoleCore, ConsoleFault};
+use sacn_desk::Orders;
 use sacn_edge::ConsoleReport;
-use sacn_live::{DeviceFault, Notes, Octets4, Orders, PassedOver};
+use sacn_gateway::{Notes, PassedOver};
+use sacn_machine::{DeviceFault, Octets4};
 use sacn_node::NodeTaken;
 use sacn_packets::Reading;
 use std::net::SocketAddrV4;

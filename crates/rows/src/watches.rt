@@ -5,7 +5,7 @@ use crate::loops::push;
 use crate::step::{Step, StepFault};
 use sacn_edge::WriterOut;
 use sacn_explain::{Form, Options};
-use sacn_live::memory::{MemoryReceiver, TimedArrival};
+use sacn_machine::memory::{MemoryReceiver, TimedArrival};
 use sacn_monitor::Endpoint;
 use sacn_packets::read_packet;
 use sacn_text::decode_text;

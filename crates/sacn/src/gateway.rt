@@ -5,9 +5,10 @@ use crate::watch::watch_end;
 use sacn_commands::ending::Ending;
 use sacn_commands::gateway::{diagnosis_of, receiver_of, run_setup, setup_of};
 use sacn_commands::live::{clock_of, joined_groups, of_socket, universes_of_setup};
-use sacn_live::{
-    DeviceFault, Diagnosis, Lines, Notes, Octets4, Outputs, PassedOver, UdpReceiver,
-    guard_standard_descriptors, output_is_terminal,
+use sacn_gateway::{Diagnosis, Notes, PassedOver};
+use sacn_machine::{
+    DeviceFault, Lines, Octets4, Outputs, UdpReceiver, guard_standard_descriptors,
+    output_is_terminal,
 };
 use sacn_monitor::Endpoint;
 use sacn_node::{NodeSetup, NodeTaken};

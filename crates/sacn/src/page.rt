@@ -2,7 +2,7 @@
 use crate::watch::{receiver_at, watch_end};
 use sacn_commands::ending::Ending;
 use sacn_commands::live::{joined_groups, of_socket, say_hearing};
-use sacn_live::{Lines, Outputs};
+use sacn_machine::{Lines, Outputs};
 use sacn_page::{Board, MAX_ALARMS, Pages};
 use sacn_watch::{RunningListener, run_watch};
 use std::env::Env;

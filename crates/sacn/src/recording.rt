@@ -5,7 +5,7 @@ use crate::watch::watch_end;
 use sacn_commands::ending::{Ending, REFUSED};
 use sacn_commands::live::{clock_of, of_socket};
 use sacn_files::limits::DEFAULT_UDP_PORT;
-use sacn_live::guard_standard_descriptors;
+use sacn_machine::guard_standard_descriptors;
 use sacn_page::{Pages, Quiet, Recording, SeekFault, Tape};
 use sacn_watch::{Listener, run_watch};
 use sacn_words::ExplainAsked;

@@ -2,7 +2,7 @@
 use sacn_commands::files::text_of_file;
 use sacn_commands::live::joined_groups;
 use sacn_files::words::short_in;
-use sacn_live::say_silence;
+use sacn_machine::say_silence;
 use sacn_watch::{Listener, MIN_WAIT, Screen, Size, Sizes, Terminal, WatchFault, watch_terminal};
 use sacn_words::WatchAsked;
 use std::alloc::{Alloc, AllocError};

@@ -6,12 +6,14 @@ use crate::network::tell;
 use sacn_check::{FileKind, kind_of};
 use sacn_console::limits::CONSOLE_UNIVERSES;
 use sacn_console::{Command, ConsoleCore, Show, read_script, read_show};
-use sacn_edge::ConsoleReport;
-use sacn_live::limits::{MAX_ROUNDS, RECEIVE_ROOM};
-use sacn_live::{
-    DISCOVERY_UNIVERSE, DeskLink, DeskOrders, DeskSender, Destinations, Lines, Opening, Origin,
-    Outputs, Plan, RigClock, guard_standard_descriptors, run_desk,
+use sacn_desk::limits::MAX_ROUNDS;
+use sacn_desk::{
+    DISCOVERY_UNIVERSE, DeskLink, DeskOrders, DeskSender, Destinations, Opening, Origin, Plan,
+    run_desk,
 };
+use sacn_edge::ConsoleReport;
+use sacn_machine::limits::RECEIVE_ROOM;
+use sacn_machine::{Lines, Outputs, RigClock, guard_standard_descriptors};
 use sacn_node::{NodeSetup, read_node};
 use sacn_packets::multicast_group;
 use sacn_words::DeskAsked;

@@ -1,8 +1,8 @@
 //! Where a server of a recording waits: it hears nothing.
 
 use sacn_edge::{BUFFER_OCTETS, Clock};
-use sacn_live::sys::{NO_DESCRIPTOR, wait_readable};
-use sacn_live::{Arrival, InputEnd, Receipt, Receiver, RigClock};
+use sacn_machine::sys::{NO_DESCRIPTOR, wait_readable};
+use sacn_machine::{Arrival, InputEnd, Receipt, Receiver, RigClock};
 use sacn_watch::Listener;
 use std::os::fd::RawFd;
 use std::rt::Clock as MachineClock;

@@ -5,7 +5,7 @@ use Rattle.sacn_console.specs.declared.command.Command.{Command}
 use Rattle.sacn_console.specs.Core.{Core, at, after_command, after_poll, answer}
 use Rattle.sacn_console.specs.Runs.{Call, Order, Poll}
 use Rattle.sacn_edge.specs.ConsoleSends.{sent_at}
-use Rattle.sacn_live.specs.DeskSends.{Round, ordered, polled, desk_after, sends, desk_sends, refusals, desk_refusals}
+use Rattle.sacn_desk.specs.DeskSends.{Round, ordered, polled, desk_after, sends, desk_sends, refusals, desk_refusals}
 use Rattle.sacn_runs.specs.DeskRuns.{order_calls, poll_calls, desk_calls}
 use Rattle.sacn_runs.proofs.Requests.{over, gave, refused_count, over-append, gave-append, refused-append}
 

@@ -7,10 +7,10 @@ use Rattle.sacn_node.specs.Setup.{Port, port_numbers}
 use Rattle.sacn_schedule.specs.Cids.{Desk}
 use Rattle.sacn_schedule.specs.declared.event.Event.{Event}
 use Rattle.sacn_edge.specs.NodeText.{text_of}
-use Rattle.sacn_live.specs.Hearings.{Hearing}
-use Rattle.sacn_live.specs.GatewayText.{gateway_after}
-use Rattle.sacn_live.specs.GatewayRun.{AreWhole}
-use Rattle.sacn_live.specs.InterfaceLaws.{OffersAreOfTheirPort}
+use Rattle.sacn_machine.specs.Hearings.{Hearing}
+use Rattle.sacn_gateway.specs.GatewayText.{gateway_after}
+use Rattle.sacn_gateway.specs.GatewayRun.{AreWhole}
+use Rattle.sacn_gateway.specs.InterfaceLaws.{OffersAreOfTheirPort}
 use Rattle.sacn_world.specs.Nodes.{Node, seen_core}
 use Rattle.sacn_world.specs.Worlds.{World, new_world, WorldOk}
 use Rattle.sacn_world.specs.Runs.{Ran, ran}

@@ -4,11 +4,12 @@ use Rattle.sacn_node.specs.Setup.{Port, port_numbers}
 use Rattle.sacn_node.specs.Cores.{Core, Node, core_at, node_frame}
 use Rattle.sacn_edge.specs.NodeText.{Turn, FrameLine, node_after, with_frame, with_ports}
 use Rattle.sacn_edge.proofs.Settling.{turn_settled}
-use Rattle.sacn_live.specs.declared.backlog.Backlog.{Backlog}
-use Rattle.sacn_live.specs.Hearings.{Hearing, heard_of, turns_of, backlog_after}
-use Rattle.sacn_live.specs.GatewayText.{gateway_after, gateway_lines}
-use Rattle.sacn_live.specs.GatewayRun.{IsWhole, AreWhole, latest_reading}
-use Rattle.sacn_live.specs.PlainGateway.{backlog_at}
+use Rattle.sacn_gateway.specs.declared.backlog.Backlog.{Backlog}
+use Rattle.sacn_machine.specs.Hearings.{Hearing}
+use Rattle.sacn_gateway.specs.GatewayTurns.{heard_of, turns_of, backlog_after}
+use Rattle.sacn_gateway.specs.GatewayText.{gateway_after, gateway_lines}
+use Rattle.sacn_gateway.specs.GatewayRun.{IsWhole, AreWhole, latest_reading}
+use Rattle.sacn_gateway.specs.PlainGateway.{backlog_at}
 use Rattle.sacn_runs.specs.NodeVisits.{Visit, Came, Asked, Began, packet_heard}
 use Rattle.sacn_runs.specs.GatewayRuns.{PortLook, came_in, gateway_visits, look_of, gateway_looks}
 use Rattle.sacn_runs.proofs.Visits.{Showing, node_with, asked, shown_by, show_all, show_all-append}

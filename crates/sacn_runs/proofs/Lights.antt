@@ -8,12 +8,12 @@ use Rattle.sacn_node.specs.Ports.{port_of, frame_on}
 use Rattle.sacn_node.specs.Cores.{Core, Node, core_slots}
 use Rattle.sacn_schedule.specs.declared.event.Event.{Event}
 use Rattle.sacn_schedule.specs.declared.event.Event.TheVariants as event
-use Rattle.sacn_live.specs.Hearings.{Hearing}
-use Rattle.sacn_live.specs.GatewayText.{gateway_after}
-use Rattle.sacn_live.specs.GatewayRun.{latest_reading}
-use Rattle.sacn_live.specs.Interfaces.{AreOffers, frame_after}
-use Rattle.sacn_live.specs.InterfaceLaws.{IsOfATurn, AreOfTurns, OffersAreOfTheirPort}
-use Rattle.sacn_live.specs.declared.device.Offer.{Offer}
+use Rattle.sacn_machine.specs.Hearings.{Hearing}
+use Rattle.sacn_gateway.specs.GatewayText.{gateway_after}
+use Rattle.sacn_gateway.specs.GatewayRun.{latest_reading}
+use Rattle.sacn_gateway.specs.Interfaces.{AreOffers, frame_after}
+use Rattle.sacn_gateway.specs.InterfaceLaws.{IsOfATurn, AreOfTurns, OffersAreOfTheirPort}
+use Rattle.sacn_machine.specs.declared.device.Offer.{Offer}
 use Rattle.sacn_world.specs.declared.answer.Answer.{Answer}
 use Rattle.sacn_world.specs.declared.answer.Answer.TheVariants as answered
 use Rattle.sacn_runs.specs.NodeRuns.{frame_told}

@@ -10,10 +10,10 @@ use Rattle.sacn_node.specs.Setup.{Port}
 use Rattle.sacn_schedule.specs.Cids.{Desk}
 use Rattle.sacn_schedule.specs.declared.event.Event.{Event}
 use Rattle.sacn_schedule.specs.declared.event.Event.TheVariants as event
-use Rattle.sacn_live.specs.DeskSends.{desk_sends}
-use Rattle.sacn_live.specs.InterfaceLaws.{OffersAreOfTheirPort}
-use Rattle.sacn_live.specs.Widgets.{widget_text}
-use Rattle.sacn_live.specs.declared.device.Offer.{Offer}
+use Rattle.sacn_desk.specs.DeskSends.{desk_sends}
+use Rattle.sacn_gateway.specs.InterfaceLaws.{OffersAreOfTheirPort}
+use Rattle.sacn_machine.specs.Widgets.{widget_text}
+use Rattle.sacn_machine.specs.declared.device.Offer.{Offer}
 use Rattle.sacn_world.specs.declared.answer.Answer.{Answer}
 use Rattle.sacn_world.specs.declared.answer.Answer.TheVariants as answered
 use Rattle.sacn_world.specs.Streams.{Sent}

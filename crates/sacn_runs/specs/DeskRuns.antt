@@ -5,7 +5,7 @@ use Rattle.sacn_console.specs.Runs.{Call, Order, Poll}
 use Rattle.sacn_node.specs.Setup.{Port}
 use Rattle.sacn_schedule.specs.Cids.{Desk}
 use Rattle.sacn_schedule.specs.declared.event.Event.{Event}
-use Rattle.sacn_live.specs.DeskSends.{Round, desk_after, desk_sends, desk_refusals}
+use Rattle.sacn_desk.specs.DeskSends.{Round, desk_after, desk_sends, desk_refusals}
 use Rattle.sacn_world.specs.declared.answer.Answer.{Answer}
 use Rattle.sacn_world.specs.declared.console.Console.{Console}
 use Rattle.sacn_world.specs.Worlds.{World, new_console, Apart}

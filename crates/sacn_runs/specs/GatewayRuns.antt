@@ -6,13 +6,14 @@ use Rattle.sacn_schedule.specs.Cids.{Desk}
 use Rattle.sacn_schedule.specs.declared.event.Event.{Event}
 use Rattle.sacn_schedule.specs.declared.event.Event.TheVariants.{Order, Poll, Deliver, Look, RestartConsole, RestartNode, Noise}
 use Rattle.sacn_edge.specs.NodeText.{Turn, text_of}
-use Rattle.sacn_live.specs.Hearings.{Hearing, turns_of}
-use Rattle.sacn_live.specs.GatewayText.{gateway_after, gateway_lines, gateway_text}
-use Rattle.sacn_live.specs.GatewayRun.{AreWhole, latest_reading}
-use Rattle.sacn_live.specs.PlainGateway.{backlog_at}
-use Rattle.sacn_live.specs.Interfaces.{AreOffers}
-use Rattle.sacn_live.specs.Widgets.{widget_text}
-use Rattle.sacn_live.specs.declared.device.Offer.{Offer}
+use Rattle.sacn_machine.specs.Hearings.{Hearing}
+use Rattle.sacn_gateway.specs.GatewayTurns.{turns_of}
+use Rattle.sacn_gateway.specs.GatewayText.{gateway_after, gateway_lines, gateway_text}
+use Rattle.sacn_gateway.specs.GatewayRun.{AreWhole, latest_reading}
+use Rattle.sacn_gateway.specs.PlainGateway.{backlog_at}
+use Rattle.sacn_gateway.specs.Interfaces.{AreOffers}
+use Rattle.sacn_machine.specs.Widgets.{widget_text}
+use Rattle.sacn_machine.specs.declared.device.Offer.{Offer}
 use Rattle.sacn_world.specs.declared.answer.Answer.{Answer}
 use Rattle.sacn_world.specs.Nodes.{Node}
 use Rattle.sacn_world.specs.Origins.{Looked}

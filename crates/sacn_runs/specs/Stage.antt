@@ -8,12 +8,12 @@ use Rattle.sacn_node.specs.Setup.{Port, port_numbers}
 use Rattle.sacn_node.specs.Cores as core
 use Rattle.sacn_schedule.specs.Cids.{Desk}
 use Rattle.sacn_schedule.specs.declared.event.Event.{Event}
-use Rattle.sacn_live.specs.DeskSends.{Round, desk_sends}
-use Rattle.sacn_live.specs.Hearings.{Hearing}
-use Rattle.sacn_live.specs.GatewayRun.{AreWhole}
-use Rattle.sacn_live.specs.Interfaces.{AreOffers}
-use Rattle.sacn_live.specs.Widgets.{widget_text}
-use Rattle.sacn_live.specs.declared.device.Offer.{Offer}
+use Rattle.sacn_desk.specs.DeskSends.{Round, desk_sends}
+use Rattle.sacn_machine.specs.Hearings.{Hearing}
+use Rattle.sacn_gateway.specs.GatewayRun.{AreWhole}
+use Rattle.sacn_gateway.specs.Interfaces.{AreOffers}
+use Rattle.sacn_machine.specs.Widgets.{widget_text}
+use Rattle.sacn_machine.specs.declared.device.Offer.{Offer}
 use Rattle.sacn_world.specs.declared.answer.Answer.{Answer}
 use Rattle.sacn_world.specs.declared.console.Console.{Console}
 use Rattle.sacn_world.specs.Streams.{Sent}

@@ -8,7 +8,7 @@ ghost use Rattle.sacn_runs.specs.GatewayRuns.{GatewaysRunAsInAWorld};
 ghost use Rattle.sacn_runs.specs.Stage.{Stage};
 
 use sacn_console::laws::steps_are_the_list;
-use sacn_live::laws::interfaces_show_their_ports;
+use sacn_gateway::laws::interfaces_show_their_ports;
 use sacn_world::laws::headline;
 
 /// A node in its loop is a node of a world. From any world on, over any events that it accepts: where the packets that come to
@@ -36,7 +36,7 @@ pub fn sends_go_on_by_the_list()
 
 /// A desk is a console of a world. From any world on, over any events that it accepts: where one of its consoles is given, round
 /// by round, the orders of a desk and then its polls, all at the round's reading, and isn't started anew, it sends octet by octet
-/// what [`sacn_live::run_desk`] hands over, refuses as many orders, and its core is then as the desk leaves it. The core may have
+/// what [`sacn_desk::run_desk`] hands over, refuses as many orders, and its core is then as the desk leaves it. The core may have
 /// been used before.
 pub fn desks_run_as_in_a_world()
     ensures { DesksRunAsInAWorld }
@@ -45,7 +45,7 @@ pub fn desks_run_as_in_a_world()
 /// A gateway is a node of a world. From any world on, over any events that it accepts: where what comes to one of its nodes is,
 /// moment by moment, what went to the core of a gateway in its turns (nothing, in place of what came late or from another
 /// sender), and after each turn each port is looked at, at the turn's latest reading, the looks ask for exactly the lines that
-/// [`sacn_live::run_gateway`] writes, each is answered with the frame of its port as the turn leaves it, and the world's node is
+/// [`sacn_gateway::run_gateway`] writes, each is answered with the frame of its port as the turn leaves it, and the world's node is
 /// then as the gateway leaves its core. Each packet that an interface is offered is that of a frame with which a look at its own
 /// port was answered, at that look's moment. What else happens in the world makes no difference.
 pub fn gateways_run_as_in_a_world()
@@ -60,8 +60,8 @@ pub fn gateways_run_as_in_a_world()
 /// with the answers of its run, the [`headline`](sacn_world::laws::headline) holds, and over any parts of the run:
 ///
 /// - where a console is asked exactly what a desk's rounds ask, and isn't started anew, the octets that it sends in the world are
-///   those that [`sacn_live::run_desk`] hands over;
-/// - where what comes to a node is exactly what comes in the turns of [`sacn_live::run_gateway`], each packet that an interface is
+///   those that [`sacn_desk::run_desk`] hands over;
+/// - where what comes to a node is exactly what comes in the turns of [`sacn_gateway::run_gateway`], each packet that an interface is
 ///   offered, whatever its device takes, is that of the frame with which a look of the run at its own port was answered at the
 ///   packet's moment, and this frame is the merge of exactly the live packets that the node held then, each really sent by the
 ///   console with that CID;

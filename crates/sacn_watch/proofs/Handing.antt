@@ -2,7 +2,7 @@
 use Rattle.std.proofs.Common.{◌≡◌, ℕ, ◌-◌, ◌^◌, Bool, true, false, List, [], ◌∷◌, ◌++◌, length, Option, None, Some, inr, refl, sym, ap, subst, ◌∙◌, arith, append_assoc}
 use Rattle.sacn_edge.specs.Additions.{Extends}
 use Rattle.sacn_edge.proofs.NodeLemmas.{Extends-append}
-use Rattle.sacn_live.specs.Hearings.{Hearing, in_order}
+use Rattle.sacn_machine.specs.Hearings.{Hearing, in_order}
 use Rattle.sacn_monitor.specs.Histories.{Call, Tick}
 use Rattle.sacn_watch.specs.Watches.{Receive, heard_in, heard_by, reading_after, reading_by, calls_by, calls_in, AreBefore, IsWatch}
 

@@ -1,8 +1,7 @@
 -- What a watch hears, and what its watcher is handed. Lists of turns, receives and calls have the latest first.
 use Rattle.std.specs.Prelude.{◌≡◌, ℕ, ◌<◌, ◌≤◌, ◌-◌, ◌^◌, ◌⊎◌, ⊤, true, List, [], ◌∷◌, ◌++◌, length, map}
-use Rattle.sacn_live.specs.Hearings.{Hearing, Came, None_there, From, Broken}
-use Rattle.sacn_live.specs.GatewayRun.{all_heard, ends_with_datagram}
-use Rattle.sacn_live.specs.declared.limits.TheConstants.{MAX_BURST}
+use Rattle.sacn_machine.specs.Hearings.{Hearing, Came, None_there, From, Broken, all_heard, ends_with_datagram}
+use Rattle.sacn_machine.specs.declared.limits.TheConstants.{MAX_BURST}
 use Rattle.sacn_monitor.specs.declared.account.Endpoint.{Endpoint}
 use Rattle.sacn_monitor.specs.Histories.{Call, Take, Tick}
 

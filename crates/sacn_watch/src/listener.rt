@@ -2,8 +2,8 @@
 
 ghost use Rattle.std.specs.Prelude.{◌≡◌, true, ⊤};
 
-use sacn_live::memory::MemoryReceiver;
-use sacn_live::{Receiver, UdpReceiver};
+use sacn_machine::memory::MemoryReceiver;
+use sacn_machine::{Receiver, UdpReceiver};
 use std::net::Net;
 use std::rt::Clock;
 

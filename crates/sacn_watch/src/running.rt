@@ -2,13 +2,13 @@
 
 ghost use Rattle.std.specs.Prelude.{◌≡◌, ◌≤◌, ◌+◌, ◌-◌, ◌∷◌, []};
 ghost use Rattle.sacn_edge.specs.Additions.{Extends};
-ghost use Rattle.sacn_live.specs.Hearings.{hearing_of, FitsBuffer};
+ghost use Rattle.sacn_machine.specs.Hearings.{hearing_of, FitsBuffer};
 ghost use Rattle.sacn_watch.specs.Stops.{after_reading, reading};
 
 use crate::listener::Listener;
 use sacn_edge::BUFFER_OCTETS;
-use sacn_live::limits::LONGEST_WAIT;
-use sacn_live::{Receipt, Receiver};
+use sacn_machine::limits::LONGEST_WAIT;
+use sacn_machine::{Receipt, Receiver};
 use std::marker::Model;
 
 /// The most milliseconds between two readings of the clock while a watch runs; no wait is longer than half of that. Where there are

@@ -6,7 +6,7 @@ use crate::fault::WatchFault;
 use crate::page::Size;
 use crate::terminal::Terminal;
 use crate::watch::Watcher;
-use sacn_live::limits::SILENT_START;
+use sacn_machine::limits::SILENT_START;
 use sacn_monitor::Endpoint;
 use sacn_packets::Reading;
 use std::io::Write;

@@ -3,15 +3,15 @@
 ghost use Rattle.std.specs.Prelude.{◌≡◌, ℕ, ◌∷◌, ◌++◌, [], List, IfOk, OnOk, ⊤};
 ghost use Rattle.sacn_packets.specs.PacketReading.{reading_packet};
 ghost use Rattle.sacn_edge.specs.Additions.{Extends};
-ghost use Rattle.sacn_live.specs.Hearings.{in_order, is_datagram};
+ghost use Rattle.sacn_machine.specs.Hearings.{in_order, is_datagram};
 ghost use Rattle.sacn_monitor.specs.Histories.{Call, Take, Tick};
 ghost use Rattle.sacn_watch.specs.Watches.{Receive, heard_in, heard_by, reading_after, reading_by, calls_for, calls_in, calls_by, IsWatch, TakesAll};
 
 use crate::fault::WatchFault;
 use crate::listener::Listener;
 use sacn_edge::BUFFER_OCTETS;
-use sacn_live::Arrival;
-use sacn_live::limits::MAX_BURST;
+use sacn_machine::Arrival;
+use sacn_machine::limits::MAX_BURST;
 use sacn_monitor::Endpoint;
 use sacn_packets::{Reading, read_packet};
 

@@ -2,7 +2,7 @@
 use sacn_check::FileKind;
 use sacn_files::limits::DEFAULT_UDP_PORT;
 use sacn_files::words::{byte_in, short_in};
-use sacn_live::{AddressFault, Octets4, destination_of, host_of};
+use sacn_machine::{AddressFault, Octets4, destination_of, host_of};
 use sacn_packets::{MAX_UNIVERSE, MIN_UNIVERSE};
 use std::net::{Ipv4Addr, SocketAddrV4};
 

@@ -2,7 +2,7 @@ use Rattle.std.proofs.Common.{◌∷◌, [], refl, ◌∙◌, arith}
 use Rattle.std.proofs.lemmas.List.{length-map}
 use Rattle.std.proofs.lemmas.Result.{err_from_is_err_and}
 use Rattle.sacn_edge.proofs.NodeLemmas.{Extends-append}
-use Rattle.sacn_live.specs.Hearings.{in_order}
+use Rattle.sacn_machine.specs.Hearings.{in_order}
 use Rattle.sacn_watch.specs.Watches.{Receive, heard_in, calls_for, calls_in}
 use Rattle.sacn_watch.proofs.Handing.{Extends-none, handed_more, no_more}
 use Rattle.sacn_watch.proofs.watch.drain.Goals as goal

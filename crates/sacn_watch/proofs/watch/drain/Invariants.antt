@@ -1,6 +1,6 @@
 use Rattle.std.proofs.Common.{◌≡◌, List, ◌++◌, length}
 use Rattle.sacn_edge.specs.Additions.{Extends}
-use Rattle.sacn_live.specs.Hearings.{in_order}
+use Rattle.sacn_machine.specs.Hearings.{in_order}
 use Rattle.sacn_monitor.specs.Histories.{Call}
 use Rattle.sacn_watch.specs.Watches.{Receive, heard_in, reading_after, calls_in}
 use Rattle.sacn_watch.proofs.watch.drain.Given as goal

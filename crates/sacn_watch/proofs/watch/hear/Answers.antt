@@ -1,9 +1,9 @@
 use Rattle.std.proofs.Common.{◌∷◌, [], refl, subst}
 use Rattle.std.proofs.lemmas.Result.{err_from_is_err_and}
 use Rattle.sacn_edge.specs.Additions.{Extends}
-use Rattle.sacn_live.specs.Hearings.{hearing_in}
-use Rattle.sacn_live.specs.declared.receiver.Arrival.{Arrival}
-use Rattle.sacn_live.specs.declared.receiver.Arrival.TheVariants.{Nothing, Datagram, Failed}
+use Rattle.sacn_machine.specs.Hearings.{hearing_in}
+use Rattle.sacn_machine.specs.declared.receiver.Arrival.{Arrival}
+use Rattle.sacn_machine.specs.declared.receiver.Arrival.TheVariants.{Nothing, Datagram, Failed}
 use Rattle.sacn_watch.proofs.Handing.{heard_still}
 use Rattle.sacn_watch.proofs.watch.hear.Goals as goal
 

@@ -1,7 +1,7 @@
 use Rattle.std.proofs.Common.{◌≡◌, ℕ, ◌<◌, ◌∷◌, [], inl, inr, refl, sym, ap, subst, ◌∙◌, arith}
 use Rattle.std.proofs.lemmas.Result.{err_from_is_err_and}
 use Rattle.sacn_edge.specs.Additions.{Extends}
-use Rattle.sacn_live.specs.Hearings.{in_order}
+use Rattle.sacn_machine.specs.Hearings.{in_order}
 use Rattle.sacn_watch.specs.Watches.{heard_in, heard_by, reading_by}
 use Rattle.sacn_watch.proofs.Handing.{Extends-none, heard_more, reading_more, turn_handed, watch_ends}
 use Rattle.sacn_watch.proofs.watch.watch.Goals as goal

@@ -1,0 +1,29 @@
+//! A desk: its loop, its orders, and its links to hosts and groups.
+//!
+//! What the loop does is stated over devices that tell what was asked of them, as in `sacn_edge` and `sacn_machine`.
+#![tactic(auto)]
+
+mod absences;
+mod desk;
+mod desk_datagram;
+mod desk_line;
+mod desk_link;
+mod desk_orders;
+mod desk_sender;
+mod destinations;
+pub mod laws;
+pub mod limits;
+mod memory_link;
+mod notices;
+mod opening;
+mod orders;
+mod status;
+
+pub use desk::run_desk;
+pub use desk_datagram::DeskDatagram;
+pub use desk_link::DeskLink;
+pub use desk_orders::{DeskOrders, Plan};
+pub use desk_sender::{DeskSender, Origin};
+pub use destinations::{DISCOVERY_UNIVERSE, Destinations, MAX_HOSTS};
+pub use opening::Opening;
+pub use orders::Orders;

@@ -1,0 +1,6 @@
+mod Draining
+mod Turning
+mod PlainLines
+mod Pairing
+mod Serving
+mod Offers

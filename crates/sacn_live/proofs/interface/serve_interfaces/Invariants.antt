@@ -1,7 +1,0 @@
-use Rattle.sacn_live.specs.Interfaces.{IsServed}
-use Rattle.sacn_live.proofs.Pairing.{DoneTo}
-use Rattle.sacn_live.proofs.interface.serve_interfaces.Given as goal
-
--- the interfaces so far are served, and the rest are as they were
-abbrev pub invariant-loop-interface : goal.invariant-loop-interface
-invariant-loop-interface g l = DoneTo (IsServed g.D.Device.told l.now l.ports) l.interface-index l.initial.interfaces l.interfaces

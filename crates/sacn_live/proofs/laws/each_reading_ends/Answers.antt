@@ -1,5 +1,0 @@
-use Rattle.sacn_live.proofs.FairEnds.{each_ends}
-use Rattle.sacn_live.proofs.laws.each_reading_ends.Goals as goal
-
-pub returns : goal.returns
-returns c = each_ends

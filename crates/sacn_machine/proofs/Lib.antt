@@ -1,0 +1,3 @@
+pub mod Untold
+mod WidgetParts
+mod Gone

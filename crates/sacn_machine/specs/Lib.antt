@@ -1,0 +1,10 @@
+pub mod Hearings
+pub mod Addresses
+pub mod Gathering
+pub mod Sendings
+pub mod Widgets
+pub mod MemoryHearings
+pub mod MemoryReceiver
+pub mod MemoryDevice
+pub mod Rooms
+pub mod MemorySockets
