@@ -3,9 +3,8 @@ ghost use Rattle.std.specs.Prelude.{◌<◌};
 
 use crate::packet_rows::{Numbers, Sent, cid_of, write_sent};
 use sacn_packets::{Packet, SLOTS, read_packet};
-use sacn_slots::Levels;
 use sacn_sources::plain::PlainTable;
-use sacn_sources::{HeldView, Kind, SourceTable, Taken};
+use sacn_sources::{HeldView, Kind, Levels, SourceTable, Taken};
 use std::test::*;
 
 /// How many calls are made.

@@ -5,7 +5,7 @@ use sacn_packets::{
     DATA_VECTOR, flags_at, length_at, pdu_field, read_dmp, read_root, u16_at, u32_at, write_dmp,
     write_root,
 };
-use sacn_sequence::{in_sequence, signed_step};
+use sacn_sources::{in_sequence, signed_step};
 
 /// Makes a call of a single layer of the octets.
 ///

@@ -6,7 +6,7 @@ use Rattle.sacn_packets.specs.declared.framing.packet.Packet.TheVariants.{DataPa
 use Rattle.sacn_sources.specs.Packets.{packet_of}
 use Rattle.sacn_sources.specs.Rows.{Row, answer}
 use Rattle.sacn_sources.specs.HeldViews.{priority_shown}
-use Rattle.sacn_slots.specs.Merge.{Shown}
+use Rattle.sacn_sources.specs.Merge.{Shown}
 use Rattle.sacn_sources.specs.LatestMerge.{Kept, kept_after_take}
 use Rattle.sacn_border.specs.Numbers.{taken_number}
 use Rattle.sacn_border.specs.Packets.{bit_of}

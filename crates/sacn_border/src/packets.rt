@@ -1,7 +1,7 @@
 //! Packets.
 ghost use Rattle.std.specs.Prelude.{◌≡◌, ◌↔◌, ◌≤◌, ◌==◌, ◌+◌, ◌-◌, ◌%◌, ◌++◌, ◌∷◌, [], List, ℕ, length, take, drop, not, IfOk, IfErr, Ok, if◌then◌else◌};
 ghost use Rattle.sacn_packets.specs.Naming.{group_of};
-ghost use Rattle.sacn_sequence.specs.Sequence.{is_late, IsOutOfSequence};
+ghost use Rattle.sacn_sources.specs.Sequence.{is_late, IsOutOfSequence};
 ghost use Rattle.sacn_packets.specs.FramingText.{nothing};
 ghost use Rattle.sacn_packets.specs.PacketReading.{reading_packet};
 ghost use Rattle.sacn_packets.specs.PacketText.{Reads, data_text};
@@ -17,7 +17,7 @@ use sacn_packets::{
     DataFields, DataView, MAX_PRIORITY, MAX_UNIVERSE, Packet, PacketFault, PageView,
     multicast_group, put, up_to_nul, write_data,
 };
-use sacn_sequence::in_sequence;
+use sacn_sources::in_sequence;
 
 /// What a packet says, but its slots and universe numbers. `sacn.h` says what each field means.
 #[repr(C)]

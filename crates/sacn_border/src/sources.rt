@@ -16,8 +16,7 @@ use crate::numbers::taken_number;
 use crate::reading::packet_at;
 use crate::status::{DONE, RANGE, WRONG_HANDLE};
 use sacn_packets::Packet;
-use sacn_slots::Levels;
-use sacn_sources::{HeldView, SourceTable, TableFault};
+use sacn_sources::{HeldView, Levels, SourceTable, TableFault};
 use std::alloc::Global;
 
 /// The sources of one universe, of which there are none yet, as `SourceTable::new`.

@@ -1,7 +1,7 @@
 //! Packets, for C.
 ghost use Rattle.std.specs.Prelude.{◌≡◌, ◌↔◌, ◌≤◌, ◌==◌, ◌+◌, ◌-◌, ◌*◌, ◌%◌, ◌++◌, List, ℕ, length, take, drop, not, IfOk, IfErr, Ok, if◌then◌else◌};
 ghost use Rattle.sacn_packets.specs.Naming.{group_of};
-ghost use Rattle.sacn_sequence.specs.Sequence.{is_late, IsOutOfSequence};
+ghost use Rattle.sacn_sources.specs.Sequence.{is_late, IsOutOfSequence};
 ghost use Rattle.sacn_packets.specs.FramingText.{nothing};
 ghost use Rattle.sacn_packets.specs.PacketReading.{reading_packet};
 ghost use Rattle.sacn_packets.specs.PacketText.{Reads, data_text, page_text, unused};

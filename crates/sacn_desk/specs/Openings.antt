@@ -4,7 +4,7 @@ use Rattle.sacn_packets.specs.declared.root.fault.PacketFault.{PacketFault}
 use Rattle.sacn_packets.specs.PacketReading.{reading_packet}
 use Rattle.sacn_packets.specs.declared.framing.packet.Packet.{Packet}
 use Rattle.sacn_packets.specs.declared.framing.packet.Packet.TheVariants.{DataPacket, PagePacket, SyncPacket}
-use Rattle.sacn_sequence.specs.Sequence.{is_late}
+use Rattle.sacn_sources.specs.Sequence.{is_late}
 use Rattle.sacn_console.specs.declared.limits.TheConstants.{MAX_DATAGRAM}
 use Rattle.sacn_edge.specs.ConsoleSends.{Handed}
 use Rattle.sacn_desk.specs.declared.opening.Opening.{Opening}

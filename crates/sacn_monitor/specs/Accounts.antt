@@ -4,7 +4,7 @@ use Rattle.std.specs.Str.{bytes_eq}
 use Rattle.std.specs.List.{before_first}
 use Rattle.sacn_packets.specs.Naming.{padded}
 use Rattle.sacn_packets.specs.Data.{Data}
-use Rattle.sacn_sequence.specs.Sequence.{step, is_late}
+use Rattle.sacn_sources.specs.Sequence.{step, is_late}
 use Rattle.sacn_sources.specs.Packets.{kind_of}
 use Rattle.sacn_sources.specs.declared.limits.TheConstants.{NETWORK_DATA_LOSS}
 use Rattle.sacn_monitor.specs.declared.account.Account.{Account}

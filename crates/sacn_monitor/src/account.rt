@@ -10,8 +10,7 @@ use crate::news::{Change, News, StreamEvent};
 use crate::numbering::{NumberNews, Numbering, OPENING_STEP};
 use crate::rate::Rate;
 use sacn_packets::{DataView, put};
-use sacn_sequence::{in_sequence, signed_step};
-use sacn_sources::NETWORK_DATA_LOSS;
+use sacn_sources::{NETWORK_DATA_LOSS, in_sequence, signed_step};
 
 /// Where a datagram came from.
 #[derive(Clone, Copy, PartialEq, Eq)]

@@ -6,7 +6,7 @@ use Rattle.std.specs.List.{list_any, sum_by}
 use Rattle.std.specs.FinMap.{empty, len}
 use Rattle.sacn_packets.specs.PacketReading.{reading_packet}
 use Rattle.sacn_packets.specs.declared.framing.packet.Packet.TheVariants.{DataPacket, PagePacket, SyncPacket}
-use Rattle.sacn_slots.specs.Merge.{merge}
+use Rattle.sacn_sources.specs.Merge.{merge}
 use Rattle.sacn_sources.specs.Packets.{packet_of}
 use Rattle.sacn_sources.specs.Rows.{Packet}
 use Rattle.sacn_sources.specs.PlainRule.{Sources, unexpired, source_row, shown_by}

@@ -11,8 +11,7 @@ ghost use Rattle.sacn_sources.specs.Wakes.{oldest_by, oldest_of};
 use crate::answer::{NodeChange, NodeTaken, change_by};
 use crate::limits::MAX_UNIVERSES;
 use sacn_packets::{DataView, SLOTS};
-use sacn_slots::merge_into;
-use sacn_sources::{HeldView, NETWORK_DATA_LOSS, SourceTable, TableFault, Taken};
+use sacn_sources::{HeldView, NETWORK_DATA_LOSS, SourceTable, TableFault, Taken, merge_into};
 use std::alloc::Global;
 use std::marker::Model;
 

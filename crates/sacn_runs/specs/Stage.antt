@@ -2,7 +2,7 @@
 use Rattle.std.specs.Prelude.{◌≡◌, ℕ, ◌<◌, ◌≤◌, List, ◌++◌, map, take, drop, length, get_or, slice_get, Contains, Option, Some}
 use Rattle.sacn_packets.specs.FramingText.{nothing}
 use Rattle.sacn_packets.specs.PacketText.{data_text}
-use Rattle.sacn_slots.specs.Merge.{Shown}
+use Rattle.sacn_sources.specs.Merge.{Shown}
 use Rattle.sacn_packets.specs.declared.universe.TheConstants.{SLOTS}
 use Rattle.sacn_node.specs.Setup.{Port, port_numbers}
 use Rattle.sacn_node.specs.Cores as core

@@ -4,9 +4,9 @@ use Rattle.std.specs.List.{filter_map, cons_option}
 use Rattle.std.proofs.lemmas.List.{take_more, take_more_set, map-append}
 use Rattle.std.proofs.lemmas.List.Elements.{filter_map-append}
 use Rattle.slab.specs.Slab.{get}
-use Rattle.sacn_slots.specs.Merge.{Shown}
-use Rattle.sacn_slots.specs.declared.merge.Layer.{Layer}
-use Rattle.sacn_slots.specs.Layers.{shown_of}
+use Rattle.sacn_sources.specs.Merge.{Shown}
+use Rattle.sacn_sources.specs.declared.slots.merge.Layer.{Layer}
+use Rattle.sacn_sources.specs.Layers.{shown_of}
 use Rattle.sacn_sources.specs.declared.entry.Entry.{Entry}
 use Rattle.sacn_sources.specs.Rows.{layers}
 use Rattle.sacn_sources.specs.Storage.{Frames, row_in, rows_in}

@@ -1,3 +1,8 @@
+pub mod Steps
+mod Padding
+mod Merging
+mod FrameOctets
+mod Blocks
 mod Lists
 mod Places
 mod Searches

@@ -2,8 +2,8 @@
 use Rattle.std.proofs.Common.{◌≡◌, ℕ, zero, suc, ◌<◌, ◌≤◌, Bool, true, false, not, List, [], ◌∷◌, length, Option, Some, None, get_or, set, nat_lt, refl, sym, ap, subst, ◌∙◌, arith}
 use Rattle.std.specs.List.{cons_option}
 use Rattle.std.proofs.lemmas.Bool.Decides.{nat_tests}
-use Rattle.sacn_sequence.specs.Sequence.{is_late}
-use Rattle.sacn_slots.specs.Merge.{Shown}
+use Rattle.sacn_sources.specs.Sequence.{is_late}
+use Rattle.sacn_sources.specs.Merge.{Shown}
 use Rattle.sacn_sources.specs.declared.limits.TheConstants.{MAX_SOURCES}
 use Rattle.sacn_sources.specs.Rows.{Row, Packet, Kind, Termination, Preview, Live, Other, Taken, Held, Observed, OutOfSequence, SourcesExceeded, UnknownIgnored, taken, take_by, take_known, take_unknown, take_row, rows_after, observed, row_live, row_ended, row_observed, layers}
 use Rattle.sacn_sources.specs.Places.{IsAt, IsGap}

@@ -2,7 +2,7 @@
 -- merged level there the first by CID is named (profile). Rows stand in the order of their CIDs.
 use Rattle.std.specs.Prelude.{ℕ, ◌==◌, ◌&&◌, not, Bool, false, List, map, find, slice_get, slice_index, Option, Some, None, option_map, option_and_then, if◌then◌else◌}
 use Rattle.std.specs.List.{range_with_len}
-use Rattle.sacn_slots.specs.Merge.{Shown, level, top_priority}
+use Rattle.sacn_sources.specs.Merge.{Shown, level, top_priority}
 use Rattle.sacn_sources.specs.Rows.{Row, layers, slots_of}
 
 -- what is shown is of this priority, and has the merged level at the slot

@@ -1,8 +1,8 @@
 -- What a `HeldView` shows of a source.
 use Rattle.std.specs.Prelude.{ℕ, List, Option, Some, None}
 use Rattle.std.specs.Option.{option_map}
-use Rattle.sacn_slots.specs.Merge.{Shown}
-use Rattle.sacn_slots.specs.Layers.{shown_of}
+use Rattle.sacn_sources.specs.Merge.{Shown}
+use Rattle.sacn_sources.specs.Layers.{shown_of}
 use Rattle.sacn_sources.specs.declared.held_view.HeldView.TheInside.{Inside}
 use Rattle.sacn_sources.specs.Rows.{Row}
 

@@ -3,8 +3,8 @@
 use Rattle.std.specs.Prelude.{ℕ, ◌+◌, ◌-◌, nat_lt, Bool, true, false, not, ◌&&◌, ◌||◌, List, [], ◌∷◌, filter, is_some, Option, Some, None, if◌then◌else◌}
 use Rattle.std.specs.List.{filter_map, list_any}
 use Rattle.std.specs.FinMap.{FinMap, empty, get, insert, len, entries, from_sorted}
-use Rattle.sacn_sequence.specs.Sequence.{is_late}
-use Rattle.sacn_slots.specs.Merge.{Shown, merge}
+use Rattle.sacn_sources.specs.Sequence.{is_late}
+use Rattle.sacn_sources.specs.Merge.{Shown, merge}
 use Rattle.sacn_sources.specs.Order.{order}
 use Rattle.sacn_sources.specs.declared.limits.TheConstants.{MAX_SOURCES, NETWORK_DATA_LOSS}
 use Rattle.sacn_sources.specs.Rows.{Packet, Kind, Termination, Preview, Live, Other}

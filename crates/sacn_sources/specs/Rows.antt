@@ -2,8 +2,8 @@
 use Rattle.std.specs.Prelude.{ℕ, ◌-◌, nat_lt, max, refl, Bool, true, false, List, [], ◌∷◌, filter, find, length, Option, Some, None}
 use Rattle.std.specs.List.{filter_map}
 use Rattle.std.specs.Coded.{Coded, code_by, coded×, coded_ℕ, coded_list, coded_option}
-use Rattle.sacn_sequence.specs.Sequence.{is_late}
-use Rattle.sacn_slots.specs.Merge.{Shown, merge}
+use Rattle.sacn_sources.specs.Sequence.{is_late}
+use Rattle.sacn_sources.specs.Merge.{Shown, merge}
 use Rattle.sacn_sources.specs.Order.{order, same, by_order}
 use Rattle.sacn_sources.specs.declared.limits.TheConstants.{MAX_SOURCES, NETWORK_DATA_LOSS}
 pub use Rattle.sacn_sources.specs.declared.kind.Kind.{Kind}

@@ -4,7 +4,7 @@ ghost use Rattle.std.specs.Prelude.{◌≡◌, is_none};
 ghost use Rattle.std.specs.Option.{option_map, option_copied};
 ghost use Rattle.sacn_sources.specs.HeldViews.{priority_shown, levels_shown};
 
-use sacn_slots::{Layer, Levels};
+use crate::slots::{Layer, Levels};
 use std::marker::Model;
 
 /// A source that a table holds, lent out of the table.

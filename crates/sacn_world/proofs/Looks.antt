@@ -13,7 +13,7 @@ use Rattle.sacn_world.specs.Laws.{SamePlacesGiveTheSameLevels}
 use Rattle.sacn_packets.specs.declared.framing.packet.Packet.{Packet}
 use Rattle.sacn_packets.specs.declared.framing.packet.Packet.TheVariants.{DataPacket, PagePacket, SyncPacket}
 use Rattle.sacn_packets.specs.PacketReading.{reading_packet}
-use Rattle.sacn_slots.specs.Merge.{Shown, MergesTheSet}
+use Rattle.sacn_sources.specs.Merge.{Shown, MergesTheSet}
 use Rattle.sacn_console.specs.declared.command.Command.{Command}
 use Rattle.sacn_console.specs.Shows.{ShowContent}
 use Rattle.sacn_console.specs.Lines as line

@@ -19,7 +19,7 @@ use Rattle.sacn_world.specs.Nodes.{Holding, Node, unexpired_all, reply_on, chang
 use Rattle.sacn_sources.specs.Order.{order, same, by_order}
 use Rattle.sacn_sources.specs.Rows.{Row, taken, rows_after, take_row, layers}
 use Rattle.sacn_node.specs.Cores.{slots_on as slots_on_table, core_slots, rows_kept_all, core_reply_on, change_rows, core_reply, core_after, core_at, core_slots}
-use Rattle.sacn_slots.specs.Merge.{merge}
+use Rattle.sacn_sources.specs.Merge.{merge}
 use Rattle.sacn_sources.specs.declared.answer.Taken.{Taken}
 use Rattle.sacn_sources.specs.declared.answer.Taken.TheVariants.{UnknownIgnored, Held, EndedNow, Observed, OutOfSequence, SourcesExceeded}
 use Rattle.sacn_node.specs.declared.answer.NodeTaken.TheVariants.{FromTable}

@@ -1,6 +1,6 @@
 -- Looks at the ports of a run, and when two of them agree.
 use Rattle.std.specs.Prelude.{◌≡◌, ◌↔◌, ℕ, ◌<◌, ◌≤◌, List, take, map, get_or, slice_get, Some}
-use Rattle.sacn_slots.specs.Merge.{Shown}
+use Rattle.sacn_sources.specs.Merge.{Shown}
 use Rattle.sacn_packets.specs.declared.universe.TheConstants.{SLOTS}
 use Rattle.sacn_node.specs.Setup.{Port}
 use Rattle.sacn_node.specs.Ports.{port_of}

@@ -1,7 +1,7 @@
 -- A node by places: what it answers, holds and shows.
 use Rattle.std.specs.Prelude.{◌≡◌, ℕ, max, ◌≤◌, ◌==◌, if◌then◌else◌, List, [], ◌∷◌, map, find, Option, Some, None}
 use Rattle.std.specs.List.{filter_map}
-use Rattle.sacn_slots.specs.Merge.{Shown, merge}
+use Rattle.sacn_sources.specs.Merge.{Shown, merge}
 use Rattle.sacn_node.specs.declared.answer.NodeTaken.{NodeTaken}
 use Rattle.sacn_node.specs.declared.answer.NodeTaken.TheVariants.{FromTable, OtherUniverse}
 use Rattle.sacn_node.specs.Setup.{Port, universes}

@@ -2,7 +2,7 @@
 use Rattle.std.specs.Prelude.{◌≡◌, ◌↔◌, ℕ, ◌+◌, ◌-◌, ◌<◌, ◌≤◌, false, List, [], map, find, length, get_or, slice_get, Option, Some, None, Contains}
 use Rattle.sacn_packets.specs.Data.{Data}
 use Rattle.sacn_packets.specs.declared.framing.packet.Packet.TheVariants.{DataPacket}
-use Rattle.sacn_slots.specs.Merge.{Shown, merge}
+use Rattle.sacn_sources.specs.Merge.{Shown, merge}
 use Rattle.sacn_packets.specs.declared.universe.TheConstants.{SLOTS, FRAME_OCTETS}
 use Rattle.sacn_node.specs.declared.setup.SlotRange.{SlotRange}
 use Rattle.sacn_node.specs.Setup.{Port}

@@ -1,6 +1,6 @@
 -- What the places that a node holds look like in its table, and what an entry of a stream looks like on the wire.
 use Rattle.std.specs.Prelude.{ℕ, Bool, true, false, List, map, Option, Some, None}
-use Rattle.sacn_slots.specs.Merge.{Shown}
+use Rattle.sacn_sources.specs.Merge.{Shown}
 use Rattle.sacn_sources.specs.Rows.{Row, Packet}
 use Rattle.sacn_world.specs.Streams.{Sent, at, stream_of, number_at, is_live, kind_by, priority, levels}
 use Rattle.sacn_world.specs.Holdings.{Hold}

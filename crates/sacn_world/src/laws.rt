@@ -15,7 +15,7 @@ ghost use Rattle.std.specs.Prelude.{◌≡◌};
 ghost use Rattle.sacn_world.specs.declared.limits.TheConstants.{TOO_FAR_BEHIND};
 
 use sacn_console::laws::steps_are_the_list;
-use sacn_slots::laws::merge_is_of_a_set;
+use sacn_sources::slots::laws::merge_is_of_a_set;
 
 /// World follows the model: at each delivery that a world accepts, a node core, which reads octets and knows eight-bit numbers
 /// alone, answers what the unbounded places say, and then keeps what the places held look like.

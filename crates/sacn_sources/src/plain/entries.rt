@@ -11,10 +11,10 @@ use crate::answer::Taken;
 use crate::held_view::HeldView;
 use crate::kind::{Kind, kind_of};
 use crate::limits::{MAX_SOURCES, NETWORK_DATA_LOSS};
+use crate::sequence::in_sequence;
+use crate::slots::{Layer, Levels, merge_into};
 use arrayvec::ArrayVec;
 use sacn_packets::DataView;
-use sacn_sequence::in_sequence;
-use sacn_slots::{Layer, Levels, merge_into};
 use std::cmp::Ordering;
 use std::marker::Model;
 
@@ -62,7 +62,7 @@ impl Model for Entries {
 }
 
 impl Entries {
-    ghost use Rattle.sacn_sequence.specs.Sequence.{is_late};
+    ghost use Rattle.sacn_sources.specs.Sequence.{is_late};
     ghost use Rattle.sacn_sources.specs.Rows.{Row, new_table, row_renewed, rows_kept, rows_lost, row_of, put_row, row_ended, row_observed, taken, take_row, after_expire, slots_of};
     ghost use Rattle.sacn_sources.specs.LatestMerge.{loses_live};
     ghost use Rattle.sacn_sources.specs.Places.{IsAt, IsGap};

@@ -5,9 +5,9 @@ ghost use Rattle.slab.specs.Slab.{slab_len};
 
 use crate::entry::Entry;
 use crate::limits::MAX_SOURCES;
+use crate::slots::Levels;
 use crate::store::Store;
 use arrayvec::ArrayVec;
-use sacn_slots::Levels;
 use slab::Slab;
 use std::alloc::AllocError;
 

@@ -8,9 +8,9 @@ ghost use Rattle.sacn_sources.specs.Storage.{rows_in, AreStored};
 use crate::entry::Entry;
 use crate::givers::Givers;
 use crate::limits::MAX_SOURCES;
+use crate::slots::Levels;
 use crate::store::Store;
 use arrayvec::ArrayVec;
-use sacn_slots::Levels;
 use slab::Slab;
 
 impl Store {

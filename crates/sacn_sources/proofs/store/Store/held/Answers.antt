@@ -2,8 +2,8 @@ use Rattle.std.proofs.Common.{Option, Some, ap, sym, ◌∙◌}
 use Rattle.sacn_sources.specs.Rows.{Row, Table}
 use Rattle.sacn_sources.specs.Storage.{row_in}
 use Rattle.std.specs.Option.{option_map}
-use Rattle.sacn_slots.specs.Layers.{shown_of}
-use Rattle.sacn_slots.specs.Merge.{Shown}
+use Rattle.sacn_sources.specs.Layers.{shown_of}
+use Rattle.sacn_sources.specs.Merge.{Shown}
 use Rattle.sacn_sources.proofs.Edits.{within_entries, has_levels, row_there}
 use Rattle.sacn_sources.proofs.Layers.{shows_live, shows_ended}
 use Rattle.sacn_sources.proofs.Places.{row_at, row_absent}

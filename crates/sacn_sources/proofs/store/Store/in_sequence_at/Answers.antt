@@ -1,5 +1,5 @@
 use Rattle.std.proofs.Common.{not, ap, sym, ◌∙◌}
-use Rattle.sacn_sequence.specs.Sequence.{is_late}
+use Rattle.sacn_sources.specs.Sequence.{is_late}
 use Rattle.sacn_sources.specs.Rows.{Row, Table}
 use Rattle.sacn_sources.proofs.Edits.{within_entries, row_there}
 use Rattle.sacn_sources.proofs.store.Store.in_sequence_at.Goals as goal

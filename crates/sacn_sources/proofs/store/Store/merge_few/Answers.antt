@@ -2,8 +2,8 @@ use Rattle.std.proofs.Common.{◌≡◌, ◌<◌, ◌≤◌, List, [], length, g
 use Rattle.std.specs.List.{filter_map}
 use Rattle.std.proofs.lemmas.List.{take_all, length-set, length-map}
 use Rattle.slab.specs.Slab.{get}
-use Rattle.sacn_slots.specs.Merge.{merge}
-use Rattle.sacn_slots.specs.declared.merge.Layer.{Layer}
+use Rattle.sacn_sources.specs.Merge.{merge}
+use Rattle.sacn_sources.specs.declared.slots.merge.Layer.{Layer}
 use Rattle.sacn_sources.specs.declared.entry.Entry.{Entry}
 use Rattle.sacn_sources.specs.Rows.{Table, slots_of}
 use Rattle.sacn_sources.specs.Storage.{row_in}

@@ -1,6 +1,6 @@
 use Rattle.std.proofs.Common.{◌≡◌, ◌≤◌, length, map, take}
 use Rattle.std.specs.List.{filter_map}
-use Rattle.sacn_slots.specs.Layers.{shown_of}
+use Rattle.sacn_sources.specs.Layers.{shown_of}
 use Rattle.sacn_sources.specs.Storage.{row_in}
 use Rattle.sacn_sources.proofs.store.Store.merge_few.Given as goal
 

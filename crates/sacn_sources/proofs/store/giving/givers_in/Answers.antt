@@ -2,7 +2,7 @@ use Rattle.std.proofs.Common.{◌≡◌, ℕ, ◌+◌, ◌-◌, ◌==◌, ◌&&�
 use Rattle.std.proofs.lemmas.List.{length-map, get_or-map, get_or-replicate, at_drop_all}
 use Rattle.std.proofs.lemmas.List.FromFn.{fill_by_all}
 use Rattle.slab.specs.Slab.{get}
-use Rattle.sacn_slots.specs.Merge.{top_priority}
+use Rattle.sacn_sources.specs.Merge.{top_priority}
 use Rattle.sacn_sources.specs.Givers.{first_giver, giver_in, giver_of, givers_of}
 use Rattle.sacn_sources.specs.Rows.{layers}
 use Rattle.sacn_sources.specs.Storage.{rows_in}

@@ -1,5 +1,5 @@
 use Rattle.std.proofs.Common.{ap, sym, ◌∙◌}
-use Rattle.sacn_slots.specs.Merge.{merge}
+use Rattle.sacn_sources.specs.Merge.{merge}
 use Rattle.sacn_sources.specs.Packets.{packet_of}
 use Rattle.sacn_sources.proofs.Keeps.{neither_left, neither_right}
 use Rattle.sacn_sources.proofs.Wakes.{fresh_taken}

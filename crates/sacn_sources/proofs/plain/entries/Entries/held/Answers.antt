@@ -1,7 +1,7 @@
 use Rattle.std.proofs.Common.{Option, Some, ap, sym, ◌∙◌}
 use Rattle.std.specs.Option.{option_map}
-use Rattle.sacn_slots.specs.Layers.{shown_of}
-use Rattle.sacn_slots.specs.Merge.{Shown}
+use Rattle.sacn_sources.specs.Layers.{shown_of}
+use Rattle.sacn_sources.specs.Merge.{Shown}
 use Rattle.sacn_sources.specs.Rows.{Row, Table}
 use Rattle.sacn_sources.specs.PlainStorage.{plain_row}
 use Rattle.sacn_sources.proofs.PlainEdits.{within_plain, plain_there}

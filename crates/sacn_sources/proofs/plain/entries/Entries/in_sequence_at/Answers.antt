@@ -1,5 +1,5 @@
 use Rattle.std.proofs.Common.{not, ap, sym, ◌∙◌}
-use Rattle.sacn_sequence.specs.Sequence.{is_late}
+use Rattle.sacn_sources.specs.Sequence.{is_late}
 use Rattle.sacn_sources.specs.Rows.{Row, Table}
 use Rattle.sacn_sources.proofs.PlainEdits.{within_plain, plain_there}
 use Rattle.sacn_sources.proofs.plain.entries.Entries.in_sequence_at.Goals as goal

@@ -1,7 +1,7 @@
 use Rattle.std.proofs.Common.{◌≡◌, ◌<◌, ◌≤◌, length, get_or, ap, sym, ◌∙◌, arith}
 use Rattle.std.specs.List.{filter_map}
 use Rattle.std.proofs.lemmas.List.{take_all, length-set}
-use Rattle.sacn_slots.specs.Merge.{merge}
+use Rattle.sacn_sources.specs.Merge.{merge}
 use Rattle.sacn_sources.specs.Rows.{Table, slots_of}
 use Rattle.sacn_sources.proofs.PlainLayers.{plain_shows, plain_shown, plain_none, plain_live, plain_ended}
 use Rattle.sacn_sources.proofs.Layers.{more_none, more_some}

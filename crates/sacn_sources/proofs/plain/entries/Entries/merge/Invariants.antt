@@ -1,6 +1,6 @@
 use Rattle.std.proofs.Common.{◌≡◌, ◌≤◌, length, map, take}
 use Rattle.std.specs.List.{filter_map}
-use Rattle.sacn_slots.specs.Layers.{shown_of}
+use Rattle.sacn_sources.specs.Layers.{shown_of}
 use Rattle.sacn_sources.specs.PlainStorage.{plain_row}
 use Rattle.sacn_sources.specs.declared.limits.TheConstants.{MAX_SOURCES}
 use Rattle.sacn_sources.proofs.plain.entries.Entries.merge.Given as goal

@@ -1,5 +1,0 @@
-use Rattle.sacn_slots.proofs.Merging.{merges_nothing_to_zeros}
-use Rattle.sacn_slots.proofs.laws.merge_of_none.Goals as goal
-
-pub returns : goal.returns
-returns c = merges_nothing_to_zeros

@@ -1,5 +1,0 @@
-use Rattle.sacn_slots.proofs.Merging.{merges_one_to_itself}
-use Rattle.sacn_slots.proofs.laws.merge_of_one.Goals as goal
-
-pub returns : goal.returns
-returns c = merges_one_to_itself

@@ -1,0 +1,10 @@
+use Rattle.std.proofs.Common.{◌≡◌, map, take}
+use Rattle.sacn_sources.specs.Merge.{highest_at}
+use Rattle.sacn_sources.specs.Layers.{shown_of}
+use Rattle.sacn_sources.proofs.slots.plain.highest.Given as goal
+
+-- the highest level of the layers so far
+abbrev pub invariant-loop-layer : goal.invariant-loop-layer
+invariant-loop-layer l = record {
+  raised : l.high ≡ highest_at l.priority (map shown_of (take l.layer-index l.layers)) l.slot;
+}

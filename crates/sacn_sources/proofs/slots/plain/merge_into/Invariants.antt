@@ -1,0 +1,11 @@
+use Rattle.std.proofs.Common.{◌≡◌, ℕ, ◌<◌, get_or, map, length}
+use Rattle.sacn_sources.specs.Merge.{highest_at}
+use Rattle.sacn_sources.specs.Layers.{shown_of}
+use Rattle.sacn_sources.proofs.slots.plain.merge_into.Given as goal
+
+-- the slots so far are merged
+abbrev pub invariant-loop-slot : goal.invariant-loop-slot
+invariant-loop-slot l = record {
+  whole : length l.slots ≡ 512;
+  merged : (k : ℕ) → k < l.slot → get_or l.slots k 0 ≡ highest_at l.top (map shown_of l.layers) k;
+}
