@@ -1,4 +1,4 @@
-//! Tests of the source table, the node, the cue player, the patch, the console, the kinds of files and what is found in them that no rows say: beside
+//! Tests of the merge, the source table, the node, the cue player, the patch, the console, the kinds of files and what is found in them that no rows say: beside
 //! plain programs over generators, and where requests for memory are refused.
 #![tactic(auto)]
 
@@ -18,5 +18,7 @@ mod node;
 mod packet_rows;
 #[cfg(test)]
 mod patch;
+#[cfg(test)]
+mod slots;
 #[cfg(test)]
 mod sources;

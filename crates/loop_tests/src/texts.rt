@@ -1,9 +1,9 @@
 //! Printed texts where memory is refused and where a sink fails, and the faults by number.
 use fixtures::packets::{empty_data, empty_page};
+use fixtures::texts::{SCHEDULE, WORLD};
 use fixtures::writers::Stopping;
 use sacn_edge::WriterOut;
 use sacn_packets::PacketFault;
-use sacn_schedule::examples::{SCHEDULE, WORLD};
 use sacn_text::{DecodeFault, MarkedWriter, SimFault, decode_text, sim_text};
 use sacn_world::{TextFault, WorldFault, WorldTextFault};
 use std::alloc::{AllocError, Global};

@@ -2,9 +2,9 @@
 ghost use Rattle.std.specs.Prelude.{IfOk, map};
 ghost use Rattle.sacn_world.specs.Headline.{EveryFrameIsTheMergeOfWhatWasSent};
 
+use fixtures::texts::{SCHEDULE, WORLD};
 use sacn_console::{Show, ShowFault};
 use sacn_node::{NodeSetup, SetupFault};
-use sacn_schedule::examples::{SCHEDULE, WORLD};
 use sacn_world::laws::headline;
 use sacn_world::{
     Answer, Event, TextFault, World, WorldFault, WorldTextFault, read_schedule, read_world,

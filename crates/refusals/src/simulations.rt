@@ -1,8 +1,8 @@
 //! A simulation, printed into room of its own.
 use crate::Outcome;
 use arrayvec::ArrayVec;
+use fixtures::texts::{SCHEDULE, WORLD};
 use sacn_edge::WriterOut;
-use sacn_schedule::examples::{SCHEDULE, WORLD};
 use sacn_text::{SimFault, sim_text};
 use std::alloc::Global;
 use std::io::{self, Write};

@@ -1,8 +1,8 @@
 //! Worlds, and runs of events.
 use crate::Outcome;
 use fixtures::packets::CID;
+use fixtures::texts::{SCHEDULE, WORLD};
 use sacn_node::NodeTaken;
-use sacn_schedule::examples::{SCHEDULE, WORLD};
 use sacn_schedule::{Event, read_schedule, read_world};
 use sacn_sources::Taken;
 use sacn_world::{Answer, RunFault, World, WorldFault};

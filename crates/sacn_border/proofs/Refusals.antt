@@ -7,7 +7,7 @@ use Rattle.sacn_node.specs.SetupFaults.{setup_fault_number}
 use Rattle.sacn_node.specs.declared.setup.fault.SetupFault.{SetupFault}
 use Rattle.sacn_node.specs.declared.setup.fault.SetupFault.TheVariants as setup
 use Rattle.sacn_console.specs.ShowReading.{show_or_toml}
-use Rattle.sacn_console.specs.FaultNumbers.{show_fault_number}
+use Rattle.sacn_console.specs.ConsoleFaults.{show_fault_number}
 use Rattle.sacn_console.specs.declared.show.fault.ShowFault.{ShowFault}
 use Rattle.sacn_console.specs.declared.show.fault.ShowFault.TheVariants as show
 use Rattle.sacn_border.specs.Making.{setup_status, SetupStatus, show_status, ShowStatus}

@@ -1,6 +1,6 @@
 -- What a datagram does to a collector, and how C is given a list.
 use Rattle.std.specs.Prelude.{◌≡◌, ◌==◌, ℕ, List, length, take, Option, Some, None, Result, Ok, Err, if◌then◌else◌}
-use Rattle.sacn_packets.specs.FaultNumbers.{fault_number}
+use Rattle.sacn_packets.specs.PacketFaults.{fault_number}
 use Rattle.sacn_packets.specs.declared.root.fault.PacketFault.{PacketFault}
 use Rattle.sacn_packets.specs.declared.framing.packet.Packet.{Packet}
 use Rattle.sacn_packets.specs.declared.framing.packet.Packet.TheVariants.{DataPacket, PagePacket, SyncPacket}

@@ -1,6 +1,6 @@
 -- What C is told of a datagram that a monitor hears, and of a source on a universe.
 use Rattle.std.specs.Prelude.{ℕ, replicate, Option, Some, None}
-use Rattle.sacn_packets.specs.FaultNumbers.{fault_number}
+use Rattle.sacn_packets.specs.PacketFaults.{fault_number}
 use Rattle.sacn_monitor.specs.declared.account.Endpoint.{Endpoint}
 use Rattle.sacn_monitor.specs.declared.news.Change.{Change}
 use Rattle.sacn_monitor.specs.declared.news.StreamEvent.{StreamEvent}

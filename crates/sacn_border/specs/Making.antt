@@ -10,7 +10,7 @@ use Rattle.sacn_node.specs.declared.setup.fault.SetupFault.{SetupFault}
 use Rattle.sacn_node.specs.declared.setup.fault.SetupFault.TheVariants as setup
 use Rattle.sacn_console.specs.Shows.{ShowContent}
 use Rattle.sacn_console.specs.ShowReading.{show_or_toml}
-use Rattle.sacn_console.specs.FaultNumbers.{show_fault_number}
+use Rattle.sacn_console.specs.ConsoleFaults.{show_fault_number}
 use Rattle.sacn_console.specs.Due.{life_of}
 use Rattle.sacn_console.specs.Runs.{core_by}
 use Rattle.sacn_console.specs.declared.show.fault.ShowFault.{ShowFault}

@@ -1,7 +1,7 @@
 -- The numbers by which C is told what became of a datagram.
 use Rattle.std.specs.Prelude.{ℕ, List, Option, Some, None}
 use Rattle.sacn_border.specs.declared.status.TheConstants.{DONE, RANGE}
-use Rattle.sacn_packets.specs.FaultNumbers.{fault_number}
+use Rattle.sacn_packets.specs.PacketFaults.{fault_number}
 use Rattle.sacn_sources.specs.declared.answer.Taken.{Taken}
 use Rattle.sacn_sources.specs.declared.answer.Taken.TheVariants.{Held, Observed, EndedNow, OutOfSequence, SourcesExceeded, UnknownIgnored}
 use Rattle.sacn_node.specs.declared.answer.NodeTaken.{NodeTaken}

@@ -1,7 +1,7 @@
 -- What C is told of a packet, and what it tells to a writer.
 use Rattle.std.specs.Prelude.{◌≡◌, ℕ, nat_lt, Bool, true, false, not, ◌==◌, ◌||◌, List, [], ◌∷◌, ◌++◌, length, ⊤, Result, Ok, Err, if◌then◌else◌}
 use Rattle.std.specs.List.{before_first}
-use Rattle.sacn_packets.specs.FaultNumbers.{fault_number}
+use Rattle.sacn_packets.specs.PacketFaults.{fault_number}
 use Rattle.sacn_packets.specs.declared.root.fault.PacketFault.{PacketFault}
 use Rattle.sacn_packets.specs.declared.root.fault.PacketFault.TheVariants.{Priority, Universe, ValueCount}
 use Rattle.sacn_packets.specs.declared.universe.TheConstants.{MAX_PRIORITY, MAX_UNIVERSE}

@@ -1,6 +1,6 @@
 -- What C is told of a console.
 use Rattle.std.specs.Prelude.{ℕ, ◌^◌, ◌-◌, replicate, Option, Some, None, Result, Ok, Err, if◌then◌else◌, ◌==◌}
-use Rattle.sacn_console.specs.FaultNumbers.{console_fault_number}
+use Rattle.sacn_console.specs.ConsoleFaults.{console_fault_number}
 use Rattle.sacn_console.specs.declared.command.ConsoleFault.{ConsoleFault}
 use Rattle.sacn_console.specs.declared.command.Command.{Command}
 use Rattle.sacn_console.specs.declared.command.Command.TheVariants.{Go, GoTo, SetLevel, Master, EndUniverse, StartUniverse}

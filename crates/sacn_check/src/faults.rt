@@ -9,7 +9,7 @@ ghost use Rattle.sacn_check.specs.Refusals.{refusal, refusal_by, first_refusal};
 use crate::document::part_faults;
 use crate::finding::{Fault, Finding, Findings, finding_of};
 use crate::kinds::FileKind;
-use crate::lines::line_faults;
+use crate::line_faults::line_faults;
 use crate::place::{Found, Place};
 use crate::refusal::{Owner, Refusal};
 use crate::rules::Wanted;

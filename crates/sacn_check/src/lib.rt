@@ -9,7 +9,7 @@ mod faults;
 mod finding;
 mod keys;
 mod kinds;
-mod lines;
+mod line_faults;
 mod place;
 mod quick;
 mod refusal;

@@ -3,7 +3,7 @@ use Rattle.std.proofs.Common.{◌≡◌, ℕ, ◌+◌, ◌-◌, ◌/◌, ◌<◌
 use Rattle.std.specs.Option.{option_map}
 use Rattle.std.proofs.lemmas.Option.{same_Some}
 use Rattle.sacn_console.specs.Lines.{Datagram, Page, Packet, Paged, line_due}
-use Rattle.sacn_console.specs.Core.{Core, at, is_of, packet_at, line_at, no_line, line_found, page_due, standing, due, size, due_datagram, page_of_len}
+use Rattle.sacn_console.specs.Core.{Core, at, is_of, packet_at, line_at, no_line, line_found, page_due, standing, due, size, due_datagram, page_of_length}
 use Rattle.sacn_console.specs.declared.console.DueDatagram.{DueDatagram}
 use Rattle.sacn_console.specs.Lights.{Lights, frame}
 use Rattle.sacn_discovery.specs.Pages.{page_count}
@@ -149,6 +149,6 @@ pub none_told : (o : Option Datagram) → None ≡ option_map due_datagram o →
 none_told None e = refl
 none_told (Some d) e = absurd (cc)
 
-pub page_told : (o : Option Page) → option_map page_of_len (option_map size (option_map Paged o)) ≡ option_map due_datagram (option_map Paged o)
+pub page_told : (o : Option Page) → option_map page_of_length (option_map size (option_map Paged o)) ≡ option_map due_datagram (option_map Paged o)
 page_told None = refl
 page_told (Some p) = refl

@@ -57,8 +57,8 @@ abbrev pub due_datagram : Datagram → DueDatagram
 due_datagram d = record { len = size d; universe = universe_of d }
 
 -- what is said of a page of so many octets
-abbrev pub page_of_len : ℕ → DueDatagram
-page_of_len len = record { len = len; universe = None }
+abbrev pub page_of_length : ℕ → DueDatagram
+page_of_length len = record { len = len; universe = None }
 
 -- the octets after a poll: the datagram at the front, the others as they were
 abbrev pub over : Sender → Option Datagram → List ℕ → List ℕ

@@ -1,4 +1,4 @@
-pub mod FaultNumbers
+pub mod ConsoleFaults
 pub mod Lights
 pub mod Lines
 pub mod Core

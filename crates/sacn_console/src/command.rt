@@ -47,7 +47,7 @@ pub enum ConsoleFault {
 }
 
 impl ConsoleFault {
-    ghost use Rattle.sacn_console.specs.FaultNumbers.{console_fault_number};
+    ghost use Rattle.sacn_console.specs.ConsoleFaults.{console_fault_number};
 
     /// The fault's number, from 1 to 6.
     pub fn number(self) -> u8

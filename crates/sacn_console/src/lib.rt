@@ -6,10 +6,10 @@ mod console;
 pub mod laws;
 pub mod limits;
 mod line;
-mod lines;
 mod script;
 mod sender;
 mod show;
+mod universe_lines;
 mod waking;
 
 pub use command::{Command, ConsoleFault};

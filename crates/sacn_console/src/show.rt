@@ -13,7 +13,7 @@ mod identity;
 mod patches;
 mod phases;
 mod ports;
-mod rows;
+mod show_rows;
 mod universes;
 
 pub use fault::ShowFault;

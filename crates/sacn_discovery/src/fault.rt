@@ -13,7 +13,7 @@ pub enum DiscoveryFault {
 }
 
 impl DiscoveryFault {
-    ghost use Rattle.sacn_discovery.specs.FaultNumbers.{discovery_fault_number};
+    ghost use Rattle.sacn_discovery.specs.DiscoveryFaults.{discovery_fault_number};
 
     /// The fault's number, 1.
     pub fn number(self) -> u8

@@ -1,7 +1,7 @@
 -- The line that tells each thing that a packet told: for people, and as an object of JSON.
 use Rattle.std.specs.Prelude.{ℕ, List, ◌++◌, codes}
 use Rattle.sacn_packets.specs.declared.root.fault.PacketFault.{PacketFault}
-use Rattle.sacn_packets.specs.FaultNumbers.{fault_number}
+use Rattle.sacn_packets.specs.PacketFaults.{fault_number}
 use Rattle.sacn_monitor.specs.declared.account.Endpoint.{Endpoint}
 use Rattle.sacn_monitor.specs.declared.news.Change.{Change}
 use Rattle.sacn_monitor.specs.declared.news.StreamEvent.{StreamEvent}

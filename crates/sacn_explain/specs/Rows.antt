@@ -1,7 +1,7 @@
 -- The rows of universes, lists and refusals: for people, and as objects of JSON.
 use Rattle.std.specs.Prelude.{ℕ, List, ◌++◌, codes, decimal}
 use Rattle.sacn_packets.specs.declared.root.fault.PacketFault.{PacketFault}
-use Rattle.sacn_packets.specs.FaultNumbers.{fault_number}
+use Rattle.sacn_packets.specs.PacketFaults.{fault_number}
 use Rattle.sacn_explain.specs.declared.count.UniverseCounts.{UniverseCounts}
 use Rattle.sacn_explain.specs.declared.listings.Listing.{Listing}
 use Rattle.sacn_explain.specs.declared.options.Form.{Form}

@@ -3,7 +3,7 @@
 ghost use Rattle.std.specs.Prelude.{◌≡◌, ◌++◌, OnOk, string_bytes};
 ghost use Rattle.sacn_explain.specs.Causes.{on_universe, by_words, cause_among, cause_words, by_members, cause_members, reason_of};
 
-use crate::{json, words};
+use crate::{event_words, json};
 use sacn_monitor::{Noted, Stream};
 use sacn_packets::up_to_nul;
 use std::alloc::AllocError;
@@ -58,7 +58,7 @@ fn push_by(text: &mut String, word: &str, stream: &Stream) -> Result<(), AllocEr
         (string_bytes text.new ≡ string_bytes text.old ++ by_words word.now stream.now) }
 {
     push_universe(text, word, stream.universe)?;
-    words::push_source(text, &stream.cid, up_to_nul(&stream.account.name))
+    event_words::push_source(text, &stream.cid, up_to_nul(&stream.account.name))
 }
 
 #[tactic(auto, unfolding(crate::specs::Causes::on_universe))]

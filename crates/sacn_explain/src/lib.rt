@@ -2,8 +2,10 @@
 //! that happens, in order, the frames of a node with their causes, and then tables of the sources and universes with all counts.
 #![tactic(auto)]
 
+mod account_lines;
 mod cause;
 mod count;
+mod event_words;
 mod fault;
 mod follow;
 mod follower;
@@ -11,7 +13,6 @@ mod frames;
 mod json;
 pub mod laws;
 mod line_writer;
-mod lines;
 mod listed;
 mod listings;
 mod numbers;
@@ -20,15 +21,15 @@ mod packet_lines;
 mod places;
 mod refusals;
 mod report;
-mod rows;
 mod spelling;
 mod stage;
 mod stream_rows;
+mod table_rows;
 mod tables;
 mod teller;
 mod totals;
-mod words;
 
+pub use event_words::push_stop;
 pub use fault::ExplainFault;
 pub use follow::{Timeline, explain};
 pub use follower::Follower;
@@ -41,4 +42,3 @@ pub use report::Report;
 pub use spelling::{push_cid, push_decimal, push_digits, push_long_digits, push_sender};
 pub use stream_rows::{push_counts, push_state_members};
 pub use totals::total;
-pub use words::push_stop;

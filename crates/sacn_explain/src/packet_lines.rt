@@ -6,7 +6,7 @@ ghost use Rattle.sacn_explain.specs.PacketLines.{event_line, moved_line, renamed
 
 use crate::options::Form;
 use crate::refusals::fault_name;
-use crate::{json, words};
+use crate::{event_words, json};
 use sacn_monitor::{Change, Endpoint, News, Stream, StreamEvent};
 use sacn_packets::PacketFault;
 use std::alloc::AllocError;
@@ -38,8 +38,8 @@ pub fn event_line(
 {
     match form {
         Form::Text => {
-            words::begin_stream(text, now, stream)?;
-            words::push_event(text, event, stream)
+            event_words::begin_stream(text, now, stream)?;
+            event_words::push_event(text, event, stream)
         }
         Form::Json => {
             json::begin(text, now, event_key(event))?;
@@ -63,8 +63,8 @@ pub fn moved_line(
 {
     match form {
         Form::Text => {
-            words::begin_stream(text, now, stream)?;
-            words::push_moved(text, &stream.account.sender)
+            event_words::begin_stream(text, now, stream)?;
+            event_words::push_moved(text, &stream.account.sender)
         }
         Form::Json => {
             json::begin(text, now, "moved")?;
@@ -87,7 +87,7 @@ pub fn renamed_line(
 {
     match form {
         Form::Text => {
-            words::begin_stream(text, now, stream)?;
+            event_words::begin_stream(text, now, stream)?;
             text.push_str("has this name now")
         }
         Form::Json => {
@@ -111,8 +111,8 @@ pub fn priority_line(
 {
     match form {
         Form::Text => {
-            words::begin_stream(text, now, stream)?;
-            words::push_priority(text, change)
+            event_words::begin_stream(text, now, stream)?;
+            event_words::push_priority(text, change)
         }
         Form::Json => {
             json::begin(text, now, "priority")?;
@@ -131,7 +131,7 @@ pub fn anew_line(text: &mut String, form: Form, now: u64, stream: &Stream) -> Re
 {
     match form {
         Form::Text => {
-            words::begin_stream(text, now, stream)?;
+            event_words::begin_stream(text, now, stream)?;
             text.push_str("begins its numbers anew")
         }
         Form::Json => {
@@ -155,8 +155,8 @@ pub fn omission_line(
 {
     match form {
         Form::Text => {
-            words::begin_stream(text, now, stream)?;
-            words::push_omission(text, number)
+            event_words::begin_stream(text, now, stream)?;
+            event_words::push_omission(text, number)
         }
         Form::Json => {
             json::begin(text, now, "leaves_out")?;
@@ -180,8 +180,8 @@ pub fn skipped_line(
 {
     match form {
         Form::Text => {
-            words::begin_stream(text, now, stream)?;
-            words::push_skipped(text, news)
+            event_words::begin_stream(text, now, stream)?;
+            event_words::push_skipped(text, news)
         }
         Form::Json => {
             json::begin(text, now, "skipped")?;
@@ -199,8 +199,8 @@ pub fn loss_line(text: &mut String, form: Form, now: u64, stream: &Stream) -> Re
 {
     match form {
         Form::Text => {
-            words::begin_stream(text, now, stream)?;
-            words::push_loss(text, stream)
+            event_words::begin_stream(text, now, stream)?;
+            event_words::push_loss(text, stream)
         }
         Form::Json => {
             json::begin(text, now, "lost")?;
@@ -224,8 +224,8 @@ pub fn refused_line(
 {
     match form {
         Form::Text => {
-            words::begin(text, now)?;
-            words::push_refused(text, sender, fault)
+            event_words::begin(text, now)?;
+            event_words::push_refused(text, sender, fault)
         }
         Form::Json => {
             json::begin(text, now, "refused")?;
@@ -249,8 +249,8 @@ pub fn untracked_line(
 {
     match form {
         Form::Text => {
-            words::begin(text, now)?;
-            words::push_untracked(text, sender)
+            event_words::begin(text, now)?;
+            event_words::push_untracked(text, sender)
         }
         Form::Json => {
             json::begin(text, now, "untracked")?;

@@ -4,9 +4,9 @@ ghost use Rattle.std.specs.Prelude.{◌≡◌, ◌++◌, OnOk, string_bytes};
 ghost use Rattle.sacn_explain.specs.StreamRows.{counts_members, gap_column, kinds_members, moments_text, numbers_members, origin_members, packet_columns, place_text, priority_column, rate_member, state_members, state_text, state_word, stream_json, stream_row, stream_text, universe_column};
 
 use crate::options::Form;
-use crate::rows::push_column;
 use crate::spelling::{push_left, push_moment, push_sender};
-use crate::{json, words};
+use crate::table_rows::push_column;
+use crate::{event_words, json};
 use sacn_monitor::{Stream, StreamState};
 use sacn_packets::up_to_nul;
 use std::alloc::AllocError;
@@ -111,7 +111,7 @@ fn push_gap(text: &mut String, gap: u64) -> Result<(), AllocError>
 fn push_place(text: &mut String, stream: &Stream) -> Result<(), AllocError>
     ensures { OnOk result (string_bytes text.new ≡ string_bytes text.old ++ place_text stream.now) }
 {
-    words::push_source(text, &stream.cid, up_to_nul(&stream.account.name))?;
+    event_words::push_source(text, &stream.cid, up_to_nul(&stream.account.name))?;
     text.push_str(" at ")?;
     push_sender(text, &stream.account.sender)
 }

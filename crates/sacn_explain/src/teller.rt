@@ -5,9 +5,9 @@ ghost use Rattle.sacn_explain.specs.Causes.{reason_of};
 ghost use Rattle.sacn_explain.specs.Lines.{frame_line, kept_list, listing_line, rivals_line, stop_line};
 ghost use Rattle.sacn_explain.specs.PacketLines.{anew_line, loss_line, moved_line, refused_line, renamed_line, skipped_line, untracked_line};
 
+use crate::account_lines::{frame_line, listing_line, rivals_line, stop_line};
 use crate::cause::Cause;
 use crate::fault::TellFault;
-use crate::lines::{frame_line, listing_line, rivals_line, stop_line};
 use crate::listings::Listing;
 use crate::options::Form;
 use crate::packet_lines::{

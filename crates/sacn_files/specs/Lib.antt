@@ -1,4 +1,4 @@
-pub mod FaultNumbers
+pub mod FileFaults
 pub mod Document
 pub mod Keys
 pub mod Values

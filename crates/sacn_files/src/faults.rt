@@ -31,7 +31,7 @@ pub enum FileFault {
 }
 
 impl FileFault {
-    ghost use Rattle.sacn_files.specs.FaultNumbers.{file_fault_number};
+    ghost use Rattle.sacn_files.specs.FileFaults.{file_fault_number};
 
     /// The fault's number, from 1 to 6.
     pub fn number(self) -> u8
@@ -62,7 +62,7 @@ pub enum TextFault {
 }
 
 impl TextFault {
-    ghost use Rattle.sacn_files.specs.FaultNumbers.{text_fault_number};
+    ghost use Rattle.sacn_files.specs.FileFaults.{text_fault_number};
 
     /// The fault's number, from 1 to 5.
     pub fn number(self) -> u8

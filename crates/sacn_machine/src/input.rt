@@ -2,7 +2,7 @@
 ghost use Rattle.std.specs.Prelude.{◌≤◌};
 ghost use Rattle.sacn_machine.specs.declared.input.TheConstants.{PIECE_OCTETS};
 
-use crate::lines::{Gathered, LineBuffer};
+use crate::line_buffer::{Gathered, LineBuffer};
 use crate::sys::{STDIN, is_readable, read_input};
 use std::alloc::{AllocError, Global};
 

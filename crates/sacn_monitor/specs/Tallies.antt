@@ -2,7 +2,7 @@
 use Rattle.std.specs.Prelude.{ℕ, List, replicate, slice_index_or, slice_set}
 use Rattle.sacn_packets.specs.declared.root.fault.PacketFault.{PacketFault}
 use Rattle.sacn_packets.specs.declared.root.fault.TheConstants.{FAULT_NUMBERS}
-use Rattle.sacn_packets.specs.FaultNumbers.{fault_number}
+use Rattle.sacn_packets.specs.PacketFaults.{fault_number}
 use Rattle.sacn_monitor.specs.declared.tally.Tally.{Tally}
 use Rattle.sacn_monitor.specs.Kinds.{more}
 

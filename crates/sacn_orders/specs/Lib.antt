@@ -1,3 +1,3 @@
-pub mod FaultNumbers
+pub mod OrderFaults
 pub mod Pieces
 pub mod Orders

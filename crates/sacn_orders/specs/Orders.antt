@@ -17,7 +17,9 @@ use Rattle.sacn_orders.specs.declared.order.Order.{Order}
 use Rattle.sacn_orders.specs.declared.order.Order.TheVariants.{Levels, Master, Back, Cues, Patch, Plain}
 use Rattle.sacn_orders.specs.declared.fault.OrderFault.{OrderFault}
 use Rattle.sacn_orders.specs.declared.fault.OrderFault.TheVariants.{Text, NoChannels, Word, Channel, Backwards, TooManyParts, Level}
-use Rattle.sacn_orders.specs.declared.limits.TheConstants.{FULL_HUNDREDTHS, FULL_LEVEL, LAST_CHANNEL, MAX_PARTS}
+use Rattle.sacn_cues.specs.declared.limits.TheConstants.{FULL}
+use Rattle.sacn_orders.specs.declared.limits.TheConstants.{FULL_HUNDREDTHS, MAX_PARTS}
+use Rattle.sacn_patch.specs.declared.limits.TheConstants.{MAX_CHANNELS}
 
 -- ---- which channels a selection chooses
 
@@ -35,7 +37,7 @@ is_chosen parts channel = is_adding (find (is_in channel) (reverse parts))
 
 -- the channels from this one on, up to the last
 unfoldable pub channels_from : ℕ → List ℕ
-channels_from first = range_with_len first (LAST_CHANNEL + 1 - first)
+channels_from first = range_with_len first (MAX_CHANNELS + 1 - first)
 
 -- the chosen channels, each once, from the lowest to the highest
 abbrev pub chosen : List Part → List ℕ
@@ -56,13 +58,13 @@ AreInTurn parts first (channel ∷ channels) = (next_chosen parts first ≡ Some
 
 -- every channel, as one part
 abbrev pub every_channel : Part
-every_channel = record { first = 1; last = LAST_CHANNEL; is_added = true }
+every_channel = record { first = 1; last = MAX_CHANNELS; is_added = true }
 
 -- ---- levels
 
 -- the level of so many hundredths of a percent, rounded down
 abbrev pub level_of : ℕ → ℕ
-level_of hundredths = hundredths * FULL_LEVEL / FULL_HUNDREDTHS
+level_of hundredths = hundredths * FULL / FULL_HUNDREDTHS
 
 -- one decimal is tenths, two are hundredths
 abbrev pub decimals_in : List ℕ → Option ℕ
@@ -100,7 +102,7 @@ level_said w = or_no_level (hundredths_in w)
 -- `full`, or a percent, behind which a percent sign may stand
 abbrev pub level_in : List (List ℕ) → Result ℕ OrderFault
 level_in [] = Err Level
-level_in (w ∷ []) = if bytes_eq w (codes "full") then Ok FULL_LEVEL else level_said w
+level_in (w ∷ []) = if bytes_eq w (codes "full") then Ok FULL else level_said w
 level_in (w ∷ s ∷ []) = if bytes_eq s (codes "%") then level_said w else Err Level
 level_in (w ∷ s ∷ t ∷ ws) = Err Level
 
@@ -112,7 +114,7 @@ or_no_channel (Some n) = if n == 0 then Err Channel else Ok n
 
 -- digits are a channel from 1 to the last, however many they are; all else is a word where a number was expected
 abbrev pub channel_in : List ℕ → Result ℕ OrderFault
-channel_in w = if list_all is_ascii_digit w then or_no_channel (number_in LAST_CHANNEL w) else Err Word
+channel_in w = if list_all is_ascii_digit w then or_no_channel (number_in MAX_CHANNELS w) else Err Word
 
 -- nothing more stands in the part
 abbrev pub ended : ℕ → List (List ℕ) → Result ℕ OrderFault
@@ -212,7 +214,7 @@ abbrev pub word_in : ℕ → List (List ℕ) → Result Order OrderFault
 word_in line [] = plain line []
 word_in line (w ∷ ws) =
     if bytes_eq w (codes "blackout") then alone line (Master 0) ws
-    else if bytes_eq w (codes "restore") then alone line (Master FULL_LEVEL) ws
+    else if bytes_eq w (codes "restore") then alone line (Master FULL) ws
     else if bytes_eq w (codes "back") then alone line Back ws
     else if bytes_eq w (codes "cues") then alone line Cues ws
     else if bytes_eq w (codes "patch") then alone line Patch ws

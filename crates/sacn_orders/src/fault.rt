@@ -23,7 +23,7 @@ pub enum OrderFault {
     /// A word stands, or the line ends, where a channel's number, `thru`, a sign or `at` was expected.
     #[error("a number, thru or at was expected")]
     Word,
-    /// A channel isn't 1 to `LAST_CHANNEL`.
+    /// A channel isn't 1 to `MAX_CHANNELS`.
     #[error("a channel is 1 to 2048")]
     Channel,
     /// The last channel of a span is below its first.
@@ -38,7 +38,7 @@ pub enum OrderFault {
 }
 
 impl OrderFault {
-    ghost use Rattle.sacn_orders.specs.FaultNumbers.{order_fault_number};
+    ghost use Rattle.sacn_orders.specs.OrderFaults.{order_fault_number};
 
     /// The fault's number, from 1 to 8.
     pub fn number(self) -> u8

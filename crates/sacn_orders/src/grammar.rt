@@ -5,10 +5,10 @@ ghost use Rattle.sacn_orders.specs.Orders.{all_in, is_at, is_joining, is_plus, l
 
 use crate::fault::OrderFault;
 use crate::level::level_in;
-use crate::limits::LAST_CHANNEL;
 use crate::order::Order;
 use crate::part::{Part, part_in};
 use crate::selection::Selection;
+use sacn_patch::MAX_CHANNELS;
 
 fn is_plus(piece: &str) -> bool
     ensures { result ≡ is_plus piece.now }
@@ -62,7 +62,7 @@ fn all_in(pieces: &[&str]) -> Result<Selection, OrderFault>
             let mut selection = Selection::new();
             selection.push(Part {
                 first: 1,
-                last: LAST_CHANNEL,
+                last: MAX_CHANNELS,
                 is_added: true,
             });
             Ok(selection)

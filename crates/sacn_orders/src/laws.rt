@@ -3,7 +3,7 @@ ghost use Rattle.std.specs.Prelude.{◌≡◌, ◌*◌, ◌/◌, ℕ, List, map}
 ghost use Rattle.sacn_orders.specs.Orders.{AreInTurn, chosen, commands_of, level_of};
 ghost use Rattle.sacn_console.specs.declared.command.Command.TheVariants.{SetLevel};
 ghost use Rattle.sacn_orders.specs.declared.part.Part.{Part};
-ghost use Rattle.sacn_orders.specs.declared.limits.TheConstants.{FULL_HUNDREDTHS, FULL_LEVEL, LAST_CHANNEL, MAX_PARTS};
+ghost use Rattle.sacn_orders.specs.declared.limits.TheConstants.{FULL_HUNDREDTHS, MAX_PARTS};
 
 /// What `next_from` gives from channel 1 on, each later call from behind the channel before, until none comes: exactly the
 /// chosen channels, from the lowest to the highest. With the level they are the order's commands.
@@ -21,8 +21,6 @@ pub fn whole_percents()
 
 /// What the numbers of orders are.
 pub fn numbers()
-    ensures channel { LAST_CHANNEL ≡ 2048 }
     ensures parts { MAX_PARTS ≡ 64 }
-    ensures level { FULL_LEVEL ≡ 65535 }
     ensures hundredths { FULL_HUNDREDTHS ≡ 10000 }
 {}

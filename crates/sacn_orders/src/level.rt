@@ -5,7 +5,8 @@ ghost use Rattle.sacn_orders.specs.declared.limits.TheConstants.{FULL_HUNDREDTHS
 ghost use Rattle.sacn_orders.specs.Orders.{decimals_in, hundredths_in, level_in, level_of, level_said, percent_of};
 
 use crate::fault::OrderFault;
-use crate::limits::{FULL_HUNDREDTHS, FULL_LEVEL};
+use crate::limits::FULL_HUNDREDTHS;
+use sacn_cues::FULL;
 use sacn_files::words::number_in;
 
 /// A whole number, at most a small limit.
@@ -69,7 +70,7 @@ fn level_of(hundredths: u64) -> u16
     requires { hundredths ≤ FULL_HUNDREDTHS }
     ensures { result ≡ level_of hundredths }
 {
-    (hundredths * FULL_LEVEL as u64 / FULL_HUNDREDTHS as u64) as u16
+    (hundredths * FULL as u64 / FULL_HUNDREDTHS as u64) as u16
 }
 
 fn level_said(piece: &str) -> Result<u16, OrderFault>
@@ -90,7 +91,7 @@ pub(crate) fn level_in(pieces: &[&str]) -> Result<u16, OrderFault>
     match pieces {
         [piece] => {
             if *piece == "full" {
-                Ok(FULL_LEVEL)
+                Ok(FULL)
             } else {
                 level_said(piece)
             }

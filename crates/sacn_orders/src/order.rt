@@ -6,10 +6,10 @@ ghost use Rattle.sacn_orders.specs.declared.fault.OrderFault.TheVariants.{OutOfM
 
 use crate::fault::OrderFault;
 use crate::grammar::levels_in;
-use crate::limits::FULL_LEVEL;
 use crate::pieces::{is_sign, pieces_of};
 use crate::selection::Selection;
 use sacn_console::{Command, TextFault, command_of};
+use sacn_cues::FULL;
 use std::alloc::Global;
 
 /// What a line orders.
@@ -75,7 +75,7 @@ fn word_in(words: &[&str], line: usize) -> Result<Order, OrderFault>
             if *word == "blackout" {
                 alone(line, Order::Master(0), rest)
             } else if *word == "restore" {
-                alone(line, Order::Master(FULL_LEVEL), rest)
+                alone(line, Order::Master(FULL), rest)
             } else if *word == "back" {
                 alone(line, Order::Back, rest)
             } else if *word == "cues" {

@@ -5,8 +5,8 @@ ghost use Rattle.std.specs.List.{list_all};
 ghost use Rattle.sacn_orders.specs.Orders.{channel_in, ended, is_in, last_in, part_in, span_to};
 
 use crate::fault::OrderFault;
-use crate::limits::LAST_CHANNEL;
 use sacn_files::words::number_in;
+use sacn_patch::MAX_CHANNELS;
 
 /// The channels from `first` to `last`, which a selection adds or takes away.
 #[derive(Clone, Copy, Debug, Default, PartialEq, Eq)]
@@ -40,14 +40,14 @@ fn is_digits(piece: &str) -> bool
     piece.as_bytes().iter().all(|octet| is_digit(*octet))
 }
 
-/// A channel's number, 1 to `LAST_CHANNEL`. Errors: `Word` where the piece isn't digits, else `Channel`.
+/// A channel's number, 1 to `MAX_CHANNELS`. Errors: `Word` where the piece isn't digits, else `Channel`.
 fn channel_in(piece: &str) -> Result<u16, OrderFault>
     ensures { result ≡ channel_in piece.now }
 {
     if !is_digits(piece) {
         return Err(OrderFault::Word);
     }
-    match number_in(LAST_CHANNEL as u64, piece) {
+    match number_in(MAX_CHANNELS as u64, piece) {
         Some(channel) => {
             if channel == 0 {
                 Err(OrderFault::Channel)

@@ -3,8 +3,9 @@ ghost use Rattle.std.specs.Prelude.{◌≡◌, ◌++◌, ◌<◌, ◌≤◌, [],
 ghost use Rattle.sacn_orders.specs.declared.limits.TheConstants.{MAX_PARTS};
 ghost use Rattle.sacn_orders.specs.Orders.{is_chosen, next_chosen};
 
-use crate::limits::{LAST_CHANNEL, MAX_PARTS};
+use crate::limits::MAX_PARTS;
 use crate::part::Part;
+use sacn_patch::MAX_CHANNELS;
 use std::marker::Model;
 
 /// Channels that are added and taken away part by part, `MAX_PARTS` at most. It takes no memory.
@@ -87,14 +88,14 @@ impl Selection {
         is_held
     }
 
-    /// The lowest chosen channel that isn't below this one, 1 to `LAST_CHANNEL`, or none.
+    /// The lowest chosen channel that isn't below this one, 1 to `MAX_CHANNELS`, or none.
     ///
     /// The chosen channels in turn are what `next_from(1)` gives, and then each `next_from(channel + 1)` behind the one
     /// before, until none comes (`laws::channels_in_turn`).
     pub fn next_from(&self, channel: u16) -> Option<u16>
         ensures { result ≡ next_chosen self.now channel }
     {
-        for next in at_least_one(channel)..LAST_CHANNEL + 1 {
+        for next in at_least_one(channel)..MAX_CHANNELS + 1 {
             if self.holds(next) {
                 return Some(next);
             }

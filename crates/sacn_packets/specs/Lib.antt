@@ -1,7 +1,7 @@
 pub mod Universe
 pub mod Results
 pub mod Check
-pub mod FaultNumbers
+pub mod PacketFaults
 pub mod Octets
 pub mod RootText
 pub mod RootReading

@@ -1,4 +1,4 @@
-pub mod FaultNumbers
+pub mod PatchFaults
 pub mod Flat
 pub mod Parts
 pub mod Patch

@@ -27,7 +27,7 @@ pub enum PatchFault {
 }
 
 impl PatchFault {
-    ghost use Rattle.sacn_patch.specs.FaultNumbers.{fault_number};
+    ghost use Rattle.sacn_patch.specs.PatchFaults.{fault_number};
 
     /// The fault's number, from 1 to 4.
     pub fn number(self) -> u8

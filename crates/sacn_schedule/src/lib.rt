@@ -6,7 +6,6 @@
 
 mod cids;
 mod event;
-pub mod examples;
 mod schedule;
 mod world_file;
 

@@ -13,7 +13,7 @@ pub enum TableFault {
 }
 
 impl TableFault {
-    ghost use Rattle.sacn_sources.specs.FaultNumbers.{table_fault_number};
+    ghost use Rattle.sacn_sources.specs.TableFaults.{table_fault_number};
 
     /// The fault's number, 1.
     pub fn number(self) -> u8

@@ -13,11 +13,8 @@ mod frame;
 pub mod laws;
 mod levels;
 mod merge;
-mod plain;
+pub mod plain;
 
 pub use frame::frame_bytes;
 pub use levels::Levels;
 pub use merge::{Layer, merge_into};
-
-#[cfg(test)]
-mod tests;

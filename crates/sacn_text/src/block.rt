@@ -4,7 +4,7 @@ ghost use Rattle.std.specs.Prelude.{◌≡◌, ◌/◌, ◌%◌, IfOk, string_by
 ghost use Rattle.std.specs.Option.{option_map};
 ghost use Rattle.sacn_text.specs.Blocks.{top_text, data_rest, counts_words, options_words, place_words, values_words, data_values, data_place, data_options, data_block, page_block, page_rest, page_places, known_words, name_text};
 
-use crate::words::{escaped, join, list_text, yes_or_no};
+use crate::printed_names::{escaped, join, list_text, yes_or_no};
 use sacn_packets::{DataView, PageView, multicast_group};
 use std::alloc::{AllocError, Global};
 use uuid::Uuid;

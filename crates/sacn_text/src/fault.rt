@@ -20,7 +20,7 @@ pub enum DecodeFault {
 }
 
 impl DecodeFault {
-    ghost use Rattle.sacn_text.specs.FaultNumbers.{decode_fault_number};
+    ghost use Rattle.sacn_text.specs.PrintingFaults.{decode_fault_number};
 
     /// The fault's number, from 1 to 3.
     pub fn number(self) -> u8
@@ -55,7 +55,7 @@ pub enum SimFault {
 }
 
 impl SimFault {
-    ghost use Rattle.sacn_text.specs.FaultNumbers.{sim_fault_number};
+    ghost use Rattle.sacn_text.specs.PrintingFaults.{sim_fault_number};
 
     /// The fault's number, from 1 to 5.
     pub fn number(self) -> u8

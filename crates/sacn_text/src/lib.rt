@@ -12,8 +12,8 @@ mod input;
 mod look;
 mod marked_writer;
 mod print;
+mod printed_names;
 mod simulate;
-mod words;
 
 pub use decode::decode_text;
 pub use digits::octets_of_digits;

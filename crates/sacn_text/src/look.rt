@@ -3,7 +3,7 @@ ghost use Rattle.std.specs.Prelude.{◌≡◌, ◌<◌, ◌+◌, ◌++◌, drop,
 ghost use Rattle.std.specs.Fmt.{decimal};
 ghost use Rattle.sacn_text.specs.Looks.{slot_words, slots_words, frame_words, look_top, look_line};
 
-use crate::words::join;
+use crate::printed_names::join;
 use std::alloc::{AllocError, Global};
 
 /// The octets of the longest words of a frame: 512 slots of three digits, each with a level of three.

@@ -2,9 +2,9 @@
 #![tactic(auto)]
 
 mod fault;
+mod following;
 mod layout;
 mod levels;
-mod lines;
 mod listener;
 mod page;
 mod run;

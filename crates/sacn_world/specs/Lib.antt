@@ -1,4 +1,4 @@
-pub mod FaultNumbers
+pub mod EventFaults
 pub mod Streams
 pub mod Holdings
 pub mod RowsOfPlaces

@@ -33,7 +33,7 @@ pub enum WorldFault {
 }
 
 impl WorldFault {
-    ghost use Rattle.sacn_world.specs.FaultNumbers.{world_fault_number};
+    ghost use Rattle.sacn_world.specs.EventFaults.{world_fault_number};
 
     /// The fault's number, from 1 to 7.
     pub fn number(self) -> u8
@@ -66,7 +66,7 @@ pub enum NewFault {
 }
 
 impl NewFault {
-    ghost use Rattle.sacn_world.specs.FaultNumbers.{new_fault_number};
+    ghost use Rattle.sacn_world.specs.EventFaults.{new_fault_number};
 
     /// The fault's number, 1 or 2.
     pub fn number(self) -> u8

@@ -1,13 +1,13 @@
 //! What a console gives, and when it next has to.
 ghost use Rattle.std.specs.Prelude.{◌≡◌, ◌<◌, ◌≤◌, ◌++◌, length, drop};
 ghost use Rattle.std.specs.Option.{option_map};
-ghost use Rattle.sacn_console.specs.Core.{packet_text, packet_with, page_of_len};
+ghost use Rattle.sacn_console.specs.Core.{packet_text, packet_with, page_of_length};
 
 use super::{ConsoleCore, DueDatagram};
 use crate::limits::{DISCOVERY_INTERVAL, MAX_DATAGRAM};
 use crate::line::{Begun, UniverseLine};
-use crate::lines::{first_due, list_standing};
 use crate::sender::Sender;
+use crate::universe_lines::{first_due, list_standing};
 use sacn_cues::Player;
 use sacn_discovery::{page_count, write_page};
 use sacn_packets::{DataFields, SLOTS, write_data};
@@ -91,12 +91,12 @@ impl ConsoleCore {
         ensures core { self.new ≡ given (due self.old) self.old }
     {
         if self.moment < self.wakes.least() {
-            return page_of_len(self.give_page(out));
+            return page_of_length(self.give_page(out));
         }
         let mut slots = [0; SLOTS];
         match self.due_place(&mut slots) {
             Some(place) => Some(self.give_packet(place, &slots, out)),
-            None => page_of_len(self.give_page(out)),
+            None => page_of_length(self.give_page(out)),
         }
     }
 
@@ -231,8 +231,8 @@ impl ConsoleCore {
 }
 
 // The page of so many octets, if there is one.
-fn page_of_len(len: Option<usize>) -> Option<DueDatagram>
-    ensures { result ≡ option_map page_of_len len }
+fn page_of_length(len: Option<usize>) -> Option<DueDatagram>
+    ensures { result ≡ option_map page_of_length len }
 {
     match len {
         Some(len) => Some(DueDatagram {
@@ -280,6 +280,6 @@ fn write_packet(
     };
     match out.first_chunk_mut::<638>() {
         Some(front) => write_data(&fields, front),
-        None => 638,
+        None => unreachable!(),
     }
 }

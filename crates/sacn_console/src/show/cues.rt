@@ -6,7 +6,7 @@ ghost use Rattle.sacn_files.specs.Document.{Gives};
 ghost use Rattle.sacn_console.specs.ShowReading.{pair_in, level_in, levels_at, times_in, cue_in, cues_in, cues_added, required, GivesAs};
 
 use super::ShowFault;
-use super::rows::rows_in;
+use super::show_rows::rows_in;
 use sacn_cues::{Cue, CueList};
 use sacn_files::rows::ReadRow;
 use sacn_files::values::{array_at, array_values, number_at, short_at, short_in};

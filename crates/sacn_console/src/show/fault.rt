@@ -42,7 +42,7 @@ pub enum ShowFault {
 }
 
 impl ShowFault {
-    ghost use Rattle.sacn_console.specs.FaultNumbers.{show_fault_number};
+    ghost use Rattle.sacn_console.specs.ConsoleFaults.{show_fault_number};
 
     /// The fault's number, from 1 to 8.
     pub fn number(self) -> u8

@@ -7,7 +7,7 @@ ghost use Rattle.sacn_files.specs.Document.{Gives};
 ghost use Rattle.sacn_console.specs.ShowReading.{wide_of, patch_in, patches_in, patches_added, required, GivesAs};
 
 use super::ShowFault;
-use super::rows::rows_in;
+use super::show_rows::rows_in;
 use sacn_files::rows::ReadRow;
 use sacn_files::values::{short_at, value_in};
 use sacn_patch::Patch;

@@ -6,7 +6,7 @@ ghost use Rattle.sacn_console.specs.ShowReading.{send_to_in, send_to_of, require
 ghost use Rattle.sacn_console.specs.declared.limits.TheConstants.{MAX_DESTINATIONS};
 
 use super::ShowFault;
-use super::rows::rows_in;
+use super::show_rows::rows_in;
 use crate::limits::MAX_DESTINATIONS;
 use sacn_files::limits::{DEFAULT_UDP_PORT, MAX_UDP_PORT, MIN_UDP_PORT};
 use sacn_files::rows::Numbers;

@@ -70,7 +70,7 @@ pub enum PacketFault {
 }
 
 impl PacketFault {
-    ghost use Rattle.sacn_packets.specs.FaultNumbers.{fault_number};
+    ghost use Rattle.sacn_packets.specs.PacketFaults.{fault_number};
 
     /// The fault's number, from 1 to 18.
     pub fn number(self) -> u8

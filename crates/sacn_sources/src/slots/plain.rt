@@ -10,7 +10,7 @@ use crate::slots::merge::{Layer, top_priority};
 use sacn_packets::SLOTS;
 
 /// Writes the merge of the layers over all 512 slots, slot by slot.
-pub(crate) fn merge_into(layers: &[Layer<'_>], slots: &mut [u8; SLOTS])
+pub fn merge_into(layers: &[Layer<'_>], slots: &mut [u8; SLOTS])
     ensures merged { slots.new ≡ merge (map shown_of layers.now) }
     ensures highest { EachIndex slots.new
         (λ slot. IsMergedLevel (map shown_of layers.now) slot (slice_index slots.new slot)) }

@@ -1,6 +1,6 @@
 use Rattle.std.proofs.Common.{Some, ap, ◌∙◌}
 use Rattle.std.specs.Option.{option_map}
-use Rattle.sacn_console.specs.Core.{page_due, page_of_len}
+use Rattle.sacn_console.specs.Core.{page_due, page_of_length}
 use Rattle.sacn_console.proofs.Dues.{due_packet, due_page, page_told}
 use Rattle.sacn_console.proofs.WakeCores.{none_due}
 use Rattle.sacn_console.proofs.console.ConsoleCore.give.Goals as goal
@@ -15,7 +15,7 @@ pub returns-in-Some-clause-core : goal.returns-in-Some-clause-core
 returns-in-Some-clause-core c = rw (due_packet c.args.self.now c.in-Some.place c.in-Some.ensures.found.1) (rw c.in-Some.ensures.core at (c.give_packet.ensures.core))
 
 pub returns-in-None-clause-answer : goal.returns-in-None-clause-answer
-returns-in-None-clause-answer c = rw (due_page c.args.self.now c.in-None.ensures.found) (rw c.in-None.ensures.core at (c.page_of_len-in-None.ensures ∙ ap (option_map page_of_len) c.give_page-in-None.ensures.answer ∙ page_told (page_due c.due_place.new.self)))
+returns-in-None-clause-answer c = rw (due_page c.args.self.now c.in-None.ensures.found) (rw c.in-None.ensures.core at (c.page_of_length-in-None.ensures ∙ ap (option_map page_of_length) c.give_page-in-None.ensures.answer ∙ page_told (page_due c.due_place.new.self)))
 
 pub returns-in-None-clause-octets : goal.returns-in-None-clause-octets
 returns-in-None-clause-octets c = rw (due_page c.args.self.now c.in-None.ensures.found) (rw c.in-None.ensures.core at c.give_page-in-None.ensures.octets)
@@ -24,7 +24,7 @@ pub returns-in-None-clause-core : goal.returns-in-None-clause-core
 returns-in-None-clause-core c = rw (due_page c.args.self.now c.in-None.ensures.found) (rw c.in-None.ensures.core at c.give_page-in-None.ensures.core)
 
 pub returns-then-self-least-clause-answer : goal.returns-then-self-least-clause-answer
-returns-then-self-least-clause-answer c = rw (due_page c.args.self.now (none_due _ c.args.self.now _ _ c.self.view_is c.self.invariant.wakes_ok c.least.ensures c.if-self-least.true)) (c.page_of_len.ensures ∙ ap (option_map page_of_len) c.give_page.ensures.answer ∙ page_told (page_due c.args.self.now))
+returns-then-self-least-clause-answer c = rw (due_page c.args.self.now (none_due _ c.args.self.now _ _ c.self.view_is c.self.invariant.wakes_ok c.least.ensures c.if-self-least.true)) (c.page_of_length.ensures ∙ ap (option_map page_of_length) c.give_page.ensures.answer ∙ page_told (page_due c.args.self.now))
 
 pub returns-then-self-least-clause-octets : goal.returns-then-self-least-clause-octets
 returns-then-self-least-clause-octets c = rw (due_page c.args.self.now (none_due _ c.args.self.now _ _ c.self.view_is c.self.invariant.wakes_ok c.least.ensures c.if-self-least.true)) c.give_page.ensures.octets

@@ -11,7 +11,7 @@ use crate::listings::Listing;
 use crate::numbers::{push_numbers, push_ranges};
 use crate::options::Form;
 use crate::spelling::push_digits;
-use crate::{json, words};
+use crate::{event_words, json};
 use sacn_node::PortFrame;
 use std::alloc::AllocError;
 use std::fmt::Write;
@@ -31,8 +31,8 @@ pub fn rivals_line(
     let sources = sources as u64;
     match form {
         Form::Text => {
-            words::begin(text, now)?;
-            words::push_universe(text, universe)?;
+            event_words::begin(text, now)?;
+            event_words::push_universe(text, universe)?;
             push_rivals(text, sources, priority)
         }
         Form::Json => {
@@ -76,8 +76,8 @@ pub fn stop_line(text: &mut String, form: Form, now: u64, millis: u64) -> Result
 {
     match form {
         Form::Text => {
-            words::begin(text, now)?;
-            words::push_stop(text, millis)
+            event_words::begin(text, now)?;
+            event_words::push_stop(text, millis)
         }
         Form::Json => {
             json::begin(text, now, "stopped")?;
@@ -100,7 +100,7 @@ pub fn listing_line(
 {
     match form {
         Form::Text => {
-            words::begin(text, now)?;
+            event_words::begin(text, now)?;
             push_source(text, listing)?;
             push_list_word(text, event)?;
             push_listed(text, listing)
@@ -129,7 +129,7 @@ pub fn push_source(text: &mut String, listing: &Listing) -> Result<(), AllocErro
     ensures { OnOk result (string_bytes text.new
         ≡ string_bytes text.old ++ source_text listing.now.cid listing.now.name.items) }
 {
-    words::push_source(text, &listing.cid, listing.name.as_slice())
+    event_words::push_source(text, &listing.cid, listing.name.as_slice())
 }
 
 /// The same as members of an object.
@@ -174,7 +174,7 @@ pub fn frame_line(
     let number = port.port;
     match form {
         Form::Text => {
-            words::begin(text, now)?;
+            event_words::begin(text, now)?;
             push_port(text, number)?;
             push_cause(text, cause)
         }

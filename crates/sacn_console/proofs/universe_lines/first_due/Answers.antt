@@ -3,7 +3,7 @@ use Rattle.sacn_console.specs.declared.line.UniverseLine.{UniverseLine}
 use Rattle.sacn_console.specs.declared.line.State.TheVariants.{Running}
 use Rattle.sacn_console.proofs.WakeLists.{quiet_more, wakes_from, wakes_looked, quiet_looked, first_found, none_found, all_ahead, wakes_as, ahead_as}
 use Rattle.sacn_console.proofs.WakeCores.{here_at}
-use Rattle.sacn_console.proofs.lines.first_due.Goals as goal
+use Rattle.sacn_console.proofs.universe_lines.first_due.Goals as goal
 
 abbrev blank : UniverseLine
 blank = record { universe = 0; state = Running None; sequence_number = 0; last = None }

@@ -1,7 +1,7 @@
 use Rattle.std.proofs.Common.{string_bytes, codes}
 use Rattle.sacn_explain.specs.Sentences.{stop_words, stopped_words}
 use Rattle.sacn_explain.proofs.Texts.{two_pieces}
-use Rattle.sacn_explain.proofs.words.push_stop.Goals as goal
+use Rattle.sacn_explain.proofs.event_words.push_stop.Goals as goal
 
 pub returns : goal.returns
 unfolding stop_words

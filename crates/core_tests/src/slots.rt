@@ -1,5 +1,8 @@
-use super::*;
+//! The merge: rows, and the lanes beside the plain loop.
+
 use sacn_packets::{FRAME_OCTETS, SLOTS};
+use sacn_sources::slots::plain;
+use sacn_sources::{Layer, Levels, frame_bytes, merge_into};
 use std::test::Fail;
 
 // The slots that begin with these levels and are at 0 after them.

@@ -3,9 +3,9 @@
 ghost use Rattle.std.specs.Prelude.{◌≡◌, ◌++◌, OnOk, string_bytes};
 ghost use Rattle.sacn_explain.specs.Rows.{column, list_row, packets_members, refused_row, silent_text, universe_columns, universe_json, universe_members, universe_row, universe_text, unlisted_text};
 
+use crate::account_lines::{push_source, push_source_members};
 use crate::count::UniverseCounts;
 use crate::json;
-use crate::lines::{push_source, push_source_members};
 use crate::listings::Listing;
 use crate::numbers::{push_numbers, push_ranges};
 use crate::options::Form;

@@ -1,5 +1,5 @@
 use Rattle.sacn_console.specs.Wakes.{WakesOk, QuietBefore}
-use Rattle.sacn_console.proofs.lines.first_due.Given as goal
+use Rattle.sacn_console.proofs.universe_lines.first_due.Given as goal
 
 abbrev pub invariant-loop-place : goal.invariant-loop-place
 invariant-loop-place l =

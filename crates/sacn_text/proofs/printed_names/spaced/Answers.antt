@@ -1,7 +1,7 @@
 use Rattle.std.proofs.Common.{◌++◌, ◌+◌, ap, ◌∙◌, arith, List, ℕ, drop}
 use Rattle.sacn_text.specs.Words.{spaced}
 use Rattle.sacn_text.proofs.Decodes.{spaced_more}
-use Rattle.sacn_text.proofs.words.spaced.Goals as goal
+use Rattle.sacn_text.proofs.printed_names.spaced.Goals as goal
 
 pub loop-i-preserved : goal.loop-i-preserved
 loop-i-preserved c =

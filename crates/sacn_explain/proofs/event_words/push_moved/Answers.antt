@@ -2,7 +2,7 @@ use Rattle.std.proofs.Common.{string_bytes, codes}
 use Rattle.sacn_explain.specs.Sentences.{moved_words}
 use Rattle.sacn_explain.specs.Spelling.{sender_text}
 use Rattle.sacn_explain.proofs.Texts.{two_pieces}
-use Rattle.sacn_explain.proofs.words.push_moved.Goals as goal
+use Rattle.sacn_explain.proofs.event_words.push_moved.Goals as goal
 
 pub returns : goal.returns
 unfolding moved_words
