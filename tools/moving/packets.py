@@ -62,10 +62,10 @@ PACKETS = {
 """),
         ("docs/ARCHITECTURE.md", """\
    [`read_packet`](../crates/sacn_framing/src/packet.rt); for a gateway's page or screen [`give`](../crates/sacn_live/src/hearing.rt)
-   has read it. [`follow`](../crates/sacn_explain/src/follow.rt) takes it from a recording.
+   has read it. [`follow`](../crates/sacn_tell/src/follow.rt) takes it from a recording.
 """, """\
    [`read_packet`](../crates/sacn_packets/src/framing/packet.rt); for a gateway's page or screen
-   [`give`](../crates/sacn_live/src/hearing.rt) has read it. [`follow`](../crates/sacn_explain/src/follow.rt) takes it from a
+   [`give`](../crates/sacn_live/src/hearing.rt) has read it. [`follow`](../crates/sacn_tell/src/follow.rt) takes it from a
    recording.
 """),
         ("docs/DECISIONS.md", "in `sacn_universe::limits`", "in `sacn_packets::universe`"),

@@ -4,7 +4,7 @@ use crate::datagram::datagram_in;
 use crate::step::{Step, StepFault};
 use crate::watches::form_in;
 use sacn_capture::{Capture, Datagram, LinkType, Passed, datagram_in as carried_in};
-use sacn_explain::{Options, explain};
+use sacn_tell::{Options, explain};
 use std::alloc::{AllocError, Global};
 
 /// Two addresses of Ethernet, and the type of IPv4.

@@ -4,7 +4,7 @@ use crate::datagram::{datagram_in, incoming_in};
 use crate::loops::push;
 use crate::step::{Step, StepFault};
 use sacn_edge::WriterOut;
-use sacn_explain::{Form, Options};
+use sacn_tell::{Form, Options};
 use sacn_machine::memory::{MemoryReceiver, TimedArrival};
 use sacn_monitor::Endpoint;
 use sacn_packets::read_packet;

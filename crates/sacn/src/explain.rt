@@ -4,7 +4,7 @@ use sacn_capture::{CaptureFault, FaultKind};
 use sacn_commands::ending::{DEVICE_FAILED, Ending, REFUSED, of_write};
 use sacn_commands::live::setup_of_word;
 use sacn_commands::naming::of_file;
-use sacn_explain::{ExplainFault, Form, Options, explain};
+use sacn_tell::{ExplainFault, Form, Options, explain};
 use sacn_files::limits::DEFAULT_UDP_PORT;
 use sacn_node::NodeSetup;
 use sacn_words::{ExplainAsked, STANDARD_INPUT};

@@ -5,7 +5,7 @@ use crate::piped::Piped;
 use crate::screen::show;
 use sacn_commands::ending::Ending;
 use sacn_commands::live::{clock_of, joined_groups, of_socket, say_hearing};
-use sacn_explain::Options;
+use sacn_tell::Options;
 use sacn_machine::{Lines, Outputs, UdpReceiver, guard_standard_descriptors, output_is_terminal};
 use sacn_watch::{RunningListener, WatchFault, watch_lines};
 use sacn_words::{WatchAsked, moment_of};

@@ -1,7 +1,7 @@
 //! Why a workload isn't done.
 use sacn_check::ReportFault;
 use sacn_console::ShowFault;
-use sacn_explain::ExplainFault;
+use sacn_tell::ExplainFault;
 use sacn_node::SetupFault;
 use sacn_sources::TableFault;
 use sacn_text::SimFault;

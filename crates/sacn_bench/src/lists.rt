@@ -4,7 +4,7 @@ use crate::fault::WorkFault;
 use crate::listers::{ListTape, Listers};
 use crate::voice::Rates;
 use crate::work::Work;
-use sacn_explain::{Form, Options, explain};
+use sacn_tell::{Form, Options, explain};
 
 /// What befalls the packets of a network on which little is wrong.
 const CALM: Rates = Rates {

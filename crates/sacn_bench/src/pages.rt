@@ -8,7 +8,7 @@ use crate::tape::{HEADER, Tape, Venue};
 use crate::voice::{RECORD, Rates};
 use crate::work::Work;
 use sacn_capture::{CaptureFault, FaultKind};
-use sacn_explain::ExplainFault;
+use sacn_tell::ExplainFault;
 use sacn_page::{Extent, Given, Recording, Scene, SeekFault, push_document};
 use shelf::Shelf;
 use std::alloc::Global;

@@ -5,7 +5,7 @@ use crate::tape::{Tape, Venue};
 use crate::text::push_setup;
 use crate::voice::Rates;
 use crate::work::Work;
-use sacn_explain::{Form, Options, explain};
+use sacn_tell::{Form, Options, explain};
 use sacn_node::{NodeSetup, read_node};
 
 /// The port of streaming ACN (E1.31, 9.1).

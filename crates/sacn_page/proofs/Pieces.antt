@@ -5,7 +5,7 @@ use Rattle.sacn_monitor.specs.declared.tally.Tally.{Tally}
 use Rattle.sacn_monitor.specs.Books.{Book}
 use Rattle.sacn_network.specs.LitUniverses.{Lit}
 use Rattle.sacn_network.specs.Sets.{universes_in}
-use Rattle.sacn_explain.specs.Numbers.{numbers_member}
+use Rattle.sacn_tell.specs.Numbers.{numbers_member}
 use Rattle.sacn_page.specs.Alarms.{KeptAlarms}
 use Rattle.sacn_page.specs.declared.board.Board.{Board}
 use Rattle.sacn_page.specs.declared.document.Counts.{Counts}

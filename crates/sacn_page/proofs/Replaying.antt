@@ -13,7 +13,7 @@ use Rattle.sacn_network.specs.declared.ledger.Ledger.{Ledger}
 use Rattle.sacn_network.specs.Networks.{JoinsLater, handed, note_of, take_told, taken, tick_told, ticked}
 use Rattle.sacn_network.specs.Packets.{after_noted, noted_told}
 use Rattle.sacn_network.specs.Telling as telling
-use Rattle.sacn_explain.specs.declared.follow.Timeline.{Timeline}
+use Rattle.sacn_tell.specs.declared.follow.Timeline.{Timeline}
 use Rattle.sacn_page.specs.declared.replay.Next.{Next}
 use Rattle.sacn_page.specs.declared.replay.Next.TheVariants.{Unread, Frame, Nothing}
 use Rattle.sacn_page.specs.declared.replay.Pending.{Pending}

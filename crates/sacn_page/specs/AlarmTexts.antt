@@ -4,11 +4,11 @@ use Rattle.std.specs.Prelude.{ℕ, ◌-◌, ◌==◌, List, [], ◌++◌, length
 use Rattle.sacn_packets.specs.declared.root.fault.PacketFault.{PacketFault}
 use Rattle.sacn_monitor.specs.declared.account.Endpoint.{Endpoint}
 use Rattle.sacn_monitor.specs.declared.stream.Stream.{Stream}
-use Rattle.sacn_explain.specs.Foreign.{foreign_text}
-use Rattle.sacn_explain.specs.Members.{key_text, name_of, number_member, word_member}
-use Rattle.sacn_explain.specs.Refusals.{fault_words}
-use Rattle.sacn_explain.specs.Sentences.{stop_words}
-use Rattle.sacn_explain.specs.Spelling.{sender_text}
+use Rattle.sacn_tell.specs.Foreign.{foreign_text}
+use Rattle.sacn_tell.specs.Members.{key_text, name_of, number_member, word_member}
+use Rattle.sacn_tell.specs.Refusals.{fault_words}
+use Rattle.sacn_tell.specs.Sentences.{stop_words}
+use Rattle.sacn_tell.specs.Spelling.{sender_text}
 use Rattle.sacn_page.specs.declared.alarms.Alarm.{Alarm}
 use Rattle.sacn_page.specs.declared.alarms.Trouble.{Trouble}
 use Rattle.sacn_page.specs.declared.alarms.Trouble.TheVariants.{Lost, Ended, CameBack, Skipped, Late, Refused, Stopped, Rivals}

@@ -7,10 +7,10 @@ use Rattle.sacn_monitor.specs.declared.stream.Stream.{Stream}
 use Rattle.sacn_monitor.specs.declared.tally.Tally.{Tally}
 use Rattle.sacn_monitor.specs.Streams.{state_of}
 use Rattle.sacn_monitor.specs.Rates.{last_second}
-use Rattle.sacn_explain.specs.Spelling.{octets_text, longs_text}
-use Rattle.sacn_explain.specs.Foreign.{foreign_text}
-use Rattle.sacn_explain.specs.Members.{key_text, name_of, number_member, sender_members, word_member}
-use Rattle.sacn_explain.specs.StreamRows.{state_members, counts_members}
+use Rattle.sacn_tell.specs.Spelling.{octets_text, longs_text}
+use Rattle.sacn_tell.specs.Foreign.{foreign_text}
+use Rattle.sacn_tell.specs.Members.{key_text, name_of, number_member, sender_members, word_member}
+use Rattle.sacn_tell.specs.StreamRows.{state_members, counts_members}
 use Rattle.sacn_page.specs.declared.document.Counts.{Counts}
 use Rattle.sacn_page.specs.declared.document.Row.{Row}
 use Rattle.sacn_page.specs.declared.document.Extent.{Extent}

@@ -7,8 +7,8 @@ use Rattle.sacn_monitor.specs.declared.account.Endpoint.{Endpoint}
 use Rattle.sacn_monitor.specs.Histories.{Call, Take, Tick}
 use Rattle.sacn_network.specs.declared.ledger.Ledger.{Ledger}
 use Rattle.sacn_network.specs.Calls.{step, told_in}
-use Rattle.sacn_explain.specs.declared.follow.Timeline.{Timeline}
-use Rattle.sacn_explain.specs.Story.{at_moment, call_of, no_clock}
+use Rattle.sacn_tell.specs.declared.follow.Timeline.{Timeline}
+use Rattle.sacn_tell.specs.Story.{at_moment, call_of, no_clock}
 use Rattle.sacn_page.specs.declared.board.Board.{Board}
 use Rattle.sacn_page.specs.declared.replay.Next.{Next}
 use Rattle.sacn_page.specs.declared.replay.Next.TheVariants.{Unread, Frame, Nothing}

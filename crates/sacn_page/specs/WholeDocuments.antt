@@ -5,8 +5,8 @@ use Rattle.sacn_packets.specs.declared.universe.TheConstants.{SLOTS}
 use Rattle.sacn_monitor.specs.declared.stream.Stream.{Stream}
 use Rattle.sacn_network.specs.LitUniverses.{Lit, giver_places}
 use Rattle.sacn_network.specs.Sets.{universes_in}
-use Rattle.sacn_explain.specs.Members.{key_text}
-use Rattle.sacn_explain.specs.Numbers.{numbers_member}
+use Rattle.sacn_tell.specs.Members.{key_text}
+use Rattle.sacn_tell.specs.Numbers.{numbers_member}
 use Rattle.sacn_page.specs.declared.board.Board.{Board}
 use Rattle.sacn_page.specs.declared.scene.Facts.{Facts}
 use Rattle.sacn_page.specs.AlarmTexts.{alarms_member}

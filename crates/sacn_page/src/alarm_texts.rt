@@ -5,11 +5,11 @@ ghost use Rattle.sacn_page.specs.AlarmTexts.{about, alarm_front, alarm_list, ala
 
 use crate::alarms::{Alarm, Alarms, Trouble};
 use crate::members::push_first_number;
-use sacn_explain::{
-    fault_words, push_foreign, push_key, push_number, push_sender, push_stop, push_word,
-};
 use sacn_monitor::{Endpoint, Stream};
 use sacn_packets::{PacketFault, up_to_nul};
+use sacn_tell::{
+    fault_words, push_foreign, push_key, push_number, push_sender, push_stop, push_word,
+};
 use std::alloc::AllocError;
 use std::fmt::Write;
 

@@ -2,10 +2,10 @@
 
 mod feeding;
 
-use crate::answers::{Question, answer, refuse, show_moment};
 use crate::feed::Feed;
 use crate::hosts::Hosts;
 use crate::request::{RequestReading, RequestRefusal, Target};
+use crate::response::{Question, answer, refuse, show_moment};
 use crate::scene::{Scene, SeekFault};
 use crate::viewer::{Connection, Goal, Phase, Viewer};
 use sacn_monitor::Endpoint;

@@ -4,7 +4,7 @@ ghost use Rattle.std.specs.Prelude.{◌≡◌, ◌≤◌, ◌==◌, ℕ, List, I
 ghost use Rattle.sacn_packets.specs.PacketReading.{reading_packet};
 ghost use Rattle.sacn_monitor.specs.Books.{new_book, next_loss, silent_place};
 ghost use Rattle.sacn_monitor.specs.Histories.{Call, moment_of};
-ghost use Rattle.sacn_explain.specs.Following.{IsTicked, IsTaken};
+ghost use Rattle.sacn_tell.specs.Following.{IsTicked, IsTaken};
 ghost use Rattle.sacn_network.specs.Networks.{take_told, taken, tick_told, ticked};
 ghost use Rattle.sacn_network.specs.Sets.{universes_in};
 ghost use Rattle.sacn_page.specs.declared.alarms.Trouble.TheVariants.{Stopped};

@@ -1,7 +1,7 @@
 //! The document of a viewer, and what changed in it (docs/FILES.md tells its members).
 
 ghost use Rattle.std.specs.Prelude.{◌≡◌, ◌++◌, ◌+◌, [], OnOk, IfOk, true, length, codes, option_copied, string_bytes};
-ghost use Rattle.sacn_explain.specs.Numbers.{numbers_member};
+ghost use Rattle.sacn_tell.specs.Numbers.{numbers_member};
 ghost use Rattle.sacn_page.specs.AlarmTexts.{alarms_member};
 ghost use Rattle.sacn_page.specs.Documents.{Tells, before_row, counts_member, counts_object, counts_of, digits_member, long_digits_member, row_object, row_of, sources_member, universe_member};
 ghost use Rattle.sacn_page.specs.WholeDocuments.{document, levels_of, lit_members, lit_of, recording_member, winners_of};
@@ -10,16 +10,15 @@ ghost use Rattle.sacn_page.specs.declared.document.Extent.TheVariants.{Whole};
 use crate::alarm_texts::push_alarms_member;
 use crate::alarms::Alarms;
 use crate::board::Board;
-use crate::marks::marks_of;
 use crate::members::{
-    push_digits_member, push_facts, push_first_number, push_long_digits_member, push_row,
+    marks_of, push_digits_member, push_facts, push_first_number, push_long_digits_member, push_row,
     push_universe_member,
 };
 use crate::scene::Facts;
-use sacn_explain::{push_key, push_number, push_numbers, total};
 use sacn_monitor::{Monitor, Stream, StreamState, Tally};
 use sacn_network::LitUniverse;
 use sacn_packets::SLOTS;
+use sacn_tell::{push_key, push_number, push_numbers, total};
 use std::alloc::{AllocError, Global};
 
 /// A source on a universe, as a viewer sees it at a moment.

@@ -4,25 +4,21 @@
 
 mod alarm_texts;
 mod alarms;
-mod answers;
 mod audience;
 mod board;
 mod document;
 mod feed;
 mod hosts;
 pub mod laws;
-mod marks;
 mod markup;
 mod members;
 mod outbox;
-mod quiet;
 mod recording;
 mod replay;
 mod request;
 mod response;
 mod scene;
 mod server;
-mod snapshots;
 mod viewer;
 
 pub use alarms::{Alarm, Alarms, MAX_ALARMS, Trouble};
@@ -33,11 +29,10 @@ pub use feed::{Feed, MAX_WAIT, MIN_WAIT, Occasion, Owed};
 pub use hosts::Hosts;
 pub use markup::{Subject, page};
 pub use members::push_facts;
-pub use quiet::Quiet;
 pub use recording::{MAX_MARKS, Recording, Tape};
 pub use replay::{Replay, Snapshot};
 pub use request::{MAX_FIELDS, MAX_HEAD, RequestReading, RequestRefusal, Target, read_request};
 pub use response::{MediaType, event_stream_head, push_event, refusal_response, whole};
 pub use scene::{Facts, Scene, SeekFault};
-pub use server::Pages;
+pub use server::{Pages, Quiet};
 pub use viewer::{Connection, Goal, HEAD_TIME, LEAVE_TIME, Phase, STALL_TIME, Viewer};

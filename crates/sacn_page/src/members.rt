@@ -1,17 +1,18 @@
 //! What stands in the document of a viewer (docs/FILES.md tells its members): a recording's facts, sources, levels.
 
-ghost use Rattle.std.specs.Prelude.{◌≡◌, ◌++◌, OnOk, codes, string_bytes};
+ghost use Rattle.std.specs.Prelude.{◌≡◌, ◌++◌, OnOk, codes, string_bytes, map};
 ghost use Rattle.sacn_page.specs.Documents.{digits_member, facts_object, fault_name, fault_object, fault_value, first_number, foreign_member, long_digits_member, quoted, row_object, source_members, universe_member};
-ghost use Rattle.sacn_explain.specs.Foreign.{foreign_text};
+ghost use Rattle.sacn_tell.specs.Foreign.{foreign_text};
+ghost use Rattle.sacn_page.specs.Marks.{mark_of};
 
 use crate::scene::Facts;
 use sacn_capture::{CaptureFault, FaultKind};
-use sacn_explain::{
+use sacn_monitor::Stream;
+use sacn_packets::{SLOTS, up_to_nul};
+use sacn_tell::{
     push_cid, push_counts, push_decimal, push_digits, push_foreign, push_key, push_long_digits,
     push_number, push_sender_members, push_state_members, push_word,
 };
-use sacn_monitor::Stream;
-use sacn_packets::up_to_nul;
 use std::alloc::AllocError;
 
 /// Writes what is known of a recording as a whole, as an object.
@@ -175,5 +176,26 @@ pub fn push_universe_member(text: &mut String, universe: Option<u16>) -> Result<
     match universe {
         Some(universe) => push_number(text, "universe", u64::from(universe)),
         None => text.push_str(",\"universe\":null"),
+    }
+}
+
+/// For each slot a place plus one, and 0 for none.
+pub(crate) fn marks_of(places: &[Option<usize>; SLOTS]) -> [u16; SLOTS]
+    ensures { result ≡ map mark_of places.now }
+{
+    let mut marks = [0; SLOTS];
+    for slot in 0..SLOTS {
+        marks[slot] = mark_of(places[slot]);
+    }
+    marks
+}
+
+// A place plus one, where 16 bits hold it, and 0 for none.
+fn mark_of(place: Option<usize>) -> u16
+    ensures { result ≡ mark_of place }
+{
+    match place {
+        Some(place) if place < usize::from(u16::MAX) => place as u16 + 1,
+        _ => 0,
     }
 }

@@ -8,16 +8,16 @@ ghost use Rattle.sacn_capture.specs.Frames.{sent_of};
 ghost use Rattle.sacn_capture.specs.Recordings.{recording};
 ghost use Rattle.sacn_capture.specs.Streams.{place_of_reading, shown_of, to_come};
 ghost use Rattle.sacn_monitor.specs.Histories.{Call, Tick, moment_of};
-ghost use Rattle.sacn_explain.specs.Story.{sender_of};
+ghost use Rattle.sacn_tell.specs.Story.{sender_of};
 ghost use Rattle.sacn_page.specs.declared.replay.Next.TheVariants.{Unread, Frame, Nothing};
 ghost use Rattle.sacn_page.specs.Replays.{IsOnTheWay, IsPending, Known, StaysShown, after_call, begun, followed_to, known_to, shown_by, will_show};
 
 use crate::board::Board;
 use crate::scene::SeekFault;
 use sacn_capture::{Capture, CaptureFault, Datagram, FaultKind, Record};
-use sacn_explain::Timeline;
 use sacn_monitor::Endpoint;
 use sacn_packets::read_packet;
+use sacn_tell::Timeline;
 pub use snapshot::Snapshot;
 use std::alloc::{AllocError, Global};
 use std::io::BufRead;

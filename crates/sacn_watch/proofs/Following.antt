@@ -12,7 +12,7 @@ use Rattle.sacn_monitor.specs.declared.account.Endpoint.{Endpoint}
 use Rattle.sacn_monitor.specs.Streams.{is_of, first_stream}
 use Rattle.sacn_monitor.specs.Books.{Book, after_take, after_data, after_read, with_datagram}
 use Rattle.sacn_monitor.specs.Histories.{Call, Take, Tick, moment_in_use}
-use Rattle.sacn_explain.specs.Following.{AreBy, after_ticks, IsTicked, IsTaken, Follows}
+use Rattle.sacn_tell.specs.Following.{AreBy, after_ticks, IsTicked, IsTaken, Follows}
 
 -- what holds whatever a call answered
 pub whatever : {T E P : Type 0} (r : Result T E) → P → OnOk r P

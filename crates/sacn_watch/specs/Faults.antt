@@ -1,6 +1,6 @@
 -- Why a watch ends before its time.
-use Rattle.sacn_explain.specs.declared.fault.ExplainFault.{ExplainFault}
-use Rattle.sacn_explain.specs.declared.fault.ExplainFault.TheVariants as explain
+use Rattle.sacn_tell.specs.declared.fault.ExplainFault.{ExplainFault}
+use Rattle.sacn_tell.specs.declared.fault.ExplainFault.TheVariants as explain
 use Rattle.sacn_watch.specs.declared.fault.WatchFault.{WatchFault}
 use Rattle.sacn_watch.specs.declared.fault.WatchFault.TheVariants.{OutOfMemory, Device}
 

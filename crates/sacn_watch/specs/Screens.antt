@@ -2,7 +2,7 @@
 use Rattle.std.specs.Prelude.{◌≡◌, ℕ, ◌+◌, ◌-◌, ◌^◌, min, List, length, ◌==◌, if◌then◌else◌}
 use Rattle.sacn_monitor.specs.Histories.{Call, moment_in_use}
 use Rattle.sacn_monitor.specs.Books.{next_loss}
-use Rattle.sacn_explain.specs.Following.{Follows}
+use Rattle.sacn_tell.specs.Following.{Follows}
 use Rattle.sacn_watch.specs.declared.terminal.Terminal.{Terminal}
 use Rattle.sacn_watch.specs.declared.terminal.TheConstants.{MIN_WAIT, SECOND}
 

@@ -6,14 +6,14 @@ ghost use Rattle.sacn_monitor.specs.Books.{next_loss};
 use crate::fault::WatchFault;
 use crate::watch::Watcher;
 use sacn_capture::FrameCounts;
-use sacn_explain::{Follower, Report};
+use sacn_tell::{Follower, Report};
 use sacn_monitor::Endpoint;
 use sacn_packets::Reading;
 use std::io::Write;
 
 /// Tells each thing as it happens, and tables at the end, as a recording is told.
 impl<'a, O: Write> Watcher for Follower<'a, O> {
-    ghost use Rattle.sacn_explain.specs.Following.{IsFollowing};
+    ghost use Rattle.sacn_tell.specs.Following.{IsFollowing};
 
     ghost Handed = { λ follower calls. IsFollowing calls follower };
 

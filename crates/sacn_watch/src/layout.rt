@@ -6,7 +6,7 @@ ghost use Rattle.sacn_watch.specs.Pages.{FitsOn};
 use crate::levels::{lit_rows, push_levels};
 use crate::page::{Ink, Page, Row, Size};
 use crate::view::View;
-use sacn_explain::total;
+use sacn_tell::total;
 use sacn_monitor::{Account, Stream, StreamState};
 use sacn_packets::up_to_nul;
 use std::alloc::{AllocError, Global};

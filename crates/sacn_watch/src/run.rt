@@ -8,7 +8,7 @@ use crate::fault::WatchFault;
 use crate::listener::Listener;
 use crate::sized_screen::{Screen, Sizes};
 use crate::watch::run_watch;
-use sacn_explain::{Follower, Options};
+use sacn_tell::{Follower, Options};
 use std::alloc::Global;
 use std::io::Write;
 

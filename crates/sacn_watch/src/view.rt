@@ -6,7 +6,7 @@ ghost use Rattle.sacn_monitor.specs.Books.{new_book, silent_place};
 ghost use Rattle.sacn_sources.specs.LatestMerge.{new_kept, kept_after_merged};
 ghost use Rattle.sacn_sources.specs.Rows.{after_expire, slots_of};
 ghost use Rattle.sacn_sources.specs.Givers.{givers_of};
-ghost use Rattle.sacn_explain.specs.Following.{IsTaken, IsTicked};
+ghost use Rattle.sacn_tell.specs.Following.{IsTaken, IsTicked};
 ghost use Rattle.sacn_watch.specs.Views.{after_packet, after_reading, chosen, places_shown, shown_of, shown_with};
 
 use crate::fault::WatchFault;

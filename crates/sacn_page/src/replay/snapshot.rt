@@ -9,7 +9,7 @@ use super::{Next, Replay};
 use crate::board::Board;
 use crate::scene::SeekFault;
 use sacn_capture::{Bookmark, Capture};
-use sacn_explain::Timeline;
+use sacn_tell::Timeline;
 use std::alloc::{AllocError, Global};
 use std::io::BufRead;
 

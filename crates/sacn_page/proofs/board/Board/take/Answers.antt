@@ -1,7 +1,7 @@
 use Rattle.std.proofs.Common.{◌∙◌}
 use Rattle.sacn_network.specs.Networks.{take_told}
 use Rattle.sacn_watch.proofs.Following.{whatever}
-use Rattle.sacn_explain.proofs.Ticking.{is_taken}
+use Rattle.sacn_tell.proofs.Ticking.{is_taken}
 use Rattle.sacn_page.proofs.Alarming.{told_fold}
 use Rattle.sacn_page.proofs.board.Board.take.Goals as goal
 

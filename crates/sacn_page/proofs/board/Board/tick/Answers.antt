@@ -1,5 +1,5 @@
 use Rattle.sacn_network.specs.Networks.{tick_told}
-use Rattle.sacn_explain.proofs.Ticking.{is_ticked}
+use Rattle.sacn_tell.proofs.Ticking.{is_ticked}
 use Rattle.sacn_page.proofs.Alarming.{told_fold}
 use Rattle.sacn_page.proofs.Replaying.{later_call}
 use Rattle.sacn_page.proofs.board.Board.tick.Goals as goal

@@ -1,6 +1,6 @@
 use Rattle.std.proofs.Common.{sym, subst, ap, ◌∙◌, ◌∷◌}
 use Rattle.sacn_monitor.specs.Histories.{Tick}
-use Rattle.sacn_explain.specs.Following.{Follows}
+use Rattle.sacn_tell.specs.Following.{Follows}
 use Rattle.sacn_network.specs.declared.ledger.Ledger.{Ledger}
 use Rattle.sacn_watch.proofs.Following.{shown_ticked, ticked_at, whatever}
 use Rattle.sacn_watch.proofs.terminal.TerminalWatcher.show.Goals as goal

@@ -1,5 +1,5 @@
 use Rattle.std.proofs.Common.{◌∙◌}
-use Rattle.sacn_explain.proofs.Ticking.{is_taken}
+use Rattle.sacn_tell.proofs.Ticking.{is_taken}
 use Rattle.sacn_watch.proofs.view.View.take.Goals as goal
 
 pub returns-in-Ok-DataPacket-clause-taken : goal.returns-in-Ok-DataPacket-clause-taken

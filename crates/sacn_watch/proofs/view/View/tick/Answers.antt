@@ -1,4 +1,4 @@
-use Rattle.sacn_explain.proofs.Ticking.{is_ticked}
+use Rattle.sacn_tell.proofs.Ticking.{is_ticked}
 use Rattle.sacn_watch.proofs.view.View.tick.Goals as goal
 
 pub returns-clause-ticked : goal.returns-clause-ticked

@@ -1,4 +1,0 @@
-use Rattle.sacn_explain.proofs.follower.Follower.take.Goals as goal
-
-pub returns-clause-taken : goal.returns-clause-taken
-returns-clause-taken g c = c.take_reading.ensures.taken c.args.octets.now c.read_packet.ensures.exact

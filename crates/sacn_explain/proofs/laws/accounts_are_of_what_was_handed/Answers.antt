@@ -1,5 +1,0 @@
-use Rattle.sacn_explain.proofs.Following.{accounts_are_of_what_was_handed}
-use Rattle.sacn_explain.proofs.laws.accounts_are_of_what_was_handed.Goals as goal
-
-pub returns : goal.returns
-returns c = accounts_are_of_what_was_handed c.accounts_are_of_their_packets.ensures

@@ -1,0 +1,188 @@
+//! Rows of universes, lists and refusals.
+
+ghost use Rattle.std.specs.Prelude.{◌≡◌, ◌++◌, OnOk, string_bytes};
+ghost use Rattle.sacn_tell.specs.Rows.{column, list_row, packets_members, refused_row, silent_text, universe_columns, universe_json, universe_members, universe_row, universe_text, unlisted_text};
+
+use crate::account_lines::{push_source, push_source_members};
+use crate::count::UniverseCounts;
+use crate::json;
+use crate::listings::Listing;
+use crate::numbers::{push_numbers, push_ranges};
+use crate::options::Form;
+use crate::refusals::fault_name;
+use crate::spelling::push_left;
+use sacn_packets::PacketFault;
+use std::alloc::AllocError;
+use std::fmt::Write;
+
+/// A number, right-aligned in nine places behind a space.
+#[tactic(auto, unfolding(crate::specs::Rows::column), using(crate::proofs::Padding::right_is))]
+pub fn push_column(text: &mut String, count: u64) -> Result<(), AllocError>
+    ensures { OnOk result (string_bytes text.new ≡ string_bytes text.old ++ column count) }
+{
+    write!(text, " {count:>9}")
+}
+
+/// The counts of a universe.
+pub fn universe_row(
+    text: &mut String,
+    form: Form,
+    universe: u16,
+    counts: &UniverseCounts,
+) -> Result<(), AllocError>
+    ensures { OnOk result
+        (string_bytes text.new ≡ string_bytes text.old ++ universe_row form universe counts.now) }
+{
+    match form {
+        Form::Text => universe_text(text, universe, counts),
+        Form::Json => universe_json(text, universe, counts),
+    }
+}
+
+#[tactic(auto, unfolding(crate::specs::Rows::universe_text))]
+fn universe_text(
+    text: &mut String,
+    universe: u16,
+    counts: &UniverseCounts,
+) -> Result<(), AllocError>
+    ensures { OnOk result
+        (string_bytes text.new ≡ string_bytes text.old ++ universe_text universe counts.now) }
+{
+    push_universe(text, universe, counts)?;
+    push_column(text, counts.taken)?;
+    push_column(text, counts.skipped)?;
+    push_column(text, counts.discarded)
+}
+
+#[tactic(auto, unfolding(crate::specs::Rows::universe_columns), using(crate::proofs::Padding::right_is))]
+fn push_universe(
+    text: &mut String,
+    universe: u16,
+    counts: &UniverseCounts,
+) -> Result<(), AllocError>
+    ensures { OnOk result
+        (string_bytes text.new ≡ string_bytes text.old ++ universe_columns universe counts.now) }
+{
+    let sources = counts.sources;
+    let sending = counts.sending;
+    write!(text, "{universe:>8} {sources:>8} {sending:>8}")
+}
+
+#[tactic(auto, unfolding(crate::specs::Rows::universe_json))]
+fn universe_json(
+    text: &mut String,
+    universe: u16,
+    counts: &UniverseCounts,
+) -> Result<(), AllocError>
+    ensures { OnOk result
+        (string_bytes text.new ≡ string_bytes text.old ++ universe_json universe counts.now) }
+{
+    json::begin_row(text, "universe")?;
+    push_universe_members(text, universe, counts)?;
+    push_packets_members(text, counts)?;
+    text.push('}')
+}
+
+#[tactic(auto, unfolding(crate::specs::Rows::universe_members))]
+fn push_universe_members(
+    text: &mut String,
+    universe: u16,
+    counts: &UniverseCounts,
+) -> Result<(), AllocError>
+    ensures { OnOk result
+        (string_bytes text.new ≡ string_bytes text.old ++ universe_members universe counts.now) }
+{
+    json::push_number(text, "universe", u64::from(universe))?;
+    json::push_number(text, "sources", counts.sources)?;
+    json::push_number(text, "sending", counts.sending)
+}
+
+#[tactic(auto, unfolding(crate::specs::Rows::packets_members))]
+fn push_packets_members(text: &mut String, counts: &UniverseCounts) -> Result<(), AllocError>
+    ensures { OnOk result
+        (string_bytes text.new ≡ string_bytes text.old ++ packets_members counts.now) }
+{
+    json::push_number(text, "taken", counts.taken)?;
+    json::push_number(text, "skipped", counts.skipped)?;
+    json::push_number(text, "discarded", counts.discarded)
+}
+
+/// What a source lists, and how that differs from what was heard of it.
+#[derive(Drop)]
+pub struct Lists<'a> {
+    pub listed: &'a [u16],
+    pub silent: Vec<u16>,
+    pub unlisted: Vec<u16>,
+}
+
+/// The list of a source, beside what was heard of it.
+pub fn list_row(
+    text: &mut String,
+    form: Form,
+    listing: &Listing,
+    lists: &Lists<'_>,
+) -> Result<(), AllocError>
+    ensures { OnOk result (string_bytes text.new ≡ string_bytes text.old ++ list_row form
+        listing.now lists.now.listed.now lists.now.silent.items lists.now.unlisted.items) }
+{
+    match form {
+        Form::Text => {
+            push_source(text, listing)?;
+            text.push_str("  lists ")?;
+            push_ranges(text, lists.listed)?;
+            push_silent(text, lists.silent.as_slice())?;
+            push_unlisted(text, lists.unlisted.as_slice())
+        }
+        Form::Json => {
+            json::begin_row(text, "list")?;
+            push_source_members(text, listing)?;
+            push_numbers(text, "universes", lists.listed)?;
+            push_numbers(text, "silent", lists.silent.as_slice())?;
+            push_numbers(text, "unlisted", lists.unlisted.as_slice())?;
+            text.push('}')
+        }
+    }
+}
+
+#[tactic(auto, unfolding(crate::specs::Rows::silent_text))]
+fn push_silent(text: &mut String, silent: &[u16]) -> Result<(), AllocError>
+    ensures { OnOk result
+        (string_bytes text.new ≡ string_bytes text.old ++ silent_text silent.now) }
+{
+    text.push_str("; listed and silent: ")?;
+    push_ranges(text, silent)
+}
+
+#[tactic(auto, unfolding(crate::specs::Rows::unlisted_text))]
+fn push_unlisted(text: &mut String, unlisted: &[u16]) -> Result<(), AllocError>
+    ensures { OnOk result
+        (string_bytes text.new ≡ string_bytes text.old ++ unlisted_text unlisted.now) }
+{
+    text.push_str("; heard and unlisted: ")?;
+    push_ranges(text, unlisted)
+}
+
+/// How many datagrams were refused for a fault.
+pub fn refused_row(
+    text: &mut String,
+    form: Form,
+    fault: PacketFault,
+    count: u64,
+) -> Result<(), AllocError>
+    ensures { OnOk result
+        (string_bytes text.new ≡ string_bytes text.old ++ refused_row form fault count) }
+{
+    match form {
+        Form::Text => {
+            push_left(text, fault_name(fault), 30)?;
+            write!(text, " {count}")
+        }
+        Form::Json => {
+            json::begin_row(text, "refused")?;
+            json::push_number(text, "fault", u64::from(fault.number()))?;
+            json::push_word(text, "name", fault_name(fault))?;
+            json::push_number(text, "count", count)?;
+            text.push('}')
+        }
+    }
+}
