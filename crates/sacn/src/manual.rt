@@ -1,7 +1,6 @@
 //! The program's manual and completions, printed.
 use sacn_commands::ending::{Ending, of_write};
-use sacn_manual::Syntax;
-use sacn_words::manual_text;
+use sacn_words::{Syntax, manual_text};
 use std::alloc::Global;
 use std::io::Write;
 

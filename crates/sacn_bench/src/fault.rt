@@ -1,9 +1,9 @@
 //! Why a workload isn't done.
 use sacn_check::ReportFault;
 use sacn_console::ShowFault;
-use sacn_tell::ExplainFault;
 use sacn_node::SetupFault;
 use sacn_sources::TableFault;
+use sacn_tell::ExplainFault;
 use sacn_text::SimFault;
 use std::alloc::AllocError;
 use thiserror::Error;

@@ -5,8 +5,8 @@ use crate::tape::{Tape, Venue};
 use crate::text::push_setup;
 use crate::voice::Rates;
 use crate::work::Work;
-use sacn_tell::{Form, Options, explain};
 use sacn_node::{NodeSetup, read_node};
+use sacn_tell::{Form, Options, explain};
 
 /// The port of streaming ACN (E1.31, 9.1).
 const PORT: u16 = 5568;

@@ -4,8 +4,8 @@ ghost use Rattle.std.specs.Prelude.{◌≡◌};
 ghost use Rattle.sacn_watch.specs.Faults.{watch_fault_of};
 ghost use Rattle.sacn_watch.specs.declared.fault.WatchFault.TheVariants.{OutOfMemory, Device};
 
-use sacn_tell::ExplainFault;
 use sacn_sources::TableFault;
+use sacn_tell::ExplainFault;
 use std::alloc::AllocError;
 use std::io;
 use thiserror::Error;

@@ -6,9 +6,9 @@ ghost use Rattle.sacn_monitor.specs.Books.{next_loss};
 use crate::fault::WatchFault;
 use crate::watch::Watcher;
 use sacn_capture::FrameCounts;
-use sacn_tell::{Follower, Report};
 use sacn_monitor::Endpoint;
 use sacn_packets::Reading;
+use sacn_tell::{Follower, Report};
 use std::io::Write;
 
 /// Tells each thing as it happens, and tables at the end, as a recording is told.

@@ -1,5 +1,5 @@
 //! Arguments of several commands, and what the rows of the others begin with.
-use sacn_manual::{Argument, ArgumentKind, Spelling};
+use crate::manual::{Argument, ArgumentKind, Spelling};
 
 pub const SETUP_HELP: &str =
     "A setup: a TOML file of a node's ports, each with a universe or ranges of slots, as examples/node.toml";

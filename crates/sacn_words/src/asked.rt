@@ -1,4 +1,5 @@
 //! What the words of a command line ask for.
+use crate::manual::{Syntax, shell_of};
 use crate::reading::{Fault, Words, refusal};
 use crate::spelled::{destination, host, kind, page, port, sender};
 use crate::tree::matches;
@@ -7,7 +8,6 @@ use sacn_check::FileKind;
 use sacn_desk::MAX_HOSTS;
 use sacn_files::limits::DEFAULT_UDP_PORT;
 use sacn_machine::Octets4;
-use sacn_manual::{Syntax, shell_of};
 use std::alloc::Global;
 use std::net::{Ipv4Addr, SocketAddrV4};
 

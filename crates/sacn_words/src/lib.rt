@@ -3,6 +3,7 @@
 
 mod arguments;
 mod asked;
+pub mod manual;
 mod program;
 mod reading;
 mod spelled;
@@ -12,5 +13,6 @@ mod tree;
 pub use asked::{
     Asked, CheckAsked, DeskAsked, ExplainAsked, GatewayAsked, WatchAsked, moment_of, parse,
 };
+pub use manual::Syntax;
 pub use program::manual_text;
 pub use reading::STANDARD_INPUT;

@@ -1,7 +1,7 @@
 //! The program without a command, and the texts that are made from the table.
 use crate::arguments::{HELP, HELP_LETTER, VERSION_LETTER, VERSION_NAME};
+use crate::manual::{Argument, Program, Syntax, render};
 use crate::table::commands;
-use sacn_manual::{Argument, Program, Syntax, render};
 use std::alloc::{AllocError, Global};
 
 /// The version, and the kits that may prove it.

@@ -1,10 +1,10 @@
 //! What clap matched, read: what a word spells, or else the first of the faults.
+use crate::manual::{ArgumentKind, Subcommand};
 use crate::spelled::{WordFault, is_device, universes, widget};
 use crate::table::commands;
 use crate::tree::error_of;
 use clap::parser::ValueSource;
 use clap::{ArgMatches, Error};
-use sacn_manual::{ArgumentKind, Subcommand};
 use std::alloc::{AllocError, Global};
 
 /// The word for standard input where a file is read. A file of this name is `./-`.

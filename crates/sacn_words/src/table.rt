@@ -3,7 +3,7 @@ use crate::arguments::{
     DESK_SCRIPT_HELP, FIRST, FLAG, HELP, HELP_LETTER, JOIN, JSON, LISTEN, OPERAND, OPTION, PAGE,
     SCRIPT_HELP, SECONDS, SETUP, SETUP_HELP, SHOW, TURNS,
 };
-use sacn_manual::{Argument, ArgumentKind, SHELL_WORDS, SHELLS, Subcommand};
+use crate::manual::{Argument, ArgumentKind, SHELL_WORDS, SHELLS, Subcommand};
 use std::alloc::{AllocError, Global};
 
 const DECODE: Subcommand<'static> = Subcommand {

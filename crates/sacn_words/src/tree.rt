@@ -1,10 +1,10 @@
 //! clap's tree, made from the table.
+use crate::manual::{Argument, ArgumentKind, Spelling, Subcommand};
 use crate::program::{ABOUT, NOTES, VERSION};
 use crate::table::commands;
 use clap::builder::ValueParser;
 use clap::error::ErrorKind;
 use clap::{Arg, ArgAction, ArgMatches, Command, Error};
-use sacn_manual::{Argument, ArgumentKind, Spelling, Subcommand};
 use std::alloc::{AllocError, Global};
 
 fn parser_of<'a>(kind: ArgumentKind<'a>) -> ValueParser<'a> {

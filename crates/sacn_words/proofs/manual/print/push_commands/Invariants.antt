@@ -1,0 +1,11 @@
+use Rattle.std.proofs.Common.{take}
+use Rattle.std.specs.Prelude.{All}
+use Rattle.sacn_words.specs.Texts.{Grows, TellsCommand}
+use Rattle.sacn_words.proofs.manual.print.push_commands.Given as goal
+
+-- the text has grown, and tells the commands so far
+abbrev pub invariant-loop-i : goal.invariant-loop-i
+invariant-loop-i l = record {
+  grown : Grows l.fn.text.items l.text.items;
+  told : All (TellsCommand l.syntax l.text.items) (take l.i l.commands);
+}
