@@ -7,6 +7,7 @@ import sys
 
 README_OCTETS = 9000
 COLUMNS = 120
+CRATE_FILES = 25
 DOCUMENTS = ["README.md", "CHANGELOG.md", *sorted(glob.glob("docs/*.md")), *sorted(glob.glob("crates/*/NOTES.md"))]
 
 # What stands once, or so often at most, in the code of the product's crates.
@@ -19,9 +20,14 @@ MOST = {
     "what stirs a contest is told": (r"\bfn stirs\b", 1),
     "who gives the slots is asked": (r"(?<!fn )\bmerged_with_givers\(", 1),
     "text from elsewhere is made JSON": (r"\bfn push_foreign\b", 1),
+    "network data loss is a number": (r"\bconst \w+: \w+ = 2_?500;", 1),
+    "the UDP port is a number": (r"\bconst \w+: \w+ = 5_?568;", 1),
 }
 # Crates of tests and measures.
 BESIDE = {"fixtures", "rows", "refusals", "core_tests", "loop_tests", "sacn_bench"}
+
+# Names of files that say nothing of what is in them, so that none stands in two crates.
+VAGUE = {"lines", "rows", "texts", "words"}
 
 # Files that stand in a document as examples of a user's, and not of this tree's.
 EXAMPLES = ("/etc/", "/dev/", "/usr/", "~")
@@ -155,6 +161,22 @@ def shared_names():
             yield f"{name} is {len(found)} types: {' '.join(found)}"
 
 
+def large_crates():
+    """Product crates of more files of code than a reader can overlook, and vague names of files that stand in two of them."""
+    files, vague = {}, {}
+    for path in product_code():
+        files.setdefault(path.split("/")[1], []).append(path)
+        name = os.path.basename(path).removesuffix(".rt")
+        if name in VAGUE:
+            vague.setdefault(name, []).append(path)
+    for crate, found in sorted(files.items()):
+        if len(found) > CRATE_FILES:
+            yield f"{crate} has {len(found)} files of code, more than {CRATE_FILES}"
+    for name, found in sorted(vague.items()):
+        if len(found) > 1:
+            yield f"{name}.rt is {len(found)} files: {' '.join(found)}"
+
+
 def long_readme():
     size = os.path.getsize("README.md")
     if size > README_OCTETS:
@@ -178,6 +200,7 @@ LOOKS = {
     "each step of the three ways is there": lost_steps,
     "one rule stands once": repeated_rules,
     "a public type's name stands once": shared_names,
+    "a crate is small, and its files are named for what they hold": large_crates,
     "the README is short": long_readme,
 }
 

@@ -122,6 +122,20 @@ impl Show {
         self.universes.as_slice()
     }
 
+    /// Its cues.
+    pub fn cues(&self) -> &CueList
+        ensures { result.now ≡ self.now.cues }
+    {
+        &self.cues
+    }
+
+    /// Its patch.
+    pub fn patch(&self) -> &Patch
+        ensures { result.now ≡ self.now.patch }
+    {
+        &self.patch
+    }
+
     /// The UDP ports to which its packets are sent, in the file's order: at most `MAX_DESTINATIONS`; a port may stand
     /// twice.
     pub fn send_to(&self) -> &[u16]

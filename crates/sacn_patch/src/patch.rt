@@ -1,6 +1,6 @@
 //! The patch.
 ghost use Rattle.std.specs.Prelude.{◌≡◌, ◌+◌, ◌<◌, ◌≤◌, OnOk, OnErr, IfErr, IfOk, is_some, unwrap_or, Some, None};
-ghost use Rattle.std.specs.Option.{ForSome};
+ghost use Rattle.std.specs.Option.{ForSome, option_map};
 ghost use Rattle.std.specs.FinMap as map;
 ghost use Rattle.sacn_patch.specs.Patch.{has_bad_place};
 
@@ -116,6 +116,22 @@ impl Patch {
             asked = Some((part.channel, level));
             slots[place.1 as usize - 1] = byte_of(*part, level);
         }
+    }
+
+    /// The channel of whose level a slot of a universe shows an octet.
+    pub fn channel_at(&self, universe: u16, slot: u16) -> Option<u16>
+        ensures { result ≡ option_map (λ part. part.channel) (map.get self.now (universe, slot)) }
+    {
+        match self.part_at(universe, slot) {
+            Some(part) => Some(part.channel),
+            None => None,
+        }
+    }
+
+    fn part_at(&self, universe: u16, slot: u16) -> Option<&Part>
+        ensures { option_map (λ part. part.now) result ≡ map.get self.now (universe, slot) }
+    {
+        self.parts.get(&(universe, slot))
     }
 
     // The first check that fails.

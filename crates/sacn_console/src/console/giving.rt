@@ -278,8 +278,8 @@ fn write_packet(
         start: 0,
         slots: &slots[..],
     };
-    match out.first_chunk_mut::<638>() {
-        Some(front) => write_data(&fields, front),
-        None => unreachable!(),
-    }
+    let Some(front) = out.first_chunk_mut::<638>() else {
+        unreachable!();
+    };
+    write_data(&fields, front)
 }

@@ -2,6 +2,6 @@ use Rattle.std.proofs.Common.{arith, refl}
 use Rattle.sacn_console.proofs.Octets.{filled_packet, front_len}
 use Rattle.sacn_console.proofs.console.giving.write_packet.Goals as goal
 
-pub returns-in-Some-clause-octets : goal.returns-in-Some-clause-octets
-returns-in-Some-clause-octets c =
+pub returns-clause-octets : goal.returns-clause-octets
+returns-clause-octets c =
     filled_packet c.args.sender.now c.args.line.now c.args.slots.now c.is_ending.result _ c.write_data.new.out _ _ c.write_data.result c.is_ending.ensures refl c.write_data.ensures.text (omega (arith, c.write_data.ensures.len, front_len 638 c.in-Some.front.now c.args.out.now c.in-Some.ensures.cases.same))
