@@ -176,7 +176,7 @@ fn perform<R: AllocGlobal + Net + Clock, O: Write, E: Write>(
     err: &mut E,
 ) -> Result<(), Ending> {
     let plan = Plan {
-        universes: show.universes(),
+        show,
         script,
         stays: asked.stays,
     };
@@ -200,7 +200,7 @@ fn send_show<R: AllocGlobal + Net + Clock, O: Write, E: Write>(
     let origin = Origin {
         address: asked.bind,
         ttl: asked.ttl,
-        universes: plan.universes.len().min(CONSOLE_UNIVERSES) as u16,
+        universes: plan.show.universes().len().min(CONSOLE_UNIVERSES) as u16,
     };
     let sender = match DeskSender::bind(
         rt,

@@ -15,11 +15,11 @@ use Rattle.sacn_desk.specs.DeskSends.{Round, Talk, Asked, ordered, polled, sends
 
 -- ---- orders
 
-pub asked_once : (now : ℕ) (ks : List Command) → length ks < 256 → asked_last now ks ≡ Asked now None ∷ []
-asked_once now ks few = ap (λ b. cond b [] (Asked now None ∷ [])) (ne_eqb (length ks) 256 (λ same. omega (arith, few, same)))
+pub asked_once : (now : ℕ) (ks : List Command) → length ks < 4096 → asked_last now ks ≡ Asked now None ∷ []
+asked_once now ks few = ap (λ b. cond b [] (Asked now None ∷ [])) (ne_eqb (length ks) 4096 (λ same. omega (arith, few, same)))
 
-pub asked_enough : (now : ℕ) (ks : List Command) → length ks ≡ 256 → asked_last now ks ≡ []
-asked_enough now ks many = ap (λ b. cond b [] (Asked now None ∷ [])) (eq-eqb (length ks) 256 many)
+pub asked_enough : (now : ℕ) (ks : List Command) → length ks ≡ 4096 → asked_last now ks ≡ []
+asked_enough now ks many = ap (λ b. cond b [] (Asked now None ∷ [])) (eq-eqb (length ks) 4096 many)
 
 -- ---- polls
 

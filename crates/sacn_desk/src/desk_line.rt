@@ -1,16 +1,20 @@
 //! What a line of standard input says to a desk.
-use sacn_console::{Command, TextFault, command_of};
+use sacn_console::TextFault;
 use sacn_files::words::words;
+use sacn_orders::{Order, OrderFault, order_of};
 use std::alloc::Global;
 
 /// What a line of standard input says.
 pub(crate) enum DeskLine {
     Nothing,
-    Order(Command),
+    Order(Order),
     Status,
     Help,
     Quit,
+    /// Words that are no order.
     Fault(&'static str),
+    /// A line of channels that says no order.
+    Channels(OrderFault),
 }
 
 fn fault_name(fault: TextFault) -> &'static str {
@@ -24,7 +28,7 @@ fn fault_name(fault: TextFault) -> &'static str {
 }
 
 /// The meaning of a line's words, of which there is one at least.
-fn said_by(words: &[&str], line_number: usize) -> DeskLine {
+fn said_by(alloc: Global, words: &[&str], line_number: usize) -> DeskLine {
     if let [word] = words {
         if *word == "status" {
             return DeskLine::Status;
@@ -36,9 +40,11 @@ fn said_by(words: &[&str], line_number: usize) -> DeskLine {
             return DeskLine::Quit;
         }
     }
-    match command_of(words, line_number) {
-        Ok(command) => DeskLine::Order(command),
-        Err(fault) => DeskLine::Fault(fault_name(fault)),
+    match order_of(alloc, words, line_number) {
+        Ok(order) => DeskLine::Order(order),
+        Err(OrderFault::OutOfMemory) => DeskLine::Fault("OutOfMemory"),
+        Err(OrderFault::Text(fault)) => DeskLine::Fault(fault_name(fault)),
+        Err(fault) => DeskLine::Channels(fault),
     }
 }
 
@@ -59,7 +65,7 @@ pub(crate) fn line_said(alloc: Global, line: Option<&[u8]>, line_number: usize) 
             if word.starts_with('#') {
                 DeskLine::Nothing
             } else {
-                said_by(words.as_slice(), line_number)
+                said_by(alloc, words.as_slice(), line_number)
             }
         }
     }

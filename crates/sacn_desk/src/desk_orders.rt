@@ -1,14 +1,23 @@
 //! Orders that are typed or piped on standard input, and those of a script.
 use crate::desk_line::{DeskLine, line_said};
+use crate::limits::MAX_ORDERS;
 use crate::orders::Orders;
+use crate::show_lists::ShowLists;
 use crate::status::{have_stopped, write_status};
-use sacn_console::{Command, ConsoleCore, ConsoleFault, State};
+use sacn_console::{Command, ConsoleCore, ConsoleFault, Show, State};
+use sacn_cues::MAX_CHANNELS;
 use sacn_edge::{Clock, ConsoleReport};
 use sacn_machine::sys::{NO_DESCRIPTOR, STDIN, wait_readable};
 use sacn_machine::{InputState, RigClock, TypedInput};
+use sacn_orders::{LevelCommands, OrderFault};
 use std::alloc::{AllocError, Global};
 use std::io::Write;
 use std::rt::Clock as MachineClock;
+
+mod typed;
+mod wishes;
+
+use wishes::Wish;
 
 /// The most lines that are looked at for one order.
 const MAX_LINES: usize = 1024;
@@ -17,13 +26,17 @@ const MAX_LINES: usize = 1024;
 const NO_INPUT: u64 = 1000;
 
 const HELP: &[u8] =
-    b"go | goto CUE | set CHANNEL LEVEL | master LEVEL | end UNIVERSE | start UNIVERSE | status | help | quit\n";
+    b"go | back | goto CUE | CHANNELS at PERCENT | blackout | restore | set CHANNEL LEVEL | master LEVEL | end UNIVERSE | start UNIVERSE | cues | patch | status | help | quit
+CHANNELS are as 1, 1 thru 10, 1 + 5 + 9, 1 thru 10 - 4, or all; PERCENT is 0 to 100 with at most two decimals, or full; LEVEL is 0 to 65535
+";
 
-/// Where the latest order came from.
+/// Where the latest command came from.
 #[derive(Clone, Copy)]
 enum Source {
     Script,
     Typed,
+    /// An order that sets levels: its answer comes behind the last one of its commands.
+    Levels,
     Closing,
 }
 
@@ -39,8 +52,8 @@ enum Closing {
 /// What there is to be ordered.
 #[derive(Clone, Copy)]
 pub struct Plan<'a> {
-    /// The universes of the show.
-    pub universes: &'a [u16],
+    /// What the desk plays.
+    pub show: &'a Show,
     /// The lines of a script, each with its moment in milliseconds.
     pub script: Option<&'a [(u64, Command)]>,
     /// The desk goes on after the last line of the script.
@@ -60,7 +73,17 @@ pub struct DeskOrders<'a, R, O> {
     source: Source,
     input: TypedInput,
     line_number: usize,
-    asks_status: bool,
+    lists: ShowLists<'a>,
+    wish: Option<Wish>,
+    // The commands of an order that sets levels, and why one of them was refused.
+    levels: Option<LevelCommands>,
+    refusal: Option<ConsoleFault>,
+    // A command that a wish came to.
+    command: Option<Command>,
+    // What is answered where the order is taken.
+    answer: String,
+    // The commands since what was due was sent.
+    commands: usize,
     closing: Closing,
     // The universes that ran when the end was asked for.
     ending: Vec<u16>,
@@ -89,9 +112,15 @@ impl<'a, R: MachineClock, O: Write> DeskOrders<'a, R, O> {
             source: Source::Script,
             input: TypedInput::new(alloc),
             line_number: 0,
-            asks_status: false,
+            lists: ShowLists::of(alloc, plan.show)?,
+            wish: None,
+            levels: None,
+            refusal: None,
+            command: None,
+            answer: String::new(alloc),
+            commands: 0,
             closing: Closing::Open,
-            ending: Vec::with_capacity(alloc, plan.universes.len())?,
+            ending: Vec::with_capacity(alloc, plan.show.universes().len())?,
             has_ended: false,
             write_failed: false,
             is_absent: false,
@@ -112,6 +141,15 @@ impl<'a, R: MachineClock, O: Write> DeskOrders<'a, R, O> {
 
     fn say_fault(&mut self, name: &str) {
         if writeln!(self.out, "line {} {name}", self.line_number).is_err()
+            || self.out.flush().is_err()
+        {
+            self.write_failed = true;
+            self.close();
+        }
+    }
+
+    fn say_channels(&mut self, fault: OrderFault) {
+        if writeln!(self.out, "line {}: {fault}", self.line_number).is_err()
             || self.out.flush().is_err()
         {
             self.write_failed = true;
@@ -153,13 +191,10 @@ impl<'a, R: MachineClock, O: Write> DeskOrders<'a, R, O> {
         let said = line_said(self.alloc, self.input.line.line(), self.line_number);
         self.input.line.clear();
         match said {
-            DeskLine::Order(command) => {
-                self.source = Source::Typed;
-                Some(command)
-            }
+            DeskLine::Order(order) => self.begin(order),
             DeskLine::Nothing => None,
             DeskLine::Status => {
-                self.asks_status = true;
+                self.wish = Some(Wish::Status);
                 None
             }
             DeskLine::Help => {
@@ -172,6 +207,10 @@ impl<'a, R: MachineClock, O: Write> DeskOrders<'a, R, O> {
             }
             DeskLine::Fault(name) => {
                 self.say_fault(name);
+                None
+            }
+            DeskLine::Channels(fault) => {
+                self.say_channels(fault);
                 None
             }
         }
@@ -189,7 +228,7 @@ impl<'a, R: MachineClock, O: Write> DeskOrders<'a, R, O> {
 
     fn next_typed(&mut self, now: u64) -> Option<Command> {
         for _ in 0..MAX_LINES {
-            if self.asks_status || self.is_closing() {
+            if self.wish.is_some() || self.is_closing() || self.is_full() {
                 return None;
             }
             match self.input.next() {
@@ -240,7 +279,18 @@ impl<'a, R: MachineClock, O: Write> DeskOrders<'a, R, O> {
         self.ends_with_script && self.next_line >= self.script.len()
     }
 
+    /// Whether an order for each channel finds no room any more before what is due is sent.
+    fn is_full(&self) -> bool {
+        self.commands > MAX_ORDERS - MAX_CHANNELS as usize - 1
+    }
+
     fn next_order(&mut self, now: u64) -> Option<Command> {
+        if let Some(command) = self.next_level() {
+            return Some(command);
+        }
+        if let Some(command) = self.command.take() {
+            return self.typed(command);
+        }
         if self.is_closing() {
             return self.next_end();
         }
@@ -257,7 +307,9 @@ impl<'a, R: MachineClock, O: Write> DeskOrders<'a, R, O> {
     /// Whether something is to be done without waiting.
     fn is_pressed(&self) -> bool {
         match self.closing {
-            Closing::Open => self.input.has_more(),
+            Closing::Open => {
+                self.input.has_more() || self.wish.is_some() || self.command.is_some()
+            }
             Closing::Asked => true,
             Closing::Telling(next) => next < self.ending.len(),
         }
@@ -297,25 +349,34 @@ impl<'a, R: MachineClock, O: Write> Orders for DeskOrders<'a, R, O> {
     }
 
     fn next(&mut self, now: u64) -> Option<Command> {
-        self.next_order(now)
+        let next = self.next_order(now);
+        if next.is_some() {
+            self.commands = self.commands.saturating_add(1);
+        }
+        next
     }
 
     fn take_answer(&mut self, answer: Result<(), ConsoleFault>) {
         match self.source {
             Source::Script => {}
             Source::Typed => match answer {
-                Ok(()) => self.say(b"ok\n"),
+                Ok(()) => self.say_taken(),
                 Err(fault) => self.say_refusal(fault),
             },
+            Source::Levels => {
+                if let (Err(fault), None) = (answer, self.refusal) {
+                    self.refusal = Some(fault);
+                }
+            }
             Source::Closing => {}
         }
     }
 
     fn look(&mut self, core: &ConsoleCore, report: &ConsoleReport) {
         let _ = self.out.flush();
-        if self.asks_status {
-            self.asks_status = false;
-            self.say_status(core, report);
+        self.commands = 0;
+        if let Some(wish) = self.wish {
+            self.wish = self.done(wish, core, report);
         }
         match self.closing {
             Closing::Open => {}

@@ -16,7 +16,9 @@ pub mod limits;
 mod memory_link;
 mod notices;
 mod opening;
+mod order_answer;
 mod orders;
+mod show_lists;
 mod status;
 
 pub use desk::run_desk;

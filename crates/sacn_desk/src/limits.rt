@@ -1,7 +1,8 @@
 //! The numbers that bound a desk's loop. Times are milliseconds.
 
-/// The most orders that a desk takes in one round; what is left waits for the next one.
-pub const MAX_ORDERS: usize = 256;
+/// The most commands that a desk takes in one round; what is left waits for the next one. An order that sets each channel goes into one
+/// round.
+pub const MAX_ORDERS: usize = 4096;
 
 /// The most polls of one round of a desk. A console of 1024 universes has little more than a thousand datagrams due at one reading.
 pub const MAX_POLLS: u64 = 1 << 20;

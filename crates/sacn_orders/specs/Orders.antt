@@ -43,9 +43,13 @@ channels_from first = range_with_len first (MAX_CHANNELS + 1 - first)
 abbrev pub chosen : List Part → List ℕ
 chosen parts = filter (is_chosen parts) (channels_from 1)
 
+-- the commands of an order for the channels from `first` on: each chosen one, from the lowest to the highest, is set to the level
+abbrev pub commands_from : List Part → ℕ → ℕ → List Command
+commands_from parts level first = map (λ channel. SetLevel channel level) (filter (is_chosen parts) (channels_from first))
+
 -- the commands of an order: each chosen channel, from the lowest to the highest, is set to the level
 abbrev pub commands_of : List Part → ℕ → List Command
-commands_of parts level = map (λ channel. SetLevel channel level) (chosen parts)
+commands_of parts level = commands_from parts level 1
 
 -- the first chosen channel that isn't below this one
 abbrev pub next_chosen : List Part → ℕ → Option ℕ

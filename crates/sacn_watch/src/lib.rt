@@ -2,9 +2,9 @@
 #![tactic(auto)]
 
 mod fault;
-mod following;
 mod layout;
 mod levels;
+mod line_watcher;
 mod listener;
 mod page;
 mod run;

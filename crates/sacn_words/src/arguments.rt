@@ -9,7 +9,7 @@ pub const SCRIPT_HELP: &str =
 
 /// That of a desk, whose orders may be typed too.
 pub const DESK_SCRIPT_HELP: &str =
-    "A script: a text file of an order a line, each after its moment in milliseconds, as `0 go`. Orders, there or typed: go, goto CUE, set CHANNEL LEVEL, master LEVEL, end UNIVERSE, start UNIVERSE; only typed: status, help, quit";
+    "A script: a text file of an order a line, each after its moment in milliseconds, as `0 go`. Orders, there or typed: go, goto CUE, set CHANNEL LEVEL, master LEVEL, end UNIVERSE, start UNIVERSE; only typed: back, CHANNELS at PERCENT, blackout, restore, cues, patch, status, help, quit";
 
 pub const SETUP: Argument<'static> = Argument {
     name: "SETUP",

@@ -64,7 +64,7 @@ returns-clause-given g c =
     let run = c.loop-count.invariant.run in
     let ks = run.0 in
     let now = c.args.now in
-    let many : length ks ≡ 256 = omega (arith, run.1, c.loop-count-test.false, c.loop-count.auto._count-end) in
+    let many : length ks ≡ 4096 = omega (arith, run.1, c.loop-count-test.false, c.loop-count.auto._count-end) in
     let none = subst (λ (l : List Talk). Extends (g.O.Orders.told c.loop-count.orders) (g.O.Orders.told c.loop-count.orders) l) (sym (asked_enough now ks many)) (Extends-none _) in
     (ks, omega (arith, many), Extends-append _ _ _ (given now ks c.args.core.now) (asked_last now ks) run.2 none, run.3, run.4)
 

@@ -9,7 +9,7 @@ use Rattle.sacn_desk.proofs.desk.run_desk.Given as goal
 abbrev pub invariant-loop-round : goal.invariant-loop-round
 invariant-loop-round g l = record {
   few : l.report.sent + l.report.failed ≤ 1048576 * l._round;
-  refusals : l.report.refused ≤ 256 * l._round;
+  refusals : l.report.refused ≤ 4096 * l._round;
   run :
       (rs : List Round) × (handed : Handed)
       × (length rs ≡ l._round)

@@ -1,0 +1,81 @@
+//! What a typed order begins, and what it is answered.
+use super::wishes::Wish;
+use super::{DeskOrders, Source};
+use crate::order_answer::{push_levels, push_master, push_set};
+use sacn_console::Command;
+use sacn_orders::{LevelCommands, Order, Selection};
+use std::io::Write;
+use std::rt::Clock as MachineClock;
+
+impl<'a, R: MachineClock, O: Write> DeskOrders<'a, R, O> {
+    /// The first command of an order, where it has one.
+    pub(super) fn begin(&mut self, order: Order) -> Option<Command> {
+        self.answer.clear();
+        match order {
+            Order::Levels(selection, level) => return self.begin_levels(selection, level),
+            Order::Master(level) => {
+                if push_master(&mut self.answer, level).is_err() {
+                    self.answer.clear();
+                }
+                return self.typed(Command::Master(level));
+            }
+            Order::Plain(command) => {
+                if let Command::SetLevel(channel, level) = command {
+                    if push_set(&mut self.answer, channel, level, &self.lists).is_err() {
+                        self.answer.clear();
+                    }
+                }
+                return self.typed(command);
+            }
+            Order::Back => self.wish = Some(Wish::Back),
+            Order::Cues => self.wish = Some(Wish::Cues(None)),
+            Order::Patch => self.wish = Some(Wish::Patch(0)),
+        }
+        None
+    }
+
+    pub(super) fn typed(&mut self, command: Command) -> Option<Command> {
+        self.source = Source::Typed;
+        Some(command)
+    }
+
+    fn begin_levels(&mut self, selection: Selection, level: u16) -> Option<Command> {
+        let lists = &self.lists;
+        if push_levels(&mut self.answer, self.alloc, &selection, level, lists).is_err() {
+            self.answer.clear();
+        }
+        self.refusal = None;
+        self.levels = Some(LevelCommands::of(selection, level));
+        self.next_level()
+    }
+
+    /// The next command of the order that sets levels; behind the last one its answer is said.
+    pub(super) fn next_level(&mut self) -> Option<Command> {
+        let next = match &mut self.levels {
+            Some(levels) => levels.next(),
+            None => return None,
+        };
+        if next.is_some() {
+            self.source = Source::Levels;
+            return next;
+        }
+        self.levels = None;
+        match self.refusal {
+            Some(fault) => self.say_refusal(fault),
+            None => self.say_taken(),
+        }
+        None
+    }
+
+    /// Says the answer that was prepared, `ok` where there was no memory for it.
+    pub(super) fn say_taken(&mut self) {
+        if self.answer.is_empty() {
+            self.say(b"ok\n");
+            return;
+        }
+        if self.out.write_all(self.answer.as_bytes()).is_err() || self.out.flush().is_err() {
+            self.write_failed = true;
+            self.close();
+        }
+    }
+}

@@ -1,0 +1,127 @@
+//! What a desk tells of its show: its cues, and which slots show which channel.
+use sacn_console::Show;
+use sacn_cues::MAX_CHANNELS;
+use sacn_packets::SLOTS;
+use std::alloc::{AllocError, Global};
+use std::io::{self, Write};
+
+/// Cues that are listed at once.
+const CUES_AT_ONCE: usize = 64;
+
+/// A show, and which of its channels stand on a slot.
+#[derive(Drop)]
+pub(crate) struct ShowLists<'a> {
+    show: &'a Show,
+    is_patched: Vec<bool>,
+}
+
+impl<'a> ShowLists<'a> {
+    pub(crate) fn of(alloc: Global, show: &'a Show) -> Result<ShowLists<'a>, AllocError> {
+        let mut is_patched = vec![in alloc; false; MAX_CHANNELS as usize + 1]?;
+        for universe in show.universes() {
+            for slot in 1..SLOTS as u16 + 1 {
+                if let Some(channel) = show.patch().channel_at(*universe, slot) {
+                    if let Some(place) = is_patched.get_mut(channel as usize) {
+                        *place = true;
+                    }
+                }
+            }
+        }
+        Ok(ShowLists { show, is_patched })
+    }
+
+    /// Whether a slot of the show's universes shows the channel.
+    pub(crate) fn is_patched(&self, channel: u16) -> bool {
+        self.is_patched.get(channel as usize).copied() == Some(true)
+    }
+
+    /// The greatest number of a cue below this one, where there is one.
+    pub(crate) fn cue_before(&self, current: u16) -> Option<u16> {
+        let mut before = None;
+        while let Some((number, _)) = self.show.cues().next_above(before) {
+            if number >= current {
+                return before;
+            }
+            before = Some(number);
+        }
+        before
+    }
+}
+
+/// A time in seconds.
+fn write_seconds<O: Write>(out: &mut O, millis: u32) -> io::Result<()> {
+    let (whole, rest) = (millis / 1000, millis % 1000);
+    if rest == 0 {
+        write!(out, "{whole} s")
+    } else {
+        let (tenths, hundredths, last) = (rest / 100, rest / 10 % 10, rest % 10);
+        write!(out, "{whole}.{tenths}{hundredths}{last} s")
+    }
+}
+
+impl<'a> ShowLists<'a> {
+    /// Writes the cues behind this one, some at once, and returns the last one that was written where there may be more.
+    pub(crate) fn write_cues<O: Write>(
+        &self,
+        out: &mut O,
+        behind: Option<u16>,
+        current: Option<u16>,
+    ) -> io::Result<Option<u16>> {
+        let mut last = behind;
+        for _ in 0..CUES_AT_ONCE {
+            let Some((number, cue)) = self.show.cues().next_above(last) else {
+                return Ok(None);
+            };
+            write!(out, "cue {number} up ")?;
+            write_seconds(out, cue.up)?;
+            out.write_all(b" down ")?;
+            write_seconds(out, cue.down)?;
+            write!(out, " channels {}", cue.levels.len())?;
+            out.write_all(if current == Some(number) {
+                b" current\n".as_slice()
+            } else {
+                b"\n".as_slice()
+            })?;
+            last = Some(number);
+        }
+        Ok(last)
+    }
+
+    /// Writes which channel each patched slot of a universe shows, a line for neighbours of one channel. Returns whether there is such a
+    /// universe: the one at this place of the show's list.
+    pub(crate) fn write_patch<O: Write>(&self, out: &mut O, place: usize) -> io::Result<bool> {
+        let Some(universe) = self.show.universes().get(place) else {
+            return Ok(false);
+        };
+        let mut slot = 1;
+        while slot <= SLOTS as u16 {
+            let shown = self.show.patch().channel_at(*universe, slot);
+            let mut end = slot + 1;
+            while end <= SLOTS as u16 && self.show.patch().channel_at(*universe, end) == shown {
+                end += 1;
+            }
+            if let Some(channel) = shown {
+                write_places(out, channel, *universe, slot, end - 1)?;
+            }
+            slot = end;
+        }
+        Ok(true)
+    }
+}
+
+fn write_places<O: Write>(
+    out: &mut O,
+    channel: u16,
+    universe: u16,
+    first: u16,
+    last: u16,
+) -> io::Result<()> {
+    if first == last {
+        writeln!(out, "channel {channel} universe {universe} slot {first}")
+    } else {
+        writeln!(
+            out,
+            "channel {channel} universe {universe} slots {first} thru {last}"
+        )
+    }
+}
