@@ -5,6 +5,7 @@ use crate::watch::watch_end;
 use sacn_commands::ending::Ending;
 use sacn_commands::gateway::{diagnosis_of, receiver_of, run_setup, setup_of};
 use sacn_commands::live::{clock_of, joined_groups, of_socket, universes_of_setup};
+use sacn_gateway::limits::TURN_SPAN;
 use sacn_gateway::{Diagnosis, Notes, PassedOver};
 use sacn_machine::{
     DeviceFault, Lines, Octets4, Outputs, UdpReceiver, guard_standard_descriptors,
@@ -92,6 +93,8 @@ fn run_shown<'a, R: AllocGlobal + Net + Clock>(
         name: "page",
         err: outputs.err(),
         has_failed: false,
+        begun: None,
+        looked: 0,
     };
     let out = outputs.out();
     run_setup(rt, asked, setup, &mut receiver, &mut shown, out)
@@ -133,6 +136,8 @@ fn run_beside_screen<'a, R: AllocGlobal + Net + Clock, W: Watcher>(
         name: "screen",
         err: outputs.err(),
         has_failed: false,
+        begun: None,
+        looked: 0,
     };
     run_setup(rt, asked, setup, receiver, &mut shown, Unprinted)
 }
@@ -226,6 +231,9 @@ impl<'s, 'o, O: Write, Z: Sizes> Watcher for PatientScreen<'s, 'o, O, Z> {
     }
 }
 
+/// How long viewers wait at most while more datagrams come than a turn takes, in milliseconds.
+const PATIENCE: u64 = 250;
+
 /// Looks on at a gateway, for its standard error and for those who view what it hears.
 #[derive(Drop)]
 struct Shown<'a, E, W> {
@@ -236,9 +244,24 @@ struct Shown<'a, E, W> {
     err: E,
     /// It was said that something can't be shown.
     has_failed: bool,
+    /// The moment of the turn's first datagram.
+    begun: Option<u64>,
+    /// The moment at which viewers were looked at last.
+    looked: u64,
 }
 
 impl<'a, E: Write, W: Watcher> Shown<'a, E, W> {
+    // Whether viewers have to wait at the end of a turn: it took as long as a turn may, so that more datagrams wait, and viewers were
+    // looked at a short while ago.
+    fn is_behind(&mut self, now: u64) -> bool {
+        match self.begun.take() {
+            Some(begun) => {
+                now >= begun.saturating_add(TURN_SPAN) && now < self.looked.saturating_add(PATIENCE)
+            }
+            None => false,
+        }
+    }
+
     // Says, once, that there wasn't memory for all that viewers are to be shown, or that it can't be written. The gateway goes on, and so do they.
     fn note_viewers(&mut self, came: Result<(), WatchFault>) {
         let Err(fault) = came else {
@@ -264,6 +287,7 @@ impl<'a, E: Write, W: Watcher> Notes for Shown<'a, E, W> {
         reading: &Reading<'_>,
         taken: NodeTaken,
     ) {
+        self.begun = self.begun.or(Some(now));
         self.diagnosis.note_taken(now, sender, reading, taken);
         let sender = Endpoint {
             address: sender.ip().octets(),
@@ -287,6 +311,10 @@ impl<'a, E: Write, W: Watcher> Notes for Shown<'a, E, W> {
 
     fn note_turn(&mut self, now: u64) {
         self.diagnosis.note_turn(now);
+        if self.is_behind(now) {
+            return;
+        }
+        self.looked = now;
         let came = self.viewers.show(now);
         self.note_viewers(came);
     }
