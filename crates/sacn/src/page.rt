@@ -1,5 +1,5 @@
 //! A watch that browsers see.
-use crate::watch::{receiver_at, watch_end};
+use crate::watch::{Place, receiver_at, watch_end};
 use sacn_commands::ending::Ending;
 use sacn_commands::live::{joined_groups, of_socket, say_hearing};
 use sacn_machine::{Lines, Outputs};
@@ -16,38 +16,38 @@ pub fn say_page<E: Write>(place: SocketAddrV4, err: &mut E) {
     let _ = writeln!(err, "page http://{a}.{b}.{c}.{d}:{}/", place.port());
 }
 
-/// Hears at an address until a moment in milliseconds, and serves a page of it. A viewer that names no universe is shown this
+/// Hears at a place until a moment in milliseconds, and serves a page of it. A viewer that names no universe is shown this
 /// one, else the first heard.
 pub fn serve<R: AllocGlobal + Env + Net + Clock, E: Write>(
     rt: &R,
-    address: SocketAddrV4,
-    place: SocketAddrV4,
+    place: Place,
+    page: SocketAddrV4,
     universe: Option<u16>,
     until: u64,
     err: &mut E,
 ) -> Result<(), Ending> {
     let board = Board::new(rt.alloc(), universe, MAX_ALARMS)?;
-    let mut pages = of_socket(Pages::bind(rt, rt.alloc(), place, board), place, err)?;
+    let mut pages = of_socket(Pages::bind(rt, rt.alloc(), page, board), page, err)?;
     let outputs = Outputs::new(rt.alloc(), Lines::Plain)?;
     let outputs = (&outputs, joined_groups(rt));
-    hear(rt, address, place, &mut pages, until, outputs, err)
+    hear(rt, place, page, &mut pages, until, outputs, err)
 }
 
 // Hears for pages that have their place.
 fn hear<'a, R: Net + Clock, E: Write>(
     rt: &'a R,
-    address: SocketAddrV4,
-    place: SocketAddrV4,
+    place: Place,
+    page: SocketAddrV4,
     pages: &mut Pages<Board>,
     until: u64,
     (outputs, joined): (&'a Outputs, Option<String>),
     err: &mut E,
 ) -> Result<(), Ending> {
-    let mut receiver = receiver_at(rt, address, err)?;
+    let mut receiver = receiver_at(rt, place, err)?;
     receiver.tend(outputs, joined);
     receiver.wait_beside(pages.descriptor());
-    say_hearing(address, receiver.room(), err);
-    say_page(place, err);
+    say_hearing(place.address, receiver.room(), err);
+    say_page(page, err);
     let mut listener = RunningListener::new(receiver);
     watch_end(run_watch(&mut listener, pages, until))
 }

@@ -3,15 +3,15 @@ use crate::explain::form_of;
 use crate::page::serve;
 use crate::piped::Piped;
 use crate::screen::show;
-use sacn_commands::ending::Ending;
+use sacn_commands::ending::{DEVICE_FAILED, Ending};
 use sacn_commands::live::{clock_of, joined_groups, of_socket, say_hearing};
 use sacn_machine::{Lines, Outputs, UdpReceiver, guard_standard_descriptors, output_is_terminal};
 use sacn_tell::Options;
 use sacn_watch::{RunningListener, WatchFault, watch_lines};
 use sacn_words::{WatchAsked, moment_of};
 use std::env::Env;
-use std::io::Write;
-use std::net::{Net, SocketAddrV4};
+use std::io::{ErrorKind, Write};
+use std::net::{Net, SocketAddrV4, UdpSocket};
 use std::rt::{Clock, Files};
 
 /// What came of a watch, where its fault ends the run.
@@ -23,6 +23,14 @@ pub fn watch_end<T>(told: Result<T, WatchFault>) -> Result<T, Ending> {
     }
 }
 
+/// Where a watch hears.
+#[derive(Clone, Copy)]
+pub struct Place {
+    pub address: SocketAddrV4,
+    /// Whether it hears there also where another receiver does.
+    pub is_beside: bool,
+}
+
 /// Watches a network.
 pub fn watch<R: AllocGlobal + Files + Env + Net + Clock, O: Write, E: Write>(
     rt: &R,
@@ -31,17 +39,20 @@ pub fn watch<R: AllocGlobal + Files + Env + Net + Clock, O: Write, E: Write>(
     err: &mut E,
 ) -> Result<(), Ending> {
     guard_standard_descriptors();
-    let address = SocketAddrV4::new(asked.listen, asked.port);
+    let place = Place {
+        address: SocketAddrV4::new(asked.listen, asked.port),
+        is_beside: asked.is_beside,
+    };
     let until = moment_of(asked.seconds);
-    if let Some(place) = asked.page {
+    if let Some(page) = asked.page {
         let universe = asked.universes.first().copied();
-        return serve(rt, address, place, universe, until, err);
+        return serve(rt, place, page, universe, until, err);
     }
     if asked.is_plain | asked.is_json || !output_is_terminal() {
-        return tell(rt, address, asked, until);
+        return tell(rt, place, asked, until);
     }
-    let receiver = receiver_at(rt, address, err)?;
-    say_hearing(address, receiver.room(), err);
+    let receiver = receiver_at(rt, place, err)?;
+    say_hearing(place.address, receiver.room(), err);
     let mut listener = RunningListener::new(receiver);
     watch_end(show(rt, &mut listener, asked, until, out))
 }
@@ -49,7 +60,7 @@ pub fn watch<R: AllocGlobal + Files + Env + Net + Clock, O: Write, E: Write>(
 // Tells what is heard at an address line by line, on standard output. No output that isn't read holds it up.
 fn tell<R: AllocGlobal + Env + Net + Clock>(
     rt: &R,
-    address: SocketAddrV4,
+    place: Place,
     asked: &WatchAsked,
     until: u64,
 ) -> Result<(), Ending> {
@@ -62,7 +73,7 @@ fn tell<R: AllocGlobal + Env + Net + Clock>(
     let outputs = Outputs::new(rt.alloc(), lines)?;
     let mut out = Piped::new(outputs.out());
     let told = (&outputs, joined_groups(rt));
-    let run = tell_on(rt, address, asked, until, told, &mut out);
+    let run = tell_on(rt, place, asked, until, told, &mut out);
     // (nobody is told how many lines wait for a reader that has gone)
     if out.reader_has_gone() {
         let _ = outputs.err().flush();
@@ -74,15 +85,15 @@ fn tell<R: AllocGlobal + Env + Net + Clock>(
 
 fn tell_on<'a, R: AllocGlobal + Net + Clock, O: Write>(
     rt: &'a R,
-    address: SocketAddrV4,
+    place: Place,
     asked: &WatchAsked,
     until: u64,
     (outputs, joined): (&'a Outputs, Option<String>),
     out: &mut O,
 ) -> Result<(), Ending> {
-    let mut receiver = receiver_at(rt, address, &mut outputs.err())?;
+    let mut receiver = receiver_at(rt, place, &mut outputs.err())?;
     receiver.tend(outputs, joined);
-    say_hearing(address, receiver.room(), &mut outputs.err());
+    say_hearing(place.address, receiver.room(), &mut outputs.err());
     let options = Options {
         port: asked.port,
         universes: asked.universes.as_slice(),
@@ -92,14 +103,35 @@ fn tell_on<'a, R: AllocGlobal + Net + Clock, O: Write>(
     watch_end(watch_lines(rt.alloc(), &mut listener, &options, until, out))
 }
 
-/// Hears at an address, for as long as standard input goes on.
+// Whether another receiver has the port. (A socket that shares nothing gets it only where none has, and is closed at once.)
+fn is_taken<R: Net>(rt: &R, address: SocketAddrV4) -> bool {
+    match UdpSocket::bind(rt, (*address.ip(), address.port())) {
+        Ok(_) => false,
+        Err(error) => matches!(error.kind(), ErrorKind::AddrInUse),
+    }
+}
+
+// Says that another receiver has the port, and what to do.
+fn say_taken<E: Write>(port: u16, err: &mut E) -> Ending {
+    let _ = writeln!(
+        err,
+        "port {port} has a receiver on this machine: of what is sent to this machine alone each stream goes to one receiver, so a watch would take it away. Start the gateway with --page PORT or --watch; or add --beside here, where all comes by multicast"
+    );
+    Ending::Said(DEVICE_FAILED)
+}
+
+/// Hears at a place, for as long as standard input goes on. Where another receiver has the port, that is said, and ends the run, but
+/// where the watch was asked to hear beside it.
 pub fn receiver_at<'a, R: Net + Clock, E: Write>(
     rt: &'a R,
-    address: SocketAddrV4,
+    place: Place,
     err: &mut E,
 ) -> Result<UdpReceiver<'a, R>, Ending> {
-    let bound = UdpReceiver::bind(rt, address, clock_of(rt)?);
-    let mut receiver = of_socket(bound, address, err)?;
+    if !place.is_beside && is_taken(rt, place.address) {
+        return Err(say_taken(place.address.port(), err));
+    }
+    let bound = UdpReceiver::bind(rt, place.address, clock_of(rt)?);
+    let mut receiver = of_socket(bound, place.address, err)?;
     receiver.wait_for_input();
     Ok(receiver)
 }

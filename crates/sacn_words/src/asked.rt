@@ -112,6 +112,8 @@ pub struct WatchAsked {
     /// Whether what is told is objects of JSON, one a line, and not text.
     pub is_json: bool,
     pub is_plain: bool,
+    /// Whether it hears also where another receiver has the port.
+    pub is_beside: bool,
     /// Where a page is served in place of what is printed.
     pub page: Option<SocketAddrV4>,
 }
@@ -239,6 +241,7 @@ fn watch<'a>(words: &mut Words<'_, 'a>) -> Asked<'a> {
         seconds,
         is_json: words.is_given("json"),
         is_plain: words.is_given("plain"),
+        is_beside: words.is_given("beside"),
     })
 }
 

@@ -249,6 +249,11 @@ const WATCH: Subcommand<'static> = Subcommand {
             ..FLAG
         },
         PAGE,
+        Argument {
+            name: "beside",
+            help: "Hears also where another receiver of this machine has the port, as where all comes by multicast: what is sent to this machine alone goes to one of them",
+            ..FLAG
+        },
         HELP_LETTER,
         HELP,
     ],

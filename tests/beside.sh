@@ -1,0 +1,62 @@
+#!/usr/bin/env bash
+# Starts watches beside a gateway that a desk lights, on loopback: none takes its packets away.
+# Prints a line 'ok NAME' or 'not ok NAME: why' for each, and 'N passed, M failed' at the end. It takes the built program: crates/sacn/out/sacn, or
+# the path in SACN.
+set -u
+top=$(cd "$(dirname "$(readlink -f "$0")")/.." && pwd)
+sacn=$(realpath "${SACN:-$top/crates/sacn/out/sacn}")
+work=$(mktemp -d)
+port=25851
+passed=0
+failed=0
+trap 'kill $(jobs -p) 2>/dev/null; rm -rf "$work"' EXIT
+cd "$work" || exit 1
+
+verdict() { # NAME STATUS WHY
+  if [ "$2" -eq 0 ]; then
+    echo "ok beside: $1"
+    passed=$((passed + 1))
+  else
+    echo "not ok beside: $1: $3"
+    failed=$((failed + 1))
+  fi
+}
+
+printf 'version = 1\nudp_port = %s\n[[port]]\nnumber = 1\nuniverse = 1\n' $port >node.toml
+printf 'version = 1\ncid = "00010203-0405-0607-0809-0a0b0c0d0e0f"\nname = "Desk"\nuniverses = [1]\nsend_to = [%s]\n[[patch]]\nchannel = 1\nuniverse = 1\nslot = 1\n' $port >show.toml
+"$sacn" gateway node.toml --seconds 60 >frames 2>said &
+gateway=$!
+for _ in $(seq 200); do grep -q '^hears' said && break; sleep 0.05; done
+mkfifo orders
+"$sacn" desk show.toml <orders >answers 2>desk &
+exec 3>orders
+echo "1 at full" >&3
+for _ in $(seq 200); do grep -q ' 00ff' frames && break; sleep 0.05; done
+[ "$(tail -n 1 frames | cut -d ' ' -f 3 | cut -c 1-4)" = 00ff ]
+verdict "the gateway is lit" $? "$(tail -n 1 frames | cut -c 1-40)"
+
+others=0
+for try in $(seq 20); do
+  form=--plain
+  [ $((try % 2)) = 0 ] && form="--page 127.0.0.1:25852"
+  # (unquoted: an option, or an option and its value)
+  # shellcheck disable=SC2086
+  "$sacn" watch --port $port $form --seconds 3 </dev/zero >told 2>refused
+  status=$?
+  { [ $status = 4 ] && [ ! -s told ] && grep -q "^port $port has a receiver on this machine: .* --page PORT or --watch; or add --beside here" refused; } || others=$((others + 1))
+done
+verdict "each of twenty watches ends with status 4 and says why" "$others" "$others of them: status $status, $(head -n 1 refused)"
+
+# (2500 ms after a packet went elsewhere its source would be lost)
+"$sacn" watch --port 25853 --plain --seconds 4 </dev/zero >free 2>hears
+verdict "a watch of a free port hears" $? "$(head -n 1 hears)"
+! grep -q lost said && [ "$(tail -n 1 frames | cut -d ' ' -f 3 | cut -c 1-4)" = 00ff ]
+verdict "the gateway is lit as before" $? "$(tail -n 2 said)"
+
+"$sacn" watch --port $port --beside --plain --seconds 1 </dev/zero >told 2>hears && grep -q "^hears 0.0.0.0:$port" hears
+verdict "with --beside a watch shares the port" $? "$(head -n 1 hears)"
+
+exec 3>&-
+kill $gateway
+echo "$passed passed, $failed failed"
+[ "$failed" = 0 ]
