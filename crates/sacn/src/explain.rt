@@ -3,7 +3,6 @@ use crate::recording::serve;
 use sacn_capture::{CaptureFault, FaultKind};
 use sacn_commands::ending::{DEVICE_FAILED, Ending, REFUSED, of_write};
 use sacn_commands::live::setup_of_word;
-use sacn_commands::naming::of_file;
 use sacn_files::limits::DEFAULT_UDP_PORT;
 use sacn_node::NodeSetup;
 use sacn_tell::{ExplainFault, Form, Options, explain};
@@ -55,7 +54,7 @@ pub fn tell<R: AllocGlobal + Files + Net + Clock, I: Read + Drop, O: Write, E: W
     match asked.setup {
         None => tell_word(rt, asked, None, input, out, err),
         Some(path) => {
-            let setup = of_file(setup_of_word(rt, path, input), path, err)?;
+            let setup = setup_of_word(rt, path, input, err)?;
             tell_word(rt, asked, Some(&setup), input, out, err)
         }
     }

@@ -1,7 +1,6 @@
 //! A gateway's setup, its socket and its run.
 use crate::ending::{BAD_WORDS, Ending, of_write};
 use crate::live::{clock_of, of_socket, say_hearing, setup_of_word, universes_of_setup};
-use crate::naming::of_file;
 use sacn_edge::WriterOut;
 use sacn_gateway::{Diagnosis, Interface, Notes, Span, run_gateway};
 use sacn_machine::{UdpReceiver, Widget};
@@ -58,7 +57,7 @@ pub fn setup_of<R: AllocGlobal + Files, I: Read + Drop, E: Write>(
     input: &mut I,
     err: &mut E,
 ) -> Result<NodeSetup, Ending> {
-    let setup = of_file(setup_of_word(rt, asked.setup, input), asked.setup, err)?;
+    let setup = setup_of_word(rt, asked.setup, input, err)?;
     check_widgets(asked.widgets.as_slice(), &setup, err)?;
     Ok(setup)
 }

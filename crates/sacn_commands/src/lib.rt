@@ -1,5 +1,6 @@
 //! The commands over the lower crates, and how any command ends: datagrams decoded and worlds simulated
-//! (`printing`), a console and a node on 127.0.0.1 (`network`), gateways (`gateway`), desks (`live`).
+//! (`printing`), a console and a node on 127.0.0.1 (`network`), gateways (`gateway`), desks (`live`); what is wrong in
+//! a refused file (`places`).
 //!
 //! What watches a network or tells a recording stands in the program, over crates that are proved later.
 #![tactic(auto)]
@@ -10,4 +11,5 @@ pub mod gateway;
 pub mod live;
 pub mod naming;
 pub mod network;
+pub mod places;
 pub mod printing;

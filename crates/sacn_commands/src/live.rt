@@ -3,6 +3,7 @@ use crate::ending::{DEVICE_FAILED, Ending, of_write};
 use crate::files::{text_of_file, text_of_word};
 use crate::naming::of_file;
 use crate::network::tell;
+use crate::places::ReadFile;
 use sacn_check::{FileKind, kind_of};
 use sacn_console::limits::CONSOLE_UNIVERSES;
 use sacn_console::{Command, ConsoleCore, Show, read_script, read_show};
@@ -47,27 +48,57 @@ pub fn of_socket<T, E: Write>(
     }
 }
 
-/// The setup in a file.
-pub fn setup_of_word<R: AllocGlobal + Files, I: Read + Drop>(
+/// The setup in a file. One that is refused is said.
+pub fn setup_of_word<R: AllocGlobal + Files, I: Read + Drop, E: Write>(
     rt: &R,
     word: &str,
     input: &mut I,
+    err: &mut E,
 ) -> Result<NodeSetup, Ending> {
-    let text = text_of_word(rt, word, input)?;
-    Ok(read_node(rt.alloc(), text.as_str())?)
+    let text = of_file(text_of_word(rt, word, input), word, err)?;
+    let file = ReadFile {
+        path: word,
+        text: text.as_str(),
+        kind: FileKind::Setup,
+    };
+    match read_node(rt.alloc(), file.text) {
+        Ok(setup) => Ok(setup),
+        Err(fault) => Err(file.refused(rt.alloc(), Ending::Setup(fault), err)),
+    }
 }
 
-fn show_of_file<R: AllocGlobal + Files>(rt: &R, path: &str) -> Result<Show, Ending> {
-    let text = text_of_file(rt, path)?;
-    Ok(read_show(rt.alloc(), text.as_str())?)
-}
-
-fn script_of_file<R: AllocGlobal + Files>(
+fn show_of_file<R: AllocGlobal + Files, E: Write>(
     rt: &R,
     path: &str,
+    err: &mut E,
+) -> Result<Show, Ending> {
+    let text = of_file(text_of_file(rt, path), path, err)?;
+    let file = ReadFile {
+        path,
+        text: text.as_str(),
+        kind: FileKind::Show,
+    };
+    match read_show(rt.alloc(), file.text) {
+        Ok(show) => Ok(show),
+        Err(fault) => Err(file.refused(rt.alloc(), Ending::Show(fault), err)),
+    }
+}
+
+fn script_of_file<R: AllocGlobal + Files, E: Write>(
+    rt: &R,
+    path: &str,
+    err: &mut E,
 ) -> Result<Vec<(u64, Command)>, Ending> {
-    let text = text_of_file(rt, path)?;
-    Ok(read_script(rt.alloc(), text.as_str())?)
+    let text = of_file(text_of_file(rt, path), path, err)?;
+    let file = ReadFile {
+        path,
+        text: text.as_str(),
+        kind: FileKind::Script,
+    };
+    match read_script(rt.alloc(), file.text) {
+        Ok(script) => Ok(script),
+        Err(fault) => Err(file.refused(rt.alloc(), Ending::Line(fault), err)),
+    }
 }
 
 /// A clock that starts now.
@@ -148,7 +179,7 @@ fn desk_on<R: AllocGlobal + Files + Net + Clock, O: Write, E: Write>(
     out: &mut O,
     err: &mut E,
 ) -> Result<(), Ending> {
-    let show = of_file(show_of_file(rt, asked.show), asked.show, err)?;
+    let show = show_of_file(rt, asked.show, err)?;
     match asked.script {
         Some(path) => perform_script(rt, asked, &show, path, out, err),
         None => perform(rt, asked, &show, None, out, err),
@@ -163,7 +194,7 @@ fn perform_script<R: AllocGlobal + Files + Net + Clock, O: Write, E: Write>(
     out: &mut O,
     err: &mut E,
 ) -> Result<(), Ending> {
-    let script = of_file(script_of_file(rt, path), path, err)?;
+    let script = script_of_file(rt, path, err)?;
     perform(rt, asked, show, Some(script.as_slice()), out, err)
 }
 

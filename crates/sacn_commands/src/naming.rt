@@ -5,8 +5,8 @@ use sacn_node::SetupFault;
 use sacn_world::WorldTextFault;
 use std::io::Write;
 
-// Says the fault of a file with its name, and returns how the run ends.
-fn say_file_fault<E: Write>(path: &str, ending: Ending, err: &mut E) -> Ending {
+/// Says the fault of a file with its name, and returns how the run ends.
+pub(crate) fn say_file_fault<E: Write>(path: &str, ending: Ending, err: &mut E) -> Ending {
     let (line, status) = match ending {
         Ending::DeviceRead => (writeln!(err, "device read {path}"), DEVICE_FAILED),
         Ending::TooLarge => (writeln!(err, "refused {path} TooLarge"), REFUSED),
