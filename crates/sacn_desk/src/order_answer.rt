@@ -63,7 +63,9 @@ fn dark_spans(
     for channel in 1..MAX_CHANNELS + 1 {
         let is_dark = selection.holds(channel) && !lists.is_patched(channel);
         match open {
-            Some((first, last)) if is_dark && last + 1 == channel => open = Some((first, channel)),
+            Some((first, last)) if is_dark && last.saturating_add(1) == channel => open = Some((
+                first, channel,
+            )),
             _ => {
                 if let Some(span) = open {
                     spans.push(span)?;

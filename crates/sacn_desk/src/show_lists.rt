@@ -1,6 +1,6 @@
 //! What a desk tells of its show: its cues, and which slots show which channel.
 use sacn_console::Show;
-use sacn_cues::MAX_CHANNELS;
+use sacn_cues::{MAX_CHANNELS, MAX_CUES};
 use sacn_packets::SLOTS;
 use std::alloc::{AllocError, Global};
 use std::io::{self, Write};
@@ -38,11 +38,11 @@ impl<'a> ShowLists<'a> {
     /// The greatest number of a cue below this one, where there is one.
     pub(crate) fn cue_before(&self, current: u16) -> Option<u16> {
         let mut before = None;
-        while let Some((number, _)) = self.show.cues().next_above(before) {
-            if number >= current {
-                return before;
+        for _ in 0..MAX_CUES {
+            match self.show.cues().next_above(before) {
+                Some((number, _)) if number < current => before = Some(number),
+                _ => return before,
             }
-            before = Some(number);
         }
         before
     }
@@ -93,29 +93,58 @@ impl<'a> ShowLists<'a> {
         let Some(universe) = self.show.universes().get(place) else {
             return Ok(false);
         };
-        let mut slot = 1;
-        while slot <= SLOTS as u16 {
+        let mut run: Option<Run> = None;
+        for slot in 1..SLOTS as u16 + 1 {
             let shown = self.show.patch().channel_at(*universe, slot);
-            let mut end = slot + 1;
-            while end <= SLOTS as u16 && self.show.patch().channel_at(*universe, end) == shown {
-                end += 1;
+            let longer = longer(run, shown, slot);
+            if longer.is_none() {
+                write_run(out, *universe, run)?;
             }
-            if let Some(channel) = shown {
-                write_places(out, channel, *universe, slot, end - 1)?;
-            }
-            slot = end;
+            run = longer.or(begun(shown, slot));
         }
+        write_run(out, *universe, run)?;
         Ok(true)
     }
 }
 
-fn write_places<O: Write>(
-    out: &mut O,
+/// Neighbouring slots that show one channel.
+#[derive(Clone, Copy)]
+struct Run {
     channel: u16,
-    universe: u16,
     first: u16,
     last: u16,
-) -> io::Result<()> {
+}
+
+/// The run with this slot behind it, where the slot shows its channel.
+fn longer(run: Option<Run>, shown: Option<u16>, slot: u16) -> Option<Run> {
+    match (run, shown) {
+        (Some(run), Some(channel)) if run.channel == channel => Some(Run { last: slot, ..run }),
+        _ => None,
+    }
+}
+
+fn begun(shown: Option<u16>, slot: u16) -> Option<Run> {
+    match shown {
+        Some(channel) => Some(Run {
+            channel,
+            first: slot,
+            last: slot,
+        }),
+        None => None,
+    }
+}
+
+fn write_run<O: Write>(out: &mut O, universe: u16, run: Option<Run>) -> io::Result<()> {
+    let Some(
+        Run {
+            channel,
+            first,
+            last,
+        },
+    ) = run
+    else {
+        return Ok(());
+    };
     if first == last {
         writeln!(out, "channel {channel} universe {universe} slot {first}")
     } else {

@@ -4,7 +4,7 @@ use Rattle.std.specs.List.{fold}
 use Rattle.sacn_monitor.specs.declared.stream.Stream.{Stream}
 use Rattle.sacn_monitor.specs.Kinds.{more, total}
 use Rattle.sacn_monitor.specs.Streams.{state_of}
-use Rattle.sacn_tell.specs.declared.count.UniverseCounts.{UniverseCounts}
+use Rattle.sacn_tell.specs.declared.table_rows.UniverseCounts.{UniverseCounts}
 use Rattle.sacn_tell.specs.Amounts.{sending_in, amount, with_stream}
 
 abbrev pub no_counts : UniverseCounts

@@ -6,7 +6,7 @@ use Rattle.sacn_monitor.specs.declared.stream.StreamState.{StreamState}
 use Rattle.sacn_monitor.specs.declared.stream.StreamState.TheVariants.{Sending, Ended, Lost}
 use Rattle.sacn_monitor.specs.Kinds.{more, total}
 use Rattle.sacn_monitor.specs.Streams.{state_of}
-use Rattle.sacn_tell.specs.declared.count.UniverseCounts.{UniverseCounts}
+use Rattle.sacn_tell.specs.declared.table_rows.UniverseCounts.{UniverseCounts}
 
 -- one where the source sends
 abbrev pub sending_in : StreamState → ℕ

@@ -2,7 +2,7 @@
 use Rattle.std.specs.Prelude.{ℕ, List, ◌++◌, codes, decimal}
 use Rattle.sacn_packets.specs.declared.root.fault.PacketFault.{PacketFault}
 use Rattle.sacn_packets.specs.PacketFaults.{fault_number}
-use Rattle.sacn_tell.specs.declared.count.UniverseCounts.{UniverseCounts}
+use Rattle.sacn_tell.specs.declared.table_rows.UniverseCounts.{UniverseCounts}
 use Rattle.sacn_tell.specs.declared.listings.Listing.{Listing}
 use Rattle.sacn_tell.specs.declared.options.Form.{Form}
 use Rattle.sacn_tell.specs.declared.options.Form.TheVariants.{Text, Json}

@@ -4,11 +4,11 @@
 
 mod account_lines;
 mod cause;
-mod count;
 mod event_words;
 mod fault;
 mod follow;
 mod follower;
+mod frames;
 mod json;
 pub mod laws;
 mod line_writer;

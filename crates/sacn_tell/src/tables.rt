@@ -7,14 +7,13 @@ ghost use Rattle.sacn_tell.specs.Totals.{counts_row};
 ghost use Rattle.sacn_tell.specs.Tellings.{Tells, with_line_end};
 ghost use Rattle.sacn_tell.specs.Tables.{faults_told, has_refusals, head_told, head_where, is_told, list_told, lists_told, place_told, refused_for, refused_told, refusals_told, stream_told, streams_told, tables_told, universe_at, universe_told, universes_told};
 
-use crate::count::UniverseCounts;
 use crate::fault::TellFault;
 use crate::listed::{silent_universes, unlisted_universes};
 use crate::listings::{Listing, Listings};
 use crate::options::{Form, Options};
 use crate::report::{Report, counts_row};
 use crate::stream_rows::stream_row;
-use crate::table_rows::{Lists, list_row, refused_row, universe_row};
+use crate::table_rows::{Lists, UniverseCounts, list_row, refused_row, universe_row};
 use crate::teller::Teller;
 use sacn_monitor::{Monitor, Stream, Tally};
 use sacn_packets::PacketFault;

@@ -30,7 +30,11 @@ impl<'a, R: MachineClock, O: Write> DeskOrders<'a, R, O> {
                 None
             }
             Wish::Back => {
-                match core.cue().and_then(|cue| self.lists.cue_before(cue)) {
+                let before = match core.cue() {
+                    Some(cue) => self.lists.cue_before(cue),
+                    None => None,
+                };
+                match before {
                     Some(cue) => self.command = Some(Command::GoTo(cue)),
                     None => self.say_refusal(ConsoleFault::NoCue),
                 }

@@ -2,7 +2,7 @@ use Rattle.std.proofs.Common.{take}
 use Rattle.sacn_tell.specs.Causes.{reason_of}
 use Rattle.sacn_tell.specs.Shows.{ports_told}
 use Rattle.sacn_tell.specs.Tellings.{Tells}
-use Rattle.sacn_tell.proofs.stage.tell_ports.Given as goal
+use Rattle.sacn_tell.proofs.frames.tell_ports.Given as goal
 
 -- the frames of the ports so far
 abbrev pub invariant-loop-port : goal.invariant-loop-port

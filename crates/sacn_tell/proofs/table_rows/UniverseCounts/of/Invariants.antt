@@ -2,7 +2,7 @@ use Rattle.std.proofs.Common.{◌≡◌, ◌==◌, drop, filter}
 use Rattle.std.specs.List.{fold}
 use Rattle.sacn_tell.specs.Amounts.{with_stream}
 use Rattle.sacn_tell.proofs.Amounts.{no_counts}
-use Rattle.sacn_tell.proofs.count.UniverseCounts.of.Given as goal
+use Rattle.sacn_tell.proofs.table_rows.UniverseCounts.of.Given as goal
 
 -- the counts so far, with the rest of the streams, are those of all
 abbrev pub invariant-loop-stream : goal.invariant-loop-stream

@@ -4,7 +4,7 @@ use Rattle.std.specs.List.{fold}
 use Rattle.sacn_monitor.specs.declared.stream.Stream.{Stream}
 use Rattle.sacn_tell.specs.Amounts.{with_stream}
 use Rattle.sacn_tell.proofs.Amounts.{amount_is}
-use Rattle.sacn_tell.proofs.count.UniverseCounts.of.Goals as goal
+use Rattle.sacn_tell.proofs.table_rows.UniverseCounts.of.Goals as goal
 
 pub returns : goal.returns
 returns c =
