@@ -156,6 +156,26 @@ script '0 jump\n' "line 1 UnknownWord"
 script '\n0 set 1\n' "line 2 WordCount"
 script '0 go\nx go\n' "line 2 Number"
 script '\xff\n' NotText
+# placed WANTED WORD..: what stands behind the line that refuses a file
+placed() {
+  local wanted=$1
+  shift
+  timeout 20 "$sacn" "$@" <&- >out 2>err
+  if [ "$(sed 1d err)" = "$wanted" ]; then
+    echo "ok words: what is wrong is said: $*"
+  else
+    echo "not ok words: what is wrong: $*: $(sed 1d err | head -n 2)"
+  fi
+}
+printf 'version = 1\ncolour = 1\n' >faulty
+placed "faulty: colour: 1: UnknownKey: the keys here are version, udp_port, port" gateway faulty
+placed "show: this is a show, which sacn desk plays" gateway show
+printf 'version = 1\n[[port]]\nnumber = 1\nuniverse = 1\n' >faulty
+placed "faulty: this is a setup, which sacn gateway runs" desk faulty
+printf 'version = ' >faulty
+placed "faulty: line 1, column 11: Toml: invalid value, expected a string, number, boolean, date-time, array or inline table" gateway faulty
+printf '0 jump\n' >script
+placed "script: line 1: 0 jump: UnknownWord: MOMENT and go, goto CUE, set CHANNEL LEVEL, master LEVEL, end UNIVERSE or start UNIVERSE" desk show --script script
 
 # An address that isn't this machine's (192.0.2.0/24 is nobody's).
 printf 'version = 1\nudp_port = 25892\n' >setup

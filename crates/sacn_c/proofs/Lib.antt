@@ -1,2 +1,4 @@
 pub mod Handles
+mod Refusals
+mod StatusFields
 pub mod Values

@@ -1,1 +1,12 @@
+pub mod Collecting
+pub mod Hearing
+pub mod Kinds
+pub mod Lending
+pub mod Making
+pub mod Merging
+pub mod Numbers
 pub mod Ownership
+pub mod Packets
+pub mod Pages
+pub mod Rooms
+pub mod Sending

@@ -3,8 +3,8 @@ use Rattle.std.specs.Prelude.{Option, Some, None}
 use Rattle.std.specs.Global.{Global}
 use Rattle.std.specs.Box.Ownership.{box_owns}
 use Rattle.std_heap.specs.contracts.GlobalAllocator.TheImpl.{ghosts}
-use Rattle.sacn_border.specs.declared.held_value.Held.{Held}
-use Rattle.sacn_border.specs.contracts.held_value.Held.{the_row}
+use Rattle.sacn_c.specs.declared.held_value.Held.{Held}
+use Rattle.sacn_c.specs.contracts.held_value.Held.{the_row}
 use base.Fml.{Fml, ftrue}
 use denote.RawPtr.{Ptr}
 

@@ -5,12 +5,17 @@ ghost use Rattle.std.specs.Option.{option_map};
 ghost use Rattle.sacn_packets.specs.PacketReading.{reading_packet};
 ghost use Rattle.sacn_discovery.specs.Lists.{forgotten as gone};
 ghost use Rattle.sacn_discovery.specs.Collection.{State, nothing_known, after_expire, known_list};
-ghost use Rattle.sacn_border.specs.Collecting.{after_reading, collect_status, collected, list_status, list_count, list_room, ShowsList};
-ghost use Rattle.sacn_border.specs.Kinds.{of_collector};
-ghost use Rattle.sacn_border.specs.declared.status.TheConstants.{DONE, OUT_OF_MEMORY, WRONG_HANDLE};
+ghost use Rattle.sacn_c.specs.Collecting.{after_reading, collect_status, collected, list_status, list_count, list_room, ShowsList};
+ghost use Rattle.sacn_c.specs.Kinds.{of_collector};
+ghost use Rattle.sacn_c.specs.declared.status.TheConstants.{DONE, OUT_OF_MEMORY, WRONG_HANDLE};
 
-use crate::handle::{Handle, take_out};
-use sacn_border::{DONE, Held, collector};
+use crate::handle::Handle;
+use crate::held_value::Held;
+use crate::reading::packet_at;
+use crate::rooms::put_list;
+use crate::status::{DONE, OUT_OF_MEMORY, RANGE, WRONG_HANDLE};
+use sacn_discovery::Collector;
+use sacn_packets::Packet;
 use std::alloc::Global;
 
 /// A collector that knows nothing, as `Collector::new`.
@@ -20,23 +25,35 @@ pub extern "C" fn sacn_proved_collector_new(alloc: Global, handle: &mut Handle) 
     ensures refused { (result ≡ DONE → ⊥) → handle.new.value ≡ handle.old.value }
     ensures status { (result ≡ DONE → ⊥) → result ≡ OUT_OF_MEMORY }
 {
-    match collector::new(alloc) {
-        Ok(held) => {
-            *handle = Handle::of(held);
-            DONE
-        }
+    let Ok(made) = Handle::new(alloc, Held::Collector(Collector::new(alloc))) else {
+        return OUT_OF_MEMORY;
+    };
+    *handle = made;
+    DONE
+}
+
+/// What a datagram does to a collector: a page is taken, and all else changes nothing.
+fn take_into(collector: &mut Collector, now: u64, octets: &[u8]) -> u32
+    ensures taken { result ≡ DONE
+        → collector.new ≡ after_reading now (reading_packet octets.now) collector.old }
+    ensures lacking { result ≡ OUT_OF_MEMORY → collector.new ≡ after_expire now collector.old }
+    ensures status { result ≡ collect_status (reading_packet octets.now) result }
+    ensures collector { collector.new
+        ≡ collected result now (reading_packet octets.now) collector.old }
+{
+    match packet_at(octets) {
+        Ok(Packet::PagePacket(page)) => match collector.take(now, &page) {
+            Ok(()) => DONE,
+            Err(_) => OUT_OF_MEMORY,
+        },
+        Ok(_) => DONE,
         Err(status) => status,
     }
 }
 
 /// Takes a datagram, as `Collector::take`. The status is the fault of one that is no packet.
 #[unsafe(no_mangle)]
-pub extern "C" fn sacn_proved_collector_take(
-    alloc: Global,
-    handle: &mut Handle,
-    now: u64,
-    octets: &[u8],
-) -> u32
+pub extern "C" fn sacn_proved_collector_take(handle: &mut Handle, now: u64, octets: &[u8]) -> u32
     requires { is_some handle.old.value ≡ true }
     ensures taken { result ≡ DONE → handle.new.value ≡ option_map (λ held. of_collector held (λ s.
         Held.Collector (after_reading now (reading_packet octets.now) s)) held) handle.old.value }
@@ -45,16 +62,15 @@ pub extern "C" fn sacn_proved_collector_take(
     ensures after { handle.new.value ≡ option_map (λ held. of_collector held (λ s. Held.Collector
         (collected result now (reading_packet octets.now) s)) held) handle.old.value }
 {
-    let mut held = take_out(alloc, handle);
-    let status = collector::take(held.as_mut(), now, octets);
-    *handle = Handle::of(held);
-    status
+    match handle.held() {
+        Held::Collector(collector) => take_into(collector, now, octets),
+        _ => WRONG_HANDLE,
+    }
 }
 
-/// Forgets the sources whose latest page is too old, as `Collector::expire`.
+/// Forgets the sources whose latest page is too old, as `Collector::expire`, and tells how many those were.
 #[unsafe(no_mangle)]
 pub extern "C" fn sacn_proved_collector_tick(
-    alloc: Global,
     handle: &mut Handle,
     now: u64,
     forgotten: &mut usize,
@@ -69,16 +85,18 @@ pub extern "C" fn sacn_proved_collector_tick(
     ensures after { handle.new.value ≡ option_map (λ held.
         of_collector held (λ s. Held.Collector (after_expire now s)) held) handle.old.value }
 {
-    let mut held = take_out(alloc, handle);
-    let status = collector::tick(held.as_mut(), now, forgotten);
-    *handle = Handle::of(held);
-    status
+    match handle.held() {
+        Held::Collector(collector) => {
+            *forgotten = collector.expire(now);
+            DONE
+        }
+        _ => WRONG_HANDLE,
+    }
 }
 
 /// The list of a source, as `Collector::list_of`. The status is `RANGE` where it isn't known, and `LENGTH` where there is too little room for it.
 #[unsafe(no_mangle)]
 pub extern "C" fn sacn_proved_collector_list(
-    alloc: Global,
     handle: &mut Handle,
     now: u64,
     cid: &[u8; 16],
@@ -105,8 +123,12 @@ pub extern "C" fn sacn_proved_collector_list(
     ensures wrong { IfSome handle.old.value
         (λ held. of_collector true (λ s. false) held ≡ true → result ≡ WRONG_HANDLE) }
 {
-    let mut held = take_out(alloc, handle);
-    let status = collector::list(held.as_mut(), now, cid, universes, count);
-    *handle = Handle::of(held);
-    status
+    match handle.held() {
+        Held::Collector(collector) => match collector.list_of(now, cid) {
+            Ok(Some(list)) => put_list(list.as_slice(), universes, count),
+            Ok(None) => RANGE,
+            Err(_) => OUT_OF_MEMORY,
+        },
+        _ => WRONG_HANDLE,
+    }
 }

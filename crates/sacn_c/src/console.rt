@@ -1,5 +1,5 @@
 //! Consoles, for C.
-ghost use Rattle.std.specs.Prelude.{◌≡◌, ◌↔◌, ◌<◌, ◌&&◌, ◌≤◌, ◌+◌, min, is_some, slice_get, true, false, [], None, Some, IfSome, IfNone, MatchOption, ℕ, nat_lt};
+ghost use Rattle.std.specs.Prelude.{◌≡◌, ◌↔◌, ◌<◌, ◌&&◌, ◌≤◌, ◌+◌, min, is_some, slice_get, true, false, [], None, Some, IfSome, IfNone, MatchOption, ℕ, nat_lt, IfOk, IfErr};
 ghost use Rattle.std.specs.Option.{option_map};
 ghost use Rattle.std.specs.Str.{IsUtf8};
 ghost use Rattle.toml.specs.Parse.{parse_document};
@@ -9,19 +9,40 @@ ghost use Rattle.sacn_console.specs.Core.{Core, IsLawful, after_command, after_p
 ghost use Rattle.sacn_console.specs.Lines.{Datagram};
 ghost use Rattle.sacn_console.specs.ShowReading.{show_or_toml};
 ghost use Rattle.sacn_console.specs.Wakes.{last_moment};
-ghost use Rattle.sacn_border.specs.Kinds.{of_console};
-ghost use Rattle.sacn_border.specs.Making.{ConsoleOf, ShowStatus};
-ghost use Rattle.sacn_border.specs.Numbers.{found_status, found_or};
-ghost use Rattle.sacn_border.specs.Sending.{answer_status, command_of, due_size, line_told};
-ghost use Rattle.sacn_border.specs.declared.status.TheConstants.{DONE, RANGE, WRONG_HANDLE};
+ghost use Rattle.sacn_c.specs.Kinds.{of_console};
+ghost use Rattle.sacn_c.specs.Making.{ConsoleOf, ShowStatus};
+ghost use Rattle.sacn_c.specs.Numbers.{found_status, found_or};
+ghost use Rattle.sacn_c.specs.Sending.{answer_status, command_of, due_size, line_told};
+ghost use Rattle.sacn_c.specs.declared.status.TheConstants.{DONE, RANGE, WRONG_HANDLE};
+ghost use Rattle.sacn_files.specs.Document.{Gives};
+ghost use Rattle.sacn_console.specs.declared.show.fault.ShowFault.TheVariants as fault;
 
-use crate::handle::{Handle, take_out};
-use sacn_border::{DONE, Held, LineFields, console, state};
+use crate::handle::Handle;
+use crate::held_value::Held;
+use crate::state::{LineFields, line_told};
+use crate::status::{DONE, RANGE, WRONG_HANDLE};
 use sacn_console::limits::MAX_DATAGRAM;
+use sacn_console::{Command, ConsoleCore, ConsoleFault, Show, ShowFault, read_show};
 use std::alloc::Global;
 
-/// A console of a show's text, as `read_show` and `ConsoleCore::new`. The status is the show's fault.
+/// A show of octets, as `read_show`; `Toml` where they aren't UTF-8.
+fn show_of(alloc: Global, octets: &[u8]) -> Result<Show, ShowFault>
+    ensures text { IsUtf8 octets.now
+        → Gives fault.OutOfMemory result (show_or_toml (parse_document octets.now)) }
+    ensures is_text { IfOk result (λ s. IsUtf8 octets.now) }
+    ensures no_text { ¬ (IsUtf8 octets.now) → IfErr result (λ f. f ≡ fault.Toml) }
+    ensures made { IfOk result (λ s. show_or_toml (parse_document octets.now) ≡ Ok s) }
+{
+    match std::str::from_utf8(octets) {
+        Ok(text) => read_show(alloc, text),
+        Err(_) => Err(ShowFault::Toml),
+    }
+}
+
+/// A console of a show's text, whose first packets have the number `first`, as `read_show` and `ConsoleCore::new`. The status is the show's
+/// fault.
 #[unsafe(no_mangle)]
+#[tactic(auto, using(crate::proofs::Refusals::show_lacks, crate::proofs::Refusals::show_counts))]
 pub extern "C" fn sacn_proved_console_new(
     alloc: Global,
     handle: &mut Handle,
@@ -34,12 +55,44 @@ pub extern "C" fn sacn_proved_console_new(
     ensures refused { (result ≡ DONE → ⊥) → handle.new.value ≡ handle.old.value }
     ensures status { (result ≡ DONE → ⊥) → ShowStatus text.now result }
 {
-    match console::new(alloc, text, first) {
-        Ok(held) => {
-            *handle = Handle::of(held);
+    let show = match show_of(alloc, text) {
+        Ok(show) => show,
+        Err(fault) => return u32::from(fault.number()),
+    };
+    let console = match ConsoleCore::new(alloc, &show, first) {
+        Ok(console) => console,
+        Err(fault) => return u32::from(fault.number()),
+    };
+    match Handle::new(alloc, Held::Console(console)) {
+        Ok(made) => {
+            *handle = made;
             DONE
         }
-        Err(status) => status,
+        Err(_) => u32::from(ShowFault::OutOfMemory.number()),
+    }
+}
+
+fn answer_status(answer: Result<(), ConsoleFault>) -> u32
+    ensures { result ≡ answer_status answer }
+{
+    match answer {
+        Ok(()) => DONE,
+        Err(fault) => u32::from(fault.number()),
+    }
+}
+
+/// The command of a number, 1 to 6 in the order of `Command`, with its cue, channel or universe, and its level.
+fn command_of(kind: u8, number: u16, level: u16) -> Option<Command>
+    ensures { result ≡ command_of kind number level }
+{
+    match kind {
+        1 => Some(Command::Go),
+        2 => Some(Command::GoTo(number)),
+        3 => Some(Command::SetLevel(number, level)),
+        4 => Some(Command::Master(level)),
+        5 => Some(Command::EndUniverse(number)),
+        6 => Some(Command::StartUniverse(number)),
+        _ => None,
     }
 }
 
@@ -47,7 +100,6 @@ pub extern "C" fn sacn_proved_console_new(
 /// has this number.
 #[unsafe(no_mangle)]
 pub extern "C" fn sacn_proved_console_command(
-    alloc: Global,
     handle: &mut Handle,
     now: u64,
     kind: u8,
@@ -64,16 +116,19 @@ pub extern "C" fn sacn_proved_console_command(
     ensures refused { IfNone (command_of kind number level)
         ((result ≡ RANGE) × (handle.new.value ≡ handle.old.value)) }
 {
-    let mut held = take_out(alloc, handle);
-    let status = console::command(held.as_mut(), now, kind, number, level);
-    *handle = Handle::of(held);
-    status
+    let Some(command) = command_of(kind, number, level) else {
+        return RANGE;
+    };
+    match handle.held() {
+        Held::Console(console) => answer_status(console.command(now, command)),
+        _ => WRONG_HANDLE,
+    }
 }
 
 /// Gives the datagram that is due, as `ConsoleCore::poll`; the count is 0 where none is.
 #[unsafe(no_mangle)]
+#[tactic(auto, using(crate::proofs::StatusFields::none_due))]
 pub extern "C" fn sacn_proved_console_poll(
-    alloc: Global,
     handle: &mut Handle,
     now: u64,
     out: &mut [u8; MAX_DATAGRAM],
@@ -93,19 +148,18 @@ pub extern "C" fn sacn_proved_console_poll(
     ensures after { handle.new.value ≡ option_map
         (λ held. of_console held (λ c. Held.Console (after_poll now c)) held) handle.old.value }
 {
-    let mut held = take_out(alloc, handle);
-    let status = console::poll(held.as_mut(), now, out, count);
-    *handle = Handle::of(held);
-    status
+    match handle.held() {
+        Held::Console(console) => {
+            *count = console.poll(now, out).unwrap_or(0);
+            DONE
+        }
+        _ => WRONG_HANDLE,
+    }
 }
 
 /// The first moment at which something can be due, as `ConsoleCore::wakes`.
 #[unsafe(no_mangle)]
-pub extern "C" fn sacn_proved_console_wakes(
-    alloc: Global,
-    handle: &mut Handle,
-    moment: &mut u64,
-) -> u32
+pub extern "C" fn sacn_proved_console_wakes(handle: &mut Handle, moment: &mut u64) -> u32
     requires { is_some handle.old.value ≡ true }
     ensures status { IfSome handle.old.value
         (λ held. result ≡ of_console WRONG_HANDLE (λ c. DONE) held) }
@@ -119,16 +173,19 @@ pub extern "C" fn sacn_proved_console_wakes(
         → of_console false (λ c. is_some (due (at moment.new c))) held ≡ true) }
     ensures after { handle.new.value ≡ handle.old.value }
 {
-    let mut held = take_out(alloc, handle);
-    let status = console::wakes(held.as_mut(), moment);
-    *handle = Handle::of(held);
-    status
+    match handle.held() {
+        Held::Console(console) => {
+            *moment = console.wakes();
+            DONE
+        }
+        _ => WRONG_HANDLE,
+    }
 }
 
-/// What is kept of the universe at a place, as `ConsoleCore::lines`. The status is `RANGE`, and the fields as they were, where there is none.
+/// What is kept of the universe at a place, by ascending number, from 0 on, as `ConsoleCore::lines`. The status is `RANGE`, and the fields as
+/// they were, where there is none.
 #[unsafe(no_mangle)]
 pub extern "C" fn sacn_proved_console_universe(
-    alloc: Global,
     handle: &mut Handle,
     place: usize,
     fields: &mut LineFields,
@@ -142,19 +199,21 @@ pub extern "C" fn sacn_proved_console_universe(
         (λ held. Rising (of_console [] (λ c. universes_of c.lines) held)) }
     ensures after { handle.new.value ≡ handle.old.value }
 {
-    let held = take_out(alloc, handle);
-    let status = state::universe(held.as_ref(), place, fields);
-    *handle = Handle::of(held);
-    status
+    match handle.held() {
+        Held::Console(console) => match console.lines().get(place) {
+            Some(line) => {
+                *fields = line_told(line);
+                DONE
+            }
+            None => RANGE,
+        },
+        _ => WRONG_HANDLE,
+    }
 }
 
 /// The number of the cue that was gone to last, as `ConsoleCore::cue`. The status is `RANGE`, and the number as it was, before the first.
 #[unsafe(no_mangle)]
-pub extern "C" fn sacn_proved_console_cue(
-    alloc: Global,
-    handle: &mut Handle,
-    number: &mut u16,
-) -> u32
+pub extern "C" fn sacn_proved_console_cue(handle: &mut Handle, number: &mut u16) -> u32
     requires { is_some handle.old.value ≡ true }
     ensures status { IfSome handle.old.value (λ held. result
         ≡ of_console WRONG_HANDLE (λ c. found_status c.lights.player.current) held) }
@@ -162,8 +221,14 @@ pub extern "C" fn sacn_proved_console_cue(
         ≡ of_console number.old (λ c. found_or number.old c.lights.player.current) held) }
     ensures after { handle.new.value ≡ handle.old.value }
 {
-    let held = take_out(alloc, handle);
-    let status = state::cue(held.as_ref(), number);
-    *handle = Handle::of(held);
-    status
+    match handle.held() {
+        Held::Console(console) => match console.cue() {
+            Some(current) => {
+                *number = current;
+                DONE
+            }
+            None => RANGE,
+        },
+        _ => WRONG_HANDLE,
+    }
 }

@@ -1,12 +1,13 @@
 //! Handles, as C keeps them.
-ghost use Rattle.std.specs.Prelude.{◌≡◌, Option, Some, None, is_some, true};
+ghost use Rattle.std.specs.Prelude.{◌≡◌, Option, Some, None, is_some, true, IfOk};
+ghost use Rattle.std.specs.Borrow.{sem};
 ghost use Rattle.std.specs.Coded.{coded_option};
-ghost use Rattle.sacn_border.specs.declared.held_value.Held.{Held};
-ghost use Rattle.sacn_border.specs.contracts.held_value.Held.{the_row};
+ghost use Rattle.sacn_c.specs.declared.held_value.Held.{Held};
+ghost use Rattle.sacn_c.specs.contracts.held_value.Held.{the_row};
 
+use crate::held_value::Held;
 use crate::loose::Loose;
-use sacn_border::Held;
-use std::alloc::Global;
+use std::alloc::{AllocError, Global};
 use std::marker::Model;
 use std::ptr::null_mut;
 
@@ -28,11 +29,25 @@ impl Model for Handle {
 }
 
 impl Handle {
-    /// A handle of what a box has.
-    pub(crate) fn of(held: Box<Held>) -> Handle
-        ensures { result.value ≡ Some held.value }
+    ghost use Rattle.sacn_c.specs.Lending.{LendsHeld};
+
+    /// A handle that stands for a value, in memory of its own.
+    ///
+    /// Errors: `AllocError`.
+    pub(crate) fn new(alloc: Global, held: Held) -> Result<Handle, AllocError>
+        ensures { IfOk result (λ made. made.value ≡ Some held) }
     {
-        Handle::from_loose(Loose::of(held))
+        let held = Box::new(alloc, held)?;
+        Ok(Handle::from_loose(Loose::of(held)))
+    }
+
+    /// What a handle that isn't empty stands for.
+    pub(crate) fn held(&mut self) -> &mut Held
+        requires { is_some self.old.value ≡ true }
+        ensures* stands_for_it { sem 𝓛 (LendsHeld self.entry result) }
+        ensures value { self.old.value ≡ Some result.now }
+    {
+        unsafe { &mut *self.at.cast::<Held>() }
     }
 
     /// The box of a handle that isn't empty.
@@ -73,13 +88,4 @@ impl Handle {
             alloc,
         }
     }
-}
-
-/// What a handle stands for, which leaves the handle empty.
-pub(crate) fn take_out(alloc: Global, handle: &mut Handle) -> Box<Held>
-    requires { is_some handle.old.value ≡ true }
-    ensures out { handle.old.value ≡ Some result.value }
-    ensures empty { handle.new.value ≡ None }
-{
-    std::mem::replace(handle, Handle::empty(alloc)).into_box()
 }

@@ -1,5 +1,5 @@
 //! Nodes, for C.
-ghost use Rattle.std.specs.Prelude.{◌≡◌, ◌==◌, ◌<◌, ◌≤◌, ◌^◌, ◌-◌, is_some, true, [], None, IfSome, MatchOption, ℕ, length, slice_index, if◌then◌else◌};
+ghost use Rattle.std.specs.Prelude.{◌≡◌, ◌==◌, ◌<◌, ◌≤◌, ◌^◌, ◌-◌, is_some, true, [], None, IfSome, MatchOption, ℕ, length, slice_index, if◌then◌else◌, IfOk, IfErr};
 ghost use Rattle.std.specs.List.Sorted.{IsStrictlyIncreasing};
 ghost use Rattle.std.specs.Option.{option_map};
 ghost use Rattle.std.specs.Str.{IsUtf8};
@@ -10,22 +10,75 @@ ghost use Rattle.sacn_node.specs.Readings.{reply_to, after_reading};
 ghost use Rattle.sacn_node.specs.Setup.{port_numbers};
 ghost use Rattle.sacn_node.specs.declared.limits.TheConstants.{MAX_PORTS};
 ghost use Rattle.sacn_node.specs.SetupReading.{setup_or_toml};
-ghost use Rattle.sacn_border.specs.Kinds.{of_node};
-ghost use Rattle.sacn_border.specs.Making.{NodeOf, SetupStatus};
-ghost use Rattle.sacn_border.specs.Merging.{source_told, levels_told};
-ghost use Rattle.sacn_border.specs.Numbers.{node_taken_number, node_taken_status, frame_status, frame_or, found_status, found_or};
-ghost use Rattle.sacn_border.specs.Rooms.{room_status, room_with};
-ghost use Rattle.sacn_border.specs.declared.status.TheConstants.{DONE, RANGE, WRONG_HANDLE};
+ghost use Rattle.sacn_c.specs.Kinds.{of_node};
+ghost use Rattle.sacn_c.specs.Making.{NodeOf, SetupStatus};
+ghost use Rattle.sacn_c.specs.Merging.{source_told, levels_told};
+ghost use Rattle.sacn_c.specs.Numbers.{node_taken_number, node_taken_status, frame_status, frame_or, found_status, found_or};
+ghost use Rattle.sacn_c.specs.Rooms.{room_status, room_with};
+ghost use Rattle.sacn_c.specs.declared.status.TheConstants.{DONE, RANGE, WRONG_HANDLE};
+ghost use Rattle.sacn_files.specs.Document.{Gives};
+ghost use Rattle.sacn_node.specs.declared.setup.fault.SetupFault.TheVariants as fault;
 
-use crate::handle::{Handle, take_out};
-use sacn_border::{DONE, Held, SourceFields, node};
+use crate::handle::Handle;
+use crate::held_value::Held;
+use crate::numbers::{node_taken_number, node_taken_status};
+use crate::rooms::put_list;
+use crate::sources::{SourceFields, put_source};
+use crate::status::{DONE, RANGE, WRONG_HANDLE};
+use sacn_node::{NodeCore, NodeSetup, SetupFault, read_node};
 use sacn_packets::FRAME_OCTETS;
 use std::alloc::Global;
+
+/// A setup of octets, as `read_node`; `Toml` where they aren't UTF-8.
+fn setup_of(alloc: Global, octets: &[u8]) -> Result<NodeSetup, SetupFault>
+    ensures text { IsUtf8 octets.now
+        → Gives fault.OutOfMemory result (setup_or_toml (parse_document octets.now)) }
+    ensures is_text { IfOk result (λ s. IsUtf8 octets.now) }
+    ensures no_text { ¬ (IsUtf8 octets.now) → IfErr result (λ f. f ≡ fault.Toml) }
+    ensures made { IfOk result (λ s. setup_or_toml (parse_document octets.now) ≡ Ok s) }
+{
+    match std::str::from_utf8(octets) {
+        Ok(text) => read_node(alloc, text),
+        Err(_) => Err(SetupFault::Toml),
+    }
+}
+
+/// A node of a setup's text, as `read_node` and `NodeCore::new`, with the UDP port that it names. The status is the setup's fault.
+#[unsafe(no_mangle)]
+#[tactic(auto, using(crate::proofs::Refusals::setup_lacks, crate::proofs::Refusals::setup_counts))]
+pub extern "C" fn sacn_proved_node_new(
+    alloc: Global,
+    handle: &mut Handle,
+    text: &[u8],
+    udp_port: &mut u16,
+) -> u32
+    ensures made { result ≡ DONE → MatchOption handle.new.value ⊥
+        (λ held. NodeOf (setup_or_toml (parse_document text.now)) held udp_port.new) }
+    ensures is_text { result ≡ DONE → IsUtf8 text.now }
+    ensures refused { (result ≡ DONE → ⊥) → handle.new.value ≡ handle.old.value }
+    ensures status { (result ≡ DONE → ⊥) → SetupStatus text.now result }
+    ensures unwritten { (result ≡ DONE → ⊥) → udp_port.new ≡ udp_port.old }
+{
+    let setup = match setup_of(alloc, text) {
+        Ok(setup) => setup,
+        Err(fault) => return u32::from(fault.number()),
+    };
+    let Ok(node) = NodeCore::new(alloc, &setup) else {
+        return u32::from(SetupFault::OutOfMemory.number());
+    };
+    match Handle::new(alloc, Held::Node(node)) {
+        Ok(made) => {
+            *handle = made;
+            *udp_port = setup.udp_port();
+            DONE
+        }
+        Err(_) => u32::from(SetupFault::OutOfMemory.number()),
+    }
+}
 
 /// Takes a datagram, as `NodeCore::take`. The status is the fault of one that is no packet.
 #[unsafe(no_mangle)]
 pub extern "C" fn sacn_proved_node_take(
-    alloc: Global,
     handle: &mut Handle,
     now: u64,
     octets: &[u8],
@@ -40,44 +93,19 @@ pub extern "C" fn sacn_proved_node_take(
         Held.Node (record n { core = after_reading (reading_packet octets.now) now n.core })) held)
         handle.old.value }
 {
-    let mut held = take_out(alloc, handle);
-    let status = node::take(held.as_mut(), now, octets, taken);
-    *handle = Handle::of(held);
-    status
-}
-
-/// A node of a setup's text, as `read_node` and `NodeCore::new`. The status is the setup's fault.
-#[unsafe(no_mangle)]
-pub extern "C" fn sacn_proved_node_new(
-    alloc: Global,
-    handle: &mut Handle,
-    text: &[u8],
-    udp_port: &mut u16,
-) -> u32
-    ensures made { result ≡ DONE → MatchOption handle.new.value ⊥
-        (λ held. NodeOf (setup_or_toml (parse_document text.now)) held udp_port.new) }
-    ensures is_text { result ≡ DONE → IsUtf8 text.now }
-    ensures refused { (result ≡ DONE → ⊥) → handle.new.value ≡ handle.old.value }
-    ensures status { (result ≡ DONE → ⊥) → SetupStatus text.now result }
-    ensures unwritten { (result ≡ DONE → ⊥) → udp_port.new ≡ udp_port.old }
-{
-    match node::new(alloc, text, udp_port) {
-        Ok(held) => {
-            *handle = Handle::of(held);
-            DONE
+    match handle.held() {
+        Held::Node(node) => {
+            let reply = node.take(now, octets);
+            *taken = node_taken_number(reply);
+            node_taken_status(reply)
         }
-        Err(status) => status,
+        _ => WRONG_HANDLE,
     }
 }
 
 /// Moves the clock, as `NodeCore::tick`.
 #[unsafe(no_mangle)]
-pub extern "C" fn sacn_proved_node_tick(
-    alloc: Global,
-    handle: &mut Handle,
-    now: u64,
-    lost: &mut usize,
-) -> u32
+pub extern "C" fn sacn_proved_node_tick(handle: &mut Handle, now: u64, lost: &mut usize) -> u32
     requires { is_some handle.old.value ≡ true }
     ensures status { IfSome handle.old.value
         (λ held. result ≡ of_node WRONG_HANDLE (λ n. DONE) held) }
@@ -86,16 +114,18 @@ pub extern "C" fn sacn_proved_node_tick(
     ensures after { handle.new.value ≡ option_map (λ held. of_node held
         (λ n. Held.Node (record n { core = core_at now n.core })) held) handle.old.value }
 {
-    let mut held = take_out(alloc, handle);
-    let status = node::tick(held.as_mut(), now, lost);
-    *handle = Handle::of(held);
-    status
+    match handle.held() {
+        Held::Node(node) => {
+            *lost = node.tick(now);
+            DONE
+        }
+        _ => WRONG_HANDLE,
+    }
 }
 
 /// Writes the frame of a port, as `NodeCore::frame`. The status is `RANGE`, and the frame as it was, where there is no such port.
 #[unsafe(no_mangle)]
 pub extern "C" fn sacn_proved_node_frame(
-    alloc: Global,
     handle: &mut Handle,
     now: u64,
     port: u8,
@@ -109,19 +139,18 @@ pub extern "C" fn sacn_proved_node_frame(
     ensures after { handle.new.value ≡ option_map (λ held. of_node held
         (λ n. Held.Node (record n { core = core_at now n.core })) held) handle.old.value }
 {
-    let mut held = take_out(alloc, handle);
-    let status = node::frame(held.as_mut(), now, port, slots);
-    *handle = Handle::of(held);
-    status
+    match handle.held() {
+        Held::Node(node) => match node.frame(now, port, slots) {
+            Ok(()) => DONE,
+            Err(_) => RANGE,
+        },
+        _ => WRONG_HANDLE,
+    }
 }
 
 /// The first moment at which a tick drops a source, as `NodeCore::wakes`. The status is `RANGE`, and the moment `u64::MAX`, where no tick drops any.
 #[unsafe(no_mangle)]
-pub extern "C" fn sacn_proved_node_wakes(
-    alloc: Global,
-    handle: &mut Handle,
-    moment: &mut u64,
-) -> u32
+pub extern "C" fn sacn_proved_node_wakes(handle: &mut Handle, moment: &mut u64) -> u32
     requires { is_some handle.old.value ≡ true }
     ensures status { IfSome handle.old.value (λ held. result
         ≡ of_node WRONG_HANDLE (λ n. if result == RANGE then RANGE else DONE) held) }
@@ -135,17 +164,25 @@ pub extern "C" fn sacn_proved_node_wakes(
         (λ held. result ≡ DONE → 1 ≤ of_node 0 (λ n. core_lost moment.new n.core) held) }
     ensures after { handle.new.value ≡ handle.old.value }
 {
-    let held = take_out(alloc, handle);
-    let status = node::wakes(held.as_ref(), moment);
-    *handle = Handle::of(held);
-    status
+    match handle.held() {
+        Held::Node(node) => match node.wakes() {
+            Some(first) => {
+                *moment = first;
+                DONE
+            }
+            None => {
+                *moment = u64::MAX;
+                RANGE
+            }
+        },
+        _ => WRONG_HANDLE,
+    }
 }
 
-/// Copies the numbers of the ports to the front of a room, as `NodeCore::port_numbers`. The status is `LENGTH`, and the room as it was, where
-/// there is too little of it.
+/// Copies the numbers of the ports, ascending, to the front of a room, as `NodeCore::port_numbers`, and tells how many there are. The status is
+/// `LENGTH`, and the room as it was, where there is too little of it.
 #[unsafe(no_mangle)]
 pub extern "C" fn sacn_proved_node_ports(
-    alloc: Global,
     handle: &mut Handle,
     ports: &mut [u8],
     count: &mut usize,
@@ -163,17 +200,16 @@ pub extern "C" fn sacn_proved_node_ports(
         (λ held. length (of_node [] (λ n. port_numbers n.ports) held) ≤ MAX_PORTS) }
     ensures after { handle.new.value ≡ handle.old.value }
 {
-    let held = take_out(alloc, handle);
-    let status = node::ports(held.as_ref(), ports, count);
-    *handle = Handle::of(held);
-    status
+    match handle.held() {
+        Held::Node(node) => put_list(node.port_numbers(), ports, count),
+        _ => WRONG_HANDLE,
+    }
 }
 
 /// What is held of the source of a CID on a universe, and the levels that it shows, as `NodeCore::held`. The status is `RANGE`, and nothing is
 /// written, where none is held there, or the node doesn't have the universe.
 #[unsafe(no_mangle)]
 pub extern "C" fn sacn_proved_node_held(
-    alloc: Global,
     handle: &mut Handle,
     universe: u16,
     cid: &[u8; 16],
@@ -192,8 +228,14 @@ pub extern "C" fn sacn_proved_node_held(
         of_node None (λ n. core_row universe cid.now n.core) held ≡ None → slots.new ≡ slots.old) }
     ensures after { handle.new.value ≡ handle.old.value }
 {
-    let held = take_out(alloc, handle);
-    let status = node::held(held.as_ref(), universe, cid, source, slots);
-    *handle = Handle::of(held);
-    status
+    match handle.held() {
+        Held::Node(node) => match node.held(universe, cid) {
+            Some(view) => {
+                put_source(&view, source, slots);
+                DONE
+            }
+            None => RANGE,
+        },
+        _ => WRONG_HANDLE,
+    }
 }

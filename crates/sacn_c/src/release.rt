@@ -1,7 +1,7 @@
 //! The end of a handle, of whatever kind.
 ghost use Rattle.std.specs.Prelude.{◌≡◌, is_some, true, None};
 
-use crate::handle::{Handle, take_out};
+use crate::handle::Handle;
 use std::alloc::Global;
 
 /// Gives back all memory of what a handle stands for, and leaves the handle empty.
@@ -10,5 +10,5 @@ pub extern "C" fn sacn_proved_free(alloc: Global, handle: &mut Handle)
     requires { is_some handle.old.value ≡ true }
     ensures { handle.new.value ≡ None }
 {
-    drop(take_out(alloc, handle));
+    drop(std::mem::replace(handle, Handle::empty(alloc)).into_box());
 }

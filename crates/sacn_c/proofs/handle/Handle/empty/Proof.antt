@@ -22,7 +22,7 @@ use Rattle.core.proofs.alloc.Calls.{Goes-blank, handle_tells}
 use Rattle.std_alloc.proofs.ResultValues.{and_tt}
 use Rattle.std.proofs.raw_atomic.Walks.{proved_at, leaves}
 use Rattle.std_heap.specs.contracts.Global as Heap
-use Rattle.sacn_border.specs.contracts.held_value.Held as Held
+use Rattle.sacn_c.specs.contracts.held_value.Held as Held
 use Rattle.sacn_c.proofs.Values.{both}
 use Rattle.sacn_c.proofs.Handles.{al, handle_in}
 use Rattle.sacn_c.specs.contracts.handle.Handle.empty.{ended, clauses}

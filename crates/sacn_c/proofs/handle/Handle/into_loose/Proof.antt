@@ -21,7 +21,7 @@ use Rattle.std.proofs.raw_atomic.Walks.{proved_at, leaves}
 use Rattle.std_heap.specs.contracts.Global as Heap
 use Rattle.std_heap.specs.contracts.GlobalAllocator.TheImpl.{ghosts}
 use Rattle.std_heap.proofs.Global.TheLaws as heap
-use Rattle.sacn_border.specs.contracts.held_value.Held as Held
+use Rattle.sacn_c.specs.contracts.held_value.Held as Held
 use Rattle.sacn_c.specs.contracts.handle.Handle as Handle
 use Rattle.sacn_c.proofs.Values.{both, loose_good, loose_in}
 use Rattle.sacn_c.proofs.Handles.{handle_out}
