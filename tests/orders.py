@@ -12,8 +12,8 @@ SLOTS_AT = 126
 
 def show(port):
     """Channel N on slot N, but channel 11, which stands nowhere; channel 12 is wide, on slots 20 and 21."""
-    text = f'version = 1\ncid = "00010203-0405-0607-0809-0a0b0c0d0e0f"\nname = "Desk"\nuniverses = [1]\nsend_to = [{port}]\n'
-    text += "[[cue]]\nnumber = 1\nfade = 0\nlevels = [[1, 65535]]\n[[cue]]\nnumber = 5\nup = 1500\ndown = 0\nlevels = [[2, 65535]]\n"
+    text = f'version = 2\ncid = "00010203-0405-0607-0809-0a0b0c0d0e0f"\nname = "Desk"\nuniverses = [1]\nsend_to = [{port}]\n'
+    text += "[[cue]]\nnumber = 1\nup = 0\ndown = 0\nlevels = [[1, 65535]]\n[[cue]]\nnumber = 5\nup = 1500\ndown = 0\nlevels = [[2, 65535]]\n"
     for channel in range(1, 11):
         text += f"[[patch]]\nchannel = {channel}\nuniverse = 1\nslot = {channel}\n"
     return text + "[[patch]]\nchannel = 12\nuniverse = 1\nslot = 20\nwide = true\n"
@@ -40,7 +40,7 @@ class Desk:
                 octets = self.listener.recv(2048)
             except OSError:
                 return
-            if octets[40:44] == b"\0\0\0\2":
+            if octets[18:22] == b"\0\0\0\4" and octets[40:44] == b"\0\0\0\2":
                 with self.came:
                     self.frames.append(octets[SLOTS_AT:])
                     self.came.notify_all()
@@ -63,6 +63,7 @@ class Desk:
         self.run.stdin.close()
         self.run.wait(10)
         self.listener.close()
+        self.file.close()
 
 
 def level(percent, octet=0):

@@ -147,7 +147,7 @@ verdict "a stop in words" $? "$(grep -v universe out | head -n 3)"
 # A watch that joined groups and hears nothing says which, as lines and beside a page.
 join=$top/release/$(uname -m)-linux/sacn-join
 if [ -x "$join" ]; then
-  printf '. "%s/tools/run.sh"\nsacn_join=%s\nrun "%s" watch --port 25834 --seconds 6 "$@"\n' "$top" "$join" "$sacn" >silent
+  printf '. "%s/tools/run.sh"\nsacn_join=%s\nrun "%s" watch --port 25834 --beside --seconds 6 "$@"\n' "$top" "$join" "$sacn" >silent
   bash silent --page 127.0.0.1:25836 --join lo </dev/null >/dev/null 2>first &
   started+=("$!")
   bash silent --plain --join lo </dev/null >/dev/null 2>lines &
