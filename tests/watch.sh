@@ -374,6 +374,14 @@ stays '^status 0$' && stays '^sacn watch  sources on universes 40 ' && stays '^A
 verdict "all its rows stay on the terminal" $? "$(tail -n 3 shown)"
 shows 24 4 '^nothing heard for 5 s at 0\.0\.0\.0:25838$' unheard && shows 24 5 '^groups are heard where a device joins them: --join DEVICE$' unheard
 verdict "a screen on which nothing is heard says so" $? "$(sed -n 4,5p shown)"
+# (a socket that shares nothing gets the port once no watch has it)
+pane kill-session -t unheard
+for _ in $(seq 50); do
+  python3 -c 'import socket; socket.socket(socket.AF_INET, socket.SOCK_DGRAM).bind(("0.0.0.0", 25838))' 2>/dev/null && break
+  sleep 0.1
+done
+! pgrep -f "watch --port 25838" >/dev/null
+verdict "a terminal that is closed ends its watch" $? "$(pgrep -af "watch --port 25838" | head -n 1)"
 if pane has-session -t full; then
   shows 24 1 '^sacn watch ' full
   pane resize-window -t full -x 60 -y 20

@@ -28,13 +28,23 @@ feed_desk() {
   if [ -n "$copy" ]; then kill -KILL "$copy" 2>/dev/null || true; fi
 }
 
+# Says in $terminal which of standard input and output is a terminal, if one is.
+note_terminal() {
+  terminal=
+  if [ -t 0 ]; then terminal=0; elif [ -t 1 ]; then terminal=1; fi
+}
+
+# Whether that terminal has gone. It sends HUP and CONT at once then, and of the two a shell that waits may take the second alone.
+has_hung_up() { [ -n "$terminal" ] && ! [ -t "$terminal" ]; }
+
 # Runs a program whose clean end is the end of its standard input: INT, TERM, HUP and QUIT end its input, and not the program, which
 # then ends what it has lit. A second one changes nothing. What the program waits for is held by this process alone, so that it comes
 # to its end also where this one is killed.
 feed() {
-  local life lives in out pid status since=$SECONDS caught= modes=
+  local life lives in out pid status since=$SECONDS caught= modes= terminal=
   trap 'caught=1' INT TERM HUP QUIT
   if [ "$2" = watch ]; then quiet_keys "$@"; fi
+  note_terminal
   exec {in}<&0
   # A pipe of which both ends are here.
   exec {life}<> <(:)
@@ -47,7 +57,10 @@ feed() {
   # (Where it comes twice, the pipe is closed already.)
   trap 'caught=1; exec {life}>&-' INT TERM HUP QUIT
   # (The terminal may have another size by now, and after a stop, where the job in front was told.)
-  if [ "$2" = watch ]; then trap 'caught=1; tell_change_of_size' WINCH CONT; tell_change_of_size; fi
+  if [ "$2" = watch ]; then
+    trap 'caught=1; if has_hung_up; then exec {life}>&-; fi; tell_change_of_size' WINCH CONT
+    tell_change_of_size
+  fi
   if [ -n "$caught" ]; then exec {life}>&-; fi
   # (A wait that a signal cuts short is made again: the shell keeps the status of a process that ended meanwhile.)
   while caught= status=0; do
@@ -252,12 +265,13 @@ most_said=500
 # Runs a gateway that draws on this terminal, and tells it how large that is. A signal ends it as it ends any gateway, and the terminal then shows what it showed before, and
 # below that the last lines of what the gateway said, where that would have come to the terminal too.
 draw() {
-  local in pid status copy lines said= keeper caught= signal= modes=
+  local in pid status copy lines said= keeper caught= signal= modes= terminal=
   trap 'signal=INT' INT
   trap 'signal=TERM' TERM
   trap 'signal=HUP' HUP
   trap 'signal=QUIT' QUIT
   quiet_keys "$@"
+  note_terminal
   exec {in}<&0
   if [ -t 2 ] && copy=$(mktemp 2>/dev/null); then
     exec {lines}<>"$copy"
@@ -273,7 +287,7 @@ draw() {
   trap 'signal=TERM; kill -TERM "$pid" 2>/dev/null || true' TERM
   trap 'signal=HUP; kill -TERM "$pid" 2>/dev/null || true' HUP
   trap 'signal=QUIT; kill -TERM "$pid" 2>/dev/null || true' QUIT
-  trap 'caught=1; tell_change_of_size' WINCH CONT
+  trap 'caught=1; if has_hung_up; then signal=HUP; kill -TERM "$pid" 2>/dev/null || true; fi; tell_change_of_size' WINCH CONT
   tell_change_of_size
   if [ -n "$signal" ]; then kill -TERM "$pid" 2>/dev/null || true; fi
   while caught= status=0; do
