@@ -56,6 +56,21 @@ verdict "the gateway is lit as before" $? "$(tail -n 2 said)"
 "$sacn" watch --port $port --beside --plain --seconds 1 </dev/zero >told 2>hears && grep -q "^hears 0.0.0.0:$port" hears
 verdict "with --beside a watch shares the port" $? "$(head -n 1 hears)"
 
+# (what joins groups for a watch hears lists at that port, which takes nothing of what is sent to this machine)
+join=$top/release/$(uname -m)-linux/sacn-join
+if [ -x "$join" ]; then
+  printf '. "%s/tools/run.sh"\nsacn_join=%s\nrun "%s" watch "$@"\n' "$top" "$join" "$sacn" >launcher
+  bash launcher --port 25854 --plain --join lo --seconds 1 </dev/zero >told 2>hears && grep -q '^hears 0.0.0.0:25854' hears
+  verdict "a watch that joins groups hears" $? "$(head -n 1 hears)"
+  bash launcher --port $port --plain --join lo --seconds 1 </dev/zero >told 2>refused
+  [ $? = 4 ] && grep -q "^sacn: port $port has a receiver on this machine: " refused
+  verdict "beside a gateway it is refused" $? "$(head -n 1 refused)"
+  bash launcher --port $port --plain --join lo --beside --seconds 1 </dev/zero >told 2>hears && grep -q "^hears 0.0.0.0:$port" hears
+  verdict "with --beside it hears there" $? "$(head -n 1 hears)"
+else
+  echo "skipped beside: a watch that joins groups: there is no sacn-join for this processor"
+fi
+
 exec 3>&-
 kill $gateway
 echo "$passed passed, $failed failed"

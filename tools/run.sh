@@ -199,6 +199,34 @@ join_groups() {
   export SACN_JOINED="$device joined $joined"
 }
 
+# Whether a socket of this machine hears at a port what is sent to it. In Linux's tables the last digits of an address are its first octet: those of
+# groups begin with E, and what hears a group alone takes nothing of what is sent to this machine.
+has_receiver() {
+  local port address
+  printf -v port '%04X' "$1"
+  while read -r _ address _; do
+    case $address in
+      *E[0-9A-F]:"$port") ;;
+      *:"$port") return 0 ;;
+    esac
+  done < <(cat /proc/self/net/udp /proc/self/net/udp6 2>/dev/null)
+  return 1
+}
+
+# Ends a watch that joins where another receiver has its port, unless it is to hear beside it. (The program itself can't tell: what joins for it hears lists
+# at that port.)
+keep_beside() {
+  local word port
+  for word in "$@"; do [ "$word" != --beside ] || return 0; done
+  port=$(given --port "$@" | tail -n 1)
+  [[ ${port:=5568} =~ ^[0-9]{1,5}$ ]] || return 0
+  if has_receiver "$((10#$port))"; then
+    say "port $port has a receiver on this machine: of what is sent to this machine alone each stream goes to one receiver, so a watch would take it away. Start the gateway with --page PORT or --watch; or add --beside here, where all comes by multicast"
+    exit 4
+  fi
+  words+=(--beside)
+}
+
 # Whether this shell is in front on its terminal.
 is_in_front() {
   local stat
@@ -332,6 +360,7 @@ run() {
   case ${1-} in
     gateway | watch)
       split_join "$@"
+      if [ -n "$has_join" ] && [ "$1" = watch ]; then keep_beside "$@"; fi
       set -- "${words[@]}"
       if [ -n "$has_join" ]; then join_groups "$program" "$@"; fi
       ;;
