@@ -4,5 +4,6 @@ mod FairRounds
 mod FairEnds
 mod FairDesks
 mod SendingLists
+mod SendingPlaces
 mod Handing
 mod Copies

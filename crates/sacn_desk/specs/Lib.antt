@@ -6,3 +6,4 @@ pub mod Noticing
 pub mod Presences
 pub mod DeskSenders
 pub mod Openings
+pub mod Standbys

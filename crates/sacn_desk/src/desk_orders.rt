@@ -3,21 +3,25 @@ use crate::desk_line::{DeskLine, line_said};
 use crate::limits::MAX_ORDERS;
 use crate::orders::Orders;
 use crate::show_lists::ShowLists;
-use crate::status::{have_stopped, write_status};
-use sacn_console::{Command, ConsoleCore, ConsoleFault, Show, State};
+use crate::status::have_stopped;
+use sacn_console::limits::TERMINATIONS;
+use sacn_console::{Command, ConsoleCore, ConsoleFault, Show};
 use sacn_cues::MAX_CHANNELS;
 use sacn_edge::{Clock, ConsoleReport};
 use sacn_machine::sys::{NO_DESCRIPTOR, STDIN, wait_readable};
-use sacn_machine::{InputState, RigClock, TypedInput};
-use sacn_orders::{LevelCommands, OrderFault};
+use sacn_machine::{InputState, Outputs, RigClock, TypedInput};
+use sacn_orders::LevelCommands;
 use std::alloc::{AllocError, Global};
 use std::io::Write;
 use std::rt::Clock as MachineClock;
 
+mod answers;
+mod told;
 mod typed;
 mod wishes;
 
-use wishes::Wish;
+use told::Told;
+use wishes::{WISH_WAIT, Wish};
 
 /// The most lines that are looked at for one order.
 const MAX_LINES: usize = 1024;
@@ -26,27 +30,29 @@ const MAX_LINES: usize = 1024;
 const NO_INPUT: u64 = 1000;
 
 const HELP: &[u8] =
-    b"go | back | goto CUE | CHANNELS at PERCENT | blackout | restore | set CHANNEL LEVEL | master LEVEL | end UNIVERSE | start UNIVERSE | cues | patch | status | help | quit
-CHANNELS are as 1, 1 thru 10, 1 + 5 + 9, 1 thru 10 - 4, or all; PERCENT is 0 to 100 with at most two decimals, or full; LEVEL is 0 to 65535
+    b"go | back | goto CUE | CHANNELS at PERCENT | blackout | restore | set CHANNEL LEVEL | master LEVEL | end UNIVERSE | end all | start UNIVERSE | start all | cues | patch | status | help | quit
+CHANNELS are as 1, 1 thru 10, 1 + 5 + 9, 1 thru 10 - 4, or all, of 1 to 2048; PERCENT is 0 to 100 with at most two decimals, or full; CUE and LEVEL are 0 to 65535; UNIVERSE is 1 to 63999, and one of the show
 ";
 
 /// Where the latest command came from.
 #[derive(Clone, Copy)]
 enum Source {
     Script,
-    Typed,
+    Typed(Command),
     /// An order that sets levels: its answer comes behind the last one of its commands.
     Levels,
-    Closing,
+    /// What universes are told, one after another.
+    Told,
 }
 
-/// How far the end of a desk is: the universes that run are listed, each is told to end, and all have stopped.
-#[derive(Clone, Copy)]
+/// How far the end of a desk is.
+#[derive(Clone, Copy, PartialEq, Eq)]
 enum Closing {
     Open,
+    /// The universes that run are to be told to end.
     Asked,
-    /// The universes from this place of the list on aren't told yet.
-    Telling(usize),
+    /// They are told it, and the desk ends once all have stopped.
+    Telling,
 }
 
 /// What there is to be ordered.
@@ -58,6 +64,19 @@ pub struct Plan<'a> {
     pub script: Option<&'a [(u64, Command)]>,
     /// The desk goes on after the last line of the script.
     pub stays: bool,
+    /// Every universe is told to end before anything else is done.
+    pub is_standby: bool,
+    /// What answers wait in where they aren't read at once; a long list waits for it.
+    pub outputs: Option<&'a Outputs>,
+}
+
+/// How many packets a desk that stands by keeps back: those that end each universe of its show.
+fn kept_by(plan: &Plan<'_>) -> u64 {
+    if plan.is_standby {
+        (plan.show.universes().len() as u64).saturating_mul(u64::from(TERMINATIONS))
+    } else {
+        0
+    }
 }
 
 /// The orders of a script and of standard input, with their answers on an output. It tells nothing.
@@ -66,6 +85,7 @@ pub struct DeskOrders<'a, R, O> {
     alloc: Global,
     clock: RigClock<'a, R>,
     out: &'a mut O,
+    outputs: Option<&'a Outputs>,
     script: &'a [(u64, Command)],
     next_line: usize,
     has_script: bool,
@@ -75,6 +95,12 @@ pub struct DeskOrders<'a, R, O> {
     line_number: usize,
     lists: ShowLists<'a>,
     wish: Option<Wish>,
+    // Up to this moment a list waits for what was written of it to be taken.
+    held_until: u64,
+    // What standard input had while a list waited, and is dealt with behind it.
+    ahead: Option<InputState>,
+    // An order waits for universes that are ending.
+    is_waiting: bool,
     // The commands of an order that sets levels, and why one of them was refused.
     levels: Option<LevelCommands>,
     refusal: Option<ConsoleFault>,
@@ -84,9 +110,10 @@ pub struct DeskOrders<'a, R, O> {
     answer: String,
     // The commands since what was due was sent.
     commands: usize,
+    // How many packets a desk that stands by keeps back, which are counted as sent.
+    kept: u64,
     closing: Closing,
-    // The universes that ran when the end was asked for.
-    ending: Vec<u16>,
+    told: Told,
     has_ended: bool,
     write_failed: bool,
     is_absent: bool,
@@ -105,6 +132,7 @@ impl<'a, R: MachineClock, O: Write> DeskOrders<'a, R, O> {
             alloc,
             clock,
             out,
+            outputs: plan.outputs,
             script: plan.script.unwrap_or(&[]),
             next_line: 0,
             ends_with_script: plan.script.is_some() && !plan.stays,
@@ -114,13 +142,17 @@ impl<'a, R: MachineClock, O: Write> DeskOrders<'a, R, O> {
             line_number: 0,
             lists: ShowLists::of(alloc, plan.show)?,
             wish: None,
+            held_until: 0,
+            ahead: None,
+            is_waiting: false,
             levels: None,
             refusal: None,
             command: None,
             answer: String::new(alloc),
             commands: 0,
+            kept: kept_by(&plan),
             closing: Closing::Open,
-            ending: Vec::with_capacity(alloc, plan.show.universes().len())?,
+            told: Told::of(alloc, plan.show.universes(), plan.is_standby)?,
             has_ended: false,
             write_failed: false,
             is_absent: false,
@@ -132,57 +164,14 @@ impl<'a, R: MachineClock, O: Write> DeskOrders<'a, R, O> {
         self.write_failed
     }
 
-    fn say(&mut self, text: &[u8]) {
-        if self.out.write_all(text).is_err() || self.out.flush().is_err() {
-            self.write_failed = true;
-            self.close();
-        }
-    }
-
-    fn say_fault(&mut self, name: &str) {
-        if writeln!(self.out, "line {} {name}", self.line_number).is_err()
-            || self.out.flush().is_err()
-        {
-            self.write_failed = true;
-            self.close();
-        }
-    }
-
-    fn say_channels(&mut self, fault: OrderFault) {
-        if writeln!(self.out, "line {}: {fault}", self.line_number).is_err()
-            || self.out.flush().is_err()
-        {
-            self.write_failed = true;
-            self.close();
-        }
-    }
-
-    fn say_refusal(&mut self, fault: ConsoleFault) {
-        if writeln!(self.out, "refused {fault:?}").is_err() || self.out.flush().is_err() {
-            self.write_failed = true;
-            self.close();
-        }
-    }
-
-    fn say_status(&mut self, core: &ConsoleCore, report: &ConsoleReport) {
-        if write_status(self.out, core, report).is_err() {
-            self.write_failed = true;
-            self.close();
-        }
-    }
-
     fn close(&mut self) {
-        if let Closing::Open = self.closing {
+        if self.closing == Closing::Open {
             self.closing = Closing::Asked;
         }
     }
 
     fn is_closing(&self) -> bool {
-        match self.closing {
-            Closing::Open => false,
-            Closing::Asked => true,
-            Closing::Telling(_) => true,
-        }
+        self.closing != Closing::Open
     }
 
     /// The order of the line that is there; None where it is something else, which is then done.
@@ -191,29 +180,17 @@ impl<'a, R: MachineClock, O: Write> DeskOrders<'a, R, O> {
         let said = line_said(self.alloc, self.input.line.line(), self.line_number);
         self.input.line.clear();
         match said {
-            DeskLine::Order(order) => self.begin(order),
-            DeskLine::Nothing => None,
-            DeskLine::Status => {
-                self.wish = Some(Wish::Status);
-                None
-            }
-            DeskLine::Help => {
-                self.say(HELP);
-                None
-            }
-            DeskLine::Quit => {
-                self.close();
-                None
-            }
-            DeskLine::Fault(name) => {
-                self.say_fault(name);
-                None
-            }
-            DeskLine::Channels(fault) => {
-                self.say_channels(fault);
-                None
-            }
+            DeskLine::Order(order) => return self.begin(order),
+            DeskLine::Nothing => {}
+            DeskLine::EndAll => self.wish = Some(Wish::EndAll),
+            DeskLine::StartAll => self.wish = Some(Wish::StartAll),
+            DeskLine::Status => self.wish = Some(Wish::Status),
+            DeskLine::Help => self.say(HELP),
+            DeskLine::Quit => self.close(),
+            DeskLine::Fault(why) => self.say_fault(why),
+            DeskLine::Refused(why) => self.say_fault(why.as_str()),
         }
+        None
     }
 
     /// The end of standard input ends the desk, unless there was none from the start and a script is there.
@@ -231,14 +208,14 @@ impl<'a, R: MachineClock, O: Write> DeskOrders<'a, R, O> {
             if self.wish.is_some() || self.is_closing() || self.is_full() {
                 return None;
             }
-            match self.input.next() {
+            match self.next_input() {
                 InputState::Nothing => return None,
                 InputState::Line => match self.take_line() {
                     Some(command) => return Some(command),
                     None => {}
                 },
                 InputState::OutOfMemory => {
-                    self.say_fault("OutOfMemory");
+                    self.say_fault("out of memory");
                     self.close();
                     return None;
                 }
@@ -253,15 +230,13 @@ impl<'a, R: MachineClock, O: Write> DeskOrders<'a, R, O> {
 }
 
 impl<'a, R: MachineClock, O: Write> DeskOrders<'a, R, O> {
-    /// The next universe that is told to end.
-    fn next_end(&mut self) -> Option<Command> {
-        let Closing::Telling(next) = self.closing else {
-            return None;
-        };
-        let universe = *self.ending.get(next)?;
-        self.source = Source::Closing;
-        self.closing = Closing::Telling(next.saturating_add(1));
-        Some(Command::EndUniverse(universe))
+    /// What the next universe is told that is still to be told something.
+    fn next_told(&mut self) -> Option<Command> {
+        let next = self.told.next();
+        if next.is_some() {
+            self.source = Source::Told;
+        }
+        next
     }
 
     /// The next line of the script whose moment has come.
@@ -291,8 +266,11 @@ impl<'a, R: MachineClock, O: Write> DeskOrders<'a, R, O> {
         if let Some(command) = self.command.take() {
             return self.typed(command);
         }
+        if let Some(command) = self.next_told() {
+            return Some(command);
+        }
         if self.is_closing() {
-            return self.next_end();
+            return None;
         }
         if let Some(command) = self.next_scripted(now) {
             return Some(command);
@@ -305,30 +283,32 @@ impl<'a, R: MachineClock, O: Write> DeskOrders<'a, R, O> {
     }
 
     /// Whether something is to be done without waiting.
-    fn is_pressed(&self) -> bool {
-        match self.closing {
-            Closing::Open => {
-                self.input.has_more() || self.wish.is_some() || self.command.is_some()
-            }
-            Closing::Asked => true,
-            Closing::Telling(next) => next < self.ending.len(),
+    fn is_pressed(&mut self) -> bool {
+        if self.command.is_some() || self.told.has_more() || self.closing == Closing::Asked {
+            return true;
         }
+        if self.wish.is_some() {
+            return !self.is_held() && !self.is_waiting;
+        }
+        let has_ended = !self.input.is_open && !self.is_absent;
+        let has_input = self.ahead.is_some() || self.input.has_more() || has_ended;
+        self.closing == Closing::Open && has_input
     }
 
-    /// Lists the universes that run, which are then told to end.
-    fn list_running(&mut self, core: &ConsoleCore) {
-        for line in core.lines() {
-            if let State::Running(_) = &line.state {
-                let _ = self.ending.push(line.universe);
-            }
-        }
-        self.closing = Closing::Telling(0);
-    }
-
+    /// The moment up to which is waited: that of the script's next line, where one is still given.
     fn next_moment(&self, until: u64) -> u64 {
         match self.script.get(self.next_line) {
-            Some(line) => until.min(line.0),
-            None => until,
+            Some(line) if !self.is_closing() => until.min(line.0),
+            _ => until,
+        }
+    }
+
+    /// Goes on with what is done once what was due is sent.
+    fn grant(&mut self, core: &ConsoleCore, report: &ConsoleReport) {
+        if let Some(wish) = self.wish {
+            if !self.is_held() {
+                self.wish = self.done(wish, core, report);
+            }
         }
     }
 }
@@ -339,8 +319,12 @@ impl<'a, R: MachineClock, O: Write> Orders for DeskOrders<'a, R, O> {
             return;
         }
         let until = self.next_moment(until);
-        let millis = self.clock.millis_until(until);
-        let input = if self.input.is_open && !self.is_closing() {
+        let mut millis = self.clock.millis_until(until);
+        if self.wish.is_some() {
+            millis = millis.min(WISH_WAIT);
+        }
+        let is_read = !self.is_closing() && self.ahead.is_none() && !self.is_waiting;
+        let input = if self.input.is_open && is_read {
             STDIN
         } else {
             NO_DESCRIPTOR
@@ -359,29 +343,37 @@ impl<'a, R: MachineClock, O: Write> Orders for DeskOrders<'a, R, O> {
     fn take_answer(&mut self, answer: Result<(), ConsoleFault>) {
         match self.source {
             Source::Script => {}
-            Source::Typed => match answer {
-                Ok(()) => self.say_taken(),
-                Err(fault) => self.say_refusal(fault),
+            Source::Typed(command) => match answer {
+                Ok(()) => self.say_done(command),
+                Err(fault) => self.say_refusal(command, fault),
             },
             Source::Levels => {
                 if let (Err(fault), None) = (answer, self.refusal) {
                     self.refusal = Some(fault);
                 }
             }
-            Source::Closing => {}
+            Source::Told => {}
         }
     }
 
     fn look(&mut self, core: &ConsoleCore, report: &ConsoleReport) {
         let _ = self.out.flush();
         self.commands = 0;
-        if let Some(wish) = self.wish {
-            self.wish = self.done(wish, core, report);
+        self.grant(core, report);
+        if self.told.has_more() {
+            return;
         }
         match self.closing {
             Closing::Open => {}
-            Closing::Asked => self.list_running(core),
-            Closing::Telling(_) => self.has_ended = have_stopped(core.lines()),
+            Closing::Asked => {
+                self.told.end_all(core.lines());
+                self.closing = Closing::Telling;
+            }
+            Closing::Telling => {
+                self.has_ended = have_stopped(core.lines())
+                    && self.wish.is_none()
+                    && self.command.is_none();
+            }
         }
     }
 

@@ -98,6 +98,7 @@ impl Notice {
 pub(crate) struct Notices<E> {
     list: Vec<Notice>,
     absences: Absences,
+    has_sent: bool,
     err: E,
 }
 
@@ -113,8 +114,14 @@ impl<E: Write + Drop> Notices<E> {
         Ok(Notices {
             list,
             absences,
+            has_sent: false,
             err,
         })
+    }
+
+    /// Whether a destination took a datagram.
+    pub(crate) fn has_sent(&self) -> bool {
+        self.has_sent
     }
 
     /// Notes a send to the destination at a place, and says what is to be said of it. Of one whose host doesn't answer that alone is said.
@@ -125,6 +132,7 @@ impl<E: Write + Drop> Notices<E> {
         now: u64,
         answer: Result<(), ErrorKind>,
     ) {
+        self.has_sent = self.has_sent || answer.is_ok();
         self.absences
             .note(place, *to.ip(), now, answer, &mut self.err);
         if answer == Err(ErrorKind::TimedOut) {

@@ -1,5 +1,6 @@
 //! What a desk answers to an order that sets levels and was taken, in the words of the order.
 use crate::show_lists::ShowLists;
+use sacn_console::Command;
 use sacn_cues::{FULL, MAX_CHANNELS};
 use sacn_orders::Selection;
 use std::alloc::{AllocError, Global};
@@ -16,16 +17,23 @@ fn push_span(text: &mut String, first: u16, last: u16) -> Result<(), AllocError>
     }
 }
 
+/// Whether a selection is every channel, said as one part.
+fn is_all(selection: &Selection) -> bool {
+    match selection.parts() {
+        [part] => part.is_added && part.first == 1 && part.last == MAX_CHANNELS,
+        _ => false,
+    }
+}
+
 fn push_selection(text: &mut String, selection: &Selection) -> Result<(), AllocError> {
+    if is_all(selection) {
+        return text.push_str("all");
+    }
     for (place, part) in selection.parts().iter().enumerate() {
         if place > 0 {
             text.push_str(if part.is_added { " + " } else { " - " })?;
         }
-        if part.first == 1 && part.last == MAX_CHANNELS {
-            text.push_str("all")?;
-        } else {
-            push_span(text, part.first, part.last)?;
-        }
+        push_span(text, part.first, part.last)?;
     }
     Ok(())
 }
@@ -113,9 +121,8 @@ pub(crate) fn push_levels(
     if selection.next_from(1).is_none() {
         return text.push_str("ok, but no channel is chosen\n");
     }
-    let is_all = selection.holds(1) && selection.holds(MAX_CHANNELS);
     let spans = dark_spans(alloc, selection, lists)?;
-    if !is_all && !spans.is_empty() {
+    if !is_all(selection) && !spans.is_empty() {
         return push_dark(text, spans.as_slice());
     }
     text.push_str("ok ")?;
@@ -125,8 +132,7 @@ pub(crate) fn push_levels(
     text.push_str("\n")
 }
 
-/// The answer to `set`.
-pub(crate) fn push_set(
+fn push_set(
     text: &mut String,
     channel: u16,
     level: u16,
@@ -138,6 +144,20 @@ pub(crate) fn push_set(
     write!(text, "ok {channel} at ")?;
     push_percent(text, rounded(level))?;
     text.push_str("\n")
+}
+
+/// The answer to a command of one universe or one channel; none to the others.
+pub(crate) fn push_answer(
+    text: &mut String,
+    command: Command,
+    lists: &ShowLists,
+) -> Result<(), AllocError> {
+    match command {
+        Command::SetLevel(channel, level) => push_set(text, channel, level, lists),
+        Command::EndUniverse(universe) => write!(text, "ok universe {universe} ends\n"),
+        Command::StartUniverse(universe) => write!(text, "ok universe {universe} starts\n"),
+        Command::Master(_) | Command::Go | Command::GoTo(_) => Ok(()),
+    }
 }
 
 /// The answer to an order for the grand master.

@@ -5,8 +5,27 @@ use sacn_packets::SLOTS;
 use std::alloc::{AllocError, Global};
 use std::io::{self, Write};
 
-/// Cues that are listed at once.
-const CUES_AT_ONCE: usize = 64;
+/// Lines that are listed at once.
+const LINES_AT_ONCE: usize = 64;
+
+/// Where the list of the patch goes on.
+#[derive(Clone, Copy)]
+pub(crate) struct PatchPlace {
+    /// The place of a universe in the show's list, from 0.
+    universe: usize,
+    /// Its slot, from 1.
+    slot: u16,
+}
+
+impl PatchPlace {
+    /// Where it begins.
+    pub(crate) fn first() -> PatchPlace {
+        PatchPlace {
+            universe: 0,
+            slot: 1,
+        }
+    }
+}
 
 /// A show, and which of its channels stand on a slot.
 #[derive(Drop)]
@@ -59,7 +78,27 @@ fn write_seconds<O: Write>(out: &mut O, millis: u32) -> io::Result<()> {
     }
 }
 
+/// A cue's number and its fades, as `cue 5 up 1.500 s down 0 s`.
+fn write_fades<O: Write>(out: &mut O, number: u16, up: u32, down: u32) -> io::Result<()> {
+    write!(out, "cue {number} up ")?;
+    write_seconds(out, up)?;
+    out.write_all(b" down ")?;
+    write_seconds(out, down)
+}
+
 impl<'a> ShowLists<'a> {
+    /// Writes the answer to an order that went to a cue: its number and its fades.
+    pub(crate) fn write_gone<O: Write>(&self, out: &mut O, number: u16) -> io::Result<()> {
+        out.write_all(b"ok ")?;
+        match self.show.cues().next_above(number.checked_sub(1)) {
+            Some((found, cue)) if found == number => {
+                write_fades(out, number, cue.up, cue.down)?;
+            }
+            _ => write!(out, "cue {number}")?,
+        }
+        out.write_all(b"\n")
+    }
+
     /// Writes the cues behind this one, some at once, and returns the last one that was written where there may be more.
     pub(crate) fn write_cues<O: Write>(
         &self,
@@ -68,14 +107,11 @@ impl<'a> ShowLists<'a> {
         current: Option<u16>,
     ) -> io::Result<Option<u16>> {
         let mut last = behind;
-        for _ in 0..CUES_AT_ONCE {
+        for _ in 0..LINES_AT_ONCE {
             let Some((number, cue)) = self.show.cues().next_above(last) else {
                 return Ok(None);
             };
-            write!(out, "cue {number} up ")?;
-            write_seconds(out, cue.up)?;
-            out.write_all(b" down ")?;
-            write_seconds(out, cue.down)?;
+            write_fades(out, number, cue.up, cue.down)?;
             write!(out, " channels {}", cue.levels.len())?;
             out.write_all(if current == Some(number) {
                 b" current\n".as_slice()
@@ -87,23 +123,42 @@ impl<'a> ShowLists<'a> {
         Ok(last)
     }
 
-    /// Writes which channel each patched slot of a universe shows, a line for neighbours of one channel. Returns whether there is such a
-    /// universe: the one at this place of the show's list.
-    pub(crate) fn write_patch<O: Write>(&self, out: &mut O, place: usize) -> io::Result<bool> {
+    /// Writes which channel each patched slot shows, a line for neighbours of one channel, some lines at once: those of one universe from a
+    /// place on. Returns where the list goes on, and None at its end.
+    pub(crate) fn write_patch<O: Write>(
+        &self,
+        out: &mut O,
+        from: PatchPlace,
+    ) -> io::Result<Option<PatchPlace>> {
+        let PatchPlace {
+            universe: place,
+            slot: first,
+        } = from;
         let Some(universe) = self.show.universes().get(place) else {
-            return Ok(false);
+            return Ok(None);
         };
         let mut run: Option<Run> = None;
-        for slot in 1..SLOTS as u16 + 1 {
+        let mut lines: usize = 0;
+        for slot in first..SLOTS as u16 + 1 {
             let shown = self.show.patch().channel_at(*universe, slot);
             let longer = longer(run, shown, slot);
-            if longer.is_none() {
+            if longer.is_none() && run.is_some() {
                 write_run(out, *universe, run)?;
+                lines = lines.saturating_add(1);
+                if lines >= LINES_AT_ONCE {
+                    return Ok(Some(PatchPlace {
+                        universe: place,
+                        slot,
+                    }));
+                }
             }
             run = longer.or(begun(shown, slot));
         }
         write_run(out, *universe, run)?;
-        Ok(true)
+        Ok(Some(PatchPlace {
+            universe: place.saturating_add(1),
+            slot: 1,
+        }))
     }
 }
 

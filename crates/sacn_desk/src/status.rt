@@ -1,7 +1,67 @@
-//! The state of a desk, in a line.
-use sacn_console::{ConsoleCore, State, UniverseLine};
-use sacn_edge::ConsoleReport;
+//! What a desk sends and where, and its state, each in a line.
+use crate::destinations::{Destination, Destinations};
+use crate::order_refusal::push_quoted;
+use crate::ranges::{write_range, write_ranges};
+use sacn_console::{ConsoleCore, Show, State, UniverseLine};
+use std::alloc::Global;
 use std::io::{self, Write};
+
+/// More letters than a source's name has (E1.31, 6.2.2).
+const NAME_LETTERS: usize = 64;
+
+/// A host, with the universes that go there as `--to` names them.
+fn write_host<O: Write>(out: &mut O, host: &Destination) -> io::Result<()> {
+    let mut between = "";
+    for range in host.universes.as_slice() {
+        write_range(out, between, range.first, range.last)?;
+        between = ",";
+    }
+    let [a, b, c, d] = host.address.ip().octets();
+    let port = host.address.port();
+    let sign = if host.universes.is_empty() { "" } else { "=" };
+    write!(out, "{sign}{a}.{b}.{c}.{d}:{port}")
+}
+
+fn write_places<O: Write>(out: &mut O, places: &Destinations) -> io::Result<()> {
+    let mut between = " to ";
+    for host in places.hosts.as_slice() {
+        out.write_all(between.as_bytes())?;
+        write_host(out, host)?;
+        between = ", ";
+    }
+    if places.is_multicast {
+        write!(out, "{between}multicast")?;
+    }
+    Ok(())
+}
+
+/// Writes what a desk sends, in a line: the source's name and priority, its universes as ranges, and where they go; and that it stands by,
+/// where it does.
+pub fn write_start<O: Write>(
+    out: &mut O,
+    alloc: Global,
+    show: &Show,
+    places: &Destinations,
+    is_standby: bool,
+) -> io::Result<()> {
+    let mut name = String::new(alloc);
+    if push_quoted(&mut name, show.name(), NAME_LETTERS).is_err() {
+        name.clear();
+    }
+    write!(
+        out,
+        "desk {} priority {} universes ",
+        name.as_str(),
+        show.priority()
+    )?;
+    write_ranges(out, show.universes())?;
+    write_places(out, places)?;
+    out.write_all(if is_standby {
+        b"; it stands by: start UNIVERSE or start all begins\n".as_slice()
+    } else {
+        b"\n".as_slice()
+    })
+}
 
 /// Whether all universes have stopped.
 pub(crate) fn have_stopped(lines: &[UniverseLine]) -> bool {
@@ -22,7 +82,8 @@ fn state_name(state: &State) -> &'static str {
 pub(crate) fn write_status<O: Write>(
     out: &mut O,
     core: &ConsoleCore,
-    report: &ConsoleReport,
+    sent: u64,
+    failed: u64,
 ) -> io::Result<()> {
     write!(out, "cue ")?;
     match core.cue() {
@@ -30,7 +91,7 @@ pub(crate) fn write_status<O: Write>(
         None => write!(out, "none")?,
     }
     write!(out, " master {}", core.grand_master())?;
-    write!(out, " sent {} failed {}", report.sent, report.failed)?;
+    write!(out, " sent {sent} failed {failed}")?;
     for line in core.lines() {
         write!(out, " {} {}", line.universe, state_name(&line.state))?;
     }

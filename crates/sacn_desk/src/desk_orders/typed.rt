@@ -1,7 +1,8 @@
 //! What a typed order begins, and what it is answered.
 use super::wishes::Wish;
 use super::{DeskOrders, Source};
-use crate::order_answer::{push_levels, push_master, push_set};
+use crate::order_answer::{push_answer, push_levels, push_master};
+use crate::show_lists::PatchPlace;
 use sacn_console::Command;
 use sacn_orders::{LevelCommands, Order, Selection};
 use std::io::Write;
@@ -20,22 +21,25 @@ impl<'a, R: MachineClock, O: Write> DeskOrders<'a, R, O> {
                 return self.typed(Command::Master(level));
             }
             Order::Plain(command) => {
-                if let Command::SetLevel(channel, level) = command {
-                    if push_set(&mut self.answer, channel, level, &self.lists).is_err() {
-                        self.answer.clear();
-                    }
+                if push_answer(&mut self.answer, command, &self.lists).is_err() {
+                    self.answer.clear();
                 }
                 return self.typed(command);
             }
             Order::Back => self.wish = Some(Wish::Back),
-            Order::Cues => self.wish = Some(Wish::Cues(None)),
-            Order::Patch => self.wish = Some(Wish::Patch(0)),
+            Order::Cues => self.begin_list(Wish::Cues(None)),
+            Order::Patch => self.begin_list(Wish::Patch(PatchPlace::first())),
         }
         None
     }
 
+    fn begin_list(&mut self, list: Wish) {
+        self.wish = Some(list);
+        self.hold();
+    }
+
     pub(super) fn typed(&mut self, command: Command) -> Option<Command> {
-        self.source = Source::Typed;
+        self.source = Source::Typed(command);
         Some(command)
     }
 
@@ -61,21 +65,9 @@ impl<'a, R: MachineClock, O: Write> DeskOrders<'a, R, O> {
         }
         self.levels = None;
         match self.refusal {
-            Some(fault) => self.say_refusal(fault),
+            Some(fault) => self.say_refusal(Command::SetLevel(0, 0), fault),
             None => self.say_taken(),
         }
         None
-    }
-
-    /// Says the answer that was prepared, `ok` where there was no memory for it.
-    pub(super) fn say_taken(&mut self) {
-        if self.answer.is_empty() {
-            self.say(b"ok\n");
-            return;
-        }
-        if self.out.write_all(self.answer.as_bytes()).is_err() || self.out.flush().is_err() {
-            self.write_failed = true;
-            self.close();
-        }
     }
 }

@@ -1,7 +1,7 @@
 use Rattle.std.proofs.Common.{◌≡◌, ◌≤◌, List, take}
 use Rattle.sacn_edge.specs.Additions.{Extends}
 use Rattle.sacn_machine.specs.Sendings.{Sending}
-use Rattle.sacn_desk.specs.SentTo.{receivers, failures, AllCarry}
+use Rattle.sacn_desk.specs.SentTo.{receivers, failures, hosts_of, AllCarry}
 use Rattle.sacn_desk.proofs.desk_sender.send_each.Given as goal
 
 -- the sends so far
@@ -11,7 +11,7 @@ invariant-loop-place g l = record {
   run :
       (ss : List Sending)
       × Extends (g.S.Sockets.told l.fn.sockets) (g.S.Sockets.told l.sockets) ss
-      × (receivers ss ≡ take l.place l.hosts)
+      × (receivers ss ≡ hosts_of l.universe (take l.place l.hosts))
       × AllCarry l.datagram ss
       × (l.failed ≡ failures ss);
 }
