@@ -7,7 +7,7 @@ use sacn_console::{Command, ConsoleCore, read_script, read_show};
 use sacn_desk::{DeskLink, Opening, run_desk};
 use sacn_edge::memory::{Incoming, ListClock, MemoryLink};
 use sacn_edge::{ConsoleReport, WriterOut, run_console, run_node};
-use sacn_gateway::{Interface, Span, run_gateway};
+use sacn_gateway::{GatewayNode, Interface, Span, run_gateway};
 use sacn_machine::memory::{MemoryReceiver, TimedArrival};
 use sacn_machine::memory_device::MemoryDevice;
 use sacn_machine::{DeviceFault, Octets4, Took};
@@ -155,7 +155,7 @@ impl Loops {
     }
 
     fn gateway(&mut self, step: &mut Step<'_>) -> Result<(), StepFault> {
-        let mut core = node_of(step)?;
+        let core = node_of(step)?;
         let incoming = mem::replace(&mut self.incoming, Vec::new(step.alloc()));
         let span = Span {
             turns: step.number(),
@@ -165,13 +165,14 @@ impl Loops {
         let mut tally = Tally::none();
         let mut out = WriterOut::new(Vec::new(step.alloc()));
         let senders = self.senders.as_slice();
-        let mut interfaces = mem::replace(&mut self.interfaces, Vec::new(step.alloc()));
+        let interfaces = mem::replace(&mut self.interfaces, Vec::new(step.alloc()));
+        let mut nodes = Vec::new(step.alloc());
+        push(&mut nodes, GatewayNode::new(core, interfaces))?;
         if run_gateway(
             &mut receiver,
             &mut tally,
             &mut out,
-            interfaces.as_mut_slice(),
-            &mut core,
+            nodes.as_mut_slice(),
             senders,
             span,
         )
@@ -180,7 +181,9 @@ impl Loops {
             tally.say(step);
         }
         self.output = out.writer;
-        self.interfaces = interfaces;
+        if let Some(node) = nodes.pop() {
+            self.interfaces = node.into_interfaces();
+        }
         Ok(())
     }
 

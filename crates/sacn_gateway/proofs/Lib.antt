@@ -4,3 +4,7 @@ mod PlainLines
 mod Pairing
 mod Serving
 mod Offers
+mod NodeLists
+mod NodeTurns
+mod OneAmong
+mod SlotTexts

@@ -15,7 +15,7 @@ use Rattle.sacn_gateway.specs.GatewayText.{gateway_after, gateway_lines}
 use Rattle.sacn_gateway.specs.GatewayRun.{AreWhole, IsWhole, latest_reading}
 use Rattle.sacn_gateway.specs.PlainGateway.{backlog_at, with_calls, calls_of, plain_lines, GatewayLinesAreByThePlainRule, GatewayTextIsByThePlainRule, GatewayStopsByThePlainRule}
 
-backlog_same : (first : Node) (senders : List (List ℕ)) (turns : List (List Hearing)) → (gateway_after first senders turns).waits ≡ backlog_at turns
+pub backlog_same : (first : Node) (senders : List (List ℕ)) (turns : List (List Hearing)) → (gateway_after first senders turns).waits ≡ backlog_at turns
 backlog_same first senders [] = refl
 backlog_same first senders (hs ∷ turns) = ap (λ e. backlog_after e hs) (backlog_same first senders turns)
 

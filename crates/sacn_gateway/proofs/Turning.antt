@@ -1,5 +1,5 @@
 -- One turn after another of a gateway.
-use Rattle.std.proofs.Common.{◌≡◌, ℕ, List, [], ◌∷◌, length, map, sym, ap, subst, ◌∙◌, arith, Option}
+use Rattle.std.proofs.Common.{◌≡◌, ℕ, List, [], ◌∷◌, ◌++◌, length, map, sym, ap, subst, ◌∙◌, arith, Option}
 use Rattle.sacn_node.specs.Setup.{port_numbers}
 use Rattle.sacn_node.specs.Cores.{Node}
 use Rattle.sacn_node.specs.declared.port_frame.PortFrame.{PortFrame}
@@ -47,10 +47,8 @@ module _ (first n : Node) (senders : List (List ℕ)) (ss : List PortFrame) (hs 
   apart : Distinct (numbers ss)
   apart = subst Distinct (sym own) distinct
 
-  pub more_text : (a b c : List ℕ → Type 0) → Adds a b (text_of (gateway_lines first senders turns)) → Adds b c (ports_text n.core.moment (map (port_after n) ss)) → Adds a c (text_of (gateway_lines first senders (hs ∷ turns)))
-  more_text a b c sofar adds =
-      subst (Adds a c) (sym (turn_text n ss (gateway_lines first senders turns) apart all) ∙ ap text_of lines_are)
-      (Adds-append (text_of (gateway_lines first senders turns)) (ports_text n.core.moment (map (port_after n) ss)) sofar adds)
+  pub turn_adds : text_of (gateway_lines first senders turns) ++ ports_text n.core.moment (map (port_after n) ss) ≡ text_of (gateway_lines first senders (hs ∷ turns))
+  turn_adds = sym (turn_text n ss (gateway_lines first senders turns) apart all) ∙ ap text_of lines_are
 
   pub more_remembered : Remembers (gateway_lines first senders (hs ∷ turns)) (map (port_after n) ss)
   more_remembered = subst (λ ls. Remembers ls (map (port_after n) ss)) lines_are (turn_remembered n ss (gateway_lines first senders turns) apart all)

@@ -5,3 +5,6 @@ pub mod GatewayRun
 pub mod PlainGateway
 pub mod Interfaces
 pub mod InterfaceLaws
+pub mod GatewayNodes
+pub mod GatewaysText
+pub mod SlotLines

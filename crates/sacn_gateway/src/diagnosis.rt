@@ -1,20 +1,18 @@
 //! What a gateway says of what it hears.
 use crate::counts::Counts;
 use crate::hearing::{Notes, PassedOver};
-use crate::sources::Sources;
 use sacn_machine::{DeviceFault, Drops, Octets4};
 use sacn_node::NodeTaken;
-use sacn_packets::{DataView, Packet, PacketFault, Reading};
+use sacn_packets::{PacketFault, Reading};
 use sacn_sources::Taken;
-use std::io::Write;
+use std::io::{ErrorKind, Write};
 use std::net::SocketAddrV4;
 
-/// Looks on while a gateway runs, and says on an output what it sees: sources that come, end, are lost or find no room,
-/// and what isn't taken, each name at most once a second with how often; and what becomes of interfaces.
+/// Looks on while a gateway runs, and says on an output what isn't taken, each name at most once a second with how often; and what
+/// becomes of interfaces.
 #[derive(Drop)]
 pub struct Diagnosis<E> {
     err: E,
-    sources: Sources,
     counts: Counts,
     drops: Option<Drops>,
 }
@@ -43,12 +41,21 @@ fn fault_name(fault: PacketFault) -> &'static str {
     }
 }
 
+/// What to look at where a device can't be opened for this reason.
+fn advice_of(kind: ErrorKind) -> &'static str {
+    match kind {
+        ErrorKind::NotFound => ": is it plugged in, and is that its path?",
+        ErrorKind::PermissionDenied =>
+            ": may this user open it? Serial devices are often of the group dialout",
+        _ => "",
+    }
+}
+
 impl<E: Write> Diagnosis<E> {
     /// A diagnosis that has seen nothing.
     pub fn new(err: E) -> Diagnosis<E> {
         Diagnosis {
             err,
-            sources: Sources::new(),
             counts: Counts::new(),
             drops: None,
         }
@@ -59,17 +66,13 @@ impl<E: Write> Diagnosis<E> {
         self.drops = Some(drops);
     }
 
-    /// A data packet of one of the node's universes.
-    fn note_from_table(&mut self, now: u64, sender: Octets4, packet: &DataView<'_>, taken: Taken) {
-        let cid = packet.cid();
-        let universe = packet.universe();
+    /// What became of a data packet of one of the node's universes.
+    fn note_from_table(&mut self, taken: Taken) {
         match taken {
-            Taken::Held => self
-                .sources
-                .note_packet(now, &cid, universe, sender, &mut self.err),
-            Taken::EndedNow => self.sources.note_end(now, &cid, universe, &mut self.err),
             Taken::OutOfSequence => self.counts.count("discarded OutOfSequence"),
             Taken::SourcesExceeded => self.counts.count("discarded SourcesExceeded"),
+            Taken::Held => {}
+            Taken::EndedNow => {}
             Taken::Observed => {}
             Taken::UnknownIgnored => {}
         }
@@ -79,17 +82,13 @@ impl<E: Write> Diagnosis<E> {
 impl<E: Write> Notes for Diagnosis<E> {
     fn note_taken(
         &mut self,
-        now: u64,
-        sender: SocketAddrV4,
-        reading: &Reading<'_>,
+        _now: u64,
+        _sender: SocketAddrV4,
+        _reading: &Reading<'_>,
         taken: NodeTaken,
     ) {
         match taken {
-            NodeTaken::FromTable(taken) => {
-                if let Ok(Packet::DataPacket(packet)) = reading {
-                    self.note_from_table(now, sender.ip().octets(), packet, taken);
-                }
-            }
+            NodeTaken::FromTable(taken) => self.note_from_table(taken),
             NodeTaken::Refused(fault) => self.counts.count(fault_name(fault)),
             NodeTaken::OtherUniverse => {}
             NodeTaken::Discovery => {}
@@ -115,13 +114,15 @@ impl<E: Write> Notes for Diagnosis<E> {
             Some(DeviceFault::NoDescriptor) => {
                 writeln!(self.err, "widget {port} {name} NoDescriptor")
             }
-            Some(DeviceFault::Other(kind)) => writeln!(self.err, "widget {port} {name} {kind:?}"),
+            Some(DeviceFault::Other(kind)) => {
+                let advice = advice_of(kind);
+                writeln!(self.err, "widget {port} {name} {kind:?}{advice}")
+            }
         };
     }
 
     fn note_turn(&mut self, now: u64) {
         self.counts.say(now, &mut self.err);
-        self.sources.check(now, &mut self.err);
         if let Some(drops) = &mut self.drops {
             drops.check(now, &mut self.err);
         }

@@ -1,22 +1,25 @@
-//! One receive of a gateway, and what of it goes to the node.
+//! One receive of a gateway, and what of it goes to its nodes.
 ghost use Rattle.std.specs.Prelude.{◌≡◌, ◌≤◌, ◌||◌, not, [], ◌∷◌, map, is_some};
 ghost use Rattle.std.specs.List.{list_any};
 ghost use Rattle.sacn_node.specs.Calls.{step};
-ghost use Rattle.sacn_node.specs.Showings.{IsShowingOf, ports_of, same};
+ghost use Rattle.sacn_node.specs.Showings.{same};
 ghost use Rattle.sacn_edge.specs.Additions.{Extends};
+ghost use Rattle.sacn_gateway.specs.GatewayNodes.{AreShown, IsMoved};
+ghost use Rattle.sacn_gateway.specs.Interfaces.{Pairwise};
 ghost use Rattle.sacn_edge.specs.NodeText.{call_at};
 ghost use Rattle.sacn_gateway.specs.Backlogs.{is_late};
 ghost use Rattle.sacn_machine.specs.Hearings.{hearing_in, From, came_of, is_datagram};
 ghost use Rattle.sacn_gateway.specs.GatewayTurns.{is_admitted, heard_of, backlog_with};
 
 use crate::backlog::Backlog;
+use crate::nodes::{GatewayNode, take_nodes, tick_nodes};
 use sacn_edge::BUFFER_OCTETS;
-use sacn_machine::{Arrival, DeviceFault, Octets4, Receiver};
-use sacn_node::{NodeCore, NodeTaken, Showing};
+use sacn_machine::{Arrival, Device, DeviceFault, Octets4, Receiver};
+use sacn_node::{NodeTaken, PortFrame};
 use sacn_packets::{Reading, read_packet};
 use std::net::{Ipv4Addr, SocketAddrV4};
 
-/// Why a datagram doesn't go to the node.
+/// Why a datagram doesn't go to the nodes.
 #[derive(Clone, Copy)]
 pub enum PassedOver {
     /// It may have waited longer than the network data loss time, while the process was stopped or blocked.
@@ -28,7 +31,8 @@ pub enum PassedOver {
 /// What looks on while a gateway runs, for diagnosis. Nothing that it does changes the gateway's text, nor what interfaces
 /// are offered.
 pub trait Notes {
-    /// A datagram went to the node, with where it came from and what it was read as.
+    /// A datagram went to each node, with where it came from, what it was read as, and what became of it at the first node that
+    /// has its universe.
     fn note_taken(
         &mut self,
         now: u64,
@@ -45,6 +49,9 @@ pub trait Notes {
 
     /// What became of an interface: why it failed, or that it works again. It isn't noted again until that changes.
     fn note_interface(&mut self, port: u8, name: &str, fault: Option<DeviceFault>);
+
+    /// The ports, ascending, where the frame of one may be another than after the turn before: those whose frame is have `news`.
+    fn note_frames(&mut self, _now: u64, _ports: &[PortFrame]) {}
 
     /// A turn's lines are written, and its frames offered.
     fn note_turn(&mut self, now: u64);
@@ -99,10 +106,9 @@ fn why_passed(senders: &[Octets4], waits: Backlog, now: u64, sender: &Octets4) -
     }
 }
 
-/// Gives the node what came at this moment, unless it is passed over.
-fn give<N: Notes>(
-    core: &mut NodeCore,
-    showing: &mut Showing,
+/// Gives each node what came at this moment, unless it is passed over.
+fn give<N: Notes, D: Device>(
+    nodes: &mut [GatewayNode<'_, D>],
     notes: &mut N,
     senders: &[Octets4],
     waits: Backlog,
@@ -111,81 +117,77 @@ fn give<N: Notes>(
     port: u16,
     octets: &[u8],
 )
-    requires { IsShowingOf showing.old core.old }
-    ensures core { core.new
-        ≡ step (call_at now (heard_of senders.now waits now (From sender octets.now))) core.old }
-    ensures showing { IsShowingOf showing.new core.new }
-    ensures ports { ports_of showing.new ≡ ports_of showing.old }
+    requires { AreShown nodes.old }
+    ensures { Pairwise
+        (IsMoved (step (call_at now (heard_of senders.now waits now (From sender octets.now)))))
+        nodes.old nodes.new }
 {
     match why_passed(senders, waits, now, &sender) {
         None => {
             let reading = read_packet(octets);
-            let taken = showing.take(core, now, &reading).taken;
+            let taken = take_nodes(nodes, now, &reading);
             let sender = SocketAddrV4::new(Ipv4Addr::from(sender), port);
             notes.note_taken(now, sender, &reading, taken);
         }
         Some(why) => {
             notes.note_passed_over(now, sender, why);
-            showing.tick(core, now);
+            tick_nodes(nodes, now);
         }
     }
 }
 
-/// Receives once, and gives the node what came, where it goes there; where nothing does, its clock is moved.
-pub(crate) fn hear<G: Receiver, N: Notes>(
+/// Receives once, and gives each node what came, where it goes there; where nothing does, its clock is moved.
+pub(crate) fn hear<G: Receiver, N: Notes, D: Device>(
     receiver: &mut G,
-    core: &mut NodeCore,
-    showing: &mut Showing,
+    nodes: &mut [GatewayNode<'_, D>],
     notes: &mut N,
     senders: &[Octets4],
     waits: Backlog,
     buffer: &mut [u8; BUFFER_OCTETS],
 ) -> Step
-    requires { IsShowingOf showing.old core.old }
+    requires { AreShown nodes.old }
     ensures told { Extends (G.told receiver.old) (G.told receiver.new)
         (hearing_in result.now result.arrival buffer.new ∷ []) }
-    ensures core { core.new ≡ step (call_at result.now
-        (heard_of senders.now waits result.now (came_of result.arrival buffer.new))) core.old }
+    ensures nodes { Pairwise (IsMoved (step (call_at result.now
+        (heard_of senders.now waits result.now (came_of result.arrival buffer.new)))))
+        nodes.old nodes.new }
     ensures waits { result.waits
         ≡ backlog_with waits result.now (came_of result.arrival buffer.new) }
-    ensures showing { IsShowingOf showing.new core.new }
-    ensures ports { ports_of showing.new ≡ ports_of showing.old }
     ensures more { result.is_more ≡ is_datagram (came_of result.arrival buffer.new) }
 {
     let receipt = receiver.receive(buffer);
     let now = receipt.now;
     let port = receiver.sender_port();
     let arrival = receipt.arrival;
-    let waits = match arrival {
+    match arrival {
         Arrival::Datagram { octets, sender } => {
-            give(
-                core,
-                showing,
-                notes,
-                senders,
-                waits,
+            let datagram = &buffer[..octets];
+            give(nodes, notes, senders, waits, now, sender, port, datagram);
+            Step {
                 now,
-                sender,
-                port,
-                &buffer[..octets],
-            );
-            waits.with_datagram(now)
+                arrival,
+                waits: waits.with_datagram(now),
+                is_more: true,
+            }
         }
         Arrival::Nothing => {
-            showing.tick(core, now);
-            Backlog::none(now)
+            tick_nodes(nodes, now);
+            Step {
+                now,
+                arrival,
+                waits: Backlog::none(now),
+                is_more: false,
+            }
         }
         Arrival::Failed => {
             notes.note_failure(now);
-            showing.tick(core, now);
-            waits
+            tick_nodes(nodes, now);
+            Step {
+                now,
+                arrival,
+                waits,
+                is_more: false,
+            }
         }
-    };
-    let is_more = matches!(arrival, Arrival::Datagram { .. });
-    Step {
-        now,
-        arrival,
-        waits,
-        is_more,
     }
 }

@@ -2,6 +2,7 @@
 //!
 //! The contract of [`run_gateway`](crate::run_gateway) says what is written by the steps of the node's core. Folded over
 //! any list of turns, that is what the plain rule of a node says of what the gateway took, and at which moments.
+ghost use Rattle.sacn_gateway.specs.GatewaysText.{NodesWriteAsAlone, OneStopsAsItself, OneWritesItsText};
 ghost use Rattle.sacn_gateway.specs.PlainGateway.{GatewayLinesAreByThePlainRule, GatewayStopsByThePlainRule, GatewayTextIsByThePlainRule};
 ghost use Rattle.sacn_gateway.specs.InterfaceLaws.{FailedDevicesAreTriedAgain, FailedDevicesRest, OffersAreOfTheirPort, WorkingDevicesShowTheirPorts};
 
@@ -29,4 +30,13 @@ pub fn interfaces_show_their_ports()
     ensures tried { FailedDevicesAreTriedAgain }
     ensures rests { FailedDevicesRest }
     ensures frames { OffersAreOfTheirPort }
+{}
+
+/// What a gateway of several nodes writes is, turn by turn and node by node, what a gateway of that node alone writes in that turn: put
+/// one behind the other, a node's parts are the whole text of a gateway of that node alone over the same turns. The text of a gateway of one node
+/// is that text; and where a write fails, it stops as that one does.
+pub fn nodes_write_as_alone()
+    ensures own { NodesWriteAsAlone }
+    ensures one { OneWritesItsText }
+    ensures stops { OneStopsAsItself }
 {}
