@@ -1,12 +1,12 @@
 -- What is said for people of each thing that happens.
-use Rattle.std.specs.Prelude.{ℕ, ◌/◌, ◌%◌, ◌==◌, List, [], ◌++◌, codes, decimal, if◌then◌else◌}
+use Rattle.std.specs.Prelude.{ℕ, ◌/◌, ◌%◌, ◌==◌, List, [], ◌++◌, ◌∷◌, codes, decimal, slice_index, if◌then◌else◌}
 use Rattle.sacn_packets.specs.declared.root.fault.PacketFault.{PacketFault}
 use Rattle.sacn_monitor.specs.declared.account.Endpoint.{Endpoint}
 use Rattle.sacn_monitor.specs.declared.news.Change.{Change}
 use Rattle.sacn_monitor.specs.declared.news.StreamEvent.{StreamEvent}
 use Rattle.sacn_monitor.specs.declared.news.StreamEvent.TheVariants.{GoesOn, Appeared, CameBack, Ended, OutOfSequence, Repeated}
 use Rattle.sacn_monitor.specs.declared.stream.Stream.{Stream}
-use Rattle.sacn_tell.specs.Spelling.{right, zeros, octets_text, sender_text, moment_text, name_text}
+use Rattle.sacn_tell.specs.Spelling.{right, zeros, octets_text, address_text, sender_text, moment_text, name_text}
 use Rattle.sacn_tell.specs.Members.{name_of}
 use Rattle.sacn_tell.specs.Refusals.{fault_words}
 
@@ -86,3 +86,11 @@ refused_words s fault = codes "from " ++ (sender_text s ++ refusal_words fault)
 -- where a packet came from for which there is no room
 unfoldable pub untracked_words : Endpoint → List ℕ
 untracked_words s = codes "from " ++ (sender_text s ++ codes "  no room for a further source, not followed")
+
+-- a CID by its first two octets and its last one
+unfoldable pub short_cid : List ℕ → List ℕ
+short_cid cid = octets_text (slice_index cid 0 ∷ slice_index cid 1 ∷ []) ++ (codes ".." ++ octets_text (slice_index cid 15 ∷ []))
+
+-- a source on a universe, its name first, and what became of it
+unfoldable pub named_source_words : Stream → List ℕ → List ℕ
+named_source_words s word = name_text (name_of s) ++ (codes " " ++ (short_cid s.cid ++ (codes " at " ++ (address_text s.account.sender.address ++ (codes ", priority " ++ (decimal s.account.priority ++ (codes ", universe " ++ (decimal s.universe ++ (codes ": " ++ word)))))))))

@@ -1,11 +1,13 @@
 //! Things that happen, in words for people.
 
 ghost use Rattle.std.specs.Prelude.{◌≡◌, ◌++◌, OnOk, string_bytes};
-ghost use Rattle.sacn_tell.specs.Sentences.{line_front, source_text, universe_text, stream_front, presence_words, event_words, moved_words, loss_words, priority_words, omission_words, skipped_words, refusal_words, refused_words, untracked_words, seconds_text, stop_words, stopped_words};
+ghost use Rattle.sacn_tell.specs.Sentences.{line_front, source_text, universe_text, stream_front, presence_words, event_words, moved_words, loss_words, priority_words, omission_words, skipped_words, refusal_words, refused_words, untracked_words, seconds_text, stop_words, stopped_words, short_cid, named_source_words};
 
 use crate::places::written_universe;
 use crate::refusals::fault_words;
-use crate::spelling::{push_ascii, push_cid, push_moment, push_name, push_sender};
+use crate::spelling::{
+    push_address, push_ascii, push_cid, push_digits, push_moment, push_name, push_sender,
+};
 use sacn_monitor::{Change, Endpoint, News, Stream, StreamEvent};
 use sacn_packets::{PacketFault, up_to_nul};
 use std::alloc::AllocError;
@@ -188,4 +190,32 @@ fn push_seconds(text: &mut String, millis: u64) -> Result<(), AllocError>
     let seconds = millis / 1000;
     let rest = millis % 1000;
     write!(text, "{seconds}.{rest:03}")
+}
+
+// A CID by its first two octets and its last one.
+#[tactic(auto, unfolding(crate::specs::Sentences::short_cid))]
+fn push_short_cid(text: &mut String, cid: &[u8; 16]) -> Result<(), AllocError>
+    ensures { OnOk result (string_bytes text.new ≡ string_bytes text.old ++ short_cid cid.now) }
+{
+    push_digits(text, &[cid[0], cid[1]])?;
+    text.push_str("..")?;
+    push_digits(text, &[cid[15]])
+}
+
+/// A source on a universe, its name first, and what became of it: `"Desk" 0001..0f at 10.0.0.5, priority 100, universe 1: came`.
+///
+/// Errors: OutOfMemory.
+#[tactic(auto, unfolding(crate::specs::Sentences::named_source_words))]
+pub fn push_named_source(text: &mut String, stream: &Stream, word: &str) -> Result<(), AllocError>
+    ensures { OnOk result (string_bytes text.new
+        ≡ string_bytes text.old ++ named_source_words stream.now word.now) }
+{
+    push_name(text, up_to_nul(&stream.account.name))?;
+    text.push_str(" ")?;
+    push_short_cid(text, &stream.cid)?;
+    text.push_str(" at ")?;
+    push_address(text, &stream.account.sender.address)?;
+    let priority = stream.account.priority;
+    let universe = stream.universe;
+    write!(text, ", priority {priority}, universe {universe}: {word}")
 }

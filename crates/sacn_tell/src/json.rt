@@ -1,4 +1,4 @@
-//! Members of JSON objects.
+//! JSON: the front of an object, its members, and text from elsewhere.
 
 ghost use Rattle.std.specs.Prelude.{◌≡◌, ◌++◌, OnOk, string_bytes, chars};
 ghost use Rattle.sacn_tell.specs.Members.{object_front, row_front, number_member, word_member, stream_members, source_members, quoted_address, key_text, sender_members};

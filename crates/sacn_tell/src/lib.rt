@@ -27,7 +27,7 @@ mod table_rows;
 mod tables;
 mod teller;
 
-pub use event_words::push_stop;
+pub use event_words::{push_named_source, push_stop};
 pub use fault::ExplainFault;
 pub use follow::{Timeline, explain};
 pub use follower::Follower;

@@ -1,4 +1,4 @@
-//! Rows of universes, lists and refusals.
+//! What is counted of a universe, and rows of universes, lists and refusals.
 
 ghost use Rattle.std.specs.Prelude.{◌≡◌, ◌++◌, OnOk, string_bytes};
 ghost use Rattle.sacn_tell.specs.Rows.{column, list_row, packets_members, refused_row, silent_text, universe_columns, universe_json, universe_members, universe_row, universe_text, unlisted_text};
