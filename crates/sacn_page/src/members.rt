@@ -1,4 +1,4 @@
-//! What stands in the document of a viewer (docs/FILES.md tells its members): a recording's facts, sources, levels.
+//! What stands in the document of a viewer (docs/FILES.md tells its members): a recording's facts, sources, levels, and who gives these.
 
 ghost use Rattle.std.specs.Prelude.{◌≡◌, ◌++◌, OnOk, codes, string_bytes, map};
 ghost use Rattle.sacn_page.specs.Documents.{digits_member, facts_object, fault_name, fault_object, fault_value, first_number, foreign_member, long_digits_member, quoted, row_object, source_members, universe_member};

@@ -1,4 +1,4 @@
-//! A recording that viewers look at, each at the moment that it chooses.
+//! A recording that viewers look at, each at the moment that it chooses, and snapshots on the way there.
 
 ghost use Rattle.std.specs.Prelude.{◌≡◌, ◌≤◌, ◌*◌, ◌/◌, ◌^◌, ◌-◌, true, IfSome, min, vec_len};
 ghost use Rattle.sacn_page.specs.declared.recording.TheConstants.{MAX_SNAPSHOTS};
@@ -15,6 +15,12 @@ use std::io::{self, BufRead, ErrorKind};
 
 /// The most alarms of a recording that are kept: the latest up to a moment.
 pub const MAX_MARKS: usize = 256;
+
+/// The most snapshots that are kept.
+pub const MAX_SNAPSHOTS: usize = 64;
+
+/// So many octets of the recording are between two snapshots, at least.
+pub const MIN_SPACING: u64 = 1 << 20;
 
 /// Where the octets of a recording are, to be read as often as is wanted.
 pub trait Tape {
@@ -278,12 +284,6 @@ impl<T: Tape + Drop> Scene for Recording<T> {
         Ok(is_there)
     }
 }
-
-/// The most snapshots that are kept.
-pub const MAX_SNAPSHOTS: usize = 64;
-
-/// So many octets of the recording are between two snapshots, at least.
-pub const MIN_SPACING: u64 = 1 << 20;
 
 /// Up to `MAX_SNAPSHOTS` snapshots of a recording, those of earlier places first.
 ///

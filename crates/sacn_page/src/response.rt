@@ -1,4 +1,4 @@
-//! How a request is answered (HTTP/1.1, RFC 9112). Each answer ends its connection.
+//! Answers to requests (HTTP/1.1, RFC 9112): which one is given, and its text. Each ends its connection, but a stream of events.
 
 ghost use Rattle.std.specs.Prelude.{◌≡◌, ◌++◌, OnOk, string_bytes};
 ghost use Rattle.sacn_page.specs.Feeds.{event_text};

@@ -1,4 +1,4 @@
-//! A server of pages beside a watch.
+//! A server of pages beside a watch, and a listener that hears nothing, for a page of a recording.
 
 use crate::audience::Audience;
 use crate::scene::Scene;

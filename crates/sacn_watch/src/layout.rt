@@ -22,7 +22,7 @@ const MIN_SHARED: usize = 8;
 /// The columns of a name.
 const NAME_COLUMNS: usize = 20;
 
-const SOURCE_HEAD: &str = "  universe state   prio  rate   lost  late name                 address";
+const SOURCE_HEAD: &str = "  universe state   prio  rate missed  late name                 address";
 
 /// The screen of a view, at a terminal of this size: alarms, the sources on universes, and the levels of one universe, each
 /// after the letter of the source that gives it. Where not all sources fit above the levels, those of that universe come first, the

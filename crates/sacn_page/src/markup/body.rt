@@ -33,7 +33,8 @@ pub const BODY: &str = r##"</head>
     <p id="most-alarms" class="note" hidden></p>
   </section>
   <section id="levels-part" aria-labelledby="levels-head">
-    <h2 id="levels-head">Levels <span id="levels-of" class="note"></span> <button id="unit" type="button" aria-pressed="false">percent</button></h2>
+    <h2 id="levels-head">Levels <span id="levels-of" class="note"></span> <span id="units" role="radiogroup" aria-label="Levels as"><label><input type="radio" autocomplete="off" name="unit" value="decimal" checked>0-255</label> <label><input type="radio" autocomplete="off" name="unit" value="percent">%</label> <label><input type="radio" autocomplete="off" name="unit" value="hex">hex</label></span>
+      <button id="since" type="button" aria-pressed="false">mark changes</button> <span id="changed" class="note" aria-live="polite"></span></h2>
     <div id="grid" role="listbox" tabindex="0" aria-labelledby="levels-head" aria-describedby="keys"></div>
     <p id="keys" class="note">Arrow keys, Home, End, Page Up and Page Down choose a slot; a letter and a colour say which source gives it its level.</p>
   </section>
@@ -42,13 +43,13 @@ pub const BODY: &str = r##"</head>
     <canvas id="graph" role="img" aria-label="The level of the chosen slot over the last minute"></canvas>
   </section>
   <section id="sources-part" aria-labelledby="sources-head">
-    <h2 id="sources-head">Sources</h2>
+    <h2 id="sources-head">Sources <button id="whole" type="button" aria-pressed="false">whole names and CIDs</button></h2>
     <div class="scroll" tabindex="0" role="region" aria-labelledby="sources-head">
       <table>
-        <caption>Each source on each universe, with what was heard of it</caption>
+        <caption>Each source on each universe, with what was heard of it; those of the chosen universe first</caption>
         <thead><tr>
           <th scope="col">Source</th><th scope="col" class="number">Universe</th><th scope="col">State</th><th scope="col" class="number">Priority</th>
-          <th scope="col" class="number">Packets a second</th><th scope="col" class="number">Lost</th><th scope="col" class="number">Out of sequence</th>
+          <th scope="col" class="number">Packets a second</th><th scope="col" class="number">Missed</th><th scope="col" class="number">Out of sequence</th>
           <th scope="col" class="number">Greatest gap, ms</th><th scope="col">Address</th><th scope="col">Name</th><th scope="col">CID</th>
         </tr></thead>
         <tbody id="sources"></tbody>

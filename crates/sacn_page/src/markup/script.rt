@@ -12,7 +12,9 @@ const known = { ms: 0, universe: null, heard: [], sources: new Map(), levels: ne
 const asked = new URLSearchParams(location.hash.slice(1));
 let past = [];
 let slot = bounded(Number(asked.get('slot')) || 1, 1, SLOTS);
-let inPercent = false;
+let unit = 'decimal';
+let isWhole = false;
+let marked = null;
 let events = null;
 let heardAt = -Infinity;
 
@@ -57,9 +59,11 @@ function takeDocument(told) {
   for (const source of told.sources || []) known.sources.set(source.place, source);
   if (told.levels !== undefined) {
     hex(told.levels, 2, known.levels);
-    past.push({ ms: told.ms, levels: known.levels.slice() });
+    // (of a universe that nobody sent on yet there is no level to draw)
+    if (sourcesOf(known.universe).length) past.push({ ms: told.ms, levels: known.levels.slice() });
     while (past.length > 1 && past[1].ms < told.ms - MINUTE) past.shift();
   }
+  noteChanges();
   if (told.winners !== undefined) hex(told.winners, 4, known.winners);
   for (const alarm of told.alarms || []) keepAlarm(alarm);
   if (told.alarms) known.leftOut = told.alarms_left_out || 0;
@@ -158,7 +162,10 @@ function makeGrid() {
     cell.addEventListener('click', () => choose(i + 1));
   }
 }
-function shownLevel(level) { return inPercent ? String(Math.round(level * 100 / 255)) : String(level); }
+function shownLevel(level) {
+  if (unit === 'percent') return String(Math.round(level * 100 / 255));
+  return unit === 'hex' ? level.toString(16).padStart(2, '0') : String(level);
+}
 function showLevels() {
   const ranks = new Map(sourcesOf(known.universe).map((source, rank) => [source.place + 1, { rank, source }]));
   put(part('levels-of'), known.universe === null ? '' : `of universe ${known.universe}`);
@@ -217,10 +224,27 @@ part('grid').addEventListener('keydown', (event) => {
   choose(slot + steps[event.key]);
   cells[slot - 1].cell.scrollIntoView({ block: 'nearest' });
 });
-part('unit').addEventListener('click', () => {
-  inPercent = !inPercent;
-  part('unit').setAttribute('aria-pressed', String(inPercent));
+part('units').addEventListener('change', (event) => {
+  unit = event.target.value;
   for (const at of cells) put(at.value, shownLevel(at.level < 0 ? 0 : at.level));
+});
+
+// Which slots had another level since the button was pressed, or since another universe was chosen: also those that have the old one again.
+function markFrom() { return { universe: known.universe, since: isRecording ? spelled(film.at) : clock.format(new Date()), levels: known.levels.slice(), slots: new Set() }; }
+function noteChanges() {
+  if (!marked) return;
+  if (marked.universe !== known.universe) marked = markFrom();
+  for (let i = 0; i < SLOTS; i++) if (known.levels[i] !== marked.levels[i]) marked.slots.add(i);
+  showChanges();
+}
+function showChanges() {
+  cells.forEach((at, i) => at.cell.classList.toggle('changed', marked !== null && marked.slots.has(i)));
+  put(part('changed'), marked ? `${marked.slots.size} changed since ${marked.since}` : '');
+}
+part('since').addEventListener('click', () => {
+  marked = marked ? null : markFrom();
+  part('since').setAttribute('aria-pressed', String(marked !== null));
+  showChanges();
 });
 
 // The chosen slot's level over the last minute, the newest at the right: a level stands until the next one.
@@ -263,7 +287,8 @@ function showGraph() {
 
 const sourceRows = new Map();
 function showSources() {
-  const sources = [...known.sources.values()].sort((a, b) => a.universe - b.universe || a.place - b.place);
+  const isChosen = (source) => source.universe === known.universe;
+  const sources = [...known.sources.values()].sort((a, b) => isChosen(b) - isChosen(a) || a.universe - b.universe || a.place - b.place);
   for (const [place, row] of sourceRows) if (!known.sources.has(place)) { row.remove(); sourceRows.delete(place); }
   let before = null;
   for (const source of sources) {
@@ -277,11 +302,14 @@ function showSources() {
     }
     const row = sourceRows.get(source.place), rank = rankOf(source);
     const texts = [source.universe, source.state, source.priority, source.state === 'sending' ? source.last_second : 0, source.skipped, source.late, source.gap,
-      `${source.address}:${source.port}`, source.name, source.cid];
+      `${source.address}:${source.port}`, source.name, isWhole ? source.cid : `${source.cid.slice(0, 4)}..${source.cid.slice(-2)}`];
     put(row.firstChild.firstChild, letterOf(rank));
     row.firstChild.firstChild.style.setProperty('--colour', source.state === 'sending' ? colourOf(rank) : 'var(--none)');
     texts.forEach((text, i) => put(row.children[i + 1], String(text)));
     row.children[9].title = source.name;
+    row.children[10].title = source.cid;
+    row.classList.toggle('chosen', isChosen(source));
+    row.children[2].classList.toggle('lost', source.state === 'lost');
     row.children[5].classList.toggle('over', source.skipped > 0);
     row.children[6].classList.toggle('over', source.late > 0);
     row.classList.toggle('gone', source.state !== 'sending');
@@ -289,6 +317,13 @@ function showSources() {
     before = row;
   }
 }
+
+part('whole').addEventListener('click', () => {
+  isWhole = !isWhole;
+  part('whole').setAttribute('aria-pressed', String(isWhole));
+  document.body.classList.toggle('whole', isWhole);
+  showSources();
+});
 
 const clock = new Intl.DateTimeFormat(undefined, { hour: '2-digit', minute: '2-digit', second: '2-digit' });
 let shownAlarms = new Set();

@@ -48,6 +48,7 @@ button[aria-current=true], button[aria-pressed=true] { border-color: var(--focus
 .slot em { position: absolute; right: 3px; top: 1px; font-size: .62rem; font-style: normal; font-weight: 700; color: var(--colour, var(--none)); }
 .slot b { position: absolute; left: 0; right: 0; bottom: 2px; text-align: center; font-size: .85rem; font-weight: 600; }
 .slot.dark b { color: var(--dim); font-weight: 400; }
+.slot.changed { border: 2px dashed var(--warn); } #units label { font-weight: 400; margin-right: .4rem; cursor: pointer; } #units label:has(:checked) { font-weight: 700; } #units input { accent-color: var(--focus); }
 .slot[aria-selected=true] { border-color: var(--focus); box-shadow: 0 0 0 2px var(--focus); z-index: 1; }
 #grid:focus-visible { outline: none; }
 #grid:focus-visible .slot[aria-selected=true] { outline: 3px solid var(--focus); outline-offset: 2px; }
@@ -57,7 +58,9 @@ table { border-collapse: collapse; width: 100%; font-variant-numeric: tabular-nu
 caption { text-align: left; position: absolute; clip-path: inset(50%); }
 th, td { text-align: left; padding: .25rem .6rem; border-bottom: 1px solid var(--line); white-space: nowrap; }
 td.number, th.number { text-align: right; } td.name { max-width: 22rem; overflow: hidden; text-overflow: ellipsis; }
-tr.gone { color: var(--dim); } tr.gone td.state { font-weight: 700; } tr.gone .letter { opacity: .4; }
+.whole td.name { max-width: none; white-space: normal; overflow-wrap: anywhere; } .whole #universes li { max-width: 100%; } .whole #universes button { white-space: normal; }
+tr.chosen td, tr.chosen th { background: color-mix(in srgb, var(--focus) 8%, transparent); }
+tr.gone { color: var(--dim); } tr.gone td.state { font-weight: 700; } tr.gone td.lost { color: var(--warn); background: var(--warn-ground); } tr.gone .letter { opacity: .4; }
 .letter { display: inline-block; min-width: 1.5em; text-align: center; border-radius: 4px; color: var(--panel); background: var(--colour); font-weight: 700; }
 .over { color: var(--warn); font-weight: 700; }
 #alarms { list-style: none; max-height: 7rem; }
