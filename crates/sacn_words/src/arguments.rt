@@ -1,5 +1,6 @@
 //! Arguments of several commands, and what the rows of the others begin with.
 use crate::manual::{Argument, ArgumentKind, Spelling};
+use crate::spelled::FRAME_FORMS;
 
 pub const SETUP_HELP: &str =
     "A setup: a TOML file of a node's ports, each with a universe or ranges of slots, as examples/node.toml";
@@ -9,7 +10,7 @@ pub const SCRIPT_HELP: &str =
 
 /// That of a desk, whose orders may be typed too.
 pub const DESK_SCRIPT_HELP: &str =
-    "A script: a text file of an order a line, each after its moment in milliseconds, as `0 go`. Orders, there or typed: go, goto CUE, set CHANNEL LEVEL, master LEVEL, end UNIVERSE, start UNIVERSE; only typed: back, CHANNELS at PERCENT, blackout, restore, cues, patch, status, help, quit";
+    "A script: a text file of an order a line, each after its moment in milliseconds, as `0 go`. Orders, there or typed: go, goto CUE, set CHANNEL LEVEL, master LEVEL, end UNIVERSE, start UNIVERSE; only typed: back, CHANNELS at PERCENT, blackout, restore, end all, start all, cues, patch, status, help, quit. CHANNEL is 1 to 2048, PERCENT 0 to 100 or full, CUE and LEVEL 0 to 65535, UNIVERSE 1 to 63999";
 
 pub const SETUP: Argument<'static> = Argument {
     name: "SETUP",
@@ -62,6 +63,15 @@ pub const SECONDS: Argument<'static> = Argument {
     help: "How many seconds it runs, 1 to 1000000000",
     kind: ArgumentKind::Number(1, 1_000_000_000),
     value: Some("S"),
+    ..OPTION
+};
+
+pub const FRAMES: Argument<'static> = Argument {
+    name: "frames",
+    help: "How it prints frames: all digits of each, for programs; a line of the slots that are lit, for people; or not at all. Else slots in a terminal, and digits elsewhere",
+    kind: ArgumentKind::Choice(FRAME_FORMS),
+    value: Some("FORM"),
+    choices: "digits, slots, none",
     ..OPTION
 };
 

@@ -1,15 +1,18 @@
 //! What the words of a command line ask for.
 use crate::manual::{Syntax, shell_of};
 use crate::reading::{Fault, Words, refusal};
-use crate::spelled::{destination, host, kind, page, port, sender};
+use crate::spelled::{FrameForm, frame_form, host, kind, page, port, sender};
 use crate::tree::matches;
 use clap::{ArgMatches, Error};
 use sacn_check::FileKind;
-use sacn_desk::MAX_HOSTS;
+use sacn_desk::{Destination, MAX_HOSTS};
 use sacn_files::limits::DEFAULT_UDP_PORT;
 use sacn_machine::Octets4;
 use std::alloc::Global;
 use std::net::{Ipv4Addr, SocketAddrV4};
+
+/// The most setups of one gateway.
+pub const MAX_SETUPS: usize = 32;
 
 /// What the words ask for.
 #[derive(Drop)]
@@ -52,7 +55,8 @@ pub enum Asked<'a> {
 /// What a gateway is asked.
 #[derive(Drop)]
 pub struct GatewayAsked<'a> {
-    pub setup: &'a str,
+    /// Files of setups, at least one and at most `MAX_SETUPS`.
+    pub setups: Vec<&'a str>,
     pub listen: Ipv4Addr,
     pub from: Vec<Octets4>,
     /// Ports and the device files of their interfaces.
@@ -62,20 +66,24 @@ pub struct GatewayAsked<'a> {
     pub page: Option<SocketAddrV4>,
     /// Whether a screen of what it hears is shown in place of what is printed.
     pub is_watched: bool,
+    /// How frames are printed; None where the output tells.
+    pub frames: Option<FrameForm>,
 }
 
 /// What a desk is asked.
 #[derive(Drop)]
 pub struct DeskAsked<'a> {
     pub show: &'a str,
-    /// Empty where nothing says otherwise than the show.
-    pub to: Vec<SocketAddrV4>,
+    /// Empty where nothing says otherwise than the show. No two have one address.
+    pub to: Vec<Destination>,
     pub is_multicast: bool,
     pub ttl: u8,
     pub bind: Ipv4Addr,
     pub script: Option<&'a str>,
     pub first: u8,
     pub stays: bool,
+    /// Whether each universe waits for an order to start it.
+    pub is_standby: bool,
 }
 
 /// What is asked of a recording.
@@ -145,37 +153,48 @@ fn console<'a>(words: &mut Words<'_, 'a>) -> Asked<'a> {
     }
 }
 
+// The setups of a gateway.
+fn setups<'a>(words: &mut Words<'_, 'a>) -> Vec<&'a str> {
+    let setups = words.paths("SETUP");
+    if setups.len() > MAX_SETUPS {
+        words.refuse(Fault::TooManySetups);
+    }
+    setups
+}
+
 fn gateway<'a>(words: &mut Words<'_, 'a>) -> Asked<'a> {
     words.leave("join");
     words.beside("watch", "page");
+    words.beside("watch", "frames");
     Asked::Gateway(GatewayAsked {
         is_watched: words.is_given("watch"),
+        frames: words.word("frames").map(frame_form),
         seconds: words.seconds(),
         listen: words.value("listen", host).unwrap_or(Ipv4Addr::UNSPECIFIED),
         from: words.values("from", sender),
         widgets: words.widgets(),
         page: words.value("page", page),
-        setup: words.file("SETUP"),
+        setups: setups(words),
     })
 }
 
 // Whether an address is a group's (224.0.0.0/4).
-fn is_group(host: &SocketAddrV4) -> bool {
-    let [first, _, _, _] = host.ip().octets();
+fn is_group(host: &Destination) -> bool {
+    let [first, _, _, _] = host.address.ip().octets();
     first & 0xf0 == 0xe0
 }
 
 // The hosts that a desk sends to.
-fn destinations<'a>(words: &mut Words<'_, 'a>) -> Vec<SocketAddrV4> {
-    let hosts = words.values("to", destination);
-    if hosts.len() > MAX_HOSTS {
+fn destinations<'a>(words: &mut Words<'_, 'a>) -> Vec<Destination> {
+    let hosts = words.destinations();
+    if words.count("to") > MAX_HOSTS {
         words.refuse(Fault::TooManyDestinations);
     }
     hosts
 }
 
 // The time to live of what is sent to groups; one that nothing sent would have is refused.
-fn time_to_live<'a>(words: &mut Words<'_, 'a>, to: &[SocketAddrV4]) -> u8 {
+fn time_to_live<'a>(words: &mut Words<'_, 'a>, to: &[Destination]) -> u8 {
     let ttl = words.octet("ttl");
     if ttl != 1 && !to.iter().any(is_group) {
         words.without("ttl", "multicast");
@@ -188,7 +207,6 @@ fn desk<'a>(words: &mut Words<'_, 'a>) -> Asked<'a> {
     let to = destinations(words);
     let ttl = time_to_live(words, to.as_slice());
     words.without("stay", "script");
-    words.beside("to", "multicast");
     // (its orders are there)
     words.take_input();
     Asked::Desk(DeskAsked {
@@ -200,6 +218,7 @@ fn desk<'a>(words: &mut Words<'_, 'a>) -> Asked<'a> {
         script: words.optional_file("script"),
         first,
         stays: words.is_given("stay"),
+        is_standby: words.is_given("standby"),
     })
 }
 
@@ -267,11 +286,11 @@ fn asked_of<'a>(command: &str, words: &mut Words<'_, 'a>) -> Asked<'a> {
         "watch" => watch(words),
         "check" => Asked::Check(CheckAsked {
             kind: words.value("as", kind),
-            files: words.paths(),
+            files: words.paths("FILE"),
         }),
         "manual" => Asked::Manual(Syntax::Manual),
         "completion" => Asked::Manual(shell_of(words.text("SHELL")).unwrap_or(Syntax::Bash)),
-        _ => Asked::Decode(words.paths()),
+        _ => Asked::Decode(words.paths("FILE")),
     }
 }
 

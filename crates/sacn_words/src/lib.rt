@@ -11,8 +11,10 @@ mod table;
 mod tree;
 
 pub use asked::{
-    Asked, CheckAsked, DeskAsked, ExplainAsked, GatewayAsked, WatchAsked, moment_of, parse,
+    Asked, CheckAsked, DeskAsked, ExplainAsked, GatewayAsked, MAX_SETUPS, WatchAsked, moment_of,
+    parse,
 };
 pub use manual::Syntax;
 pub use program::manual_text;
 pub use reading::STANDARD_INPUT;
+pub use spelled::FrameForm;

@@ -1,10 +1,11 @@
 //! What clap matched, read: what a word spells, or else the first of the faults.
 use crate::manual::{ArgumentKind, Subcommand};
-use crate::spelled::{WordFault, is_device, universes, widget};
+use crate::spelled::{WordFault, destination, is_device, universes, widget};
 use crate::table::commands;
 use crate::tree::error_of;
 use clap::parser::ValueSource;
 use clap::{ArgMatches, Error};
+use sacn_desk::{Destination, UniverseRange};
 use std::alloc::{AllocError, Global};
 
 /// The word for standard input where a file is read. A file of this name is `./-`.
@@ -17,6 +18,7 @@ pub enum Fault<'a> {
     /// A word, and what it isn't.
     Word(&'a str, WordFault),
     TooManyDestinations,
+    TooManySetups,
     /// A number that isn't spelled by digits alone: clap takes a sign before them.
     Number(&'static str),
     /// An option that may not be given with another.
@@ -199,10 +201,10 @@ impl<'m, 'a> Words<'m, 'a> {
     }
 
     /// Files.
-    pub fn paths(&mut self) -> Vec<&'a str> {
+    pub fn paths(&mut self, name: &str) -> Vec<&'a str> {
         let mut paths = Vec::new(self.alloc);
         let matches = self.matches;
-        if let Some(words) = matches.get_strs("FILE") {
+        if let Some(words) = matches.get_strs(name) {
             for word in words {
                 self.note_file(word);
                 self.push(&mut paths, *word);
@@ -224,6 +226,70 @@ impl<'m, 'a> Words<'m, 'a> {
             }
         }
         widgets
+    }
+
+    /// How often an option is given.
+    pub fn count(&self, name: &str) -> usize {
+        match self.matches.get_strs(name) {
+            Some(words) => words.len(),
+            None => 0,
+        }
+    }
+
+    /// The hosts that are sent to, each once, with the universes that go there.
+    pub fn destinations(&mut self) -> Vec<Destination> {
+        let mut hosts = Vec::new(self.alloc);
+        let matches = self.matches;
+        if let Some(words) = matches.get_strs("to") {
+            for word in words {
+                self.add_destination(&mut hosts, word);
+            }
+        }
+        hosts
+    }
+
+    // A host and its port, before which universes and an equals sign may stand.
+    fn add_destination(&mut self, hosts: &mut Vec<Destination>, word: &'a str) {
+        let (named, place) = match word.split_once('=') {
+            Some((named, place)) => (Some(named), place),
+            None => (None, word),
+        };
+        let address = match destination(place) {
+            Ok(address) => address,
+            Err(fault) => return self.refuse(Fault::Word(word, fault)),
+        };
+        let universes = self.ranges(word, named);
+        let earlier = hosts.iter().position(|host| host.address == address);
+        match earlier.and_then(|place| hosts.get_mut(place)) {
+            Some(host) => self.add_universes(host, universes),
+            None => self.push(hosts, Destination { address, universes }),
+        }
+    }
+
+    // A host that is named twice takes what it takes by either; none are all.
+    fn add_universes(&mut self, host: &mut Destination, universes: Vec<UniverseRange>) {
+        if host.universes.is_empty() || universes.is_empty() {
+            host.universes.clear();
+            return;
+        }
+        for range in universes.as_slice() {
+            self.push(&mut host.universes, *range);
+        }
+    }
+
+    // Universes that a word names, as `1-4,7`.
+    fn ranges(&mut self, word: &'a str, named: Option<&str>) -> Vec<UniverseRange> {
+        let mut ranges = Vec::new(self.alloc);
+        let Some(named) = named else {
+            return ranges;
+        };
+        for range in named.split(',') {
+            match universes(range) {
+                Ok((first, last)) => self.push(&mut ranges, UniverseRange { first, last }),
+                Err(fault) => self.refuse(Fault::Word(word, fault)),
+            }
+        }
+        ranges
     }
 
     /// Universes, by themselves or from one to another.
@@ -272,6 +338,7 @@ fn message_of(alloc: Global, fault: Fault<'_>) -> Result<String, AllocError> {
             format!(in alloc; "{word}: {fault}")
         }
         Fault::TooManyDestinations => String::from_str(alloc, "--to: TooManyDestinations"),
+        Fault::TooManySetups => String::from_str(alloc, "SETUP: TooManySetups"),
         Fault::Beside(name, other) => format!(in alloc; "--{name}: beside --{other}"),
         Fault::Without(name, other) => format!(in alloc; "--{name}: without --{other}"),
         Fault::OfLauncher(name) => {

@@ -121,6 +121,29 @@ pub fn is_device(word: &str) -> bool {
     !letters.is_empty() && letters.len() <= MAX_DEVICE && letters.iter().all(is_of_device)
 }
 
+/// How a gateway prints the frames of its ports.
+#[derive(Clone, Copy)]
+pub enum FrameForm {
+    /// All digits of a frame, as a node prints it.
+    Digits,
+    /// The slots of a frame that aren't 0.
+    Slots,
+    /// Not at all.
+    Nothing,
+}
+
+/// The words for them.
+pub const FRAME_FORMS: &[&str] = &["digits", "slots", "none"];
+
+/// What one of these words names.
+pub fn frame_form(word: &str) -> FrameForm {
+    match word {
+        "slots" => FrameForm::Slots,
+        "none" => FrameForm::Nothing,
+        _ => FrameForm::Digits,
+    }
+}
+
 pub fn kind(word: &str) -> Result<FileKind, WordFault> {
     match word {
         "show" => Ok(FileKind::Show),

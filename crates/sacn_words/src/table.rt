@@ -1,7 +1,7 @@
 //! The table of the commands and their arguments. Help, manual and completions are made from it.
 use crate::arguments::{
-    DESK_SCRIPT_HELP, FIRST, FLAG, HELP, HELP_LETTER, JOIN, JSON, LISTEN, OPERAND, OPTION, PAGE,
-    SCRIPT_HELP, SECONDS, SETUP, SETUP_HELP, SHOW, TURNS,
+    DESK_SCRIPT_HELP, FIRST, FLAG, FRAMES, HELP, HELP_LETTER, JOIN, JSON, LISTEN, OPERAND, OPTION,
+    PAGE, SCRIPT_HELP, SECONDS, SETUP, SETUP_HELP, SHOW, TURNS,
 };
 use crate::manual::{Argument, ArgumentKind, SHELL_WORDS, SHELLS, Subcommand};
 use std::alloc::{AllocError, Global};
@@ -66,17 +66,21 @@ const CONSOLE: Subcommand<'static> = Subcommand {
 
 const NODE: Subcommand<'static> = Subcommand {
     name: "node",
-    about: "Hears datagrams on 127.0.0.1, and prints each port's frame whenever it is another",
+    about: "Hears datagrams on 127.0.0.1, and prints each port's frame when it changes",
     usage: "sacn node --turns <N> <SETUP>",
     arguments: &[SETUP, TURNS, HELP_LETTER, HELP],
 };
 
 const GATEWAY: Subcommand<'static> = Subcommand {
     name: "gateway",
-    about: "Hears a rig until it is stopped, and prints each port's frame whenever it is another",
-    usage: "sacn gateway [OPTIONS] <SETUP>",
+    about: "Hears a rig until it is stopped, and prints each port's frame when it changes",
+    usage: "sacn gateway [OPTIONS] <SETUP>...",
     arguments: &[
-        SETUP,
+        Argument {
+            help: "Setups, at most 32, of one UDP port and with port numbers that are all different: TOML files of a node's ports, each with a universe or ranges of slots, as examples/node.toml",
+            is_repeated: true,
+            ..SETUP
+        },
         LISTEN,
         JOIN,
         Argument {
@@ -88,7 +92,7 @@ const GATEWAY: Subcommand<'static> = Subcommand {
         },
         Argument {
             name: "widget",
-            help: "An interface with the protocol of the DMX USB Pro, for a port of the setup",
+            help: "An interface with the protocol of the DMX USB Pro, for a port of a setup",
             value: Some("PORT=DEVICE"),
             is_repeated: true,
             ..OPTION
@@ -102,6 +106,7 @@ const GATEWAY: Subcommand<'static> = Subcommand {
             help: "Shows what it hears on this terminal, in place of the frames",
             ..FLAG
         },
+        FRAMES,
         SECONDS,
         HELP_LETTER,
         HELP,
@@ -110,20 +115,20 @@ const GATEWAY: Subcommand<'static> = Subcommand {
 
 const DESK: Subcommand<'static> = Subcommand {
     name: "desk",
-    about: "Sends a show's universes to a rig as a script and standard input order, until these end",
+    about: "Plays a show to a rig, by a script and by the orders that are typed, until these end",
     usage: "sacn desk [OPTIONS] <SHOW>",
     arguments: &[
         SHOW,
         Argument {
             name: "to",
-            help: "A host that it sends to, at most 64; else the show's ports on 127.0.0.1",
-            value: Some("ADDRESS[:PORT]"),
+            help: "A host that it sends to, at most 64, by its name or address; with universes before it, as 1-4,7=HOST, these alone go there; else the show's ports on 127.0.0.1",
+            value: Some("[UNIVERSES=]HOST[:PORT]"),
             is_repeated: true,
             ..OPTION
         },
         Argument {
             name: "multicast",
-            help: "Sends each universe to its group",
+            help: "Sends each universe to its group, beside the hosts of --to",
             ..FLAG
         },
         Argument {
@@ -150,6 +155,11 @@ const DESK: Subcommand<'static> = Subcommand {
         Argument {
             name: "stay",
             help: "Goes on after the script",
+            ..FLAG
+        },
+        Argument {
+            name: "standby",
+            help: "Begins with every universe ended: none is sent until `start UNIVERSE` or `start all` is ordered",
             ..FLAG
         },
         HELP_LETTER,
