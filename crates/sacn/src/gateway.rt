@@ -1,14 +1,17 @@
 //! A gateway, and a page or a screen of what it hears.
+use crate::frames::{Unprinted, lines_of, run_printing};
 use crate::page::say_page;
 use crate::screen::{screen_of, size_file};
+use crate::source_lines::{Spoken, endpoint_of};
 use crate::watch::watch_end;
 use sacn_commands::ending::Ending;
-use sacn_commands::gateway::{diagnosis_of, receiver_of, run_setup, setup_of};
-use sacn_commands::live::{clock_of, joined_groups, of_socket, universes_of_setup};
+use sacn_commands::gateway::{address_of, diagnosis_of, receiver_of, run_setups, setups_of};
+use sacn_commands::live::{clock_of, joined_groups, of_socket, universes_of_setups};
 use sacn_gateway::limits::TURN_SPAN;
-use sacn_gateway::{Diagnosis, Notes, PassedOver};
+use sacn_gateway::{Notes, PassedOver};
+use sacn_machine::limits::MAX_BURST;
 use sacn_machine::{
-    DeviceFault, Lines, Octets4, Outputs, UdpReceiver, guard_standard_descriptors,
+    DeviceFault, Octets4, Outlet, Outputs, UdpReceiver, guard_standard_descriptors,
     output_is_terminal,
 };
 use sacn_monitor::Endpoint;
@@ -19,7 +22,7 @@ use sacn_watch::{Screen, Sizes, WatchFault, Watcher};
 use sacn_words::GatewayAsked;
 use std::alloc::{AllocError, Global};
 use std::env::Env;
-use std::io::{self, Read, Write};
+use std::io::{Read, Write};
 use std::net::{Net, SocketAddrV4};
 use std::rt::{Clock, Files};
 use std::str;
@@ -33,7 +36,7 @@ pub fn gateway<R: AllocGlobal + Files + Env + Net + Clock, I: Read + Drop>(
 ) -> Result<(), Ending> {
     guard_standard_descriptors();
     let mut clock = clock_of(rt)?;
-    let outputs = Outputs::new(rt.alloc(), Lines::Frames)?;
+    let outputs = Outputs::new(rt.alloc(), lines_of(asked))?;
     let run = gateway_on(rt, asked, input, &outputs);
     outputs.finish(&mut clock);
     run
@@ -45,59 +48,56 @@ fn gateway_on<R: AllocGlobal + Files + Env + Net + Clock, I: Read + Drop>(
     input: &mut I,
     outputs: &Outputs,
 ) -> Result<(), Ending> {
-    let setup = setup_of(rt, asked, input, &mut outputs.err())?;
+    let setups = setups_of(rt, asked, input, &mut outputs.err())?;
     let joined = joined_groups(rt);
     if asked.is_watched && output_is_terminal() {
-        return run_on_screen(rt, asked, &setup, (outputs, joined));
+        return run_on_screen(rt, asked, setups.as_slice(), (outputs, joined));
     }
     match asked.page {
-        Some(place) => run_shown(rt, asked, &setup, place, (outputs, joined)),
-        None => run_alone(rt, asked, &setup, (outputs, joined)),
+        Some(place) => run_shown(rt, asked, setups.as_slice(), place, (outputs, joined)),
+        None => run_alone(rt, asked, setups.as_slice(), (outputs, joined)),
     }
 }
 
 // Runs a gateway that serves no page. (Out of line, as the next two: no other command's stack has room for it.)
 #[inline(never)]
-fn run_alone<'a, R: AllocGlobal + Net + Clock>(
+fn run_alone<'a, R: AllocGlobal + Env + Net + Clock>(
     rt: &'a R,
     asked: &GatewayAsked<'_>,
-    setup: &NodeSetup,
+    setups: &[NodeSetup],
     (outputs, joined): (&'a Outputs, Option<String>),
 ) -> Result<(), Ending> {
-    let mut receiver = receiver_of(rt, asked, setup, &mut outputs.err())?;
+    let mut receiver = receiver_of(rt, asked, setups, &mut outputs.err())?;
     receiver.tend(outputs, joined);
-    let mut diagnosis = diagnosis_of(rt, &receiver, outputs.err())?;
-    let out = outputs.out();
-    run_setup(rt, asked, setup, &mut receiver, &mut diagnosis, out)
+    let mut spoken = spoken_of(rt, &receiver, outputs)?;
+    run_printing(rt, asked, setups, &mut receiver, &mut spoken, outputs)
 }
 
 // Runs a gateway that serves a page at this place.
 #[inline(never)]
-fn run_shown<'a, R: AllocGlobal + Net + Clock>(
+fn run_shown<'a, R: AllocGlobal + Env + Net + Clock>(
     rt: &'a R,
     asked: &GatewayAsked<'_>,
-    setup: &NodeSetup,
+    setups: &[NodeSetup],
     place: SocketAddrV4,
     (outputs, joined): (&'a Outputs, Option<String>),
 ) -> Result<(), Ending> {
     let board = Board::new(rt.alloc(), None, MAX_ALARMS)?;
     let pages = Pages::bind(rt, rt.alloc(), place, board);
     let mut pages = of_socket(pages, place, &mut outputs.err())?;
-    let mut receiver = receiver_of(rt, asked, setup, &mut outputs.err())?;
+    let mut receiver = receiver_of(rt, asked, setups, &mut outputs.err())?;
     receiver.tend(outputs, joined);
     receiver.wait_beside(pages.descriptor());
     say_page(place, &mut outputs.err());
     let mut shown = Shown {
-        diagnosis: diagnosis_of(rt, &receiver, outputs.err())?,
+        spoken: spoken_of(rt, &receiver, outputs)?,
         viewers: &mut pages,
         name: "page",
         err: outputs.err(),
         has_failed: false,
-        begun: None,
-        looked: 0,
+        turn: Turn::new(),
     };
-    let out = outputs.out();
-    run_setup(rt, asked, setup, &mut receiver, &mut shown, out)
+    run_printing(rt, asked, setups, &mut receiver, &mut shown, outputs)
 }
 
 // Runs a gateway that shows what it hears on the terminal at standard output, in place of its frames.
@@ -105,18 +105,18 @@ fn run_shown<'a, R: AllocGlobal + Net + Clock>(
 fn run_on_screen<'a, R: AllocGlobal + Files + Env + Net + Clock>(
     rt: &'a R,
     asked: &GatewayAsked<'_>,
-    setup: &NodeSetup,
+    setups: &[NodeSetup],
     (outputs, joined): (&'a Outputs, Option<String>),
 ) -> Result<(), Ending> {
-    let mut receiver = receiver_of(rt, asked, setup, &mut outputs.err())?;
+    let mut receiver = receiver_of(rt, asked, setups, &mut outputs.err())?;
     receiver.tend(outputs, joined);
-    let universe = universes_of_setup(rt, setup)?.first().copied();
+    let universe = universes_of_setups(rt, setups)?.first().copied();
     let size_file = size_file(rt);
-    let address = SocketAddrV4::new(asked.listen, setup.udp_port());
+    let address = address_of(asked, setups);
     let mut out = outputs.out();
     let screen = screen_of(rt, size_file.as_deref(), address, universe, &mut out);
     let mut screen = PatientScreen::new(rt.alloc(), watch_end(screen)?, outputs);
-    let run = run_beside_screen(rt, asked, setup, &mut receiver, &mut screen, outputs);
+    let run = run_beside_screen(rt, asked, setups, &mut receiver, &mut screen, outputs);
     screen.leave();
     run
 }
@@ -125,35 +125,30 @@ fn run_on_screen<'a, R: AllocGlobal + Files + Env + Net + Clock>(
 fn run_beside_screen<'a, R: AllocGlobal + Net + Clock, W: Watcher>(
     rt: &'a R,
     asked: &GatewayAsked<'_>,
-    setup: &NodeSetup,
+    setups: &[NodeSetup],
     receiver: &mut UdpReceiver<'a, R>,
     screen: &mut W,
     outputs: &'a Outputs,
 ) -> Result<(), Ending> {
     let mut shown = Shown {
-        diagnosis: diagnosis_of(rt, receiver, outputs.err())?,
+        spoken: spoken_of(rt, receiver, outputs)?,
         viewers: screen,
         name: "screen",
         err: outputs.err(),
         has_failed: false,
-        begun: None,
-        looked: 0,
+        turn: Turn::new(),
     };
-    run_setup(rt, asked, setup, receiver, &mut shown, Unprinted)
+    run_setups(rt, asked, setups, receiver, &mut shown, Unprinted)
 }
 
-/// Frames that aren't printed, since a screen stands where they would be.
-#[derive(Drop)]
-struct Unprinted;
-
-impl Write for Unprinted {
-    fn write(&mut self, octets: &[u8]) -> io::Result<usize> {
-        Ok(octets.len())
-    }
-
-    fn flush(&mut self) -> io::Result<()> {
-        Ok(())
-    }
+// What says on standard error what a gateway hears.
+fn spoken_of<'a, R: AllocGlobal + Net + Clock>(
+    rt: &'a R,
+    receiver: &UdpReceiver<'a, R>,
+    outputs: &'a Outputs,
+) -> Result<Spoken<Outlet<'a>>, Ending> {
+    let diagnosis = diagnosis_of(rt, receiver, outputs.err())?;
+    Ok(Spoken::new(rt.alloc(), diagnosis, outputs.err())?)
 }
 
 /// A screen beside a gateway. It draws only where all that it drew before has gone out, and its last row is the newest line of standard error.
@@ -234,34 +229,75 @@ impl<'s, 'o, O: Write, Z: Sizes> Watcher for PatientScreen<'s, 'o, O, Z> {
 /// How long viewers wait at most while more datagrams come than a turn takes, in milliseconds.
 const PATIENCE: u64 = 250;
 
+/// What a turn brought so far, and when viewers were looked at last.
+#[derive(Clone, Copy)]
+struct Turn {
+    /// The moment of the turn's first datagram.
+    begun: u64,
+    /// The turn's receives that brought something.
+    receives: usize,
+    /// The moment at which viewers were looked at last.
+    looked: u64,
+    /// They weren't looked at when the latest turn ended.
+    is_owed: bool,
+}
+
+impl Turn {
+    /// Nothing came yet.
+    fn new() -> Turn {
+        Turn {
+            begun: 0,
+            receives: 0,
+            looked: 0,
+            is_owed: false,
+        }
+    }
+
+    /// A receive brought something.
+    fn note(&mut self, now: u64) {
+        if self.receives == 0 {
+            self.begun = now;
+        }
+        self.receives = self.receives.saturating_add(1);
+    }
+
+    /// Whether it took as long as a turn may, or as many datagrams, so that more wait.
+    fn is_full(&self, now: u64) -> bool {
+        self.receives >= MAX_BURST
+            || self.receives > 0 && now >= self.begun.saturating_add(TURN_SPAN)
+    }
+
+    /// Ends the turn. Returns whether viewers are to be looked at: they wait where more datagrams do, and they were looked at a
+    /// short while ago.
+    fn end(&mut self, now: u64) -> bool {
+        self.is_owed = self.is_full(now) && now < self.due();
+        self.receives = 0;
+        if !self.is_owed {
+            self.looked = now;
+        }
+        !self.is_owed
+    }
+
+    /// The moment from which on viewers wait no longer.
+    fn due(&self) -> u64 {
+        self.looked.saturating_add(PATIENCE)
+    }
+}
+
 /// Looks on at a gateway, for its standard error and for those who view what it hears.
 #[derive(Drop)]
-struct Shown<'a, E, W> {
-    diagnosis: Diagnosis<E>,
+struct Shown<'a, E, S, W> {
+    spoken: Spoken<S>,
     viewers: &'a mut W,
     /// What they look at.
     name: &'static str,
     err: E,
     /// It was said that something can't be shown.
     has_failed: bool,
-    /// The moment of the turn's first datagram.
-    begun: Option<u64>,
-    /// The moment at which viewers were looked at last.
-    looked: u64,
+    turn: Turn,
 }
 
-impl<'a, E: Write, W: Watcher> Shown<'a, E, W> {
-    // Whether viewers have to wait at the end of a turn: it took as long as a turn may, so that more datagrams wait, and viewers were
-    // looked at a short while ago.
-    fn is_behind(&mut self, now: u64) -> bool {
-        match self.begun.take() {
-            Some(begun) => {
-                now >= begun.saturating_add(TURN_SPAN) && now < self.looked.saturating_add(PATIENCE)
-            }
-            None => false,
-        }
-    }
-
+impl<'a, E: Write, S: Write + Drop, W> Shown<'a, E, S, W> {
     // Says, once, that there wasn't memory for all that viewers are to be shown, or that it can't be written. The gateway goes on, and so do they.
     fn note_viewers(&mut self, came: Result<(), WatchFault>) {
         let Err(fault) = came else {
@@ -279,7 +315,7 @@ impl<'a, E: Write, W: Watcher> Shown<'a, E, W> {
     }
 }
 
-impl<'a, E: Write, W: Watcher> Notes for Shown<'a, E, W> {
+impl<'a, E: Write, S: Write + Drop, W: Watcher> Notes for Shown<'a, E, S, W> {
     fn note_taken(
         &mut self,
         now: u64,
@@ -287,39 +323,37 @@ impl<'a, E: Write, W: Watcher> Notes for Shown<'a, E, W> {
         reading: &Reading<'_>,
         taken: NodeTaken,
     ) {
-        self.begun = self.begun.or(Some(now));
-        self.diagnosis.note_taken(now, sender, reading, taken);
-        let sender = Endpoint {
-            address: sender.ip().octets(),
-            port: sender.port(),
-        };
-        let came = self.viewers.take(now, sender, reading);
+        self.turn.note(now);
+        self.spoken.note_taken(now, sender, reading, taken);
+        let came = self.viewers.take(now, endpoint_of(sender), reading);
         self.note_viewers(came);
     }
 
     fn note_passed_over(&mut self, now: u64, sender: Octets4, why: PassedOver) {
-        self.diagnosis.note_passed_over(now, sender, why);
+        self.turn.note(now);
+        self.spoken.note_passed_over(now, sender, why);
     }
 
     fn note_failure(&mut self, now: u64) {
-        self.diagnosis.note_failure(now);
+        self.spoken.note_failure(now);
     }
 
     fn note_interface(&mut self, port: u8, name: &str, fault: Option<DeviceFault>) {
-        self.diagnosis.note_interface(port, name, fault);
+        self.spoken.note_interface(port, name, fault);
     }
 
     fn note_turn(&mut self, now: u64) {
-        self.diagnosis.note_turn(now);
-        if self.is_behind(now) {
-            return;
+        self.spoken.note_turn(now);
+        if self.turn.end(now) {
+            let came = self.viewers.show(now);
+            self.note_viewers(came);
         }
-        self.looked = now;
-        let came = self.viewers.show(now);
-        self.note_viewers(came);
     }
 
     fn wakes(&self) -> u64 {
+        if self.turn.is_owed {
+            return self.turn.due();
+        }
         self.viewers.wakes()
     }
 }

@@ -3,6 +3,7 @@
 
 mod check;
 mod explain;
+mod frames;
 mod gateway;
 mod manual;
 mod page;
@@ -11,6 +12,7 @@ mod program;
 mod recording;
 mod room;
 mod screen;
+mod source_lines;
 mod watch;
 
 use sacn_commands::ending;

@@ -98,7 +98,7 @@ fn terminal_of<'a, R: AllocGlobal + Env, O: Write>(
     out: &'a mut O,
 ) -> Result<Terminal<'a, O>, WatchFault> {
     let size = Size {
-        width: extent(rt, "COLUMNS", 80),
+        width: columns(rt),
         height: extent(rt, "LINES", 24),
     };
     let has_colours = variable(rt, "NO_COLOR").is_none();
@@ -111,6 +111,11 @@ fn variable<R: AllocGlobal + Env>(rt: &R, name: &str) -> Option<String> {
         Ok(value) if !value.is_empty() => Some(value),
         _ => None,
     }
+}
+
+/// The columns of the terminal, as the environment says, or else 80.
+pub fn columns<R: AllocGlobal + Env>(rt: &R) -> usize {
+    extent(rt, "COLUMNS", 80)
 }
 
 // A number of columns or rows.

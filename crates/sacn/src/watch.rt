@@ -11,7 +11,7 @@ use sacn_watch::{RunningListener, WatchFault, watch_lines};
 use sacn_words::{WatchAsked, moment_of};
 use std::env::Env;
 use std::io::{ErrorKind, Write};
-use std::net::{Net, SocketAddrV4, UdpSocket};
+use std::net::{Ipv4Addr, Net, SocketAddrV4, UdpSocket};
 use std::rt::{Clock, Files};
 
 /// What came of a watch, where its fault ends the run.
@@ -103,11 +103,30 @@ fn tell_on<'a, R: AllocGlobal + Net + Clock, O: Write>(
     watch_end(watch_lines(rt.alloc(), &mut listener, &options, until, out))
 }
 
-// Whether another receiver has the port. (A socket that shares nothing gets it only where none has, and is closed at once.)
+/// An address of the machine's own (RFC 1122, 3.2.1.3) at which nothing listens alone.
+const UNUSED: [u8; 4] = [127, 255, 255, 254];
+
+// Whether another receiver would lose packets to one at this address: where that is all of the machine's, one that has all of them, too.
+// What is bound to one address, or to a group, keeps what is sent there.
 fn is_taken<R: Net>(rt: &R, address: SocketAddrV4) -> bool {
-    match UdpSocket::bind(rt, (*address.ip(), address.port())) {
-        Ok(_) => false,
-        Err(error) => matches!(error.kind(), ErrorKind::AddrInUse),
+    let port = address.port();
+    if *address.ip() != Ipv4Addr::UNSPECIFIED {
+        return probe(rt, *address.ip(), port) == Some(ErrorKind::AddrInUse);
+    }
+    match probe(rt, Ipv4Addr::from_octets(UNUSED), port) {
+        // (a machine without a loopback)
+        Some(ErrorKind::AddrNotAvailable) => {
+            probe(rt, Ipv4Addr::UNSPECIFIED, port) == Some(ErrorKind::AddrInUse)
+        }
+        fault => fault == Some(ErrorKind::AddrInUse),
+    }
+}
+
+// Why a socket that shares nothing doesn't get this port. One that gets it is closed at once.
+fn probe<R: Net>(rt: &R, address: Ipv4Addr, port: u16) -> Option<ErrorKind> {
+    match UdpSocket::bind(rt, (address, port)) {
+        Ok(_) => None,
+        Err(error) => Some(error.kind()),
     }
 }
 

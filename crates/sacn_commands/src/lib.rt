@@ -1,5 +1,5 @@
 //! The commands over the lower crates, and how any command ends: datagrams decoded and worlds simulated
-//! (`printing`), a console and a node on 127.0.0.1 (`network`), gateways (`gateway`), desks (`live`); what is wrong in
+//! (`printing`), a console and a node on 127.0.0.1 (`network`), gateways (`gateway`), desks (`live`, `hosts`); what is wrong in
 //! a refused file (`places`).
 //!
 //! What watches a network or tells a recording stands in the program, over crates that are proved later.
@@ -8,6 +8,7 @@
 pub mod ending;
 pub mod files;
 pub mod gateway;
+pub mod hosts;
 pub mod live;
 pub mod naming;
 pub mod network;

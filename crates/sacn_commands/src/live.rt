@@ -1,6 +1,7 @@
 //! Desks that run a rig, and what commands say of files and sockets.
 use crate::ending::{DEVICE_FAILED, Ending, of_write};
 use crate::files::{text_of_file, text_of_word};
+use crate::hosts::{destinations_of, say_unsent};
 use crate::naming::of_file;
 use crate::network::tell;
 use crate::places::ReadFile;
@@ -10,18 +11,18 @@ use sacn_console::{Command, ConsoleCore, Show, read_script, read_show};
 use sacn_desk::limits::MAX_ROUNDS;
 use sacn_desk::{
     DISCOVERY_UNIVERSE, DeskLink, DeskOrders, DeskSender, Destinations, Opening, Origin, Plan,
-    run_desk,
+    Standby, run_desk, write_start,
 };
-use sacn_edge::ConsoleReport;
+use sacn_edge::{Clock as DeskClock, ConsoleReport};
 use sacn_machine::limits::RECEIVE_ROOM;
-use sacn_machine::{Lines, Outputs, RigClock, guard_standard_descriptors};
+use sacn_machine::{Lines, Outputs, RigClock, Sockets, guard_standard_descriptors};
 use sacn_node::{NodeSetup, read_node};
 use sacn_packets::multicast_group;
 use sacn_words::DeskAsked;
 use std::alloc::Global;
 use std::env::{self, Env};
 use std::io::{ErrorKind, Read, Write};
-use std::net::{Ipv4Addr, Net, SocketAddrV4};
+use std::net::{Net, SocketAddrV4};
 use std::rt::{Clock, Files};
 
 /// Says why the machine refused a socket, and returns how the run ends.
@@ -32,7 +33,21 @@ pub fn say_socket_fault<E: Write>(address: SocketAddrV4, kind: ErrorKind, err: &
         "device socket {a}.{b}.{c}.{d}:{} {kind:?}",
         address.port()
     );
+    if let Some(advice) = advice_of(kind) {
+        let _ = writeln!(err, "{advice}");
+    }
     Ending::Said(DEVICE_FAILED)
+}
+
+// What to look at where a socket is refused for this reason.
+fn advice_of(kind: ErrorKind) -> Option<&'static str> {
+    match kind {
+        ErrorKind::AddrInUse => Some("another program has that port; ss -lnptu names it"),
+        ErrorKind::AddrNotAvailable => {
+            Some("no device of this machine has that address; ip -brief address lists them")
+        }
+        _ => None,
+    }
 }
 
 /// What has its socket at this address; where the machine refused it, that is said.
@@ -117,13 +132,31 @@ pub fn joined_groups<R: AllocGlobal + Env>(rt: &R) -> Option<String> {
     }
 }
 
-/// The universes of a setup, ascending.
-pub fn universes_of_setup<R: AllocGlobal>(rt: &R, setup: &NodeSetup) -> Result<Vec<u16>, Ending> {
-    let mut universes = Vec::new(rt.alloc());
+fn push_universes(universes: &mut Vec<u16>, setup: &NodeSetup) -> Result<(), Ending> {
     for port in setup.ports() {
         for range in port.ranges() {
             universes.push(range.universe)?;
         }
+    }
+    Ok(())
+}
+
+fn universes_of_setup<R: AllocGlobal>(rt: &R, setup: &NodeSetup) -> Result<Vec<u16>, Ending> {
+    let mut universes = Vec::new(rt.alloc());
+    push_universes(&mut universes, setup)?;
+    universes.sort()?;
+    universes.dedup();
+    Ok(universes)
+}
+
+/// The universes of setups, ascending.
+pub fn universes_of_setups<R: AllocGlobal>(
+    rt: &R,
+    setups: &[NodeSetup],
+) -> Result<Vec<u16>, Ending> {
+    let mut universes = Vec::new(rt.alloc());
+    for setup in setups {
+        push_universes(&mut universes, setup)?;
     }
     universes.sort()?;
     universes.dedup();
@@ -141,25 +174,6 @@ pub fn say_hearing<E: Write>(address: SocketAddrV4, room: Option<u32>, err: &mut
     }
 }
 
-// Where a desk sends.
-fn destinations_of<R: AllocGlobal>(
-    rt: &R,
-    asked: &DeskAsked<'_>,
-    show: &Show,
-) -> Result<Destinations, Ending> {
-    if asked.is_multicast {
-        return Ok(Destinations::Groups);
-    }
-    let mut hosts = Vec::new(rt.alloc());
-    hosts.extend_from_slice(asked.to.as_slice())?;
-    if hosts.is_empty() {
-        for port in show.send_to() {
-            hosts.push(SocketAddrV4::new(Ipv4Addr::LOCALHOST, *port))?;
-        }
-    }
-    Ok(Destinations::Hosts(hosts))
-}
-
 /// Runs a desk, and prints what came of it on standard output. No output that isn't read holds it up.
 pub fn desk<R: AllocGlobal + Files + Net + Clock>(
     rt: &R,
@@ -168,96 +182,144 @@ pub fn desk<R: AllocGlobal + Files + Net + Clock>(
     guard_standard_descriptors();
     let mut clock = clock_of(rt)?;
     let outputs = Outputs::new(rt.alloc(), Lines::Plain)?;
-    let run = desk_on(rt, asked, &mut outputs.out(), &mut outputs.err());
+    let run = desk_on(rt, asked, &outputs);
     outputs.finish(&mut clock);
     run
 }
 
-fn desk_on<R: AllocGlobal + Files + Net + Clock, O: Write, E: Write>(
+fn desk_on<R: AllocGlobal + Files + Net + Clock>(
     rt: &R,
     asked: &DeskAsked<'_>,
-    out: &mut O,
-    err: &mut E,
+    outputs: &Outputs,
 ) -> Result<(), Ending> {
-    let show = show_of_file(rt, asked.show, err)?;
+    let show = show_of_file(rt, asked.show, &mut outputs.err())?;
     match asked.script {
-        Some(path) => perform_script(rt, asked, &show, path, out, err),
-        None => perform(rt, asked, &show, None, out, err),
+        Some(path) => perform_script(rt, asked, &show, path, outputs),
+        None => perform(rt, asked, &show, None, outputs),
     }
 }
 
-fn perform_script<R: AllocGlobal + Files + Net + Clock, O: Write, E: Write>(
+fn perform_script<R: AllocGlobal + Files + Net + Clock>(
     rt: &R,
     asked: &DeskAsked<'_>,
     show: &Show,
     path: &str,
-    out: &mut O,
-    err: &mut E,
+    outputs: &Outputs,
 ) -> Result<(), Ending> {
-    let script = script_of_file(rt, path, err)?;
-    perform(rt, asked, show, Some(script.as_slice()), out, err)
+    let script = script_of_file(rt, path, &mut outputs.err())?;
+    perform(rt, asked, show, Some(script.as_slice()), outputs)
 }
 
-fn perform<R: AllocGlobal + Net + Clock, O: Write, E: Write>(
+fn perform<R: AllocGlobal + Net + Clock>(
     rt: &R,
     asked: &DeskAsked<'_>,
     show: &Show,
     script: Option<&[(u64, Command)]>,
-    out: &mut O,
-    err: &mut E,
+    outputs: &Outputs,
 ) -> Result<(), Ending> {
     let plan = Plan {
         show,
         script,
         stays: asked.stays,
+        is_standby: asked.is_standby,
+        outputs: Some(outputs),
     };
-    let destinations = destinations_of(rt, asked, show)?;
+    let destinations = destinations_of(rt, asked, show, &mut outputs.err())?;
     let mut core = ConsoleCore::new(rt.alloc(), show, asked.first)?;
-    let report = send_show(rt, asked, plan, destinations, &mut core, out, err)?;
-    tell(&report, out)
+    let sent = send_show(rt, asked, plan, destinations, &mut core, outputs)?;
+    tell(&sent.report, &mut outputs.out())?;
+    tell_unsent(&sent, &mut outputs.err())
+}
+
+// What a desk sent.
+#[derive(Clone, Copy)]
+struct Sent {
+    report: ConsoleReport,
+    // Whether a host or a group took a packet.
+    has_sent: bool,
+}
+
+// A desk of which no packet went out has failed, and that is said.
+fn tell_unsent<E: Write>(sent: &Sent, err: &mut E) -> Result<(), Ending> {
+    if sent.has_sent || sent.report.failed == 0 {
+        return Ok(());
+    }
+    let _ = writeln!(
+        err,
+        "no packet could be sent: is this machine's network up, and are these the right hosts?"
+    );
+    Err(Ending::Said(DEVICE_FAILED))
 }
 
 // Sends from sockets of its own.
-fn send_show<R: AllocGlobal + Net + Clock, O: Write, E: Write>(
+fn send_show<R: AllocGlobal + Net + Clock>(
     rt: &R,
     asked: &DeskAsked<'_>,
     plan: Plan<'_>,
     destinations: Destinations,
     core: &mut ConsoleCore,
-    out: &mut O,
-    err: &mut E,
-) -> Result<ConsoleReport, Ending> {
+    outputs: &Outputs,
+) -> Result<Sent, Ending> {
     let clock = clock_of(rt)?;
     let origin = Origin {
         address: asked.bind,
         ttl: asked.ttl,
         universes: plan.show.universes().len().min(CONSOLE_UNIVERSES) as u16,
     };
-    let sender = match DeskSender::bind(
-        rt,
-        rt.alloc(),
-        origin,
-        destinations,
-        clock.twin(),
-        &mut *err,
-    ) {
+    let alloc = rt.alloc();
+    let mut err = outputs.err();
+    let _ = write_start(&mut err, alloc, plan.show, &destinations, plan.is_standby);
+    say_unsent(rt, asked, &destinations, plan.show.universes(), &mut err)?;
+    let sender = match DeskSender::bind(rt, alloc, origin, destinations, clock.twin(), err) {
         Ok(sender) => sender,
-        Err(kind) => return Err(say_socket_fault(SocketAddrV4::new(asked.bind, 0), kind, err)),
+        Err(kind) => {
+            let from = SocketAddrV4::new(asked.bind, 0);
+            return Err(say_socket_fault(from, kind, &mut outputs.err()));
+        }
     };
-    run_opened(rt.alloc(), plan, clock, sender, core, out)
+    let link = Opening::over(alloc, sender)?;
+    if plan.is_standby {
+        run_standby(alloc, plan, clock, link, core, &mut outputs.out())
+    } else {
+        run_opened(alloc, plan, clock, link, core, &mut outputs.out())
+    }
 }
 
 // Runs a desk that opens each stream so that it is taken whatever came before.
-fn run_opened<R: Clock, L: DeskLink + Drop, O: Write>(
+fn run_opened<R: Clock, S: Sockets + Drop, C: DeskClock + Drop, E: Write + Drop, O: Write>(
     alloc: Global,
     plan: Plan<'_>,
     clock: RigClock<'_, R>,
-    sender: L,
+    link: Opening<DeskSender<S, C, E>>,
     core: &mut ConsoleCore,
     out: &mut O,
-) -> Result<ConsoleReport, Ending> {
-    let mut link = Opening::over(alloc, sender)?;
-    run_orders(alloc, plan, clock, &mut link, core, out)
+) -> Result<Sent, Ending> {
+    let mut link = link;
+    let report = run_orders(alloc, plan, clock, &mut link, core, out)?;
+    Ok(Sent {
+        report,
+        has_sent: link.link().has_sent(),
+    })
+}
+
+// Such a desk that stands by also ends no stream that never began. What it keeps back isn't counted as sent.
+fn run_standby<R: Clock, S: Sockets + Drop, C: DeskClock + Drop, E: Write + Drop, O: Write>(
+    alloc: Global,
+    plan: Plan<'_>,
+    clock: RigClock<'_, R>,
+    link: Opening<DeskSender<S, C, E>>,
+    core: &mut ConsoleCore,
+    out: &mut O,
+) -> Result<Sent, Ending> {
+    let mut link = Standby::over(alloc, link)?;
+    let report = run_orders(alloc, plan, clock, &mut link, core, out)?;
+    Ok(Sent {
+        report: ConsoleReport {
+            sent: report.sent.saturating_sub(link.kept()),
+            ..report
+        },
+        has_sent: link.link().link().has_sent(),
+    })
 }
 
 // Runs a desk by this plan and standard input.
