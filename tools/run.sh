@@ -104,6 +104,49 @@ split_join() {
   done
 }
 
+# Puts into `resolved` what `--to` names, `[UNIVERSES=]HOST[:PORT]`, with the address of a host that is named; what is no name is left to the program. A name that
+# this machine doesn't know ends the run.
+resolve_host() {
+  local before='' host=$1 port='' address
+  resolved=$1
+  case $host in *=*) before=${host%%=*}= host=${host#*=} ;; esac
+  case $host in *:*) port=:${host##*:} host=${host%:*} ;; esac
+  [[ $host =~ ^[A-Za-z0-9_][A-Za-z0-9._-]*$ ]] && ! [[ $host =~ ^[0-9.]+$ ]] || return 0
+  if ! command -v getent >/dev/null; then
+    say "--to $1: names of hosts are looked up by getent, which isn't here: give the address of $host, as 10.0.0.5"
+    exit 2
+  fi
+  if ! read -r address _ < <(getent ahostsv4 "$host" 2>/dev/null); then
+    say "--to $1: this machine knows no host $host with an IPv4 address: give its address, as 10.0.0.5, or a line \`10.0.0.5 $host\` to /etc/hosts"
+    exit 2
+  fi
+  resolved=$before$address$port
+}
+
+# Puts a desk's words into `words`, with addresses in place of the names of hosts.
+resolve_hosts() {
+  local resolved
+  words=()
+  while [ $# != 0 ]; do
+    case $1 in
+      --to=*)
+        resolve_host "${1#--to=}"
+        words+=("--to=$resolved")
+        ;;
+      --to)
+        words+=("$1")
+        if [ $# -gt 1 ]; then
+          resolve_host "$2"
+          words+=("$resolved")
+          shift
+        fi
+        ;;
+      *) words+=("$1") ;;
+    esac
+    shift
+  done
+}
+
 # What the words give an option, each on a line.
 given() {
   local option=$1
@@ -117,13 +160,13 @@ given() {
   done
 }
 
-# The file among a gateway's words: the one that is no option, nor an option's value.
-setup_among() {
+# The files among a gateway's words, each on a line: those that are no option, nor an option's value.
+setups_among() {
   while [ $# != 0 ]; do
     case $1 in
-      --listen | --from | --widget | --page | --seconds) shift ;;
+      --listen | --from | --widget | --page | --frames | --seconds) shift ;;
       -?*) ;;
-      *) echo "$1"; return ;;
+      *) echo "$1" ;;
     esac
     [ $# = 0 ] || shift
   done
@@ -145,7 +188,7 @@ keep_input() {
 
 # Joins the groups that a gateway or a watch wants, for as long as this shell lives or what it becomes. What that is the program says where it hears nothing.
 join_groups() {
-  local program=$1 command=$2 groups=(239.255.250.214) lists=() port setup universe line joined
+  local program=$1 command=$2 groups=(239.255.250.214) lists=() setups=() port setup universe line joined
   shift 2
   line=$(given --listen "$@")
   if [ -n "${line//0.0.0.0/}" ]; then
@@ -162,16 +205,19 @@ join_groups() {
     exit 4
   fi
   if [ "$command" = gateway ]; then
+    mapfile -t setups < <(setups_among "$@")
     joined="the discovery group and the setup's universes"
-    setup=$(setup_among "$@")
-    if [ "$setup" = - ]; then
-      keep_input
-      setup=/proc/self/fd/0
-    fi
-    # (a faulty setup joins none: the gateway itself tells its fault)
-    while read -r line; do
-      if [[ $line =~ (239\.255\.[0-9]+\.[0-9]+) ]]; then groups+=("${BASH_REMATCH[1]}"); fi
-    done < <("$program" groups "$setup" --device lo 2>/dev/null || true)
+    if [ "${#setups[@]}" -gt 1 ]; then joined="the discovery group and the setups' universes"; fi
+    for setup in ${setups[@]+"${setups[@]}"}; do
+      if [ "$setup" = - ]; then
+        keep_input
+        setup=/proc/self/fd/0
+      fi
+      # (a faulty setup joins none: the gateway itself tells its fault)
+      while read -r line; do
+        if [[ $line =~ (239\.255\.[0-9]+\.[0-9]+) ]]; then groups+=("${BASH_REMATCH[1]}"); fi
+      done < <("$program" groups "$setup" --device lo 2>/dev/null || true)
+    done
   else
     # (the program refuses what is no universe or row of them)
     for line in $(given --universe "$@"); do
@@ -199,15 +245,14 @@ join_groups() {
   export SACN_JOINED="$device joined $joined"
 }
 
-# Whether a socket of this machine hears at a port what is sent to it. In Linux's tables the last digits of an address are its first octet: those of
-# groups begin with E, and what hears a group alone takes nothing of what is sent to this machine.
+# Whether a socket of this machine hears at a port what is sent to any of its addresses: such a one would lose packets to another one. What hears a group
+# or one address alone keeps what is sent there.
 has_receiver() {
   local port address
   printf -v port '%04X' "$1"
   while read -r _ address _; do
     case $address in
-      *E[0-9A-F]:"$port") ;;
-      *:"$port") return 0 ;;
+      00000000:"$port" | 00000000000000000000000000000000:"$port") return 0 ;;
     esac
   done < <(cat /proc/self/net/udp /proc/self/net/udp6 2>/dev/null)
   return 1
@@ -271,6 +316,12 @@ tell_size() {
   exec {size_file}<>"$copy"
   rm -f "$copy"
   export SACN_SIZE=/proc/self/fd/$size_file
+}
+
+# Tells what prints lines for a terminal how wide that is now.
+tell_width() {
+  local rows columns
+  if [ -t 1 ] && size_of_terminal; then export LINES=$rows COLUMNS=$columns; fi
 }
 
 # Tells it the size that its terminal has now, where that can be written.
@@ -358,6 +409,10 @@ run() {
   unset SACN_JOINED
   if [ $# = 0 ] && [ -t 0 ]; then say "reads one datagram as hexadecimal digits, up to Ctrl-D; \`sacn --help\` lists the commands"; fi
   case ${1-} in
+    desk)
+      resolve_hosts "$@"
+      set -- "${words[@]}"
+      ;;
     gateway | watch)
       split_join "$@"
       if [ -n "$has_join" ] && [ "$1" = watch ]; then keep_beside "$@"; fi
@@ -368,7 +423,7 @@ run() {
   case ${1-} in
     desk) feed "$program" "$@" ;;
     watch) tell_size; feed "$program" "$@" ;;
-    gateway) if draws "$@"; then tell_size; draw "$program" "$@"; else exec "$program" "$@"; fi ;;
+    gateway) if draws "$@"; then tell_size; draw "$program" "$@"; else tell_width; exec "$program" "$@"; fi ;;
     explain) if serves "$@"; then feed "$program" "$@"; else exec "$program" "$@"; fi ;;
     *) exec "$program" "$@" ;;
   esac
