@@ -157,6 +157,44 @@ def followed(browser, desk):
     verdict("a fade ends at full", took is not None)
 
 
+def ordered(desk, *orders):
+    desk.stdin.write("".join(f"{order}\n" for order in orders).encode())
+    desk.stdin.flush()
+
+
+def marked(browser, desk):
+    """Slots that changed, levels in other units, whole names, and whose sources come first."""
+    browser.js("document.getElementById('since').click()")
+    ordered(desk, "set 2 0")
+    dark = browser.until(f"{LEVEL} == 0", 2)
+    ordered(desk, "set 2 65535")
+    again = browser.until(f"{LEVEL} == 255", 2)
+    told = browser.js("return [[...document.querySelectorAll('#grid .changed')].map((it) => it.id).join(), document.getElementById('changed').textContent]")
+    verdict("a slot that changed is marked, also once it has its old level again", None not in (dark, again) and told[0] == "slot-512" and told[1].startswith("1 changed since "), f"{told}")
+    browser.picture("page-changes")
+    browser.js("document.getElementById('since').click()")
+    left = browser.js("return [document.querySelectorAll('#grid .changed').length, document.getElementById('changed').textContent]")
+    verdict("pressed again, nothing is marked", left == [0, ""], f"{left}")
+    spelled = []
+    for unit in ("hex", "percent", "decimal"):
+        browser.js(f"document.querySelector('#units [value={unit}]').click()")
+        spelled.append(browser.js("return [document.querySelector('#slot-1 b').textContent, document.querySelector('#units :checked').parentNode.textContent.trim()]"))
+    verdict("levels are spelled as is chosen, and what is chosen is seen", spelled == [["ff", "hex"], ["100", "%"], ["255", "0-255"]], f"{spelled}")
+    cid = "document.querySelector('#sources tr').lastChild.textContent"
+    short = browser.js(f"return {cid}")
+    browser.js("document.getElementById('whole').click()")
+    whole = browser.js(f"return {cid}")
+    browser.js("document.getElementById('whole').click()")
+    verdict("a CID is whole on demand", [short, whole] == ["0001..0f", "000102030405060708090a0b0c0d0e0f"], f"{short} {whole}")
+    first = "document.querySelector('#sources tr').children[1].textContent"
+    before = browser.js(f"return {first}")
+    browser.js("document.querySelector('#universes li:nth-child(2) button').click()")
+    took = browser.until(f"{first} == '7'", 3)
+    browser.js("document.querySelector('#universes li:nth-child(1) button').click()")
+    back = browser.until(f"{first} == '1' && {LEVEL} == 255", 3)
+    verdict("the chosen universe's sources come first", before == "1" and None not in (took, back), f"{before} {took} {back}")
+
+
 def plain(browser):
     """A name with markup is text."""
     told = browser.js("return [document.querySelector('#sources td.name').textContent, document.images.length, document.title]")
@@ -191,7 +229,8 @@ def killed(browser, desk):
     desk.send_signal(signal.SIGKILL)
     took = browser.until(f"{STATE}.textContent == 'lost' && {LEVEL} == 0", 6)
     grey = browser.js("return document.querySelector('#sources tr').classList.contains('gone')")
-    verdict("a killed desk goes grey after two and a half seconds", took is not None and 1.4 < took < 3.2 and grey, f"{took}")
+    is_alarm = browser.js(f"return {STATE}.classList.contains('lost')")
+    verdict("a killed desk goes grey after two and a half seconds, and its state has an alarm's colours", took is not None and 1.4 < took < 3.2 and grey and is_alarm, f"{took} {grey} {is_alarm}")
     browser.size(1400, 1000)
     browser.picture("page-lost")
 
@@ -380,6 +419,7 @@ def shown(browser, watch):
     desk = start(SACN, "desk", f"{ROOM}/show.toml")
     if heard(browser, desk):
         followed(browser, desk)
+        marked(browser, desk)
         plain(browser)
         keyed(browser)
         sized(browser)

@@ -12,7 +12,8 @@ DOCUMENTS = ["README.md", "CHANGELOG.md", *sorted(glob.glob("docs/*.md")), *sort
 
 # What stands once, or so often at most, in the code of the product's crates.
 MOST = {
-    "a datagram is read": (r"(?<!fn )(?<!proved_)\bread_packet\(", 9),
+    # (by a desk that stands by, too: which stream a packet of its own ends)
+    "a datagram is read": (r"(?<!fn )(?<!proved_)\bread_packet\(", 10),
     "a packet's kind is told": (r"\bfn kind_of\(packet\b", 1),
     # (by the network's loop of losses, where it has none, and by C)
     "a monitor's clock is moved": (r"\bmonitor\.tick\(", 3),
@@ -20,6 +21,8 @@ MOST = {
     "what stirs a contest is told": (r"\bfn stirs\b", 1),
     "who gives the slots is asked": (r"(?<!fn )\bmerged_with_givers\(", 1),
     "text from elsewhere is made JSON": (r"\bfn push_foreign\b", 1),
+    # (by the node's table and its plain form, and by the monitor's account)
+    "a source's silence is measured": (r"(?:>=|<) NETWORK_DATA_LOSS\b", 6),
     "network data loss is a number": (r"\bconst \w+: \w+ = 2_?500;", 1),
     "the UDP port is a number": (r"\bconst \w+: \w+ = 5_?568;", 1),
 }

@@ -179,7 +179,7 @@ joined_is_told() {
   joined "lo joined the discovery group, universes 1 to 128 and those that sources list; --universe 1-512 joins others" watch --join lo &&
     joined "lo joined the discovery group and universe 7; --universe names others" watch --universe 7 --join lo &&
     joined "lo joined the discovery group and universes 255-257, 600; --universe names others" watch --universe 255-257 --join=lo --universe=600 &&
-    joined "lo joined the discovery group and the setup's universes" gateway x --join lo && joined "nothing was joined" watch && joined "nothing was joined" gateway x
+    joined "lo joined the discovery group and the setup's universes" gateway x --join lo && joined "lo joined the discovery group and the setups' universes" gateway x --join lo --seconds 3 y && joined "nothing was joined" watch && joined "nothing was joined" gateway x
 }
 check "the program is told what was joined for it" joined_is_told
 # A program that says how much stack it has.
@@ -195,6 +195,12 @@ printf '#!/usr/bin/env bash\nif [ "$1" = groups ]; then echo "ip address add 239
 chmod +x "$room/reads"
 joins_by_input() { (sacn_join=$tree/release/$arch-linux/sacn-join; . "$tree/tools/run.sh" && run "$room/reads" gateway - --join lo) >"$room/out" 2>"$room/err" < <(echo 7); prints "gateway reads 7" && grep -qE '^joined [0-9]+ lo 239.255.250.214 239.255.0.7$' "$room/err" && nothing_left; }
 check "a setup on standard input is read to join, and by the gateway" joins_by_input
+joins_of_several() {
+  echo 8 >"$room/eight" && echo 9 >"$room/nine" || return 1
+  (sacn_join=$tree/release/$arch-linux/sacn-join; . "$tree/tools/run.sh" && run "$room/reads" gateway "$room/eight" --from 10.0.0.1 - --join lo --seconds 3 "$room/nine") >"$room/out" 2>"$room/err" < <(echo 7)
+  prints "gateway reads 7" && grep -qE '^joined [0-9]+ lo 239.255.250.214 239.255.0.8 239.255.0.7 239.255.0.9$' "$room/err" && nothing_left
+}
+check "the groups of each of several setups are joined" joins_of_several
 join_alone() { bare gateway --join "$tree/crates.txt" --listen 10.0.0.1; [ "$status" = 2 ] && says "hears no group"; }
 check "--join with an address of its own is refused" join_alone
 rm -rf "$tree/release" "$tree/crates/left/proofs" "$tree/crates/apart/src/more.rt"

@@ -82,7 +82,7 @@ def a_stopped_terminal():
     want(greatest < 1, f"greatest gap while it is stopped for 5 s: {greatest:.2f} s (under 1)")
     os.write(master, b"\x11")
     os.write(master, b"goto 999\n")
-    answer = read.until(lambda line: "NoCue" in line, 5)
+    answer = read.until(lambda line: "no cue 999" in line, 5)
     want(answer is not None, f"an order after it goes on is answered after {answer} s")
     end = time.time()
     os.write(master, b"\x04")
@@ -145,7 +145,7 @@ def source_lines_are_few():
     come_and_go(Console(), 2000)
     time.sleep(2)
     took = time.monotonic() - begin
-    written = sum(1 for _, line in lines.lines if line.startswith("source "))
+    written = sum(1 for _, line in lines.lines if line.startswith('"'))
     told = [int(number) for _, line in lines.lines for number in re.findall("^([0-9]+) source lines? not written", line)]
     want(0 < written <= 10 * (took + 2), f"{written} lines of sources in {took:.1f} s (at most {10 * (took + 2):.0f})")
     want(sum(told) > 1000, f"lines of sources that weren't written, as told: {sum(told)}")
@@ -319,7 +319,7 @@ def a_killed_launcher():
     launcher.wait()
     while time.time() < begin + 5 and not all(sum(1 for _, o in heard.came.get(u, []) if o & 0x40) == 3 for u in range(1, 5)):
         time.sleep(0.05)
-    want(answer == b"ok\n", f"an order is answered: {answer}")
+    want(answer.startswith(b"ok cue 1 "), f"an order is answered: {answer}")
     heard.wants_ends(range(1, 5), begin, 5)
     try:
         os.killpg(launcher.pid, signal.SIGKILL)

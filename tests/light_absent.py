@@ -38,7 +38,7 @@ def absent(count, universes):
     named = [host for line in text_of("desk").splitlines() for host in hosts_off(line)]
     want(named == hosts, f"absent hosts that are named: {len(named)} of {count}")
     said("said", "ended", 2)
-    told = [line.split(" universe ")[1].split()[1] for line in text_of("said").splitlines() if line.startswith("source ")]
+    told = [line.rpartition(": ")[2] for line in text_of("said").splitlines() if line.startswith('"')]
     want(told == ["came", "ended"], f"the gateway tells of its source: {told}")
 
 
@@ -96,11 +96,13 @@ class Rig:
     def wants_first_line(self):
         """One line that has all hosts that are off, once the machine has asked for them for three seconds."""
         took = self.said.until(lambda line: hosts_off(line) == self.hosts, 20)
-        moment = self.said.lines[0][0] - self.begin if self.said.lines else 0
+        moments = [moment for moment, line in self.said.lines if not line.startswith("desk ")]
+        moment = moments[0] - self.begin if moments else 0
         want(took is not None and 3 < moment < 8, f"a line has all {len(self.hosts)} hosts that are off, {moment:.1f} s after the start (3 to 8)")
 
     def wants_lines(self, count):
-        lines = [line for _, line in self.said.lines]
+        # (besides what it sends where)
+        lines = [line for _, line in self.said.lines if not line.startswith("desk ")]
         want(len(lines) == count, f"it says {len(lines)} lines ({count}): {sorted(line[-60:] for line in lines)[:3]}")
 
 

@@ -94,7 +94,7 @@ offers "gateway " sacn ga
 offers "setup.toml " sacn gateway set
 offers "setup.toml " sacn explain x --setup set
 offers "bash fish zsh " sacn completion ""
-offers "--stay " sacn desk --s""t
+offers "--standby --stay " sacn desk --s""t
 offers " " sacn gateway x --seconds ""
 
 # The version is told with the kits that the tree takes.

@@ -6,6 +6,7 @@ import subprocess
 import sys
 import tempfile
 import threading
+import time
 
 SLOTS_AT = 126
 
@@ -111,6 +112,9 @@ def what_is_not_patched_is_said(desk):
     yield from said(desk, "set 1 255", "ok 1 at 0.4 %")
     yield from said(desk, "set 1 65535", "ok 1 at 100 %")
     yield from said(desk, "3 - 3 at 50", "ok, but no channel is chosen")
+    yield from said(desk, "1 + 2048 at 50", "ok, but channel 2048 is not patched")
+    yield from said(desk, "5 + 1 thru 2048 at 0", "ok, but channels 11, 13 thru 2048 are not patched")
+    yield from said(desk, "1 thru 2048 at 0", "ok all at 0 %")
 
 
 def the_master_goes_down_and_up(desk):
@@ -120,14 +124,37 @@ def the_master_goes_down_and_up(desk):
 
 
 def cues_go_back(desk):
-    yield from said(desk, "back", "refused NoCue")
+    yield from said(desk, "back", "refused NoCue: no cue is before this one")
     yield from said(desk, "cues", "cue 1 up 0 s down 0 s channels 1", "cue 5 up 1.500 s down 0 s channels 1", "ok")
-    yield from said(desk, "go", "ok")
-    yield from said(desk, "back", "refused NoCue")
-    yield from said(desk, "go", "ok")
+    yield from said(desk, "go", "ok cue 1 up 0 s down 0 s")
+    yield from said(desk, "back", "refused NoCue: no cue is before this one")
+    yield from said(desk, "go", "ok cue 5 up 1.500 s down 0 s")
     yield from said(desk, "cues", "cue 1 up 0 s down 0 s channels 1", "cue 5 up 1.500 s down 0 s channels 1 current", "ok")
-    yield from said(desk, "back", "ok")
+    yield from said(desk, "go", "refused NoCue: no cue is behind this one; goto CUE goes to any")
+    yield from said(desk, "back", "ok cue 1 up 0 s down 0 s")
     yield from said(desk, "cues", "cue 1 up 0 s down 0 s channels 1 current", "cue 5 up 1.500 s down 0 s channels 1", "ok")
+
+
+def cues_are_gone_to(desk):
+    yield from said(desk, "goto 5", "ok cue 5 up 1.500 s down 0 s")
+    yield from said(desk, "goto 1", "ok cue 1 up 0 s down 0 s")
+    yield from said(desk, "goto 2", "refused NoCue: the show has no cue 2; cues lists them")
+    yield from said(desk, "master 32768", "ok")
+
+
+def universes_end_and_start(desk):
+    yield from said(desk, "start 1", "refused Running: universe 1 runs already")
+    yield from said(desk, "start all", "ok, but no universe starts")
+    yield from said(desk, "end 2", "refused NoUniverse: the show has no universe 2; status lists them")
+    yield from said(desk, "end 1", "ok universe 1 ends")
+    limit = time.time() + 20
+    while not desk.type("status")[0].endswith(" 1 stopped"):
+        if time.time() > limit:
+            yield "it doesn't stop"
+            break
+    yield from said(desk, "end 1", "refused Stopped: universe 1 has ended already")
+    yield from said(desk, "start 1", "ok universe 1 starts")
+    yield from said(desk, "end all", "ok universe 1 ends")
 
 
 def the_patch_is_listed(desk):
@@ -145,13 +172,28 @@ def what_is_no_order_says_why(desk):
         ("1 to 3 at 5", "a number, thru or at was expected"),
         ("at 5", "there is nothing before at"),
         (" + ".join(["1"] * 65) + " at 5", "a selection has at most 64 parts"),
+        ("blakout", '"blakout" isn\'t an order; the nearest is blackout; help lists them'),
+        ("gotoo 5", '"gotoo" isn\'t an order; the nearest is goto; help lists them'),
+        ("jump", '"jump" isn\'t an order; help lists them'),
+        ("ju\x07mp\u00e9", '"ju\\u0007mp\\u00e9" isn\'t an order; help lists them'),
+        ("x" * 100, f'"{"x" * 32}.." isn\'t an order; help lists them'),
+        ("go 5", "nothing may stand behind go"),
+        ("blackout 5", "nothing may stand behind blackout"),
+        ("status all", "nothing may stand behind status"),
+        ("goto", "behind goto stands CUE, and no more"),
+        ("goto 65536", "a cue is a number of 0 to 65535"),
+        ("set 1", "behind set stands CHANNEL LEVEL, and no more"),
+        ("set 1 65536", "a channel is 1 to 2048, a level 0 to 65535"),
+        ("master -1", "a level is 0 to 65535"),
+        ("master", "behind master stands LEVEL, and no more"),
+        ("end", "behind end stands UNIVERSE or all, and no more"),
+        ("start x", "a universe is 1 to 63999, or all"),
     ]:
         answer = desk.type(line)[0]
         if not answer.startswith("line ") or answer.partition(": ")[2] != why:
             yield f"{line[:20]!r} was answered {answer!r}"
-    answer = desk.type("jump")[0]
-    if not answer.endswith(" UnknownWord"):
-        yield f"jump was answered {answer!r}"
+    yield from said(desk, "set 2049 5", "refused ChannelRange: a channel is 1 to 2048")
+    yield from said(desk, "set 0 5", "refused ChannelRange: a channel is 1 to 2048")
 
 
 def many_lines_at_once_are_all_answered(desk):
@@ -172,6 +214,8 @@ LOOKS = [
     what_is_not_patched_is_said,
     the_master_goes_down_and_up,
     cues_go_back,
+    cues_are_gone_to,
+    universes_end_and_start,
     the_patch_is_listed,
     what_is_no_order_says_why,
     many_lines_at_once_are_all_answered,

@@ -400,7 +400,7 @@ for _ in $(seq 100); do grep -q '^page' gateway.err && break; sleep 0.1; done
 verdict "where a gateway serves" $? "$(cat gateway.err)"
 status=0
 timeout 20 "$sacn" gateway node.toml --page $tcp </dev/null >out 2>err || status=$?
-[ "$status" = 4 ] && [ "$(cat err)" = "device socket 127.0.0.1:$tcp AddrInUse" ] && [ ! -s out ]
+[ "$status" = 4 ] && [ "$(cat err)" = "device socket 127.0.0.1:$tcp AddrInUse"$'\n'"another program has that port; ss -lnptu names it" ] && [ ! -s out ]
 verdict "a gateway whose page's port is taken" $? "status $status, $(cat err)"
 answers "a gateway's page" 200 $at/
 answers "a gateway's document before anything came" 200 $at/state
@@ -429,7 +429,7 @@ verdict "a gateway's page shows what it lights" $? "$(head -c 600 body)"
 answers "a gateway's document of another universe" 200 "$at/state?universe=200"
 grep -q '"universe":200,"heard":\[1,2,3,.*,199,200\]' body
 verdict "a gateway's page tells what no port shows" $? "$(head -c 600 body)"
-[ "$(grep -c '^source .* came 127\.0\.0\.1$' gateway.err)" -ge 1 ] && ! grep -qE '^(page|discarded|refused)' <(tail -n +18 gateway.err | grep -v "^page http")
+[ "$(grep -c '^".*" .* at 127\.0\.0\.1, .*: came$' gateway.err)" -ge 1 ] && ! grep -qE '^(page|discarded|refused)' <(tail -n +18 gateway.err | grep -v "^page http")
 verdict "a gateway says what it says without a page" $? "$(tail -n 5 gateway.err)"
 for line in "${slow[@]}"; do exec {line}>&-; done
 exec {deaf}>&-

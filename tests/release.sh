@@ -89,7 +89,7 @@ arm_lights() {
   running+=($!)
   told "$room/said" '^hears' || return 1
   (echo go; told "$room/lines" '^1 [0-9]+ 00ff') | "${arm[@]}" "$release/aarch64-linux/sacn" desk "$room/show.toml" >"$room/answers" 2>&1
-  told "$room/lines" '^1 [0-9]+ 00ff' && told "$room/said" 'universe 1 ended$' && grep -qx ok "$room/answers"
+  told "$room/lines" '^1 [0-9]+ 00ff' && told "$room/said" 'universe 1: ended$' && grep -q '^ok cue 1 ' "$room/answers"
 }
 arm_serves() {
   : >"$room/said"
@@ -228,7 +228,7 @@ else
   if [ "$(joined)" = 3 ]; then ok "nobody joins the groups of a setup, and the lists'"; else fails "the groups of a setup" "$(joined) are joined"; fi
   show 5568 >"$room/show.toml"
   (echo go; told "$room/lines" '^1 [0-9]+ 00ff') | ip netns exec "$far" "$built" desk "$room/show.toml" --multicast --bind 10.99.0.2 >/dev/null 2>&1
-  if told "$room/lines" '^1 [0-9]+ 00ff' && told "$room/said" 'universe 1 came 10.99.0.2$'; then ok "a gateway that joined hears a desk's group"; else fails "a gateway that joined" "$(tail -n 1 "$room/said")"; fi
+  if told "$room/lines" '^1 [0-9]+ 00ff' && told "$room/said" ' at 10.99.0.2, .*universe 1: came$'; then ok "a gateway that joined hears a desk's group"; else fails "a gateway that joined" "$(tail -n 1 "$room/said")"; fi
   # (the one that holds the groups is the child of the other)
   pkill -n -f "$room/sacn-join"
   if told "$room/said" '^sacn: what joined the groups on eth0 was ended'; then ok "the helper's end is told, and the gateway goes on"; else fails "the helper's end" "$(tail -n 1 "$room/said")"; fi

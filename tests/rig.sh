@@ -73,12 +73,12 @@ a_desk_lights_a_gateway() {
   (echo go; lit; echo status; echo "goto 9"; echo jump; sleep 0.3) | "$sacn" desk "$work/show.toml" >"$work/answers" 2>"$work/desk" || return 1
   wait "$pid" || return 1
   [ "$(levels "$work/lines")" = "00 ff 00 " ] || return 1
-  grep -q '^source 000102030405060708090a0b0c0d0e0f universe 1 came 127.0.0.1$' "$work/said" || return 1
-  grep -q '^source 000102030405060708090a0b0c0d0e0f universe 1 ended$' "$work/said" || return 1
-  [ "$(sed -n 1p "$work/answers")" = ok ] || return 1
+  grep -q '^".*" 0001..0f at 127.0.0.1, priority [0-9]*, universe 1: came$' "$work/said" || return 1
+  grep -q '^".*" 0001..0f at 127.0.0.1, priority [0-9]*, universe 1: ended$' "$work/said" || return 1
+  [ "$(sed -n 1p "$work/answers")" = "ok cue 1 up 0 s down 0 s" ] || return 1
   sed -n 2p "$work/answers" | grep -q '^cue 1 master 65535 sent [0-9]* failed 0 1 running$' || return 1
-  [ "$(sed -n 3p "$work/answers")" = "refused NoCue" ] || return 1
-  [ "$(sed -n 4p "$work/answers")" = "line 4 UnknownWord" ] || return 1
+  [ "$(sed -n 3p "$work/answers")" = "refused NoCue: the show has no cue 9; cues lists them" ] || return 1
+  [ "$(sed -n 4p "$work/answers")" = 'line 4: "jump" isn'"'"'t an order; help lists them' ] || return 1
   sed -n 5p "$work/answers" | grep -q '^sent [0-9]* failed 0 refused '
 }
 
@@ -330,7 +330,7 @@ written, said = run.communicate()
 lines = written.decode().splitlines()
 missing = [line for line in lines if line.endswith(" lines not written")]
 frames = [line.split() for line in lines if line not in missing]
-sources = [line for line in said.decode().splitlines() if line.startswith("source ")]
+sources = [line for line in said.decode().splitlines() if line.startswith("\"")]
 passed = [int(line.split()[0]) for line in said.decode().splitlines() if line.endswith(" source lines not written")]
 assert run.returncode == 0, run.returncode
 assert sizes[1] - sizes[0] > 20 * 518, sizes
@@ -338,6 +338,62 @@ assert all(len(frame) == 3 and frame[0] == "1" and len(frame[2]) == 1026 for fra
 assert written.endswith(b"\n") and len(missing) >= 1 and int(missing[0].split()[0]) > 0
 assert "%02x" % last in [frame[2][2:4] for frame in frames[-3:]]
 assert sum(passed) > 0 and len(sources) <= 10 * 13, (sources, passed)
+P
+}
+
+# A gateway's account of sources has room for 1024. Behind 1120 that came and were lost it still tells of a new one; and of one that sends all the while it tells once that it came, and once that it is lost.
+sources_are_told_for_months() {
+  {
+    printf 'version = 2\nudp_port = 25829\n'
+    for universe in $(seq 16); do
+      case $universe in 1 | 9) printf '[[port]]\nnumber = %d\n' "$universe" ;; esac
+      printf '[[port.range]]\nuniverse = %d\nslot = 1\ncount = 1\nport_slot = %d\n' "$universe" "$universe"
+    done
+  } >"$work/node.toml"
+  python3 - "$sacn" "$work" <<'P'
+import re, socket, subprocess, sys, time
+work = sys.argv[2]
+def packet(cid, number, universe):
+    slots = bytes([0, 9])
+    dmp = (0x7000 + 10 + len(slots)).to_bytes(2, "big") + bytes([2, 0xa1, 0, 0, 0, 1]) + len(slots).to_bytes(2, "big") + slots
+    framing = b"\0\0\0\2" + b"months".ljust(64, b"\0") + bytes([100, 0, 0, number % 256, 0, 0, universe])
+    framing = (0x7000 + 2 + len(framing) + len(dmp)).to_bytes(2, "big") + framing + dmp
+    root = b"\0\0\0\4" + cid
+    root = (0x7000 + 2 + len(root) + len(framing)).to_bytes(2, "big") + root + framing
+    return b"\0\x10\0\0ASC-E1.17\0\0\0" + root
+steady, last = bytes([0xee] * 16), bytes([0xdd] * 16)
+run = subprocess.Popen([sys.argv[1], "gateway", work + "/node.toml", "--seconds", "90"], stdout=subprocess.DEVNULL, stderr=open(work + "/months", "w"))
+out = socket.socket(socket.AF_INET, socket.SOCK_DGRAM)
+def send(octets): out.sendto(octets, ("127.0.0.1", 25829))
+def told(pattern): return len(re.findall(pattern, open(work + "/months").read(), re.M))
+def counted(): return told(": (came|lost)$") + sum(int(count) for count in re.findall("^([0-9]+) source lines not written$", open(work + "/months").read(), re.M))
+number = 0
+def go_on():
+    global number
+    send(packet(steady, number, 1))
+    number += 1
+def until(is_so, what, each=lambda: None):
+    limit = time.monotonic() + 20
+    while not is_so():
+        assert time.monotonic() < limit, (what, open(work + "/months").read()[-600:])
+        each()
+        time.sleep(0.1)
+until(lambda: told("^hears "), "it hears")
+until(lambda: told('^"months" eeee..ee .*: came$'), "the steady one came", go_on)
+# (a universe holds 16 sources; each is told, or counted, as it comes and as it is lost)
+for turn in range(5):
+    for universe in range(1, 17):
+        for count in range(14):
+            send(packet(bytes([turn, universe, count] + [1] * 13), 0, universe))
+        go_on()
+        time.sleep(0.02)
+    until(lambda: counted() == 1 + 2 * 16 * 14 * (turn + 1), f"turn {turn}", go_on)
+send(packet(last, 0, 1))
+until(lambda: told('^"months" dddd..dd .*: came$'), "the new one came", go_on)
+until(lambda: told('^"months" eeee..ee .*: lost$'), "the steady one is lost")
+run.terminate()
+run.wait()
+assert told('^"months" eeee..ee .*: came$') == 1 and told('^"months" eeee..ee .*: lost$') == 1, open(work + "/months").read()[-800:]
 P
 }
 
@@ -410,7 +466,7 @@ bad_words_are_named() {
   echo >>"$work/long"
   echo go >>"$work/long"
   "$sacn" desk "$work/show.toml" <"$work/long" >"$work/answers" || return 1
-  [ "$(sed -n 1p "$work/answers")" = "line 1 TooLong" ] && [ "$(sed -n 2p "$work/answers")" = ok ]
+  [ "$(sed -n 1p "$work/answers")" = "line 1: a line has at most 65536 octets" ] && [ "$(sed -n 2p "$work/answers")" = "ok cue 1 up 0 s down 0 s" ]
 }
 
 a_small_stack_is_enough() {
@@ -454,7 +510,7 @@ multicast_between_namespaces() {
     ready "$work/lines"
     (echo go; lit; sleep 0.2) | ip netns exec "$a" "$sacn" desk "$work/show.toml" --multicast >/dev/null 2>"$work/desk"
     wait "$pid"
-    [ "$(levels "$work/lines")" = "00 ff 00 " ] && grep -q 'came 10.77.0.1$' "$work/said" && status=0
+    [ "$(levels "$work/lines")" = "00 ff 00 " ] && grep -q ' at 10.77.0.1, .*: came$' "$work/said" && status=0
   }
   ip netns del "$a" 2>/dev/null
   ip netns del "$b" 2>/dev/null
@@ -472,8 +528,9 @@ a_host_that_refuses_stops_no_other() {
   (echo go; lit; sleep 0.2) | "$sacn" desk "$work/show.toml" --to 255.255.255.255:25811 --to 127.0.0.1:25811 >"$work/answers" 2>"$work/desk" || return 1
   wait "$pid" || return 1
   [ "$(levels "$work/lines")" = "00 ff 00 " ] || return 1
-  [ "$(sed -n 1p "$work/desk")" = "255.255.255.255:25811 doesn't take packets: 1 failed (PermissionDenied)" ] || return 1
-  ! grep -q 127.0.0.1 "$work/desk" || return 1
+  [ "$(sed -n 1p "$work/desk")" = 'desk "Desk" priority 100 universes 1 to 255.255.255.255:25811, 127.0.0.1:25811' ] || return 1
+  [ "$(sed -n 2p "$work/desk")" = "255.255.255.255:25811 doesn't take packets: 1 failed (PermissionDenied)" ] || return 1
+  ! sed 1d "$work/desk" | grep -q 127.0.0.1 || return 1
   grep -q '^sent 0 failed [1-9][0-9]* refused ' "$work/answers"
 }
 
@@ -510,7 +567,7 @@ to = [word for host in absent + ["10.77.0.2"] for word in ("--to", host)]
 desk = subprocess.Popen(["ip", "netns", "exec", a, sacn, "desk", show, *to], stdin=subprocess.PIPE, stdout=subprocess.PIPE, stderr=subprocess.PIPE, text=True)
 desk.stdin.write("go\n"); desk.stdin.flush()
 time.sleep(6)
-said = desk.communicate()[1].splitlines()
+said = [line for line in desk.communicate()[1].splitlines() if not line.startswith("desk ")]
 universes, gap = run.communicate()[0].split()
 print("universes", universes, "greatest gap", gap, "it says", said, file=sys.stderr)
 sys.exit(0 if universes == "16" and float(gap) < 1.5 and said == [", ".join(absent) + " don't answer on this network: are they on?"] else 1)
@@ -522,7 +579,7 @@ P
 
 [ -x "$sacn" ] || { echo "not ok the program is built: $sacn isn't there"; exit 1; }
 tests="a_desk_lights_a_gateway a_script_ends_the_desk a_port_is_shared a_stop_drops_the_backlog
-  a_lost_source_goes_dark an_interface_gets_frames an_unread_output_holds_nothing_up a_stuck_interface_costs_itself_alone silence_is_said Ctrl_C_ends_each_universe bad_words_are_named groups_are_printed a_small_stack_is_enough a_host_that_refuses_stops_no_other"
+  a_lost_source_goes_dark an_interface_gets_frames an_unread_output_holds_nothing_up a_stuck_interface_costs_itself_alone sources_are_told_for_months silence_is_said Ctrl_C_ends_each_universe bad_words_are_named groups_are_printed a_small_stack_is_enough a_host_that_refuses_stops_no_other"
 for test in $tests; do
   "$test"
   verdict "$test" $?

@@ -284,11 +284,11 @@ status=0
 problem=$(COLUMNS=80 ROWS=24 timeout 20 python3 terminal.py drawn 25840 go bash launcher --seconds 4 2>&1) || status=$?
 [ "$status" = 0 ] && grep -q 'Aff' drawn && below | grep -q '^sacn watch ' && below | grep -qE '^A +1 ' && ! below | grep -q $'\x1b' && ! grep -qE '^1 [0-9]+ 00' drawn
 verdict "a gateway's screen" $? "status $status $(tail -n 1 <<<"$problem")"
-# (as plain text: in no colour, and not bold)
-grep -qE $'\x1b\\[[0-9]+;1H(\x1b\\[0m)?source [0-9a-f]{32} universe 1 came 127.0.0.1' drawn
-verdict "it has what the gateway says" $? "$(grep -c source drawn)"
-[ "$(below | grep -cE '^source [0-9a-f]{32} universe 1 came 127.0.0.1$')" = 2 ]
-verdict "what the gateway says is left on the terminal" $? "$(below | grep -c '^source')"
+# (as plain text: in no colour, and not bold; of a line that is longer than the row, its front)
+grep -qE $'\x1b\\[[0-9]+;1H(\x1b\\[0m)?"'$'(Desk" aaaa[.][.]aa at 127.0.0.1, priority [0-9]+, universe 1: came|.u001b]0;evil.u0007)' drawn
+verdict "it has what the gateway says" $? "$(grep -c universe drawn)"
+[ "$(below | grep -cE '^"[^"]*" [0-9a-f]{4}\.\.[0-9a-f]{2} at 127.0.0.1, priority [0-9]+, universe 1: came$')" = 2 ]
+verdict "what the gateway says is left on the terminal" $? "$(below | grep -c universe)"
 # (256 octets of a line end inside of a letter: 9, 200, 2, 44, and the first of two. Nothing is sent to this one, so the line stays the newest.)
 letters() { printf 'é%.0s' $(seq "$1"); }
 status=0
@@ -299,8 +299,8 @@ status=0
 problem=$(COLUMNS=80 ROWS=24 timeout 20 python3 terminal.py drawn 25840 stop bash launcher 2>&1) || status=$?
 [ "$status" -ge 99 ] && grep -q 'Aff' drawn && grep -q $'\x1b\[?1049l' drawn
 verdict "Ctrl-C ends a gateway with a screen, and gives the terminal back" $? "status $status $(tail -n 1 <<<"$problem")"
-[ "$(below | grep -cE '^source [0-9a-f]{32} universe 1 came 127.0.0.1$')" = 2 ]
-verdict "what it had said is left on the terminal then, too" $? "$(below | grep -c '^source')"
+[ "$(below | grep -cE '^"[^"]*" [0-9a-f]{4}\.\.[0-9a-f]{2} at 127.0.0.1, priority [0-9]+, universe 1: came$')" = 2 ]
+verdict "what it had said is left on the terminal then, too" $? "$(below | grep -c universe)"
 status=0
 "$sacn" gateway node.toml --watch --seconds 1 </dev/null >out 2>err || status=$?
 [ "$status" = 0 ] && grep -qE '^1 0 0000' out && grep -q '^hears 0.0.0.0:25840$' err

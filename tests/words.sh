@@ -43,7 +43,7 @@ refused 2 "error: 127.0.0.1: Address" gateway x --page 127.0.0.1
 refused 2 "error: here:80: Address" gateway x --page here:80
 refused 2 "error: --seconds takes a number of 1 to 1000000000, in decimal digits" gateway x --seconds +5
 refused 2 "error: *" gateway
-refused 2 "error: *" gateway x y
+refused 4 "device read x" gateway x y
 refused 2 "error: *" gateway x --seconds 0
 refused 2 "error: *" gateway x --seconds 1000000001
 refused 2 "error: *" gateway x --seconds five
@@ -68,7 +68,16 @@ refused 2 "error: --stay: without --script" desk x --stay
 refused 2 "error: *" desk x --first 256
 refused 2 "error: *" desk x --script
 refused 2 "error: *" desk x --multicast --multicast
-refused 2 "error: --to: beside --multicast" desk x --to 10.0.0.1 --multicast
+refused 4 "device read absent" desk absent --to 10.0.0.1 --multicast --standby
+refused 4 "device read absent" desk absent --to 1-4,7=10.0.0.1:5569 --to 9=10.0.0.1
+refused 2 "error: 0=10.0.0.1: Universe" desk x --to 0=10.0.0.1
+refused 2 "error: 5-3=10.0.0.1: Universe" desk x --to 5-3=10.0.0.1
+refused 2 "error: 1,=10.0.0.1: Universe" desk x --to 1,=10.0.0.1
+refused 2 "error: =10.0.0.1: Universe" desk x --to =10.0.0.1
+refused 2 "error: 1-64000=10.0.0.1: Universe" desk x --to 1-64000=10.0.0.1
+refused 2 "error: 1=: Address" desk x --to 1=
+refused 2 "error: 1=10.0.0.1:0: Port" desk x --to 1=10.0.0.1:0
+refused 2 "error: *" desk x --standby --standby
 hosts=()
 for _ in $(seq 64); do hosts+=(--to 10.0.0.1); done
 refused 4 "device read absent" desk absent "${hosts[@]}"
@@ -204,7 +213,7 @@ helps sim "A schedule: a text file"
 helps console "A show: a TOML file"
 helps console "A script: a text file"
 helps node "A setup: a TOML file"
-helps gateway "A setup: a TOML file"
+helps gateway "Setups, at most 32"
 helps desk "A show: a TOML file"
 helps desk "A script: a text file"
 helps groups "A setup or a show"
