@@ -28,11 +28,13 @@ CALLS = {
     "c-master": ("master", 500),
     "c-few": ("few", 1000),
 }
-# What is asked of the program, and how often: a file's datagram, a second of a watch's screen, the document of a recording's page.
-COMMANDS = {"decode": 100, "screen": 20, "page": 50}
+# What is asked of the program, and how often: a file's datagram, a second of a watch's screen, the document of a recording's page, a second of a gateway.
+COMMANDS = {"decode": 100, "screen": 20, "page": 50, "gateway": 2}
 # The recording of the page: how many sources send on how many universes, and how often. It ends so many milliseconds after its beginning.
 RECORDED = 16, 16, 4
 LAST = 75
+# The gateway: how many universes its ports show, and how many a source sends at each moment.
+PORTS, SENT = 16, 64
 
 
 class Lacking(Exception):
@@ -115,6 +117,11 @@ class Counter:
         asked = f"GET /state?at={LAST} HTTP/1.1\r\nHost: 127.0.0.1:8080\r\n\r\n"
         return self.still(["explain", "recording", "--page", "8080", "--seconds", "1"], STILL_ASKED=asked, STILL_CALLERS=str(callers))
 
+    def gateway(self, seconds):
+        """In which each universe comes two hundred times, and each frame is another one at each."""
+        words = ["gateway", "setup", "--listen", "127.0.0.1", "--seconds", str(seconds)]
+        return self.still(words, STILL_PACKETS=f"{self.room}/sent", STILL_TOGETHER=str(SENT), STILL_PIPED="1")
+
     def still(self, words, **more):
         """Counts a run of the program on a machine that is the same in each run (still.c)."""
         if isinstance(self.machine, (Lacking, Failed)):
@@ -183,6 +190,10 @@ def prepared(room, program, prefix):
         out.write(packets.data(1, 1, 0, packets.levels(1, 1, 0)))
     with open(f"{room}/heard", "wb") as out:
         out.write(b"".join(packet for _, _, packet in packets.turns(4, 4, 1)))
+    with open(f"{room}/sent", "wb") as out:
+        out.write(b"".join(packet for _, _, packet in packets.turns(1, SENT, 1)))
+    with open(f"{room}/setup", "w", encoding="utf-8") as out:
+        out.write("version = 1\n" + "".join(f"[[port]]\nnumber = {it}\nuniverse = {it}\n" for it in range(1, PORTS + 1)))
     with open(f"{room}/recording", "wb") as out:
         out.write(packets.recording(*RECORDED))
     return Counter(room, program_of(program), built(linked, room, prefix), built(stilled, room))

@@ -1,7 +1,8 @@
 /* Stands between the program and its machine for bench/counts (LD_PRELOAD), so that each run is the same: a clock that goes on only while the program waits, a terminal
    at standard output, a socket that hears the packets of a file in turn, and callers that ask a page for something, one after another. No port is taken.
 
-   STILL_PACKETS names the file, of packets of 638 octets; STILL_ASKED is what each caller sends, STILL_CALLERS how many there are. */
+   STILL_PACKETS names the file, of packets of 638 octets, of which STILL_TOGETHER come at a moment, or else one; STILL_ASKED is what each caller sends,
+   STILL_CALLERS how many there are. With STILL_PIPED standard output is no terminal. */
 #define _GNU_SOURCE
 #include <arpa/inet.h>
 #include <errno.h>
@@ -31,17 +32,17 @@ int clock_gettime(clockid_t clock, struct timespec *at) {
     return 0;
 }
 
-int isatty(int file) { return file == 1; }
+int isatty(int file) { return file == 1 && !getenv("STILL_PIPED"); }
 
 /* ---- the socket that hears ---- */
 
 static uint8_t packets[MOST][OCTETS];
 static size_t count;
-static uint64_t heard;
+static uint64_t heard, together = 1;
 static int bound = -1;
 static struct sockaddr_in address;
 
-static uint64_t next_due(void) { return count ? (heard + 1) * GAP : UINT64_MAX; }
+static uint64_t next_due(void) { return count ? (heard / together + 1) * GAP : UINT64_MAX; }
 
 int bind(int file, const struct sockaddr *at, socklen_t length) {
     if (length != sizeof address) return errno = EINVAL, -1;
@@ -127,9 +128,10 @@ int shutdown(int file, int how) {
 /* ---- waiting ---- */
 
 __attribute__((constructor)) static void begin(void) {
-    const char *name = getenv("STILL_PACKETS"), *number = getenv("STILL_CALLERS");
+    const char *name = getenv("STILL_PACKETS"), *number = getenv("STILL_CALLERS"), *most = getenv("STILL_TOGETHER");
     FILE *file = name ? fopen(name, "rb") : NULL;
     if (file) count = fread(packets, OCTETS, MOST, file), fclose(file);
+    if (most) together = strtoull(most, NULL, 10);
     asked = getenv("STILL_ASKED");
     callers = asked && number ? strtoull(number, NULL, 10) : 0;
 }
