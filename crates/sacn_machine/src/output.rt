@@ -80,8 +80,20 @@ pub struct Output<S> {
     end_wait: u64,
 }
 
+/// The octets of a time of day in front of a line, `HH:MM:SS.mmm `.
+const CLOCK_OCTETS: usize = 13;
+
+/// A line without the time of day in front of it, where it has one.
+fn behind_clock(line: &[u8]) -> Option<&[u8]> {
+    match line {
+        [_, _, b':', ..] => line.get(CLOCK_OCTETS..),
+        _ => Some(line),
+    }
+}
+
 /// The port of a frame's line.
 fn port_of(line: &[u8]) -> Option<u8> {
+    let line = behind_clock(line)?;
     let end = line.iter().position(|octet| *octet == b' ')?;
     let digits = std::str::from_utf8(&line[..end]).ok()?;
     digits.parse::<u8>().ok()
@@ -149,6 +161,11 @@ impl<S: Sink + Drop> Output<S> {
     pub fn draw(&mut self) {
         self.lines = Lines::Drawings;
         self.end_wait = SCREEN_END_WAIT;
+    }
+
+    /// From now on a flush ends a line without LF, as one of drawings.
+    pub fn prompt(&mut self) {
+        self.lines = Lines::Drawings;
     }
 
     /// From now on the newest line is noted for a screen. Where lines would be written over it they wait until it is left.

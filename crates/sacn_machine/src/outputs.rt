@@ -96,6 +96,13 @@ impl Outputs {
         }
     }
 
+    /// From now on standard output may be a line for people without its end, too: a prompt, which a flush ends.
+    pub fn begin_prompts(&self) {
+        if let Ok(mut out) = self.out.try_borrow_mut() {
+            out.prompt();
+        }
+    }
+
     /// From now on standard output is lines for people, and lines of standard error are written as they come.
     pub fn leave_screen(&self) {
         if let Ok(mut out) = self.out.try_borrow_mut() {

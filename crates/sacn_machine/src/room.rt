@@ -13,8 +13,8 @@ pub const ROOM_OCTETS: usize = 65_536;
 /// The most octets that wait where it is told how many lines found no room: half of the room is free then.
 pub const TOLD_AT: usize = 32_768;
 
-/// The most octets of a frame's line, its LF among them.
-pub const FRAME_LINE_OCTETS: usize = 1056;
+/// The most octets of a frame's line, a time of day and its LF among them.
+pub const FRAME_LINE_OCTETS: usize = 1072;
 
 /// The most ports whose frames' lines wait.
 pub const MAX_FRAMES: usize = 16;

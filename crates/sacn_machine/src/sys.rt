@@ -173,7 +173,7 @@ pub fn guard_standard_descriptors() {
 }
 
 /// Whether a descriptor is a terminal.
-pub(crate) fn is_terminal(fd: RawFd) -> bool {
+pub fn is_terminal(fd: RawFd) -> bool {
     libc::isatty(fd) == 1
 }
 

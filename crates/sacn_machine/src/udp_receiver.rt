@@ -2,6 +2,7 @@
 use crate::clock::RigClock;
 use crate::drops::Drops;
 use crate::input_end::InputEnd;
+use crate::keys::TypedKeys;
 use crate::limits::{FAILED_WAIT, PENDING_WAIT, SILENT_START};
 use crate::outputs::Outputs;
 use crate::receiver::{Arrival, Octets4, Receipt, Receiver};
@@ -27,6 +28,8 @@ pub struct UdpReceiver<'a, R> {
     sender_port: u16,
     // Whether a wait ends at the end of standard input.
     input: InputEnd,
+    // The keys that end a wait, in its place.
+    keys: Option<&'a TypedKeys>,
     // What a wait ends at too, where it can be read.
     beside: RawFd,
     // Something came, or that nothing does was said.
@@ -51,6 +54,7 @@ impl<'a, R: Net + MachineClock> UdpReceiver<'a, R> {
             is_failing: false,
             sender_port: 0,
             input: InputEnd::ignored(),
+            keys: None,
             beside: NO_DESCRIPTOR,
             is_noted: false,
             outputs: None,
@@ -61,6 +65,11 @@ impl<'a, R: Net + MachineClock> UdpReceiver<'a, R> {
     /// From now on a wait ends at the end of standard input too; where this has ended already, it isn't waited for.
     pub fn wait_for_input(&mut self) {
         self.input = InputEnd::awaited();
+    }
+
+    /// From now on a wait ends where a key comes, too. Another one reads it.
+    pub fn wait_for_keys(&mut self, keys: &'a TypedKeys) {
+        self.keys = Some(keys);
     }
 
     /// From now on a wait ends where this descriptor can be read, too.
@@ -95,9 +104,20 @@ impl<'a, R: Net + MachineClock> UdpReceiver<'a, R> {
         }
     }
 
-    /// Whether standard input is waited for and has ended or failed. What is there of it is passed over.
+    // What of standard input is waited for.
+    fn input(&self) -> RawFd {
+        match self.keys {
+            Some(keys) => keys.descriptor(),
+            None => self.input.descriptor(),
+        }
+    }
+
+    /// Whether standard input is waited for and has ended or failed. What is there of it is passed over, unless another one reads it as keys.
     pub fn input_ended(&mut self) -> bool {
-        self.input.has_come()
+        match self.keys {
+            Some(keys) => !keys.are_open(),
+            None => self.input.has_come(),
+        }
     }
 
     /// What the machine drops of what comes.
@@ -139,7 +159,7 @@ fn place_of(sender: SocketAddr) -> (Octets4, u16) {
 impl<'a, R: Net + MachineClock> Receiver for UdpReceiver<'a, R> {
     fn wait(&mut self, until: u64) {
         let millis = self.wait_millis(until);
-        let input = self.input.descriptor();
+        let input = self.input();
         if self.is_failing {
             let millis = millis.max(1).min(FAILED_WAIT);
             wait_readable(NO_DESCRIPTOR, input, self.beside, millis);
