@@ -1,11 +1,11 @@
 //! A port's frame as a line for people.
-ghost use Rattle.std.specs.Prelude.{◌≡◌, ◌+◌, ◌-◌, ◌++◌, ◌<◌, ◌≤◌, length, drop, max};
+ghost use Rattle.std.specs.Prelude.{◌≡◌, ◌+◌, ◌-◌, ◌++◌, ◌≤◌, List, length, max};
 ghost use Rattle.sacn_gateway.specs.declared.slot_lines.TheConstants.{LEAST_WIDTH, MOST_WIDTH};
 ghost use Rattle.sacn_gateway.specs.SlotLines.{kept_for, line_head, line_places, lit_slots, slot_word, dark_text, slots_text, slots_within};
 
 use arrayvec::ArrayVec;
 use itoa::Buffer;
-use sacn_packets::{FRAME_OCTETS, SLOTS};
+use sacn_packets::FRAME_OCTETS;
 
 /// The least width of a line, in letters: its head has 20 at most, and the mark that slots follow has 3.
 pub const LEAST_WIDTH: usize = 24;
@@ -40,21 +40,18 @@ fn add<const N: usize>(line: &mut ArrayVec<u8, N>, part: &[u8])
     let _ = line.try_extend_from_slice(part);
 }
 
-/// The slots of a frame that aren't 0, ascending.
-fn lit_slots(frame: &[u8; FRAME_OCTETS]) -> ArrayVec<LitSlot, SLOTS>
-    ensures { result.items ≡ lit_slots frame.now }
+/// How many slots of a frame aren't 0.
+fn count_lit(frame: &[u8; FRAME_OCTETS]) -> usize
+    ensures count { result ≡ length (lit_slots frame.now) }
+    ensures most { result ≤ 512 }
 {
-    let mut lit = ArrayVec::new();
+    let mut count = 0;
     for slot in 1..FRAME_OCTETS {
-        let level = frame[slot];
-        if level != 0 {
-            let _ = lit.try_push(LitSlot {
-                slot: slot as u16,
-                level,
-            });
+        if frame[slot] != 0 {
+            count += 1;
         }
     }
-    lit
+    count
 }
 
 /// A slot and its level, behind a space.
@@ -70,29 +67,39 @@ fn slot_word(lit: LitSlot) -> ArrayVec<u8, WORD_OCTETS>
     word
 }
 
-/// The places that are kept behind a slot, for the mark that others follow.
-fn kept_behind(lit: &[LitSlot], index: usize) -> usize
-    requires { index < length lit.now }
-    ensures { result ≡ kept_for (drop (index + 1) lit.now) }
+/// The places that are kept behind a slot, for the mark that others follow, of which so many are left.
+fn kept_before(left: usize) -> usize
+    ensures { (others : List LitSlot) → length others ≡ left → result ≡ kept_for others }
 {
-    if index + 1 < lit.len() { MARK.len() } else { 0 }
+    if left > 0 { MARK.len() } else { 0 }
 }
 
-/// Adds as many of these slots as find room in so many places, and where that isn't all of them a mark.
-fn add_slots(line: &mut SlotLine, places: usize, lit: &[LitSlot])
+/// Adds as many of a frame's slots that aren't 0 as find room in so many places, and where that isn't all of them a mark. No more of the
+/// frame is looked at than is written.
+fn add_slots(line: &mut SlotLine, places: usize, frame: &[u8; FRAME_OCTETS], count: usize)
     requires places { places ≤ MOST_WIDTH }
-    requires room { length line.old.items + kept_for lit.now ≤ places }
+    requires room { length line.old.items + kept_for (lit_slots frame.now) ≤ places }
+    requires count { count ≡ length (lit_slots frame.now) }
     ensures text { line.new.items
-        ≡ line.old.items ++ slots_within (places - length line.old.items) lit.now }
+        ≡ line.old.items
+        ++ slots_within (places - length line.old.items) (lit_slots frame.now) }
     ensures short { length line.new.items ≤ places }
 {
-    for index in 0..lit.len() {
-        let word = slot_word(lit[index]);
-        if line.len() + word.len() + kept_behind(lit, index) > places {
-            add(line, MARK);
-            return;
+    let mut left = count;
+    for slot in 1..FRAME_OCTETS {
+        let level = frame[slot];
+        if level != 0 {
+            left = left.saturating_sub(1);
+            let word = slot_word(LitSlot {
+                slot: slot as u16,
+                level,
+            });
+            if line.len() + word.len() + kept_before(left) > places {
+                add(line, MARK);
+                return;
+            }
+            add(line, word.as_slice());
         }
-        add(line, word.as_slice());
     }
 }
 
@@ -128,14 +135,14 @@ pub fn slots_line(width: usize, port: u8, frame: &[u8; FRAME_OCTETS]) -> SlotLin
     ensures short { length result.items ≤ max width LEAST_WIDTH }
 {
     let mut line = ArrayVec::new();
-    let lit = lit_slots(frame);
+    let count = count_lit(frame);
     let places = places_of(width);
-    if lit.is_empty() {
+    if count == 0 {
         add_dark(&mut line, port);
         return line;
     }
-    add_head(&mut line, port, lit.len() as u16);
-    add_slots(&mut line, places, lit.as_slice());
+    add_head(&mut line, port, count as u16);
+    add_slots(&mut line, places, frame, count);
     line
 }
 
