@@ -12,6 +12,10 @@ use std::io::{Read, Write};
 use std::net::{Net, SocketAddrV4};
 use std::rt::{Clock, Files};
 
+/// What takes the ports and universes that one setup has no room for.
+const BEYOND_SETUP: &str =
+    "what is more goes into a second setup: sacn gateway SETUP SETUP.. takes up to 32 of them";
+
 // Where a gateway hears, and the groups that it should hear.
 fn say_gateway<E: Write>(address: SocketAddrV4, room: Option<u32>, universes: &[u16], err: &mut E) {
     say_hearing(address, room, err);
@@ -110,7 +114,7 @@ pub fn setups_of<R: AllocGlobal + Files, I: Read + Drop, E: Write>(
     let paths = asked.setups.as_slice();
     let mut setups = Vec::new(rt.alloc());
     for path in paths {
-        let setup = setup_of_word(rt, path, input, err)?;
+        let setup = setup_of_word(rt, path, Some(BEYOND_SETUP), input, err)?;
         for (earlier_path, earlier) in paths.iter().zip(setups.as_slice()) {
             check_beside((path, &setup), (earlier_path, earlier), err)?;
         }

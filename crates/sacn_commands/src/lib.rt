@@ -1,6 +1,6 @@
 //! The commands over the lower crates, and how any command ends: datagrams decoded and worlds simulated
-//! (`printing`), a console and a node on 127.0.0.1 (`network`), gateways (`gateway`), desks (`live`, `hosts`); what is wrong in
-//! a refused file (`places`).
+//! (`printing`), a console and a node on 127.0.0.1 (`network`), gateways (`gateway`), desks (`live`, `hosts`,
+//! `prompting`); what is wrong in a refused file (`places`).
 //!
 //! What watches a network or tells a recording stands in the program, over crates that are proved later.
 #![tactic(auto)]
@@ -14,3 +14,4 @@ pub mod naming;
 pub mod network;
 pub mod places;
 pub mod printing;
+mod prompting;

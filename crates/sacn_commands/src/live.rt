@@ -5,6 +5,7 @@ use crate::hosts::{destinations_of, say_unsent};
 use crate::naming::of_file;
 use crate::network::tell;
 use crate::places::ReadFile;
+use crate::prompting::{errors_beside, output_with, prompt_of};
 use sacn_check::{FileKind, kind_of};
 use sacn_console::limits::CONSOLE_UNIVERSES;
 use sacn_console::{Command, ConsoleCore, Show, read_script, read_show};
@@ -16,7 +17,7 @@ use sacn_desk::{
 use sacn_edge::{Clock as DeskClock, ConsoleReport};
 use sacn_machine::limits::RECEIVE_ROOM;
 use sacn_machine::{Lines, Outputs, RigClock, Sockets, guard_standard_descriptors};
-use sacn_node::{NodeSetup, read_node};
+use sacn_node::{NodeSetup, SetupFault, read_node};
 use sacn_packets::multicast_group;
 use sacn_words::DeskAsked;
 use std::alloc::Global;
@@ -63,10 +64,12 @@ pub fn of_socket<T, E: Write>(
     }
 }
 
-/// The setup in a file. One that is refused is said.
+/// The setup in a file. One that is refused is said; where it has more ports or universes than a setup may, so is what takes them,
+/// if something does.
 pub fn setup_of_word<R: AllocGlobal + Files, I: Read + Drop, E: Write>(
     rt: &R,
     word: &str,
+    beyond: Option<&str>,
     input: &mut I,
     err: &mut E,
 ) -> Result<NodeSetup, Ending> {
@@ -78,7 +81,13 @@ pub fn setup_of_word<R: AllocGlobal + Files, I: Read + Drop, E: Write>(
     };
     match read_node(rt.alloc(), file.text) {
         Ok(setup) => Ok(setup),
-        Err(fault) => Err(file.refused(rt.alloc(), Ending::Setup(fault), err)),
+        Err(fault) => {
+            let ending = file.refused(rt.alloc(), Ending::Setup(fault), err);
+            if let (SetupFault::Limit, Some(advice)) = (fault, beyond) {
+                let _ = writeln!(err, "{word}: {advice}");
+            }
+            Err(ending)
+        }
     }
 }
 
@@ -175,7 +184,7 @@ pub fn say_hearing<E: Write>(address: SocketAddrV4, room: Option<u32>, err: &mut
 }
 
 /// Runs a desk, and prints what came of it on standard output. No output that isn't read holds it up.
-pub fn desk<R: AllocGlobal + Files + Net + Clock>(
+pub fn desk<R: AllocGlobal + Files + Env + Net + Clock>(
     rt: &R,
     asked: &DeskAsked<'_>,
 ) -> Result<(), Ending> {
@@ -187,7 +196,7 @@ pub fn desk<R: AllocGlobal + Files + Net + Clock>(
     run
 }
 
-fn desk_on<R: AllocGlobal + Files + Net + Clock>(
+fn desk_on<R: AllocGlobal + Files + Env + Net + Clock>(
     rt: &R,
     asked: &DeskAsked<'_>,
     outputs: &Outputs,
@@ -199,7 +208,7 @@ fn desk_on<R: AllocGlobal + Files + Net + Clock>(
     }
 }
 
-fn perform_script<R: AllocGlobal + Files + Net + Clock>(
+fn perform_script<R: AllocGlobal + Files + Env + Net + Clock>(
     rt: &R,
     asked: &DeskAsked<'_>,
     show: &Show,
@@ -210,24 +219,27 @@ fn perform_script<R: AllocGlobal + Files + Net + Clock>(
     perform(rt, asked, show, Some(script.as_slice()), outputs)
 }
 
-fn perform<R: AllocGlobal + Net + Clock>(
+fn perform<'a, R: AllocGlobal + Env + Net + Clock>(
     rt: &R,
     asked: &DeskAsked<'_>,
-    show: &Show,
-    script: Option<&[(u64, Command)]>,
-    outputs: &Outputs,
+    show: &'a Show,
+    script: Option<&'a [(u64, Command)]>,
+    outputs: &'a Outputs,
 ) -> Result<(), Ending> {
+    let prompt = prompt_of(rt);
     let plan = Plan {
         show,
         script,
         stays: asked.stays,
         is_standby: asked.is_standby,
         outputs: Some(outputs),
+        prompt: prompt.as_ref(),
     };
     let destinations = destinations_of(rt, asked, show, &mut outputs.err())?;
     let mut core = ConsoleCore::new(rt.alloc(), show, asked.first)?;
     let sent = send_show(rt, asked, plan, destinations, &mut core, outputs)?;
-    tell(&sent.report, &mut outputs.out())?;
+    let mut out = output_with(outputs, plan.prompt);
+    tell(&sent.report, &mut out)?;
     tell_unsent(&sent, &mut outputs.err())
 }
 
@@ -251,26 +263,32 @@ fn tell_unsent<E: Write>(sent: &Sent, err: &mut E) -> Result<(), Ending> {
     Err(Ending::Said(DEVICE_FAILED))
 }
 
-// Sends from sockets of its own.
-fn send_show<R: AllocGlobal + Net + Clock>(
-    rt: &R,
-    asked: &DeskAsked<'_>,
-    plan: Plan<'_>,
-    destinations: Destinations,
-    core: &mut ConsoleCore,
-    outputs: &Outputs,
-) -> Result<Sent, Ending> {
-    let clock = clock_of(rt)?;
-    let origin = Origin {
+// Where the packets of a show come from.
+fn origin_of(asked: &DeskAsked<'_>, show: &Show) -> Origin {
+    Origin {
         address: asked.bind,
         ttl: asked.ttl,
-        universes: plan.show.universes().len().min(CONSOLE_UNIVERSES) as u16,
-    };
+        universes: show.universes().len().min(CONSOLE_UNIVERSES) as u16,
+    }
+}
+
+// Sends from sockets of its own.
+fn send_show<'a, R: AllocGlobal + Net + Clock>(
+    rt: &R,
+    asked: &DeskAsked<'_>,
+    plan: Plan<'a>,
+    destinations: Destinations,
+    core: &mut ConsoleCore,
+    outputs: &'a Outputs,
+) -> Result<Sent, Ending> {
+    let clock = clock_of(rt)?;
+    let origin = origin_of(asked, plan.show);
     let alloc = rt.alloc();
     let mut err = outputs.err();
     let _ = write_start(&mut err, alloc, plan.show, &destinations, plan.is_standby);
     say_unsent(rt, asked, &destinations, plan.show.universes(), &mut err)?;
-    let sender = match DeskSender::bind(rt, alloc, origin, destinations, clock.twin(), err) {
+    let notices = errors_beside(outputs, plan.prompt);
+    let sender = match DeskSender::bind(rt, alloc, origin, destinations, clock.twin(), notices) {
         Ok(sender) => sender,
         Err(kind) => {
             let from = SocketAddrV4::new(asked.bind, 0);
@@ -278,10 +296,11 @@ fn send_show<R: AllocGlobal + Net + Clock>(
         }
     };
     let link = Opening::over(alloc, sender)?;
+    let mut out = output_with(outputs, plan.prompt);
     if plan.is_standby {
-        run_standby(alloc, plan, clock, link, core, &mut outputs.out())
+        run_standby(alloc, plan, clock, link, core, &mut out)
     } else {
-        run_opened(alloc, plan, clock, link, core, &mut outputs.out())
+        run_opened(alloc, plan, clock, link, core, &mut out)
     }
 }
 

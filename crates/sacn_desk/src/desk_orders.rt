@@ -2,6 +2,7 @@
 use crate::desk_line::{DeskLine, line_said};
 use crate::limits::MAX_ORDERS;
 use crate::orders::Orders;
+use crate::prompt::{Fading, Prompt};
 use crate::show_lists::ShowLists;
 use crate::status::have_stopped;
 use sacn_console::limits::TERMINATIONS;
@@ -68,6 +69,8 @@ pub struct Plan<'a> {
     pub is_standby: bool,
     /// What answers wait in where they aren't read at once; a long list waits for it.
     pub outputs: Option<&'a Outputs>,
+    /// The prompt behind what is written, where the output is a [`PromptWriter`](crate::PromptWriter) that has it.
+    pub prompt: Option<&'a Prompt>,
 }
 
 /// How many packets a desk that stands by keeps back: those that end each universe of its show.
@@ -86,6 +89,8 @@ pub struct DeskOrders<'a, R, O> {
     clock: RigClock<'a, R>,
     out: &'a mut O,
     outputs: Option<&'a Outputs>,
+    prompt: Option<&'a Prompt>,
+    fading: Fading,
     script: &'a [(u64, Command)],
     next_line: usize,
     has_script: bool,
@@ -133,6 +138,8 @@ impl<'a, R: MachineClock, O: Write> DeskOrders<'a, R, O> {
             clock,
             out,
             outputs: plan.outputs,
+            prompt: plan.prompt,
+            fading: Fading::new(),
             script: plan.script.unwrap_or(&[]),
             next_line: 0,
             ends_with_script: plan.script.is_some() && !plan.stays,
@@ -177,6 +184,7 @@ impl<'a, R: MachineClock, O: Write> DeskOrders<'a, R, O> {
     /// The order of the line that is there; None where it is something else, which is then done.
     fn take_line(&mut self) -> Option<Command> {
         self.line_number = self.line_number.saturating_add(1);
+        self.leave_prompt();
         let said = line_said(self.alloc, self.input.line.line(), self.line_number);
         self.input.line.clear();
         match said {
@@ -334,13 +342,17 @@ impl<'a, R: MachineClock, O: Write> Orders for DeskOrders<'a, R, O> {
 
     fn next(&mut self, now: u64) -> Option<Command> {
         let next = self.next_order(now);
-        if next.is_some() {
+        if let Some(command) = next {
             self.commands = self.commands.saturating_add(1);
+            self.fading.give(command, now);
         }
         next
     }
 
     fn take_answer(&mut self, answer: Result<(), ConsoleFault>) {
+        if answer.is_ok() {
+            self.fading.take(&self.lists);
+        }
         match self.source {
             Source::Script => {}
             Source::Typed(command) => match answer {
@@ -360,6 +372,7 @@ impl<'a, R: MachineClock, O: Write> Orders for DeskOrders<'a, R, O> {
         let _ = self.out.flush();
         self.commands = 0;
         self.grant(core, report);
+        self.show_prompt(core);
         if self.told.has_more() {
             return;
         }

@@ -56,7 +56,7 @@ fn hundredths_of(level: u16) -> u64 {
 }
 
 /// A level in hundredths of a percent, rounded to tenths of one.
-fn rounded(level: u16) -> u64 {
+pub(crate) fn rounded(level: u16) -> u64 {
     (u64::from(level) * 2_000 + u64::from(FULL)) / (2 * u64::from(FULL)) * 10
 }
 

@@ -54,6 +54,22 @@ impl<'a> ShowLists<'a> {
         self.is_patched.get(channel as usize).copied() == Some(true)
     }
 
+    /// The number of the cue that `go` goes to next, where there is one.
+    pub(crate) fn cue_behind(&self, current: Option<u16>) -> Option<u16> {
+        match self.show.cues().next_above(current) {
+            Some((number, _)) => Some(number),
+            None => None,
+        }
+    }
+
+    /// The longer of the times of the cue with this number, in milliseconds; 0 where there is none.
+    pub(crate) fn longer_time(&self, number: u16) -> u32 {
+        match self.show.cues().next_above(number.checked_sub(1)) {
+            Some((found, cue)) if found == number => cue.up.max(cue.down),
+            _ => 0,
+        }
+    }
+
     /// The greatest number of a cue below this one, where there is one.
     pub(crate) fn cue_before(&self, current: u16) -> Option<u16> {
         let mut before = None;

@@ -2,9 +2,10 @@
 use super::DeskOrders;
 use super::wishes::Wish;
 use crate::order_refusal::push_refused;
+use crate::prompt::Standing;
 use crate::status::write_status;
 use sacn_console::{Command, ConsoleCore, ConsoleFault};
-use sacn_edge::ConsoleReport;
+use sacn_edge::{Clock, ConsoleReport};
 use std::io::{self, Write};
 use std::rt::Clock as MachineClock;
 
@@ -15,6 +16,48 @@ impl<'a, R: MachineClock, O: Write> DeskOrders<'a, R, O> {
             self.write_failed = true;
             self.close();
         }
+    }
+
+    /// What was typed ends the prompt's line.
+    pub(super) fn leave_prompt(&self) {
+        if let Some(prompt) = self.prompt {
+            prompt.forget();
+        }
+    }
+
+    // Whether an order is in work, or a line waits for that.
+    fn is_busy(&self) -> bool {
+        self.wish.is_some()
+            || self.levels.is_some()
+            || self.command.is_some()
+            || self.ahead.is_some()
+            || self.told.has_more()
+            || self.input.has_more()
+    }
+
+    // Whether what was written before still waits.
+    fn is_pending(&self) -> bool {
+        match self.outputs {
+            Some(outputs) => outputs.pump_screen(),
+            None => false,
+        }
+    }
+
+    /// Shows the prompt, unless it stands there already, an order is in work, or what was written before isn't read: a later round
+    /// shows it then.
+    pub(super) fn show_prompt(&mut self, core: &ConsoleCore) {
+        let Some(prompt) = self.prompt else {
+            return;
+        };
+        if self.is_closing() || self.is_busy() {
+            return;
+        }
+        let left = self.fading.left(self.clock.now());
+        let standing = Standing::of(core, &self.lists, left > 0);
+        if prompt.tells(standing) || self.is_pending() {
+            return;
+        }
+        prompt.show(self.out, standing, left);
     }
 
     pub(super) fn say(&mut self, text: &[u8]) {
