@@ -1,0 +1,4 @@
+pub mod Placing
+pub mod Covering
+pub mod Counting
+pub mod Streams

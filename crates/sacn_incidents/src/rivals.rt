@@ -1,0 +1,58 @@
+//! Sources that meet on a universe.
+
+ghost use Rattle.std.specs.Prelude.{◌≡◌, ◌+◌, drop};
+ghost use Rattle.std.specs.List.{position};
+ghost use Rattle.sacn_incidents.specs.Deeds.{meeting_at, meets, rival_at, sends};
+
+use crate::deed::{Act, Deed, Rival, deed_at};
+use sacn_monitor::{Monitor, Stream, StreamState};
+use sacn_network::Contest;
+
+/// The deed of the first source, as they appeared, that lights a contested universe at its top priority: it meets the second
+/// one. None where fewer than two do.
+pub(crate) fn meeting(at: u64, contest: &Contest, monitor: &Monitor) -> Option<Deed>
+    ensures { result ≡ meeting_at at contest.now monitor.now.streams }
+{
+    let streams = monitor.streams();
+    let place = place_of(at, contest, streams)?;
+    let rival = rival_behind(at, contest, place, streams)?;
+    deed_at(at, Act::Meets(rival), place, streams)
+}
+
+// The second source that lights it, behind the place of the first.
+fn rival_behind(at: u64, contest: &Contest, place: usize, streams: &[Stream]) -> Option<Rival>
+    ensures { result ≡ rival_at at contest.now (drop (place + 1) streams.now) }
+{
+    let behind = streams.get(place.checked_add(1)?..)?;
+    let stream = behind.get(place_of(at, contest, behind)?)?;
+    Some(Rival {
+        cid: stream.cid,
+        priority: contest.priority,
+        sources: contest.sources,
+    })
+}
+
+// The place of the first that lights the universe at its top priority.
+fn place_of(at: u64, contest: &Contest, streams: &[Stream]) -> Option<usize>
+    ensures { result ≡ position (meets at contest.now) streams.now }
+{
+    streams.iter().position(|stream| meets(at, contest, stream))
+}
+
+fn meets(at: u64, contest: &Contest, stream: &Stream) -> bool
+    ensures { result ≡ meets at contest.now stream.now }
+{
+    (stream.universe == contest.universe)
+        & (stream.account.priority == contest.priority)
+        & (stream.account.kinds.live > 0)
+        & sends(at, stream)
+}
+
+fn sends(at: u64, stream: &Stream) -> bool
+    ensures { result ≡ sends at stream.now }
+{
+    match stream.state(at) {
+        StreamState::Sending => true,
+        StreamState::Ended | StreamState::Lost => false,
+    }
+}
