@@ -183,8 +183,9 @@ fn push_stopped(text: &mut String, millis: u64) -> Result<(), AllocError>
     text.push_str(" s: this program was stopped")
 }
 
+/// Milliseconds as seconds, with three places behind the point.
 #[tactic(auto, unfolding(crate::specs::Sentences::seconds_text), using(crate::proofs::Padding::zeros_is))]
-fn push_seconds(text: &mut String, millis: u64) -> Result<(), AllocError>
+pub fn push_seconds(text: &mut String, millis: u64) -> Result<(), AllocError>
     ensures { OnOk result (string_bytes text.new ≡ string_bytes text.old ++ seconds_text millis) }
 {
     let seconds = millis / 1000;
@@ -192,9 +193,9 @@ fn push_seconds(text: &mut String, millis: u64) -> Result<(), AllocError>
     write!(text, "{seconds}.{rest:03}")
 }
 
-// A CID by its first two octets and its last one.
+/// A CID by its first two octets and its last one.
 #[tactic(auto, unfolding(crate::specs::Sentences::short_cid))]
-fn push_short_cid(text: &mut String, cid: &[u8; 16]) -> Result<(), AllocError>
+pub fn push_short_cid(text: &mut String, cid: &[u8; 16]) -> Result<(), AllocError>
     ensures { OnOk result (string_bytes text.new ≡ string_bytes text.old ++ short_cid cid.now) }
 {
     push_digits(text, &[cid[0], cid[1]])?;

@@ -27,15 +27,21 @@ mod table_rows;
 mod tables;
 mod teller;
 
-pub use event_words::{push_named_source, push_stop};
-pub use fault::ExplainFault;
+pub use event_words::{
+    begin as begin_line, push_named_source, push_seconds, push_short_cid, push_stop,
+};
+pub use fault::{ExplainFault, TellFault};
 pub use follow::{Timeline, explain};
 pub use follower::Follower;
-pub use json::{push_foreign, push_key, push_number, push_sender_members, push_word};
-pub use listings::MAX_LISTINGS;
-pub use numbers::push_numbers;
+pub use json::{
+    begin as begin_object, push_foreign, push_key, push_number, push_sender_members,
+    push_source as push_source_members, push_word,
+};
+pub use line_writer::LineWriter;
+pub use listings::{Listings, MAX_LISTINGS};
+pub use numbers::{push_numbers, push_ranges};
 pub use options::{Form, Options};
 pub use refusals::fault_words;
 pub use report::{Report, total};
-pub use spelling::{push_cid, push_decimal, push_digits, push_long_digits, push_sender};
+pub use spelling::{push_cid, push_decimal, push_digits, push_long_digits, push_name, push_sender};
 pub use stream_rows::{push_counts, push_state_members};
