@@ -9,7 +9,7 @@ use sacn_monitor::Endpoint;
 use sacn_packets::read_packet;
 use sacn_tell::{Form, Options};
 use sacn_text::decode_text;
-use sacn_watch::{Size, View, screen, watch_lines};
+use sacn_watch::{Decoder, Size, View, screen, watch_lines};
 use std::alloc::Global;
 use std::mem;
 
@@ -20,6 +20,7 @@ pub struct Watches {
     datagrams: Vec<Vec<u8>>,
     incoming: Vec<TimedArrival>,
     view: View,
+    decoder: Decoder,
     output: Vec<u8>,
 }
 
@@ -38,6 +39,7 @@ impl Watches {
             datagrams: Vec::new(alloc),
             incoming: Vec::new(alloc),
             view,
+            decoder: Decoder::new(),
             output: Vec::new(alloc),
         })
     }
@@ -65,6 +67,7 @@ impl Watches {
                 let reading = read_packet(datagram.as_slice());
                 self.view.take(now, SENDER, &reading);
             }
+            "keys" => self.press(step)?,
             "screen" => self.draw(step)?,
             "written" => compare(step, self.output.as_slice())?,
             _ => return Err(StepFault::UnknownCall),
@@ -89,6 +92,18 @@ impl Watches {
         let mut listener = MemoryReceiver::new(incoming, until);
         self.output.clear();
         step.say_done(watch_lines(self.alloc, &mut listener, &options, until, &mut self.output));
+        Ok(())
+    }
+
+    fn press(&mut self, step: &mut Step<'_>) -> Result<(), StepFault> {
+        let octets = step.hex()?;
+        for octet in octets.iter() {
+            if let Some(key) = self.decoder.take(*octet) {
+                if self.view.press(self.alloc, key).is_err() {
+                    return Err(StepFault::Memory);
+                }
+            }
+        }
         Ok(())
     }
 

@@ -1,3 +1,4 @@
 mod Handing
 pub mod Following
 mod Letters
+mod Choosing

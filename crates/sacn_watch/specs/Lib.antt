@@ -5,3 +5,4 @@ pub mod Watches
 pub mod Screens
 pub mod Faults
 pub mod Stops
+pub mod Keys

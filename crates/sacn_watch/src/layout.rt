@@ -4,6 +4,7 @@ ghost use Rattle.std.specs.Prelude.{◌≡◌, IfOk};
 ghost use Rattle.sacn_watch.specs.Pages.{FitsOn};
 
 use crate::levels::{lit_rows, push_levels};
+use crate::numbers::{letter_of, source_numbers};
 use crate::page::{Ink, Page, Row, Size};
 use crate::view::View;
 use sacn_monitor::{Account, Stream, StreamState};
@@ -26,8 +27,9 @@ const SOURCE_HEAD: &str = "  universe state   prio  rate missed  late name      
 
 /// The screen of a view, at a terminal of this size: alarms, the sources on universes, and the levels of one universe, each
 /// after the letter of the source that gives it. Where not all sources fit above the levels, those of that universe come first, the
-/// levels keep up to half of the rows, and how many of each there are more is said. Rows are cut at the terminal's edge, and rows
-/// below its end are left out: there are never more rows than the terminal has, and each is as wide as it.
+/// levels keep up to half of the rows, and how many of each there are more is said; the sources are then shown from the one on to
+/// which they were scrolled. Rows are cut at the terminal's edge, and rows below its end are left out: there are never more rows than
+/// the terminal has, and each is as wide as it.
 ///
 /// Errors: a growth was refused.
 pub fn screen(alloc: Global, view: &View, size: Size) -> Result<Page, AllocError>
@@ -38,14 +40,10 @@ pub fn screen(alloc: Global, view: &View, size: Size) -> Result<Page, AllocError
     push_counts(alloc, &mut page, view)?;
     push_stop(alloc, &mut page, view)?;
     push_alarms(alloc, &mut page, view)?;
-    push_sources(alloc, &mut page, view)?;
-    push_levels(alloc, &mut page, view)?;
+    let numbers = source_numbers(alloc, view.monitor().streams())?;
+    push_sources(alloc, &mut page, view, numbers.as_slice())?;
+    push_levels(alloc, &mut page, view, numbers.as_slice())?;
     Ok(page)
-}
-
-// The letter of the source at a place.
-pub(crate) fn letter_of(place: usize) -> u32 {
-    'A' as u32 + (place % 26) as u32
 }
 
 fn push_counts(alloc: Global, page: &mut Page, view: &View) -> Result<(), AllocError>
@@ -161,25 +159,67 @@ fn push_rivalry(text: &mut String, view: &View, stream: &Stream) -> Result<(), A
     Ok(())
 }
 
-fn push_sources(alloc: Global, page: &mut Page, view: &View) -> Result<(), AllocError>
+fn push_sources(
+    alloc: Global,
+    page: &mut Page,
+    view: &View,
+    numbers: &[usize],
+) -> Result<(), AllocError>
     ensures size { page.new.size ≡ page.old.size }
     ensures fits { FitsOn page.old.size page.old.rows.items
         → FitsOn page.new.size page.new.rows.items }
 {
     page.push_text(alloc, "", Ink::Plain)?;
     page.push_text(alloc, SOURCE_HEAD, Ink::Heading)?;
-    let count = view.monitor().streams().len();
+    let streams = view.monitor().streams();
+    let count = streams.len();
     let room = room_for_sources(page, view);
     if count <= room {
-        let _ = push_sources_of(alloc, page, view, Part::All, count)?;
-        return Ok(());
+        page.sources_above = 0;
+        return push_sources_of(alloc, page, view, numbers, Part::All, Span::all(count));
     }
     let room = room.saturating_sub(1);
-    let first = push_sources_of(alloc, page, view, Part::Shown, room)?;
-    let room = room.saturating_sub(first);
-    let others = push_sources_of(alloc, page, view, Part::Others, room)?;
-    let left = count.saturating_sub(first).saturating_sub(others);
-    push_more(alloc, page, " ", left, Ink::Plain)
+    let above = view
+        .steering
+        .sources_above
+        .min(count.saturating_sub(room.max(1)));
+    page.sources_above = above;
+    let shown = count_of(view, Part::Shown);
+    let first = Span::of(above, room, shown);
+    push_sources_of(alloc, page, view, numbers, Part::Shown, first)?;
+    let others = Span::of(
+        above.saturating_sub(shown),
+        room.saturating_sub(first.count),
+        count.saturating_sub(shown),
+    );
+    push_sources_of(alloc, page, view, numbers, Part::Others, others)?;
+    let left = count
+        .saturating_sub(above)
+        .saturating_sub(first.count)
+        .saturating_sub(others.count);
+    push_rest_of_sources(alloc, page, above, left)
+}
+
+// Says how many sources stand above and below those that are shown.
+fn push_rest_of_sources(
+    alloc: Global,
+    page: &mut Page,
+    above: usize,
+    below: usize,
+) -> Result<(), AllocError>
+    ensures size { page.new.size ≡ page.old.size }
+    ensures fits { FitsOn page.old.size page.old.rows.items
+        → FitsOn page.new.size page.new.rows.items }
+{
+    if above == 0 {
+        return push_more(alloc, page, " ", below, Ink::Plain);
+    }
+    let mut text = String::new(alloc);
+    write!(text, "  {above} above")?;
+    if below > 0 {
+        write!(text, ", and {below} more")?;
+    }
+    page.push_text(alloc, text.as_str(), Ink::Plain)
 }
 
 // How many rows of sources there is room for.
@@ -212,33 +252,92 @@ fn is_of(view: &View, stream: &Stream, part: Part) -> bool {
     }
 }
 
-// A row for each source of a part, up to so many. Returns how many rows these are.
+// How many sources on universes are of a part.
+fn count_of(view: &View, part: Part) -> usize {
+    let mut count = 0_usize;
+    for stream in view.monitor().streams() {
+        if is_of(view, stream, part) {
+            count = count.saturating_add(1);
+        }
+    }
+    count
+}
+
+// Which rows of a part: so many, behind those that are passed by.
+#[derive(Clone, Copy)]
+struct Span {
+    above: usize,
+    count: usize,
+}
+
+impl Span {
+    // All rows of so many.
+    fn all(count: usize) -> Self {
+        Span { above: 0, count }
+    }
+
+    // Of so many rows those behind the ones above, as far as there is room.
+    fn of(above: usize, room: usize, count: usize) -> Self {
+        Span {
+            above,
+            count: count.saturating_sub(above).min(room),
+        }
+    }
+}
+
+// The rows of the sources of a part.
 fn push_sources_of(
     alloc: Global,
     page: &mut Page,
     view: &View,
+    numbers: &[usize],
     part: Part,
-    room: usize,
-) -> Result<usize, AllocError>
+    span: Span,
+) -> Result<(), AllocError>
     ensures size { page.new.size ≡ page.old.size }
     ensures fits { FitsOn page.old.size page.old.rows.items
         → FitsOn page.new.size page.new.rows.items }
 {
     let streams = view.monitor().streams();
-    let mut text = String::new(alloc);
-    let mut count = 0_usize;
+    let end = span.above.saturating_add(span.count);
+    let mut passed = 0_usize;
     for place in 0..streams.len() {
-        if count < room && is_of(view, &streams[place], part) {
-            count += 1;
-            text.clear();
-            push_source(&mut text, &streams[place], view.monitor().moment())?;
-            let mut row = Row::new(alloc, page.size.width);
-            row.put(letter_of(place), Ink::Source(place))?;
-            row.put_text(text.as_str(), Ink::Source(place))?;
-            page.push(row)?;
+        if is_of(view, &streams[place], part) {
+            if span.above <= passed && passed < end {
+                let number = numbers.get(place).copied().unwrap_or(place);
+                push_source_row(
+                    alloc,
+                    page,
+                    &streams[place],
+                    number,
+                    view.monitor().moment(),
+                )?;
+            }
+            passed = passed.saturating_add(1);
         }
     }
-    Ok(count)
+    Ok(())
+}
+
+// The row of a source on a universe, behind the letter of the source.
+fn push_source_row(
+    alloc: Global,
+    page: &mut Page,
+    stream: &Stream,
+    number: usize,
+    moment: u64,
+) -> Result<(), AllocError>
+    ensures size { page.new.size ≡ page.old.size }
+    ensures fits { FitsOn page.old.size page.old.rows.items
+        → FitsOn page.new.size page.new.rows.items }
+{
+    let mut text = String::new(alloc);
+    push_source(&mut text, stream, moment)?;
+    let mut row = Row::new(alloc, page.size.width);
+    row.put(letter_of(number), Ink::Source(number))?;
+    row.put_text(text.as_str(), Ink::Source(number))?;
+    page.push(row)?;
+    Ok(())
 }
 
 fn state_word(state: StreamState) -> &'static str {

@@ -125,6 +125,8 @@ impl Row {
 pub struct Page {
     pub size: Size,
     pub rows: Vec<Row>,
+    /// How many rows of sources stand above the first of them, of those for which there is no room.
+    pub sources_above: usize,
 }
 
 impl Page {
@@ -136,6 +138,7 @@ impl Page {
         Page {
             size,
             rows: Vec::new(alloc),
+            sources_above: 0,
         }
     }
 

@@ -5,6 +5,7 @@ ghost use Rattle.sacn_edge.specs.Additions.{Extends};
 ghost use Rattle.sacn_watch.specs.Watches.{Receive, heard_by, IsWatch};
 
 use crate::fault::WatchFault;
+use crate::keys::Keyboard;
 use crate::listener::Listener;
 use crate::sized_screen::{Screen, Sizes};
 use crate::watch::run_watch;
@@ -33,9 +34,9 @@ pub fn watch_lines<L: Listener, O: Write>(
 /// Shows what a listener hears until a moment in milliseconds on a screen, whose rows stay as lines at its end.
 ///
 /// Errors: OutOfMemory; Device where the terminal can't be written.
-pub fn watch_terminal<L: Listener, O: Write, Z: Sizes>(
+pub fn watch_terminal<L: Listener, O: Write, Z: Sizes, K: Keyboard>(
     listener: &mut L,
-    screen: &mut Screen<'_, O, Z>,
+    screen: &mut Screen<'_, O, Z, K>,
     until: u64,
 ) -> Result<(), WatchFault>
     ensures { (turns : List (List Receive))

@@ -1,12 +1,16 @@
 //! A screen on a terminal that may be resized.
 
-ghost use Rattle.std.specs.Prelude.{◌≡◌};
+ghost use Rattle.std.specs.Prelude.{◌≡◌, ◌≤◌};
+ghost use Rattle.sacn_machine.specs.declared.keys.TheConstants.{MAX_KEYS};
+ghost use Rattle.sacn_watch.specs.Screens.{KeepsShowing};
 
 use crate::fault::WatchFault;
+use crate::keys::{Decoder, Key, Keyboard};
 use crate::page::Size;
-use crate::terminal::Terminal;
+use crate::terminal::{Terminal, ToldKeys};
 use crate::watch::Watcher;
 use sacn_machine::limits::SILENT_START;
+use sacn_machine::{MAX_KEYS, Typed};
 use sacn_monitor::Endpoint;
 use sacn_packets::Reading;
 use std::io::Write;
@@ -17,24 +21,28 @@ pub trait Sizes {
     fn size(&mut self, now: u64) -> Option<Size>;
 }
 
-/// A screen on a terminal whose size is asked for before each look whether to draw, and which says where nothing was heard in the first
-/// five seconds. At its end its rows stay as lines.
+/// A screen on a terminal whose size and whose keys are asked for before each look whether to draw, and which says where nothing was
+/// heard in the first five seconds. At its end its rows stay as lines.
 #[derive(Drop)]
-pub struct Screen<'a, O, Z> {
+pub struct Screen<'a, O, Z, K> {
     terminal: Terminal<'a, O>,
     sizes: Z,
+    keyboard: K,
+    decoder: Decoder,
     /// The words for that, until they are said.
     silence: Option<String>,
 }
 
-impl<'a, O: Write, Z: Sizes> Screen<'a, O, Z> {
-    /// A screen on a terminal, with the words for silence: each part up to a semicolon begins a row.
-    pub fn new(terminal: Terminal<'a, O>, sizes: Z, silence: String) -> Self
+impl<'a, O: Write, Z: Sizes, K: Keyboard> Screen<'a, O, Z, K> {
+    /// A screen on a terminal, with its keyboard, and the words for silence: each part up to a semicolon begins a row.
+    pub fn new(terminal: Terminal<'a, O>, sizes: Z, keyboard: K, silence: String) -> Self
         ensures { result.terminal ≡ terminal.entry }
     {
         Screen {
             terminal,
             sizes,
+            keyboard,
+            decoder: Decoder::new(),
             silence: Some(silence),
         }
     }
@@ -44,6 +52,38 @@ impl<'a, O: Write, Z: Sizes> Screen<'a, O, Z> {
         ensures { self.new.terminal.view ≡ self.old.terminal.view }
     {
         self.terminal.note_words(words);
+    }
+
+    /// Takes the keys that are there, at a moment in milliseconds.
+    ///
+    /// Errors: OutOfMemory.
+    pub fn take_keys(&mut self, now: u64) -> Result<(), WatchFault>
+        ensures { KeepsShowing self.old.terminal self.new.terminal }
+    {
+        let mut octets = [0; MAX_KEYS];
+        let count = count_of(self.keyboard.read(&mut octets));
+        self.terminal.tell_keys(keys_of(&self.keyboard));
+        for place in 0..count {
+            if let Some(key) = self.decoder.take(octets[place]) {
+                self.press(now, key)?;
+            }
+        }
+        Ok(())
+    }
+
+    // A key is pressed: it steers the screen, or ends what is watched.
+    fn press(&mut self, now: u64, key: Key) -> Result<(), WatchFault>
+        ensures { KeepsShowing self.old.terminal self.new.terminal }
+    {
+        if !ends(key) {
+            return self.terminal.press(now, key);
+        }
+        if self.keyboard.may_leave() {
+            self.keyboard.leave();
+        } else {
+            self.terminal.refuse_end();
+        }
+        Ok(())
     }
 
     // Gives the terminal its size, and once it is time the words for silence.
@@ -62,7 +102,7 @@ impl<'a, O: Write, Z: Sizes> Screen<'a, O, Z> {
     }
 }
 
-impl<'a, O: Write, Z: Sizes> Watcher for Screen<'a, O, Z> {
+impl<'a, O: Write, Z: Sizes, K: Keyboard> Watcher for Screen<'a, O, Z, K> {
     ghost use Rattle.sacn_watch.specs.Screens.{IsShowing};
 
     ghost Handed = { λ screen calls. IsShowing calls screen.terminal };
@@ -82,6 +122,7 @@ impl<'a, O: Write, Z: Sizes> Watcher for Screen<'a, O, Z> {
 
     fn show(&mut self, now: u64) -> Result<(), WatchFault> {
         self.prepare(now);
+        self.take_keys(now)?;
         self.terminal.show(now)
     }
 
@@ -95,5 +136,32 @@ impl<'a, O: Write, Z: Sizes> Watcher for Screen<'a, O, Z> {
     fn end(&mut self, now: u64) -> Result<(), WatchFault> {
         self.terminal.end(now)?;
         self.terminal.leave(now)
+    }
+}
+
+// How many octets of keys were read.
+fn count_of(typed: Typed) -> usize
+    ensures { result ≤ MAX_KEYS }
+{
+    match typed {
+        Typed::Octets(count) => count.min(MAX_KEYS),
+        Typed::Nothing => 0,
+        Typed::End => 0,
+    }
+}
+
+// Whether a key ends what is watched.
+fn ends(key: Key) -> bool {
+    (key == Key::Letter(b'q')) | (key == Key::Letter(b'Q'))
+}
+
+// Which keys a terminal tells.
+fn keys_of<K: Keyboard>(keyboard: &K) -> ToldKeys {
+    if !keyboard.is_open() {
+        ToldKeys::Absent
+    } else if keyboard.may_leave() {
+        ToldKeys::All
+    } else {
+        ToldKeys::Steering
     }
 }

@@ -1,11 +1,12 @@
 //! A screen on a terminal.
 
-ghost use Rattle.std.specs.Prelude.{◌≡◌, [], IfOk};
+ghost use Rattle.std.specs.Prelude.{◌≡◌, ◌≤◌, [], IfOk};
 ghost use Rattle.sacn_watch.specs.Pages.{FitsOn};
-ghost use Rattle.sacn_watch.specs.Screens.{IsShowing, wake_of};
-ghost use Rattle.sacn_watch.specs.Views.{chosen};
+ghost use Rattle.sacn_watch.specs.Screens.{IsShowing, KeepsShowing, wake_of};
+ghost use Rattle.sacn_watch.specs.Views.{after_look, chosen, shown_of};
 
 use crate::fault::WatchFault;
+use crate::keys::Key;
 use crate::layout::screen;
 use crate::page::{Ink, Page, Size};
 use crate::view::View;
@@ -18,8 +19,17 @@ use std::io::Write;
 /// The least milliseconds between two drawings.
 pub const MIN_WAIT: u64 = 250;
 
-/// The columns of a row that is left as a line: those of a source's row, and 16 levels.
+/// The most milliseconds until a key's answer is drawn, so that a key that is held costs no more drawings than that.
+const KEY_WAIT: u64 = 50;
+
+/// The columns of a row that is left as a line: those of a source's row, and 20 levels.
 const LINE_COLUMNS: usize = 100;
+
+/// On so many rows one tells the keys.
+const MIN_TOLD: usize = 12;
+
+/// The keys, but for that which ends.
+const KEYS: &str = "<- -> 0-9 universe  up/down sources  % x d  f changed  p priority  ";
 
 /// The milliseconds after which rates are looked at anew.
 const SECOND: u64 = 1000;
@@ -29,8 +39,19 @@ const BEGIN: &[u8] = b"\x1b[?1049h\x1b[?25l\x1b[?7l\x1b[2J";
 
 const END: &[u8] = b"\x1b[0m\x1b[?7h\x1b[?25h\x1b[?1049l";
 
-/// Shows a network on a terminal, drawn at most four times a second, and only where something changed. At its end the terminal
-/// shows what it showed before.
+/// Which keys there are.
+#[derive(Clone, Copy, PartialEq, Eq)]
+pub enum ToldKeys {
+    /// None.
+    Absent,
+    /// Those that steer, and `q`, which ends.
+    All,
+    /// Those that steer: Ctrl-C ends.
+    Steering,
+}
+
+/// Shows a network on a terminal, drawn at most four times a second, and at each key, and only where something changed. At its end
+/// the terminal shows what it showed before.
 #[derive(Drop)]
 pub struct Terminal<'a, O> {
     alloc: Global,
@@ -50,6 +71,8 @@ pub struct Terminal<'a, O> {
     silence: String,
     /// What is said below all else; empty where nothing is.
     note: String,
+    /// The keys that are told.
+    keys: ToldKeys,
 }
 
 impl<'a, O: Write> Terminal<'a, O> {
@@ -81,6 +104,7 @@ impl<'a, O: Write> Terminal<'a, O> {
             is_resized: false,
             silence: String::new(alloc),
             note: String::new(alloc),
+            keys: ToldKeys::Absent,
         })
     }
 
@@ -112,14 +136,46 @@ impl<'a, O: Write> Terminal<'a, O> {
         self.is_stale = true;
     }
 
+    /// From now on a row tells these keys, where there is room for it.
+    pub fn tell_keys(&mut self, keys: ToldKeys)
+        ensures view { self.new.view ≡ self.old.view }
+    {
+        if keys != self.keys {
+            self.is_stale = true;
+        }
+        self.keys = keys;
+    }
+
+    /// A key is pressed, at a moment in milliseconds. What came of it is drawn within `KEY_WAIT`.
+    ///
+    /// Errors: OutOfMemory.
+    pub fn press(&mut self, now: u64, key: Key) -> Result<(), WatchFault>
+        ensures { KeepsShowing self.old self.new }
+    {
+        self.view.refresh(now);
+        self.is_stale = true;
+        self.next = self.next.min(now.saturating_add(KEY_WAIT));
+        self.view.press(self.alloc, key)
+    }
+
+    /// A key that ends nothing was pressed to end it.
+    pub fn refuse_end(&mut self)
+        ensures { KeepsShowing self.old self.new }
+    {
+        self.view.steering.refuse_end();
+        self.is_stale = true;
+        self.next = 0;
+    }
+
     /// Writes all rows of what it shows, also those for which the screen had no room, as lines.
     pub fn leave(&mut self, now: u64) -> Result<(), WatchFault>
-        ensures { self.new.view.network ≡ self.old.view.network }
+        ensures network { self.new.view.network ≡ self.old.view.network }
+        ensures looked { shown_of self.new.view ≡ after_look now (shown_of self.old.view) }
     {
+        self.view.refresh(now);
         if self.drawn.len() == 0 {
             return Ok(());
         }
-        self.view.refresh(now);
         let size = Size {
             width: LINE_COLUMNS,
             height: usize::MAX,
@@ -146,22 +202,45 @@ impl<'a, O: Write> Terminal<'a, O> {
         Ok(())
     }
 
-    // What the screen shows: of its height a row is left to what is said below all else.
+    // What is said of keys: of the latest one, or which there are.
+    fn words_of_keys(&self) -> Result<String, AllocError> {
+        let mut text = String::new(self.alloc);
+        self.view.steering.push_said(&mut text)?;
+        if text.len() > 0 || self.size.height < MIN_TOLD {
+            return Ok(text);
+        }
+        match self.keys {
+            ToldKeys::Absent => {}
+            ToldKeys::All => {
+                text.push_str(KEYS)?;
+                text.push_str("q end")?;
+            }
+            ToldKeys::Steering => {
+                text.push_str(KEYS)?;
+                text.push_str("Ctrl-C end")?;
+            }
+        }
+        Ok(text)
+    }
+
+    // What the screen shows: of its height a row is left to what is said of keys, and one to what is said below all else.
     fn page(&self) -> Result<Page, AllocError>
         ensures fits { IfOk result (λ page. FitsOn self.now.size page.rows.items) }
     {
+        let keys = self.words_of_keys()?;
+        let has_keys = keys.len() > 0;
         let has_note = self.note.len() > 0;
+        let height = height_above(self.size.height, has_keys);
         let size = Size {
             width: self.size.width,
-            height: if has_note {
-                self.size.height.saturating_sub(1)
-            } else {
-                self.size.height
-            },
+            height: height_above(height, has_note),
         };
         let mut page = screen(self.alloc, &self.view, size)?;
         self.push_silence(&mut page)?;
         page.size = self.size;
+        if has_keys {
+            page.push_text(self.alloc, keys.as_str(), Ink::Heading)?;
+        }
         if has_note {
             page.push_text(self.alloc, self.note.as_str(), Ink::Plain)?;
         }
@@ -170,10 +249,12 @@ impl<'a, O: Write> Terminal<'a, O> {
 
     // Draws the screen where it isn't the one that was drawn last.
     fn draw(&mut self, now: u64) -> Result<(), WatchFault>
-        ensures { self.new.view.network ≡ self.old.view.network }
+        ensures network { self.new.view.network ≡ self.old.view.network }
+        ensures looked { shown_of self.new.view ≡ after_look now (shown_of self.old.view) }
     {
         self.view.refresh(now);
         let page = self.page()?;
+        self.view.steering.sources_above = page.sources_above;
         let text = page.text(self.alloc, self.has_colours)?;
         if self.drawn.len() == 0 {
             self.out.write_all(BEGIN)?;
@@ -200,6 +281,8 @@ impl<'a, O: Write> Watcher for Terminal<'a, O> {
         reading: &Reading<'_>,
     ) -> Result<(), WatchFault> {
         self.view.take(now, sender, reading);
+        let is_concerned = self.view.is_concerned(reading);
+        self.view.note_changes(now, is_concerned);
         self.is_stale = true;
         Ok(())
     }
@@ -242,6 +325,17 @@ impl<'a, O: Write> Watcher for Terminal<'a, O> {
             self.out.flush()?;
         }
         Ok(())
+    }
+}
+
+// The height above a row below, where there is one.
+fn height_above(height: usize, has_row: bool) -> usize
+    ensures { result ≤ height }
+{
+    if has_row {
+        height.saturating_sub(1)
+    } else {
+        height
     }
 }
 
