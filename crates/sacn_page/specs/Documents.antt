@@ -57,11 +57,19 @@ abbrev pub fault_value : Option CaptureFault → List ℕ
 fault_value None = codes "null"
 fault_value (Some f) = fault_object f
 
+unfoldable pub fault_member : Option CaptureFault → List ℕ
+fault_member fault = key_text (codes "fault") ++ fault_value fault
+
+-- when a recording begins, in milliseconds since 1970, where it has a frame
+abbrev pub start_member : Option ℕ → List ℕ
+start_member None = codes ",\"start\":null"
+start_member (Some start) = number_member (codes "start") start
+
 -- what is known of a recording as a whole
 unfoldable pub facts_object : Facts → List ℕ
 facts_object f =
     codes "{\"name\":" ++ (quoted (foreign_text (string_bytes f.name)) ++ (number_member (codes "length") f.length
-    ++ (key_text (codes "fault") ++ (fault_value f.fault ++ codes "}"))))
+    ++ (start_member f.start ++ (fault_member f.fault ++ codes "}"))))
 
 -- which source it is on which universe, and where it sends from
 unfoldable pub source_members : Stream → List ℕ

@@ -1,7 +1,7 @@
 //! What stands in the document of a viewer (docs/FILES.md tells its members): a recording's facts, sources, levels, and who gives these.
 
 ghost use Rattle.std.specs.Prelude.{◌≡◌, ◌++◌, OnOk, codes, string_bytes, map};
-ghost use Rattle.sacn_page.specs.Documents.{digits_member, facts_object, fault_name, fault_object, fault_value, first_number, foreign_member, long_digits_member, quoted, row_object, source_members, universe_member};
+ghost use Rattle.sacn_page.specs.Documents.{digits_member, facts_object, fault_member, fault_name, fault_object, fault_value, first_number, foreign_member, long_digits_member, quoted, row_object, source_members, start_member, universe_member};
 ghost use Rattle.sacn_tell.specs.Foreign.{foreign_text};
 ghost use Rattle.sacn_page.specs.Marks.{mark_of};
 
@@ -26,8 +26,8 @@ pub fn push_facts(text: &mut String, facts: &Facts) -> Result<(), AllocError>
     text.push_str("{\"name\":")?;
     push_quoted_foreign(text, facts.name.as_bytes())?;
     push_number(text, "length", facts.length)?;
-    push_key(text, "fault")?;
-    push_fault(text, facts.fault)?;
+    push_start(text, facts.start)?;
+    push_fault_member(text, facts.fault)?;
     text.push('}')
 }
 
@@ -41,6 +41,26 @@ pub fn push_first_number(text: &mut String, key: &str, number: u64) -> Result<()
     text.push_str(key)?;
     text.push_str("\":")?;
     push_decimal(text, number)
+}
+
+// When a recording begins, where it does.
+fn push_start(text: &mut String, start: Option<u64>) -> Result<(), AllocError>
+    ensures { OnOk result
+        (string_bytes text.new ≡ string_bytes text.old ++ start_member start) }
+{
+    match start {
+        Some(start) => push_number(text, "start", start),
+        None => text.push_str(",\"start\":null"),
+    }
+}
+
+#[tactic(auto, unfolding(crate::specs::Documents::fault_member))]
+fn push_fault_member(text: &mut String, fault: Option<CaptureFault>) -> Result<(), AllocError>
+    ensures { OnOk result
+        (string_bytes text.new ≡ string_bytes text.old ++ fault_member fault) }
+{
+    push_key(text, "fault")?;
+    push_fault(text, fault)
 }
 
 fn push_fault(text: &mut String, fault: Option<CaptureFault>) -> Result<(), AllocError>

@@ -95,6 +95,7 @@ impl<T: Tape + Drop> Recording<T> {
         let facts = Facts {
             name,
             length: 0,
+            start: None,
             fault: None,
         };
         Ok(Recording {
@@ -118,6 +119,7 @@ impl<T: Tape + Drop> Recording<T> {
             return Ok(false);
         }
         self.facts.length = self.replay.moment_shown();
+        self.facts.start = self.replay.start();
         self.facts.fault = self.replay.fault();
         Ok(true)
     }

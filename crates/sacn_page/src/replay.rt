@@ -127,6 +127,13 @@ impl<R: BufRead + Drop> Replay<R> {
         Ok(())
     }
 
+    /// The moment of the recording's first frame, in milliseconds since 1970 (UTC), once that was handed on.
+    pub fn start(&self) -> Option<u64>
+        ensures { result ≡ self.now.clock.first }
+    {
+        self.clock.first
+    }
+
     /// How many octets of the recording were read.
     pub fn offset(&self) -> u64
         ensures { result ≡ place_of_reading self.now.capture }

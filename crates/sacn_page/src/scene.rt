@@ -14,6 +14,8 @@ pub struct Facts {
     pub name: String,
     /// The moment of its last frame, in milliseconds from the first.
     pub length: u64,
+    /// The moment of its first frame, in milliseconds since 1970 (UTC); None where it has none.
+    pub start: Option<u64>,
     /// What is wrong with it, and where. What is before that is shown.
     pub fault: Option<CaptureFault>,
 }

@@ -12,7 +12,7 @@ pub const BODY: &str = r##"</head>
 <noscript>This page needs scripts. The same is told as text by: sacn watch --plain, and sacn explain</noscript>
 <main>
   <section id="time-part" aria-labelledby="time-head" hidden>
-    <h2 id="time-head">Moment <output id="moment" for="time">0:00.000</output> <span id="length" class="note"></span></h2>
+    <h2 id="time-head">Moment <output id="moment" for="time">0:00.000</output> <span id="length" class="note"></span> <span id="clock" class="note"></span></h2>
     <div id="time-row">
       <button id="play" type="button" aria-pressed="false">play</button>
       <input id="time" type="range" min="0" max="0" step="1" value="0" list="marks" aria-label="Moment of the recording" aria-describedby="time-keys">

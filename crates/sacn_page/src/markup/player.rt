@@ -4,11 +4,18 @@
 pub const PLAYER: &str = r##"
 // A recording: the document of a moment is asked for, one at a time; a later wish takes the place of one that waits.
 const SECOND = 1000, LEAP = 10000;
-const film = { name: '', length: 0, at: 0, universe: null, alarms: [], leftOut: 0, isKnown: false, isWanted: false, isAsking: false, isLost: false, from: null };
+const film = { name: '', length: 0, start: null, at: 0, universe: null, alarms: [], leftOut: 0, isKnown: false, isWanted: false, isAsking: false, isLost: false, from: null };
 
 function spelled(ms) {
   const seconds = Math.floor(ms / SECOND);
   return `${Math.floor(seconds / 60)}:${String(seconds % 60).padStart(2, '0')}.${String(ms % SECOND).padStart(3, '0')}`;
+}
+// The time of day at a moment, of this browser's time zone, with the date; nothing where the recording doesn't say.
+function timeOfDay(ms) {
+  const time = new Date(film.start + ms);
+  if (film.start === null || Number.isNaN(time.getTime())) return '';
+  const two = (number) => String(number).padStart(2, '0');
+  return `${time.getFullYear()}-${two(time.getMonth() + 1)}-${two(time.getDate())} ${two(time.getHours())}:${two(time.getMinutes())}:${two(time.getSeconds())}.${String(time.getMilliseconds()).padStart(3, '0')}`;
 }
 async function told(path) {
   const answer = await fetch(path);
@@ -41,7 +48,7 @@ async function ask() {
 // What is known of it as a whole, and its alarms: the state at its end.
 async function learn() {
   const end = await told('/state');
-  Object.assign(film, { name: end.recording.name, length: end.recording.length, alarms: end.alarms, leftOut: end.alarms_left_out || 0, isKnown: true });
+  Object.assign(film, { name: end.recording.name, length: end.recording.length, start: end.recording.start, alarms: end.alarms, leftOut: end.alarms_left_out || 0, isKnown: true });
   film.at = bounded(Math.trunc(Number(asked.get('at'))) || 0, 0, film.length);
   put(part('title'), 'sacn explain');
   put(part('name'), film.name);
@@ -78,6 +85,7 @@ function showTime() {
   part('time').value = String(film.at);
   part('time').setAttribute('aria-valuetext', spelled(film.at));
   put(part('moment'), spelled(film.at));
+  put(part('clock'), timeOfDay(film.at));
   const items = [...part('alarms').children];
   for (const item of items) item.classList.toggle('later', Number(item.dataset.at) > film.at);
   const latest = items.findLast((item) => !item.classList.contains('later')) || items[0];
