@@ -81,6 +81,12 @@ pub const JSON: Argument<'static> = Argument {
     ..FLAG
 };
 
+pub const CLOCK: Argument<'static> = Argument {
+    name: "clock",
+    help: "Puts the time of day in front of each line, to the millisecond, of the time zone that TZ says, or else the machine's",
+    ..FLAG
+};
+
 pub const PAGE: Argument<'static> = Argument {
     name: "page",
     help: "Serves a page for browsers there, of this machine where only a port is named, and prints nothing",

@@ -68,6 +68,8 @@ pub struct GatewayAsked<'a> {
     pub is_watched: bool,
     /// How frames are printed; None where the output tells.
     pub frames: Option<FrameForm>,
+    /// Whether each line has the time of day in front.
+    pub has_clock: bool,
 }
 
 /// What a desk is asked.
@@ -97,6 +99,8 @@ pub struct ExplainAsked<'a> {
     pub universes: Vec<u16>,
     /// Whether what is told is objects of JSON, one a line, and not text.
     pub is_json: bool,
+    /// Whether each line of text has the time of day in front.
+    pub has_clock: bool,
     /// Where a page is served in place of what is printed.
     pub page: Option<SocketAddrV4>,
     /// How long it is served.
@@ -120,6 +124,8 @@ pub struct WatchAsked {
     /// Whether what is told is objects of JSON, one a line, and not text.
     pub is_json: bool,
     pub is_plain: bool,
+    /// Whether each line of text has the time of day in front.
+    pub has_clock: bool,
     /// Whether it hears also where another receiver has the port.
     pub is_beside: bool,
     /// Where a page is served in place of what is printed.
@@ -166,9 +172,11 @@ fn gateway<'a>(words: &mut Words<'_, 'a>) -> Asked<'a> {
     words.leave("join");
     words.beside("watch", "page");
     words.beside("watch", "frames");
+    words.beside("watch", "clock");
     Asked::Gateway(GatewayAsked {
         is_watched: words.is_given("watch"),
         frames: words.word("frames").map(frame_form),
+        has_clock: words.is_given("clock"),
         seconds: words.seconds(),
         listen: words.value("listen", host).unwrap_or(Ipv4Addr::UNSPECIFIED),
         from: words.values("from", sender),
@@ -227,6 +235,8 @@ fn explain<'a>(words: &mut Words<'_, 'a>) -> Asked<'a> {
     let universes = words.universes();
     words.beside("page", "json");
     words.beside("page", "setup");
+    words.beside("page", "clock");
+    words.beside("json", "clock");
     let page = words.value("page", page);
     let seconds = words.seconds();
     words.without("seconds", "page");
@@ -240,6 +250,7 @@ fn explain<'a>(words: &mut Words<'_, 'a>) -> Asked<'a> {
         port,
         universes,
         is_json: words.is_given("json"),
+        has_clock: words.is_given("clock"),
         page,
         seconds,
     })
@@ -252,6 +263,9 @@ fn watch<'a>(words: &mut Words<'_, 'a>) -> Asked<'a> {
     let port = words.value("port", port).unwrap_or(DEFAULT_UDP_PORT);
     words.beside("page", "plain");
     words.beside("page", "json");
+    words.beside("page", "clock");
+    words.beside("json", "clock");
+    words.without("clock", "plain");
     Asked::Watch(WatchAsked {
         listen,
         port,
@@ -260,6 +274,7 @@ fn watch<'a>(words: &mut Words<'_, 'a>) -> Asked<'a> {
         seconds,
         is_json: words.is_given("json"),
         is_plain: words.is_given("plain"),
+        has_clock: words.is_given("clock"),
         is_beside: words.is_given("beside"),
     })
 }

@@ -1,7 +1,7 @@
 //! The table of the commands and their arguments. Help, manual and completions are made from it.
 use crate::arguments::{
-    DESK_SCRIPT_HELP, FIRST, FLAG, FRAMES, HELP, HELP_LETTER, JOIN, JSON, LISTEN, OPERAND, OPTION,
-    PAGE, SCRIPT_HELP, SECONDS, SETUP, SETUP_HELP, SHOW, TURNS,
+    CLOCK, DESK_SCRIPT_HELP, FIRST, FLAG, FRAMES, HELP, HELP_LETTER, JOIN, JSON, LISTEN, OPERAND,
+    OPTION, PAGE, SCRIPT_HELP, SECONDS, SETUP, SETUP_HELP, SHOW, TURNS,
 };
 use crate::manual::{Argument, ArgumentKind, SHELL_WORDS, SHELLS, Subcommand};
 use std::alloc::{AllocError, Global};
@@ -107,6 +107,7 @@ const GATEWAY: Subcommand<'static> = Subcommand {
             ..FLAG
         },
         FRAMES,
+        CLOCK,
         SECONDS,
         HELP_LETTER,
         HELP,
@@ -221,6 +222,10 @@ const EXPLAIN: Subcommand<'static> = Subcommand {
             ..OPTION
         },
         JSON,
+        Argument {
+            help: "Puts the recording's time of day in front of each line, to the millisecond, of the time zone that TZ says, or else the machine's",
+            ..CLOCK
+        },
         PAGE,
         Argument {
             help: "How many seconds it runs with --page, 1 to 1000000000",
@@ -233,7 +238,7 @@ const EXPLAIN: Subcommand<'static> = Subcommand {
 
 const WATCH: Subcommand<'static> = Subcommand {
     name: "watch",
-    about: "Hears a network until it is stopped, and tells each thing that happens, then tables; in a terminal it shows a screen",
+    about: "Hears a network until it is stopped, and tells each thing that happens, then tables; in a terminal it shows a screen, steered by keys that its last row tells",
     usage: "sacn watch [OPTIONS]",
     arguments: &[
         LISTEN,
@@ -257,6 +262,10 @@ const WATCH: Subcommand<'static> = Subcommand {
             name: "plain",
             help: "Prints lines in a terminal too",
             ..FLAG
+        },
+        Argument {
+            help: "Puts the time of day in front of each line of --plain, to the millisecond, of the time zone that TZ says, or else the machine's",
+            ..CLOCK
         },
         PAGE,
         Argument {
