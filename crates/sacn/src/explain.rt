@@ -1,6 +1,8 @@
 //! Recordings told.
 use crate::recording::serve;
+use crate::timed::{timing_of, zone_of};
 use sacn_capture::{CaptureFault, FaultKind};
+use sacn_clock::{Ahead, Recorded, Stamped, Timing};
 use sacn_commands::ending::{DEVICE_FAILED, Ending, REFUSED, of_write};
 use sacn_commands::live::setup_of_word;
 use sacn_files::limits::DEFAULT_UDP_PORT;
@@ -8,8 +10,9 @@ use sacn_node::NodeSetup;
 use sacn_tell::{ExplainFault, Form, Options, explain};
 use sacn_words::{ExplainAsked, STANDARD_INPUT};
 use std::alloc::Global;
+use std::env::Env;
 use std::fs;
-use std::io::{BufRead, BufReader, BufWriter, Read, Write};
+use std::io::{BufRead, BufReader, BufWriter, ErrorKind, Read, Write};
 use std::net::Net;
 use std::rt::{Clock, Files};
 
@@ -41,7 +44,7 @@ pub fn form_of(is_json: bool) -> Form {
 }
 
 /// Tells a recording, or serves a page of it.
-pub fn tell<R: AllocGlobal + Files + Net + Clock, I: Read + Drop, O: Write, E: Write>(
+pub fn tell<R: AllocGlobal + Files + Env + Net + Clock, I: Read + Drop, O: Write, E: Write>(
     rt: &R,
     asked: &ExplainAsked<'_>,
     input: &mut I,
@@ -51,11 +54,13 @@ pub fn tell<R: AllocGlobal + Files + Net + Clock, I: Read + Drop, O: Write, E: W
     if let Some(place) = asked.page {
         return serve(rt, asked, place, err);
     }
+    let zone = zone_of(rt, asked.has_clock)?;
+    let timing = timing_of(&zone, asked.is_json, asked.has_clock);
     match asked.setup {
-        None => tell_word(rt, asked, None, input, out, err),
+        None => tell_word(rt, asked, (None, timing), input, out, err),
         Some(path) => {
-            let setup = setup_of_word(rt, path, input, err)?;
-            tell_word(rt, asked, Some(&setup), input, out, err)
+            let setup = setup_of_word(rt, path, None, input, err)?;
+            tell_word(rt, asked, (Some(&setup), timing), input, out, err)
         }
     }
 }
@@ -64,46 +69,62 @@ pub fn tell<R: AllocGlobal + Files + Net + Clock, I: Read + Drop, O: Write, E: W
 fn tell_word<R: AllocGlobal + Files, I: Read + Drop, O: Write, E: Write>(
     rt: &R,
     asked: &ExplainAsked<'_>,
-    setup: Option<&NodeSetup>,
+    (setup, timing): (Option<&NodeSetup>, Timing<'_>),
     input: &mut I,
     out: &mut O,
     err: &mut E,
 ) -> Result<(), Ending> {
     if asked.capture == STANDARD_INPUT {
-        return tell_input(rt.alloc(), asked, setup, input, out, err);
+        return tell_input(rt.alloc(), asked, (setup, timing), input, out, err);
     }
     let Ok(file) = fs::open(rt, asked.capture) else {
         return Err(say_unread(asked.capture, err));
     };
-    tell_input(rt.alloc(), asked, setup, file, out, err)
+    tell_input(rt.alloc(), asked, (setup, timing), file, out, err)
 }
 
 fn tell_input<I: Read + Drop, O: Write, E: Write>(
     alloc: Global,
     asked: &ExplainAsked<'_>,
-    setup: Option<&NodeSetup>,
+    (setup, timing): (Option<&NodeSetup>, Timing<'_>),
     input: I,
     out: &mut O,
     err: &mut E,
 ) -> Result<(), Ending> {
-    match BufReader::with_capacity(alloc, ROOM, input) {
-        Ok(reader) => tell_to_lines(alloc, reader, asked, setup, out, err),
-        Err(_) => Err(Ending::OutOfMemory),
+    let mut ahead = Ahead::new(alloc, input);
+    let moments = moments_of(&mut ahead, timing)?;
+    let Ok(reader) = BufReader::with_capacity(alloc, ROOM, ahead) else {
+        return Err(Ending::OutOfMemory);
+    };
+    tell_to_lines(alloc, reader, asked, setup, (timing, moments), out, err)
+}
+
+// The moments of a recording's lines, where they are wanted. (Where its input fails, that is met again where it is told.)
+fn moments_of<I: Read>(ahead: &mut Ahead<I>, timing: Timing<'_>) -> Result<Recorded, Ending> {
+    if let Timing::Unstamped = timing {
+        return Ok(Recorded::new(None));
+    }
+    match ahead.first_moment() {
+        Ok(first) => Ok(Recorded::new(first)),
+        Err(error) if error.kind() == ErrorKind::OutOfMemory => Err(Ending::OutOfMemory),
+        Err(_) => Ok(Recorded::new(None)),
     }
 }
 
-// Tells what a reader gives; the lines are written in pieces.
+// Tells what a reader gives; the lines, with their times, are written in pieces.
 fn tell_to_lines<I: BufRead + Drop, O: Write, E: Write>(
     alloc: Global,
     reader: I,
     asked: &ExplainAsked<'_>,
     setup: Option<&NodeSetup>,
+    (timing, moments): (Timing<'_>, Recorded),
     out: &mut O,
     err: &mut E,
 ) -> Result<(), Ending> {
-    let Ok(mut lines) = BufWriter::new(alloc, &mut *out) else {
+    let Ok(lines) = BufWriter::new(alloc, &mut *out) else {
         return Err(Ending::OutOfMemory);
     };
+    let mut lines = Stamped::new(lines, moments, timing);
     let told = tell_reader(alloc, reader, asked, setup, &mut lines);
     of_write(lines.flush())?;
     match told {

@@ -1,9 +1,10 @@
 //! The frames that a gateway prints.
 use crate::screen::columns;
+use crate::timed::TimedOutputs;
 use sacn_commands::ending::Ending;
 use sacn_commands::gateway::run_setups;
 use sacn_gateway::{Notes, SlotNotes};
-use sacn_machine::{Lines, Outputs, UdpReceiver, output_is_terminal};
+use sacn_machine::{Lines, UdpReceiver, output_is_terminal};
 use sacn_node::NodeSetup;
 use sacn_words::{FrameForm, GatewayAsked};
 use std::env::Env;
@@ -49,12 +50,13 @@ pub fn run_printing<'a, R: AllocGlobal + Env + Net + Clock, N: Notes>(
     setups: &[NodeSetup],
     receiver: &mut UdpReceiver<'a, R>,
     notes: &mut N,
-    outputs: &'a Outputs,
+    outputs: &TimedOutputs<'a, R>,
 ) -> Result<(), Ending> {
     match form_of(asked) {
         FrameForm::Digits => run_setups(rt, asked, setups, receiver, notes, outputs.out()),
         FrameForm::Slots => {
-            let mut slots = SlotNotes::new(notes, columns(rt), outputs.out(), outputs.err());
+            let width = outputs.width_in(columns(rt));
+            let mut slots = SlotNotes::new(notes, width, outputs.out(), outputs.err());
             run_setups(rt, asked, setups, receiver, &mut slots, Unprinted)
         }
         FrameForm::Nothing => run_setups(rt, asked, setups, receiver, notes, Unprinted),

@@ -1,8 +1,10 @@
 //! A gateway, and a page or a screen of what it hears.
 use crate::frames::{Unprinted, lines_of, run_printing};
+use crate::keys::ScreenKeys;
 use crate::page::say_page;
-use crate::screen::{screen_of, size_file};
+use crate::screen::{hands_keys, screen_of, size_file};
 use crate::source_lines::{Spoken, endpoint_of};
+use crate::timed::{TimedOutlet, TimedOutputs, timing_of, zone_of};
 use crate::watch::watch_end;
 use sacn_commands::ending::Ending;
 use sacn_commands::gateway::{address_of, diagnosis_of, receiver_of, run_setups, setups_of};
@@ -11,14 +13,14 @@ use sacn_gateway::limits::TURN_SPAN;
 use sacn_gateway::{Notes, PassedOver};
 use sacn_machine::limits::MAX_BURST;
 use sacn_machine::{
-    DeviceFault, Octets4, Outlet, Outputs, UdpReceiver, guard_standard_descriptors,
+    DeviceFault, Octets4, Outputs, TypedKeys, UdpReceiver, guard_standard_descriptors,
     output_is_terminal,
 };
 use sacn_monitor::Endpoint;
 use sacn_node::{NodeSetup, NodeTaken};
 use sacn_packets::Reading;
 use sacn_page::{Board, MAX_ALARMS, Pages};
-use sacn_watch::{Screen, Sizes, WatchFault, Watcher};
+use sacn_watch::{Keyboard, Screen, Sizes, WatchFault, Watcher};
 use sacn_words::GatewayAsked;
 use std::alloc::{AllocError, Global};
 use std::env::Env;
@@ -37,21 +39,26 @@ pub fn gateway<R: AllocGlobal + Files + Env + Net + Clock, I: Read + Drop>(
     guard_standard_descriptors();
     let mut clock = clock_of(rt)?;
     let outputs = Outputs::new(rt.alloc(), lines_of(asked))?;
-    let run = gateway_on(rt, asked, input, &outputs);
+    let zone = zone_of(rt, asked.has_clock)?;
+    let timing = timing_of(&zone, false, asked.has_clock);
+    let timed = TimedOutputs::new(rt, &outputs, timing);
+    let keys = TypedKeys::new();
+    let run = gateway_on(rt, asked, input, &timed, &keys);
     outputs.finish(&mut clock);
     run
 }
 
-fn gateway_on<R: AllocGlobal + Files + Env + Net + Clock, I: Read + Drop>(
-    rt: &R,
+fn gateway_on<'a, R: AllocGlobal + Files + Env + Net + Clock, I: Read + Drop>(
+    rt: &'a R,
     asked: &GatewayAsked<'_>,
     input: &mut I,
-    outputs: &Outputs,
+    outputs: &TimedOutputs<'a, R>,
+    keys: &'a TypedKeys,
 ) -> Result<(), Ending> {
     let setups = setups_of(rt, asked, input, &mut outputs.err())?;
     let joined = joined_groups(rt);
     if asked.is_watched && output_is_terminal() {
-        return run_on_screen(rt, asked, setups.as_slice(), (outputs, joined));
+        return run_on_screen(rt, asked, setups.as_slice(), keys, (outputs, joined));
     }
     match asked.page {
         Some(place) => run_shown(rt, asked, setups.as_slice(), place, (outputs, joined)),
@@ -65,10 +72,10 @@ fn run_alone<'a, R: AllocGlobal + Env + Net + Clock>(
     rt: &'a R,
     asked: &GatewayAsked<'_>,
     setups: &[NodeSetup],
-    (outputs, joined): (&'a Outputs, Option<String>),
+    (outputs, joined): (&TimedOutputs<'a, R>, Option<String>),
 ) -> Result<(), Ending> {
     let mut receiver = receiver_of(rt, asked, setups, &mut outputs.err())?;
-    receiver.tend(outputs, joined);
+    receiver.tend(outputs.outputs, joined);
     let mut spoken = spoken_of(rt, &receiver, outputs)?;
     run_printing(rt, asked, setups, &mut receiver, &mut spoken, outputs)
 }
@@ -80,13 +87,13 @@ fn run_shown<'a, R: AllocGlobal + Env + Net + Clock>(
     asked: &GatewayAsked<'_>,
     setups: &[NodeSetup],
     place: SocketAddrV4,
-    (outputs, joined): (&'a Outputs, Option<String>),
+    (outputs, joined): (&TimedOutputs<'a, R>, Option<String>),
 ) -> Result<(), Ending> {
     let board = Board::new(rt.alloc(), None, MAX_ALARMS)?;
     let pages = Pages::bind(rt, rt.alloc(), place, board);
     let mut pages = of_socket(pages, place, &mut outputs.err())?;
     let mut receiver = receiver_of(rt, asked, setups, &mut outputs.err())?;
-    receiver.tend(outputs, joined);
+    receiver.tend(outputs.outputs, joined);
     receiver.wait_beside(pages.descriptor());
     say_page(place, &mut outputs.err());
     let mut shown = Shown {
@@ -106,19 +113,43 @@ fn run_on_screen<'a, R: AllocGlobal + Files + Env + Net + Clock>(
     rt: &'a R,
     asked: &GatewayAsked<'_>,
     setups: &[NodeSetup],
-    (outputs, joined): (&'a Outputs, Option<String>),
+    keys: &'a TypedKeys,
+    (outputs, joined): (&TimedOutputs<'a, R>, Option<String>),
 ) -> Result<(), Ending> {
     let mut receiver = receiver_of(rt, asked, setups, &mut outputs.err())?;
-    receiver.tend(outputs, joined);
+    receiver.tend(outputs.outputs, joined);
     let universe = universes_of_setups(rt, setups)?.first().copied();
     let size_file = size_file(rt);
     let address = address_of(asked, setups);
-    let mut out = outputs.out();
-    let screen = screen_of(rt, size_file.as_deref(), address, universe, &mut out);
-    let mut screen = PatientScreen::new(rt.alloc(), watch_end(screen)?, outputs);
+    let screen_keys = keys_of(rt, keys);
+    if screen_keys.keys.is_some() {
+        receiver.wait_for_keys(keys);
+    }
+    let mut out = outputs.outputs.out();
+    let screen = screen_of(
+        rt,
+        size_file.as_deref(),
+        address,
+        screen_keys,
+        universe,
+        &mut out,
+    );
+    let mut screen = PatientScreen::new(rt.alloc(), watch_end(screen)?, outputs.outputs);
     let run = run_beside_screen(rt, asked, setups, &mut receiver, &mut screen, outputs);
     screen.leave();
     run
+}
+
+// The keys that a gateway's screen takes: those that the launcher hands over. (Who reads a terminal behind another job is stopped, and the light with it.) None ends it.
+fn keys_of<'k, R: AllocGlobal + Env>(rt: &R, keys: &'k TypedKeys) -> ScreenKeys<'k> {
+    ScreenKeys {
+        keys: if hands_keys(rt) == Some(true) {
+            Some(keys)
+        } else {
+            None
+        },
+        leaving: None,
+    }
 }
 
 // Runs the gateway, with this screen beside it.
@@ -128,7 +159,7 @@ fn run_beside_screen<'a, R: AllocGlobal + Net + Clock, W: Watcher>(
     setups: &[NodeSetup],
     receiver: &mut UdpReceiver<'a, R>,
     screen: &mut W,
-    outputs: &'a Outputs,
+    outputs: &TimedOutputs<'a, R>,
 ) -> Result<(), Ending> {
     let mut shown = Shown {
         spoken: spoken_of(rt, receiver, outputs)?,
@@ -145,25 +176,25 @@ fn run_beside_screen<'a, R: AllocGlobal + Net + Clock, W: Watcher>(
 fn spoken_of<'a, R: AllocGlobal + Net + Clock>(
     rt: &'a R,
     receiver: &UdpReceiver<'a, R>,
-    outputs: &'a Outputs,
-) -> Result<Spoken<Outlet<'a>>, Ending> {
+    outputs: &TimedOutputs<'a, R>,
+) -> Result<Spoken<TimedOutlet<'a, R>>, Ending> {
     let diagnosis = diagnosis_of(rt, receiver, outputs.err())?;
     Ok(Spoken::new(rt.alloc(), diagnosis, outputs.err())?)
 }
 
 /// A screen beside a gateway. It draws only where all that it drew before has gone out, and its last row is the newest line of standard error.
 #[derive(Drop)]
-struct PatientScreen<'s, 'o, O, Z> {
+struct PatientScreen<'s, 'o, O, Z, K> {
     alloc: Global,
-    screen: Screen<'s, O, Z>,
+    screen: Screen<'s, O, Z, K>,
     outputs: &'o Outputs,
     /// The moment of the latest turn.
     now: u64,
 }
 
-impl<'s, 'o, O: Write, Z: Sizes> PatientScreen<'s, 'o, O, Z> {
+impl<'s, 'o, O: Write, Z: Sizes, K: Keyboard> PatientScreen<'s, 'o, O, Z, K> {
     /// Standard output is this screen from now on.
-    fn new(alloc: Global, screen: Screen<'s, O, Z>, outputs: &'o Outputs) -> Self {
+    fn new(alloc: Global, screen: Screen<'s, O, Z, K>, outputs: &'o Outputs) -> Self {
         outputs.begin_screen();
         PatientScreen {
             alloc,
@@ -191,7 +222,7 @@ impl<'s, 'o, O: Write, Z: Sizes> PatientScreen<'s, 'o, O, Z> {
     }
 }
 
-impl<'s, 'o, O: Write, Z: Sizes> Watcher for PatientScreen<'s, 'o, O, Z> {
+impl<'s, 'o, O: Write, Z: Sizes, K: Keyboard> Watcher for PatientScreen<'s, 'o, O, Z, K> {
     fn take(
         &mut self,
         now: u64,
@@ -208,7 +239,8 @@ impl<'s, 'o, O: Write, Z: Sizes> Watcher for PatientScreen<'s, 'o, O, Z> {
     fn show(&mut self, now: u64) -> Result<(), WatchFault> {
         self.now = now;
         if self.outputs.pump_screen() {
-            return Ok(());
+            // (nothing can be drawn, but a key that isn't taken would end each wait)
+            return self.screen.take_keys(now);
         }
         self.show_note()?;
         self.screen.show(now)

@@ -5,6 +5,7 @@ mod check;
 mod explain;
 mod frames;
 mod gateway;
+mod keys;
 mod manual;
 mod page;
 mod piped;
@@ -13,6 +14,7 @@ mod recording;
 mod room;
 mod screen;
 mod source_lines;
+mod timed;
 mod watch;
 
 use sacn_commands::ending;

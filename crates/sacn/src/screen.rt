@@ -1,4 +1,5 @@
 //! A watch on a terminal.
+use crate::keys::ScreenKeys;
 use sacn_commands::files::text_of_file;
 use sacn_commands::live::joined_groups;
 use sacn_files::words::short_in;
@@ -41,18 +42,19 @@ impl<'r, 'p, R: AllocGlobal + Files> Sizes for KeptSize<'r, 'p, R> {
     }
 }
 
-/// Shows what a listener hears until a moment in milliseconds, on a terminal.
+/// Shows what a listener hears until a moment in milliseconds, on a terminal, steered by these keys.
 pub fn show<R: AllocGlobal + Files + Env, L: Listener, O: Write>(
     rt: &R,
     listener: &mut L,
     asked: &WatchAsked,
+    keys: ScreenKeys<'_>,
     until: u64,
     out: &mut O,
 ) -> Result<(), WatchFault> {
     let size_file = size_file(rt);
     let address = SocketAddrV4::new(asked.listen, asked.port);
     let universe = asked.universes.first().copied();
-    let mut screen = screen_of(rt, size_file.as_deref(), address, universe, out)?;
+    let mut screen = screen_of(rt, size_file.as_deref(), address, keys, universe, out)?;
     watch_terminal(listener, &mut screen, until)
 }
 
@@ -61,22 +63,29 @@ pub fn size_file<R: AllocGlobal + Env>(rt: &R) -> Option<String> {
     variable(rt, "SACN_SIZE")
 }
 
-/// A screen on a terminal, of what comes to an address: its size is kept in this file, where it is. The universe is the one whose levels are shown; where
-/// none is named it is the first heard.
-pub fn screen_of<'a, 'r, 'p, R: AllocGlobal + Files + Env, O: Write>(
+/// Whether the launcher says that it hands over the keys of the terminal, or that it doesn't; None where it says nothing.
+pub fn hands_keys<R: AllocGlobal + Env>(rt: &R) -> Option<bool> {
+    let said = variable(rt, "SACN_KEYS")?;
+    Some(said.as_str() == "yes")
+}
+
+/// A screen on a terminal, of what comes to an address, steered by these keys: its size is kept in this file, where it is. The universe is the one whose levels are
+/// shown at first; where none is named it is the first heard.
+pub fn screen_of<'a, 'r, 'p, 'k, R: AllocGlobal + Files + Env, O: Write>(
     rt: &'r R,
     size_file: Option<&'p str>,
     address: SocketAddrV4,
+    keys: ScreenKeys<'k>,
     universe: Option<u16>,
     out: &'a mut O,
-) -> Result<Screen<'a, O, KeptSize<'r, 'p, R>>, WatchFault> {
+) -> Result<Screen<'a, O, KeptSize<'r, 'p, R>, ScreenKeys<'k>>, WatchFault> {
     let path = match size_file {
         Some(path) if path.starts_with(DESCRIPTORS) => Some(path),
         _ => None,
     };
     let sizes = KeptSize { rt, path, next: 0 };
     let terminal = terminal_of(rt, universe, out)?;
-    Ok(Screen::new(terminal, sizes, silence_of(rt, address)?))
+    Ok(Screen::new(terminal, sizes, keys, silence_of(rt, address)?))
 }
 
 // What is said where nothing comes to an address.

@@ -1,13 +1,18 @@
 //! A network watched.
 use crate::explain::form_of;
+use crate::keys::ScreenKeys;
 use crate::page::serve;
 use crate::piped::Piped;
-use crate::screen::show;
+use crate::screen::{hands_keys, show};
+use crate::timed::{TimedOutputs, timing_of, zone_of};
 use sacn_commands::ending::{DEVICE_FAILED, Ending};
 use sacn_commands::live::{clock_of, joined_groups, of_socket, say_hearing};
-use sacn_machine::{Lines, Outputs, UdpReceiver, guard_standard_descriptors, output_is_terminal};
+use sacn_machine::{
+    Lines, MAX_KEYS, Outputs, Typed, TypedKeys, UdpReceiver, guard_standard_descriptors,
+    output_is_terminal,
+};
 use sacn_tell::Options;
-use sacn_watch::{RunningListener, WatchFault, watch_lines};
+use sacn_watch::{Leaving, LeavingListener, RunningListener, WatchFault, watch_lines};
 use sacn_words::{WatchAsked, moment_of};
 use std::env::Env;
 use std::io::{ErrorKind, Write};
@@ -51,14 +56,54 @@ pub fn watch<R: AllocGlobal + Files + Env + Net + Clock, O: Write, E: Write>(
     if asked.is_plain | asked.is_json || !output_is_terminal() {
         return tell(rt, place, asked, until);
     }
-    let receiver = receiver_at(rt, place, err)?;
+    show_at(rt, place, asked, until, out, err)
+}
+
+// Shows what is heard at an address on the terminal at standard output, steered by the keys of standard input.
+fn show_at<R: AllocGlobal + Files + Env + Net + Clock, O: Write, E: Write>(
+    rt: &R,
+    place: Place,
+    asked: &WatchAsked,
+    until: u64,
+    out: &mut O,
+    err: &mut E,
+) -> Result<(), Ending> {
+    let keys = TypedKeys::new();
+    let leaving = Leaving::new();
+    show_steered(rt, place, asked, until, (&keys, &leaving), (out, err))
+}
+
+fn show_steered<'a, R: AllocGlobal + Files + Env + Net + Clock, O: Write, E: Write>(
+    rt: &'a R,
+    place: Place,
+    asked: &WatchAsked,
+    until: u64,
+    (keys, leaving): (&'a TypedKeys, &'a Leaving),
+    (out, err): (&mut O, &mut E),
+) -> Result<(), Ending> {
+    let mut receiver = receiver_at(rt, place, err)?;
     say_hearing(place.address, receiver.room(), err);
-    let mut listener = RunningListener::new(receiver);
-    watch_end(show(rt, &mut listener, asked, until, out))
+    let has_keys = hands_keys(rt) != Some(false) && has_input(keys);
+    if has_keys {
+        receiver.wait_for_keys(keys);
+    }
+    let screen_keys = ScreenKeys {
+        keys: if has_keys { Some(keys) } else { None },
+        leaving: Some(leaving),
+    };
+    let listener = LeavingListener::new(receiver, leaving);
+    let mut listener = RunningListener::new(listener);
+    watch_end(show(rt, &mut listener, asked, screen_keys, until, out))
+}
+
+// Whether standard input goes on. What was typed before is passed over.
+fn has_input(keys: &TypedKeys) -> bool {
+    let mut octets = [0; MAX_KEYS];
+    keys.read(&mut octets) != Typed::End
 }
 
 // Tells what is heard at an address line by line, on standard output. No output that isn't read holds it up.
-fn tell<R: AllocGlobal + Env + Net + Clock>(
+fn tell<R: AllocGlobal + Files + Env + Net + Clock>(
     rt: &R,
     place: Place,
     asked: &WatchAsked,
@@ -71,16 +116,34 @@ fn tell<R: AllocGlobal + Env + Net + Clock>(
         Lines::Plain
     };
     let outputs = Outputs::new(rt.alloc(), lines)?;
-    let mut out = Piped::new(outputs.out());
-    let told = (&outputs, joined_groups(rt));
-    let run = tell_on(rt, place, asked, until, told, &mut out);
+    let zone = zone_of(rt, asked.has_clock)?;
+    let timing = timing_of(&zone, asked.is_json, asked.has_clock);
+    let timed = TimedOutputs::new(rt, &outputs, timing);
+    let mut reader_has_gone = false;
+    let run = tell_timed(rt, place, asked, until, &timed, &mut reader_has_gone);
     // (nobody is told how many lines wait for a reader that has gone)
-    if out.reader_has_gone() {
+    if reader_has_gone {
         let _ = outputs.err().flush();
-        return out.ending(run);
+        return run;
     }
     outputs.finish(&mut clock);
     run
+}
+
+// The same on these outputs. Notes whether the reader of standard output has gone.
+fn tell_timed<'a, R: AllocGlobal + Net + Env + Clock>(
+    rt: &'a R,
+    place: Place,
+    asked: &WatchAsked,
+    until: u64,
+    outputs: &TimedOutputs<'a, R>,
+    reader_has_gone: &mut bool,
+) -> Result<(), Ending> {
+    let mut out = Piped::new(outputs.out());
+    let told = (outputs.outputs, joined_groups(rt));
+    let run = tell_on(rt, place, asked, until, told, &mut out);
+    *reader_has_gone = out.reader_has_gone();
+    out.ending(run)
 }
 
 fn tell_on<'a, R: AllocGlobal + Net + Clock, O: Write>(

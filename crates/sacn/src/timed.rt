@@ -1,0 +1,89 @@
+//! Outputs whose lines have the time of day in front, where that is asked.
+use sacn_clock::{CLOCK_LETTERS, LocalZone, Stamped, Timing, WallClock};
+use sacn_machine::{Outlet, Outputs};
+use std::alloc::AllocError;
+use std::env::Env;
+use std::io::{Result, Write};
+use std::rt::{Clock, Files};
+
+/// The zone of the times of day; UTC where none is put anywhere.
+///
+/// Errors: OutOfMemory.
+pub fn zone_of<R: AllocGlobal + Env + Files>(
+    rt: &R,
+    has_clock: bool,
+) -> std::result::Result<LocalZone, AllocError> {
+    if has_clock {
+        LocalZone::read(rt)
+    } else {
+        Ok(LocalZone::utc(rt.alloc()))
+    }
+}
+
+/// What is put into lines of this form.
+pub fn timing_of(zone: &LocalZone, is_json: bool, has_clock: bool) -> Timing<'_> {
+    match (is_json, has_clock) {
+        (true, _) => Timing::Member,
+        (false, true) => Timing::Clock(zone),
+        (false, false) => Timing::Unstamped,
+    }
+}
+
+/// One of two outputs, whose lines have the time where that is asked. (A type of one lifetime, as the borrow checker wants it.)
+#[derive(Drop)]
+pub struct TimedOutlet<'a, R> {
+    out: Stamped<'a, Outlet<'a>, WallClock<'a, R>>,
+}
+
+impl<'a, R: Clock> Write for TimedOutlet<'a, R> {
+    fn write(&mut self, octets: &[u8]) -> Result<usize> {
+        self.out.write(octets)
+    }
+
+    fn flush(&mut self) -> Result<()> {
+        self.out.flush()
+    }
+}
+
+/// The outputs of a loop, and what is put into their lines.
+#[derive(Drop)]
+pub struct TimedOutputs<'a, R> {
+    rt: &'a R,
+    pub outputs: &'a Outputs,
+    timing: Timing<'a>,
+}
+
+impl<'a, R: Clock> TimedOutputs<'a, R> {
+    /// These outputs, with this in their lines.
+    pub fn new(rt: &'a R, outputs: &'a Outputs, timing: Timing<'a>) -> Self {
+        TimedOutputs {
+            rt,
+            outputs,
+            timing,
+        }
+    }
+
+    /// Standard output.
+    pub fn out(&self) -> TimedOutlet<'a, R> {
+        let clock = WallClock::new(self.rt);
+        TimedOutlet {
+            out: Stamped::new(self.outputs.out(), clock, self.timing),
+        }
+    }
+
+    /// Standard error.
+    pub fn err(&self) -> TimedOutlet<'a, R> {
+        let clock = WallClock::new(self.rt);
+        TimedOutlet {
+            out: Stamped::new(self.outputs.err(), clock, self.timing),
+        }
+    }
+
+    /// The letters of a line that is to fit into so many columns.
+    pub fn width_in(&self, columns: usize) -> usize {
+        match self.timing {
+            Timing::Clock(_) => columns.saturating_sub(CLOCK_LETTERS),
+            _ => columns,
+        }
+    }
+}
