@@ -114,6 +114,7 @@ for pair in x86_64:amd64 aarch64:arm64; do
   install -m 644 "$top/packaging/sacn.lintian-overrides" "$root/usr/share/lintian/overrides/sacn"
   install -m 755 "$top/packaging/postrm" "$root/DEBIAN/postrm"
   control "$architecture" sacn "bash (>= 4.4), libc6 (>= 2.34)" net >"$root/DEBIAN/control" <<'TEXT'
+Suggests: rlwrap
 Description: streaming ACN for stage lighting: gateway, desk, watch
  Both ends of ANSI E1.31-2018 (streaming ACN, sACN), each function proved to
  keep its contract: a gateway that merges what consoles send and gives DMX512

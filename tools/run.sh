@@ -28,6 +28,21 @@ feed_desk() {
   if [ -n "$copy" ]; then kill -KILL "$copy" 2>/dev/null || true; fi
 }
 
+# Gives a screen the keys of its terminal until the launcher lets go of its end of a pipe, or is gone. (What is behind another job on the terminal is stopped where it
+# reads keys: so is this copy then, and not the program.) Where the launcher is gone, the terminal gets its modes back here.
+feed_keys() {
+  local copy
+  trap '' INT TERM HUP QUIT
+  exec {life}>&-
+  cat <&"$in" &
+  copy=$!
+  exec >&-
+  read -r <&"$lives" || true
+  kill -KILL "$copy" 2>/dev/null || true
+  # (A shell that is killed closes what it had open before its children have another parent: its standard output was there.)
+  if ! [ -e "/proc/$shell/fd/1" ] && is_in_front; then stty "$modes" <&"$in" 2>/dev/null || true; fi
+}
+
 # Says in $terminal which of standard input and output is a terminal, if one is.
 note_terminal() {
   terminal=
@@ -37,39 +52,103 @@ note_terminal() {
 # Whether that terminal has gone. It sends HUP and CONT at once then, and of the two a shell that waits may take the second alone.
 has_hung_up() { [ -n "$terminal" ] && ! [ -t "$terminal" ]; }
 
+# Waits for the process in `pid`, whose status this shell has then. Its input ends with this shell's end of the pipe in `life`, which INT, TERM, HUP and QUIT close; a line on it
+# says that the process has ended by itself. The word is done then, too.
+await() {
+  local also=${1-:} last status=0
+  # (Where it comes twice, the pipe is closed already.)
+  trap 'caught=1; exec {life}>&-; $also' INT TERM HUP QUIT
+  if [ -n "$caught" ]; then exec {life}>&-; fi
+  # (A wait that a signal cuts short is made again: the shell keeps the status of a process that ended meanwhile. Of two signals at once the second may cut a later wait
+  # short, whose status then is that signal's: one of these counts where it comes twice.)
+  while caught= last=$status status=0; do
+    wait "$pid" || status=$?
+    if [ -z "$caught" ] && { [ "$status" -le 128 ] || [ "$status" = "$last" ]; }; then break; fi
+  done
+  { echo >&"$life"; } 2>/dev/null || true
+  if [ -n "${feeder-}" ]; then
+    wait "$feeder" 2>/dev/null || true
+    if [ "$status" -gt 128 ]; then leave_screen; fi
+  fi
+  loud_keys
+  # (What edits lines and is killed leaves the terminal as it had it.)
+  if [ -n "${saved-}" ] && [ "$status" -gt 128 ] && is_in_front; then stty "$saved" 2>/dev/null || true; fi
+  exit "$status"
+}
+
 # Runs a program whose clean end is the end of its standard input: INT, TERM, HUP and QUIT end its input, and not the program, which
 # then ends what it has lit. A second one changes nothing. What the program waits for is held by this process alone, so that it comes
 # to its end also where this one is killed.
 feed() {
-  local life lives in out pid status since=$SECONDS caught= modes= terminal=
+  local life lives in out pid status since=$SECONDS caught= modes= terminal= feeder= shell=$BASHPID hush=(-icanon -echo min 1 time 0)
   trap 'caught=1' INT TERM HUP QUIT
   if [ "$2" = watch ]; then quiet_keys "$@"; fi
   note_terminal
+  # (a desk reads a pipe: whether a terminal is behind that it is told)
+  if [ "$2" = desk ] && [ -t 0 ]; then export SACN_TYPED=terminal; fi
   exec {in}<&0
   # A pipe of which both ends are here.
   exec {life}<> <(:)
   exec {lives}<"/proc/self/fd/$life"
-  # (A desk is ordered by its input; a watch only waits for the end of it, whatever stands there.)
-  if [ "$2" = desk ]; then exec {out}< <(feed_desk "$@"); else exec {out}<&"$lives"; fi
+  # (A desk is ordered by its input, and a screen steered by keys; else a watch only waits for the end of it, whatever stands there.)
+  if [ "$2" = desk ]; then
+    exec {out}< <(feed_desk "$@")
+  elif [ -n "$modes" ]; then
+    export SACN_KEYS=yes
+    exec {out}< <(feed_keys)
+    feeder=$!
+  else
+    export SACN_KEYS=no
+    exec {out}<&"$lives"
+  fi
   (trap '' INT TERM HUP QUIT; exec "$@" <&"$out" {in}<&- {out}<&- {life}<&- {lives}<&-) &
   pid=$!
   exec {out}<&- {in}<&- {lives}<&-
-  # (Where it comes twice, the pipe is closed already.)
-  trap 'caught=1; exec {life}>&-' INT TERM HUP QUIT
   # (The terminal may have another size by now, and after a stop, where the job in front was told.)
   if [ "$2" = watch ]; then
-    trap 'caught=1; if has_hung_up; then exec {life}>&-; fi; tell_change_of_size' WINCH CONT
+    trap 'caught=1; if has_hung_up; then exec {life}>&-; fi; hush_keys; tell_change_of_size' WINCH CONT
     tell_change_of_size
   fi
-  if [ -n "$caught" ]; then exec {life}>&-; fi
-  # (A wait that a signal cuts short is made again: the shell keeps the status of a process that ended meanwhile.)
-  while caught= status=0; do
-    wait "$pid" || status=$?
-    [ -n "$caught" ] || break
-  done
-  { echo >&"$life"; } 2>/dev/null || true
-  loud_keys
-  exit "$status"
+  await
+}
+
+# Whether rlwrap, where it is installed, edits the lines of a desk: those that are typed on a terminal, and answered on one.
+# (It takes no terminal that says no size, and it would take the keys of one on which another job is in front.)
+edits_lines() {
+  local rows columns
+  [ -t 0 ] && [ -t 1 ] && [ "${TERM-}" != dumb ] && command -v rlwrap >/dev/null && size_of_terminal && is_in_front
+}
+
+# Runs a desk in the terminal that rlwrap makes for it. It ends well as it does alone, and also where what started rlwrap is told to end, or is gone: then the pipe of
+# which that has the other end ends without a line.
+attend() {
+  local lives=$1
+  shift
+  (trap '' INT TERM HUP QUIT; if ! read -r <&"$lives"; then kill -TERM $$; fi) >/dev/null 2>&1 &
+  exec {lives}<&-
+  feed "$@"
+}
+
+# Tells rlwrap that its terminal has gone, where it has: else that would look for keys there for good.
+tell_hang_up() { if has_hung_up; then exec {life}>&-; kill -HUP "$pid" 2>/dev/null || true; fi; }
+
+# Runs a desk under rlwrap, which gives its terminal arrows, and a history that is kept. INT, TERM, HUP and QUIT go around it: it hears nothing as long as
+# Ctrl-S holds its terminal.
+edit_lines() {
+  local room=${XDG_STATE_HOME:-${HOME-}/.local/state}/sacn history=(--history-filename /dev/null --histsize -300) life lives in pid caught= status modes= terminal= saved
+  trap 'caught=1' INT TERM HUP QUIT
+  note_terminal
+  saved=$(stty -g 2>/dev/null) || saved=
+  if [ -n "${XDG_STATE_HOME-}${HOME-}" ] && mkdir -p "$room" 2>/dev/null && [ -w "$room" ]; then history=(--history-filename "$room/desk_history"); fi
+  exec {in}<&0
+  exec {life}<> <(:)
+  exec {lives}<"/proc/self/fd/$life"
+  rlwrap --no-warnings --ansi-colour-aware --command-name sacn-desk "${history[@]}" \
+    bash -eu -c '. "$0"; attend "$@"' "${BASH_SOURCE[0]}" "$lives" "$@" <&"$in" {in}<&- {life}<&- &
+  pid=$!
+  exec {in}<&- {lives}<&-
+  trap 'caught=1; tell_hang_up' CONT
+  await tell_hang_up
 }
 
 # Whether it serves a page, until it is stopped.
@@ -272,21 +351,36 @@ keep_beside() {
   words+=(--beside)
 }
 
+# What the system says of this shell, into `stat`: its state, parent, group, session, terminal, and the group that is in front there.
+note_stat() {
+  local line
+  read -r line <"/proc/$BASHPID/stat"
+  # (they stand behind its name)
+  read -r -a stat <<<"${line##*) }"
+}
+
 # Whether this shell is in front on its terminal.
 is_in_front() {
   local stat
-  stat=$(</proc/$$/stat)
-  # (behind the name: state, parent, group, session, terminal, the group in front)
-  read -r -a stat <<<"${stat##*) }"
+  note_stat
   [ "${stat[2]}" = "${stat[5]}" ]
 }
 
-# Keeps typed keys off the screen that a watch or a gateway draws. What the terminal was told before stands in `modes`, empty where nothing has to be told again.
+# Takes the keys of the terminal for the screen that a watch or a gateway draws, each as it is pressed, and keeps them off it; Ctrl-C stays what it is. What the terminal
+# was told before stands in `modes`, empty where nothing has to be told again.
 quiet_keys() {
   local word
   for word in "$@"; do case $word in --plain | --json | --page | --page=*) return 0 ;; esac; done
-  if [ -t 0 ] && [ -t 1 ] && is_in_front && modes=$(stty -g 2>/dev/null); then stty -echo 2>/dev/null || true; fi
+  if [ -t 0 ] && [ -t 1 ] && is_in_front && modes=$(stty -g 2>/dev/null); then hush_keys; fi
 }
+
+# Tells it so, also after a stop.
+hush_keys() {
+  if [ -n "$modes" ] && is_in_front; then stty "${hush[@]}" 2>/dev/null || true; fi
+}
+
+# Shows what the terminal showed before a screen, where what drew that can't any more.
+leave_screen() { printf '\033[0m\033[?7h\033[?25h\033[?1049l' 2>/dev/null || true; }
 
 # Gives the terminal back as it was, without what was typed unseen; nothing where it is another job's by now, or gone.
 loud_keys() {
@@ -338,47 +432,73 @@ draws() {
   return 1
 }
 
+# Whether one of a gateway's setups is read from standard input.
+reads_setup() {
+  local setup
+  while read -r setup; do
+    if [ "$setup" = - ]; then return 0; fi
+  done < <(setups_among "$@")
+  return 1
+}
+
 # The most lines of what a gateway said beside its screen that are shown once the screen is left.
 most_said=500
 
 # Runs a gateway that draws on this terminal, and tells it how large that is. A signal ends it as it ends any gateway, and the terminal then shows what it showed before, and
 # below that the last lines of what the gateway said, where that would have come to the terminal too.
 draw() {
-  local in pid status copy lines said= keeper caught= signal= modes= terminal=
+  local in life lives keys feeder= shell=$BASHPID hush=(-icanon -echo min 1 time 0) pid status copy lines said= keeper caught= signal= modes= terminal=
   trap 'signal=INT' INT
   trap 'signal=TERM' TERM
   trap 'signal=HUP' HUP
   trap 'signal=QUIT' QUIT
+  # (a setup that is typed there is read line by line)
+  if reads_setup "${@:3}"; then hush=(-echo); fi
   quiet_keys "$@"
   note_terminal
   exec {in}<&0
+  # A pipe of which both ends are here.
+  exec {life}<> <(:)
+  exec {lives}<"/proc/self/fd/$life"
+  if [ -n "$modes" ] && ! reads_setup "${@:3}"; then
+    export SACN_KEYS=yes
+    exec {keys}< <(feed_keys)
+    feeder=$!
+    exec {in}<&-
+    in=$keys
+  else
+    export SACN_KEYS=no
+  fi
+  exec {lives}<&-
   if [ -t 2 ] && copy=$(mktemp 2>/dev/null); then
     exec {lines}<>"$copy"
     rm -f "$copy"
-    exec {said}> >(trap '' INT TERM HUP QUIT; exec tail -n "$most_said" >&"$lines")
+    exec {said}> >(trap '' INT TERM HUP QUIT; exec {life}>&-; exec tail -n "$most_said" >&"$lines")
     keeper=$!
   fi
   # (what a shell begins in the background passes over INT and QUIT, and so it is told to end by TERM)
-  if [ -n "$said" ]; then "$@" <&"$in" 2>&"$said" {in}<&- {said}>&- & else "$@" <&"$in" {in}<&- & fi
+  if [ -n "$said" ]; then "$@" <&"$in" 2>&"$said" {in}<&- {said}>&- {life}>&- & else "$@" <&"$in" {in}<&- {life}>&- & fi
   pid=$!
   exec {in}<&-
   trap 'signal=INT; kill -TERM "$pid" 2>/dev/null || true' INT
   trap 'signal=TERM; kill -TERM "$pid" 2>/dev/null || true' TERM
   trap 'signal=HUP; kill -TERM "$pid" 2>/dev/null || true' HUP
   trap 'signal=QUIT; kill -TERM "$pid" 2>/dev/null || true' QUIT
-  trap 'caught=1; if has_hung_up; then signal=HUP; kill -TERM "$pid" 2>/dev/null || true; fi; tell_change_of_size' WINCH CONT
+  trap 'caught=1; if has_hung_up; then signal=HUP; kill -TERM "$pid" 2>/dev/null || true; fi; hush_keys; tell_change_of_size' WINCH CONT
   tell_change_of_size
   if [ -n "$signal" ]; then kill -TERM "$pid" 2>/dev/null || true; fi
   while caught= status=0; do
     wait "$pid" || status=$?
     [ -n "$caught" ] || kill -0 "$pid" 2>/dev/null || break
   done
-  if [ "$status" -gt 128 ]; then printf '\033[0m\033[?7h\033[?25h\033[?1049l' 2>/dev/null || true; fi
+  if [ "$status" -gt 128 ]; then leave_screen; fi
   if [ -n "$said" ]; then
     exec {said}>&-
     wait "$keeper" || true
     cat "/proc/self/fd/$lines" >&2 2>/dev/null || true
   fi
+  { echo >&"$life"; } 2>/dev/null || true
+  if [ -n "$feeder" ]; then wait "$feeder" 2>/dev/null || true; fi
   loud_keys
   if [ -n "$signal" ]; then
     trap - "$signal"
@@ -406,7 +526,7 @@ run() {
   # Where standard input is closed, nothing else may get its number.
   [ -e /proc/self/fd/0 ] || exec </dev/null
   raise_stack
-  unset SACN_JOINED
+  unset SACN_JOINED SACN_TYPED SACN_KEYS
   if [ $# = 0 ] && [ -t 0 ]; then say "reads one datagram as hexadecimal digits, up to Ctrl-D; \`sacn --help\` lists the commands"; fi
   case ${1-} in
     desk)
@@ -421,7 +541,7 @@ run() {
       ;;
   esac
   case ${1-} in
-    desk) feed "$program" "$@" ;;
+    desk) tell_width; if edits_lines; then edit_lines "$program" "$@"; else feed "$program" "$@"; fi ;;
     watch) tell_size; feed "$program" "$@" ;;
     gateway) if draws "$@"; then tell_size; draw "$program" "$@"; else tell_width; exec "$program" "$@"; fi ;;
     explain) if serves "$@"; then feed "$program" "$@"; else exec "$program" "$@"; fi ;;
