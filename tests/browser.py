@@ -6,6 +6,7 @@ usage: browser.py SACN [PICTURES]
 
 SACN is the built program; where PICTURES names a folder, pictures of the page are put there.
 """
+import datetime
 import json
 import os
 import shutil
@@ -371,6 +372,10 @@ def sought(browser):
     browser.js("document.querySelector('#alarms button').click()")
     took = browser.until(f"{MOMENT} == '0:12.000' && {ROWS} == 2 && !document.querySelector('#alarms .later')", 3)
     verdict("an alarm's button goes to its moment", took is not None)
+    # (the recording begins 1000 s after 1970, and the browser's time zone is this machine's)
+    wanted = datetime.datetime.fromtimestamp(1012).strftime("%Y-%m-%d %H:%M:%S.000")
+    told = browser.js("return document.getElementById('clock').textContent")
+    verdict("a moment of a recording has its time of day", told == wanted, f"{told!r}, not {wanted!r}")
     marked = browser.js(f"return {MARKED}")
     verdict("an alarm marks its universe's tile from its moment on", [before, marked] == [[2, []], [2]], f"{before} {marked}")
     time.sleep(1.5)

@@ -1,10 +1,19 @@
 """Runs desks on loopback for tests/desks.sh: python3 desks.py SACN."""
 
+import contextlib
+import fcntl
 import os
+import pty
+import re
+import select
+import shutil
+import signal
 import socket
+import struct
 import subprocess
 import sys
 import tempfile
+import termios
 import threading
 import time
 
@@ -83,6 +92,93 @@ class Desk:
         self.run.stdin.close()
         out, err = self.run.stdout.read(), self.run.stderr.read()
         return self.run.wait(20), out, err
+
+
+class Terminal:
+    """A desk on a terminal of its own, which echoes what is typed or doesn't: what is written to that, from where it was looked at."""
+
+    def __init__(self, command, *words, text=None, columns=80, echoes=False, inputs=None, errors=None, **variables):
+        self.file = tempfile.NamedTemporaryFile("w", suffix=".toml")
+        self.file.write(text or show())
+        self.file.flush()
+        self.here, there = pty.openpty()
+        fcntl.ioctl(there, termios.TIOCSWINSZ, struct.pack("HHHH", 5, columns, 0, 0))
+        modes = termios.tcgetattr(there)
+        if not echoes:
+            modes[3] &= ~termios.ECHO
+        termios.tcsetattr(there, termios.TCSANOW, modes)
+        known = {name: word for name, word in os.environ.items() if name not in ("NO_COLOR", "SACN_TYPED", "COLUMNS")}
+        own = lambda: fcntl.ioctl(1, termios.TIOCSCTTY, 0)
+        self.run = subprocess.Popen(
+            [*command, "desk", self.file.name, *words],
+            stdin=there if inputs is None else inputs,
+            stdout=there,
+            stderr=there if errors is None else errors,
+            env={**known, "TERM": "xterm", **variables},
+            start_new_session=True,
+            preexec_fn=own,
+        )
+        os.close(there)
+        self.text = ""
+
+    def type(self, octets):
+        os.write(self.here, octets.encode())
+
+    def read(self):
+        """Whether more comes within a tenth of a second; that is added."""
+        if not select.select([self.here], [], [], 0.1)[0]:
+            return False
+        try:
+            octets = os.read(self.here, 65536)
+        except OSError:
+            return False
+        self.text += octets.decode()
+        return bool(octets)
+
+    def shows(self, pattern, seconds=20):
+        """Whether what matches comes within so many seconds; what is looked at next stands behind it."""
+        limit = time.time() + seconds
+        while True:
+            found = re.search(pattern, self.text)
+            if found:
+                self.text = self.text[found.end() :]
+                return True
+            if not self.read() and time.time() > limit:
+                return False
+
+    def end(self, octets="\x04"):
+        """The status, and all that is there still, once these keys have ended it."""
+        if octets:
+            self.type(octets)
+        limit = time.time() + 20
+        while self.run.poll() is None and time.time() < limit:
+            self.read()
+        while self.read():
+            pass
+        if self.run.poll() is None:
+            self.run.kill()
+        return self.run.wait(), self.text
+
+
+@contextlib.contextmanager
+def launcher_of(sacn, known):
+    """The words that run the launcher over a program, which knows this."""
+    with tempfile.NamedTemporaryFile("w") as launcher:
+        launcher.write(f'set -eu\n. "{TOP}/tools/run.sh"\nsacn_join=/nowhere\n{known}\nrun "{sacn}" "$@"\n')
+        launcher.flush()
+        yield ["bash", launcher.name]
+
+
+def prompt(words):
+    """The pattern of a prompt, and of what clears the line before it."""
+    return "\r\x1b\\[K" + words + "> "
+
+
+def line(words):
+    return "\r\x1b\\[K" + words + "\r\n"
+
+
+SECOND_CUE = "[[cue]]\nnumber = 2\nup = 3000\ndown = 0\nlevels = [[1, 30000]]\n"
 
 
 def the_start_is_told(sacn):
@@ -236,10 +332,7 @@ def hosts_have_names(sacn):
     """The launcher looks names up; here by a table of its own."""
     host = Host()
     known = 'getent() { if [ "$2" = stage-1 ]; then echo "127.0.0.1 STREAM stage-1"; else return 2; fi; }'
-    with tempfile.NamedTemporaryFile("w") as launcher:
-        launcher.write(f'. "{TOP}/tools/run.sh"\nsacn_join=/nowhere\n{known}\nrun "{sacn}" "$@"\n')
-        launcher.flush()
-        command = ["bash", launcher.name]
+    with launcher_of(sacn, known) as command:
         desk = Desk(sacn, "--to", f"1-3=stage-1:{host.port}", f"--to=4=127.0.0.1:{host.port}", command=command)
         if not host.wait(lambda: host.universes() == [1, 2, 3, 4]):
             yield f"to the name came {host.universes()}"
@@ -249,6 +342,168 @@ def hosts_have_names(sacn):
         status, out, err = Desk(sacn, "--to", "stage-2", command=command).end()
         if status != 2 or out or not err.startswith("sacn: --to stage-2: this machine knows no host stage-2 "):
             yield f"an unknown name: status {status}, {out!r}, {err!r}"
+
+
+def a_prompt_tells_what_runs(sacn):
+    host = Host()
+    terminal = Terminal([sacn], "--to", f"127.0.0.1:{host.port}", text=show(patch=SECOND_CUE))
+    if not terminal.shows(f" to 127.0.0.1:{host.port}\r\n" + prompt("no cue, next 1")):
+        yield f"it began with {terminal.text!r}"
+    for typed, wanted in [
+        ("go", line("ok cue 1 up 0 s down 0 s") + prompt("cue 1, next 2")),
+        ("", prompt("cue 1, next 2")),
+        ("1 at 101", line("line 3: a level is 0 to 100, full or 65535 with set") + prompt("cue 1, next 2")),
+        ("1 at 50", line("ok 1 at 50 %") + prompt("cue 1, next 2")),
+        ("blackout", line("ok master at 0 %") + prompt("cue 1, next 2, blackout")),
+        ("cues", line("cue 1 .* current") + line("cue 2 .*") + line("ok") + prompt("cue 1, next 2, blackout")),
+        ("master 32768", line("ok") + prompt("cue 1, next 2, master 50 %")),
+        ("restore", line("ok master at 100 %") + prompt("cue 1, next 2")),
+        ("go", line("ok cue 2 up 3 s down 0 s") + prompt("cue 2, [1-3]\\.[0-9] s left")),
+    ]:
+        terminal.type(typed + "\n")
+        if not terminal.shows("^" + wanted):
+            yield f"{typed!r} was answered {terminal.text!r}"
+    if not terminal.shows("^" + prompt("cue 2"), 10):
+        yield f"behind the fade came {terminal.text!r}"
+    status, text = terminal.end()
+    if status or not re.fullmatch(line("sent [0-9]+ failed 0 refused 0"), text):
+        yield f"status {status}, at the end came {text!r}"
+
+
+def no_prompt_where_it_is_not_wanted(sacn):
+    for why, variables in [("TERM=dumb", {"TERM": "dumb"}), ("NO_COLOR", {"NO_COLOR": "1"})]:
+        terminal = Terminal([sacn], "--to", f"127.0.0.1:{Host().port}", **variables)
+        terminal.type("go\n")
+        if not terminal.shows("7 to 127.0.0.1:[0-9]+\r\nok cue 1 up 0 s down 0 s\r\n$") or not re.fullmatch("sent .*\r\n", terminal.end()[1]):
+            yield f"with {why} it wrote {terminal.text!r}"
+    inputs, typed = os.pipe()
+    terminal = Terminal([sacn], "--to", f"127.0.0.1:{Host().port}", inputs=inputs)
+    os.close(inputs)
+    os.write(typed, b"go\n")
+    if not terminal.shows("7 to 127.0.0.1:[0-9]+\r\nok cue 1 up 0 s down 0 s\r\n$"):
+        yield f"ordered through a pipe it wrote {terminal.text!r}"
+    os.close(typed)
+    if not re.fullmatch("sent .*\r\n", terminal.end("")[1]):
+        yield f"at the end of that pipe it wrote {terminal.text!r}"
+
+
+def ten_thousand_lines_have_no_prompt(sacn):
+    desk = Desk(sacn, "--to", f"127.0.0.1:{Host().port}")
+    out, _ = desk.run.communicate("1 at 50\n" * 10000, 60)
+    *answers, last = out.splitlines()
+    lost = sum(int(it.split()[0]) for it in answers if it.endswith(" lines not written"))
+    if answers.count("ok 1 at 50 %") + lost != 10000 or not last.startswith("sent ") or "\x1b" in out:
+        yield f"{len(answers)} lines, {lost} not written, the last {last!r}"
+
+
+def what_comes_unasked_takes_the_place_of_the_prompt(sacn):
+    # (the broadcast address refuses each datagram of a socket that didn't ask for it)
+    unasked = "255\\.255\\.255\\.255:5568 doesn't take packets: [0-9]+ failed \\([A-Za-z]+\\)"
+    terminal = Terminal([sacn], "--to", "255.255.255.255")
+    if not terminal.shows(prompt("no cue, next 1") + line(unasked) + prompt("no cue, next 1")):
+        yield f"it wrote {terminal.text!r}"
+    terminal.end()
+    with tempfile.TemporaryFile("w+") as errors:
+        terminal = Terminal([sacn], "--to", "255.255.255.255", errors=errors)
+        if not terminal.shows(prompt("no cue, next 1")):
+            yield f"where errors go to a file it wrote at first {terminal.text!r}"
+        terminal.type("\n")
+        if not terminal.shows("^" + prompt("no cue, next 1")):
+            yield f"where errors go to a file it wrote {terminal.text!r}"
+        terminal.end()
+        errors.seek(0)
+        said = errors.read()
+        if not re.search(unasked, said) or "\x1b" in said:
+            yield f"into the file went {said!r}"
+
+
+def a_small_terminal_has_a_short_prompt(sacn):
+    host = Host()
+    with launcher_of(sacn, "edits_lines() { false; }") as command:
+        terminal = Terminal(command, "--to", f"127.0.0.1:{host.port}", columns=20)
+        if not terminal.shows("\r\n" + prompt("no cue")):
+            yield f"it began with {terminal.text!r}"
+        terminal.type("go\n")
+        if not terminal.shows("^" + line("ok cue 1 up 0 s down 0 s") + prompt("cue 1")):
+            yield f"'go' was answered {terminal.text!r}"
+        status, text = terminal.end()
+        if status or not re.fullmatch(line("sent .*"), text):
+            yield f"status {status}, at the end came {text!r}"
+
+
+def a_stopped_terminal_holds_nothing_up(sacn):
+    """By Ctrl-S; what was written meanwhile, and the prompt, come with Ctrl-Q."""
+    host = Host()
+    terminal = Terminal([sacn], "--to", f"127.0.0.1:{host.port}")
+    terminal.shows(prompt("no cue, next 1"))
+    terminal.type("\x13")
+    terminal.type("end 3\nend 4\n")
+    if not host.wait(lambda: host.ends()[3] == 3 and host.ends()[4] == 3):
+        yield f"it ended {host.ends()}"
+    if terminal.read():
+        yield f"while it was stopped it took {terminal.text!r}"
+    terminal.type("\x11")
+    if not terminal.shows(line("ok universe 3 ends") + "(" + prompt("no cue, next 1") + ")?" + line("ok universe 4 ends") + prompt("no cue, next 1")):
+        yield f"then came {terminal.text!r}"
+    status, _ = terminal.end()
+    if status:
+        yield f"status {status}"
+
+
+def rlwrap_gives_arrows_and_a_history(sacn):
+    host = Host()
+    with launcher_of(sacn, "") as command, tempfile.TemporaryDirectory() as state:
+        terminal = Terminal(command, "--to", f"127.0.0.1:{host.port}", text=show(patch=SECOND_CUE), echoes=True, XDG_STATE_HOME=state)
+        if not terminal.shows("no cue, next 1> "):
+            yield f"it began with {terminal.text!r}"
+        for keys, wanted in [("go\r", "ok cue 1 up 0 s down 0 s\r.*cue 1, next 2> "), ("1 at 4\x1b[D5\x1b[C\r", "ok 1 at 54 %\r"), ("\x1b[A\x1b[A\r", "ok cue 2 up 3 s down 0 s\r.*cue 2, [0-3]\\.[0-9] s left> ")]:
+            terminal.type(keys)
+            if not terminal.shows("(?s)" + wanted):
+                yield f"{keys!r} was answered {terminal.text!r}"
+        # (half of an order is there still behind what comes unasked)
+        terminal.type("stat")
+        if not terminal.shows("(?s)cue 2> .*stat", 10):
+            yield f"behind the fade came {terminal.text!r}"
+        terminal.type("us\r")
+        if not terminal.shows("cue 2 master 65535 sent"):
+            yield f"'status' was answered {terminal.text!r}"
+        status, text = terminal.end("\x03")
+        if status or "sent " not in text or not host.wait(lambda: set(host.ends().values()) == {3}):
+            yield f"by Ctrl-C: status {status}, {text!r}, it ended {host.ends()}"
+        terminal = Terminal(command, "--to", f"127.0.0.1:{host.port}", echoes=True, XDG_STATE_HOME=state)
+        terminal.shows("no cue, next 1> ")
+        terminal.type("\x1b[A\r")
+        if not terminal.shows("cue none master 65535 sent"):
+            yield f"the history gave {terminal.text!r}"
+        terminal.run.send_signal(signal.SIGTERM)
+        status, text = terminal.end("")
+        if status or "sent " not in text or not host.wait(lambda: set(host.ends().values()) == {6}):
+            yield f"by TERM: status {status}, {text!r}, it ended {host.ends()}"
+
+
+def a_desk_under_rlwrap_ends_well(sacn):
+    """Whatever ends the launcher, its terminal, or that while Ctrl-S holds it."""
+    ends = {
+        "its terminal is closed": lambda desk: os.close(desk.here),
+        "KILL": lambda desk: desk.run.kill(),
+        "TERM behind Ctrl-S": lambda desk: (desk.type("\x13status\r"), time.sleep(0.5), desk.run.terminate()),
+    }
+    for why, end in ends.items():
+        host = Host()
+        with launcher_of(sacn, "") as command, tempfile.TemporaryDirectory() as state:
+            terminal = Terminal(command, "--to", f"127.0.0.1:{host.port}", echoes=True, XDG_STATE_HOME=state)
+            terminal.type("go\r")
+            if not terminal.shows("ok cue 1 up 0 s down 0 s"):
+                yield f"'go' was answered {terminal.text!r}"
+            end(terminal)
+            if not host.wait(lambda: set(host.ends().values()) == {3}):
+                yield f"{why}: it ended {host.ends()}"
+            if why == "TERM behind Ctrl-S":
+                status, text = terminal.end("\x11")
+                if status or "sent " not in text:
+                    yield f"{why}: status {status}, {text!r}"
+            else:
+                terminal.run.wait(20)
 
 
 LOOKS = [
@@ -262,12 +517,25 @@ LOOKS = [
     an_order_behind_a_list_is_obeyed,
     no_packet_is_a_failure,
     hosts_have_names,
+    a_prompt_tells_what_runs,
+    no_prompt_where_it_is_not_wanted,
+    ten_thousand_lines_have_no_prompt,
+    what_comes_unasked_takes_the_place_of_the_prompt,
+    a_small_terminal_has_a_short_prompt,
+    a_stopped_terminal_holds_nothing_up,
+    rlwrap_gives_arrows_and_a_history,
+    a_desk_under_rlwrap_ends_well,
 ]
+# What wants a program that a machine may not have.
+WANTS = {rlwrap_gives_arrows_and_a_history: "rlwrap", a_desk_under_rlwrap_ends_well: "rlwrap"}
 
 
 def main(sacn):
     failed = 0
     for look in LOOKS:
+        if look in WANTS and shutil.which(WANTS[look]) is None:
+            print(f"skipped desks: {look.__name__}: there is no {WANTS[look]}", flush=True)
+            continue
         faults = list(look(os.path.abspath(sacn)))
         failed += bool(faults)
         print(f"not ok desks: {look.__name__}: {'; '.join(faults[:4])}" if faults else f"ok desks: {look.__name__}", flush=True)

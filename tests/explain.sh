@@ -36,6 +36,26 @@ tells() {
   fi
 }
 
+# first FILE: when a recording's first frame was taken, in milliseconds since 1970, as the octets of a pcap say (seconds and microseconds, the least octet first)
+first() {
+  local seconds micros
+  read -r seconds micros < <(od -An -tu4 --endian=little -j24 -N8 "$1")
+  echo $((seconds * 1000 + micros / 1000))
+}
+# timed FIRST: these objects, with the time beside each moment, of a recording whose first frame was taken then
+timed() {
+  local line at
+  while IFS= read -r line; do
+    if [[ $line =~ \"ms\":([0-9]+) ]]; then
+      at=$(($1 + BASH_REMATCH[1]))
+      at=$(date -u -d "@$((at / 1000)).$(printf %03d $((at % 1000)))" +%Y-%m-%dT%H:%M:%S.%3NZ)
+      line=${line/"${BASH_REMATCH[0]}"/"${BASH_REMATCH[0]},\"time\":\"$at\""}
+    fi
+    printf '%s\n' "$line"
+  done
+}
+ola=$(first "$top/examples/ola.pcap")
+
 # What OLA 0.10 sent: three packets of levels, three that end the stream, and a page of universe discovery by a draft of the
 # standard (root vector 4, framing vector 4). The moments, numbers and options were read off the octets.
 cat >ola.text <<'E'
@@ -62,7 +82,7 @@ datagrams to other ports       0
 frames without a datagram      0
 frames with an earlier moment  0
 E
-cat >ola.json <<'E'
+timed "$ola" >ola.json <<'E'
 {"ms":0,"event":"appeared","universe":1,"cid":"0102030405060708090a0b0c0d0e0f10","name":"OLA Server","address":"10.77.0.1","port":5568,"priority":100}
 {"ms":2412,"event":"ended","universe":1,"cid":"0102030405060708090a0b0c0d0e0f10","name":"OLA Server","address":"10.77.0.1","port":5568,"priority":100}
 {"ms":5970,"event":"refused","address":"10.77.0.1","port":5568,"fault":8,"name":"FramingVector"}
@@ -73,7 +93,7 @@ cat >ola.json <<'E'
 E
 tells "what OLA sent, as text" 0 "" ola.text "$top/examples/ola.pcap"
 tells "what OLA sent, as JSON" 0 "" ola.json "$top/examples/ola.pcap" --json
-tells "another port" 0 "" <(printf '%s\n' '{"row":"counts","datagrams":0,"refused":0,"pages":0,"pages_untracked":0,"synchronization":0,"untracked":0,"other_ports":7,"other_frames":0,"went_back":0,"ms":5970}') \
+tells "another port" 0 "" <(timed "$ola" <<<'{"row":"counts","datagrams":0,"refused":0,"pages":0,"pages_untracked":0,"synchronization":0,"untracked":0,"other_ports":7,"other_frames":0,"went_back":0,"ms":5970}') \
   "$top/examples/ola.pcap" --json --port 6454
 grep -vE '"universe":1,' ola.json >other.json
 tells "another universe" 0 "" other.json "$top/examples/ola.pcap" --json --universe 2
@@ -83,7 +103,7 @@ tells "a row of other universes" 0 "" other.json "$top/examples/ola.pcap" --json
 
 # What QLC+ 4.12 sent of a scene that fades in within 200 ms, recorded by tcpdump: sixteen packets, numbered from 1, of which the first two are dark.
 # The moments and slots were read off the octets; the node shows slots 1 to 3. Two packets came in one millisecond, 35.
-cat >qlc.json <<'E'
+timed "$(first "$top/examples/qlcplus.pcap")" >qlc.json <<'E'
 {"ms":0,"event":"appeared","universe":1,"cid":"fb3c1065a17f4de29919c6820b91bc79","name":"Q Light Controller Plus - E1.31","address":"10.9.0.1","port":51474,"priority":100}
 {"row":"source","universe":1,"cid":"fb3c1065a17f4de29919c6820b91bc79","name":"Q Light Controller Plus - E1.31","address":"10.9.0.1","port":51474,"state":"sending","priority":100,"first":0,"last":269,"live":16,"preview":0,"terminated":0,"other":0,"skipped":0,"late":0,"repeated":0,"gap":35,"last_second":0}
 {"row":"universe","universe":1,"sources":1,"sending":1,"taken":16,"skipped":0,"discarded":0}
@@ -111,10 +131,11 @@ sums() { # TAKEN SKIPPED
   printf '%s\n' "{\"row\":\"universe\",\"universe\":1,\"sources\":1,\"sending\":1,\"taken\":$1,\"skipped\":$2,\"discarded\":0}"
   printf '%s\n' "{\"row\":\"counts\",\"datagrams\":$1,\"refused\":0,\"pages\":0,\"pages_untracked\":0,\"synchronization\":0,\"untracked\":0,\"other_ports\":0,\"other_frames\":0,\"went_back\":0,\"ms\":22982}"
 }
-{ cat turns.json; sums 1150 2; } >left-out.json
+turns=$(first "$top/examples/qlcplus-turns.pcap")
+{ cat turns.json; sums 1150 2; } | timed "$turns" >left-out.json
 tells "a number that QLC+ leaves out" 0 "" left-out.json "$top/examples/qlcplus-turns.pcap" --json
 { head -c 191596 "$top/examples/qlcplus-turns.pcap"; tail -c +191785 "$top/examples/qlcplus-turns.pcap"; } >lost.pcap
-{ cat turns.json; printf '%s\n' "{\"ms\":20402,\"event\":\"skipped\",$stream,\"count\":1}"; sums 1149 3; } >lost.json
+{ cat turns.json; printf '%s\n' "{\"ms\":20402,\"event\":\"skipped\",$stream,\"count\":1}"; sums 1149 3; } | timed "$turns" >lost.json
 tells "a loss beside it" 0 "" lost.json lost.pcap --json
 
 # Faulty recordings: what was told before the fault stays, and the tables follow.
@@ -122,7 +143,7 @@ head -c 1311 "$top/examples/ola.pcap" >cut.pcap
 {
   sed -n 1,2p ola.json
   sed -n 4,5p ola.json
-  printf '%s\n' '{"row":"counts","datagrams":6,"refused":0,"pages":0,"pages_untracked":0,"synchronization":0,"untracked":0,"other_ports":0,"other_frames":0,"went_back":0,"ms":2412}'
+  timed "$ola" <<<'{"row":"counts","datagrams":6,"refused":0,"pages":0,"pages_untracked":0,"synchronization":0,"untracked":0,"other_ports":0,"other_frames":0,"went_back":0,"ms":2412}'
 } >cut.json
 tells "a file that is cut in its last frame" 3 "refused cut.pcap octet 1137 CutShort" cut.json cut.pcap --json
 : >empty
@@ -134,7 +155,7 @@ tells "a header that is cut" 3 "refused stub octet 0 CutShort" empty stub
 # A block of 4 GB in 40 octets: a section, and the head of an enhanced packet.
 printf '\n\r\r\n\x1c\0\0\0\x4d\x3c\x2b\x1a\1\0\0\0\xff\xff\xff\xff\xff\xff\xff\xff\x1c\0\0\0' >lying
 printf '\6\0\0\0\xfc\xff\xff\xff\0\0\0\0' >>lying
-tells "a block that says 4 GB" 3 "refused lying octet 28 *" <(printf '%s\n' '{"row":"counts","datagrams":0,"refused":0,"pages":0,"pages_untracked":0,"synchronization":0,"untracked":0,"other_ports":0,"other_frames":0,"went_back":0,"ms":0}') lying --json
+tells "a block that says 4 GB" 3 "refused lying octet 28 *" <(printf '%s\n' '{"row":"counts","datagrams":0,"refused":0,"pages":0,"pages_untracked":0,"synchronization":0,"untracked":0,"other_ports":0,"other_frames":0,"went_back":0,"ms":0,"time":null}') lying --json
 # told NAME STATUS WANTED-ERRORS WANTED-OUTPUT WORD..: standard input, which is a pipe, is told so
 told() {
   local name=$1 wanted=$2 said=$3 output=$4 status=0
@@ -143,6 +164,17 @@ told() {
   [ "$status" = "$wanted" ] && [[ $(head -n 1 err) == $said ]] && cmp -s "$output" out && echo "ok explain: $name" || echo "not ok explain: $name: status $status, '$(head -n 1 err)'"
 }
 told "a recording on standard input" 0 "" ola.text - <"$top/examples/ola.pcap"
+# The time of day in front of each line is that of the time zone; what follows is the line as it is without.
+for place in UTC0 Asia/Kolkata IST-5:30 NST3:30; do
+  while IFS= read -r line; do
+    [[ $line =~ ^\ +([0-9]+)\.([0-9]{3})\ s\  ]] && at=$((ola + 10#${BASH_REMATCH[1]} * 1000 + 10#${BASH_REMATCH[2]}))
+    printf '%s %s\n' "$(TZ=$place date -d "@$((at / 1000)).$(printf %03d $((at % 1000)))" +%H:%M:%S.%3N)" "$line"
+  done <ola.text >clocked
+  TZ=$place tells "the times of day of $place" 0 "" clocked "$top/examples/ola.pcap" --clock
+done
+TZ=NST3:30 told "the same of standard input" 0 "" clocked --clock - <"$top/examples/ola.pcap"
+# (a pipe that gives the header, and the rest a while later)
+{ head -c 24 "$top/examples/ola.pcap"; sleep 0.5; tail -c +25 "$top/examples/ola.pcap"; } | told "a recording that comes in pieces" 0 "" ola.json --json -
 told "one that is none is named" 3 "refused - octet 0 NotACapture" empty - <plain
 "$sacn" explain "$top/examples/ola.pcap" --setup "$top/examples/node.toml" </dev/null >frames 2>/dev/null
 told "a setup on standard input" 0 "" frames "$top/examples/ola.pcap" --setup - <"$top/examples/node.toml"
@@ -165,6 +197,8 @@ tells "a row without an end" 2 "error: 2-: Universe" empty x --universe 2-
 tells "a row beyond the last universe" 2 "error: 1-64000: Universe" empty x --universe 1-64000
 tells "a universe in words" 2 "error: one: Universe" empty x --universe one
 tells "a setup without a name" 2 "error: *" empty x --setup
+tells "a clock for objects, which have their time" 2 "error: --json: beside --clock" empty x --json --clock
+tells "a clock for a page" 2 "error: --page: beside --clock" empty x --page 8080 --clock
 
 if ! command -v python3 >/dev/null; then
   echo "skipped explain: a recording with each event: no python3"
@@ -302,7 +336,7 @@ E
 tells "a recording with each event" 0 "" events.text events.pcap
 
 # The same as JSON: the kinds of lines that no other recording here has.
-cat >events.json <<E
+timed 1000000 >events.json <<E
 {"ms":600,"event":"rivals","universe":1,"sources":2,"priority":120}
 {"ms":800,"event":"no_rivals","universe":1,"sources":1,"priority":120}
 {"ms":1000,"event":"lists","cid":"$B","name":"Spare","universes":[1,3,4,5]}
@@ -362,7 +396,7 @@ fi
   echo "{\"ms\":900,\"event\":\"frame\",\"port\":1,\"cause\":\"packet\",\"universe\":1,\"cid\":\"$B\",\"name\":\"Spare\",\"slots\":\"$(slots 40)\"}"
   echo "{\"ms\":3400,\"event\":\"frame\",\"port\":1,\"cause\":\"lost\",\"slots\":\"$(slots 81)\"}"
   echo "{\"ms\":5500,\"event\":\"frame\",\"port\":1,\"cause\":\"lost\",\"slots\":\"$(slots "")\"}"
-} >frames.json
+} | timed 1000000 >frames.json
 "$sacn" explain events.pcap --setup node.toml --json </dev/null 2>err | grep '"event":"frame"' >out
 if cmp -s frames.json out; then
   echo "ok explain: the frames as JSON"

@@ -1,5 +1,6 @@
 """Looks at the frames that a gateway prints for tests/frames.sh: python3 frames.py SACN."""
 
+import datetime
 import os
 import re
 import pty
@@ -28,13 +29,15 @@ def packet(number, levels):
 class Gateway:
     """A gateway of one port, and the lines that it prints."""
 
-    def __init__(self, sacn, words, columns=None, terminal=False):
+    def __init__(self, sacn, words, columns=None, terminal=False, zone=None):
         self.file = tempfile.NamedTemporaryFile("w", suffix=".toml")
         self.file.write(f"version = 1\nudp_port = {PORT}\n[[port]]\nnumber = 1\nuniverse = 1\n")
         self.file.flush()
         space = {name: value for name, value in os.environ.items() if name != "COLUMNS"}
         if columns:
             space["COLUMNS"] = str(columns)
+        if zone:
+            space["TZ"] = zone
         here, there = pty.openpty() if terminal else os.pipe()
         self.run = subprocess.Popen(
             [sacn, "gateway", self.file.name, *words, "--seconds", "60"], stdin=subprocess.DEVNULL, stdout=there, stderr=subprocess.PIPE, text=True, env=space
@@ -120,6 +123,42 @@ def digits_may_be_asked_in_a_terminal(sacn):
     yield from shows(sacn, ["--frames", "digits"], [(None, DARK_DIGITS)], terminal=True)
 
 
+def moment_of(line, hours):
+    """How many seconds ago the time of day in front of a line was, in a zone so many hours east of UTC; None where the line has none."""
+    found = re.match(r"(\d\d):(\d\d):(\d\d)\.(\d\d\d) ", line)
+    if not found:
+        return None
+    hour, minute, second, milli = map(int, found.groups())
+    now = datetime.datetime.now(datetime.timezone(datetime.timedelta(hours=hours)))
+    now = (now.hour * 60 + now.minute) * 60 + now.second + now.microsecond / 1e6
+    return (now - ((hour * 60 + minute) * 60 + second + milli / 1000)) % 86400
+
+
+def lines_have_the_time_of_day(sacn):
+    for form, looks, where in [
+        ("digits", [(None, DARK_DIGITS)], {}),
+        ("slots", [(None, "port 1  dark"), ({7: 1}, "port 1  1 lit  7@1")], {}),
+        # (as many letters as fit behind the time, which has 13)
+        ("slots", [(None, "port 1  dark"), ({1: 255, 2: 255}, "port 1  2 lit  1@255 2@255")], {"columns": 39}),
+        ("slots", [(None, "port 1  dark"), ({1: 255, 2: 255}, "port 1  2 lit  1@255 ..")], {"columns": 38}),
+    ]:
+        gateway = Gateway(sacn, ["--frames", form, "--clock"], zone="XST-5:30", **where)
+        try:
+            said = [gateway.said]
+            for levels, wanted in looks:
+                if levels is not None:
+                    gateway.light(levels)
+                line = gateway.line()
+                said.append(line)
+                if re.sub("^([0-9]+) [0-9]+ ", "\\1 ", line[13:]) != wanted:
+                    yield f"{levels} is shown as {line[:90]!r}"
+            ago = [moment_of(line, 5.5) for line in said]
+            if not all(it is not None and it < 30 for it in ago):
+                yield f"{form}: {ago} s ago, {said[0][:60]!r}"
+        finally:
+            gateway.end()
+
+
 def none_prints_no_frame(sacn):
     with tempfile.NamedTemporaryFile("w", suffix=".toml") as file:
         file.write(f"version = 1\nudp_port = {PORT}\n[[port]]\nnumber = 1\nuniverse = 1\n")
@@ -139,6 +178,7 @@ def other_words_are_refused(sacn):
     yield from refused(sacn, "--frames", "lines")
     yield from refused(sacn, "--frames")
     yield from refused(sacn, "--frames", "slots", "--watch")
+    yield from refused(sacn, "--watch", "--clock")
 
 
 LOOKS = [
@@ -147,6 +187,7 @@ LOOKS = [
     a_terminal_has_slots,
     elsewhere_are_digits,
     digits_may_be_asked_in_a_terminal,
+    lines_have_the_time_of_day,
     none_prints_no_frame,
     other_words_are_refused,
 ]

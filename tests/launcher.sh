@@ -260,6 +260,30 @@ desk_ends_well() {
 }
 check "TERM ends a desk's input, and the desk ends what it has lit" desk_ends_well
 
+# A rlwrap that pretends: it says what it was given, and becomes what it wraps.
+printf '#!/usr/bin/env bash\necho "wrapped: $*"\nwhile [ "$1" != bash ]; do shift; done\nexec "$@"\n' >"$room/bin/rlwrap"
+chmod +x "$room/bin/rlwrap"
+# desk_on_terminal TERM [COLUMNS]: runs a desk on a terminal, at which Ctrl-D is typed
+desk_on_terminal() {
+  local columns=${2-80}
+  printf '#!/bin/sh\necho "typed at: $SACN_TYPED"\nread -r line\necho "ended all"\nexit 7\n' >"$tree/crates/sacn/out/sacn"
+  (sleep 1; printf '\004') | PATH=$room/bin:$usual TERM=$1 XDG_STATE_HOME=$room/state script -qec "stty rows 24 cols $columns; exec $tree/sacn desk show.toml" /dev/null >"$room/out" 2>"$room/err"
+  status=$?
+  [ "$status" = 7 ] && prints "typed at: terminal" && prints "ended all"
+}
+desk_is_wrapped() { desk_on_terminal xterm && grep -qF "wrapped: --no-warnings --ansi-colour-aware --command-name sacn-desk --history-filename $room/state/sacn/desk_history bash " "$room/out"; }
+desk_history_is_not_kept() { rm -rf "$room/state" && : >"$room/state" && desk_on_terminal xterm && prints "--history-filename /dev/null --histsize -300 bash " && rm "$room/state"; }
+dumb_is_not_wrapped() { desk_on_terminal dumb && ! prints "wrapped"; }
+unsized_is_not_wrapped() { desk_on_terminal xterm 0 && ! prints "wrapped"; }
+without_rlwrap() { mv "$room/bin/rlwrap" "$room/rlwrap" && hash -r && if PATH=$room/bin:$usual command -v rlwrap >/dev/null; then sed -i 's/-v rlwrap/-v no-rlwrap/' "$tree/tools/run.sh"; fi && desk_on_terminal xterm && ! prints "wrapped"; }
+if command -v script >/dev/null; then
+  check "a desk on a terminal runs under rlwrap, with a history of its own" desk_is_wrapped
+  check "where that can't be kept, without" desk_history_is_not_kept
+  check "on a dumb terminal it runs alone" dumb_is_not_wrapped
+  check "so it does on one that says no size" unsized_is_not_wrapped
+  check "so it does where there is no rlwrap" without_rlwrap
+else echo "skipped launcher: a desk on a terminal: no script"; fi
+
 # Runs a desk with no input until TERM, which comes so many seconds after its start; the program that pretends tells whether its input ended before, and after how long.
 desk_without_input() {
   local pause=$1

@@ -71,7 +71,8 @@ def a_stopped_terminal():
     desk = start([SACN, "desk", show(4)], stdin=slave, stdout=slave, stderr=slave)
     read = Lines(os.fdopen(os.dup(master), encoding="utf-8", errors="replace"))
     os.write(master, b"go\n")
-    want(read.until(lambda line: line.startswith("ok"), 20) is not None, "an order is answered before it is stopped")
+    # (a prompt may stand before it, which is cleared)
+    want(read.until(lambda line: line.removeprefix("\x1b[K").startswith("ok"), 20) is not None, "an order is answered before it is stopped")
     os.write(master, b"\x13")
     begin = time.time()
     for _ in range(40):

@@ -100,7 +100,7 @@ has "the page is that of a recording" '<html lang="en" data-shows="recording">' 
 verdict "the page is under 60 KB" $? "$(wc -c <body)"
 answers "the first packet" 200 "$at/state?at=0"
 source='"sources":[{"place":0,"universe":1,"cid":"0102030405060708090a0b0c0d0e0f10","name":"OLA Server","address":"10.77.0.1","port":5568,'
-has "the state at the first packet" '{"ms":0,"recording":{"name":"ola.pcap","length":5970,"fault":null},"universe":1,"heard":[1],' \
+has "the state at the first packet" '{"ms":0,"recording":{"name":"ola.pcap","length":5970,"start":1795393742057,"fault":null},"universe":1,"heard":[1],' \
   "$source\"state\":\"sending\",\"priority\":100,\"first\":0,\"last\":0,\"live\":1," "\"levels\":\"ff800007$(zeros 1016)\"" "\"winners\":\"0001000100000001$(zeros 2032)\"" \
   '"alarms":[],"counts":{"datagrams":1,"refused":0,"pages":0,"untracked":0}}'
 for moment in 326 500 867; do
@@ -122,7 +122,7 @@ done
 answers "another universe" 200 "$at/state?universe=7&at=500"
 has "another universe is dark" '"universe":7,"heard":[1],' "\"levels\":\"$(zeros 1024)\""
 answers "the recording as a whole" 200 $at/recording
-[ "$(cat body)" = '{"name":"ola.pcap","length":5970,"fault":null}' ]
+[ "$(cat body)" = '{"name":"ola.pcap","length":5970,"start":1795393742057,"fault":null}' ]
 verdict "what is known of it" $? "$(cat body)"
 answers "events of a recording" 404 $at/events
 for query in at= at=x at=-1 at=+1 at=1.5 at=18446744073709551616; do
@@ -142,7 +142,7 @@ serves cut.pcap --seconds 5
 [ "$(head -n 1 page.err)" = "refused cut.pcap octet 1137 CutShort" ]
 verdict "the fault is on standard error" $? "$(cat page.err)"
 answers "the end of a faulty recording" 200 "$at/state"
-has "what stands before the fault is shown" '{"ms":2412,"recording":{"name":"cut.pcap","length":2412,"fault":{"octet":1137,"name":"CutShort"}},' '"state":"ended"' '"counts":{"datagrams":6,'
+has "what stands before the fault is shown" '{"ms":2412,"recording":{"name":"cut.pcap","length":2412,"start":1795393742057,"fault":{"octet":1137,"name":"CutShort"}},' '"state":"ended"' '"counts":{"datagrams":6,'
 wait "$page"
 status=$?
 [ "$status" = 3 ]

@@ -19,6 +19,16 @@ def setup(udp_port, ports):
     return text + "".join(f"[[port]]\nnumber = {port}\nuniverse = {port}\n" for port in ports)
 
 
+def ranges(universes):
+    """A setup in which eight universes share each port, a slot each."""
+    text = f"version = 2\nudp_port = {BOTH}\n"
+    for place, universe in enumerate(universes):
+        if place % 8 == 0:
+            text += f"[[port]]\nnumber = {place // 8 + 1}\n"
+        text += f"[[port.range]]\nuniverse = {universe}\nslot = 1\ncount = 1\nport_slot = {place % 8 + 1}\n"
+    return text
+
+
 def show(universes):
     """Channel N on slot N of universe N."""
     text = f'version = 1\ncid = "00010203-0405-0607-0809-0a0b0c0d0e0f"\nname = "Desk"\nuniverses = {list(universes)}\nsend_to = [{BOTH}]\n'
@@ -91,6 +101,11 @@ def refusals(sacn):
     yield verdict("a port number of two setups is refused, and both files are named", refused(sacn, 3, "refused again.toml PortTaken 16: first.toml has it\n", "first.toml", "second.toml", "again.toml"))
     yield verdict("a setup of another UDP port is refused", refused(sacn, 3, f"refused second_alone.toml UdpPort {SECOND_ALONE}: first.toml has {BOTH}\n", "first.toml", "second_alone.toml"))
     yield verdict("an interface for a port of none of the setups is refused", refused(sacn, 2, "error: 33=device: NoPort\n", "first.toml", "second.toml", "--widget", "33=device"))
+    advice = "what is more goes into a second setup: sacn gateway SETUP SETUP.. takes up to 32 of them\n"
+    for name, many in [("ports", "ports"), ("ranges", "universes")]:
+        text = f"refused {name}.toml Limit\n{name}.toml: "
+        why = refused(sacn, 3, text, f"{name}.toml") or refused(sacn, 3, f"\n{name}.toml: {advice}", f"{name}.toml")
+        yield verdict(f"a setup of seventeen {many} is refused, with what takes more", why)
     yield verdict("more than 32 setups are refused", refused(sacn, 2, "TooManySetups", *["first.toml"] * 33))
 
 
@@ -124,6 +139,7 @@ def heard_groups(run):
 
 def main(sacn):
     files = {"first": setup(BOTH, FIRST), "second": setup(BOTH, SECOND), "again": setup(BOTH, [40, 16]), "show": show([*FIRST, *SECOND])}
+    files.update(ports=setup(BOTH, range(1, 18)), ranges=ranges(range(1, 18)))
     files.update(first_alone=setup(FIRST_ALONE, FIRST), second_alone=setup(SECOND_ALONE, SECOND))
     for name, text in files.items():
         with open(f"{name}.toml", "w", encoding="utf-8") as file:

@@ -188,7 +188,7 @@ def events_of(lines):
     found = {}
     for line in lines:
         if "event" in line:
-            words = {key: line[key] for key in line if key not in ("ms", "since", "address", "port")}
+            words = {key: line[key] for key in line if key not in ("ms", "time", "since", "address", "port")}
             found.setdefault(line.get("universe"), []).append(words)
     return found
 

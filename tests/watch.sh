@@ -46,6 +46,9 @@ ends "port 0" 2 "error: 0: Port" --port 0
 ends "universe 0" 2 "error: 0: Universe" --universe 0
 ends "no seconds" 2 "error: *" --seconds 0
 ends "a file" 2 "error: *" file
+ends "a clock for a screen" 2 "error: --clock: without --plain" --clock
+ends "a clock for objects, which have their time" 2 "error: --json: beside --clock" --plain --json --clock
+ends "a clock for a page" 2 "error: --page: beside --clock" --page 8080 --clock
 # (Input that ends while it runs ends it; one that had ended before doesn't.)
 status=0
 : >err
@@ -97,8 +100,28 @@ tells() {
 tells "a desk, as text" --plain "universe     1  $C \"Desk\"  appears at 127\.0\.0\.1:[0-9]+, priority 100$" \
   "universe     1  $C \"Desk\"  ends its stream$" "^universe state " "^       1 ended  .* $C \"Desk\" at 127" "^datagrams to the port  "
 tells "a desk, without a terminal" "" "universe     2  $C \"Desk\"  appears" "universe     2  $C \"Desk\"  ends its stream$"
-tells "a desk, as JSON" --json "^{\"ms\":[0-9]+,\"event\":\"appeared\",\"universe\":1,\"cid\":\"$C\",\"name\":\"Desk\",\"address\":\"127.0.0.1\"" \
+# times PATTERN DAY: whether the time in each of the lines with this pattern, which is what its parentheses hold, is of the last minute; one without a
+# date may be of the day before, which is so many milliseconds
+times() {
+  local pattern=$1 day=$2 now at line seen=0
+  now=$(date +%s%3N)
+  while IFS= read -r line; do
+    [[ $line =~ $pattern ]] || continue
+    at=$(date -d "${BASH_REMATCH[1]}" +%s%3N) || return 1
+    at=$((now - at))
+    [ "$at" -ge 0 ] || at=$((at + day))
+    [ "$at" -ge 0 ] && [ "$at" -lt 60000 ] || return 1
+    seen=$((seen + 1))
+  done <out
+  [ "$seen" -gt 0 ]
+}
+tells "a desk, as JSON" --json "^{\"ms\":[0-9]+,\"time\":\"[0-9-]{10}T[0-9:]{8}\.[0-9]{3}Z\",\"event\":\"appeared\",\"universe\":1,\"cid\":\"$C\",\"name\":\"Desk\",\"address\":\"127.0.0.1\"" \
   '"event":"ended","universe":1' '^{"row":"source","universe":1,.*"state":"ended"' '^{"row":"counts",'
+times '^\{"ms":[0-9]+,"time":"([^"]*)","event":' 0 && ! grep '"ms":' out | grep -qvE '"ms":[0-9]+,"time":"'
+verdict "each object with a moment has its time" $? "$(head -n 1 out)"
+TZ=XST-5:30 tells "a desk, with the time of day" "--plain --clock" "^[0-9:]{8}\.[0-9]{3}  +[0-9]+\.[0-9]{3} s  universe     1  $C \"Desk\"  appears at" "^[0-9:.]{12} universe state "
+TZ=XST-5:30 times '^([0-9:.]{12}) ' 86400000 && ! grep -qvE '^[0-9:]{8}\.[0-9]{3} ' out
+verdict "which is that of the time zone, on each line" $? "$(head -n 1 out)"
 tells "one universe" "--plain --universe 2" 'universe     2  ' '^       2 ended '
 if grep -qE 'universe     1  |^       1 ' out; then echo "not ok watch: one universe alone"; else echo "ok watch: one universe alone"; fi
 
@@ -277,6 +300,22 @@ problem=$(COLUMNS=80 ROWS=24 KEYS=$'\x1c' timeout 20 python3 terminal.py drawn 2
 [ "$status" = 0 ] && below | grep -q '^sacn watch ' && ! below | grep -q $'\x1b'
 verdict "Ctrl-\\ ends it, and gives the terminal back" $? "status $status $(tail -n 1 <<<"$problem")"
 
+# Keys steer the screen, each as it is pressed, and the terminal is given back at any end.
+printf '. "%s/tools/run.sh"\nrun "%s" watch --port 25844\n' "$top" "$sacn" >launcher
+for keys in steered typed changed "killed launcher" "killed program"; do
+  # shellcheck disable=SC2086
+  problem=$(timeout 60 python3 "$top/tests/keys.py" 25844 $keys 2>&1)
+  verdict "keys: $keys" $? "$(tail -n 1 <<<"$problem")"
+done
+printf 'version = 2\nudp_port = 25844\n[[port]]\nnumber = 1\n[[port.range]]\nuniverse = 1\nslot = 1\ncount = 512\nport_slot = 1\n' >keys.toml
+printf '. "%s/tools/run.sh"\nrun "%s" gateway keys.toml --watch\n' "$top" "$sacn" >launcher
+problem=$(timeout 60 python3 "$top/tests/keys.py" 25844 gateway 2>&1)
+verdict "keys of a gateway's screen" $? "$(tail -n 1 <<<"$problem")"
+# (a line at a time, where no launcher tells the terminal otherwise)
+printf 'exec "%s" watch --port 25844\n' "$sacn" >launcher
+problem=$(timeout 60 python3 "$top/tests/keys.py" 25844 lines 2>&1)
+verdict "keys without the launcher" $? "$(tail -n 1 <<<"$problem")"
+
 # A gateway shows what it hears on its terminal, in place of its frames; what it says on standard error stands below, and on the terminal once the screen is left.
 printf 'version = 2\nudp_port = 25840\n[[port]]\nnumber = 1\n[[port.range]]\nuniverse = 1\nslot = 1\ncount = 512\nport_slot = 1\n' >node.toml
 printf '. "%s/tools/run.sh"\nrun "%s" gateway node.toml --watch "$@"\n' "$top" "$sacn" >launcher
@@ -353,16 +392,16 @@ shows() {
   done
   return 1
 }
-shows 50 43 '^N +[0-9]+ sending ' && shows 50 45 '^universe [0-9]+: slots above 0'
+shows 50 43 '^A +[0-9]+ sending ' && shows 50 45 '^universe [0-9]+: slots above 0'
 verdict "a terminal of 160 by 50" $? "$(sed -n 43,45p shown)"
 pane resize-window -t resized -x 80 -y 24
-shows 24 21 '^  and 23 more$' && shows 24 23 '^universe [0-9]+: slots above 0'
+shows 24 20 '^  and 24 more$' && shows 24 22 '^universe [0-9]+: slots above 0' && shows 24 24 ' q end$'
 verdict "it is resized to 80 by 24" $? "$(tail -n 2 shown)"
 pane resize-window -t resized -x 20 -y 5
 shows 5 4 '^A +[0-9]+ sending' && shows 5 5 '^  and 39 more'
 verdict "and to 20 by 5" $? "$(cat shown)"
 pane resize-window -t resized -x 160 -y 50
-shows 50 43 '^N +[0-9]+ sending ' && shows 50 45 '^universe [0-9]+: slots above 0'
+shows 50 43 '^A +[0-9]+ sending ' && shows 50 45 '^universe [0-9]+: slots above 0'
 verdict "and back" $? "$(sed -n 43,45p shown)"
 pane send-keys -t resized C-c
 # stays PATTERN [SESSION]: within ten seconds such a line stands on the terminal, or above what is seen of it
@@ -370,7 +409,7 @@ stays() {
   for _ in $(seq 100); do pane capture-pane -p -t "${2-resized}" -S - >shown; grep -qE -- "$1" shown && return 0; sleep 0.1; done
   return 1
 }
-stays '^status 0$' && stays '^sacn watch  sources on universes 40 ' && stays '^A +1 sending ' && stays '^N +40 sending '
+stays '^status 0$' && stays '^sacn watch  sources on universes 40 ' && stays '^A +1 sending ' && stays '^A +40 sending '
 verdict "all its rows stay on the terminal" $? "$(tail -n 3 shown)"
 shows 24 4 '^nothing heard for 5 s at 0\.0\.0\.0:25838$' unheard && shows 24 5 '^groups are heard where a device joins them: --join DEVICE$' unheard
 verdict "a screen on which nothing is heard says so" $? "$(sed -n 4,5p shown)"

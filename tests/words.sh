@@ -49,6 +49,9 @@ refused 2 "error: *" gateway x --seconds 1000000001
 refused 2 "error: *" gateway x --seconds five
 refused 2 "error: *" gateway x --seconds 1 --seconds 1
 refused 2 "error: *" gateway x --turns 5
+refused 2 "error: --watch: beside --clock" gateway x --watch --clock
+refused 2 "error: *" gateway x --clock --clock
+refused 4 "??:??:??.??? device read absent" gateway absent --clock
 
 # Those of a desk: hosts with ports, groups, numbers.
 refused 2 "error: 10.0.0.1:0: Port" desk x --to 10.0.0.1:0
