@@ -75,12 +75,21 @@ fn written<M: Moments + Drop>(
     pieces: &[&[u8]],
 ) -> io::Result<Vec<u8>> {
     let mut text = Vec::new(alloc);
-    let mut out = Stamped::new(&mut text, moments, stamp);
+    write_pieces(&mut text, moments, stamp, pieces)?;
+    Ok(text)
+}
+
+fn write_pieces<M: Moments + Drop>(
+    text: &mut Vec<u8>,
+    moments: M,
+    stamp: Timing<'_>,
+    pieces: &[&[u8]],
+) -> io::Result<()> {
+    let mut out = Stamped::new(text, moments, stamp);
     for piece in pieces {
         out.write_all(piece)?;
     }
-    out.flush()?;
-    Ok(text)
+    out.flush()
 }
 
 fn is_text(text: io::Result<Vec<u8>>, wanted: &[u8]) -> bool {
