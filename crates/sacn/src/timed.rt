@@ -36,6 +36,7 @@ pub struct TimedOutlet<'a, R> {
 }
 
 impl<'a, R: Clock> Write for TimedOutlet<'a, R> {
+    #[inline(always)]
     fn write(&mut self, octets: &[u8]) -> Result<usize> {
         self.out.write(octets)
     }
