@@ -3,19 +3,16 @@
 ghost use Rattle.std.specs.Prelude.{◌≡◌, IfOk};
 ghost use Rattle.sacn_watch.specs.Pages.{FitsOn};
 
+use crate::alarms::push_alarms;
 use crate::levels::{lit_rows, push_levels};
 use crate::numbers::{letter_of, source_numbers};
 use crate::page::{Ink, Page, Row, Size};
 use crate::view::View;
 use sacn_monitor::{Account, Stream, StreamState};
 use sacn_packets::up_to_nul;
-use sacn_tell::total;
 use std::alloc::{AllocError, Global};
 use std::fmt::Write;
 use std::str;
-
-/// The most rows of alarms.
-const MAX_ALARMS: usize = 6;
 
 /// Where fewer rows are left below the alarms, the sources take all of them.
 const MIN_SHARED: usize = 8;
@@ -80,37 +77,6 @@ fn push_stop(alloc: Global, page: &mut Page, view: &View) -> Result<(), AllocErr
     page.push_text(alloc, text.as_str(), Ink::Alarm)
 }
 
-fn push_alarms(alloc: Global, page: &mut Page, view: &View) -> Result<(), AllocError>
-    ensures size { page.new.size ≡ page.old.size }
-    ensures fits { FitsOn page.old.size page.old.rows.items
-        → FitsOn page.new.size page.new.rows.items }
-{
-    let mut text = String::new(alloc);
-    let refused = total(&view.monitor().tally().refused);
-    if refused > 0 {
-        write!(text, "! refused datagrams: {refused}")?;
-        page.push_text(alloc, text.as_str(), Ink::Alarm)?;
-    }
-    let mut count = 0_usize;
-    for stream in view.monitor().streams() {
-        text.clear();
-        push_alarm(&mut text, view, stream)?;
-        if text.len() > 0 {
-            count = count.saturating_add(1);
-            if count <= MAX_ALARMS {
-                page.push_text(alloc, text.as_str(), Ink::Alarm)?;
-            }
-        }
-    }
-    push_more(
-        alloc,
-        page,
-        "!",
-        count.saturating_sub(MAX_ALARMS),
-        Ink::Alarm,
-    )
-}
-
 // Says how many rows more there would be, where there would be any.
 pub(crate) fn push_more(
     alloc: Global,
@@ -129,34 +95,6 @@ pub(crate) fn push_more(
     let mut text = String::new(alloc);
     write!(text, "{front} and {count} more")?;
     page.push_text(alloc, text.as_str(), ink)
-}
-
-// What is wrong with a source on a universe, if anything is.
-fn push_alarm(text: &mut String, view: &View, stream: &Stream) -> Result<(), AllocError> {
-    let universe = stream.universe;
-    match stream.state(view.monitor().moment()) {
-        StreamState::Ended => Ok(()),
-        StreamState::Lost => {
-            write!(text, "! universe {universe}: lost ")?;
-            push_name(text, &stream.account)
-        }
-        StreamState::Sending => push_rivalry(text, view, stream),
-    }
-}
-
-// Whether a source is one of several at the top priority of its universe.
-fn push_rivalry(text: &mut String, view: &View, stream: &Stream) -> Result<(), AllocError> {
-    let universe = stream.universe;
-    let rivals = view.monitor().rivals(universe);
-    let priority = stream.account.priority;
-    if (rivals >= 2) & (priority == view.monitor().top_priority(universe)) {
-        write!(
-            text,
-            "! universe {universe}: one of {rivals} at top priority {priority}: "
-        )?;
-        push_name(text, &stream.account)?;
-    }
-    Ok(())
 }
 
 fn push_sources(
@@ -366,7 +304,7 @@ fn push_source(text: &mut String, stream: &Stream, moment: u64) -> Result<(), Al
 }
 
 // A name in its columns. One that isn't UTF-8 has its octets as letters.
-fn push_name(text: &mut String, account: &Account) -> Result<(), AllocError> {
+pub(crate) fn push_name(text: &mut String, account: &Account) -> Result<(), AllocError> {
     let name = up_to_nul(&account.name);
     let mut columns = 0_usize;
     if let Ok(letters) = str::from_utf8(name) {

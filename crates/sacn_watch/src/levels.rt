@@ -3,6 +3,7 @@
 ghost use Rattle.std.specs.Prelude.{◌≡◌, IfOk};
 ghost use Rattle.sacn_watch.specs.Pages.{FitsOn};
 
+use crate::digits::{put_hex, put_number};
 use crate::layout::push_more;
 use crate::numbers::letter_of;
 use crate::page::{Ink, Page, Row};
@@ -154,6 +155,9 @@ fn is_lit(view: &View, first: usize, count: usize) -> bool {
 }
 
 fn has_mark(view: &View, first: usize, count: usize) -> bool {
+    if !view.steering.marks.are_on() {
+        return false;
+    }
     let mut has_mark = false;
     for slot in first..first.saturating_add(count) {
         has_mark = view.steering.marks.has(slot) | has_mark;
@@ -178,16 +182,13 @@ fn level_row(
     write!(text, "{number:>4} ")?;
     let mut row = Row::new(alloc, width);
     row.put_text(text.as_str(), Ink::Plain)?;
+    let levels = view.levels();
     for slot in first..end.min(SLOTS) {
-        text.clear();
-        push_slot(&mut text, view, slot, places[slot])?;
         let source = number_of(numbers, places[slot]);
-        put_slot(
-            &mut row,
-            text.as_str(),
-            source,
-            view.steering.marks.has(slot),
-        )?;
+        let ink = ink_of(source, view.steering.marks.has(slot));
+        row.put(letter_of_source(source), ink)?;
+        put_slot(&mut row, view, levels[slot], places[slot], ink)?;
+        row.put(behind(ink), ink)?;
     }
     Ok(row)
 }
@@ -200,26 +201,36 @@ fn number_of(numbers: &[usize], place: Option<usize>) -> Option<usize> {
     }
 }
 
+fn letter_of_source(source: Option<usize>) -> u32 {
+    match source {
+        Some(number) => letter_of(number),
+        None => '.' as u32,
+    }
+}
+
 // What is shown of a slot behind the letter of its source.
-fn push_slot(
-    text: &mut String,
+fn put_slot(
+    row: &mut Row,
     view: &View,
-    slot: usize,
+    level: u8,
     place: Option<usize>,
-) -> Result<(), AllocError> {
-    let level = view.levels().get(slot).copied().unwrap_or(0);
+    ink: Ink,
+) -> Result<(), AllocError>
+    ensures { row.new.width ≡ row.old.width }
+{
     if view.steering.has_priorities {
-        let priority = priority_at(view, place);
-        return write!(text, "{priority:>3}");
+        return put_number(row, priority_at(view, place), ink);
     }
     match view.steering.form {
-        LevelForm::Hex => write!(text, "{level:02x}"),
-        LevelForm::Decimal => write!(text, "{level:>3}"),
-        LevelForm::Percent => {
-            let percent = (u32::from(level) * 100 + FULL / 2) / FULL;
-            write!(text, "{percent:>3}")
-        }
+        LevelForm::Hex => put_hex(row, level, ink),
+        LevelForm::Decimal => put_number(row, level, ink),
+        LevelForm::Percent => put_number(row, percent_of(level), ink),
     }
+}
+
+// A level in percent, the nearest.
+fn percent_of(level: u8) -> u8 {
+    ((u32::from(level) * 100 + FULL / 2) / FULL) as u8
 }
 
 // The priority of the stream at a place; 0 where nobody gives the level.
@@ -233,24 +244,12 @@ fn priority_at(view: &View, place: Option<usize>) -> u8 {
     }
 }
 
-// A letter, what is shown of a slot, and a star where it is marked.
-fn put_slot(
-    row: &mut Row,
-    shown: &str,
-    source: Option<usize>,
-    is_marked: bool,
-) -> Result<(), AllocError>
-    ensures { row.new.width ≡ row.old.width }
-{
-    let letter = match source {
-        Some(number) => letter_of(number),
-        None => '.' as u32,
-    };
-    let ink = ink_of(source, is_marked);
-    row.put(letter, ink)?;
-    row.put_text(shown, ink)?;
-    let behind = if is_marked { '*' } else { ' ' };
-    row.put(behind as u32, ink)
+// A star behind a slot that is marked.
+fn behind(ink: Ink) -> u32 {
+    match ink {
+        Ink::Alarm => '*' as u32,
+        _ => ' ' as u32,
+    }
 }
 
 fn ink_of(source: Option<usize>, is_marked: bool) -> Ink {

@@ -1,6 +1,8 @@
 //! What happens on a network of streaming ACN (ANSI E1.31-2018), watched as it happens: as lines, or as a screen of a terminal.
 #![tactic(auto)]
 
+mod alarms;
+mod digits;
 mod fault;
 mod keys;
 mod layout;
