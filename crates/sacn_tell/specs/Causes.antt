@@ -1,20 +1,25 @@
 -- Why a frame of a node is another one than before.
-use Rattle.std.specs.Prelude.{ℕ, List, ◌++◌, codes, decimal, slice_get, Option, None, Some, if◌then◌else◌}
+use Rattle.std.specs.Prelude.{ℕ, ◌-◌, ◌==◌, Bool, not, ◌&&◌, ◌||◌, List, ◌++◌, codes, decimal, slice_get, position, Option, None, Some, if◌then◌else◌}
+use Rattle.std.specs.List.{list_all}
+use Rattle.std.specs.Option.{option_and_then}
+use Rattle.std.specs.Str.{bytes_eq}
+use Rattle.sacn_sources.specs.declared.limits.TheConstants.{NETWORK_DATA_LOSS}
 use Rattle.sacn_monitor.specs.declared.news.Noted.{Noted}
 use Rattle.sacn_monitor.specs.declared.news.Noted.TheVariants.{Refused, Page, Sync, Untracked, Heard}
 use Rattle.sacn_monitor.specs.declared.stream.Stream.{Stream}
 use Rattle.sacn_tell.specs.declared.cause.Cause.{Cause}
-use Rattle.sacn_tell.specs.declared.cause.Cause.TheVariants.{Start, Packet, Ended, Unfollowed, Lost}
-use Rattle.sacn_tell.specs.Members.{name_of, stream_members, word_member}
+use Rattle.sacn_tell.specs.declared.cause.Cause.TheVariants.{Start, Packet, Ended, Unfollowed, Lost, LostOf}
+use Rattle.sacn_tell.specs.Members.{name_of, source_members, stream_members, word_member}
 use Rattle.sacn_tell.specs.Sentences.{source_text}
 
--- it is the first; a packet of a source, or the end of its stream; a packet of a source that isn't followed; or the loss of a source
+-- it is the first; a packet of a source, or the end of its stream; a packet of a source that isn't followed; or the loss of a source, where it is known of which
 pub data Reason : Type 0 where
   AtStart : Reason
   OfPacket : Stream → Reason
   OfEnd : Stream → Reason
   OfOther : Reason
   OfLoss : Reason
+  OfLossOf : Stream → Reason
 
 -- with the sources themselves, in place of what refers to them
 abbrev pub reason_of : Cause → Reason
@@ -23,6 +28,7 @@ reason_of (Packet s) = OfPacket s.now
 reason_of (Ended s) = OfEnd s.now
 reason_of Unfollowed = OfOther
 reason_of Lost = OfLoss
+reason_of (LostOf s) = OfLossOf s.now
 
 -- a packet of a source that is followed is the end of its stream, where that has ended with it
 abbrev pub reason_among : Option Stream → Reason
@@ -37,6 +43,22 @@ cause_among streams Sync = OfOther
 cause_among streams Untracked = OfOther
 cause_among streams (Heard place news) = reason_among (slice_get streams place)
 
+-- at this moment a stream is lost: no packet of it came for so long (E1.31, 6.7.1)
+abbrev pub is_lost_at : ℕ → Stream → Bool
+is_lost_at at s = not s.account.ended && (at - s.account.latest == NETWORK_DATA_LOSS)
+
+-- each stream that is lost then is one of this source
+abbrev pub are_lost_of : ℕ → List ℕ → List Stream → Bool
+are_lost_of at cid ss = list_all (λ s. not (is_lost_at at s) || bytes_eq s.cid cid) ss
+
+abbrev pub lost_alone : ℕ → List Stream → Option Stream → Reason
+lost_alone at ss None = OfLoss
+lost_alone at ss (Some s) = if are_lost_of at s.cid ss then OfLossOf s else OfLoss
+
+-- the loss of a source at this moment, which is known where it is one alone
+abbrev pub loss_among : ℕ → List Stream → Reason
+loss_among at ss = lost_alone at ss (option_and_then (slice_get ss) (position (is_lost_at at) ss))
+
 unfoldable pub on_universe : List ℕ → ℕ → List ℕ
 on_universe word universe = word ++ (codes " on universe " ++ (decimal universe ++ codes " of "))
 
@@ -44,16 +66,23 @@ on_universe word universe = word ++ (codes " on universe " ++ (decimal universe 
 unfoldable pub by_words : List ℕ → Stream → List ℕ
 by_words word s = on_universe word s.universe ++ source_text s.cid (name_of s)
 
+unfoldable pub lost_words : Stream → List ℕ
+lost_words s = codes "by the loss of " ++ source_text s.cid (name_of s)
+
 abbrev pub cause_words : Reason → List ℕ
 cause_words AtStart = codes "at the start"
 cause_words (OfPacket s) = by_words (codes "by a packet") s
 cause_words (OfEnd s) = by_words (codes "by the end of a stream") s
 cause_words OfOther = codes "by a packet of a source that isn't followed"
 cause_words OfLoss = codes "by the loss of a source"
+cause_words (OfLossOf s) = lost_words s
 
 -- the same as members of an object
 unfoldable pub by_members : List ℕ → Stream → List ℕ
 by_members word s = word_member (codes "cause") word ++ stream_members s
+
+unfoldable pub lost_members : Stream → List ℕ
+lost_members s = word_member (codes "cause") (codes "lost") ++ source_members s.cid (name_of s)
 
 abbrev pub cause_members : Reason → List ℕ
 cause_members AtStart = word_member (codes "cause") (codes "start")
@@ -61,3 +90,4 @@ cause_members (OfPacket s) = by_members (codes "packet") s
 cause_members (OfEnd s) = by_members (codes "ended") s
 cause_members OfOther = word_member (codes "cause") (codes "unfollowed")
 cause_members OfLoss = word_member (codes "cause") (codes "lost")
+cause_members (OfLossOf s) = lost_members s

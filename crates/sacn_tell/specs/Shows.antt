@@ -10,7 +10,7 @@ use Rattle.sacn_node.specs.Showings.{port_after, ports_of, unseen}
 use Rattle.sacn_edge.specs.PortLines.{frame_text}
 use Rattle.sacn_tell.specs.declared.options.Form.{Form}
 use Rattle.sacn_tell.specs.declared.stage.Stage.{Stage}
-use Rattle.sacn_tell.specs.Causes.{Reason, AtStart, OfLoss}
+use Rattle.sacn_tell.specs.Causes.{Reason, AtStart}
 use Rattle.sacn_tell.specs.Lines.{frame_line}
 use Rattle.sacn_tell.specs.Staging.{may_change_frames}
 use Rattle.sacn_tell.specs.Tellings.{with_line_end, shown_in}
@@ -45,11 +45,11 @@ staged (Some s) = Some (record { node = s.core; ports = ports_of s.showing })
 abbrev pub all_shown : Node → List PortFrame → Staged
 all_shown n ports = record { node = n; ports = map (port_after n) ports }
 
--- ---- where a source is lost at a moment: the frames of the node without it
+-- ---- where a source is lost at a moment: the frames of the node without it, and why it is so
 
-abbrev pub loss_shown : Form → ℕ → Option Staged → List ℕ
-loss_shown form at None = []
-loss_shown form at (Some s) = frames_told form at OfLoss (step (Tick at) s.node) s.ports
+abbrev pub loss_shown : Form → ℕ → Reason → Option Staged → List ℕ
+loss_shown form at reason None = []
+loss_shown form at reason (Some s) = frames_told form at reason (step (Tick at) s.node) s.ports
 
 abbrev pub after_loss : ℕ → Option Staged → Option Staged
 after_loss at None = None

@@ -1,11 +1,14 @@
 //! Why a frame of a node is another one.
 
-ghost use Rattle.std.specs.Prelude.{◌≡◌, ◌++◌, OnOk, string_bytes};
-ghost use Rattle.sacn_tell.specs.Causes.{on_universe, by_words, cause_among, cause_words, by_members, cause_members, reason_of};
+ghost use Rattle.std.specs.Prelude.{◌≡◌, ◌++◌, OnOk, position, slice_get, string_bytes};
+ghost use Rattle.sacn_tell.specs.Causes.{are_lost_of, on_universe, by_words, cause_among, cause_words, by_members, cause_members, is_lost_at, loss_among, lost_alone, lost_members, lost_words, reason_of};
+ghost use Rattle.sacn_tell.specs.Members.{name_of};
+ghost use Rattle.sacn_tell.specs.Sentences.{source_text};
 
 use crate::{event_words, json};
 use sacn_monitor::{Noted, Stream};
 use sacn_packets::up_to_nul;
+use sacn_sources::NETWORK_DATA_LOSS;
 use std::alloc::AllocError;
 use std::fmt::Write;
 
@@ -22,6 +25,8 @@ pub enum Cause<'a> {
     Unfollowed,
     /// No packet of a source came for 2500 ms (E1.31, 6.7.1).
     Lost,
+    /// None of this source, which alone is lost at that moment.
+    LostOf(&'a Stream),
 }
 
 /// Why a datagram changed a frame.
@@ -38,6 +43,48 @@ pub fn cause_of(streams: &[Stream], noted: Noted) -> Cause<'_>
     }
 }
 
+/// Why a frame changes at a moment at which a source is lost.
+pub fn loss_of(streams: &[Stream], at: u64) -> Cause<'_>
+    ensures { reason_of result ≡ loss_among at streams.now }
+{
+    match lost_place(streams, at) {
+        Some(place) => loss_at(streams, at, place),
+        None => Cause::Lost,
+    }
+}
+
+// The place of the first stream that is lost at a moment.
+fn lost_place(streams: &[Stream], at: u64) -> Option<usize>
+    ensures { result ≡ position (is_lost_at at) streams.now }
+{
+    streams.iter().position(|stream| is_lost_at(stream, at))
+}
+
+// The loss of the source at a place.
+fn loss_at(streams: &[Stream], at: u64, place: usize) -> Cause<'_>
+    ensures { reason_of result ≡ lost_alone at streams.now (slice_get streams.now place) }
+{
+    match streams.get(place) {
+        Some(stream) if are_lost_of(streams, at, &stream.cid) => Cause::LostOf(stream),
+        _ => Cause::Lost,
+    }
+}
+
+// Whether each stream that is lost at a moment is of this source.
+fn are_lost_of(streams: &[Stream], at: u64, cid: &[u8; 16]) -> bool
+    ensures { result ≡ are_lost_of at cid.now streams.now }
+{
+    streams
+        .iter()
+        .all(|stream| !is_lost_at(stream, at) | (stream.cid == *cid))
+}
+
+fn is_lost_at(stream: &Stream, at: u64) -> bool
+    ensures { result ≡ is_lost_at at stream.now }
+{
+    !stream.account.ended & (at.saturating_sub(stream.account.latest) == NETWORK_DATA_LOSS)
+}
+
 /// A cause in words.
 pub fn push_cause(text: &mut String, cause: &Cause<'_>) -> Result<(), AllocError>
     ensures { OnOk result
@@ -49,6 +96,7 @@ pub fn push_cause(text: &mut String, cause: &Cause<'_>) -> Result<(), AllocError
         Cause::Ended(stream) => push_by(text, "by the end of a stream", stream),
         Cause::Unfollowed => text.push_str("by a packet of a source that isn't followed"),
         Cause::Lost => text.push_str("by the loss of a source"),
+        Cause::LostOf(stream) => push_lost(text, stream),
     }
 }
 
@@ -58,7 +106,7 @@ fn push_by(text: &mut String, word: &str, stream: &Stream) -> Result<(), AllocEr
         (string_bytes text.new ≡ string_bytes text.old ++ by_words word.now stream.now) }
 {
     push_universe(text, word, stream.universe)?;
-    event_words::push_source(text, &stream.cid, up_to_nul(&stream.account.name))
+    push_source(text, stream)
 }
 
 #[tactic(auto, unfolding(crate::specs::Causes::on_universe))]
@@ -67,6 +115,23 @@ fn push_universe(text: &mut String, word: &str, universe: u16) -> Result<(), All
         (string_bytes text.new ≡ string_bytes text.old ++ on_universe word.now universe) }
 {
     write!(text, "{word} on universe {universe} of ")
+}
+
+#[tactic(auto, unfolding(crate::specs::Causes::lost_words))]
+fn push_lost(text: &mut String, stream: &Stream) -> Result<(), AllocError>
+    ensures { OnOk result
+        (string_bytes text.new ≡ string_bytes text.old ++ lost_words stream.now) }
+{
+    text.push_str("by the loss of ")?;
+    push_source(text, stream)
+}
+
+// A source: its CID and name.
+fn push_source(text: &mut String, stream: &Stream) -> Result<(), AllocError>
+    ensures { OnOk result
+        (string_bytes text.new ≡ string_bytes text.old ++ source_text stream.now.cid (name_of stream.now)) }
+{
+    event_words::push_source(text, &stream.cid, up_to_nul(&stream.account.name))
 }
 
 /// A cause as members of an object.
@@ -80,6 +145,7 @@ pub fn push_cause_members(text: &mut String, cause: &Cause<'_>) -> Result<(), Al
         Cause::Ended(stream) => push_by_members(text, "ended", stream),
         Cause::Unfollowed => json::push_word(text, "cause", "unfollowed"),
         Cause::Lost => json::push_word(text, "cause", "lost"),
+        Cause::LostOf(stream) => push_lost_members(text, stream),
     }
 }
 
@@ -90,4 +156,13 @@ fn push_by_members(text: &mut String, word: &str, stream: &Stream) -> Result<(),
 {
     json::push_word(text, "cause", word)?;
     json::push_stream(text, stream)
+}
+
+#[tactic(auto, unfolding(crate::specs::Causes::lost_members))]
+fn push_lost_members(text: &mut String, stream: &Stream) -> Result<(), AllocError>
+    ensures { OnOk result
+        (string_bytes text.new ≡ string_bytes text.old ++ lost_members stream.now) }
+{
+    json::push_word(text, "cause", "lost")?;
+    json::push_source(text, &stream.cid, up_to_nul(&stream.account.name))
 }

@@ -12,11 +12,11 @@ ghost use Rattle.sacn_tell.specs.KeptLists.{after_reading, listed_in, none_liste
 ghost use Rattle.sacn_tell.specs.Lines.{stop_line};
 ghost use Rattle.sacn_tell.specs.ListBooks.{list_book, page_told};
 ghost use Rattle.sacn_tell.specs.Shows.{after_loss, after_turn, loss_shown, staged, turn_shown};
-ghost use Rattle.sacn_tell.specs.Silences.{IsLit, IsNextDark, IsQuiet, TellsDark, TellsSilence, after_dark, dark_told, scene_of};
+ghost use Rattle.sacn_tell.specs.Silences.{IsLit, IsNextDark, IsQuiet, TellsDark, TellsSilence, after_dark, dark_reason, dark_told, scene_of};
 ghost use Rattle.sacn_tell.specs.Tables.{tables_told};
 ghost use Rattle.sacn_tell.specs.Tellings.{Tells, with_line_end};
 
-use crate::cause::{Cause, cause_of};
+use crate::cause::{cause_of, loss_of};
 use crate::fault::{ExplainFault, TellFault};
 use crate::line_writer::LineWriter;
 use crate::listings::{Listings, PageNews};
@@ -301,20 +301,20 @@ impl<'a, O: Write> Follower<'a, O> {
     // The frames of the node, where it loses a source at a moment.
     fn show_dark(&mut self, at: u64) -> Result<(), TellFault>
         ensures told { OnOk result (Tells O.contents self.old.writer.teller self.new.writer.teller
-            (loss_shown self.old.writer.teller.form at (staged self.old.stage))) }
+            (loss_shown self.old.writer.teller.form at (dark_reason at self.old.network)
+            (staged self.old.stage))) }
         ensures stage { OnOk result
             (staged self.new.stage ≡ after_loss at (staged self.old.stage)) }
         ensures network { self.new.network ≡ self.old.network }
         ensures options { self.new.writer.options ≡ self.old.writer.options }
         ensures listings { self.new.listings ≡ self.old.listings }
     {
-        match &mut self.stage {
-            Some(stage) => {
-                stage.tick(at);
-                stage.show(at, &Cause::Lost, &mut self.writer.teller)
-            }
-            None => Ok(()),
-        }
+        let Some(stage) = &mut self.stage else {
+            return Ok(());
+        };
+        stage.tick(at);
+        let cause = loss_of(self.network.monitor().streams(), at);
+        stage.show(at, &cause, &mut self.writer.teller)
     }
 
     // The list of a source, where a page makes it another one than before.

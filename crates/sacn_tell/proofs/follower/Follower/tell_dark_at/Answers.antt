@@ -19,7 +19,7 @@ returns-clause-told g c =
     let contents = g.O.Write.contents in
     let writer = c.args.self.now.writer in
     let told = tick_told c.args.at c.args.self.now.network in
-    dark_written {O = g.row.O.Denot} contents c.show_dark.result c.args.at (scene_of c.args.self.now) writer c.settle.new.self c.show_dark.new.self.writer
+    dark_written {O = g.row.O.Denot} contents c.show_dark.result c.args.at (scene_of c.args.self.now) c.tick.new.self writer c.settle.new.self c.show_dark.new.self.writer c.tick.ensures.network
     (settled_options {O = g.row.O.Denot} contents told writer c.tick.new.observer c.settle.new.self c.tick.ensures.told c.settle.ensures.options)
     (settled {O = g.row.O.Denot} contents told writer c.tick.new.observer c.settle.new.self c.tick.ensures.told c.in_ok-settle.ensures.none c.settle.ensures.teller) c.show_dark.ensures.told
 
