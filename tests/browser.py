@@ -245,6 +245,7 @@ def parted(browser, watch):
 
 
 TILES = "[...document.querySelectorAll('#universes li')]"
+ALARMS = "[...document.querySelectorAll('#alarms li')].map((it) => it.textContent)"
 MARKED = f"{TILES}.filter((tile) => [...tile.querySelectorAll('[title=alarm]')].some((mark) => mark.getClientRects().length)).map((tile) => parseInt(tile.textContent))"
 NAMED = f"{TILES}.filter((tile) => / alarm,/.test(tile.firstChild.getAttribute('aria-label'))).map((tile) => parseInt(tile.textContent))"
 
@@ -279,7 +280,7 @@ def many(browser):
         for turn in range(first, first + 8):
             for universe in (3, 17):
                 sender.sendto(packet(universe, 5 * turn), ("127.0.0.1", UDP))
-        is_told = browser.until("document.querySelectorAll('#alarms li').length >= 14", 5)
+        is_told = browser.until(f"{ALARMS}.some((it) => /universes 3, 17: Crowd skipped 4 numbers [(]\\d+ times[)]$/.test(it))", 5)
         with urllib.request.urlopen(f"http://127.0.0.1:{PAGE}/state?universe=30", timeout=5) as state:
             known = len(json.load(state)["alarms"])
         if is_told is not None or known >= 14:
@@ -290,6 +291,9 @@ def many(browser):
     unscrolled(browser, 1280, 900, 100)
     unscrolled(browser, 360, 740, 28)
     browser.view(0, 0)
+    desk.kill()
+    took = browser.until(f"{ALARMS}.filter((it) => /Front of house is lost/.test(it)).length == 1 && {ALARMS}.some((it) => /universes 1-30: Front of house is lost$/.test(it))", 8)
+    verdict("a desk of 30 universes that is killed is one line of the alarms", took is not None, f"{browser.js(f'return {ALARMS}')}")
     for process in (watch, desk):
         process.kill()
         process.wait()

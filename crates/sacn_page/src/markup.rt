@@ -6,7 +6,7 @@ mod script;
 mod style;
 
 use crate::markup::body::BODY;
-use crate::markup::player::PLAYER;
+use crate::markup::player::{INCIDENTS, PLAYER};
 use crate::markup::script::SCRIPT;
 use crate::markup::style::STYLE;
 use std::alloc::{AllocError, Global};
@@ -41,7 +41,7 @@ pub fn page(alloc: Global, subject: Subject) -> Result<String, AllocError> {
         Subject::Network => NETWORK,
         Subject::Recording => RECORDING,
     })?;
-    for part in &[HEAD, STYLE, BODY, SCRIPT, PLAYER] {
+    for part in &[HEAD, STYLE, BODY, SCRIPT, INCIDENTS, PLAYER] {
         text.push_str(part)?;
     }
     Ok(text)

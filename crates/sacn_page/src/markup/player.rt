@@ -1,6 +1,42 @@
-//! The script of a recording's page, and the begin of both.
+//! The script of the alarms, of which those that are one incident are one line; that of a recording's page, and the begin of both.
 
 /// It follows the script of the page.
+pub const INCIDENTS: &str = r##"
+// What befalls one source on many universes within a second is one line: alarms of one kind, whose texts are the same but for the universe in front.
+const SPAN = 1000;
+function gathered(alarms) {
+  const lines = [];
+  for (const alarm of alarms) {
+    const [, universe, words] = /^universe (\d+): (.*)$/s.exec(alarm.text) || [];
+    let line = words === undefined ? undefined : lines.findLast((it) => it.kind === alarm.kind && it.words === words && alarm.ms >= it.ms && alarm.ms <= it.ms + SPAN);
+    if (!line) lines.push(line = { ms: alarm.ms, kind: alarm.kind, words, alarms: [], universes: new Set() });
+    line.alarms.push(alarm);
+    line.universes.add(Number(universe));
+  }
+  return lines;
+}
+// Numbers as ranges: 1-30, 32.
+function rangesOf(numbers) {
+  const ranges = [];
+  for (const number of [...numbers].sort((a, b) => a - b)) {
+    const last = ranges[ranges.length - 1];
+    if (last && last[1] === number - 1) last[1] = number; else ranges.push([number, number]);
+  }
+  return ranges.map(([low, high]) => low === high ? `${low}` : `${low}-${high}`).join(', ');
+}
+function lineText(line) {
+  if (line.words === undefined) return line.alarms[0].text;
+  const times = line.alarms.length > line.universes.size ? ` (${line.alarms.length} times)` : '';
+  return `${line.universes.size > 1 ? 'universes' : 'universe'} ${rangesOf(line.universes)}: ${line.words}${times}`;
+}
+// Its first moment, and its latest where that is another.
+function momentsOf(line, spell) {
+  const latest = line.alarms[line.alarms.length - 1].ms;
+  return spell(line.ms) + (latest > line.ms ? `, the latest at ${spell(latest)}` : '');
+}
+"##;
+
+/// It follows that of the alarms.
 pub const PLAYER: &str = r##"
 // A recording: the document of a moment is asked for, one at a time; a later wish takes the place of one that waits.
 const SECOND = 1000, LEAP = 10000;
@@ -62,21 +98,21 @@ async function learn() {
   ask();
 }
 function showMarks() {
-  const list = part('alarms'), count = film.alarms.length;
+  const list = part('alarms'), lines = gathered(film.alarms);
   list.setAttribute('aria-live', 'off');
   list.replaceChildren();
   part('marks').replaceChildren();
-  for (const alarm of film.alarms) {
+  for (const line of lines) {
     const item = document.createElement('li'), button = add(item, 'button');
     button.type = 'button';
-    add(button, 'time', spelled(alarm.ms));
-    button.append(alarm.text);
-    button.addEventListener('click', () => moveTo(alarm.ms));
-    item.dataset.at = String(alarm.ms);
+    add(button, 'time', spelled(line.ms)).title = momentsOf(line, spelled);
+    button.append(lineText(line));
+    button.addEventListener('click', () => moveTo(line.ms));
+    item.dataset.at = String(line.ms);
     list.append(item);
-    add(part('marks'), 'option').value = String(alarm.ms);
+    add(part('marks'), 'option').value = String(line.ms);
   }
-  part('no-alarms').hidden = count > 0;
+  part('no-alarms').hidden = lines.length > 0;
   part('most-alarms').hidden = film.leftOut === 0;
   put(part('most-alarms'), leftOutText(film.leftOut));
 }

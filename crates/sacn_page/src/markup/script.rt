@@ -326,25 +326,32 @@ part('whole').addEventListener('click', () => {
 });
 
 const clock = new Intl.DateTimeFormat(undefined, { hour: '2-digit', minute: '2-digit', second: '2-digit' });
-let shownAlarms = new Set();
+const sinceStart = (ms) => `${(ms / 1000).toFixed(1)} s`;
 const leftOutText = (count) => `${count.toLocaleString()} more aren't kept: a loss gives way only to newer losses.`;
 function showAlarms() {
   if (isRecording) return;
   part('no-alarms').hidden = known.alarms.length > 0;
-  const list = part('alarms'), kept = new Set(known.alarms);
-  const fresh = known.alarms.filter((alarm) => !shownAlarms.has(alarm));
-  if (fresh.length === known.alarms.length) list.replaceChildren();
-  for (const alarm of fresh) {
-    const item = document.createElement('li'), at = add(item, 'time', clock.format(new Date(Date.now() - (now() - alarm.ms))));
-    at.title = `${(alarm.ms / 1000).toFixed(1)} s after the watch began`;
-    item.append(alarm.text);
-    item.alarm = alarm;
-    list.prepend(item);
+  const list = part('alarms'), standing = new Map(), shown = new Set();
+  for (const item of list.children) for (const alarm of item.alarms) standing.set(alarm, item);
+  for (const line of gathered(known.alarms)) {
+    // (a line stays where it stands as long as one of its alarms is kept)
+    const item = line.alarms.map((alarm) => standing.get(alarm)).find((it) => it && !shown.has(it)) || itemOf(list, line);
+    item.alarms = line.alarms;
+    item.firstChild.title = `${momentsOf(line, sinceStart)} after the watch began`;
+    put(item.lastChild, lineText(line));
+    shown.add(item);
   }
-  for (const item of [...list.children]) if (!kept.has(item.alarm)) item.remove();
+  for (const item of [...list.children]) if (!shown.has(item)) item.remove();
   part('most-alarms').hidden = known.leftOut === 0;
   put(part('most-alarms'), leftOutText(known.leftOut));
-  shownAlarms = kept;
+}
+// A new line of alarms, above the others.
+function itemOf(list, line) {
+  const item = document.createElement('li');
+  add(item, 'time', clock.format(new Date(Date.now() - (now() - line.ms))));
+  item.append('');
+  list.prepend(item);
+  return item;
 }
 
 // Levels that may have changed since aren't shown as if they stood: the whole page goes grey, and a banner says why.
