@@ -58,10 +58,16 @@ ola=$(first "$top/examples/ola.pcap")
 
 # What OLA 0.10 sent: three packets of levels, three that end the stream, and a page of universe discovery by a draft of the
 # standard (root vector 4, framing vector 4). The moments, numbers and options were read off the octets.
-cat >ola.text <<'E'
+cat >ola.incidents <<'E'
+     0.000 s  "OLA Server" 0102..10 appears on 1 at 10.77.0.1:5568, priority 100
+     2.412 s  "OLA Server" 0102..10 ends its stream on 1
+E
+cat >ola.each <<'E'
      0.000 s  universe     1  0102030405060708090a0b0c0d0e0f10 "OLA Server"  appears at 10.77.0.1:5568, priority 100
      2.412 s  universe     1  0102030405060708090a0b0c0d0e0f10 "OLA Server"  ends its stream
      5.970 s  from 10.77.0.1:5568  refused: the framing vector is unknown
+E
+cat >ola.tables <<'E'
 
 universe state    priority      first       last     taken   preview     other   skipped      late  repeated   gap ms  source
        1 ended         100      0.000      2.412         6         0         0         0         0         0     1544  0102030405060708090a0b0c0d0e0f10 "OLA Server" at 10.77.0.1:5568
@@ -82,7 +88,11 @@ datagrams to other ports       0
 frames without a datagram      0
 frames with an earlier moment  0
 E
+cat ola.incidents ola.tables >ola.text
+{ cat ola.incidents; echo; cat ola.each ola.tables; } >ola.whole
 timed "$ola" >ola.json <<'E'
+{"ms":0,"event":"incident","act":"appeared","cid":"0102030405060708090a0b0c0d0e0f10","name":"OLA Server","universes":[1],"first":0,"latest":0,"times":1}
+{"ms":2412,"event":"incident","act":"ended","cid":"0102030405060708090a0b0c0d0e0f10","name":"OLA Server","universes":[1],"first":2412,"latest":2412,"times":1}
 {"ms":0,"event":"appeared","universe":1,"cid":"0102030405060708090a0b0c0d0e0f10","name":"OLA Server","address":"10.77.0.1","port":5568,"priority":100}
 {"ms":2412,"event":"ended","universe":1,"cid":"0102030405060708090a0b0c0d0e0f10","name":"OLA Server","address":"10.77.0.1","port":5568,"priority":100}
 {"ms":5970,"event":"refused","address":"10.77.0.1","port":5568,"fault":8,"name":"FramingVector"}
@@ -92,10 +102,14 @@ timed "$ola" >ola.json <<'E'
 {"row":"counts","datagrams":7,"refused":1,"pages":0,"pages_untracked":0,"synchronization":0,"untracked":0,"other_ports":0,"other_frames":0,"went_back":0,"ms":5970}
 E
 tells "what OLA sent, as text" 0 "" ola.text "$top/examples/ola.pcap"
+tells "the same of each universe" 0 "" ola.whole "$top/examples/ola.pcap" --each
+sed '/^universe state/{n;d}; /^universe  sources/{n;d}' ola.tables >other.tables
+tells "as text, of another universe" 0 "" other.tables "$top/examples/ola.pcap" --universe 2
+tells "of each, of another universe" 0 "" <(sed -n 3p ola.each; cat other.tables) "$top/examples/ola.pcap" --universe 2 --each
 tells "what OLA sent, as JSON" 0 "" ola.json "$top/examples/ola.pcap" --json
 tells "another port" 0 "" <(timed "$ola" <<<'{"row":"counts","datagrams":0,"refused":0,"pages":0,"pages_untracked":0,"synchronization":0,"untracked":0,"other_ports":7,"other_frames":0,"went_back":0,"ms":5970}') \
   "$top/examples/ola.pcap" --json --port 6454
-grep -vE '"universe":1,' ola.json >other.json
+grep -vE '"universe":1,|"universes":\[1\]' ola.json >other.json
 tells "another universe" 0 "" other.json "$top/examples/ola.pcap" --json --universe 2
 tells "two universes" 0 "" ola.json "$top/examples/ola.pcap" --json --universe 2 --universe 1
 tells "a row of universes" 0 "" ola.json "$top/examples/ola.pcap" --json --universe 1-63999
@@ -104,6 +118,7 @@ tells "a row of other universes" 0 "" other.json "$top/examples/ola.pcap" --json
 # What QLC+ 4.12 sent of a scene that fades in within 200 ms, recorded by tcpdump: sixteen packets, numbered from 1, of which the first two are dark.
 # The moments and slots were read off the octets; the node shows slots 1 to 3. Two packets came in one millisecond, 35.
 timed "$(first "$top/examples/qlcplus.pcap")" >qlc.json <<'E'
+{"ms":0,"event":"incident","act":"appeared","cid":"fb3c1065a17f4de29919c6820b91bc79","name":"Q Light Controller Plus - E1.31","universes":[1],"first":0,"latest":0,"times":1}
 {"ms":0,"event":"appeared","universe":1,"cid":"fb3c1065a17f4de29919c6820b91bc79","name":"Q Light Controller Plus - E1.31","address":"10.9.0.1","port":51474,"priority":100}
 {"row":"source","universe":1,"cid":"fb3c1065a17f4de29919c6820b91bc79","name":"Q Light Controller Plus - E1.31","address":"10.9.0.1","port":51474,"state":"sending","priority":100,"first":0,"last":269,"live":16,"preview":0,"terminated":0,"other":0,"skipped":0,"late":0,"repeated":0,"gap":35,"last_second":0}
 {"row":"universe","universe":1,"sources":1,"sending":1,"taken":16,"skipped":0,"discarded":0}
@@ -120,8 +135,10 @@ fi
 
 # What QLC+ 4.12 sent in 23 seconds, 1150 packets of 188 octets in the file: it numbers from 1 to 255 and never sends 0, which is left out behind packets 255, 510,
 # 765 and 1020. That is told as a loss twice, and then once as what it is. In a second file packet 1020, which has number 255, is lost too.
-stream='"universe":1,"cid":"fb3c1065a17f4de29919b6ea5b5a84bc","name":"Q Light Controller Plus - E1.31"'
+source='"cid":"fb3c1065a17f4de29919b6ea5b5a84bc","name":"Q Light Controller Plus - E1.31"'
+stream="\"universe\":1,$source"
 {
+  printf '%s\n' "{\"ms\":0,\"event\":\"incident\",\"act\":\"appeared\",$source,\"universes\":[1],\"first\":0,\"latest\":0,\"times\":1}"
   printf '%s\n' "{\"ms\":0,\"event\":\"appeared\",$stream,\"address\":\"10.9.0.1\",\"port\":49165,\"priority\":100}"
   printf '%s\n' "{\"ms\":5082,\"event\":\"skipped\",$stream,\"count\":1}" "{\"ms\":10202,\"event\":\"skipped\",$stream,\"count\":1}"
   printf '%s\n' "{\"ms\":15302,\"event\":\"leaves_out\",$stream,\"number\":0}"
@@ -141,17 +158,22 @@ tells "a loss beside it" 0 "" lost.json lost.pcap --json
 # Faulty recordings: what was told before the fault stays, and the tables follow.
 head -c 1311 "$top/examples/ola.pcap" >cut.pcap
 {
-  sed -n 1,2p ola.json
-  sed -n 4,5p ola.json
+  sed -n 1,4p ola.json
+  sed -n 6,7p ola.json
   timed "$ola" <<<'{"row":"counts","datagrams":6,"refused":0,"pages":0,"pages_untracked":0,"synchronization":0,"untracked":0,"other_ports":0,"other_frames":0,"went_back":0,"ms":2412}'
 } >cut.json
 tells "a file that is cut in its last frame" 3 "refused cut.pcap octet 1137 CutShort" cut.json cut.pcap --json
+sed '/^refused by fault$/,/^$/d; s/^\(datagrams to the port  *\)7$/\16/; s/^\(refused  *\)1$/\10/' ola.tables >cut.tables
+tells "the same as text" 3 "refused cut.pcap octet 1137 CutShort" <(cat ola.incidents cut.tables) cut.pcap
+tells "the same of each universe" 3 "refused cut.pcap octet 1137 CutShort" <(cat ola.incidents; echo; sed -n 1,2p ola.each; cat cut.tables) cut.pcap --each
 : >empty
 tells "an empty file" 3 "refused empty octet 0 NotACapture" empty empty
 printf 'a text, and no recording at all' >plain
 tells "a file that is no recording" 3 "refused plain octet 0 NotACapture" empty plain
 head -c 10 "$top/examples/ola.pcap" >stub
 tells "a header that is cut" 3 "refused stub octet 0 CutShort" empty stub
+tells "each universe of an empty file" 3 "refused empty octet 0 NotACapture" empty empty --each
+tells "each universe of a header that is cut" 3 "refused stub octet 0 CutShort" empty stub --each
 # A block of 4 GB in 40 octets: a section, and the head of an enhanced packet.
 printf '\n\r\r\n\x1c\0\0\0\x4d\x3c\x2b\x1a\1\0\0\0\xff\xff\xff\xff\xff\xff\xff\xff\x1c\0\0\0' >lying
 printf '\6\0\0\0\xfc\xff\xff\xff\0\0\0\0' >>lying
@@ -164,18 +186,35 @@ told() {
   [ "$status" = "$wanted" ] && [[ $(head -n 1 err) == $said ]] && cmp -s "$output" out && echo "ok explain: $name" || echo "not ok explain: $name: status $status, '$(head -n 1 err)'"
 }
 told "a recording on standard input" 0 "" ola.text - <"$top/examples/ola.pcap"
-# The time of day in front of each line is that of the time zone; what follows is the line as it is without.
-for place in UTC0 Asia/Kolkata IST-5:30 NST3:30; do
+# (It is read once, so that what each source did isn't told before what happened; and so is a pipe that has a name.)
+cat ola.each ola.tables >ola.once
+grep -v '"event":"incident"' ola.json >once.json
+told "each universe of standard input" 0 "" ola.once --each - <"$top/examples/ola.pcap"
+told "standard input as JSON" 0 "" once.json --json - <"$top/examples/ola.pcap"
+tells "a pipe" 0 "" ola.text <(cat "$top/examples/ola.pcap")
+tells "each universe of a pipe" 0 "" ola.once --each <(cat "$top/examples/ola.pcap")
+tells "a pipe as JSON" 0 "" once.json --json <(cat "$top/examples/ola.pcap")
+# The time of day in front of each line is that of the time zone; what follows is the line as it is without. A line that says no moment has that of the one before it.
+# of_day ZONE: these lines with the time of day in front
+of_day() {
+  local line at=$ola
   while IFS= read -r line; do
     [[ $line =~ ^\ +([0-9]+)\.([0-9]{3})\ s\  ]] && at=$((ola + 10#${BASH_REMATCH[1]} * 1000 + 10#${BASH_REMATCH[2]}))
-    printf '%s %s\n' "$(TZ=$place date -d "@$((at / 1000)).$(printf %03d $((at % 1000)))" +%H:%M:%S.%3N)" "$line"
-  done <ola.text >clocked
+    printf '%s %s\n' "$(TZ=$1 date -d "@$((at / 1000)).$(printf %03d $((at % 1000)))" +%H:%M:%S.%3N)" "$line"
+  done
+}
+of_day UTC0 <ola.whole >clocked
+TZ=UTC0 tells "the times of day of each universe" 0 "" clocked "$top/examples/ola.pcap" --each --clock
+for place in UTC0 Asia/Kolkata IST-5:30 NST3:30; do
+  of_day $place <ola.text >clocked
   TZ=$place tells "the times of day of $place" 0 "" clocked "$top/examples/ola.pcap" --clock
 done
 TZ=NST3:30 told "the same of standard input" 0 "" clocked --clock - <"$top/examples/ola.pcap"
 # (a pipe that gives the header, and the rest a while later)
-{ head -c 24 "$top/examples/ola.pcap"; sleep 0.5; tail -c +25 "$top/examples/ola.pcap"; } | told "a recording that comes in pieces" 0 "" ola.json --json -
+{ head -c 24 "$top/examples/ola.pcap"; sleep 0.5; tail -c +25 "$top/examples/ola.pcap"; } | told "a recording that comes in pieces" 0 "" once.json --json -
+{ head -c 24 "$top/examples/ola.pcap"; sleep 0.5; tail -c +25 "$top/examples/ola.pcap"; } | told "the same as text" 0 "" ola.text -
 told "one that is none is named" 3 "refused - octet 0 NotACapture" empty - <plain
+told "one that is none, of each universe" 3 "refused - octet 0 NotACapture" empty - --each <plain
 "$sacn" explain "$top/examples/ola.pcap" --setup "$top/examples/node.toml" </dev/null >frames 2>/dev/null
 told "a setup on standard input" 0 "" frames "$top/examples/ola.pcap" --setup - <"$top/examples/node.toml"
 grep -qE '^ +0.000 s  port +1  at the start$' frames && echo "ok explain: and its frames are told" || echo "not ok explain: a setup's frames: $(head -n 1 frames)"
@@ -199,6 +238,7 @@ tells "a universe in words" 2 "error: one: Universe" empty x --universe one
 tells "a setup without a name" 2 "error: *" empty x --setup
 tells "a clock for objects, which have their time" 2 "error: --json: beside --clock" empty x --json --clock
 tells "a clock for a page" 2 "error: --page: beside --clock" empty x --page 8080 --clock
+tells "each universe of a page" 2 "error: --page: beside --each" empty x --page 8080 --each
 
 if ! command -v python3 >/dev/null; then
   echo "skipped explain: a recording with each event: no python3"
@@ -277,13 +317,44 @@ def listings(path):
     for number in range(257):
         r.sent(number, 1, page(number.to_bytes(16, "big"), b"", [1]))
 
-{"events": events, "many": many, "listings": listings}[sys.argv[1]](sys.argv[2])
+def console(r, moment, host, cid, name, number, universes):
+    for universe in universes:
+        r.sent(moment, host, data(cid, name, universe, number, b"\x80"))
+
+def silent(path):
+    r = Recording(path)
+    for turn in range(5):
+        console(r, 1000 * turn, 5, A, b"Main FOH", turn, range(1, 31))
+    r.sent(20000, 9, b"z", port=53)
+
+def pair(path):
+    r = Recording(path)
+    for turn in range(3):
+        console(r, 1000 * turn, 5, A, b"Main FOH", turn, range(1, 9))
+        console(r, 1000 * turn + 500, 6, B, b"Backup", turn, [2, 3, 4, 7])
+    r.sent(2600, 5, data(A, b"Main FOH", 1, 3, options=0x40))
+    r.sent(2700, 9, b"z", port=53)
+
+{"events": events, "many": many, "listings": listings, "silent": silent, "pair": pair}[sys.argv[1]](sys.argv[2])
 P
-for name in events many listings; do python3 recordings.py "$name" "$name.pcap" || exit 1; done
+for name in events many listings silent pair; do python3 recordings.py "$name" "$name.pcap" || exit 1; done
 
 A=aaaaaaaaaaaaaaaaaaaaaaaaaaaaaaaa
 B=bbbbbbbbbbbbbbbbbbbbbbbbbbbbbbbb
-cat >events.text <<E
+# What each source did: from where and at which priority it sent when it came, and its name a second later. Spare begins on universe 2 350 ms after it
+# began on universe 1, and is lost there 50 ms later.
+cat >events.incidents <<E
+     0.000 s  "Main" aaaa..aa appears on 1 at 10.0.0.1:5000, priority 100
+     0.600 s  "Spare" bbbb..bb appears on 1-2 at 10.0.0.3:5000, priorities 100-120 (2 times, the latest at 0.950 s)
+     0.600 s  "Main" aaaa..aa and "Spare" bbbb..bb both send on 1 at priority 120
+     0.800 s  "Spare" bbbb..bb ends its stream on 1
+     0.900 s  "Spare" bbbb..bb is back on 1 at 10.0.0.3:5000, priority 121
+     3.000 s  "Main" aaaa..aa lost on 1
+     3.000 s  "Main" aaaa..aa is back on 1 at 10.0.0.2:5000, priority 120
+     3.400 s  "Spare" bbbb..bb lost on 1-2 (2 times, the latest at 3.450 s)
+     5.500 s  "Main" aaaa..aa lost on 1
+E
+cat >events.each <<E
      0.000 s  universe     1  $A "Desk"  appears at 10.0.0.1:5000, priority 100
      0.100 s  universe     1  $A "Desk"  skipped 4 numbers
      0.110 s  universe     1  $A "Desk"  a packet out of sequence, discarded
@@ -307,6 +378,8 @@ cat >events.text <<E
      3.400 s  universe     1  $B "Spare"  is lost: silent since 0.900 s
      3.450 s  universe     2  $B "Spare"  is lost: silent since 0.950 s
      5.500 s  universe     1  $A "Main"  is lost: silent since 3.000 s
+E
+cat >events.tables <<E
 
 universe state    priority      first       last     taken   preview     other   skipped      late  repeated   gap ms  source
        1 lost          120      0.000      3.000         7         0         0         4         1         1     2500  $A "Main" at 10.0.0.2:5000
@@ -333,10 +406,26 @@ datagrams to other ports       2
 frames without a datagram      1
 frames with an earlier moment  1
 E
+cat events.incidents events.tables >events.text
+{ cat events.incidents; echo; cat events.each events.tables; } >events.whole
 tells "a recording with each event" 0 "" events.text events.pcap
+tells "each of its universes" 0 "" events.whole events.pcap --each
+grep -vE '^ +1 ' events.tables >second.tables
+printf '%s\n' '     0.950 s  "Spare" bbbb..bb appears on 2 at 10.0.0.3:5000, priority 100' '     3.450 s  "Spare" bbbb..bb lost on 2' >second.incidents
+tells "one of its universes" 0 "" <(cat second.incidents second.tables) events.pcap --universe 2
+tells "each thing on one of its universes" 0 "" <(cat second.incidents; echo; grep -v '  universe     1  ' events.each; cat second.tables) events.pcap --universe 2 --each
 
 # The same as JSON: the kinds of lines that no other recording here has.
 timed 1000000 >events.json <<E
+{"ms":0,"event":"incident","act":"appeared","cid":"$A","name":"Main","universes":[1],"first":0,"latest":0,"times":1}
+{"ms":600,"event":"incident","act":"appeared","cid":"$B","name":"Spare","universes":[1,2],"first":600,"latest":950,"times":2}
+{"ms":600,"event":"incident","act":"rivals","cid":"$A","name":"Main","universes":[1],"first":600,"latest":600,"times":1,"rival":"$B","rival_name":"Spare","priority":120,"sources":2}
+{"ms":800,"event":"incident","act":"ended","cid":"$B","name":"Spare","universes":[1],"first":800,"latest":800,"times":1}
+{"ms":900,"event":"incident","act":"back","cid":"$B","name":"Spare","universes":[1],"first":900,"latest":900,"times":1}
+{"ms":3000,"event":"incident","act":"lost","cid":"$A","name":"Main","universes":[1],"first":3000,"latest":3000,"times":1}
+{"ms":3000,"event":"incident","act":"back","cid":"$A","name":"Main","universes":[1],"first":3000,"latest":3000,"times":1}
+{"ms":3400,"event":"incident","act":"lost","cid":"$B","name":"Spare","universes":[1,2],"first":3400,"latest":3450,"times":2}
+{"ms":5500,"event":"incident","act":"lost","cid":"$A","name":"Main","universes":[1],"first":5500,"latest":5500,"times":1}
 {"ms":600,"event":"rivals","universe":1,"sources":2,"priority":120}
 {"ms":800,"event":"no_rivals","universe":1,"sources":1,"priority":120}
 {"ms":1000,"event":"lists","cid":"$B","name":"Spare","universes":[1,3,4,5]}
@@ -345,12 +434,49 @@ timed 1000000 >events.json <<E
 {"row":"list","cid":"$B","name":"Spare","universes":[1,7],"silent":[7],"unlisted":[2]}
 {"row":"refused","fault":1,"name":"TooShort","count":1}
 E
-"$sacn" explain events.pcap --json </dev/null 2>err | grep -E '"(rivals|no_rivals|lists|relists|list|refused)"[,}]' >out
+"$sacn" explain events.pcap --json </dev/null 2>err | grep -E '"(incident|rivals|no_rivals|lists|relists|list|refused)"[,}]' >out
 if cmp -s events.json out; then
   echo "ok explain: the same as JSON"
 else
   echo "not ok explain: the same as JSON: $(diff events.json out | head -n 3 | tr '\n' '|')"
 fi
+
+# A console of 30 universes sends on all of them each second, and falls silent after its fifth turn, at 4 s: so it is lost at 6.5 s. That is one line, as its beginning is.
+cat >silent.lines <<'E'
+     0.000 s  "Main FOH" aaaa..aa appears on 1-30 at 10.0.0.5:5000, priority 100
+     6.500 s  "Main FOH" aaaa..aa lost on 1-30
+E
+# begins NAME WANTED WORD..: a run of explain prints these lines before its first empty one
+begins() {
+  local name=$1 wanted=$2
+  shift 2
+  "$sacn" explain "$@" </dev/null 2>err | sed '/^$/,$d' >out
+  cmp -s "$wanted" out && echo "ok explain: $name" || echo "not ok explain: $name: $(diff "$wanted" out | head -n 3 | tr '\n' '|')"
+}
+begins "a console that falls silent" silent.lines silent.pcap
+begins "the same beside each universe" silent.lines silent.pcap --each
+begins "the same beside a node's frames" silent.lines silent.pcap --setup "$top/examples/node.toml"
+sed 's/1-30/3-5, 9/' silent.lines >some.lines
+begins "the same of some universes" some.lines silent.pcap --universe 3-5 --universe 9
+[ "$("$sacn" explain silent.pcap --each </dev/null | grep -c '  is lost: ')" = 30 ] && echo "ok explain: and each universe has its line" || echo "not ok explain: and each universe has its line"
+# (Cut behind its second turn: a packet of one slot has 127 octets, its frame 42 more, its record 16 more, and the file's header 24. The console isn't lost by then.)
+at=$((24 + 60 * (16 + 42 + 127)))
+head -c $((at + 1)) silent.pcap >silent-cut.pcap
+sed 1q silent.lines >cut.lines
+begins "the same where it is cut" cut.lines silent-cut.pcap
+[ "$(cat err)" = "refused silent-cut.pcap octet $at CutShort" ] && echo "ok explain: and the fault is told once" || echo "not ok explain: and the fault is told once: $(head -n 2 err | tr '\n' '|')"
+begins "the same where it is cut, beside each universe" cut.lines silent-cut.pcap --each
+[ "$(cat err)" = "refused silent-cut.pcap octet $at CutShort" ] && echo "ok explain: and there the fault is told once" || echo "not ok explain: and there the fault is told once: $(head -n 2 err | tr '\n' '|')"
+# Two consoles at one priority: the second one begins on four of the first one's eight universes, half a second after it.
+cat >pair.lines <<'E'
+     0.000 s  "Main FOH" aaaa..aa appears on 1-8 at 10.0.0.5:5000, priority 100
+     0.500 s  "Backup" bbbb..bb appears on 2-4, 7 at 10.0.0.6:5000, priority 100
+     0.500 s  "Main FOH" aaaa..aa and "Backup" bbbb..bb both send on 2-4, 7 at priority 100
+     2.600 s  "Main FOH" aaaa..aa ends its stream on 1
+E
+begins "two sources that meet" pair.lines pair.pcap
+sed '$d; s/1-8/7/; s/2-4, 7/7/' pair.lines >seventh.lines
+begins "two that meet on one universe" seventh.lines pair.pcap --universe 7
 
 # frame PORT MOMENT DIGITS: the line of a frame as a node prints it, the start code and slots of these digits, and 0 in the rest
 frame() { printf '%s %s 00%s%0*d\n' "$1" "$2" "$3" $((1024 - ${#3})) 0; }
@@ -374,9 +500,9 @@ printf 'version = 1\n[[port]]\nnumber = 1\nuniverse = 1\n[[port]]\nnumber = 2\nu
   frame 1 800 81
   echo "     0.900 s  port         1  by a packet on universe 1 of $B \"Spare\""
   frame 1 900 40
-  echo "     3.400 s  port         1  by the loss of a source"
+  echo "     3.400 s  port         1  by the loss of $B \"Spare\""
   frame 1 3400 81
-  echo "     5.500 s  port         1  by the loss of a source"
+  echo "     5.500 s  port         1  by the loss of $A \"Main\""
   frame 1 5500 ""
 } >frames.text
 "$sacn" explain events.pcap --setup node.toml </dev/null 2>err | grep -E '^[0-9]+ [0-9]+ [0-9a-f]{1026}$|  port ' >out
@@ -394,8 +520,8 @@ fi
   echo "{\"ms\":700,\"event\":\"frame\",\"port\":1,\"cause\":\"packet\",\"universe\":1,\"cid\":\"$B\",\"name\":\"Spare\",\"slots\":\"$(slots f040)\"}"
   echo "{\"ms\":800,\"event\":\"frame\",\"port\":1,\"cause\":\"ended\",\"universe\":1,\"cid\":\"$B\",\"name\":\"Spare\",\"slots\":\"$(slots 81)\"}"
   echo "{\"ms\":900,\"event\":\"frame\",\"port\":1,\"cause\":\"packet\",\"universe\":1,\"cid\":\"$B\",\"name\":\"Spare\",\"slots\":\"$(slots 40)\"}"
-  echo "{\"ms\":3400,\"event\":\"frame\",\"port\":1,\"cause\":\"lost\",\"slots\":\"$(slots 81)\"}"
-  echo "{\"ms\":5500,\"event\":\"frame\",\"port\":1,\"cause\":\"lost\",\"slots\":\"$(slots "")\"}"
+  echo "{\"ms\":3400,\"event\":\"frame\",\"port\":1,\"cause\":\"lost\",\"cid\":\"$B\",\"name\":\"Spare\",\"slots\":\"$(slots 81)\"}"
+  echo "{\"ms\":5500,\"event\":\"frame\",\"port\":1,\"cause\":\"lost\",\"cid\":\"$A\",\"name\":\"Main\",\"slots\":\"$(slots "")\"}"
 } | timed 1000000 >frames.json
 "$sacn" explain events.pcap --setup node.toml --json </dev/null 2>err | grep '"event":"frame"' >out
 if cmp -s frames.json out; then

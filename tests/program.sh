@@ -129,6 +129,7 @@ small /dev/null watch --port "$((port + 1))" --seconds 1
   printf 'GET /state HTTP/1.1\r\nHost: 127.0.0.1:%s\r\n\r\n' "$((port + 2))" >&3 && head -c 15 <&3 >"$room/asked") &
 small /dev/null watch --port "$((port + 1))" --seconds 2 --page "$((port + 2))"
 if [ "$(cat "$room/asked")" = "HTTP/1.1 200 OK" ]; then echo "ok program: a small stack: a page is answered"; else echo "not ok program: a small stack: a page: $(cat "$room/asked")"; fi
+small /dev/null explain "$examples/ola.pcap"
 small /dev/null explain "$examples/ola.pcap" --setup "$room/node.toml" --json
 small /dev/null explain "$examples/ola.pcap" --page "$((port + 2))" --seconds 1
 small /dev/null check "$room/show.toml" "$room/node.toml" "$examples/world.toml"
@@ -155,6 +156,7 @@ unread() {
     echo "not ok program: a pipe that nobody reads: $*: status $status, $(head -n 1 "$room/err")"
 }
 unread 0 "" explain "$examples/ola.pcap"
+unread 0 "" explain "$examples/ola.pcap" --each
 unread 0 "" explain "$examples/ola.pcap" --json --setup "$examples/node.toml"
 unread 0 "" check "$examples/show.toml" "$examples/node.toml"
 unread 0 "hears 127.0.0.1:$((port + 1))" watch --listen 127.0.0.1 --port "$((port + 1))" --seconds 1

@@ -74,6 +74,17 @@ TOLD = {
     (2, "D"): dict(state="sending", priority=95, live=21, preview=0, terminated=0, other=0, skipped=0, late=0, repeated=0),
     (63999, "E"): dict(state="sending", priority=100, live=0, preview=10, terminated=0, other=11, skipped=0, late=0, repeated=0),
 }
+# What `explain` tells of that before all else: who did what on which universes, and when.
+INCIDENTS = [
+    dict(act="appeared", source="B", universes=[1], ms=0),
+    dict(act="appeared", source="A", universes=[1], ms=0),
+    dict(act="rivals", source="B", universes=[1], ms=0, rival="A", priority=100, sources=2),
+    dict(act="appeared", source="D", universes=[2], ms=0),
+    dict(act="appeared", source="C", universes=[2], ms=0),
+    dict(act="appeared", source="E", universes=[63999], ms=0),
+    dict(act="ended", source="C", universes=[2], ms=2000),
+    dict(act="lost", source="B", universes=[1], ms=3500),
+]
 # At some moments the levels of each universe, and who gives each.
 LIT = {
     500: {1: ([10, 200, 60, 0, 50], "AAB-A"), 2: ([250], "C"), 63999: ([], "")},
@@ -193,6 +204,25 @@ def events_of(lines):
     return found
 
 
+def incidents_of(lines):
+    """What each source did, as INCIDENTS has it; each was once, at one moment. What isn't so stands as it was told."""
+    found = []
+    for line in lines:
+        row = row_of(line)
+        is_named = line["name"] == NAMES.get(row["source"]) and line.get("rival_name") == NAMES.get(row.get("rival"))
+        found.append(row if is_named and line["first"] == line["latest"] == line["ms"] and line["times"] == 1 else line)
+    return found
+
+
+def row_of(line):
+    """What an incident's object tells, with a letter for each CID."""
+    letters = {CIDS[it].hex(): it for it in CIDS}
+    row = dict(act=line["act"], source=letters.get(line["cid"]), universes=line["universes"], ms=line["ms"])
+    if "rival" in line:
+        row |= dict(rival=letters.get(line["rival"]), priority=line["priority"], sources=line["sources"])
+    return row
+
+
 def hear(sent):
     """What a watch's lines, its page and a gateway's page tell of what is sent in its own time, and that gateway's frames; None where this machine came to a stand meanwhile, which both would tell."""
     runs = [start("lines", "watch", "--json", "--listen", "127.0.0.1", "--port", str(LINES))]
@@ -233,6 +263,10 @@ def main():
         verdict("a recording's page is served", served(PAGE) is not None)
         explained = subprocess.run([SACN, "explain", "--json", file], capture_output=True, encoding="utf-8", check=False)
         lines = [json.loads(line) for line in explained.stdout.splitlines()]
+        incidents = [it for it in lines if it.get("event") == "incident"]
+        is_first = lines[: len(incidents)] == incidents
+        verdict("explain tells first what each source did", is_first and incidents_of(incidents) == INCIDENTS, incidents)
+        lines = [it for it in lines if it not in incidents]
         for name, all_rows in (("explain", lines), ("a watch's lines", heard)):
             rows = [it for it in all_rows if it.get("row") == "source"]
             told(name, rows, sum(it["refused"] for it in all_rows if it.get("row") == "counts"))

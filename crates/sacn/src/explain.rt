@@ -5,14 +5,15 @@ use sacn_capture::{CaptureFault, FaultKind};
 use sacn_clock::{Ahead, Recorded, Stamped, Timing};
 use sacn_commands::ending::{DEVICE_FAILED, Ending, REFUSED, of_write};
 use sacn_commands::live::setup_of_word;
+use sacn_digest::{Parts, tell_digest};
 use sacn_files::limits::DEFAULT_UDP_PORT;
 use sacn_node::NodeSetup;
 use sacn_tell::{ExplainFault, Form, Options, explain};
 use sacn_words::{ExplainAsked, STANDARD_INPUT};
 use std::alloc::Global;
 use std::env::Env;
-use std::fs;
-use std::io::{BufRead, BufReader, BufWriter, ErrorKind, Read, Write};
+use std::fs::{self, OpenFile};
+use std::io::{BufRead, BufReader, BufWriter, ErrorKind, Read, Seek, SeekFrom, Write};
 use std::net::Net;
 use std::rt::{Clock, Files};
 
@@ -65,6 +66,14 @@ pub fn tell<R: AllocGlobal + Files + Env + Net + Clock, I: Read + Drop, O: Write
     }
 }
 
+// What is told of a recording: None is each thing that happened, and then the tables.
+fn parts_of(asked: &ExplainAsked<'_>, setup: Option<&NodeSetup>) -> Option<Parts> {
+    if asked.has_each | asked.is_json | setup.is_some() {
+        return None;
+    }
+    Some(Parts::All)
+}
+
 // Tells a recording in a file, or on standard input.
 fn tell_word<R: AllocGlobal + Files, I: Read + Drop, O: Write, E: Write>(
     rt: &R,
@@ -74,19 +83,35 @@ fn tell_word<R: AllocGlobal + Files, I: Read + Drop, O: Write, E: Write>(
     out: &mut O,
     err: &mut E,
 ) -> Result<(), Ending> {
+    let parts = parts_of(asked, setup);
     if asked.capture == STANDARD_INPUT {
-        return tell_input(rt.alloc(), asked, (setup, timing), input, out, err);
+        return tell_input(rt.alloc(), asked, (setup, timing, parts), input, out, err);
     }
-    let Ok(file) = fs::open(rt, asked.capture) else {
+    let Ok(mut file) = fs::open(rt, asked.capture) else {
         return Err(say_unread(asked.capture, err));
     };
-    tell_input(rt.alloc(), asked, (setup, timing), file, out, err)
+    if parts.is_none() {
+        if let Some(front) = front_of::<R>(&mut file) {
+            let incidents = (setup, timing, Some(Parts::Incidents));
+            tell_input(rt.alloc(), asked, incidents, front, out, err)?;
+            if file.seek(SeekFrom::Start(0)).is_err() {
+                return Err(say_unread(asked.capture, err));
+            }
+        }
+    }
+    tell_input(rt.alloc(), asked, (setup, timing, parts), file, out, err)
+}
+
+// A file to be read before it is read again; None where it can't be, as a pipe.
+fn front_of<R: Files>(file: &mut R::File) -> Option<R::File> {
+    file.seek(SeekFrom::Start(0)).ok()?;
+    file.try_clone().ok()
 }
 
 fn tell_input<I: Read + Drop, O: Write, E: Write>(
     alloc: Global,
     asked: &ExplainAsked<'_>,
-    (setup, timing): (Option<&NodeSetup>, Timing<'_>),
+    (setup, timing, parts): (Option<&NodeSetup>, Timing<'_>, Option<Parts>),
     input: I,
     out: &mut O,
     err: &mut E,
@@ -96,7 +121,15 @@ fn tell_input<I: Read + Drop, O: Write, E: Write>(
     let Ok(reader) = BufReader::with_capacity(alloc, ROOM, ahead) else {
         return Err(Ending::OutOfMemory);
     };
-    tell_to_lines(alloc, reader, asked, setup, (timing, moments), out, err)
+    let told = tell_to_lines(alloc, reader, asked, (setup, parts), (timing, moments), out)?;
+    match (told, parts) {
+        (Ok(()), _) => Ok(()),
+        (Err(ExplainFault::OutOfMemory), _) => Err(Ending::OutOfMemory),
+        (Err(ExplainFault::Device), _) => Err(Ending::DeviceWrite),
+        // (where it is told again the fault is met again)
+        (Err(ExplainFault::Capture(_)), Some(Parts::Incidents)) => Ok(()),
+        (Err(ExplainFault::Capture(fault)), _) => Err(say_capture_fault(asked.capture, fault, err)),
+    }
 }
 
 // The moments of a recording's lines, where they are wanted. (Where its input fails, that is met again where it is told.)
@@ -112,34 +145,28 @@ fn moments_of<I: Read>(ahead: &mut Ahead<I>, timing: Timing<'_>) -> Result<Recor
 }
 
 // Tells what a reader gives; the lines, with their times, are written in pieces.
-fn tell_to_lines<I: BufRead + Drop, O: Write, E: Write>(
+fn tell_to_lines<I: BufRead + Drop, O: Write>(
     alloc: Global,
     reader: I,
     asked: &ExplainAsked<'_>,
-    setup: Option<&NodeSetup>,
+    (setup, parts): (Option<&NodeSetup>, Option<Parts>),
     (timing, moments): (Timing<'_>, Recorded),
     out: &mut O,
-    err: &mut E,
-) -> Result<(), Ending> {
+) -> Result<Result<(), ExplainFault>, Ending> {
     let Ok(lines) = BufWriter::new(alloc, &mut *out) else {
         return Err(Ending::OutOfMemory);
     };
     let mut lines = Stamped::new(lines, moments, timing);
-    let told = tell_reader(alloc, reader, asked, setup, &mut lines);
+    let told = tell_reader(alloc, reader, asked, (setup, parts), &mut lines);
     of_write(lines.flush())?;
-    match told {
-        Ok(()) => Ok(()),
-        Err(ExplainFault::OutOfMemory) => Err(Ending::OutOfMemory),
-        Err(ExplainFault::Device) => Err(Ending::DeviceWrite),
-        Err(ExplainFault::Capture(fault)) => Err(say_capture_fault(asked.capture, fault, err)),
-    }
+    Ok(told)
 }
 
 fn tell_reader<I: BufRead + Drop, O: Write>(
     alloc: Global,
     reader: I,
     asked: &ExplainAsked<'_>,
-    setup: Option<&NodeSetup>,
+    (setup, parts): (Option<&NodeSetup>, Option<Parts>),
     out: &mut O,
 ) -> Result<(), ExplainFault> {
     let options = Options {
@@ -147,8 +174,13 @@ fn tell_reader<I: BufRead + Drop, O: Write>(
         universes: asked.universes.as_slice(),
         form: form_of(asked.is_json),
     };
-    explain(alloc, reader, &options, setup, out)?;
-    Ok(())
+    match parts {
+        Some(parts) => tell_digest(alloc, reader, &options, parts, out),
+        None => {
+            explain(alloc, reader, &options, setup, out)?;
+            Ok(())
+        }
+    }
 }
 
 // The port that is asked for, that of the setup, or that of streaming ACN.

@@ -1,5 +1,5 @@
 -- Deeds gathered into incidents. The incidents that are open stand in the order in which they began.
-use Rattle.std.specs.Prelude.{ℕ, ◌-◌, nat_lt, nat_le, max, Bool, true, false, not, ◌&&◌, List, [], ◌∷◌, length, set, drop, slice_get, replicate, Option, None, Some, if◌then◌else◌}
+use Rattle.std.specs.Prelude.{ℕ, ◌-◌, ◌+◌, ◌^◌, nat_lt, nat_le, max, min, Bool, true, false, not, ◌&&◌, List, [], ◌∷◌, length, set, drop, slice_get, replicate, Option, None, Some, if◌then◌else◌}
 use Rattle.std.specs.Str.{bytes_eq}
 use Rattle.std.specs.List.{list_any}
 use Rattle.sacn_monitor.specs.Kinds.{more}
@@ -59,6 +59,11 @@ has_passed now i = nat_lt SPAN (now - i.first)
 abbrev pub given_by_pass : ℕ → List Incident → Option Incident
 given_by_pass now [] = None
 given_by_pass now (i ∷ is) = if has_passed now i then Some i else None
+
+-- the first moment at which that is so; the last moment of all where none is open
+abbrev pub next_pass : List Incident → ℕ
+next_pass [] = 2 ^ 64 - 1
+next_pass (i ∷ is) = min (i.first + (SPAN + 1)) (2 ^ 64 - 1)
 
 abbrev pub after_pass : ℕ → List Incident → List Incident
 after_pass now [] = []

@@ -2,11 +2,11 @@
 
 ghost use Rattle.std.specs.Prelude.{◌≡◌, [], IfOk, drop, false, slice_get};
 ghost use Rattle.std.specs.List.{list_any, position};
-ghost use Rattle.sacn_incidents.specs.Gathering.{after_pass, after_take, given_for, given_by_pass, left_for, lacks_room, takes, with_deed};
+ghost use Rattle.sacn_incidents.specs.Gathering.{after_pass, after_take, given_for, given_by_pass, left_for, lacks_room, next_pass, takes, with_deed};
 
 use crate::deed::Deed;
 use crate::incident::Incident;
-use crate::limits::MAX_OPEN;
+use crate::limits::{MAX_OPEN, SPAN};
 use std::alloc::{AllocError, Global};
 use std::marker::Model;
 
@@ -61,6 +61,16 @@ impl Incidents {
         match self.open.first() {
             Some(oldest) if oldest.has_passed(now) => self.finish(),
             _ => None,
+        }
+    }
+
+    /// The first moment at which the oldest incident has passed; 2^64 - 1 where none is open.
+    pub fn next_pass(&self) -> u64
+        ensures { result ≡ next_pass self.now }
+    {
+        match self.open.first() {
+            Some(oldest) => oldest.first.saturating_add(SPAN + 1),
+            None => u64::MAX,
         }
     }
 
