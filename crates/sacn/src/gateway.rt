@@ -1,7 +1,6 @@
 //! A gateway, and a page or a screen of what it hears.
 use crate::frames::{Unprinted, lines_of, run_printing};
 use crate::keys::ScreenKeys;
-use crate::page::say_page;
 use crate::screen::{hands_keys, screen_of, size_file};
 use crate::source_lines::{Spoken, endpoint_of};
 use crate::timed::{TimedOutlet, TimedOutputs, timing_of, zone_of};
@@ -9,6 +8,7 @@ use crate::watch::watch_end;
 use sacn_commands::ending::Ending;
 use sacn_commands::gateway::{address_of, diagnosis_of, receiver_of, run_setups, setups_of};
 use sacn_commands::live::{clock_of, joined_groups, of_socket, universes_of_setups};
+use sacn_commands::paging::say_page;
 use sacn_gateway::limits::TURN_SPAN;
 use sacn_gateway::{Notes, PassedOver};
 use sacn_machine::limits::MAX_BURST;

@@ -2,6 +2,7 @@
 use crate::watch::{Place, receiver_at, watch_end};
 use sacn_commands::ending::Ending;
 use sacn_commands::live::{joined_groups, of_socket, say_hearing};
+use sacn_commands::paging::say_page;
 use sacn_machine::{Lines, Outputs};
 use sacn_page::{Board, MAX_ALARMS, Pages};
 use sacn_watch::{RunningListener, run_watch};
@@ -9,12 +10,6 @@ use std::env::Env;
 use std::io::Write;
 use std::net::{Net, SocketAddrV4};
 use std::rt::Clock;
-
-/// Says where a page is served.
-pub fn say_page<E: Write>(place: SocketAddrV4, err: &mut E) {
-    let [a, b, c, d] = place.ip().octets();
-    let _ = writeln!(err, "page http://{a}.{b}.{c}.{d}:{}/", place.port());
-}
 
 /// Hears at a place until a moment in milliseconds, and serves a page of it. A viewer that names no universe is shown this
 /// one, else the first heard.

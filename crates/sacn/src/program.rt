@@ -3,9 +3,9 @@ use crate::piped::Piped;
 use crate::room::ask_for_room;
 use crate::{check, explain, gateway, manual, watch};
 use sacn_commands::ending::{DONE, Ending, tell_ending, tell_words};
-use sacn_commands::live;
 use sacn_commands::network::{console_of_files, node_of_file};
 use sacn_commands::printing::{decode_files, decode_input, simulate};
+use sacn_commands::{groups, live};
 use sacn_words::{Asked, parse};
 use std::env::Env;
 use std::io::{Read, Write};
@@ -71,7 +71,7 @@ fn run_beside<R: AllocGlobal + Files + Env + Net + Clock, I: Read + Drop, O: Wri
         Asked::Node { setup, turns } => node_of_file(rt, setup, *turns, input, out, err),
         Asked::Gateway(asked) => gateway::gateway(rt, asked, input),
         Asked::Desk(asked) => live::desk(rt, asked),
-        Asked::Groups { file, device } => live::groups(rt, (*file, *device), input, out, err),
+        Asked::Groups { file, device } => groups::groups(rt, (*file, *device), input, out, err),
         Asked::Manual(syntax) => manual::print(rt.alloc(), *syntax, out),
         Asked::Watch(asked) => watch::watch(rt, asked, out, err),
         Asked::Explain(asked) => {

@@ -1,9 +1,9 @@
 //! A recording that browsers see.
 use crate::explain::{ROOM, say_capture_fault, say_unread};
-use crate::page::say_page;
 use crate::watch::watch_end;
 use sacn_commands::ending::{Ending, REFUSED};
 use sacn_commands::live::{clock_of, of_socket};
+use sacn_commands::paging::say_page;
 use sacn_files::limits::DEFAULT_UDP_PORT;
 use sacn_machine::guard_standard_descriptors;
 use sacn_page::{Pages, Quiet, Recording, SeekFault, Tape};

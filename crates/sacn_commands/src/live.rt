@@ -1,24 +1,25 @@
 //! Desks that run a rig, and what commands say of files and sockets.
-use crate::ending::{DEVICE_FAILED, Ending, of_write};
+use crate::ending::{DEVICE_FAILED, Ending};
 use crate::files::{text_of_file, text_of_word};
 use crate::hosts::{destinations_of, say_unsent};
 use crate::naming::of_file;
 use crate::network::tell;
+use crate::paging::{postbox_of, say_page, served_of};
 use crate::places::ReadFile;
 use crate::prompting::{errors_beside, output_with, prompt_of};
-use sacn_check::{FileKind, kind_of};
+use sacn_check::FileKind;
 use sacn_console::limits::CONSOLE_UNIVERSES;
 use sacn_console::{Command, ConsoleCore, Show, read_script, read_show};
 use sacn_desk::limits::MAX_ROUNDS;
 use sacn_desk::{
-    DISCOVERY_UNIVERSE, DeskLink, DeskOrders, DeskSender, Destinations, Opening, Origin, Plan,
-    Standby, run_desk, write_start,
+    DeskLink, DeskOrders, DeskSender, Destinations, Opening, Origin, Plan, PostedWriter, Standby,
+    run_desk, write_start,
 };
+use sacn_desk_page::{PagedOrders, ServedDesk};
 use sacn_edge::{Clock as DeskClock, ConsoleReport};
 use sacn_machine::limits::RECEIVE_ROOM;
 use sacn_machine::{Lines, Outputs, RigClock, Sockets, guard_standard_descriptors};
 use sacn_node::{NodeSetup, SetupFault, read_node};
-use sacn_packets::multicast_group;
 use sacn_words::DeskAsked;
 use std::alloc::Global;
 use std::env::{self, Env};
@@ -141,21 +142,13 @@ pub fn joined_groups<R: AllocGlobal + Env>(rt: &R) -> Option<String> {
     }
 }
 
-fn push_universes(universes: &mut Vec<u16>, setup: &NodeSetup) -> Result<(), Ending> {
+pub(crate) fn push_universes(universes: &mut Vec<u16>, setup: &NodeSetup) -> Result<(), Ending> {
     for port in setup.ports() {
         for range in port.ranges() {
             universes.push(range.universe)?;
         }
     }
     Ok(())
-}
-
-fn universes_of_setup<R: AllocGlobal>(rt: &R, setup: &NodeSetup) -> Result<Vec<u16>, Ending> {
-    let mut universes = Vec::new(rt.alloc());
-    push_universes(&mut universes, setup)?;
-    universes.sort()?;
-    universes.dedup();
-    Ok(universes)
 }
 
 /// The universes of setups, ascending.
@@ -227,6 +220,7 @@ fn perform<'a, R: AllocGlobal + Env + Net + Clock>(
     outputs: &'a Outputs,
 ) -> Result<(), Ending> {
     let prompt = prompt_of(rt);
+    let served = served_of(rt, asked, show, &mut outputs.err())?;
     let plan = Plan {
         show,
         script,
@@ -234,10 +228,22 @@ fn perform<'a, R: AllocGlobal + Env + Net + Clock>(
         is_standby: asked.is_standby,
         outputs: Some(outputs),
         prompt: prompt.as_ref(),
+        posted: postbox_of(served.as_ref()),
     };
-    let destinations = destinations_of(rt, asked, show, &mut outputs.err())?;
-    let mut core = ConsoleCore::new(rt.alloc(), show, asked.first)?;
-    let sent = send_show(rt, asked, plan, destinations, &mut core, outputs)?;
+    play(rt, asked, plan, outputs, served.as_ref())
+}
+
+// Plays by this plan, and tells what came of it.
+fn play<'a, R: AllocGlobal + Env + Net + Clock>(
+    rt: &R,
+    asked: &DeskAsked<'_>,
+    plan: Plan<'a>,
+    outputs: &'a Outputs,
+    served: Option<&ServedDesk>,
+) -> Result<(), Ending> {
+    let destinations = destinations_of(rt, asked, plan.show, &mut outputs.err())?;
+    let mut core = ConsoleCore::new(rt.alloc(), plan.show, asked.first)?;
+    let sent = send_show(rt, asked, plan, destinations, &mut core, outputs, served)?;
     let mut out = output_with(outputs, plan.prompt);
     tell(&sent.report, &mut out)?;
     tell_unsent(&sent, &mut outputs.err())
@@ -280,6 +286,7 @@ fn send_show<'a, R: AllocGlobal + Net + Clock>(
     destinations: Destinations,
     core: &mut ConsoleCore,
     outputs: &'a Outputs,
+    served: Option<&ServedDesk>,
 ) -> Result<Sent, Ending> {
     let clock = clock_of(rt)?;
     let origin = origin_of(asked, plan.show);
@@ -287,6 +294,9 @@ fn send_show<'a, R: AllocGlobal + Net + Clock>(
     let mut err = outputs.err();
     let _ = write_start(&mut err, alloc, plan.show, &destinations, plan.is_standby);
     say_unsent(rt, asked, &destinations, plan.show.universes(), &mut err)?;
+    if let Some(page) = asked.page {
+        say_page(page.place, &mut err);
+    }
     let notices = errors_beside(outputs, plan.prompt);
     let sender = match DeskSender::bind(rt, alloc, origin, destinations, clock.twin(), notices) {
         Ok(sender) => sender,
@@ -296,11 +306,11 @@ fn send_show<'a, R: AllocGlobal + Net + Clock>(
         }
     };
     let link = Opening::over(alloc, sender)?;
-    let mut out = output_with(outputs, plan.prompt);
+    let mut out = PostedWriter::new(output_with(outputs, plan.prompt), plan.posted);
     if plan.is_standby {
-        run_standby(alloc, plan, clock, link, core, &mut out)
+        run_standby(alloc, plan, clock, link, core, &mut out, served)
     } else {
-        run_opened(alloc, plan, clock, link, core, &mut out)
+        run_opened(alloc, plan, clock, link, core, &mut out, served)
     }
 }
 
@@ -312,9 +322,10 @@ fn run_opened<R: Clock, S: Sockets + Drop, C: DeskClock + Drop, E: Write + Drop,
     link: Opening<DeskSender<S, C, E>>,
     core: &mut ConsoleCore,
     out: &mut O,
+    served: Option<&ServedDesk>,
 ) -> Result<Sent, Ending> {
     let mut link = link;
-    let report = run_orders(alloc, plan, clock, &mut link, core, out)?;
+    let report = run_orders(alloc, plan, clock, &mut link, core, out, served)?;
     Ok(Sent {
         report,
         has_sent: link.link().has_sent(),
@@ -329,9 +340,10 @@ fn run_standby<R: Clock, S: Sockets + Drop, C: DeskClock + Drop, E: Write + Drop
     link: Opening<DeskSender<S, C, E>>,
     core: &mut ConsoleCore,
     out: &mut O,
+    served: Option<&ServedDesk>,
 ) -> Result<Sent, Ending> {
     let mut link = Standby::over(alloc, link)?;
-    let report = run_orders(alloc, plan, clock, &mut link, core, out)?;
+    let report = run_orders(alloc, plan, clock, &mut link, core, out, served)?;
     Ok(Sent {
         report: ConsoleReport {
             sent: report.sent.saturating_sub(link.kept()),
@@ -349,47 +361,18 @@ fn run_orders<R: Clock, L: DeskLink, O: Write>(
     link: &mut L,
     core: &mut ConsoleCore,
     out: &mut O,
+    served: Option<&ServedDesk>,
 ) -> Result<ConsoleReport, Ending> {
     let mut orders = DeskOrders::new(alloc, plan, clock.twin(), out)?;
-    let report = run_desk(link, &mut clock, &mut orders, core, MAX_ROUNDS);
+    let report = match served {
+        Some(served) => {
+            let mut paged = PagedOrders::new(&mut orders, served);
+            run_desk(link, &mut clock, &mut paged, core, MAX_ROUNDS)
+        }
+        None => run_desk(link, &mut clock, &mut orders, core, MAX_ROUNDS),
+    };
     if orders.write_failed() {
         return Err(Ending::DeviceWrite);
     }
     Ok(report)
-}
-
-// The universes of a setup or of a show.
-fn universes_of_word<R: AllocGlobal + Files, I: Read + Drop>(
-    rt: &R,
-    word: &str,
-    input: &mut I,
-) -> Result<Vec<u16>, Ending> {
-    let text = text_of_word(rt, word, input)?;
-    match kind_of(rt.alloc(), text.as_str())? {
-        Some(FileKind::Show) => {
-            let show = read_show(rt.alloc(), text.as_str())?;
-            Ok(show.universes().to_vec(rt.alloc())?)
-        }
-        _ => universes_of_setup(rt, &read_node(rt.alloc(), text.as_str())?),
-    }
-}
-
-/// Prints the commands by which a device joins the groups of a file's universes, and that of discovery.
-pub fn groups<R: AllocGlobal + Files, I: Read + Drop, O: Write, E: Write>(
-    rt: &R,
-    (path, device): (&str, &str),
-    input: &mut I,
-    out: &mut O,
-    err: &mut E,
-) -> Result<(), Ending> {
-    let mut universes = of_file(universes_of_word(rt, path, input), path, err)?;
-    universes.push(DISCOVERY_UNIVERSE)?;
-    for universe in universes.as_slice() {
-        let [a, b, c, d] = multicast_group(*universe);
-        of_write(writeln!(
-            out,
-            "ip address add {a}.{b}.{c}.{d}/32 dev {device} autojoin"
-        ))?;
-    }
-    of_write(out.flush())
 }

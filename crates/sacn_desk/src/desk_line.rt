@@ -6,6 +6,7 @@ use sacn_orders::{Order, OrderFault, order_of};
 use std::alloc::Global;
 
 /// What a line of standard input says.
+#[derive(Drop)]
 pub(crate) enum DeskLine {
     Nothing,
     Order(Order),

@@ -1,7 +1,7 @@
 //! Orders that are typed or piped on standard input, and those of a script.
-use crate::desk_line::{DeskLine, line_said};
 use crate::limits::MAX_ORDERS;
 use crate::orders::Orders;
+use crate::postbox::Postbox;
 use crate::prompt::{Fading, Prompt};
 use crate::show_lists::ShowLists;
 use crate::status::have_stopped;
@@ -71,6 +71,8 @@ pub struct Plan<'a> {
     pub outputs: Option<&'a Outputs>,
     /// The prompt behind what is written, where the output is a [`PromptWriter`](crate::PromptWriter) that has it.
     pub prompt: Option<&'a Prompt>,
+    /// Lines from elsewhere, where some may come. The output is then a [`PostedWriter`](crate::PostedWriter) that has it.
+    pub posted: Option<&'a Postbox>,
 }
 
 /// How many packets a desk that stands by keeps back: those that end each universe of its show.
@@ -90,6 +92,7 @@ pub struct DeskOrders<'a, R, O> {
     out: &'a mut O,
     outputs: Option<&'a Outputs>,
     prompt: Option<&'a Prompt>,
+    posted: Option<&'a Postbox>,
     fading: Fading,
     script: &'a [(u64, Command)],
     next_line: usize,
@@ -139,6 +142,7 @@ impl<'a, R: MachineClock, O: Write> DeskOrders<'a, R, O> {
             out,
             outputs: plan.outputs,
             prompt: plan.prompt,
+            posted: plan.posted,
             fading: Fading::new(),
             script: plan.script.unwrap_or(&[]),
             next_line: 0,
@@ -181,26 +185,6 @@ impl<'a, R: MachineClock, O: Write> DeskOrders<'a, R, O> {
         self.closing != Closing::Open
     }
 
-    /// The order of the line that is there; None where it is something else, which is then done.
-    fn take_line(&mut self) -> Option<Command> {
-        self.line_number = self.line_number.saturating_add(1);
-        self.leave_prompt();
-        let said = line_said(self.alloc, self.input.line.line(), self.line_number);
-        self.input.line.clear();
-        match said {
-            DeskLine::Order(order) => return self.begin(order),
-            DeskLine::Nothing => {}
-            DeskLine::EndAll => self.wish = Some(Wish::EndAll),
-            DeskLine::StartAll => self.wish = Some(Wish::StartAll),
-            DeskLine::Status => self.wish = Some(Wish::Status),
-            DeskLine::Help => self.say(HELP),
-            DeskLine::Quit => self.close(),
-            DeskLine::Fault(why) => self.say_fault(why),
-            DeskLine::Refused(why) => self.say_fault(why.as_str()),
-        }
-        None
-    }
-
     /// The end of standard input ends the desk, unless there was none from the start and a script is there.
     fn end_input(&mut self, now: u64) {
         if self.has_script && !self.input.was_read && now < NO_INPUT {
@@ -217,7 +201,7 @@ impl<'a, R: MachineClock, O: Write> DeskOrders<'a, R, O> {
                 return None;
             }
             match self.next_input() {
-                InputState::Nothing => return None,
+                InputState::Nothing => return self.next_posted(),
                 InputState::Line => match self.take_line() {
                     Some(command) => return Some(command),
                     None => {}
@@ -229,7 +213,7 @@ impl<'a, R: MachineClock, O: Write> DeskOrders<'a, R, O> {
                 }
                 InputState::End => {
                     self.end_input(now);
-                    return None;
+                    return self.next_posted();
                 }
             }
         }
@@ -300,7 +284,7 @@ impl<'a, R: MachineClock, O: Write> DeskOrders<'a, R, O> {
         }
         let has_ended = !self.input.is_open && !self.is_absent;
         let has_input = self.ahead.is_some() || self.input.has_more() || has_ended;
-        self.closing == Closing::Open && has_input
+        self.closing == Closing::Open && (has_input || self.has_posted())
     }
 
     /// The moment up to which is waited: that of the script's next line, where one is still given.
@@ -337,7 +321,7 @@ impl<'a, R: MachineClock, O: Write> Orders for DeskOrders<'a, R, O> {
         } else {
             NO_DESCRIPTOR
         };
-        wait_readable(input, NO_DESCRIPTOR, NO_DESCRIPTOR, millis);
+        wait_readable(input, NO_DESCRIPTOR, self.posting(), millis);
     }
 
     fn next(&mut self, now: u64) -> Option<Command> {
@@ -372,6 +356,7 @@ impl<'a, R: MachineClock, O: Write> Orders for DeskOrders<'a, R, O> {
         let _ = self.out.flush();
         self.commands = 0;
         self.grant(core, report);
+        self.tell_posted(core);
         self.show_prompt(core);
         if self.told.has_more() {
             return;

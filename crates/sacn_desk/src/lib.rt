@@ -18,8 +18,8 @@ mod opening;
 mod order_answer;
 mod order_refusal;
 mod orders;
+mod postbox;
 mod prompt;
-mod ranges;
 mod show_lists;
 mod standby;
 mod status;
@@ -32,7 +32,10 @@ pub use desk_sender::{DeskSender, DeskSockets, Origin};
 pub use destinations::{DISCOVERY_UNIVERSE, Destination, Destinations, MAX_HOSTS, UniverseRange};
 pub use opening::Opening;
 pub use orders::Orders;
+pub use postbox::{
+    DeskState, MAX_POSTED, MAX_POSTED_ANSWER, MAX_POSTED_OCTETS, Postbox, PostedAnswer,
+    PostedWriter,
+};
 pub use prompt::{Prompt, PromptWriter};
-pub use ranges::{write_range, write_ranges};
 pub use standby::Standby;
-pub use status::write_start;
+pub use status::{write_range, write_ranges, write_start};

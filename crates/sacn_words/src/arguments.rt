@@ -75,6 +75,12 @@ pub const FRAMES: Argument<'static> = Argument {
     ..OPTION
 };
 
+pub const EACH: Argument<'static> = Argument {
+    name: "each",
+    help: "Tells each universe too: behind those lines one for each thing that happened there",
+    ..FLAG
+};
+
 pub const JSON: Argument<'static> = Argument {
     name: "json",
     help: "Prints an object of JSON on each line",
@@ -91,6 +97,19 @@ pub const PAGE: Argument<'static> = Argument {
     name: "page",
     help: "Serves a page for browsers there, of this machine where only a port is named, and prints nothing",
     value: Some("[ADDRESS:]PORT"),
+    ..OPTION
+};
+
+/// That of a desk.
+pub const DESK_PAGE: Argument<'static> = Argument {
+    help: "Serves a page that orders the desk for browsers there, of this machine where only a port is named; only with --key",
+    ..PAGE
+};
+
+pub const KEY: Argument<'static> = Argument {
+    name: "key",
+    help: "The word that is typed once into the page of --page, so that it may order: 4 to 64 letters, digits, - and _",
+    value: Some("WORD"),
     ..OPTION
 };
 

@@ -86,6 +86,16 @@ pub struct DeskAsked<'a> {
     pub stays: bool,
     /// Whether each universe waits for an order to start it.
     pub is_standby: bool,
+    /// Where a page that orders it is served.
+    pub page: Option<DeskPageAsked<'a>>,
+}
+
+/// A page that orders a desk.
+#[derive(Clone, Copy)]
+pub struct DeskPageAsked<'a> {
+    pub place: SocketAddrV4,
+    /// The word that its orders have to have.
+    pub key: &'a str,
 }
 
 /// What is asked of a recording.
@@ -97,6 +107,8 @@ pub struct ExplainAsked<'a> {
     pub port: Option<u16>,
     /// Empty for all.
     pub universes: Vec<u16>,
+    /// Whether each thing that happened on a universe is told too, behind what each source did.
+    pub has_each: bool,
     /// Whether what is told is objects of JSON, one a line, and not text.
     pub is_json: bool,
     /// Whether each line of text has the time of day in front.
@@ -210,10 +222,21 @@ fn time_to_live<'a>(words: &mut Words<'_, 'a>, to: &[Destination]) -> u8 {
     ttl
 }
 
+// The page that orders a desk. Neither it nor its key is given without the other.
+fn desk_page<'a>(words: &mut Words<'_, 'a>) -> Option<DeskPageAsked<'a>> {
+    words.without("page", "key");
+    words.without("key", "page");
+    match (words.value("page", page), words.key()) {
+        (Some(place), Some(key)) => Some(DeskPageAsked { place, key }),
+        _ => None,
+    }
+}
+
 fn desk<'a>(words: &mut Words<'_, 'a>) -> Asked<'a> {
     let first = words.octet("first");
     let to = destinations(words);
     let ttl = time_to_live(words, to.as_slice());
+    let page = desk_page(words);
     words.without("stay", "script");
     // (its orders are there)
     words.take_input();
@@ -227,6 +250,7 @@ fn desk<'a>(words: &mut Words<'_, 'a>) -> Asked<'a> {
         first,
         stays: words.is_given("stay"),
         is_standby: words.is_given("standby"),
+        page,
     })
 }
 
@@ -236,6 +260,7 @@ fn explain<'a>(words: &mut Words<'_, 'a>) -> Asked<'a> {
     words.beside("page", "json");
     words.beside("page", "setup");
     words.beside("page", "clock");
+    words.beside("page", "each");
     words.beside("json", "clock");
     let page = words.value("page", page);
     let seconds = words.seconds();
@@ -249,6 +274,7 @@ fn explain<'a>(words: &mut Words<'_, 'a>) -> Asked<'a> {
         setup: words.optional_file("setup"),
         port,
         universes,
+        has_each: words.is_given("each"),
         is_json: words.is_given("json"),
         has_clock: words.is_given("clock"),
         page,

@@ -11,8 +11,8 @@ mod table;
 mod tree;
 
 pub use asked::{
-    Asked, CheckAsked, DeskAsked, ExplainAsked, GatewayAsked, MAX_SETUPS, WatchAsked, moment_of,
-    parse,
+    Asked, CheckAsked, DeskAsked, DeskPageAsked, ExplainAsked, GatewayAsked, MAX_SETUPS,
+    WatchAsked, moment_of, parse,
 };
 pub use manual::Syntax;
 pub use program::manual_text;

@@ -1,6 +1,6 @@
 //! What clap matched, read: what a word spells, or else the first of the faults.
 use crate::manual::{ArgumentKind, Subcommand};
-use crate::spelled::{WordFault, destination, is_device, universes, widget};
+use crate::spelled::{WordFault, destination, is_device, is_key, universes, widget};
 use crate::table::commands;
 use crate::tree::error_of;
 use clap::parser::ValueSource;
@@ -19,6 +19,8 @@ pub enum Fault<'a> {
     Word(&'a str, WordFault),
     TooManyDestinations,
     TooManySetups,
+    /// A key that is none. It isn't told again.
+    Key,
     /// A number that isn't spelled by digits alone: clap takes a sign before them.
     Number(&'static str),
     /// An option that may not be given with another.
@@ -314,6 +316,17 @@ impl<'m, 'a> Words<'m, 'a> {
     }
 }
 
+impl<'m, 'a> Words<'m, 'a> {
+    /// The key of a desk's page, where one is given.
+    pub fn key(&mut self) -> Option<&'a str> {
+        let word = self.word("key")?;
+        if !is_key(word) {
+            self.refuse(Fault::Key);
+        }
+        Some(word)
+    }
+}
+
 // What a number has to be.
 fn range_of(commands: &[Subcommand<'_>], name: &str) -> (u64, u64) {
     for command in commands {
@@ -339,6 +352,7 @@ fn message_of(alloc: Global, fault: Fault<'_>) -> Result<String, AllocError> {
         }
         Fault::TooManyDestinations => String::from_str(alloc, "--to: TooManyDestinations"),
         Fault::TooManySetups => String::from_str(alloc, "SETUP: TooManySetups"),
+        Fault::Key => String::from_str(alloc, "--key: Key"),
         Fault::Beside(name, other) => format!(in alloc; "--{name}: beside --{other}"),
         Fault::Without(name, other) => format!(in alloc; "--{name}: without --{other}"),
         Fault::OfLauncher(name) => {

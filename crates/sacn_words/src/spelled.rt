@@ -121,6 +121,22 @@ pub fn is_device(word: &str) -> bool {
     !letters.is_empty() && letters.len() <= MAX_DEVICE && letters.iter().all(is_of_device)
 }
 
+/// The fewest letters of a key.
+const MIN_KEY: usize = 4;
+
+/// The most letters of a key.
+const MAX_KEY: usize = 64;
+
+fn is_of_key(letter: &u8) -> bool {
+    matches!(*letter, b'a'..=b'z' | b'A'..=b'Z' | b'0'..=b'9' | b'-' | b'_')
+}
+
+/// Whether a word may be the key of a desk's page.
+pub fn is_key(word: &str) -> bool {
+    let letters = word.as_bytes();
+    letters.len() >= MIN_KEY && letters.len() <= MAX_KEY && letters.iter().all(is_of_key)
+}
+
 /// How a gateway prints the frames of its ports.
 #[derive(Clone, Copy)]
 pub enum FrameForm {

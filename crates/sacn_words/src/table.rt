@@ -1,7 +1,7 @@
 //! The table of the commands and their arguments. Help, manual and completions are made from it.
 use crate::arguments::{
-    CLOCK, DESK_SCRIPT_HELP, FIRST, FLAG, FRAMES, HELP, HELP_LETTER, JOIN, JSON, LISTEN, OPERAND,
-    OPTION, PAGE, SCRIPT_HELP, SECONDS, SETUP, SETUP_HELP, SHOW, TURNS,
+    CLOCK, DESK_PAGE, DESK_SCRIPT_HELP, EACH, FIRST, FLAG, FRAMES, HELP, HELP_LETTER, JOIN, JSON,
+    KEY, LISTEN, OPERAND, OPTION, PAGE, SCRIPT_HELP, SECONDS, SETUP, SETUP_HELP, SHOW, TURNS,
 };
 use crate::manual::{Argument, ArgumentKind, SHELL_WORDS, SHELLS, Subcommand};
 use std::alloc::{AllocError, Global};
@@ -163,6 +163,8 @@ const DESK: Subcommand<'static> = Subcommand {
             help: "Begins with every universe ended: none is sent until `start UNIVERSE` or `start all` is ordered",
             ..FLAG
         },
+        DESK_PAGE,
+        KEY,
         HELP_LETTER,
         HELP,
     ],
@@ -193,7 +195,7 @@ const GROUPS: Subcommand<'static> = Subcommand {
 
 const EXPLAIN: Subcommand<'static> = Subcommand {
     name: "explain",
-    about: "Tells what a recording of a network holds: a line for each thing that happened, then tables",
+    about: "Tells what a recording of a network holds: a line for what each source did, on all its universes, then tables",
     usage: "sacn explain [OPTIONS] <CAPTURE>",
     arguments: &[
         Argument {
@@ -221,6 +223,7 @@ const EXPLAIN: Subcommand<'static> = Subcommand {
             is_repeated: true,
             ..OPTION
         },
+        EACH,
         JSON,
         Argument {
             help: "Puts the recording's time of day in front of each line, to the millisecond, of the time zone that TZ says, or else the machine's",

@@ -1,12 +1,39 @@
-//! What a typed order begins, and what it is answered.
+//! The lines that are typed, and those that are posted: what their orders begin, and what they are answered.
 use super::wishes::Wish;
 use super::{DeskOrders, Source};
+use crate::desk_line::{DeskLine, line_said};
 use crate::order_answer::{push_answer, push_levels, push_master};
+use crate::postbox::{DeskState, Postbox, PostedLine};
 use crate::show_lists::PatchPlace;
-use sacn_console::Command;
+use sacn_console::{Command, ConsoleCore};
+use sacn_edge::Clock;
+use sacn_machine::sys::NO_DESCRIPTOR;
 use sacn_orders::{LevelCommands, Order, Selection};
-use std::io::Write;
+use std::io::{self, Write};
+use std::os::fd::RawFd;
 use std::rt::Clock as MachineClock;
+
+const NO_END: &[u8] = b"refused: the page doesn't end a desk\n";
+
+fn write_posted<O: Write>(out: &mut O, order: &[u8]) -> io::Result<()> {
+    out.write_all(b"page: ")?;
+    out.write_all(order)?;
+    out.write_all(b"\n")
+}
+
+/// Whether a line would end the desk, or a universe of it.
+fn ends(said: &DeskLine) -> bool {
+    match said {
+        DeskLine::Quit => true,
+        DeskLine::EndAll => true,
+        DeskLine::Order(order) => ends_universe(order),
+        _ => false,
+    }
+}
+
+fn ends_universe(order: &Order) -> bool {
+    matches!(order, Order::Plain(Command::EndUniverse(_)))
+}
 
 impl<'a, R: MachineClock, O: Write> DeskOrders<'a, R, O> {
     /// The first command of an order, where it has one.
@@ -69,5 +96,107 @@ impl<'a, R: MachineClock, O: Write> DeskOrders<'a, R, O> {
             None => self.say_taken(),
         }
         None
+    }
+}
+
+impl<'a, R: MachineClock, O: Write> DeskOrders<'a, R, O> {
+    // A line is begun.
+    fn begin_line(&mut self) {
+        self.line_number = self.line_number.saturating_add(1);
+        self.leave_prompt();
+    }
+
+    /// The order of the line that is there; None where it is something else, which is then done.
+    pub(super) fn take_line(&mut self) -> Option<Command> {
+        if let Some(postbox) = self.posted {
+            postbox.end_answer();
+        }
+        self.begin_line();
+        let said = line_said(self.alloc, self.input.line.line(), self.line_number);
+        self.input.line.clear();
+        self.take_said(said)
+    }
+
+    fn take_said(&mut self, said: DeskLine) -> Option<Command> {
+        match said {
+            DeskLine::Order(order) => return self.begin(order),
+            DeskLine::Nothing => {}
+            DeskLine::EndAll => self.wish = Some(Wish::EndAll),
+            DeskLine::StartAll => self.wish = Some(Wish::StartAll),
+            DeskLine::Status => self.wish = Some(Wish::Status),
+            DeskLine::Help => self.say(super::HELP),
+            DeskLine::Quit => self.close(),
+            DeskLine::Fault(why) => self.say_fault(why),
+            DeskLine::Refused(why) => self.say_fault(why.as_str()),
+        }
+        None
+    }
+
+    /// The order of the next posted line; None where none is there, or it is something else, which is then done.
+    pub(super) fn next_posted(&mut self) -> Option<Command> {
+        let postbox = self.posted?;
+        if self.wish.is_some() || self.is_closing() || self.is_full() {
+            return None;
+        }
+        let line = postbox.take()?;
+        self.take_posted(postbox, &line)
+    }
+
+    fn take_posted(&mut self, postbox: &Postbox, line: &PostedLine) -> Option<Command> {
+        self.begin_line();
+        self.say_posted(line);
+        postbox.begin_answer();
+        let said = line_said(self.alloc, Some(line.text()), self.line_number);
+        if ends(&said) {
+            self.say(NO_END);
+            return None;
+        }
+        self.take_said(said)
+    }
+
+    // Says on the output what was ordered from elsewhere.
+    fn say_posted(&mut self, line: &PostedLine) {
+        let written = write_posted(self.out, line.text());
+        self.note_write(written);
+    }
+
+    /// Whether a posted line waits.
+    pub(super) fn is_post_waiting(&self) -> bool {
+        match self.posted {
+            Some(postbox) => postbox.is_waiting(),
+            None => false,
+        }
+    }
+
+    /// Whether a posted line can be taken now.
+    pub(super) fn has_posted(&self) -> bool {
+        match self.posted {
+            Some(postbox) => postbox.has_line(),
+            None => false,
+        }
+    }
+
+    /// What can be read where a line may be posted.
+    pub(super) fn posting(&self) -> RawFd {
+        match self.posted {
+            Some(postbox) => postbox.descriptor(),
+            None => NO_DESCRIPTOR,
+        }
+    }
+
+    /// Tells the postbox what is so now, and that the line that was taken from it was answered, unless that is still in work.
+    pub(super) fn tell_posted(&mut self, core: &ConsoleCore) {
+        let Some(postbox) = self.posted else {
+            return;
+        };
+        if self.wish.is_none() && self.levels.is_none() && self.command.is_none() {
+            postbox.end_answer();
+        }
+        postbox.tell(DeskState {
+            cue: core.cue(),
+            next: self.lists.cue_behind(core.cue()),
+            master: core.grand_master(),
+            fade_left: self.fading.left(self.clock.now()),
+        });
     }
 }

@@ -1,7 +1,7 @@
 //! What was typed and is done once a round has sent what was due.
 use super::DeskOrders;
-use crate::ranges::write_ranges;
 use crate::show_lists::PatchPlace;
+use crate::status::write_ranges;
 use sacn_console::{Command, ConsoleCore, State, UniverseLine};
 use sacn_edge::{Clock, ConsoleReport};
 use sacn_machine::InputState;
@@ -123,13 +123,14 @@ impl<'a, R: MachineClock, O: Write> DeskOrders<'a, R, O> {
         }
     }
 
-    /// Whether a list waits for its output. An order that is typed meanwhile is obeyed at once: the rest of the list is then written
+    /// Whether a list waits for its output. An order that is typed or posted meanwhile is obeyed at once: the rest of the list is then written
     /// without waiting.
     pub(super) fn is_held(&mut self) -> bool {
         match (self.wish, self.outputs) {
             (Some(wish), Some(outputs)) if wish.is_list() && !self.is_closing() => {
                 self.look_ahead();
-                self.clock.now() < self.held_until && outputs.pump_screen()
+                let is_due = self.clock.now() >= self.held_until || self.is_post_waiting();
+                !is_due && outputs.pump_screen()
             }
             _ => false,
         }

@@ -1,0 +1,254 @@
+#!/usr/bin/env python3
+"""Looks at the page that orders a desk: first at keys that are wrong, whose answers wait while the light goes on; then, in a headless Chromium of 360 pixels, at its
+keypad, whose order the desk sends. Prints 'ok NAME', 'not ok NAME: why' or 'skipped NAME: why' for each look.
+
+usage: desk_page.py SACN [PICTURES]
+
+SACN is the built program; where PICTURES names a folder, pictures of the page are put there.
+"""
+import http.client
+import json
+import os
+import shutil
+import socket
+import subprocess
+import sys
+import tempfile
+import threading
+import time
+from chromium import Browser, start, started
+
+SACN = sys.argv[1]
+PICTURES = sys.argv[2] if len(sys.argv) > 2 else None
+ROOM = tempfile.mkdtemp()
+UDP, PAGE, KEY = 25849, 25850, "correct-Horse_9"
+AT = f"127.0.0.1:{PAGE}"
+# Where a data packet has the first of its slots (E1.31, 7.7).
+SLOTS_AT = 126
+# Cue 2 fades for a minute: while it does a packet is due each 25 ms. On a machine that is busy with other things one is this late at most, in seconds.
+LONGEST = 0.4
+SHOW = f"""version = 2
+cid = "00010203-0405-0607-0809-0a0b0c0d0e0f"
+name = "Desk"
+universes = [1]
+send_to = [{UDP}]
+[[cue]]
+number = 1
+up = 0
+down = 0
+levels = [[1, 0]]
+[[cue]]
+number = 2
+up = 60000
+down = 60000
+levels = [[1, 65535]]
+[[patch]]
+channel = 1
+universe = 1
+slot = 1
+[[patch]]
+channel = 5
+universe = 1
+slot = 5
+"""
+
+
+def verdict(name, is_well, why=""):
+    print(f"ok desk_page: {name}" if is_well else f"not ok desk_page: {name}: {why}", flush=True)
+
+
+class Light:
+    """The packets that a desk sends: when each came, and its slots."""
+
+    def __init__(self):
+        self.socket = socket.socket(socket.AF_INET, socket.SOCK_DGRAM)
+        self.socket.bind(("127.0.0.1", UDP))
+        self.came = []
+        threading.Thread(target=self.listen, daemon=True).start()
+
+    def listen(self):
+        while True:
+            octets = self.socket.recv(2048)
+            if octets[18:22] == b"\0\0\0\4":
+                self.came.append((time.monotonic(), octets[SLOTS_AT:]))
+
+    def gap(self, begin, end):
+        """The longest time without a packet between two moments, in seconds."""
+        times = [begin, *(at for at, _ in self.came if begin <= at <= end), end]
+        return max(later - earlier for earlier, later in zip(times, times[1:]))
+
+    def shows(self, slot, level, seconds=5):
+        """Whether a slot is at a level within so many seconds."""
+        end = time.monotonic() + seconds
+        while time.monotonic() < end:
+            if self.came and self.came[-1][1][slot - 1] == level:
+                return True
+            time.sleep(0.02)
+        return False
+
+
+def post(line, key=KEY, origin=f"http://{AT}", **more):
+    """The status of the answer to an order, the answer, and how long it took in seconds."""
+    begin = time.monotonic()
+    asking = http.client.HTTPConnection(AT, timeout=30)
+    fields = {"Origin": origin, "X-Key": key, **more}
+    asking.request("POST", "/order", line.encode(), {name: value for name, value in fields.items() if value is not None})
+    answer = asking.getresponse()
+    text = answer.read().decode()
+    return answer.status, text.strip(), time.monotonic() - begin
+
+
+def wrong_keys(light):
+    """Each wrong one waits twice as long as the one before, up to eight seconds, and nothing else waits for it. Four wait at once at most: meanwhile no order is taken."""
+    light_begin = time.monotonic()
+    for wanted, how in [(0.5, {"key": "wrong"}), (1, {"key": KEY + "x"}), (2, {"key": KEY[:-1]})]:
+        status, _, took = post("blackout", **how)
+        verdict(f"{how} is refused after {wanted} s", status == 403 and wanted <= took < 2 * wanted + 0.4, f"{status} after {took:.2f} s")
+    for origin in ("http://rig.example", "null", None):
+        status, _, took = post("blackout", origin=origin)
+        verdict(f"an order of the origin {origin} is refused, and no key is tried", status == 403 and took < 2, f"{status} after {took:.2f} s")
+    later = []
+    threads = [threading.Thread(target=lambda key=key: later.append(post("blackout", key=key))) for key in (None, "", "wrong", KEY + "x")]
+    for thread in threads[:3]:
+        thread.start()
+    time.sleep(0.3)
+    status, text, took = post("5 at 20")
+    verdict("the right key waits for no wrong one", status == 200 and took < 2, f"{status} after {took:.2f} s: {text}")
+    threads[3].start()
+    time.sleep(0.3)
+    status, text, took = post("5 at 30")
+    verdict("while four wait no order is taken", status == 503 and took < 2, f"{status} after {took:.2f} s: {text}")
+    asking = http.client.HTTPConnection(AT, timeout=5)
+    asking.request("GET", "/state")
+    verdict("what runs is told meanwhile", json.loads(asking.getresponse().read())["master"] == 65535)
+    for thread in threads:
+        thread.join()
+    seen = sorted(took for _, _, took in later)
+    is_so = [status for status, _, _ in later] == [403] * 4 and 4 <= seen[0] < 8 and all(8 <= took < 12 for took in seen[1:])
+    verdict("none waits longer than 8 s", is_so, f"{later}")
+    gap = light.gap(light_begin, time.monotonic())
+    verdict("the light goes on meanwhile", gap < LONGEST, f"no packet for {gap * 1000:.0f} ms")
+
+
+def together(light):
+    """Orders of four pages at once: each has its own answer, also where one went away before it had it."""
+    gone = http.client.HTTPConnection(AT, timeout=5)
+    gone.request("POST", "/order", b"5 at 90", {"Origin": f"http://{AT}", "X-Key": KEY})
+    gone.sock.close()
+    told = {}
+    threads = [threading.Thread(target=lambda part=part: told.update({part: post(f"5 at {part}")[:2]})) for part in (10, 20, 30, 40)]
+    for thread in threads:
+        thread.start()
+    for thread in threads:
+        thread.join()
+    verdict("each of four orders has its own answer", told == {part: (200, f"ok 5 at {part} %") for part in (10, 20, 30, 40)}, f"{told}")
+    verdict("and the next one is obeyed", post("5 at 60")[1] == "ok 5 at 60 %" and light.shows(5, 153))
+
+
+def crowd(light):
+    """Twenty connections that ask and ask: the light goes on."""
+    begin, end, told = time.monotonic(), time.monotonic() + 3, []
+
+    def asks():
+        while time.monotonic() < end:
+            try:
+                asking = http.client.HTTPConnection(AT, timeout=5)
+                asking.request("GET", "/")
+                told.append(asking.getresponse().status)
+            except (OSError, http.client.HTTPException):
+                told.append(0)
+
+    threads = [threading.Thread(target=asks) for _ in range(20)]
+    for thread in threads:
+        thread.start()
+    for thread in threads:
+        thread.join()
+    gap = light.gap(begin, time.monotonic())
+    verdict("20 that ask for the page again and again have answers", told.count(200) > 100 and set(told) <= {0, 200, 503} and told.count(0) < len(told) / 10, f"{ {status: told.count(status) for status in set(told)} }")
+    verdict("the light goes on beside them", gap < LONGEST, f"no packet for {gap * 1000:.0f} ms")
+
+
+def click(browser, selector):
+    browser.js(f"document.querySelector({json.dumps(selector)}).click()")
+
+
+def keypad(browser, light):
+    browser.open(f"http://{AT}/")
+    browser.view(360, 640)
+    verdict("the cues are listed", browser.until("document.querySelectorAll('#cues button').length === 2", 5) is not None)
+    browser.picture("desk-page-360")
+    wide = browser.js("return document.documentElement.scrollWidth")
+    verdict("nothing scrolls sideways at 360 pixels", wide <= 360, f"{wide} pixels")
+    small = browser.js("return [...document.querySelectorAll('main button')].filter((one) => one.offsetHeight < 44 || one.offsetWidth < 44).map((one) => one.textContent)")
+    verdict("each key is large enough for a finger", small == [], f"{small}")
+    # 5 at 40: 40 % of 255 is 102
+    for key in ("[data-put='5']", "[data-put=' at ']", "[data-put='4']", "[data-put='0']"):
+        click(browser, key)
+    verdict("the keypad types an order", browser.js("return document.getElementById('line').value") == "5 at 40")
+    click(browser, "#enter")
+    verdict("the key is asked for", browser.until("!document.getElementById('key-part').hidden", 2) is not None)
+    browser.picture("desk-page-key")
+    browser.js(f"document.getElementById('key').value = '{KEY}'")
+    click(browser, "#key-form [type=submit]")
+    verdict("the desk sends the level that was typed", light.shows(5, 102), f"{light.came[-1][1][4]}")
+    verdict("its answer stands on the page", browser.until("document.querySelector('#answers span').textContent.startsWith('ok 5 at 40 %')", 3) is not None, browser.js("return document.getElementById('answers').textContent"))
+    click(browser, "#blackout")
+    verdict("a blackout", light.shows(5, 0) and browser.until("document.getElementById('blackout').getAttribute('aria-pressed') === 'true'", 3) is not None)
+    click(browser, "#restore")
+    verdict("and back", light.shows(5, 102))
+    browser.js("const master = document.getElementById('master'); master.value = 50; master.dispatchEvent(new Event('input'))")
+    # half of 102 is 51
+    verdict("the master", light.shows(5, 51), f"{light.came[-1][1][4]}")
+    click(browser, "#cues li:first-child button")
+    verdict("a cue of the list", browser.until("document.getElementById('cue').textContent === '1' && document.getElementById('next').textContent === '2'", 3) is not None)
+    verdict("the cue that runs is marked", browser.until("document.querySelector('#cues [aria-current=true] b').textContent === '1'", 3) is not None)
+    browser.picture("desk-page-orders")
+    kept = browser.js("return JSON.stringify([location.href, document.cookie, localStorage.length, sessionStorage.length])")
+    verdict("the key is kept in the page alone", KEY not in kept and json.loads(kept)[1:] == ["", 0, 0], kept)
+    browser.open(f"http://{AT}/")
+    browser.until("document.querySelectorAll('#cues button').length === 2", 5)
+    click(browser, "#go")
+    verdict("a page that is loaded anew asks for it again", browser.until("!document.getElementById('key-part').hidden", 2) is not None)
+    browser.js("document.getElementById('key').value = 'another-key'")
+    click(browser, "#key-form [type=submit]")
+    verdict("a wrong key is told, and asked for again", browser.until("document.getElementById('why').textContent === 'The desk refused that key.'", 12) is not None)
+    logs = [entry for entry in browser.ask("POST", "/se/log", {"type": "browser"}) if entry["level"] == "SEVERE" and "403" not in entry["message"]]
+    verdict("nothing goes wrong in the page", logs == [], f"{logs}")
+
+
+def main():
+    with open(f"{ROOM}/show.toml", "w", encoding="utf-8") as show:
+        show.write(SHOW)
+    light = Light()
+    desk = start(SACN, "desk", f"{ROOM}/show.toml", "--page", str(PAGE), "--key", KEY)
+    for _ in range(100):
+        try:
+            if post("goto 2")[0] == 200:
+                break
+        except OSError:
+            time.sleep(0.1)
+    wrong_keys(light)
+    together(light)
+    crowd(light)
+    if shutil.which("chromium") and shutil.which("chromedriver"):
+        browser = Browser(PICTURES)
+        try:
+            keypad(browser, light)
+        finally:
+            browser.ask("DELETE", "")
+    else:
+        print("skipped desk_page: there is no Chromium with its driver")
+    desk.stdin.close()
+    try:
+        desk.wait(10)
+    except subprocess.TimeoutExpired:
+        pass
+    verdict("the end of its input ends the desk", desk.returncode == 0, f"{desk.returncode}")
+
+
+try:
+    main()
+finally:
+    for process in started:
+        process.kill()
+    shutil.rmtree(ROOM, ignore_errors=True)
