@@ -71,7 +71,7 @@ every_command_is_alike() {
   local count=0 it
   cd "$top/examples" || return 1
   alike "a datagram" desk.hex && alike "no datagram" /dev/null || return 1
-  for it in "decode levels.sacn universes.sacn" "sim world.toml schedule.txt" "explain ola.pcap" "explain qlcplus.pcap --json" "explain ola.pcap --setup node.toml" "explain qlcplus.pcap --setup node.toml --json" \
+  for it in "decode levels.sacn universes.sacn" "sim world.toml schedule.txt" "explain ola.pcap" "explain ola.pcap --each" "explain qlcplus.pcap --json" "explain ola.pcap --setup node.toml" "explain qlcplus.pcap --setup node.toml --json" \
     "explain show.toml" "check show.toml node.toml world.toml script.txt schedule.txt" "check desk.hex" "groups node.toml --device eth0" "groups show.toml --device eth0" "manual" "completion bash" "completion zsh" \
     "completion fish" "--help" "gateway --help" "decode nothere" "jump" "console show.toml script.txt --turns 50" "node show.toml --turns 1"; do
     # shellcheck disable=SC2086

@@ -94,6 +94,7 @@ refused 2 "error: 127.0.0.1: Address" explain x --page 127.0.0.1
 refused 2 "error: here:80: Address" explain x --page here:80
 refused 2 "error: --page: beside --json" explain x --page 25893 --json
 refused 2 "error: --page: beside --setup" explain x --page 25893 --setup x
+refused 2 "error: --page: beside --each" explain x --page 25893 --each
 refused 2 "error: --seconds: without --page" explain x --seconds 5
 refused 2 "error: *" explain x --page 25893 --seconds 0
 refused 2 "error: *" explain x --page
