@@ -3,6 +3,7 @@
 
 usage: keys.py PORT steered | typed | changed | lines | gateway     sends packets to PORT; ends with a word of what isn't as it should be
        keys.py PORT killed launcher|program                         whether the terminal has its modes again
+       keys.py PORT told STATUS                                     whether TERM and CONT at once end each run with this status
 """
 import fcntl
 import os
@@ -219,5 +220,16 @@ def killed(what):
     os.waitpid(screen.pid, 0)
 
 
+def told(status):
+    """TERM and CONT at once, as what stops a service sends them, end each of eight runs."""
+    for _ in range(8):
+        screen = Screen("bash", "launcher")
+        screen.waits_for("^sacn watch ")
+        for it in signal.SIGTERM, signal.SIGCONT:
+            os.kill(screen.pid, it)
+        if screen.ends() != int(status) or not screen.is_given_back():
+            sys.exit("the terminal isn't given back")
+
+
 if __name__ == "__main__":
-    {"steered": steered, "typed": typed, "changed": changed, "lines": lines, "gateway": gateway, "killed": killed}[sys.argv[2]](*sys.argv[3:])
+    {"steered": steered, "typed": typed, "changed": changed, "lines": lines, "gateway": gateway, "killed": killed, "told": told}[sys.argv[2]](*sys.argv[3:])

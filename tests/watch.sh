@@ -167,6 +167,23 @@ stopped go --plain ""
 grep -qE '^ *[0-9]+\.[0-9]{3} s  not heard for [0-9]+\.[0-9]{3} s: this program was stopped$' out
 verdict "a stop in words" $? "$(grep -v universe out | head -n 3)"
 
+# What stops a service sends TERM and CONT at once: each of eight watches ends under the launcher.
+printf '. "%s/tools/run.sh"\nrun "%s" watch --plain --port 25845\n' "$top" "$sacn" >launcher
+left=0
+for _ in $(seq 8); do
+  : >err
+  bash launcher </dev/null >/dev/null 2>err &
+  watch=$!
+  started+=("$watch")
+  for _ in $(seq 300); do grep -q '^hears' err && break; sleep 0.1; done
+  kill -TERM "$watch"
+  kill -CONT "$watch" 2>/dev/null
+  for _ in $(seq 100); do kill -0 "$watch" 2>/dev/null || break; sleep 0.1; done
+  if kill -0 "$watch" 2>/dev/null; then left=$((left + 1)); kill -KILL "$watch"; fi
+  wait "$watch" || left=$((left + 1))
+done
+verdict "TERM and CONT at once end it" "$left" "$left of 8 went on, or ended badly"
+
 # A watch that joined groups and hears nothing says which, as lines and beside a page.
 join=$top/release/$(uname -m)-linux/sacn-join
 if [ -x "$join" ]; then
@@ -302,7 +319,7 @@ verdict "Ctrl-\\ ends it, and gives the terminal back" $? "status $status $(tail
 
 # Keys steer the screen, each as it is pressed, and the terminal is given back at any end.
 printf '. "%s/tools/run.sh"\nrun "%s" watch --port 25844\n' "$top" "$sacn" >launcher
-for keys in steered typed changed "killed launcher" "killed program"; do
+for keys in steered typed changed "killed launcher" "killed program" "told 0"; do
   # shellcheck disable=SC2086
   problem=$(timeout 60 python3 "$top/tests/keys.py" 25844 $keys 2>&1)
   verdict "keys: $keys" $? "$(tail -n 1 <<<"$problem")"
@@ -311,6 +328,8 @@ printf 'version = 2\nudp_port = 25844\n[[port]]\nnumber = 1\n[[port.range]]\nuni
 printf '. "%s/tools/run.sh"\nrun "%s" gateway keys.toml --watch\n' "$top" "$sacn" >launcher
 problem=$(timeout 60 python3 "$top/tests/keys.py" 25844 gateway 2>&1)
 verdict "keys of a gateway's screen" $? "$(tail -n 1 <<<"$problem")"
+problem=$(timeout 120 python3 "$top/tests/keys.py" 25844 told -15 2>&1)
+verdict "keys of a gateway's screen: told -15" $? "$(tail -n 1 <<<"$problem")"
 # (a line at a time, where no launcher tells the terminal otherwise)
 printf 'exec "%s" watch --port 25844\n' "$sacn" >launcher
 problem=$(timeout 60 python3 "$top/tests/keys.py" 25844 lines 2>&1)

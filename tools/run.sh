@@ -49,8 +49,53 @@ note_terminal() {
   if [ -t 0 ]; then terminal=0; elif [ -t 1 ]; then terminal=1; fi
 }
 
-# Whether that terminal has gone. It sends HUP and CONT at once then, and of the two a shell that waits may take the second alone.
+# Whether that terminal has gone.
 has_hung_up() { [ -n "$terminal" ] && ! [ -t "$terminal" ]; }
+
+# Looks after the terminal of a screen until the launcher lets go of its end of the pipe at standard input, or is gone: where the job goes on after a stop, or the terminal
+# has another size. A shell that waits takes the second alone of two signals that come at once, as TERM and CONT; so the one that is to end hears none that ends nothing.
+keep_terminal() {
+  local end is_looking= noted=
+  trap '' INT TERM HUP QUIT
+  exec {life}>&-
+  if [ -n "${said-}" ]; then exec {said}>&-; fi
+  cat <&0 >/dev/null &
+  end=$!
+  exec <&"$typed" {typed}<&-
+  trap look_again WINCH CONT
+  # (The terminal may have another size by now.)
+  look_again
+  while kill -0 "$end" 2>/dev/null; do wait "$end" || true; done
+}
+
+# Looks at the terminal. A signal that comes meanwhile has it look once more afterwards: what was seen last is told last.
+look_again() {
+  noted=1
+  while [ -n "$noted" ] && [ -z "$is_looking" ]; do
+    is_looking=1 noted=
+    hush_keys
+    tell_change_of_size
+    is_looking=
+  done
+}
+
+# Has it looked after, where there is anything to do; `typed` is the terminal at standard input.
+begin_keeping() {
+  local typed
+  if [ -z "$modes${SACN_SIZE-}" ]; then return 0; fi
+  exec {typed}<&0
+  exec {kept}> >(keep_terminal)
+  keeping=$!
+  exec {typed}<&-
+}
+
+# Looks no more after it.
+end_keeping() {
+  if [ -n "$keeping" ]; then
+    exec {kept}>&-
+    wait "$keeping" 2>/dev/null || true
+  fi
+}
 
 # Waits for the process in `pid`, whose status this shell has then. Its input ends with this shell's end of the pipe in `life`, which INT, TERM, HUP and QUIT close; a line on it
 # says that the process has ended by itself. The word is done then, too.
@@ -70,6 +115,7 @@ await() {
     wait "$feeder" 2>/dev/null || true
     if [ "$status" -gt 128 ]; then leave_screen; fi
   fi
+  end_keeping
   loud_keys
   # (What edits lines and is killed leaves the terminal as it had it.)
   if [ -n "${saved-}" ] && [ "$status" -gt 128 ] && is_in_front; then stty "$saved" 2>/dev/null || true; fi
@@ -80,10 +126,9 @@ await() {
 # then ends what it has lit. A second one changes nothing. What the program waits for is held by this process alone, so that it comes
 # to its end also where this one is killed.
 feed() {
-  local life lives in out pid status since=$SECONDS caught= modes= terminal= feeder= shell=$BASHPID hush=(-icanon -echo min 1 time 0)
+  local life lives in out pid status since=$SECONDS caught= modes= feeder= kept= keeping= shell=$BASHPID hush=(-icanon -echo min 1 time 0)
   trap 'caught=1' INT TERM HUP QUIT
   if [ "$2" = watch ]; then quiet_keys "$@"; fi
-  note_terminal
   # (a desk reads a pipe: whether a terminal is behind that it is told)
   if [ "$2" = desk ] && [ -t 0 ]; then export SACN_TYPED=terminal; fi
   exec {in}<&0
@@ -104,11 +149,7 @@ feed() {
   (trap '' INT TERM HUP QUIT; exec "$@" <&"$out" {in}<&- {out}<&- {life}<&- {lives}<&-) &
   pid=$!
   exec {out}<&- {in}<&- {lives}<&-
-  # (The terminal may have another size by now, and after a stop, where the job in front was told.)
-  if [ "$2" = watch ]; then
-    trap 'caught=1; if has_hung_up; then exec {life}>&-; fi; hush_keys; tell_change_of_size' WINCH CONT
-    tell_change_of_size
-  fi
+  if [ "$2" = watch ]; then begin_keeping; fi
   await
 }
 
@@ -135,7 +176,7 @@ tell_hang_up() { if has_hung_up; then exec {life}>&-; kill -HUP "$pid" 2>/dev/nu
 # Runs a desk under rlwrap, which gives its terminal arrows, and a history that is kept. INT, TERM, HUP and QUIT go around it: it hears nothing as long as
 # Ctrl-S holds its terminal.
 edit_lines() {
-  local room=${XDG_STATE_HOME:-${HOME-}/.local/state}/sacn history=(--history-filename /dev/null --histsize -300) life lives in pid caught= status modes= terminal= saved
+  local room=${XDG_STATE_HOME:-${HOME-}/.local/state}/sacn history=(--history-filename /dev/null --histsize -300) life lives in pid caught= status modes= terminal= keeping= saved
   trap 'caught=1' INT TERM HUP QUIT
   note_terminal
   saved=$(stty -g 2>/dev/null) || saved=
@@ -147,7 +188,6 @@ edit_lines() {
     bash -eu -c '. "$0"; attend "$@"' "${BASH_SOURCE[0]}" "$lives" "$@" <&"$in" {in}<&- {life}<&- &
   pid=$!
   exec {in}<&- {lives}<&-
-  trap 'caught=1; tell_hang_up' CONT
   await tell_hang_up
 }
 
@@ -447,7 +487,7 @@ most_said=500
 # Runs a gateway that draws on this terminal, and tells it how large that is. A signal ends it as it ends any gateway, and the terminal then shows what it showed before, and
 # below that the last lines of what the gateway said, where that would have come to the terminal too.
 draw() {
-  local in life lives keys feeder= shell=$BASHPID hush=(-icanon -echo min 1 time 0) pid status copy lines said= keeper caught= signal= modes= terminal=
+  local in life lives keys feeder= shell=$BASHPID hush=(-icanon -echo min 1 time 0) pid status copy lines said= keeper signal= modes= kept= keeping=
   trap 'signal=INT' INT
   trap 'signal=TERM' TERM
   trap 'signal=HUP' HUP
@@ -455,7 +495,6 @@ draw() {
   # (a setup that is typed there is read line by line)
   if reads_setup "${@:3}"; then hush=(-echo); fi
   quiet_keys "$@"
-  note_terminal
   exec {in}<&0
   # A pipe of which both ends are here.
   exec {life}<> <(:)
@@ -484,12 +523,11 @@ draw() {
   trap 'signal=TERM; kill -TERM "$pid" 2>/dev/null || true' TERM
   trap 'signal=HUP; kill -TERM "$pid" 2>/dev/null || true' HUP
   trap 'signal=QUIT; kill -TERM "$pid" 2>/dev/null || true' QUIT
-  trap 'caught=1; if has_hung_up; then signal=HUP; kill -TERM "$pid" 2>/dev/null || true; fi; hush_keys; tell_change_of_size' WINCH CONT
-  tell_change_of_size
+  begin_keeping
   if [ -n "$signal" ]; then kill -TERM "$pid" 2>/dev/null || true; fi
-  while caught= status=0; do
+  while status=0; do
     wait "$pid" || status=$?
-    [ -n "$caught" ] || kill -0 "$pid" 2>/dev/null || break
+    kill -0 "$pid" 2>/dev/null || break
   done
   if [ "$status" -gt 128 ]; then leave_screen; fi
   if [ -n "$said" ]; then
@@ -499,6 +537,7 @@ draw() {
   fi
   { echo >&"$life"; } 2>/dev/null || true
   if [ -n "$feeder" ]; then wait "$feeder" 2>/dev/null || true; fi
+  end_keeping
   loud_keys
   if [ -n "$signal" ]; then
     trap - "$signal"
