@@ -81,6 +81,13 @@ fn has_taken(device: &RefCell<Device>, text: &[u8]) -> bool {
     }
 }
 
+fn ends_in(device: &RefCell<Device>, text: &[u8]) -> bool {
+    match device.try_borrow() {
+        Ok(device) => device.taken.as_slice().ends_with(text),
+        Err(_) => false,
+    }
+}
+
 /// A line of a thousand octets: a port, a moment and letters.
 fn line(alloc: Global, port: u8, moment: u64) -> Result<Vec<u8>, AllocError> {
     let mut line = Vec::new(alloc);
@@ -162,6 +169,29 @@ fn loses_long(alloc: Global) -> io::Result<bool> {
     }
     output.write_all(b"\nnext\n")?;
     Ok(has_taken(&device, b"1 lines not written\nnext\n"))
+}
+
+/// Lines that are lost have the time of day of the newest of them, where lines have one.
+fn loses_timed(alloc: Global) -> io::Result<bool> {
+    let device = device_in(alloc, Mood::Blocks);
+    let mut output = Output::new(alloc, Seen { device: &device }, Lines::Plain)?;
+    output.write_all(&[b'x'; 60_000])?;
+    output.write_all(b"\n")?;
+    for _ in 0..6 {
+        output.write_all(b"20:13:05.125 ")?;
+        output.write_all(&[b'y'; 1000])?;
+        output.write_all(b"\n")?;
+    }
+    output.write_all(b"20:13:05.250 z\n")?;
+    set_mood(&device, Mood::Takes(4096));
+    output.flush()?;
+    let told = b"\n20:13:05.250 2 lines not written\n";
+    Ok(ends_in(&device, told))
+}
+
+#[test]
+fn lost_lines_have_a_time_of_day(rt: HostRuntime) {
+    assert!(rt; loses_timed(rt.alloc()).is_ok_and(|it| it));
 }
 
 #[test]

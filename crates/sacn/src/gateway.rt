@@ -11,7 +11,7 @@ use sacn_commands::live::{clock_of, joined_groups, of_socket, universes_of_setup
 use sacn_commands::paging::say_page;
 use sacn_gateway::limits::TURN_SPAN;
 use sacn_gateway::{Notes, PassedOver};
-use sacn_machine::limits::MAX_BURST;
+use sacn_machine::limits::{MAX_BURST, SILENT_START};
 use sacn_machine::{
     DeviceFault, Octets4, Outputs, TypedKeys, UdpReceiver, guard_standard_descriptors,
     output_is_terminal,
@@ -75,7 +75,7 @@ fn run_alone<'a, R: AllocGlobal + Env + Net + Clock>(
     (outputs, joined): (&TimedOutputs<'a, R>, Option<String>),
 ) -> Result<(), Ending> {
     let mut receiver = receiver_of(rt, asked, setups, &mut outputs.err())?;
-    receiver.tend(outputs.outputs, joined);
+    receiver.tend(outputs.outputs, joined, outputs.front_in(SILENT_START));
     let mut spoken = spoken_of(rt, &receiver, outputs)?;
     run_printing(rt, asked, setups, &mut receiver, &mut spoken, outputs)
 }
@@ -93,7 +93,7 @@ fn run_shown<'a, R: AllocGlobal + Env + Net + Clock>(
     let pages = Pages::bind(rt, rt.alloc(), place, board);
     let mut pages = of_socket(pages, place, &mut outputs.err())?;
     let mut receiver = receiver_of(rt, asked, setups, &mut outputs.err())?;
-    receiver.tend(outputs.outputs, joined);
+    receiver.tend(outputs.outputs, joined, outputs.front_in(SILENT_START));
     receiver.wait_beside(pages.descriptor());
     say_page(place, &mut outputs.err());
     let mut shown = Shown {
@@ -117,7 +117,7 @@ fn run_on_screen<'a, R: AllocGlobal + Files + Env + Net + Clock>(
     (outputs, joined): (&TimedOutputs<'a, R>, Option<String>),
 ) -> Result<(), Ending> {
     let mut receiver = receiver_of(rt, asked, setups, &mut outputs.err())?;
-    receiver.tend(outputs.outputs, joined);
+    receiver.tend(outputs.outputs, joined, outputs.front_in(SILENT_START));
     let universe = universes_of_setups(rt, setups)?.first().copied();
     let size_file = size_file(rt);
     let address = address_of(asked, setups);

@@ -3,7 +3,7 @@ use crate::watch::{Place, receiver_at, watch_end};
 use sacn_commands::ending::Ending;
 use sacn_commands::live::{joined_groups, of_socket, say_hearing};
 use sacn_commands::paging::say_page;
-use sacn_machine::{Lines, Outputs};
+use sacn_machine::{ClockFront, Lines, Outputs};
 use sacn_page::{Board, MAX_ALARMS, Pages};
 use sacn_watch::{RunningListener, run_watch};
 use std::env::Env;
@@ -39,7 +39,7 @@ fn hear<'a, R: Net + Clock, E: Write>(
     err: &mut E,
 ) -> Result<(), Ending> {
     let mut receiver = receiver_at(rt, place, err)?;
-    receiver.tend(outputs, joined);
+    receiver.tend(outputs, joined, ClockFront::new());
     receiver.wait_beside(pages.descriptor());
     say_hearing(place.address, receiver.room(), err);
     say_page(page, err);

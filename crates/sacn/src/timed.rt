@@ -1,6 +1,6 @@
 //! Outputs whose lines have the time of day in front, where that is asked.
-use sacn_clock::{CLOCK_LETTERS, LocalZone, Stamped, Timing, WallClock};
-use sacn_machine::{Outlet, Outputs};
+use sacn_clock::{CLOCK_LETTERS, LocalZone, Moments, Stamped, Timing, WallClock, clock_text};
+use sacn_machine::{ClockFront, Outlet, Outputs};
 use std::alloc::AllocError;
 use std::env::Env;
 use std::io::{Result, Write};
@@ -77,6 +77,17 @@ impl<'a, R: Clock> TimedOutputs<'a, R> {
         let clock = WallClock::new(self.rt);
         TimedOutlet {
             out: Stamped::new(self.outputs.err(), clock, self.timing),
+        }
+    }
+
+    /// What stands in front of a line that is written so many milliseconds from now.
+    pub fn front_in(&self, millis: u64) -> ClockFront {
+        match self.timing {
+            Timing::Clock(zone) => {
+                let now = WallClock::new(self.rt).moment_of(b"");
+                clock_text(now.and_then(|it| it.checked_add(millis)), &zone.zone())
+            }
+            _ => ClockFront::new(),
         }
     }
 

@@ -37,7 +37,7 @@ pub use input::{InputState, TypedInput};
 pub use input_end::InputEnd;
 pub use keys::{MAX_KEYS, Typed, TypedKeys};
 pub use line_buffer::{Gathered, LONGEST_LINE, LineBuffer};
-pub use output::{Lines, Note, Output, Sink};
+pub use output::{CLOCK_OCTETS, ClockFront, Lines, Note, Output, Sink};
 pub use outputs::{Outlet, Outputs};
 pub use receiver::{Arrival, Octets4, Receipt, Receiver};
 pub use sockets::Sockets;

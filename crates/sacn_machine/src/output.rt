@@ -76,18 +76,51 @@ pub struct Output<S> {
     noting: Noting,
     // The newest line, where lines are noted and it wasn't taken.
     note: Option<Note>,
+    // The time of day in front of the newest line that was lost.
+    lost_at: ClockFront,
     // How long the end waits, in milliseconds.
     end_wait: u64,
 }
 
 /// The octets of a time of day in front of a line, `HH:MM:SS.mmm `.
-const CLOCK_OCTETS: usize = 13;
+pub const CLOCK_OCTETS: usize = 13;
+
+/// A time of day in front of a line, or nothing.
+pub type ClockFront = ArrayString<CLOCK_OCTETS>;
+
+/// Whether a line has the time of day in front of it, or the dashes of one that isn't known.
+fn has_clock(line: &[u8]) -> bool {
+    match line {
+        [first, _, b':', _, _, b':', _, _, b'.', _, _, _, b' ', ..] => {
+            *first == b'-' || first.is_ascii_digit()
+        }
+        _ => false,
+    }
+}
+
+/// The time of day in front of a line, where it has one.
+fn clock_of(line: &[u8]) -> ClockFront {
+    if !has_clock(line) {
+        return ArrayString::new();
+    }
+    match first_letters(line) {
+        Some(front) => front,
+        None => ArrayString::new(),
+    }
+}
+
+// The letters that a time of day takes.
+fn first_letters(line: &[u8]) -> Option<ClockFront> {
+    let text = std::str::from_utf8(line.get(..CLOCK_OCTETS)?).ok()?;
+    ArrayString::from(text).ok()
+}
 
 /// A line without the time of day in front of it, where it has one.
 fn behind_clock(line: &[u8]) -> Option<&[u8]> {
-    match line {
-        [_, _, b':', ..] => line.get(CLOCK_OCTETS..),
-        _ => Some(line),
+    if has_clock(line) {
+        line.get(CLOCK_OCTETS..)
+    } else {
+        Some(line)
     }
 }
 
@@ -106,12 +139,12 @@ fn frame_line(line: &[u8]) -> Option<FrameLine> {
     Some(FrameLine { port, octets })
 }
 
-/// The line that tells how many lines were lost.
-fn loss_line(lines: Lines, count: u64) -> ArrayString<64> {
+/// The line that tells how many lines were lost, behind this time of day.
+fn loss_line(lines: Lines, front: &ClockFront, count: u64) -> ArrayString<80> {
     let mut text = ArrayString::new();
     let _ = match lines {
         Lines::Objects => writeln!(text, "{{\"event\":\"not_written\",\"lines\":{count}}}"),
-        _ => writeln!(text, "{count} lines not written"),
+        _ => writeln!(text, "{front}{count} lines not written"),
     };
     text
 }
@@ -153,6 +186,7 @@ impl<S: Sink + Drop> Output<S> {
             is_long: false,
             noting: Noting::Unnoted,
             note: None,
+            lost_at: ArrayString::new(),
             end_wait: END_WAIT,
         })
     }
@@ -207,6 +241,9 @@ impl<S: Sink + Drop> Output<S> {
         } else {
             self.room.add_line(self.line.as_slice());
         }
+        if self.room.has_lost() {
+            self.lost_at = clock_of(self.line.as_slice());
+        }
         self.line.clear();
         self.is_long = false;
     }
@@ -252,7 +289,7 @@ impl<S: Sink + Drop> Output<S> {
     /// Tells what was lost, and gives frames that wait room, where there is.
     fn settle(&mut self) {
         if let Some(count) = self.room.take_loss() {
-            let line = loss_line(self.lines, count);
+            let line = loss_line(self.lines, &self.lost_at, count);
             self.room.add_line(line.as_str().as_bytes());
         }
         for _ in 0..MAX_FRAMES {

@@ -79,6 +79,13 @@ impl Room {
         }
     }
 
+    /// Whether a line was lost that isn't told yet.
+    pub fn has_lost(&self) -> bool
+        ensures { result ≡ not (self.now.lost == 0) }
+    {
+        self.lost != 0
+    }
+
     /// Counts a line that is lost.
     pub fn count_loss(&mut self)
         ensures { self.new ≡ after_loss self.old }

@@ -4,9 +4,11 @@ use crate::drops::Drops;
 use crate::input_end::InputEnd;
 use crate::keys::TypedKeys;
 use crate::limits::{FAILED_WAIT, PENDING_WAIT, SILENT_START};
+use crate::output::ClockFront;
 use crate::outputs::Outputs;
 use crate::receiver::{Arrival, Octets4, Receipt, Receiver};
 use crate::sys::{NO_DESCRIPTOR, bind_shared, room_of, wait_readable};
+use arrayvec::ArrayString;
 use sacn_edge::{BUFFER_OCTETS, Clock};
 use std::alloc::{AllocError, Global};
 use std::io::{ErrorKind, Write};
@@ -38,6 +40,8 @@ pub struct UdpReceiver<'a, R> {
     outputs: Option<&'a Outputs>,
     // The groups that were joined, in words.
     joined: Option<String>,
+    // What stands in front of the line that says so.
+    front: ClockFront,
 }
 
 impl<'a, R: Net + MachineClock> UdpReceiver<'a, R> {
@@ -59,6 +63,7 @@ impl<'a, R: Net + MachineClock> UdpReceiver<'a, R> {
             is_noted: false,
             outputs: None,
             joined: None,
+            front: ArrayString::new(),
         })
     }
 
@@ -78,10 +83,11 @@ impl<'a, R: Net + MachineClock> UdpReceiver<'a, R> {
     }
 
     /// From now on each wait hands on what waits for these outputs, and is short while something does. On standard error it is said, once,
-    /// where nothing came in the first five seconds, with the groups that were joined in these words.
-    pub fn tend(&mut self, outputs: &'a Outputs, joined: Option<String>) {
+    /// where nothing came in the first five seconds, with the groups that were joined in these words, and this time of day in front.
+    pub fn tend(&mut self, outputs: &'a Outputs, joined: Option<String>, front: ClockFront) {
         self.outputs = Some(outputs);
         self.joined = joined;
+        self.front = front;
     }
 
     /// The most milliseconds of a wait up to this moment.
@@ -100,6 +106,7 @@ impl<'a, R: Net + MachineClock> UdpReceiver<'a, R> {
         }
         self.is_noted = true;
         if let Some(outputs) = self.outputs {
+            let _ = write!(outputs.err(), "{}", self.front);
             say_silence(self.address, self.joined.as_deref(), &mut outputs.err());
         }
     }
