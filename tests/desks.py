@@ -359,6 +359,9 @@ def a_prompt_tells_what_runs(sacn):
         ("master 32768", line("ok") + prompt("cue 1, next 2, master 50 %")),
         ("restore", line("ok master at 100 %") + prompt("cue 1, next 2")),
         ("go", line("ok cue 2 up 3 s down 0 s") + prompt("cue 2, [1-3]\\.[0-9] s left")),
+        # (each channel goes to its level in that cue, so no other fade is left)
+        ("goto 1", line("ok cue 1 up 0 s down 0 s") + prompt("cue 1, next 2")),
+        ("go", line("ok cue 2 up 3 s down 0 s") + prompt("cue 2, [1-3]\\.[0-9] s left")),
     ]:
         terminal.type(typed + "\n")
         if not terminal.shows("^" + wanted):

@@ -63,7 +63,11 @@ impl Fading {
     pub(crate) fn take(&mut self, lists: &ShowLists<'_>) {
         match self.given.take() {
             Some((Command::Go, at)) => self.go_to(lists.cue_behind(self.cue), at, lists),
-            Some((Command::GoTo(number), at)) => self.go_to(Some(number), at, lists),
+            Some((Command::GoTo(number), at)) => {
+                // (each channel that a cue names fades anew)
+                self.end = 0;
+                self.go_to(Some(number), at, lists);
+            }
             _ => {}
         }
     }
