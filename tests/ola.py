@@ -208,6 +208,34 @@ def olad_takes_a_desk_that_is_started_again():
               f"not at {sorted(failed)}, and the rule says {sorted(wanted)}")
 
 
+def olad_shows_what_a_desks_page_orders():
+    """What is typed on a desk's page reaches OLA; a page of another key, or of another host, lights nothing."""
+    second_space()
+    ola, place, key = Ola(inputs=(1,)), "127.0.0.1:8571", "stage"
+    text = f'version = 1\ncid = "{uuid.UUID(bytes=stage.CID)}"\nname = "Desk"\nuniverses = [1]\nsend_to = []\n[[cue]]\nnumber = 1\nfade = 0\nlevels = [[1, 65535]]\n'
+    show = write("page.toml", text + "[[patch]]\nchannel = 1\nuniverse = 1\nslot = 1\n")
+    said = open(f"{ROOM}/page.said", "w", encoding="utf-8")
+    desk = start([SACN, "desk", show, "--to", DESK, "--page", place, "--key", key], stdin=subprocess.PIPE, stdout=subprocess.DEVNULL, stderr=said)
+    is_served = stage.said("page.said", "page http")
+
+    def order(text, **other):
+        line = http.client.HTTPConnection(place, timeout=10)
+        line.request("POST", "/order", text, {"Origin": f"http://{place}", "X-Key": key, **other})
+        answer = line.getresponse()
+        return answer.status, answer.read().decode().strip()
+
+    seen = [(order("1 at full"), wait(lambda: ola.shows(1) == 255, 5)), (order("1 at 50"), wait(lambda: ola.shows(1) == 127, 5)), (order("blackout"), wait(lambda: ola.shows(1) == 0, 5))]
+    wanted = [((200, "ok 1 at 100 %"), True), ((200, "ok 1 at 50 %"), True), ((200, "ok master at 0 %"), True)]
+    check("olad shows what a desk's page orders", is_served and seen == wanted, f"{seen}; {text_of('page.said')}")
+    refused = [order("restore", **{"Origin": "http://10.77.0.2:8571"})[0], order("restore", **{"X-Key": "Stage"})[0]]
+    is_dark = not wait(lambda: ola.shows(1) != 0, 1.5)
+    check("another page and another key light nothing at olad", refused == [403, 403] and is_dark, f"{refused}, {ola.shows(1)}")
+    is_back = order("restore")[0] == 200 and wait(lambda: ola.shows(1) == 127, 5)
+    desk.stdin.close()
+    desk.wait(timeout=10)
+    check("olad shows the levels of before once the page restores them", is_back, f"{ola.shows(1)}")
+
+
 class Watch:
     """A watch of lines in another namespace that has joined groups there, started as users start it."""
 

@@ -1,13 +1,13 @@
 #!/usr/bin/env bash
 # Runs a desk and a watch beside OLA (olad) and QLC+ (qlcplus), other programs that send and hear E1.31: a desk that is started again lights at once at
-# OLA, and a watch hears both by multicast. Each look (tests/ola.py) is in network namespaces of its own, beside the others.
+# OLA, which shows what a desk's page orders too, and a watch hears both by multicast. Each look (tests/ola.py) is in network namespaces of its own, beside the others.
 # Prints a line 'ok NAME', 'not ok NAME: what was seen' or 'skipped NAME: why' for each check, and 'N passed, M failed' at the end.
 # It takes the built program: crates/sacn/out/sacn, or the path in SACN; words name the looks that are wanted.
 set -u
 top=$(cd "$(dirname "$(readlink -f "$0")")/.." && pwd)
 export SACN=${SACN:-$top/crates/sacn/out/sacn}
 export SACN_JOIN=${SACN_JOIN:-$top/release/$(uname -m)-linux/sacn-join}
-looks=(olad_takes_a_desk_that_is_started_again a_watch_hears_olad a_watch_hears_qlcplus)
+looks=(olad_takes_a_desk_that_is_started_again olad_shows_what_a_desks_page_orders a_watch_hears_olad a_watch_hears_qlcplus)
 [ $# = 0 ] || looks=("$@")
 [ -x "$SACN" ] || { echo "not ok ola: the program is built: $SACN isn't there"; exit 1; }
 work=$(mktemp -d)
