@@ -5,6 +5,7 @@ use crate::line_moment::timed_object;
 use crate::moments::Moments;
 use crate::times::{clock_text, time_text};
 use crate::zone::LocalZone;
+use memchr::memchr;
 use std::io::{Result, Write};
 
 /// How a line has its time.
@@ -100,7 +101,7 @@ impl<'z, O: Write, M: Moments> Stamped<'z, O, M> {
 fn first_line(octets: &[u8]) -> &[u8]
     ensures { length result.now ≤ length octets.now }
 {
-    match octets.iter().position(|octet| *octet == b'\n') {
+    match memchr(b'\n', octets) {
         Some(end) => &octets[..end + 1],
         None => octets,
     }

@@ -6,6 +6,7 @@ ghost use Rattle.std.specs.Prelude.{◌≤◌, length, IfOk};
 
 use crate::room::{FrameLine, MAX_FRAMES, NewestFrames, ROOM_OCTETS, Room};
 use arrayvec::{ArrayString, ArrayVec};
+use memchr::memchr;
 use sacn_edge::Clock;
 use std::alloc::{AllocError, Global};
 use std::fmt::Write as _;
@@ -353,7 +354,7 @@ impl<S: Sink + Drop> Output<S> {
 
 impl<S: Sink + Drop> Write for Output<S> {
     fn write(&mut self, octets: &[u8]) -> Result<usize> {
-        let Some(end) = octets.iter().position(|octet| *octet == b'\n') else {
+        let Some(end) = memchr(b'\n', octets) else {
             self.gather(octets);
             return Ok(octets.len());
         };
