@@ -428,12 +428,13 @@ enum sacn_noted {
 /* What a data packet says of its source on its universe. */
 enum sacn_event {
     SACN_EVENT_NONE = 0,
+    /* It goes on; or it ends a stream that isn't there, since none began, or that had ended or was lost: nothing is new. */
     SACN_EVENT_GOES_ON = 1,
-    /* It wasn't heard there before. */
+    /* None but ends of streams were heard of it there before. */
     SACN_EVENT_APPEARED = 2,
     /* It had ended, or was lost, and sends again. */
     SACN_EVENT_CAME_BACK = 3,
-    /* It ends its stream (6.2.6). */
+    /* It sends, and ends its stream (6.2.6). */
     SACN_EVENT_ENDED = 4,
     /* Discarded: out of sequence, and of the number of the latest one that was taken (6.7.2). */
     SACN_EVENT_OUT_OF_SEQUENCE = 5,

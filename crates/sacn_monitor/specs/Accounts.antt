@@ -10,7 +10,7 @@ use Rattle.sacn_sources.specs.declared.limits.TheConstants.{NETWORK_DATA_LOSS}
 use Rattle.sacn_monitor.specs.declared.account.Account.{Account}
 use Rattle.sacn_monitor.specs.declared.account.Endpoint.{Endpoint}
 use Rattle.sacn_monitor.specs.declared.news.StreamEvent.{StreamEvent}
-use Rattle.sacn_monitor.specs.declared.news.StreamEvent.TheVariants.{GoesOn, CameBack, Ended, OutOfSequence, Repeated}
+use Rattle.sacn_monitor.specs.declared.news.StreamEvent.TheVariants.{GoesOn, Appeared, CameBack, Ended, OutOfSequence, Repeated}
 use Rattle.sacn_monitor.specs.declared.news.Change.{Change}
 use Rattle.sacn_monitor.specs.declared.news.News.{News}
 use Rattle.sacn_monitor.specs.Kinds.{more, no_packets, with_one_more}
@@ -130,9 +130,21 @@ quiet event = record { event = event; skipped = 0; began_anew = false; leaves_ou
 abbrev pub discarded_event : ℕ → Account → StreamEvent
 discarded_event arrived a = if arrived == a.sequence_number then Repeated else OutOfSequence
 
+-- a packet was taken of it that isn't an end
+abbrev pub has_begun : Account → Bool
+has_begun a = nat_lt 0 a.kinds.live || nat_lt 0 a.kinds.previews || nat_lt 0 a.kinds.others
+
+-- there is no stream of it at t: it has ended, or is lost
+abbrev pub is_away : ℕ → Account → Bool
+is_away t a = a.ended || not (is_fresh t a)
+
+-- of the first packet of all, and of a further one: an end of a stream that isn't there begins nothing and ends nothing
+abbrev pub first_event : Bool → StreamEvent
+first_event terminated = if terminated then GoesOn else Appeared
+
 abbrev pub taken_event : ℕ → Bool → Account → StreamEvent
-taken_event t true a = if a.ended then GoesOn else Ended
-taken_event t false a = if a.ended || not (is_fresh t a) then CameBack else GoesOn
+taken_event t true a = if is_away t a then GoesOn else Ended
+taken_event t false a = if is_away t a then (if has_begun a then CameBack else Appeared) else GoesOn
 
 abbrev pub changed : ℕ → ℕ → Option Change
 changed from to = if from == to then None else Some (record { from = from; to = to })

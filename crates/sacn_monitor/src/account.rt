@@ -1,9 +1,10 @@
 //! What is known of one source on one universe.
 
-ghost use Rattle.std.specs.Prelude.{◌≡◌, ◌≤◌, not, length};
+ghost use Rattle.std.specs.Prelude.{◌≡◌, ◌≤◌, not, length, if◌then◌else◌};
 ghost use Rattle.std.specs.Str.{bytes_eq};
 ghost use Rattle.sacn_packets.specs.Naming.{padded};
-ghost use Rattle.sacn_monitor.specs.Accounts.{same_sender, is_fresh, is_discarded, begins_apart, begins_life, lost_at, numbering_at, renumbered, number_news, begins_anew, changed, taken_event, discarded_event, is_next, fitted, name_of, IsFitted, taken_news, news_of, after_packet, after_taken, after_discarded, first_account};
+ghost use Rattle.sacn_monitor.specs.declared.news.StreamEvent.TheVariants.{Appeared, CameBack};
+ghost use Rattle.sacn_monitor.specs.Accounts.{same_sender, is_fresh, is_discarded, begins_apart, begins_life, lost_at, numbering_at, renumbered, number_news, begins_anew, changed, first_event, has_begun, is_away, taken_event, discarded_event, is_next, fitted, name_of, IsFitted, taken_news, news_of, after_packet, after_taken, after_discarded, first_account};
 
 use crate::kinds::Kinds;
 use crate::news::{Change, News, StreamEvent};
@@ -109,22 +110,41 @@ impl Account {
         self.is_fresh(moment) & !in_sequence(self.sequence_number, arrived)
     }
 
-    // The event of a taken packet.
+    // The event of a taken packet. One that ends a stream that isn't there tells nothing.
     fn taken_event(&self, moment: u64, terminated: bool) -> StreamEvent
         ensures { result ≡ taken_event moment terminated self.now }
     {
-        if terminated {
-            return if self.ended {
-                StreamEvent::GoesOn
-            } else {
-                StreamEvent::Ended
-            };
+        match (self.is_away(moment), terminated) {
+            (true, true) => StreamEvent::GoesOn,
+            (true, false) => self.arrival(),
+            (false, true) => StreamEvent::Ended,
+            (false, false) => StreamEvent::GoesOn,
         }
-        if self.ended | !self.is_fresh(moment) {
+    }
+
+    // Whether there is no stream of it: it has ended, or is lost.
+    fn is_away(&self, moment: u64) -> bool
+        ensures { result ≡ is_away moment self.now }
+    {
+        self.ended | !self.is_fresh(moment)
+    }
+
+    // The event of a packet that brings a stream where there is none.
+    fn arrival(&self) -> StreamEvent
+        ensures { result ≡ (if has_begun self.now then CameBack else Appeared) }
+    {
+        if self.has_begun() {
             StreamEvent::CameBack
         } else {
-            StreamEvent::GoesOn
+            StreamEvent::Appeared
         }
+    }
+
+    // Whether a packet was taken of it that isn't an end.
+    fn has_begun(&self) -> bool
+        ensures { result ≡ has_begun self.now }
+    {
+        (self.kinds.live > 0) | (self.kinds.previews > 0) | (self.kinds.others > 0)
     }
 
     // Whether a taken packet is the first of a stream: the one before was lost, or had ended.
@@ -254,6 +274,17 @@ impl Account {
         self.greatest_gap = self.greatest_gap.max(gap);
         self.rate.count(moment);
         news
+    }
+}
+
+/// The event of the first packet of all of a source. One that ends a stream tells nothing: there is none.
+pub(crate) fn first_event(terminated: bool) -> StreamEvent
+    ensures { result ≡ first_event terminated }
+{
+    if terminated {
+        StreamEvent::GoesOn
+    } else {
+        StreamEvent::Appeared
     }
 }
 

@@ -6,9 +6,9 @@ ghost use Rattle.sacn_monitor.specs.Streams.{stream_after};
 ghost use Rattle.sacn_monitor.specs.Books.{next_loss};
 ghost use Rattle.sacn_monitor.specs.Rivals.{top_priority, rivals};
 
-use crate::account::Endpoint;
+use crate::account::{Endpoint, first_event};
 use crate::limits::MAX_STREAMS;
-use crate::news::{News, Noted, StreamEvent};
+use crate::news::{News, Noted};
 use crate::register::Register;
 use crate::rivals::{rivals, top_priority};
 use crate::silence::next_loss;
@@ -217,7 +217,7 @@ impl Monitor {
         if place < MAX_STREAMS {
             self.streams
                 .admit(Stream::begin(self.moment, sender, packet));
-            return Noted::Heard(place, News::quiet(StreamEvent::Appeared));
+            return Noted::Heard(place, News::quiet(first_event(packet.terminated())));
         }
         self.tally.untracked = self.tally.untracked.saturating_add(1);
         Noted::Untracked
