@@ -542,8 +542,8 @@ int sacn_monitor_count(struct sacn_monitor *monitor, size_t *count);
 int sacn_monitor_account(struct sacn_monitor *monitor, size_t place, struct sacn_stream *stream);
 
 /* The greatest priority of the sources that light a universe, 0 where none does, and how many light it at that priority: where these are two or
-   more, their levels are merged. A source lights it that sends there at the greatest moment that was handed in, and of which a packet with levels
-   for the stage was taken. */
+   more, their levels are merged. A source lights it whose levels a node holds at the greatest moment that was handed in: from
+   a packet with levels for the stage on, at its priority, until the source ends or 2500 ms after the latest such packet. */
 int sacn_monitor_rivals(struct sacn_monitor *monitor, uint16_t universe, size_t *count, uint8_t *priority);
 
 #ifdef __cplusplus

@@ -6,12 +6,13 @@ ghost use Rattle.sacn_packets.specs.Naming.{padded};
 ghost use Rattle.sacn_monitor.specs.declared.news.StreamEvent.TheVariants.{Appeared, CameBack};
 ghost use Rattle.sacn_monitor.specs.Accounts.{same_sender, is_fresh, is_discarded, begins_apart, begins_life, lost_at, numbering_at, renumbered, number_news, begins_anew, changed, first_event, has_begun, is_away, taken_event, discarded_event, is_next, fitted, name_of, IsFitted, taken_news, news_of, after_packet, after_taken, after_discarded, first_account};
 
+use crate::holding::Holding;
 use crate::kinds::Kinds;
 use crate::news::{Change, News, StreamEvent};
 use crate::numbering::{NumberNews, Numbering, OPENING_STEP};
 use crate::rate::Rate;
 use sacn_packets::{DataView, put};
-use sacn_sources::{NETWORK_DATA_LOSS, in_sequence, signed_step};
+use sacn_sources::{NETWORK_DATA_LOSS, in_sequence, kind_of, signed_step};
 
 /// Where a datagram came from.
 #[derive(Clone, Copy, PartialEq, Eq)]
@@ -44,6 +45,8 @@ pub struct Account {
     pub ended: bool,
     /// The taken packets, by kind.
     pub kinds: Kinds,
+    /// What a node holds of the source on the universe.
+    pub holding: Holding,
     /// How the source numbers its packets.
     pub numbering: Numbering,
     /// The sequence numbers that taken packets skipped: packets lost on the way.
@@ -65,7 +68,8 @@ impl Account {
         ensures { result ≡ first_account moment sender packet.now }
     {
         let mut kinds = Kinds::none();
-        kinds.count(packet);
+        let kind = kind_of(packet);
+        kinds.count(kind);
         Account {
             sender,
             name: fitted(packet.name()),
@@ -75,6 +79,7 @@ impl Account {
             sequence_number: packet.number(),
             ended: packet.terminated(),
             kinds,
+            holding: Holding::Nothing.after(moment, kind, packet.priority()),
             numbering: Numbering::first(),
             skipped: 0,
             late: 0,
@@ -255,6 +260,8 @@ impl Account {
     {
         let number = self.note_number(moment, packet.terminated(), packet.number());
         let gap = moment.saturating_sub(self.latest);
+        let kind = kind_of(packet);
+        let holding = self.holding.after(moment, kind, packet.priority());
         let news = News {
             event: self.taken_event(moment, packet.terminated()),
             skipped: number.skipped,
@@ -263,13 +270,15 @@ impl Account {
             priority: change(self.priority, packet.priority()),
             renamed: rename(&mut self.name, packet),
             moved: !same_sender(&self.sender, &sender),
+            relit: self.holding.is_relit(self.latest, moment, holding),
         };
         self.sender = sender;
         self.priority = packet.priority();
         self.latest = moment;
         self.sequence_number = packet.number();
         self.ended = packet.terminated();
-        self.kinds.count(packet);
+        self.kinds.count(kind);
+        self.holding = holding;
         self.skipped = self.skipped.saturating_add(u64::from(number.skipped));
         self.greatest_gap = self.greatest_gap.max(gap);
         self.rate.count(moment);

@@ -152,8 +152,8 @@ impl Monitor {
         &self.tally
     }
 
-    /// The greatest priority of the sources that light a universe (E1.31, 6.2.3), 0 where none does: those that send there
-    /// at the greatest moment handed in, and of which a packet with levels for the stage was taken.
+    /// The greatest priority of the sources that light a universe (E1.31, 6.2.3), 0 where none does: those of which a node holds
+    /// levels there at the greatest moment handed in (`Stream::lights`).
     pub fn top_priority(&self, universe: u16) -> u8
         ensures { result ≡ top_priority universe self.now.moment self.now.streams }
     {

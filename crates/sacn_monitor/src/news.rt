@@ -44,6 +44,9 @@ pub struct News {
     pub renamed: bool,
     /// The packet comes from another address or port than the one before.
     pub moved: bool,
+    /// The source lights the universe from now on, lights it at another priority, or lights it no more; or that was so between the
+    /// packet before and this one.
+    pub relit: bool,
 }
 
 impl News {
@@ -59,6 +62,7 @@ impl News {
             priority: None,
             renamed: false,
             moved: false,
+            relit: false,
         }
     }
 }

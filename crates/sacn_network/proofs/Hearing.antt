@@ -171,7 +171,7 @@ noted_hears (noted.Heard place news) n = stirred_heard (stirred_universe (slice_
 
 module _ (sender : Endpoint) (d : Data) (b : Book) (heard : List ℕ) (hears : Hears heard b.streams) where
   first_stirs : (terminated : Bool) (y : Stream) → y.account.ended ≡ terminated → stirred_universe (Some y) (quiet (first_event terminated)) ≡ Some y.universe
-  first_stirs true y ends = ap (λ (e : Bool). cond (false || e || false || (y.account.kinds.live == 1)) (Some y.universe) None) ends
+  first_stirs true y ends = ap (λ (e : Bool). cond (false || e || false) (Some y.universe) None) ends
   first_stirs false y ends = refl
 
   appeared : (y : Stream) → y.account.ended ≡ d.terminated → Hears (heard_after (stirred_universe (slice_get (b.streams ++ y ∷ []) (length b.streams)) (quiet (first_event d.terminated))) heard) (b.streams ++ y ∷ [])
