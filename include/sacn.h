@@ -428,12 +428,13 @@ enum sacn_noted {
 /* What a data packet says of its source on its universe. */
 enum sacn_event {
     SACN_EVENT_NONE = 0,
+    /* It goes on; or it ends a stream that isn't there, since none began, or that had ended or was lost: nothing is new. */
     SACN_EVENT_GOES_ON = 1,
-    /* It wasn't heard there before. */
+    /* None but ends of streams were heard of it there before. */
     SACN_EVENT_APPEARED = 2,
     /* It had ended, or was lost, and sends again. */
     SACN_EVENT_CAME_BACK = 3,
-    /* It ends its stream (6.2.6). */
+    /* It sends, and ends its stream (6.2.6). */
     SACN_EVENT_ENDED = 4,
     /* Discarded: out of sequence, and of the number of the latest one that was taken (6.7.2). */
     SACN_EVENT_OUT_OF_SEQUENCE = 5,
@@ -541,8 +542,8 @@ int sacn_monitor_count(struct sacn_monitor *monitor, size_t *count);
 int sacn_monitor_account(struct sacn_monitor *monitor, size_t place, struct sacn_stream *stream);
 
 /* The greatest priority of the sources that light a universe, 0 where none does, and how many light it at that priority: where these are two or
-   more, their levels are merged. A source lights it that sends there at the greatest moment that was handed in, and of which a packet with levels
-   for the stage was taken. */
+   more, their levels are merged. A source lights it whose levels a node holds at the greatest moment that was handed in: from
+   a packet with levels for the stage on, at its priority, until the source ends or 2500 ms after the latest such packet. */
 int sacn_monitor_rivals(struct sacn_monitor *monitor, uint16_t universe, size_t *count, uint8_t *priority);
 
 #ifdef __cplusplus

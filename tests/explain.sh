@@ -335,9 +335,36 @@ def pair(path):
     r.sent(2600, 5, data(A, b"Main FOH", 1, 3, options=0x40))
     r.sent(2700, 9, b"z", port=53)
 
-{"events": events, "many": many, "listings": listings, "silent": silent, "pair": pair}[sys.argv[1]](sys.argv[2])
+def strays(path):
+    r = Recording(path)
+    for number in range(3):
+        r.sent(20 * number, 5, data(A, b"Desk", 1, number, options=0x40))
+    r.sent(100, 5, data(A, b"Desk", 1, 3, b"\x80"))
+    r.sent(2700, 5, data(A, b"Desk", 1, 4, options=0x40))
+    r.sent(2800, 9, b"z", port=53)
+
+def previews(path):
+    r = Recording(path)
+    for turn in range(32):
+        r.sent(200 * turn, 5, data(A, b"Desk", 1, turn, b"\x80"))
+        if turn == 1:
+            r.sent(300, 6, data(B, b"Spare", 1, 0, b"\x40", options=0x80))
+        elif turn == 2:
+            r.sent(500, 6, data(B, b"Spare", 1, 1, b"\x40"))
+        elif turn == 3:
+            r.sent(700, 6, data(B, b"Spare", 1, 2, b"\x40", priority=150, options=0x80))
+        elif 3 < turn < 28:
+            r.sent(200 * turn + 100, 6, data(B, b"Spare", 1, turn - 1, b"\x40", options=0x80))
+        elif turn == 28:
+            r.sent(5700, 6, data(B, b"Spare", 1, 27, b"\x40"))
+        elif turn == 29:
+            r.sent(5900, 6, data(B, b"Spare", 1, 28, options=0x40))
+        elif turn == 30:
+            r.sent(6100, 6, data(B, b"Spare", 1, 29, b"\x40", options=0x80))
+
+{"events": events, "many": many, "listings": listings, "silent": silent, "pair": pair, "strays": strays, "previews": previews}[sys.argv[1]](sys.argv[2])
 P
-for name in events many listings silent pair; do python3 recordings.py "$name" "$name.pcap" || exit 1; done
+for name in events many listings silent pair strays previews; do python3 recordings.py "$name" "$name.pcap" || exit 1; done
 
 A=aaaaaaaaaaaaaaaaaaaaaaaaaaaaaaaa
 B=bbbbbbbbbbbbbbbbbbbbbbbbbbbbbbbb
@@ -477,6 +504,36 @@ E
 begins "two sources that meet" pair.lines pair.pcap
 sed '$d; s/1-8/7/; s/2-4, 7/7/' pair.lines >seventh.lines
 begins "two that meet on one universe" seventh.lines pair.pcap --universe 7
+
+# happens NAME WANTED WORD..: a run of explain tells these lines of what happened on universes
+happens() {
+  local name=$1 wanted=$2
+  shift 2
+  "$sacn" explain --each "$@" </dev/null 2>err | grep -E '^ +[0-9.]+ s  universe ' >out
+  cmp -s "$wanted" out && echo "ok explain: $name" || echo "not ok explain: $name: $(diff "$wanted" out | head -n 3 | tr '\n' '|')"
+}
+# A recording that begins with the three terminations of a stream, and has another one of a source that is lost: these begin nothing and end nothing.
+cat >strays.lines <<'E'
+     0.100 s  "Desk" aaaa..aa appears on 1 at 10.0.0.5:5000, priority 100
+     2.600 s  "Desk" aaaa..aa lost on 1
+E
+cat >strays.each <<E
+     0.100 s  universe     1  $A "Desk"  appears at 10.0.0.5:5000, priority 100
+     2.600 s  universe     1  $A "Desk"  is lost: silent since 0.100 s
+E
+# Spare sends previews alone at 0.3 s, levels at 0.5 s, and then previews alone until 5.5 s, one of them at another priority: its levels are held from 0.5 s to 3 s, and
+# its next packet comes at 3.1 s. It sends levels again at 5.7 s, ends its stream at 5.9 s, and previews alone bring it back.
+cat >previews.each <<E
+     0.500 s  universe     1  2 sources send at the top priority, 100
+     3.100 s  universe     1  one source alone sends at the top priority, 100
+     5.700 s  universe     1  2 sources send at the top priority, 100
+     5.900 s  universe     1  one source alone sends at the top priority, 100
+E
+"$sacn" explain previews.pcap --each </dev/null 2>err | grep ' at the top priority, ' >out
+cmp -s previews.each out && echo "ok explain: rivals are those whose levels are held" || echo "not ok explain: rivals are those whose levels are held: $(diff previews.each out | head -n 3 | tr '\n' '|')"
+begins "terminations of streams that aren't there" strays.lines strays.pcap
+happens "the same of each universe" strays.each strays.pcap
+"$sacn" explain strays.pcap --json </dev/null 2>err | grep -q '"row":"source",.*"live":1,"preview":0,"terminated":4,' && echo "ok explain: and they are counted" || echo "not ok explain: and they are counted"
 
 # frame PORT MOMENT DIGITS: the line of a frame as a node prints it, the start code and slots of these digits, and 0 in the rest
 frame() { printf '%s %s 00%s%0*d\n' "$1" "$2" "$3" $((1024 - ${#3})) 0; }

@@ -169,7 +169,9 @@ impl<E: Write + Drop> SourceLines<E> {
             other,
             is_former: false,
         };
-        self.network.take(now, sender, reading, &mut teller)
+        let noted = self.network.take(now, sender, reading, &mut teller);
+        teller.tell_other_end(now, noted, self.network.monitor());
+        noted
     }
 
     // A new account stands in place of this one.
@@ -235,17 +237,33 @@ impl<'s, 'o, E: Write> Teller<'s, 'o, E> {
         }
     }
 
-    // What is said of a source's first packet here, unless it was said before: it is there, or it ends.
+    // What is said of a source that appears here, unless it was said before.
     fn appeared(&self, at: u64, stream: &Stream) -> Option<&'static str> {
-        let before = match self.other_of(stream) {
-            Some(other) => Some(other.state(at)),
-            None => None,
+        if self.sends_there(at, stream) {
+            None
+        } else {
+            Some("came")
+        }
+    }
+
+    // Says the end of a source that sent where another account stands in place of this one: here it is the end of none.
+    fn tell_other_end(&mut self, at: u64, noted: Noted, monitor: &Monitor) {
+        let Noted::Heard(place, _) = noted else {
+            return;
         };
-        match (stream.account.ended, before) {
-            (true, Some(StreamState::Ended)) => None,
-            (true, _) => Some("ended"),
-            (false, Some(StreamState::Sending)) => None,
-            (false, _) => Some("came"),
+        if let Some(stream) = monitor.streams().get(place) {
+            let is_first = stream.account.ended & (stream.account.kinds.total() == 1);
+            if is_first && self.sends_there(at, stream) {
+                self.speaker.say(at, stream, "ended");
+            }
+        }
+    }
+
+    // Whether a source sends, as the other account has it.
+    fn sends_there(&self, at: u64, stream: &Stream) -> bool {
+        match self.other_of(stream) {
+            Some(other) => other.state(at) == StreamState::Sending,
+            None => false,
         }
     }
 

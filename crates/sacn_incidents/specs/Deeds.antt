@@ -6,9 +6,8 @@ use Rattle.std.specs.Option.{option_and_then, option_map}
 use Rattle.sacn_monitor.specs.declared.stream.Stream.{Stream}
 use Rattle.sacn_monitor.specs.declared.news.StreamEvent.{StreamEvent}
 use Rattle.sacn_monitor.specs.declared.news.StreamEvent.TheVariants.{GoesOn, Appeared, CameBack, Ended, OutOfSequence, Repeated}
-use Rattle.sacn_monitor.specs.Accounts.{is_fresh}
 use Rattle.sacn_monitor.specs.Books.{Book}
-use Rattle.sacn_monitor.specs.Rivals.{lights}
+use Rattle.sacn_monitor.specs.Rivals.{lights, priority_at}
 use Rattle.sacn_network.specs.declared.occurrence.Contest.{Contest as ContestOf}
 use Rattle.sacn_network.specs.declared.occurrence.What.{What}
 use Rattle.sacn_network.specs.declared.occurrence.What.TheVariants.{Contest, Heard, Lost, Refused, Untracked}
@@ -45,13 +44,9 @@ presence_of GoesOn = None
 presence_of OutOfSequence = None
 presence_of Repeated = None
 
--- a source sends on its universe
-abbrev pub sends : ℕ → Stream → Bool
-sends at s = not s.account.ended && is_fresh at s.account
-
 -- a source lights a contested universe at its top priority
 abbrev pub meets : ℕ → ContestOf → Stream → Bool
-meets at c s = lights c.universe at s && (s.account.priority == c.priority)
+meets at c s = lights c.universe at s && (priority_at at s == c.priority)
 
 abbrev pub rival_by : ContestOf → Stream → Rival
 rival_by c s = record { cid = s.cid; priority = c.priority; sources = c.sources }

@@ -2,10 +2,10 @@
 
 ghost use Rattle.std.specs.Prelude.{◌≡◌, ◌+◌, drop};
 ghost use Rattle.std.specs.List.{position};
-ghost use Rattle.sacn_incidents.specs.Deeds.{meeting_at, meets, rival_at, sends};
+ghost use Rattle.sacn_incidents.specs.Deeds.{meeting_at, meets, rival_at};
 
 use crate::deed::{Act, Deed, Rival, deed_at};
-use sacn_monitor::{Monitor, Stream, StreamState};
+use sacn_monitor::{Monitor, Stream};
 use sacn_network::Contest;
 
 /// The deed of the first source, as they appeared, that lights a contested universe at its top priority: it meets the second
@@ -42,17 +42,5 @@ fn place_of(at: u64, contest: &Contest, streams: &[Stream]) -> Option<usize>
 fn meets(at: u64, contest: &Contest, stream: &Stream) -> bool
     ensures { result ≡ meets at contest.now stream.now }
 {
-    (stream.universe == contest.universe)
-        & (stream.account.priority == contest.priority)
-        & (stream.account.kinds.live > 0)
-        & sends(at, stream)
-}
-
-fn sends(at: u64, stream: &Stream) -> bool
-    ensures { result ≡ sends at stream.now }
-{
-    match stream.state(at) {
-        StreamState::Sending => true,
-        StreamState::Ended | StreamState::Lost => false,
-    }
+    stream.lights(contest.universe, at) & (stream.priority_at(at) == contest.priority)
 }

@@ -10,9 +10,11 @@ use Rattle.sacn_sources.specs.declared.limits.TheConstants.{NETWORK_DATA_LOSS}
 use Rattle.sacn_monitor.specs.declared.account.Account.{Account}
 use Rattle.sacn_monitor.specs.declared.account.Endpoint.{Endpoint}
 use Rattle.sacn_monitor.specs.declared.news.StreamEvent.{StreamEvent}
-use Rattle.sacn_monitor.specs.declared.news.StreamEvent.TheVariants.{GoesOn, CameBack, Ended, OutOfSequence, Repeated}
+use Rattle.sacn_monitor.specs.declared.news.StreamEvent.TheVariants.{GoesOn, Appeared, CameBack, Ended, OutOfSequence, Repeated}
 use Rattle.sacn_monitor.specs.declared.news.Change.{Change}
 use Rattle.sacn_monitor.specs.declared.news.News.{News}
+use Rattle.sacn_monitor.specs.declared.holding.Holding.TheVariants.{Nothing}
+use Rattle.sacn_monitor.specs.Holdings.{held_after, is_relit}
 use Rattle.sacn_monitor.specs.Kinds.{more, no_packets, with_one_more}
 use Rattle.sacn_monitor.specs.Rates.{first_rate, rate_after}
 use Rattle.sacn_monitor.specs.declared.numbering.Numbering.{Numbering}
@@ -93,6 +95,7 @@ after_taken t sender d a = record {
   sequence_number = d.number;
   ended = d.terminated;
   kinds = with_one_more (kind_of d) a.kinds;
+  holding = held_after t (kind_of d) d.priority a.holding;
   numbering = numbering_at (begins_life t d.terminated a) d.number a;
   skipped = more (lost_at t d.terminated d.number a) a.skipped;
   late = a.late;
@@ -114,6 +117,7 @@ first_account t sender d = record {
   sequence_number = d.number;
   ended = d.terminated;
   kinds = with_one_more (kind_of d) no_packets;
+  holding = held_after t (kind_of d) d.priority Nothing;
   numbering = first_numbering;
   skipped = 0;
   late = 0;
@@ -125,14 +129,26 @@ first_account t sender d = record {
 -- ---- what it tells that is new
 
 abbrev pub quiet : StreamEvent → News
-quiet event = record { event = event; skipped = 0; began_anew = false; leaves_out = None; priority = None; renamed = false; moved = false }
+quiet event = record { event = event; skipped = 0; began_anew = false; leaves_out = None; priority = None; renamed = false; moved = false; relit = false }
 
 abbrev pub discarded_event : ℕ → Account → StreamEvent
 discarded_event arrived a = if arrived == a.sequence_number then Repeated else OutOfSequence
 
+-- a packet was taken of it that isn't an end
+abbrev pub has_begun : Account → Bool
+has_begun a = nat_lt 0 a.kinds.live || nat_lt 0 a.kinds.previews || nat_lt 0 a.kinds.others
+
+-- there is no stream of it at t: it has ended, or is lost
+abbrev pub is_away : ℕ → Account → Bool
+is_away t a = a.ended || not (is_fresh t a)
+
+-- of the first packet of all, and of a further one: an end of a stream that isn't there begins nothing and ends nothing
+abbrev pub first_event : Bool → StreamEvent
+first_event terminated = if terminated then GoesOn else Appeared
+
 abbrev pub taken_event : ℕ → Bool → Account → StreamEvent
-taken_event t true a = if a.ended then GoesOn else Ended
-taken_event t false a = if a.ended || not (is_fresh t a) then CameBack else GoesOn
+taken_event t true a = if is_away t a then GoesOn else Ended
+taken_event t false a = if is_away t a then (if has_begun a then CameBack else Appeared) else GoesOn
 
 abbrev pub changed : ℕ → ℕ → Option Change
 changed from to = if from == to then None else Some (record { from = from; to = to })
@@ -146,6 +162,7 @@ taken_news t sender d a = record {
   priority = changed a.priority d.priority;
   renamed = not (bytes_eq a.name (name_of d));
   moved = not (same_sender a.sender sender);
+  relit = is_relit a.latest t a.holding (held_after t (kind_of d) d.priority a.holding);
 }
 
 abbrev pub news_of : ℕ → Endpoint → Data → Account → News

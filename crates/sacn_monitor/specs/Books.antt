@@ -10,12 +10,11 @@ use Rattle.sacn_monitor.specs.declared.account.Account.{Account}
 use Rattle.sacn_monitor.specs.declared.account.Endpoint.{Endpoint}
 use Rattle.sacn_monitor.specs.declared.stream.Stream.{Stream}
 use Rattle.sacn_monitor.specs.declared.tally.Tally.{Tally}
-use Rattle.sacn_monitor.specs.declared.news.StreamEvent.TheVariants.{Appeared}
 use Rattle.sacn_monitor.specs.declared.news.Noted.{Noted}
 use Rattle.sacn_monitor.specs.declared.news.Noted.TheVariants.{Refused, Page, Sync, Untracked, Heard}
 use Rattle.sacn_monitor.specs.declared.limits.TheConstants.{MAX_STREAMS}
 use Rattle.sacn_monitor.specs.Kinds.{more}
-use Rattle.sacn_monitor.specs.Accounts.{quiet, news_of}
+use Rattle.sacn_monitor.specs.Accounts.{first_event, quiet, news_of}
 use Rattle.sacn_monitor.specs.Streams.{is_of, first_stream, stream_after, loss_of, falls_silent}
 use Rattle.sacn_monitor.specs.Tallies.{nothing_tallied, refused_more}
 
@@ -47,7 +46,7 @@ news_at t sender d i None = Untracked
 news_at t sender d i (Some s) = Heard i (news_of t sender d s.account)
 
 unfoldable pub noted_data : Endpoint → Data → Book → Option ℕ → Noted
-noted_data sender d b None = if nat_lt (length b.streams) MAX_STREAMS then Heard (length b.streams) (quiet Appeared) else Untracked
+noted_data sender d b None = if nat_lt (length b.streams) MAX_STREAMS then Heard (length b.streams) (quiet (first_event d.terminated)) else Untracked
 noted_data sender d b (Some i) = news_at b.moment sender d i (slice_get b.streams i)
 
 abbrev pub untracked : Book → Book

@@ -1,6 +1,7 @@
 pub mod Kinds
 pub mod Rates
 pub mod Numberings
+pub mod Holdings
 pub mod Accounts
 pub mod Streams
 pub mod Chains

@@ -1,16 +1,18 @@
 //! What is known of one source on one universe.
 
-ghost use Rattle.std.specs.Prelude.{◌≡◌, ◌≤◌, not, length};
+ghost use Rattle.std.specs.Prelude.{◌≡◌, ◌≤◌, not, length, if◌then◌else◌};
 ghost use Rattle.std.specs.Str.{bytes_eq};
 ghost use Rattle.sacn_packets.specs.Naming.{padded};
-ghost use Rattle.sacn_monitor.specs.Accounts.{same_sender, is_fresh, is_discarded, begins_apart, begins_life, lost_at, numbering_at, renumbered, number_news, begins_anew, changed, taken_event, discarded_event, is_next, fitted, name_of, IsFitted, taken_news, news_of, after_packet, after_taken, after_discarded, first_account};
+ghost use Rattle.sacn_monitor.specs.declared.news.StreamEvent.TheVariants.{Appeared, CameBack};
+ghost use Rattle.sacn_monitor.specs.Accounts.{same_sender, is_fresh, is_discarded, begins_apart, begins_life, lost_at, numbering_at, renumbered, number_news, begins_anew, changed, first_event, has_begun, is_away, taken_event, discarded_event, is_next, fitted, name_of, IsFitted, taken_news, news_of, after_packet, after_taken, after_discarded, first_account};
 
+use crate::holding::Holding;
 use crate::kinds::Kinds;
 use crate::news::{Change, News, StreamEvent};
 use crate::numbering::{NumberNews, Numbering, OPENING_STEP};
 use crate::rate::Rate;
 use sacn_packets::{DataView, put};
-use sacn_sources::{NETWORK_DATA_LOSS, in_sequence, signed_step};
+use sacn_sources::{NETWORK_DATA_LOSS, in_sequence, kind_of, signed_step};
 
 /// Where a datagram came from.
 #[derive(Clone, Copy, PartialEq, Eq)]
@@ -43,6 +45,8 @@ pub struct Account {
     pub ended: bool,
     /// The taken packets, by kind.
     pub kinds: Kinds,
+    /// What a node holds of the source on the universe.
+    pub holding: Holding,
     /// How the source numbers its packets.
     pub numbering: Numbering,
     /// The sequence numbers that taken packets skipped: packets lost on the way.
@@ -64,7 +68,8 @@ impl Account {
         ensures { result ≡ first_account moment sender packet.now }
     {
         let mut kinds = Kinds::none();
-        kinds.count(packet);
+        let kind = kind_of(packet);
+        kinds.count(kind);
         Account {
             sender,
             name: fitted(packet.name()),
@@ -74,6 +79,7 @@ impl Account {
             sequence_number: packet.number(),
             ended: packet.terminated(),
             kinds,
+            holding: Holding::Nothing.after(moment, kind, packet.priority()),
             numbering: Numbering::first(),
             skipped: 0,
             late: 0,
@@ -109,22 +115,41 @@ impl Account {
         self.is_fresh(moment) & !in_sequence(self.sequence_number, arrived)
     }
 
-    // The event of a taken packet.
+    // The event of a taken packet. One that ends a stream that isn't there tells nothing.
     fn taken_event(&self, moment: u64, terminated: bool) -> StreamEvent
         ensures { result ≡ taken_event moment terminated self.now }
     {
-        if terminated {
-            return if self.ended {
-                StreamEvent::GoesOn
-            } else {
-                StreamEvent::Ended
-            };
+        match (self.is_away(moment), terminated) {
+            (true, true) => StreamEvent::GoesOn,
+            (true, false) => self.arrival(),
+            (false, true) => StreamEvent::Ended,
+            (false, false) => StreamEvent::GoesOn,
         }
-        if self.ended | !self.is_fresh(moment) {
+    }
+
+    // Whether there is no stream of it: it has ended, or is lost.
+    fn is_away(&self, moment: u64) -> bool
+        ensures { result ≡ is_away moment self.now }
+    {
+        self.ended | !self.is_fresh(moment)
+    }
+
+    // The event of a packet that brings a stream where there is none.
+    fn arrival(&self) -> StreamEvent
+        ensures { result ≡ (if has_begun self.now then CameBack else Appeared) }
+    {
+        if self.has_begun() {
             StreamEvent::CameBack
         } else {
-            StreamEvent::GoesOn
+            StreamEvent::Appeared
         }
+    }
+
+    // Whether a packet was taken of it that isn't an end.
+    fn has_begun(&self) -> bool
+        ensures { result ≡ has_begun self.now }
+    {
+        (self.kinds.live > 0) | (self.kinds.previews > 0) | (self.kinds.others > 0)
     }
 
     // Whether a taken packet is the first of a stream: the one before was lost, or had ended.
@@ -235,6 +260,8 @@ impl Account {
     {
         let number = self.note_number(moment, packet.terminated(), packet.number());
         let gap = moment.saturating_sub(self.latest);
+        let kind = kind_of(packet);
+        let holding = self.holding.after(moment, kind, packet.priority());
         let news = News {
             event: self.taken_event(moment, packet.terminated()),
             skipped: number.skipped,
@@ -243,17 +270,30 @@ impl Account {
             priority: change(self.priority, packet.priority()),
             renamed: rename(&mut self.name, packet),
             moved: !same_sender(&self.sender, &sender),
+            relit: self.holding.is_relit(self.latest, moment, holding),
         };
         self.sender = sender;
         self.priority = packet.priority();
         self.latest = moment;
         self.sequence_number = packet.number();
         self.ended = packet.terminated();
-        self.kinds.count(packet);
+        self.kinds.count(kind);
+        self.holding = holding;
         self.skipped = self.skipped.saturating_add(u64::from(number.skipped));
         self.greatest_gap = self.greatest_gap.max(gap);
         self.rate.count(moment);
         news
+    }
+}
+
+/// The event of the first packet of all of a source. One that ends a stream tells nothing: there is none.
+pub(crate) fn first_event(terminated: bool) -> StreamEvent
+    ensures { result ≡ first_event terminated }
+{
+    if terminated {
+        StreamEvent::GoesOn
+    } else {
+        StreamEvent::Appeared
     }
 }
 

@@ -1,11 +1,9 @@
 //! How many packets there were of each kind.
 
 ghost use Rattle.std.specs.Prelude.{◌≡◌};
-ghost use Rattle.sacn_sources.specs.Packets.{kind_of};
 ghost use Rattle.sacn_monitor.specs.Kinds.{no_packets, with_one_more, total};
 
-use sacn_packets::DataView;
-use sacn_sources::{Kind, kind_of};
+use sacn_sources::Kind;
 
 /// How many packets were taken of each kind. Each count stops at 2^64 - 1.
 #[derive(Clone, Copy, PartialEq, Eq)]
@@ -43,11 +41,11 @@ impl Kinds {
         }
     }
 
-    /// One packet more.
-    pub(crate) fn count(&mut self, packet: &DataView<'_>)
-        ensures { self.new ≡ with_one_more (kind_of packet.now) self.old }
+    /// One packet more, of this kind.
+    pub(crate) fn count(&mut self, kind: Kind)
+        ensures { self.new ≡ with_one_more kind self.old }
     {
-        match kind_of(packet) {
+        match kind {
             Kind::Termination => self.terminations = self.terminations.saturating_add(1),
             Kind::Preview => self.previews = self.previews.saturating_add(1),
             Kind::Live => self.live = self.live.saturating_add(1),

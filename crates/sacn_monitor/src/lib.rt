@@ -6,6 +6,7 @@
 #![tactic(auto)]
 
 mod account;
+mod holding;
 mod kinds;
 pub mod laws;
 mod limits;
@@ -20,6 +21,7 @@ mod stream;
 mod tally;
 
 pub use account::{Account, Endpoint};
+pub use holding::Holding;
 pub use kinds::Kinds;
 pub use limits::MAX_STREAMS;
 pub use monitor::Monitor;

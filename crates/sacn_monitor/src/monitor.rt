@@ -6,9 +6,9 @@ ghost use Rattle.sacn_monitor.specs.Streams.{stream_after};
 ghost use Rattle.sacn_monitor.specs.Books.{next_loss};
 ghost use Rattle.sacn_monitor.specs.Rivals.{top_priority, rivals};
 
-use crate::account::Endpoint;
+use crate::account::{Endpoint, first_event};
 use crate::limits::MAX_STREAMS;
-use crate::news::{News, Noted, StreamEvent};
+use crate::news::{News, Noted};
 use crate::register::Register;
 use crate::rivals::{rivals, top_priority};
 use crate::silence::next_loss;
@@ -152,8 +152,8 @@ impl Monitor {
         &self.tally
     }
 
-    /// The greatest priority of the sources that light a universe (E1.31, 6.2.3), 0 where none does: those that send there
-    /// at the greatest moment handed in, and of which a packet with levels for the stage was taken.
+    /// The greatest priority of the sources that light a universe (E1.31, 6.2.3), 0 where none does: those of which a node holds
+    /// levels there at the greatest moment handed in (`Stream::lights`).
     pub fn top_priority(&self, universe: u16) -> u8
         ensures { result ≡ top_priority universe self.now.moment self.now.streams }
     {
@@ -217,7 +217,7 @@ impl Monitor {
         if place < MAX_STREAMS {
             self.streams
                 .admit(Stream::begin(self.moment, sender, packet));
-            return Noted::Heard(place, News::quiet(StreamEvent::Appeared));
+            return Noted::Heard(place, News::quiet(first_event(packet.terminated())));
         }
         self.tally.untracked = self.tally.untracked.saturating_add(1);
         Noted::Untracked

@@ -8,13 +8,13 @@ use sacn_packets::PacketFault;
 /// What a packet says of its source on its universe.
 #[derive(Clone, Copy, Debug, PartialEq, Eq)]
 pub enum StreamEvent {
-    /// It goes on.
+    /// It goes on; or it ends a stream that isn't there, since none began, or that had ended or was lost: nothing is new.
     GoesOn,
-    /// It wasn't heard there before.
+    /// None but ends of streams were heard of it there before.
     Appeared,
     /// It had ended, or was lost, and sends again.
     CameBack,
-    /// It says that it ends its stream (E1.31, 6.2.6).
+    /// It sends, and says that it ends its stream (E1.31, 6.2.6).
     Ended,
     /// The packet comes out of sequence, and is discarded (E1.31, 6.7.2).
     OutOfSequence,
@@ -44,6 +44,9 @@ pub struct News {
     pub renamed: bool,
     /// The packet comes from another address or port than the one before.
     pub moved: bool,
+    /// The source lights the universe from now on, lights it at another priority, or lights it no more; or that was so between the
+    /// packet before and this one.
+    pub relit: bool,
 }
 
 impl News {
@@ -59,6 +62,7 @@ impl News {
             priority: None,
             renamed: false,
             moved: false,
+            relit: false,
         }
     }
 }

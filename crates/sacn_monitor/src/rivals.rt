@@ -12,7 +12,7 @@ pub(crate) fn top_priority(streams: &[Stream], universe: u16, moment: u64) -> u8
     streams
         .iter()
         .filter(|stream| stream.lights(universe, moment))
-        .fold(0, |top: u8, stream| top.max(stream.account.priority))
+        .fold(0, |top: u8, stream| top.max(stream.priority_at(moment)))
 }
 
 /// How many sources light a universe at the greatest priority there.
@@ -26,7 +26,7 @@ pub(crate) fn rivals(streams: &[Stream], universe: u16, moment: u64) -> usize
     let mut count: usize = 0;
     for stream in streams {
         if stream.lights(universe, moment) {
-            let priority = stream.account.priority;
+            let priority = stream.priority_at(moment);
             if top < priority {
                 top = priority;
                 count = 1;

@@ -3,7 +3,7 @@
 ghost use Rattle.std.specs.Prelude.{◌≡◌, bytes_eq, drop, take};
 ghost use Rattle.std.specs.Int.{from_be_bytes, w64};
 ghost use Rattle.sacn_monitor.specs.Accounts.{IsFitted, news_of};
-ghost use Rattle.sacn_monitor.specs.Rivals.{lights};
+ghost use Rattle.sacn_monitor.specs.Rivals.{lights, priority_at};
 ghost use Rattle.sacn_monitor.specs.Streams.{is_of, first_stream, stream_after, loss_of, falls_silent, state_of};
 
 use crate::account::{Account, Endpoint};
@@ -49,15 +49,26 @@ impl Stream {
         }
     }
 
-    /// Whether the source sends on this universe, and a packet with levels for the stage was taken there.
-    pub(crate) fn lights(&self, universe: u16, moment: u64) -> bool
+    /// Whether a node holds levels of the source on this universe, at a moment that is no earlier than its latest packet: from a
+    /// packet with levels for the stage on, until its stream ends, or 2500 ms after the latest such packet (E1.31, 6.7.1).
+    pub fn lights(&self, universe: u16, moment: u64) -> bool
         ensures { result ≡ lights universe moment self.now }
     {
-        // Most streams are of other universes, and nothing more is asked of these: the same as all four tests at once.
+        // Most streams are of other universes, and nothing more is asked of these.
         if self.universe != universe {
             return false;
         }
-        !self.account.ended & self.account.is_fresh(moment) & (self.account.kinds.live > 0)
+        self.account.holding.light(moment).is_some()
+    }
+
+    /// The priority of the levels that a node holds of it at a moment (E1.31, 6.2.3), 0 where it holds none.
+    pub fn priority_at(&self, moment: u64) -> u8
+        ensures { result ≡ priority_at moment self.now }
+    {
+        match self.account.holding.light(moment) {
+            Some(priority) => priority,
+            None => 0,
+        }
     }
 
     /// A stream whose first packet this is.

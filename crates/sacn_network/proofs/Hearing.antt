@@ -11,12 +11,11 @@ use Rattle.sacn_packets.specs.declared.framing.packet.Packet.TheVariants.{DataPa
 use Rattle.sacn_packets.specs.PacketReading.{reading_packet}
 use Rattle.sacn_monitor.specs.declared.account.Endpoint.{Endpoint}
 use Rattle.sacn_monitor.specs.declared.limits.TheConstants.{MAX_STREAMS}
-use Rattle.sacn_monitor.specs.declared.news.StreamEvent.TheVariants.{Appeared}
 use Rattle.sacn_monitor.specs.declared.news.News.{News}
 use Rattle.sacn_monitor.specs.declared.news.Noted.{Noted}
 use Rattle.sacn_monitor.specs.declared.news.Noted.TheVariants as noted
 use Rattle.sacn_monitor.specs.declared.stream.Stream.{Stream}
-use Rattle.sacn_monitor.specs.Accounts.{news_of, quiet}
+use Rattle.sacn_monitor.specs.Accounts.{first_account, first_event, news_of, quiet}
 use Rattle.sacn_monitor.specs.Streams.{first_stream, stream_after}
 use Rattle.sacn_monitor.specs.Books.{Book, after_data, after_read, after_tick, changed, news_at, noted_data, noted_packet, place_of, silent_place, told_at, untracked, with_datagram, with_told}
 use Rattle.sacn_monitor.specs.Histories.{Call, Take, Tick}
@@ -171,9 +170,14 @@ noted_hears noted.Untracked n = refl
 noted_hears (noted.Heard place news) n = stirred_heard (stirred_universe (slice_get n.monitor.streams place) news) n
 
 module _ (sender : Endpoint) (d : Data) (b : Book) (heard : List ℕ) (hears : Hears heard b.streams) where
-  appeared : (y : Stream) → Hears (heard_after (stirred_universe (slice_get (b.streams ++ y ∷ []) (length b.streams)) (quiet Appeared)) heard) (b.streams ++ y ∷ [])
-  appeared y =
-      let there : stirred_universe (slice_get (b.streams ++ y ∷ []) (length b.streams)) (quiet Appeared) ≡ Some y.universe = ap (λ (o : Option Stream). stirred_universe o (quiet Appeared)) (last_there b.streams y) in
+  first_stirs : (terminated : Bool) (y : Stream) → y.account.ended ≡ terminated → stirred_universe (Some y) (quiet (first_event terminated)) ≡ Some y.universe
+  first_stirs true y ends = ap (λ (e : Bool). cond (false || e || false) (Some y.universe) None) ends
+  first_stirs false y ends = refl
+
+  appeared : (y : Stream) → y.account.ended ≡ d.terminated → Hears (heard_after (stirred_universe (slice_get (b.streams ++ y ∷ []) (length b.streams)) (quiet (first_event d.terminated))) heard) (b.streams ++ y ∷ [])
+  appeared y ends =
+      let there : stirred_universe (slice_get (b.streams ++ y ∷ []) (length b.streams)) (quiet (first_event d.terminated)) ≡ Some y.universe =
+      ap (λ (o : Option Stream). stirred_universe o (quiet (first_event d.terminated))) (last_there b.streams y) ∙ first_stirs d.terminated y ends in
       subst (λ (o : Option ℕ). Hears (heard_after o heard) (b.streams ++ y ∷ [])) (sym there) (hears_one heard b.streams (b.streams ++ y ∷ []) y.universe (λ u. any_more u b.streams y) hears)
 
   stirs_on : (stirring : Bool) (i : ℕ) (s y : Stream) → slice_get b.streams i ≡ Some s → y.universe ≡ s.universe → Hears (heard_after (cond stirring (Some y.universe) None) heard) (set b.streams i y)
@@ -191,12 +195,16 @@ module _ (sender : Endpoint) (d : Data) (b : Book) (heard : List ℕ) (hears : H
       let there : stirred_universe (slice_get (set b.streams i y) i) news ≡ stirred_universe (Some y) news = ap (λ (o : Option Stream). stirred_universe o news) (set_there b.streams i y (slice_get_within b.streams i s is)) in
       subst (λ (o : Option ℕ). Hears (heard_after o heard) (set b.streams i y)) (sym there) (stirs_on (stirs y news) i s y is refl)
 
+  first_ends : (first_stream b.moment sender d).account.ended ≡ d.terminated
+  unfolding first_account
+  first_ends = refl
+
   data_hears : (o : Option ℕ) → Hears (noted_heard (noted_data sender d b o) (after_data sender d b o).streams heard) (after_data sender d b o).streams
   unfolding noted_data after_data
   data_hears None =
       elim (ltb (length b.streams) MAX_STREAMS) as (λ room. let c : Book = cond room (record b { streams = b.streams ++ first_stream b.moment sender d ∷ [] }) (untracked b) in
-      Hears (noted_heard (cond room (noted.Heard (length b.streams) (quiet Appeared)) noted.Untracked) c.streams heard) c.streams) [
-        | true ↦ appeared (first_stream b.moment sender d)
+      Hears (noted_heard (cond room (noted.Heard (length b.streams) (quiet (first_event d.terminated))) noted.Untracked) c.streams heard) c.streams) [
+        | true ↦ appeared (first_stream b.moment sender d) first_ends
         | false ↦ hears
       ]
   data_hears (Some i) = heard_on i (slice_get b.streams i) refl

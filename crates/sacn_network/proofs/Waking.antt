@@ -8,11 +8,10 @@ use Rattle.sacn_packets.specs.declared.framing.packet.Packet.TheVariants.{DataPa
 use Rattle.sacn_sources.specs.declared.limits.TheConstants.{NETWORK_DATA_LOSS}
 use Rattle.sacn_monitor.specs.declared.account.Endpoint.{Endpoint}
 use Rattle.sacn_monitor.specs.declared.limits.TheConstants.{MAX_STREAMS}
-use Rattle.sacn_monitor.specs.declared.news.StreamEvent.TheVariants.{Appeared}
 use Rattle.sacn_monitor.specs.declared.news.Noted.{Noted}
 use Rattle.sacn_monitor.specs.declared.news.Noted.TheVariants as noted
 use Rattle.sacn_monitor.specs.declared.stream.Stream.{Stream}
-use Rattle.sacn_monitor.specs.Accounts.{quiet}
+use Rattle.sacn_monitor.specs.Accounts.{first_event, quiet}
 use Rattle.sacn_monitor.specs.Streams.{first_stream, loss_of, stream_after}
 use Rattle.sacn_monitor.specs.Books.{Book, after_data, after_read, after_tick, changed, news_at, next_loss, noted_data, noted_packet, place_of, silent_place, told_at, untracked}
 use Rattle.sacn_monitor.proofs.Losses.{quiet_changed, quiet_more, silent_later}
@@ -63,7 +62,7 @@ module _ (w : ℕ) (sender : Endpoint) (d : Data) (b : Book) (before : w ≤ nex
   data_quiet : (o : Option ℕ) → IsQuiet w (noted_data sender d b o) (after_data sender d b o).streams
   unfolding noted_data after_data
   data_quiet None =
-      elim (nat_lt (length b.streams) MAX_STREAMS) as (λ room. IsQuiet w (cond room (noted.Heard (length b.streams) (quiet Appeared)) noted.Untracked) (cond room (record b { streams = b.streams ++ first_stream b.moment sender d ∷ [] }) (untracked b)).streams) [
+      elim (nat_lt (length b.streams) MAX_STREAMS) as (λ room. IsQuiet w (cond room (noted.Heard (length b.streams) (quiet (first_event d.terminated))) noted.Untracked) (cond room (record b { streams = b.streams ++ first_stream b.moment sender d ∷ [] }) (untracked b)).streams) [
         | true ↦ appended (first_stream b.moment sender d)
         | false ↦ omega (arith, before)
       ]

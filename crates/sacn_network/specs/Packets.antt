@@ -1,5 +1,5 @@
 -- What a datagram tells, by what was noted of it.
-use Rattle.std.specs.Prelude.{ℕ, Bool, true, false, not, ◌&&◌, ◌||◌, ◌==◌, is_none, is_some, List, [], ◌∷◌, ◌++◌, slice_get, Option, None, Some, if◌then◌else◌}
+use Rattle.std.specs.Prelude.{ℕ, Bool, true, false, not, ◌&&◌, ◌||◌, ◌==◌, is_none, List, [], ◌∷◌, ◌++◌, slice_get, Option, None, Some, if◌then◌else◌}
 use Rattle.sacn_monitor.specs.declared.account.Endpoint.{Endpoint}
 use Rattle.sacn_monitor.specs.declared.news.StreamEvent.{StreamEvent}
 use Rattle.sacn_monitor.specs.declared.news.StreamEvent.TheVariants.{GoesOn, Appeared, CameBack, Ended, OutOfSequence, Repeated}
@@ -26,9 +26,10 @@ goes_on Repeated = false
 abbrev pub tells_nothing : News → Bool
 tells_nothing news = goes_on news.event && (news.skipped == 0) && not news.began_anew && is_none news.leaves_out && is_none news.priority && not news.renamed && not news.moved
 
--- a packet may change who lights its universe at the top priority: its source doesn't go on, has another priority, or sends its first levels for the stage
+-- a packet may change who lights its universe at the top priority, or is the first of its source there: its source doesn't go on, ends a stream, or lights the
+-- universe otherwise than before
 abbrev pub stirs : Stream → News → Bool
-stirs s news = not (goes_on news.event) || is_some news.priority || (s.account.kinds.live == 1)
+stirs s news = not (goes_on news.event) || s.account.ended || news.relit
 
 -- something happened now
 abbrev pub now_told : What → Ledger → List Told

@@ -21,13 +21,13 @@ pub(crate) fn tells_nothing(news: &News) -> bool
         & !news.moved
 }
 
-/// Whether a packet may change who lights its universe at the top priority (E1.31, 6.2.3): its source doesn't go on, has another
-/// priority, or sends its first levels for the stage.
+/// Whether a packet may change who lights its universe at the top priority (E1.31, 6.2.3), or is the first of its source there: its
+/// source doesn't go on, ends a stream, or lights the universe otherwise than before.
 #[inline(always)]
 fn stirs(stream: &Stream, news: &News) -> bool
     ensures { result ≡ stirs stream.now news.now }
 {
-    (news.event != StreamEvent::GoesOn) | news.priority.is_some() | (stream.account.kinds.live == 1)
+    (news.event != StreamEvent::GoesOn) | stream.account.ended | news.relit
 }
 
 /// The universe that a packet of the stream at a place stirs, if it stirs one.

@@ -1,6 +1,6 @@
 //! Two sources on a universe: what is told of them, in order, each thing at its own moment.
 
-ghost use Rattle.std.specs.Prelude.{◌≡◌, false, ◌++◌, ◌∷◌, []};
+ghost use Rattle.std.specs.Prelude.{◌≡◌, ◌≤◌, false, ◌++◌, ◌∷◌, []};
 
 use crate::{Contest, Network, Observer, Occurrence, What};
 use sacn_monitor::{Endpoint, Monitor, News, StreamEvent};
@@ -31,13 +31,27 @@ const SENDER: Endpoint = Endpoint {
 };
 
 fn take(network: &mut Network, now: u64, source: u8, number: u8, listing: &mut Listing) {
+    hand(network, now, [source; 16], number, 100, false, listing);
+}
+
+fn hand(
+    network: &mut Network,
+    now: u64,
+    cid: [u8; 16],
+    number: u8,
+    priority: u8,
+    preview: bool,
+    listing: &mut Listing,
+)
+    requires { priority ≤ 200 }
+{
     let mut octets = [0; 638];
     let fields = DataFields {
-        cid: [source; 16],
+        cid,
         name: [0; 64],
-        priority: 100,
+        priority,
         number,
-        preview: false,
+        preview,
         terminated: false,
         universe: 1,
         start: 0,
@@ -56,6 +70,7 @@ fn appeared(at: u64, place: usize) -> Occurrence {
         priority: None,
         renamed: false,
         moved: false,
+        relit: false,
     };
     Occurrence {
         at,
@@ -107,4 +122,36 @@ fn listed(alloc: Global) -> Result<bool, AllocError> {
 #[test]
 fn two_sources_are_told_in_order(rt: HostRuntime) {
     assert!(rt; listed(rt.alloc()) == Ok(true));
+}
+
+// A preview of the second source, of another priority than its levels.
+fn preview(network: &mut Network, now: u64, number: u8, listing: &mut Listing) {
+    hand(network, now, [2; 16], number, 150, true, listing);
+}
+
+// Whether two sources rival one another: where the second one sent previews alone, levels, previews since, previews alone for 2500 ms,
+// and levels again.
+fn rivals_of_previews(alloc: Global) -> Result<(bool, bool, bool, bool), AllocError> {
+    let mut network = Network::new(alloc)?;
+    let mut listing = Listing {
+        told: Vec::with_capacity(alloc, 64)?,
+        is_full: false,
+    };
+    take(&mut network, 0, 1, 0, &mut listing);
+    preview(&mut network, 1000, 0, &mut listing);
+    let by_preview = network.is_contested(1);
+    take(&mut network, 1100, 2, 1, &mut listing);
+    take(&mut network, 2000, 1, 1, &mut listing);
+    preview(&mut network, 2100, 2, &mut listing);
+    let while_held = network.is_contested(1);
+    take(&mut network, 3000, 1, 2, &mut listing);
+    preview(&mut network, 3600, 3, &mut listing);
+    let gone = network.is_contested(1);
+    take(&mut network, 4000, 2, 4, &mut listing);
+    Ok((by_preview, while_held, gone, network.is_contested(1)))
+}
+
+#[test]
+fn rivals_are_those_whose_levels_are_held(rt: HostRuntime) {
+    assert!(rt; rivals_of_previews(rt.alloc()) == Ok((false, true, false, true)));
 }

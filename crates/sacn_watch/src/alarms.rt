@@ -84,8 +84,12 @@ fn trouble_of(monitor: &Monitor, stream: &Stream) -> Option<Trouble> {
 
 // Whether a source is one of several at the top priority of its universe.
 fn contest_of(monitor: &Monitor, stream: &Stream) -> Option<Trouble> {
+    let moment = monitor.moment();
+    if !stream.lights(stream.universe, moment) {
+        return None;
+    }
     let sources = monitor.rivals(stream.universe);
-    let priority = stream.account.priority;
+    let priority = stream.priority_at(moment);
     if (sources >= 2) & (priority == monitor.top_priority(stream.universe)) {
         Some(Trouble::Contested { sources, priority })
     } else {
