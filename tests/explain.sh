@@ -99,7 +99,7 @@ timed "$ola" >ola.json <<'E'
 {"row":"source","universe":1,"cid":"0102030405060708090a0b0c0d0e0f10","name":"OLA Server","address":"10.77.0.1","port":5568,"state":"ended","priority":100,"first":0,"last":2412,"live":3,"preview":0,"terminated":3,"other":0,"skipped":0,"late":0,"repeated":0,"gap":1544,"last_second":0}
 {"row":"universe","universe":1,"sources":1,"sending":0,"taken":6,"skipped":0,"discarded":0}
 {"row":"refused","fault":8,"name":"FramingVector","count":1}
-{"row":"counts","datagrams":7,"refused":1,"pages":0,"pages_untracked":0,"synchronization":0,"untracked":0,"other_ports":0,"other_frames":0,"went_back":0,"ms":5970}
+{"row":"counts","datagrams":7,"refused":1,"pages":0,"pages_untracked":0,"synchronization":0,"untracked":0,"other_ports":0,"other_frames":0,"went_back":0,"cut":0,"fragments":0,"ipv6":0,"wrong_ipv4":0,"other_links":0,"too_long":0,"ms":5970}
 E
 tells "what OLA sent, as text" 0 "" ola.text "$top/examples/ola.pcap"
 tells "the same of each universe" 0 "" ola.whole "$top/examples/ola.pcap" --each
@@ -107,7 +107,7 @@ sed '/^universe state/{n;d}; /^universe  sources/{n;d}' ola.tables >other.tables
 tells "as text, of another universe" 0 "" other.tables "$top/examples/ola.pcap" --universe 2
 tells "of each, of another universe" 0 "" <(sed -n 3p ola.each; cat other.tables) "$top/examples/ola.pcap" --universe 2 --each
 tells "what OLA sent, as JSON" 0 "" ola.json "$top/examples/ola.pcap" --json
-tells "another port" 0 "" <(timed "$ola" <<<'{"row":"counts","datagrams":0,"refused":0,"pages":0,"pages_untracked":0,"synchronization":0,"untracked":0,"other_ports":7,"other_frames":0,"went_back":0,"ms":5970}') \
+tells "another port" 0 "" <(timed "$ola" <<<'{"row":"counts","datagrams":0,"refused":0,"pages":0,"pages_untracked":0,"synchronization":0,"untracked":0,"other_ports":7,"other_frames":0,"went_back":0,"cut":0,"fragments":0,"ipv6":0,"wrong_ipv4":0,"other_links":0,"too_long":0,"ms":5970}') \
   "$top/examples/ola.pcap" --json --port 6454
 grep -vE '"universe":1,|"universes":\[1\]' ola.json >other.json
 tells "another universe" 0 "" other.json "$top/examples/ola.pcap" --json --universe 2
@@ -122,7 +122,7 @@ timed "$(first "$top/examples/qlcplus.pcap")" >qlc.json <<'E'
 {"ms":0,"event":"appeared","universe":1,"cid":"fb3c1065a17f4de29919c6820b91bc79","name":"Q Light Controller Plus - E1.31","address":"10.9.0.1","port":51474,"priority":100}
 {"row":"source","universe":1,"cid":"fb3c1065a17f4de29919c6820b91bc79","name":"Q Light Controller Plus - E1.31","address":"10.9.0.1","port":51474,"state":"sending","priority":100,"first":0,"last":269,"live":16,"preview":0,"terminated":0,"other":0,"skipped":0,"late":0,"repeated":0,"gap":35,"last_second":0}
 {"row":"universe","universe":1,"sources":1,"sending":1,"taken":16,"skipped":0,"discarded":0}
-{"row":"counts","datagrams":16,"refused":0,"pages":0,"pages_untracked":0,"synchronization":0,"untracked":0,"other_ports":0,"other_frames":0,"went_back":0,"ms":269}
+{"row":"counts","datagrams":16,"refused":0,"pages":0,"pages_untracked":0,"synchronization":0,"untracked":0,"other_ports":0,"other_frames":0,"went_back":0,"cut":0,"fragments":0,"ipv6":0,"wrong_ipv4":0,"other_links":0,"too_long":0,"ms":269}
 E
 tells "what QLC+ sent, as JSON" 0 "" qlc.json "$top/examples/qlcplus.pcap" --json
 printf '%s\n' '1 0 00000000' '1 35 00190c06' '1 35 0033190c' '1 49 004c2613' '1 73 00663319' '1 89 007f4020' '1 109 00994c26' '1 129 00b2592c' '1 149 00cc6633' '1 169 00e57339' '1 189 00ff8040' >qlc.frames
@@ -146,7 +146,7 @@ stream="\"universe\":1,$source"
 sums() { # TAKEN SKIPPED
   printf '%s\n' "{\"row\":\"source\",$stream,\"address\":\"10.9.0.1\",\"port\":49165,\"state\":\"sending\",\"priority\":100,\"first\":0,\"last\":22982,\"live\":$1,\"preview\":0,\"terminated\":0,\"other\":0,\"skipped\":$2,\"late\":0,\"repeated\":0,\"gap\":112,\"last_second\":50}"
   printf '%s\n' "{\"row\":\"universe\",\"universe\":1,\"sources\":1,\"sending\":1,\"taken\":$1,\"skipped\":$2,\"discarded\":0}"
-  printf '%s\n' "{\"row\":\"counts\",\"datagrams\":$1,\"refused\":0,\"pages\":0,\"pages_untracked\":0,\"synchronization\":0,\"untracked\":0,\"other_ports\":0,\"other_frames\":0,\"went_back\":0,\"ms\":22982}"
+  printf '%s\n' "{\"row\":\"counts\",\"datagrams\":$1,\"refused\":0,\"pages\":0,\"pages_untracked\":0,\"synchronization\":0,\"untracked\":0,\"other_ports\":0,\"other_frames\":0,\"went_back\":0,\"cut\":0,\"fragments\":0,\"ipv6\":0,\"wrong_ipv4\":0,\"other_links\":0,\"too_long\":0,\"ms\":22982}"
 }
 turns=$(first "$top/examples/qlcplus-turns.pcap")
 { cat turns.json; sums 1150 2; } | timed "$turns" >left-out.json
@@ -160,7 +160,7 @@ head -c 1311 "$top/examples/ola.pcap" >cut.pcap
 {
   sed -n 1,4p ola.json
   sed -n 6,7p ola.json
-  timed "$ola" <<<'{"row":"counts","datagrams":6,"refused":0,"pages":0,"pages_untracked":0,"synchronization":0,"untracked":0,"other_ports":0,"other_frames":0,"went_back":0,"ms":2412}'
+  timed "$ola" <<<'{"row":"counts","datagrams":6,"refused":0,"pages":0,"pages_untracked":0,"synchronization":0,"untracked":0,"other_ports":0,"other_frames":0,"went_back":0,"cut":0,"fragments":0,"ipv6":0,"wrong_ipv4":0,"other_links":0,"too_long":0,"ms":2412}'
 } >cut.json
 tells "a file that is cut in its last frame" 3 "refused cut.pcap octet 1137 CutShort" cut.json cut.pcap --json
 sed '/^refused by fault$/,/^$/d; s/^\(datagrams to the port  *\)7$/\16/; s/^\(refused  *\)1$/\10/' ola.tables >cut.tables
@@ -177,7 +177,7 @@ tells "each universe of a header that is cut" 3 "refused stub octet 0 CutShort" 
 # A block of 4 GB in 40 octets: a section, and the head of an enhanced packet.
 printf '\n\r\r\n\x1c\0\0\0\x4d\x3c\x2b\x1a\1\0\0\0\xff\xff\xff\xff\xff\xff\xff\xff\x1c\0\0\0' >lying
 printf '\6\0\0\0\xfc\xff\xff\xff\0\0\0\0' >>lying
-tells "a block that says 4 GB" 3 "refused lying octet 28 *" <(printf '%s\n' '{"row":"counts","datagrams":0,"refused":0,"pages":0,"pages_untracked":0,"synchronization":0,"untracked":0,"other_ports":0,"other_frames":0,"went_back":0,"ms":0,"time":null}') lying --json
+tells "a block that says 4 GB" 3 "refused lying octet 28 *" <(printf '%s\n' '{"row":"counts","datagrams":0,"refused":0,"pages":0,"pages_untracked":0,"synchronization":0,"untracked":0,"other_ports":0,"other_frames":0,"went_back":0,"cut":0,"fragments":0,"ipv6":0,"wrong_ipv4":0,"other_links":0,"too_long":0,"ms":0,"time":null}') lying --json
 # told NAME STATUS WANTED-ERRORS WANTED-OUTPUT WORD..: standard input, which is a pipe, is told so
 told() {
   local name=$1 wanted=$2 said=$3 output=$4 status=0
@@ -273,13 +273,14 @@ class Recording:
         self.file = open(path, "wb")
         self.file.write(struct.pack("<IHHIIII", 0xa1b2c3d4, 2, 4, 0, 0, 65535, 1))
 
-    def frame(self, moment, octets):
-        self.file.write(struct.pack("<IIII", 1000 + moment // 1000, moment % 1000 * 1000, len(octets), len(octets)) + octets)
+    def frame(self, moment, octets, kept=None):
+        kept = len(octets) if kept is None else kept
+        self.file.write(struct.pack("<IIII", 1000 + moment // 1000, moment % 1000 * 1000, kept, len(octets)) + octets[:kept])
 
-    def sent(self, moment, host, payload, port=5568):
+    def sent(self, moment, host, payload, port=5568, kept=None, fragment=0):
         udp = struct.pack(">HHHH", 5000, port, 8 + len(payload), 0) + payload
-        ip = struct.pack(">BBHHHBBH", 0x45, 0, 20 + len(udp), 0, 0, 64, 17, 0) + bytes([10, 0, 0, host, 239, 255, 0, 1])
-        self.frame(moment, bytes(12) + b"\x08\0" + ip + udp)
+        ip = struct.pack(">BBHHHBBH", 0x45, 0, 20 + len(udp), 0, fragment, 64, 17, 0) + bytes([10, 0, 0, host, 239, 255, 0, 1])
+        self.frame(moment, bytes(12) + b"\x08\0" + ip + udp, kept)
 
 def events(path):
     r = Recording(path)
@@ -362,9 +363,51 @@ def previews(path):
         elif turn == 30:
             r.sent(6100, 6, data(B, b"Spare", 1, 29, b"\x40", options=0x80))
 
-{"events": events, "many": many, "listings": listings, "silent": silent, "pair": pair, "strays": strays, "previews": previews}[sys.argv[1]](sys.argv[2])
+# Three frames of which 96 octets were kept, one above 65,535 octets, the first part of a packet, two of IPv6, one whose header isn't of IPv4,
+# and one of ARP.
+def unread(path):
+    r = Recording(path)
+    r.sent(0, 1, data(A, b"Main", 1, 0, b"\1"))
+    for number in range(1, 4):
+        r.sent(number, 1, data(A, b"Main", 1, number, b"\1"), kept=96)
+    r.frame(4, bytes(70000))
+    r.sent(5, 1, data(A, b"Main", 1, 4, b"\1"), fragment=0x2000)
+    r.frame(6, bytes(12) + b"\x86\xdd" + b"\x60" + bytes(47))
+    r.frame(7, bytes(12) + b"\x86\xdd" + b"\x60" + bytes(47))
+    r.frame(8, bytes(12) + b"\x08\0" + b"\x65" + bytes(47))
+    r.frame(9, bytes(12) + b"\x08\x06" + bytes(46))
+
+# The blocks of pcapng, the low octet first.
+def block(kind, body):
+    body += bytes(-len(body) % 4)
+    return struct.pack("<II", kind, 12 + len(body)) + body + struct.pack("<I", 12 + len(body))
+
+def section():
+    return block(0x0a0d0d0a, struct.pack("<IHHq", 0x1a2b3c4d, 1, 0, -1))
+
+def interface(link, options=b""):
+    return block(1, struct.pack("<HHI", link, 0, 0) + options)
+
+def enhanced(micros, octets, number=0):
+    return block(6, struct.pack("<IIIII", number, micros >> 32, micros & 0xffffffff, len(octets), len(octets)) + octets)
+
+# Two interfaces: one of a link that is none of those that are read (147, which is left to users), and one of Ethernet. Two frames of the first, one of ARP of the second.
+def links(path):
+    with open(path, "wb") as file:
+        file.write(section() + interface(147) + interface(1))
+        for micros, number in ((1000000000, 0), (1000001000, 1), (1000002000, 0)):
+            file.write(enhanced(micros, bytes(12) + b"\x08\x06" + bytes(46), number))
+
+# Its second frame is 5 s earlier than the first, and its third 1 s later.
+def back(path):
+    r = Recording(path)
+    r.sent(0, 1, data(A, b"Main", 1, 0, b"\1"))
+    r.sent(-5000, 1, data(A, b"Main", 1, 1, b"\1"))
+    r.sent(1000, 1, data(A, b"Main", 1, 2, b"\1"))
+
+{"events": events, "many": many, "listings": listings, "silent": silent, "pair": pair, "strays": strays, "previews": previews, "unread": unread, "links": links, "back": back}[sys.argv[1]](sys.argv[2])
 P
-for name in events many listings silent pair strays previews; do python3 recordings.py "$name" "$name.pcap" || exit 1; done
+for name in events many listings silent pair strays previews unread links back; do python3 recordings.py "$name" "$name.pcap" || exit 1; done
 
 A=aaaaaaaaaaaaaaaaaaaaaaaaaaaaaaaa
 B=bbbbbbbbbbbbbbbbbbbbbbbbbbbbbbbb
@@ -534,6 +577,49 @@ cmp -s previews.each out && echo "ok explain: rivals are those whose levels are 
 begins "terminations of streams that aren't there" strays.lines strays.pcap
 happens "the same of each universe" strays.each strays.pcap
 "$sacn" explain strays.pcap --json </dev/null 2>err | grep -q '"row":"source",.*"live":1,"preview":0,"terminated":4,' && echo "ok explain: and they are counted" || echo "not ok explain: and they are counted"
+# What couldn't be read stands before the tables, each reason in a row of its own, and in the row of all counts. What carries something else is counted in all alone.
+cat >unread.lines <<'E'
+
+frames that couldn't be read
+cut short, as by a snap length 3
+a fragment of IP               1
+IPv6                           2
+a wrong header of IPv4         1
+above 65535 octets             1
+
+universe state    priority      first       last     taken   preview     other   skipped      late  repeated   gap ms  source
+E
+cat >links.lines <<'E'
+
+frames that couldn't be read
+a link of an unknown type      2
+
+universe state    priority      first       last     taken   preview     other   skipped      late  repeated   gap ms  source
+E
+# before_tables NAME WANTED-LINES TOTAL MEMBERS RECORDING: these lines stand before the tables, with and without --each, and these counts in the row of counts
+before_tables() {
+  local name=$1 wanted=$2 total=$3 members=$4 file=$5 each
+  for each in "" --each; do
+    # shellcheck disable=SC2086
+    "$sacn" explain $each "$file" </dev/null 2>err >all
+    sed -n '/^universe state/q; p' all | sed -n '/^frames that/,$p' | { echo; cat; grep '^universe state' all; } >out
+    if cmp -s "$wanted" out && grep -qx "frames without a datagram      $total" all; then
+      echo "ok explain: $name${each:+, $each}"
+    else
+      echo "not ok explain: $name${each:+, $each}: $(diff "$wanted" out | head -n 3 | tr '\n' '|') $(grep '^frames without' all)"
+    fi
+  done
+  "$sacn" explain --json "$file" </dev/null 2>err | grep '"row":"counts"' >out
+  if grep -qF "\"other_frames\":$total,\"went_back\":0,$members,\"ms\":" out; then
+    echo "ok explain: $name, as JSON"
+  else
+    echo "not ok explain: $name, as JSON: $(cat out)"
+  fi
+}
+before_tables "what couldn't be read" unread.lines 9 '"cut":3,"fragments":1,"ipv6":2,"wrong_ipv4":1,"other_links":0,"too_long":1' unread.pcap
+before_tables "frames of an unknown link" links.lines 3 '"cut":0,"fragments":0,"ipv6":0,"wrong_ipv4":0,"other_links":2,"too_long":0' links.pcap
+# A frame that is earlier than the first one went back in time, too.
+"$sacn" explain back.pcap </dev/null 2>err | grep -qx 'frames with an earlier moment  1' && echo "ok explain: a frame that is earlier than the first" || echo "not ok explain: a frame that is earlier than the first: $("$sacn" explain back.pcap </dev/null 2>&1 | tail -n 1)"
 
 # frame PORT MOMENT DIGITS: the line of a frame as a node prints it, the start code and slots of these digits, and 0 in the rest
 frame() { printf '%s %s 00%s%0*d\n' "$1" "$2" "$3" $((1024 - ${#3})) 0; }

@@ -3,7 +3,7 @@ use Rattle.std.specs.Prelude.{ℕ, List, ◌+◌, ◌/◌, ◌^◌, ◌==◌, �
 use Rattle.sacn_capture.specs.declared.links.LinkType.{LinkType}
 use Rattle.sacn_capture.specs.declared.links.LinkType.TheVariants.{Ethernet, RawIp, CookedV1, CookedV2, BsdNull, BsdLoop}
 use Rattle.sacn_capture.specs.declared.links.Passed.{Passed}
-use Rattle.sacn_capture.specs.declared.links.Passed.TheVariants.{NotIp, NotIpv4, Cut}
+use Rattle.sacn_capture.specs.declared.links.Passed.TheVariants.{NotIp, Ipv6 as OfIpv6, Cut}
 use Rattle.sacn_capture.specs.declared.links.NetworkProtocol.{NetworkProtocol}
 use Rattle.sacn_capture.specs.declared.links.NetworkProtocol.TheVariants.{Ipv4, Ipv6, Other}
 use Rattle.sacn_capture.specs.declared.octets.ByteOrder.TheVariants.{Big, Little}
@@ -46,7 +46,7 @@ type_place frame = if is_tagged_at frame 12 then if is_tagged_at frame 16 then 2
 -- a place, where IPv4 stands there
 abbrev pub placed_at : NetworkProtocol → ℕ → Result ℕ Passed
 placed_at Ipv4 place = Ok place
-placed_at Ipv6 place = Err NotIpv4
+placed_at Ipv6 place = Err OfIpv6
 placed_at Other place = Err NotIp
 
 -- what a header of so many octets gives, where the frame has them

@@ -1,7 +1,7 @@
 //! What the frames of a recording were.
 
 ghost use Rattle.std.specs.Prelude.{◌≡◌};
-ghost use Rattle.sacn_capture.specs.Counting.{count_frame, none_counted, passed_of};
+ghost use Rattle.sacn_capture.specs.Counting.{count_frame, none_counted, passed_for, passed_of};
 
 use crate::frame::Datagram;
 use crate::links::Passed;
@@ -12,6 +12,7 @@ pub struct FrameCounts {
     /// Frames with a datagram.
     pub datagrams: u64,
     pub not_ip: u64,
+    pub ipv6: u64,
     pub not_ipv4: u64,
     pub not_udp: u64,
     pub fragments: u64,
@@ -30,6 +31,7 @@ impl FrameCounts {
         FrameCounts {
             datagrams: 0,
             not_ip: 0,
+            ipv6: 0,
             not_ipv4: 0,
             not_udp: 0,
             fragments: 0,
@@ -49,6 +51,22 @@ impl FrameCounts {
         }
     }
 
+    /// The frames that were passed over for a reason.
+    pub fn passed_for(&self, reason: Passed) -> u64
+        ensures { result ≡ passed_for reason self.now }
+    {
+        match reason {
+            Passed::NotIp => self.not_ip,
+            Passed::Ipv6 => self.ipv6,
+            Passed::NotIpv4 => self.not_ipv4,
+            Passed::NotUdp => self.not_udp,
+            Passed::Fragment => self.fragments,
+            Passed::Cut => self.cut,
+            Passed::OtherLink => self.other_links,
+            Passed::TooLong => self.too_long,
+        }
+    }
+
     /// One more frame, by why it is passed over, where it is.
     pub(crate) fn count(&mut self, passed: Option<Passed>)
         ensures { self.new ≡ count_frame passed self.old }
@@ -56,6 +74,7 @@ impl FrameCounts {
         match passed {
             None => self.datagrams = self.datagrams.saturating_add(1),
             Some(Passed::NotIp) => self.not_ip = self.not_ip.saturating_add(1),
+            Some(Passed::Ipv6) => self.ipv6 = self.ipv6.saturating_add(1),
             Some(Passed::NotIpv4) => self.not_ipv4 = self.not_ipv4.saturating_add(1),
             Some(Passed::NotUdp) => self.not_udp = self.not_udp.saturating_add(1),
             Some(Passed::Fragment) => self.fragments = self.fragments.saturating_add(1),

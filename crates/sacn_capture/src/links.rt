@@ -28,7 +28,9 @@ pub enum LinkType {
 pub enum Passed {
     /// What the link carries is neither IPv4 nor IPv6.
     NotIp,
-    /// The packet is of IPv6, or its header isn't one of IPv4.
+    /// The packet is of IPv6.
+    Ipv6,
+    /// The packet's header isn't one of IPv4, though the link names that.
     NotIpv4,
     /// The packet carries something other than UDP.
     NotUdp,
@@ -88,7 +90,7 @@ pub fn link_type(number: u16) -> Option<LinkType>
 
 /// Where the packet of IPv4 begins in a frame, in octets, at most the frame's length.
 ///
-/// Errors: Cut where the frame ends in the link's header, NotIp, NotIpv4, in this order.
+/// Errors: Cut where the frame ends in the link's header; NotIp, Ipv6 by the protocol that it names.
 pub fn packet_place(link: LinkType, frame: &[u8]) -> Result<usize, Passed>
     ensures place { result ≡ place_of link frame.now }
     ensures within { IfOk result (λ place. place ≤ length frame.now) }
@@ -166,7 +168,7 @@ fn ipv4_at(network: NetworkProtocol, place: usize) -> Result<usize, Passed>
 {
     match network {
         NetworkProtocol::Ipv4 => Ok(place),
-        NetworkProtocol::Ipv6 => Err(Passed::NotIpv4),
+        NetworkProtocol::Ipv6 => Err(Passed::Ipv6),
         NetworkProtocol::Other => Err(Passed::NotIp),
     }
 }

@@ -1,5 +1,5 @@
 -- What a recording tells: the calls that its frames make, and the report that accounts for them.
-use Rattle.std.specs.Prelude.{◌≡◌, ◌⊎◌, ℕ, ◌-◌, ◌==◌, max, nat_lt, List, [], ◌∷◌, length, Option, None, Some, unwrap_or, Result, Ok, Err, if◌then◌else◌}
+use Rattle.std.specs.Prelude.{◌≡◌, ◌⊎◌, ℕ, ◌-◌, ◌==◌, ◌||◌, max, nat_lt, Bool, List, [], ◌∷◌, length, Option, None, Some, unwrap_or, Result, Ok, Err, if◌then◌else◌}
 use Rattle.sacn_capture.specs.declared.links.Passed.{Passed}
 use Rattle.sacn_capture.specs.declared.faults.CaptureFault.{CaptureFault}
 use Rattle.sacn_capture.specs.declared.frame_counts.FrameCounts.{FrameCounts}
@@ -21,12 +21,16 @@ use Rattle.sacn_tell.specs.KeptLists.{Listed, listed_by}
 abbrev pub since_first : ℕ → Timeline → ℕ
 since_first moment clock = moment - unwrap_or clock.first moment
 
+-- a frame with this moment is earlier than the first one, or than the latest so far
+abbrev pub is_earlier : ℕ → Timeline → Bool
+is_earlier moment clock = nat_lt moment (unwrap_or clock.first moment) || nat_lt (since_first moment clock) clock.now
+
 -- the clock at a frame's moment: it never goes back, and a frame with an earlier moment is at the greatest so far
 abbrev pub at_moment : ℕ → Timeline → Timeline
 at_moment moment clock = record {
   first = Some (unwrap_or clock.first moment);
   now = max clock.now (since_first moment clock);
-  went_back = if nat_lt (since_first moment clock) clock.now then more 1 clock.went_back else clock.went_back;
+  went_back = if is_earlier moment clock then more 1 clock.went_back else clock.went_back;
 }
 
 abbrev pub sender_of : Sent → Endpoint

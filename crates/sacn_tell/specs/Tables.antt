@@ -4,6 +4,7 @@ use Rattle.std.specs.List.{flat_map, list_any}
 use Rattle.std.specs.declared.alloc.Global.{Global}
 use Rattle.sacn_packets.specs.declared.root.fault.PacketFault.{PacketFault}
 use Rattle.sacn_packets.specs.PacketFaults.{fault_number}
+use Rattle.sacn_capture.specs.declared.frame_counts.FrameCounts.{FrameCounts}
 use Rattle.sacn_monitor.specs.declared.stream.Stream.{Stream}
 use Rattle.sacn_monitor.specs.declared.tally.Tally.{Tally}
 use Rattle.sacn_tell.specs.declared.listings.Listing.{Listing}
@@ -16,7 +17,7 @@ use Rattle.sacn_tell.specs.Lists.{silent, unlisted}
 use Rattle.sacn_tell.specs.Rows.{list_row, refused_row, universe_row}
 use Rattle.sacn_tell.specs.StreamRows.{stream_row}
 use Rattle.sacn_tell.specs.Tellings.{with_line_end, where_so}
-use Rattle.sacn_tell.specs.Totals.{counts_row}
+use Rattle.sacn_tell.specs.Totals.{counts_row, has_unread, unread_text}
 use Rattle.sacn_tell.specs.Choice.{is_wanted}
 
 -- a table's head, for people
@@ -83,8 +84,16 @@ faults_told form tally faults = head_where (has_refusals tally faults) form REFU
 abbrev pub refusals_told : Form → Tally → List ℕ
 refusals_told form tally = faults_told form tally FAULTS
 
--- all of them
+-- what of a recording couldn't be read, for people; nothing where all could
+abbrev pub unread_rows : FrameCounts → List ℕ
+unread_rows frames = where_so (has_unread frames) (unread_text frames)
+
+abbrev pub unread_told : Form → FrameCounts → List ℕ
+unread_told Text frames = unread_rows frames
+unread_told Json frames = []
+
+-- all of them, behind what couldn't be read
 abbrev pub tables_told : Form → List ℕ → List Stream → List Listing → Report → List ℕ
 tables_told form wanted streams listings report =
-    streams_told form wanted report.length streams ++ (universes_told form wanted report.length streams
-    ++ (lists_told form streams listings ++ (refusals_told form report.tally ++ with_line_end (counts_row form report))))
+    unread_told form report.frames ++ (streams_told form wanted report.length streams ++ (universes_told form wanted report.length streams
+    ++ (lists_told form streams listings ++ (refusals_told form report.tally ++ with_line_end (counts_row form report)))))

@@ -29,7 +29,7 @@ pub struct Timeline {
     pub first: Option<u64>,
     /// The latest moment, in milliseconds from the first.
     pub now: u64,
-    /// The frames with an earlier moment than the frame before. They are taken at the latest moment so far.
+    /// The frames with an earlier moment than one before. They are taken at the latest moment so far.
     pub went_back: u64,
 }
 
@@ -225,10 +225,9 @@ impl Timeline {
         let first = self.first.unwrap_or(moment);
         self.first = Some(first);
         let now = moment.saturating_sub(first);
-        if now < self.now {
+        if moment < first || now < self.now {
             self.went_back = self.went_back.saturating_add(1);
-        } else {
-            self.now = now;
         }
+        self.now = self.now.max(now);
     }
 }

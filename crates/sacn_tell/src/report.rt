@@ -1,15 +1,27 @@
 //! What a recording had, and the row of all its counts.
 
 ghost use Rattle.std.specs.Prelude.{◌≡◌, ◌++◌, ◌-◌, ◌^◌, OnOk, min, sum, string_bytes};
-ghost use Rattle.sacn_tell.specs.Totals.{counts_json, counts_row, counts_text, frames_members, frames_text, named_count, passed_in, refused_in, tally_members, tally_text};
+ghost use Rattle.sacn_tell.specs.Totals.{counts_json, counts_row, counts_text, frames_members, frames_text, named_count, has_unread, is_unread_for, passed_in, reason_key, reason_members, reason_row, reason_rows, reason_words, refused_in, tally_members, tally_text, unread_members, unread_text};
 
 use crate::json;
 use crate::options::Form;
 use crate::spelling::push_left;
-use sacn_capture::FrameCounts;
+use sacn_capture::{FrameCounts, Passed};
 use sacn_monitor::Tally;
 use std::alloc::AllocError;
 use std::fmt::Write;
+
+const UNREAD_HEAD: &str = "\nframes that couldn't be read";
+
+/// Why a frame couldn't be read, so that a datagram may stand in it. All others without one carry something else.
+const UNREAD: [Passed; 6] = [
+    Passed::Cut,
+    Passed::Fragment,
+    Passed::Ipv6,
+    Passed::NotIpv4,
+    Passed::OtherLink,
+    Passed::TooLong,
+];
 
 /// What a recording had.
 #[derive(Clone, Copy)]
@@ -22,7 +34,7 @@ pub struct Report {
     pub pages_passed: u64,
     /// Datagrams to other ports.
     pub other_ports: u64,
-    /// Frames with an earlier moment than the frame before. They are taken at the latest moment so far.
+    /// Frames with an earlier moment than one before. They are taken at the latest moment so far.
     pub went_back: u64,
     /// The sources on universes that were heard.
     pub streams: usize,
@@ -68,6 +80,7 @@ fn passed_in(report: &Report) -> u64
     let frames = &report.frames;
     total(&[
         frames.not_ip,
+        frames.ipv6,
         frames.not_ipv4,
         frames.not_udp,
         frames.fragments,
@@ -152,5 +165,109 @@ fn push_frames_members(text: &mut String, report: &Report) -> Result<(), AllocEr
     json::push_number(text, "other_ports", report.other_ports)?;
     json::push_number(text, "other_frames", passed_in(report))?;
     json::push_number(text, "went_back", report.went_back)?;
+    push_unread(text, &report.frames)?;
     json::push_number(text, "ms", report.length)
+}
+
+/// Whether frames couldn't be read.
+#[tactic(auto, unfolding(crate::specs::Totals::has_unread))]
+pub fn has_unread(frames: &FrameCounts) -> bool
+    ensures { result ≡ has_unread frames.now }
+{
+    is_unread_for(frames, &UNREAD)
+}
+
+fn is_unread_for(frames: &FrameCounts, reasons: &[Passed]) -> bool
+    ensures { result ≡ is_unread_for frames.now reasons.now }
+{
+    reasons.iter().any(|reason| frames.passed_for(*reason) > 0)
+}
+
+/// How many frames couldn't be read, and why, for people.
+#[tactic(auto, unfolding(crate::specs::Totals::unread_text))]
+pub fn unread_text(text: &mut String, frames: &FrameCounts) -> Result<(), AllocError>
+    ensures { OnOk result
+        (string_bytes text.new ≡ string_bytes text.old ++ unread_text frames.now) }
+{
+    text.push_str(UNREAD_HEAD)?;
+    push_reason_rows(text, frames, &UNREAD)
+}
+
+fn push_reason_rows(
+    text: &mut String,
+    frames: &FrameCounts,
+    reasons: &[Passed],
+) -> Result<(), AllocError>
+    ensures { OnOk result (string_bytes text.new
+        ≡ string_bytes text.old ++ reason_rows frames.now reasons.now) }
+{
+    for reason in reasons {
+        push_reason_row(text, *reason, frames.passed_for(*reason))?;
+    }
+    Ok(())
+}
+
+// The row of a reason for which frames couldn't be read.
+fn push_reason_row(text: &mut String, reason: Passed, count: u64) -> Result<(), AllocError>
+    ensures { OnOk result
+        (string_bytes text.new ≡ string_bytes text.old ++ reason_row reason count) }
+{
+    if count == 0 {
+        return Ok(());
+    }
+    push_named(text, reason_words(reason), count)
+}
+
+// How many frames couldn't be read for each reason.
+fn push_unread(text: &mut String, frames: &FrameCounts) -> Result<(), AllocError>
+    ensures { OnOk result
+        (string_bytes text.new ≡ string_bytes text.old ++ unread_members frames.now) }
+{
+    push_reason_members(text, frames, &UNREAD)
+}
+
+fn push_reason_members(
+    text: &mut String,
+    frames: &FrameCounts,
+    reasons: &[Passed],
+) -> Result<(), AllocError>
+    ensures { OnOk result (string_bytes text.new
+        ≡ string_bytes text.old ++ reason_members frames.now reasons.now) }
+{
+    for reason in reasons {
+        json::push_number(text, reason_key(*reason), frames.passed_for(*reason))?;
+    }
+    Ok(())
+}
+
+// Why a frame has no datagram, in words.
+fn reason_words(reason: Passed) -> &'static str
+    ensures { result.now ≡ reason_words reason }
+{
+    match reason {
+        Passed::NotIp => "something other than IP",
+        Passed::Ipv6 => "IPv6",
+        Passed::NotIpv4 => "a wrong header of IPv4",
+        Passed::NotUdp => "something other than UDP",
+        Passed::Fragment => "a fragment of IP",
+        Passed::Cut => "cut short, as by a snap length",
+        Passed::OtherLink => "a link of an unknown type",
+        Passed::TooLong => "above 65535 octets",
+    }
+}
+
+// The same as a member's key.
+fn reason_key(reason: Passed) -> &'static str
+    ensures { result.now ≡ reason_key reason }
+{
+    match reason {
+        Passed::NotIp => "not_ip",
+        Passed::Ipv6 => "ipv6",
+        Passed::NotIpv4 => "wrong_ipv4",
+        Passed::NotUdp => "not_udp",
+        Passed::Fragment => "fragments",
+        Passed::Cut => "cut",
+        Passed::OtherLink => "other_links",
+        Passed::TooLong => "too_long",
+    }
 }

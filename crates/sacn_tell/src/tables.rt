@@ -5,16 +5,17 @@ ghost use Rattle.std.specs.List.{list_any};
 ghost use Rattle.sacn_tell.specs.Lists.{silent, unlisted};
 ghost use Rattle.sacn_tell.specs.Totals.{counts_row};
 ghost use Rattle.sacn_tell.specs.Tellings.{Tells, with_line_end};
-ghost use Rattle.sacn_tell.specs.Tables.{faults_told, has_refusals, head_told, head_where, is_told, list_told, lists_told, place_told, refused_for, refused_told, refusals_told, stream_told, streams_told, tables_told, universe_at, universe_told, universes_told};
+ghost use Rattle.sacn_tell.specs.Tables.{faults_told, has_refusals, head_told, head_where, is_told, list_told, lists_told, place_told, refused_for, refused_told, refusals_told, stream_told, streams_told, tables_told, universe_at, universe_told, universes_told, unread_rows, unread_told};
 
 use crate::fault::TellFault;
 use crate::listed::{silent_universes, unlisted_universes};
 use crate::listings::{Listing, Listings};
 use crate::options::{Form, Options};
-use crate::report::{Report, counts_row};
+use crate::report::{Report, counts_row, has_unread, unread_text};
 use crate::stream_rows::stream_row;
 use crate::table_rows::{Lists, UniverseCounts, list_row, refused_row, universe_row};
 use crate::teller::Teller;
+use sacn_capture::FrameCounts;
 use sacn_monitor::{Monitor, Stream, Tally};
 use sacn_packets::PacketFault;
 use std::alloc::{AllocError, Global};
@@ -51,7 +52,7 @@ const FAULTS: [PacketFault; 18] = [
     PacketFault::TooManyUniverses,
 ];
 
-/// Writes the rows of the sources, of the universes, of the lists and refusals, and of all counts.
+/// Writes what of a recording couldn't be read, the rows of the sources, of the universes, of the lists and refusals, and of all counts.
 pub fn tell<O: Write>(
     teller: &mut Teller<'_, O>,
     options: &Options<'_>,
@@ -84,11 +85,36 @@ fn tell_tables<O: Write>(
     ensures { OnOk result (Tells O.contents teller.old teller.new (tables_told teller.old.form
         options.now.universes.now streams.now listings.now report.now)) }
 {
+    tell_unread(teller, &report.frames)?;
     tell_streams(teller, options, streams, report.length)?;
     tell_universes(teller, options, streams, report.length)?;
     tell_listings(alloc, teller, streams, listings)?;
     tell_refused(teller, &report.tally)?;
     tell_counts(teller, report)
+}
+
+// What of a recording couldn't be read, for people.
+fn tell_unread<O: Write>(teller: &mut Teller<'_, O>, frames: &FrameCounts) -> Result<(), TellFault>
+    ensures { OnOk result
+        (Tells O.contents teller.old teller.new (unread_told teller.old.form frames.now)) }
+{
+    match teller.form {
+        Form::Text => tell_unread_rows(teller, frames),
+        Form::Json => Ok(()),
+    }
+}
+
+fn tell_unread_rows<O: Write>(
+    teller: &mut Teller<'_, O>,
+    frames: &FrameCounts,
+) -> Result<(), TellFault>
+    ensures { OnOk result (Tells O.contents teller.old teller.new (unread_rows frames.now)) }
+{
+    if !has_unread(frames) {
+        return Ok(());
+    }
+    unread_text(&mut teller.line, frames)?;
+    teller.write()
 }
 
 // The head of a table, for people.
