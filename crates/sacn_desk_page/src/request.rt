@@ -153,7 +153,7 @@ fn order_asked(
         _ => return DeskRequest::Refused(DeskRefusal::NotPost),
     }
     // (the key of a request from elsewhere isn't looked at)
-    if !has_origin(fields, hosts) {
+    if !has_origin(fields) {
         return DeskRequest::Refused(DeskRefusal::Foreign);
     }
     if !is_order("POST", fields, hosts, key) {

@@ -26,7 +26,7 @@ pub use audience::{Audience, MAX_SURPLUS, MAX_VIEWERS};
 pub use board::{Board, MAX_LIT};
 pub use document::{Extent, Given, push_document};
 pub use feed::{Feed, MAX_WAIT, MIN_WAIT, Occasion, Owed};
-pub use hosts::Hosts;
+pub use hosts::{Hosts, is_word};
 pub use markup::{Subject, page};
 pub use members::push_facts;
 pub use recording::{MAX_MARKS, Recording, Tape};
