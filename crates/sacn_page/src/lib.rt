@@ -21,7 +21,7 @@ mod scene;
 mod server;
 mod viewer;
 
-pub use alarms::{Alarm, Alarms, MAX_ALARMS, Trouble};
+pub use alarms::{Alarm, Alarms, MAX_ALARMS, Pair, Trouble};
 pub use audience::{Audience, MAX_SURPLUS, MAX_VIEWERS};
 pub use board::{Board, MAX_LIT};
 pub use document::{Extent, Given, push_document};
