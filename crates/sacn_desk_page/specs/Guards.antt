@@ -4,7 +4,7 @@ use Rattle.std.specs.List.{list_all}
 use Rattle.std.specs.Str.{bytes_eq}
 use Rattle.httparse.specs.Grammar.{RequestHead, ReadsRequest}
 use Rattle.httparse.specs.Spans.{name_and_value}
-use Rattle.sacn_page.specs.Requests.{is_word, is_among}
+use Rattle.sacn_page.specs.Requests.{is_word, is_own}
 use Rattle.sacn_desk_page.specs.declared.request.DeskRequest.{DeskRequest}
 use Rattle.sacn_desk_page.specs.declared.request.DeskRequest.TheVariants.{More, Page, State, Cues, Order, Refused}
 
@@ -28,7 +28,7 @@ is_origin fields text = bytes_eq (take 7 text) (codes "http://") && has_one (cod
 -- host, from a page of that very host, with the key
 abbrev pub is_order : List (List ℕ) → List ℕ → List ℕ → List (List ℕ × List ℕ) → Bool
 is_order names key method fields =
-    (bytes_eq method (codes "POST") && has_one (codes "host") (λ v. is_among names v) fields)
+    (bytes_eq method (codes "POST") && is_own names fields)
     && (has_one (codes "origin") (λ v. is_origin fields v) fields && has_one (codes "x-key") (λ v. bytes_eq key v) fields)
 
 -- octets begin with the whole head of a request (RFC 9112, 3) that orders the desk of these names that has this key

@@ -4,11 +4,11 @@ ghost use Rattle.std.specs.Prelude.{◌≡◌, ◌<◌, count_by, codes, map};
 ghost use Rattle.std.specs.List.{list_all};
 ghost use Rattle.std.specs.Str.{bytes_eq};
 ghost use Rattle.httparse.specs.Borrowed.{header_parts};
-ghost use Rattle.sacn_page.specs.Requests.{is_among, is_word};
+ghost use Rattle.sacn_page.specs.Requests.{is_word};
 ghost use Rattle.sacn_desk_page.specs.Guards.{has_one, is_named, is_order, is_origin, says};
 
 use httparse::Header;
-use sacn_page::{Hosts, is_word};
+use sacn_page::{Hosts, is_own, is_word};
 
 /// What stands before the host in an origin of HTTP.
 const SCHEME: &str = "http://";
@@ -18,29 +18,8 @@ const SCHEME: &str = "http://";
 pub fn is_order(method: &str, fields: &[Header<'_>], hosts: &Hosts, key: &[u8]) -> bool
     ensures { result ≡ is_order hosts.now key.now method.now (map header_parts fields.now) }
 {
-    let is_asked = (method == "POST") & has_host(fields, hosts);
+    let is_asked = (method == "POST") & is_own(fields, hosts);
     is_asked & (has_origin(fields) & has_key(fields, key))
-}
-
-/// Whether there is one Host field, and it says one of these names.
-#[tactic(auto, using(crate::proofs::Fields::one_is))]
-pub fn has_host(fields: &[Header<'_>], hosts: &Hosts) -> bool
-    ensures { result ≡ has_one (codes "host") (λ v. is_among hosts.now v) (map header_parts fields.now) }
-{
-    (count_named("host", fields) == 1) & all_say_host(fields, hosts)
-}
-
-fn all_say_host(fields: &[Header<'_>], hosts: &Hosts) -> bool
-    ensures { result ≡ list_all (λ f. says (codes "host") (λ v. is_among hosts.now v) (header_parts f)) fields.now }
-{
-    fields.iter().all(|field| says_host(field, hosts))
-}
-
-// Whether a field says one of these, if it is that field.
-fn says_host(field: &Header<'_>, hosts: &Hosts) -> bool
-    ensures { result ≡ says (codes "host") (λ v. is_among hosts.now v) (header_parts field.now) }
-{
-    !is_named("host", field) | hosts.has(field.value)
 }
 
 /// Whether there is one Origin field, and it says the very host that the one Host field says.

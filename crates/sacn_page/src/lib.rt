@@ -31,7 +31,9 @@ pub use markup::{Subject, page};
 pub use members::push_facts;
 pub use recording::{MAX_MARKS, Recording, Tape};
 pub use replay::{Replay, Snapshot};
-pub use request::{MAX_FIELDS, MAX_HEAD, RequestReading, RequestRefusal, Target, read_request};
+pub use request::{
+    MAX_FIELDS, MAX_HEAD, RequestReading, RequestRefusal, Target, has_body, is_own, read_request,
+};
 pub use response::{MediaType, event_stream_head, push_event, refusal_response, whole};
 pub use scene::{Facts, Scene, SeekFault};
 pub use server::{Pages, Quiet};
