@@ -184,6 +184,9 @@ impl<'a, R: MachineClock, O: Write> DeskOrders<'a, R, O> {
         if self.closing == Closing::Open {
             self.closing = Closing::Asked;
         }
+        if let Some(postbox) = self.posted {
+            postbox.close();
+        }
     }
 
     fn is_closing(&self) -> bool {

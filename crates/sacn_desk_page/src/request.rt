@@ -32,6 +32,8 @@ pub enum DeskRefusal {
     TooLarge,
     /// There is no room for a further connection, or a further order.
     Busy,
+    /// The desk ends, and doesn't obey the order.
+    Ending,
     /// Another version than HTTP/1.0 and HTTP/1.1.
     Version,
 }
