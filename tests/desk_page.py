@@ -108,6 +108,14 @@ def post(line, key=KEY, origin=f"http://{AT}", **more):
     return answer.status, text.strip(), time.monotonic() - begin
 
 
+def tried(line):
+    """The status and the answer, or 0 where the connection ends without one."""
+    try:
+        return post(line)[:2]
+    except (OSError, http.client.HTTPException) as error:
+        return 0, type(error).__name__
+
+
 def wrong_keys(light):
     """Each wrong one waits twice as long as the one before, up to eight seconds, and nothing else waits for it. Four wait at once at most: meanwhile no order is taken."""
     light_begin = time.monotonic()
@@ -158,14 +166,7 @@ def together(light):
 def seventeen(heard):
     """Seventeen orders at once, for which there are eight places: each that is answered ok is obeyed, and no other is."""
     told = {}
-
-    def orders(part):
-        try:
-            told[part] = post(f"7 at {part}")[:2]
-        except (OSError, http.client.HTTPException):
-            told[part] = (0, "")
-
-    threads = [threading.Thread(target=orders, args=(part,)) for part in range(1, 18)]
+    threads = [threading.Thread(target=lambda part=part: told.update({part: tried(f"7 at {part}")})) for part in range(1, 18)]
     for thread in threads:
         thread.start()
     for thread in threads:
@@ -284,10 +285,31 @@ def ended(desk):
     return desk.returncode == 0
 
 
+def says(heard, front, seconds=5):
+    """Whether a line of a desk's standard output begins so within so many seconds."""
+    end = time.monotonic() + seconds
+    while time.monotonic() < end:
+        with open(heard, encoding="utf-8") as lines:
+            if any(line.startswith(front) for line in lines):
+                return True
+        time.sleep(0.02)
+    return False
+
+
 def told_state():
     asking = http.client.HTTPConnection(AT, timeout=5)
     asking.request("GET", "/state")
     return json.loads(asking.getresponse().read())
+
+
+def tells(key, value, seconds=5):
+    """Whether the page tells this of what runs within so many seconds."""
+    end = time.monotonic() + seconds
+    while time.monotonic() < end:
+        if told_state()[key] == value:
+            return True
+        time.sleep(0.02)
+    return False
 
 
 def ending():
@@ -296,13 +318,13 @@ def ending():
     first = post("goto 1")
     desk.send_signal(signal.SIGSTOP)
     told = []
-    late = threading.Thread(target=lambda: told.append(post("goto 2")))
+    late = threading.Thread(target=lambda: told.append(tried("goto 2")))
     late.start()
     time.sleep(0.5)
     desk.stdin.close()
     desk.send_signal(signal.SIGCONT)
     late.join()
-    is_told = told and told[0][:2] == (503, "The desk ends, and didn't obey this order.")
+    is_told = told == [(503, "The desk ends, and didn't obey this order.")]
     verdict("an order that comes while the desk ends is told so", first[0] == 200 and is_told, f"{first} {told}")
     verdict("and the desk ends", ended(desk), f"{desk.returncode}")
     with open(heard, encoding="utf-8") as lines:
@@ -312,25 +334,26 @@ def ending():
 
 def standing_by(light):
     desk, _ = desk_of("standby", "--standby")
+    is_dark = tells("universes", [[1, 1, "ended"]])
     begin = time.monotonic()
-    before = told_state()["universes"]
     answer = post("start all")[:2]
     is_sent = light.comes_after(begin)
-    verdict("a page starts a desk that stands by", before == [[1, 1, "ended"]] and answer == (200, "ok universe 1 starts") and is_sent, f"{before} {answer}")
+    verdict("a page starts a desk that stands by", is_dark and answer == (200, "ok universe 1 starts") and is_sent, f"{told_state()} {answer}")
     verdict("and such a desk ends", ended(desk), f"{desk.returncode}")
 
 
 def scripted():
     with open(f"{ROOM}/script.txt", "w", encoding="utf-8") as script:
         script.write("0 goto 1\n")
-    desk, _ = desk_of("scripted", "--script", f"{ROOM}/script.txt", "--stay")
-    end = time.monotonic() + 5
-    while told_state()["cue"] != 1 and time.monotonic() < end:
-        time.sleep(0.05)
-    state = told_state()
+    desk, heard = desk_of("scripted", "--script", f"{ROOM}/script.txt", "--stay")
+    is_gone = tells("cue", 1)
     answer = post("go")[:2]
-    verdict("a page beside a script", state["cue"] == 1 and answer == (200, "ok cue 2 up 60 s down 60 s") and told_state()["cue"] == 2, f"{state} {answer}")
-    verdict("and such a desk ends", ended(desk), f"{desk.returncode}")
+    verdict("a page beside a script", is_gone and answer == (200, "ok cue 2 up 60 s down 60 s") and tells("cue", 2), f"{told_state()} {answer}")
+    # (beside a script an input that ends within a second, and of which nothing was read, counts as none)
+    desk.stdin.write(b"status\n")
+    desk.stdin.flush()
+    verdict("and such a desk is typed to", says(heard, "cue 2 master 65535 "))
+    verdict("and ends", ended(desk), f"{desk.returncode}")
 
 
 def main():
