@@ -246,6 +246,21 @@ def parted(browser, watch):
 
 TILES = "[...document.querySelectorAll('#universes li')]"
 ALARMS = "[...document.querySelectorAll('#alarms li')].map((it) => it.textContent)"
+# Alarms whose texts are the same but for the universe: two sources of one name that are lost, and three that contest in pairs; and their lines.
+ALIKE = [
+    {"ms": 10, "kind": "lost", "text": "universe 1: Desk is lost", "cid": "aa"},
+    {"ms": 10, "kind": "lost", "text": "universe 2: Desk is lost", "cid": "bb"},
+    {"ms": 20, "kind": "lost", "text": "universe 3: Desk is lost", "cid": "aa"},
+    {"ms": 30, "kind": "rivals", "text": "universe 1: 2 sources share the top priority 100", "cid": "aa", "rival": "bb"},
+    {"ms": 30, "kind": "rivals", "text": "universe 2: 2 sources share the top priority 100", "cid": "aa", "rival": "cc"},
+    {"ms": 40, "kind": "rivals", "text": "universe 3: 2 sources share the top priority 100", "cid": "aa", "rival": "bb"},
+]
+LINES = [
+    "universes 1, 3: Desk is lost",
+    "universe 2: Desk is lost",
+    "universes 1, 3: 2 sources share the top priority 100",
+    "universe 2: 2 sources share the top priority 100",
+]
 MARKED = f"{TILES}.filter((tile) => [...tile.querySelectorAll('[title=alarm]')].some((mark) => mark.getClientRects().length)).map((tile) => parseInt(tile.textContent))"
 NAMED = f"{TILES}.filter((tile) => / alarm,/.test(tile.firstChild.getAttribute('aria-label'))).map((tile) => parseInt(tile.textContent))"
 
@@ -294,6 +309,8 @@ def many(browser):
     desk.kill()
     took = browser.until(f"{ALARMS}.filter((it) => /Front of house is lost/.test(it)).length == 1 && {ALARMS}.some((it) => /universes 1-30: Front of house is lost$/.test(it))", 8)
     verdict("a desk of 30 universes that is killed is one line of the alarms", took is not None, f"{browser.js(f'return {ALARMS}')}")
+    told = browser.js(f"return gathered({json.dumps(ALIKE)}).map(lineText)")
+    verdict("what has one text is one line only of the same sources", told == LINES, f"{told}")
     for process in (watch, desk):
         process.kill()
         process.wait()

@@ -1,6 +1,6 @@
 #!/usr/bin/env python3
-"""Looks at the page that orders a desk: first at keys that are wrong, whose answers wait while the light goes on; then, in a headless Chromium of 360 pixels, at its
-keypad, whose order the desk sends. Prints 'ok NAME', 'not ok NAME: why' or 'skipped NAME: why' for each look.
+"""Looks at the page that orders a desk: first at keys that are wrong, whose answers wait while the light goes on, and at many that order at once; then, in a headless
+Chromium of 360 pixels, at its keypad, whose order the desk sends; last at a desk that ends, one that stands by and one with a script. Prints 'ok NAME', 'not ok NAME: why' or 'skipped NAME: why' for each look.
 
 usage: desk_page.py SACN [PICTURES]
 
@@ -10,6 +10,7 @@ import http.client
 import json
 import os
 import shutil
+import signal
 import socket
 import subprocess
 import sys
@@ -77,6 +78,15 @@ class Light:
         times = [begin, *(at for at, _ in self.came if begin <= at <= end), end]
         return max(later - earlier for earlier, later in zip(times, times[1:]))
 
+    def comes_after(self, moment, seconds=5):
+        """Whether a packet came behind a moment, within so many seconds."""
+        end = time.monotonic() + seconds
+        while time.monotonic() < end:
+            if self.came and self.came[-1][0] > moment:
+                return True
+            time.sleep(0.02)
+        return False
+
     def shows(self, slot, level, seconds=5):
         """Whether a slot is at a level within so many seconds."""
         end = time.monotonic() + seconds
@@ -96,6 +106,14 @@ def post(line, key=KEY, origin=f"http://{AT}", **more):
     answer = asking.getresponse()
     text = answer.read().decode()
     return answer.status, text.strip(), time.monotonic() - begin
+
+
+def tried(line):
+    """The status and the answer, or 0 where the connection ends without one."""
+    try:
+        return post(line)[:2]
+    except (OSError, http.client.HTTPException) as error:
+        return 0, type(error).__name__
 
 
 def wrong_keys(light):
@@ -143,6 +161,33 @@ def together(light):
         thread.join()
     verdict("each of four orders has its own answer", told == {part: (200, f"ok 5 at {part} %") for part in (10, 20, 30, 40)}, f"{told}")
     verdict("and the next one is obeyed", post("5 at 60")[1] == "ok 5 at 60 %" and light.shows(5, 153))
+
+
+def seventeen(heard):
+    """Seventeen orders at once, for which there are eight places: each that is answered ok is obeyed, and no other is."""
+    told = {}
+    threads = [threading.Thread(target=lambda part=part: told.update({part: tried(f"7 at {part}")})) for part in range(1, 18)]
+    for thread in threads:
+        thread.start()
+    for thread in threads:
+        thread.join()
+    obeyed = sorted(part for part, (status, _) in told.items() if status == 200)
+    is_told = all(told[part][1] == "ok, but channel 7 is not patched" for part in obeyed)
+    verdict("of seventeen orders at once each is obeyed, or told that there is no room", obeyed and is_told and {status for status, _ in told.values()} <= {0, 200, 503}, f"{told}")
+    with open(heard, encoding="utf-8") as lines:
+        said = sorted(int(line.split()[-1]) for line in lines if line.startswith("page: 7 at "))
+    verdict("those that were obeyed are those that were answered", said == obeyed, f"{said}, answered {obeyed}")
+
+
+def slow_readers():
+    """Eight that ask, and neither read nor leave: one more still orders."""
+    slow = [socket.create_connection(("127.0.0.1", PAGE), 5) for _ in range(8)]
+    for line in slow:
+        line.sendall(f"GET / HTTP/1.1\r\nHost: {AT}\r\n\r\n".encode())
+    status, text, took = post("5 at 70")
+    verdict("an order beside eight that don't read", status == 200 and text == "ok 5 at 70 %" and took < 2, f"{status} after {took:.2f} s: {text}")
+    for line in slow:
+        line.close()
 
 
 def crowd(light):
@@ -216,19 +261,111 @@ def keypad(browser, light):
     verdict("nothing goes wrong in the page", logs == [], f"{logs}")
 
 
+def desk_of(name, *words):
+    """A desk with a page that answers, and the file of what it says on standard output."""
+    heard = f"{ROOM}/{name}"
+    with open(heard, "wb") as out:
+        desk = start(SACN, "desk", f"{ROOM}/show.toml", "--page", str(PAGE), "--key", KEY, *words, stdout=out)
+    for _ in range(100):
+        try:
+            http.client.HTTPConnection(AT, timeout=5).request("GET", "/state")
+            return desk, heard
+        except OSError:
+            time.sleep(0.1)
+    return desk, heard
+
+
+def ended(desk):
+    """Whether a desk ends by itself within ten seconds, with status 0, once its input has ended."""
+    desk.stdin.close()
+    try:
+        desk.wait(10)
+    except subprocess.TimeoutExpired:
+        pass
+    return desk.returncode == 0
+
+
+def says(heard, front, seconds=5):
+    """Whether a line of a desk's standard output begins so within so many seconds."""
+    end = time.monotonic() + seconds
+    while time.monotonic() < end:
+        with open(heard, encoding="utf-8") as lines:
+            if any(line.startswith(front) for line in lines):
+                return True
+        time.sleep(0.02)
+    return False
+
+
+def told_state():
+    asking = http.client.HTTPConnection(AT, timeout=5)
+    asking.request("GET", "/state")
+    return json.loads(asking.getresponse().read())
+
+
+def tells(key, value, seconds=5):
+    """Whether the page tells this of what runs within so many seconds."""
+    end = time.monotonic() + seconds
+    while time.monotonic() < end:
+        if told_state()[key] == value:
+            return True
+        time.sleep(0.02)
+    return False
+
+
+def ending():
+    """An order that comes while the desk ends is told so: it is sent to a desk that stands still, whose input ends then too."""
+    desk, heard = desk_of("ending")
+    first = post("goto 1")
+    desk.send_signal(signal.SIGSTOP)
+    told = []
+    late = threading.Thread(target=lambda: told.append(tried("goto 2")))
+    late.start()
+    time.sleep(0.5)
+    desk.stdin.close()
+    desk.send_signal(signal.SIGCONT)
+    late.join()
+    is_told = told == [(503, "The desk ends, and didn't obey this order.")]
+    verdict("an order that comes while the desk ends is told so", first[0] == 200 and is_told, f"{first} {told}")
+    verdict("and the desk ends", ended(desk), f"{desk.returncode}")
+    with open(heard, encoding="utf-8") as lines:
+        said = [line for line in lines if line.startswith("page: ")]
+    verdict("and it isn't obeyed", said == ["page: goto 1\n"], f"{said}")
+
+
+def standing_by(light):
+    desk, _ = desk_of("standby", "--standby")
+    is_dark = tells("universes", [[1, 1, "ended"]])
+    begin = time.monotonic()
+    answer = post("start all")[:2]
+    is_sent = light.comes_after(begin)
+    verdict("a page starts a desk that stands by", is_dark and answer == (200, "ok universe 1 starts") and is_sent, f"{told_state()} {answer}")
+    verdict("and such a desk ends", ended(desk), f"{desk.returncode}")
+
+
+def scripted():
+    with open(f"{ROOM}/script.txt", "w", encoding="utf-8") as script:
+        script.write("0 goto 1\n")
+    desk, heard = desk_of("scripted", "--script", f"{ROOM}/script.txt", "--stay")
+    is_gone = tells("cue", 1)
+    answer = post("go")[:2]
+    verdict("a page beside a script", is_gone and answer == (200, "ok cue 2 up 60 s down 60 s") and tells("cue", 2), f"{told_state()} {answer}")
+    # (beside a script an input that ends within a second, and of which nothing was read, counts as none)
+    desk.stdin.write(b"status\n")
+    desk.stdin.flush()
+    verdict("and such a desk is typed to", says(heard, "cue 2 master 65535 "))
+    verdict("and ends", ended(desk), f"{desk.returncode}")
+
+
 def main():
     with open(f"{ROOM}/show.toml", "w", encoding="utf-8") as show:
         show.write(SHOW)
     light = Light()
-    desk = start(SACN, "desk", f"{ROOM}/show.toml", "--page", str(PAGE), "--key", KEY)
-    for _ in range(100):
-        try:
-            if post("goto 2")[0] == 200:
-                break
-        except OSError:
-            time.sleep(0.1)
+    desk, heard = desk_of("ordered")
+    post("goto 2")
     wrong_keys(light)
     together(light)
+    seventeen(heard)
+    slow_readers()
     crowd(light)
     if shutil.which("chromium") and shutil.which("chromedriver"):
         browser = Browser(PICTURES)
@@ -238,12 +375,10 @@ def main():
             browser.ask("DELETE", "")
     else:
         print("skipped desk_page: there is no Chromium with its driver")
-    desk.stdin.close()
-    try:
-        desk.wait(10)
-    except subprocess.TimeoutExpired:
-        pass
-    verdict("the end of its input ends the desk", desk.returncode == 0, f"{desk.returncode}")
+    verdict("the end of its input ends the desk", ended(desk), f"{desk.returncode}")
+    ending()
+    standing_by(light)
+    scripted()
 
 
 try:

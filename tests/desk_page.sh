@@ -155,7 +155,8 @@ state "a blackout" '{"cue":1,"next":20,"master":0,*'
 orders "restore" "ok master at 100 %" restore
 orders "an end of line" "ok cue 1 up 0 s down 0 s" $'goto 1\r\n'
 orders "a list" $'cue 1 up 0 s down 0 s channels 2 current\ncue 20 up 0 s down 2 s channels 1\nok' cues
-orders "no order" 'line *: "blakout" isn*t an order; the nearest is blackout; help lists them' blakout
+# (the ninth line of the page)
+orders "no order" 'line 9: "blakout" isn*t an order; the nearest is blackout; help lists them' blakout
 orders "a cue that isn't there" "refused NoCue: the show has no cue 9; cues lists them" "goto 9"
 for line in quit "end all" "end 1"; do
   orders "no end by $line" "refused: the page doesn't end a desk" "$line"
@@ -168,6 +169,11 @@ echo status >&"$typed"
 for _ in $(seq 50); do grep -q '^cue 1 master 65535 sent ' out && break; sleep 0.1; done
 grep -q '^cue 1 master 65535 sent ' out
 verdict "orders are typed beside it" $? "$(tail -n 2 out)"
+# (lines of the page are counted apart)
+echo nonsense >&"$typed"
+for _ in $(seq 50); do grep -q '^line 2: "nonsense"' out && break; sleep 0.1; done
+grep -q '^line 2: "nonsense"' out
+verdict "the second line of standard input is told as that" $? "$(tail -n 2 out)"
 
 # What isn't an order, and what can't be read.
 answers "an order by GET" 405 -H "Origin: $at" -H "X-Key: $key" $at/order
@@ -182,6 +188,14 @@ answers "an order with a query" 404 -H "Origin: $at" -H "X-Key: $key" -d go "$at
 answers "another host" 403 -H 'Host: rig.example' $at/
 answers "another host with the port" 403 -H "Host: rig.example:$tcp" $at/state
 answers "an order to another host" 403 -H 'Host: rig.example' -H "Origin: $at" -H "X-Key: $key" -d go $at/order
+# (a page may ask by each name, and each alone is the origin of its orders)
+named="Host: LocalHost:$tcp\r\nX-Key: $key\r\nContent-Length: 6\r\n"
+sends "an order from the page of another name" 403 "POST /order HTTP/1.1\r\n${named}Origin: $at\r\n\r\ngoto 1"
+sends "an order from the page of that name" 200 "POST /order HTTP/1.1\r\n${named}Origin: http://localhost:$tcp\r\n\r\ngoto 1"
+sends "an order from that name at another port" 403 "POST /order HTTP/1.1\r\n${named}Origin: http://localhost:80\r\n\r\ngoto 1"
+sends "an order from that name without a port" 403 "POST /order HTTP/1.1\r\n${named}Origin: http://localhost\r\n\r\ngoto 1"
+sends "an order from that name by HTTPS" 403 "POST /order HTTP/1.1\r\n${named}Origin: https://localhost:$tcp\r\n\r\ngoto 1"
+sends "two origins" 403 "POST /order HTTP/1.1\r\n${named}Origin: http://localhost:$tcp\r\nOrigin: $at\r\n\r\ngoto 1"
 sends "two hosts" 403 "POST /order HTTP/1.1\r\n${own}${page}Content-Length: 2\r\n\r\ngo"
 answers "this machine by name" 200 -H "Host: LocalHost:$tcp" $at/state
 sends "no length" 411 "POST /order HTTP/1.1\r\n$page\r\n"

@@ -233,7 +233,7 @@ verdict "at most ten changes a second" $? "$count"
 verdict "changes hold what changed alone" $? "$(cut -c 1-200 events | head -n 20)"
 grep -qF "\"levels\":\"0000ff$dark\"" events && grep -qF "\"levels\":\"000080$dark\"" events
 verdict "levels change" $?
-for alarm in '"kind":"ended","text":"universe 7: \u003cb\u003e\u0022D\u00f6sk\u0022 \u0026 \ud83c\udfad\u005c ended its stream"}' \
+for alarm in '"kind":"ended","text":"universe 7: \u003cb\u003e\u0022D\u00f6sk\u0022 \u0026 \ud83c\udfad\u005c ended its stream","cid":"000102030405060708090a0b0c0d0e0f"}' \
   '"kind":"refused","text":"a datagram of 127.0.0.1:'; do
   grep -qF -- "$alarm" events && [ "$(grep -cF -- "$alarm" events)" = 1 ]
   verdict "the alarm ${alarm:0:40} comes once" $? "$(grep -o '"alarms":.*' events)"

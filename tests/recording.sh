@@ -112,7 +112,7 @@ has "moving back reads anew" '{"ms":325,' '"last":0,"live":1,' "\"levels\":\"ff8
 answers "the state before the end of the stream" 200 "$at/state?universe=1&at=2411"
 has "three packets at 2411 ms" '"state":"sending"' '"live":3,"preview":0,"terminated":0,' '"gap":542,' "\"levels\":\"010203$(zeros 1018)\"" '"alarms":[]'
 answers "the state at the end of the stream" 200 "$at/state?at=2412&universe=1"
-ended='{"ms":2412,"kind":"ended","text":"universe 1: OLA Server ended its stream"}'
+ended='{"ms":2412,"kind":"ended","text":"universe 1: OLA Server ended its stream","cid":"0102030405060708090a0b0c0d0e0f10"}'
 has "the stream has ended at 2412 ms" '"state":"ended"' '"terminated":3,' '"gap":1544,' "\"levels\":\"$(zeros 1024)\"" "\"alarms\":[$ended]," '"counts":{"datagrams":6,'
 for query in '' '?at=5970' '?at=5971' '?at=18446744073709551615'; do
   answers "the end, asked by '$query'" 200 "$at/state$query"
@@ -188,24 +188,26 @@ python3 write.py two "<i>two.pcap"
 cp "<i>two.pcap" two.pcap
 serves "<i>two.pcap" --universe 1
 both='"name":"\u003ci\u003etwo.pcap"'
+main=$(printf 'aa%.0s' $(seq 16)) spare=$(printf 'bb%.0s' $(seq 16))
 answers "the state before the second source" 200 "$at/state?at=499"
 has "one source on universe 1 at 499 ms" "$both" '"name":"\u003cb\u003eMain \u0026 more"' "\"levels\":\"1020$(zeros 1020)\"" '"alarms":[]' '"counts":{"datagrams":20,'
 answers "the state with both" 200 "$at/state?at=500"
 # (the packet of 400 ms is taken at 500, the latest moment so far; its numbers 1 to 3 were skipped)
 has "both sources at 500 ms" '"name":"Spare","address":"10.0.0.2","port":5000,"state":"sending"' "\"levels\":\"3020$(zeros 1020)\"" "\"winners\":\"00150001$(zeros 2040)\"" \
-  '{"ms":500,"kind":"rivals","text":"universe 1: 2 sources share the top priority 100"}' '{"ms":500,"kind":"skipped","text":"universe 1: \u003cb\u003eMain \u0026 more skipped 3 numbers"}' '"counts":{"datagrams":22,'
-lost='{"ms":3000,"kind":"lost","text":"universe 1: Spare is lost"}'
+  '{"ms":500,"kind":"rivals","text":"universe 1: 2 sources share the top priority 100","cid":"'"$main"'","rival":"'"$spare"'"}' \
+  '{"ms":500,"kind":"skipped","text":"universe 1: \u003cb\u003eMain \u0026 more skipped 3 numbers","cid":"'"$main"'"}' '"counts":{"datagrams":22,'
+lost='{"ms":3000,"kind":"lost","text":"universe 1: Spare is lost","cid":"'"$spare"'"}'
 answers "a moment before the losses" 200 "$at/state?at=2599"
 ! grep -qF '"kind":"lost"' body
 verdict "none is lost at 2599 ms" $?
 answers "a moment of silence" 200 "$at/state?at=2999"
-has "both light universe 1 at 2999 ms" "\"levels\":\"3020$(zeros 1020)\"" '{"ms":2600,"kind":"lost","text":"universe 101: Spare is lost"}'
+has "both light universe 1 at 2999 ms" "\"levels\":\"3020$(zeros 1020)\"" '{"ms":2600,"kind":"lost","text":"universe 101: Spare is lost","cid":"'"$spare"'"}'
 ! grep -qF '"kind":"lost","text":"universe 1:' body
 verdict "none of universe 1 is lost at 2999 ms" $?
 answers "2500 ms after their packets" 200 "$at/state?at=3000"
-has "both are lost at 3000 ms" "$lost" "\"levels\":\"$(zeros 1024)\"" '{"ms":3000,"kind":"lost","text":"universe 1: \u003cb\u003eMain \u0026 more is lost"}'
+has "both are lost at 3000 ms" "$lost" "\"levels\":\"$(zeros 1024)\"" '{"ms":3000,"kind":"lost","text":"universe 1: \u003cb\u003eMain \u0026 more is lost","cid":"'"$main"'"}'
 answers "the end of it" 200 "$at/state"
-has "a loss stands at its own moment" '{"ms":10000,' "$lost" '{"ms":10000,"kind":"came_back","text":"universe 1: \u003cb\u003eMain \u0026 more is back"}' "\"levels\":\"12$(zeros 1022)\""
+has "a loss stands at its own moment" '{"ms":10000,' "$lost" '{"ms":10000,"kind":"came_back","text":"universe 1: \u003cb\u003eMain \u0026 more is back","cid":"'"$main"'"}' "\"levels\":\"12$(zeros 1022)\""
 for universe in 101 119 110 118; do
   answers "universe $universe of twenty" 200 "$at/state?universe=$universe&at=100"
   has "universe $universe has its levels" "\"universe\":$universe," "\"levels\":\"$(printf %02x "$universe")$(zeros 1022)\""

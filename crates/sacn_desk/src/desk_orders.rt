@@ -100,7 +100,10 @@ pub struct DeskOrders<'a, R, O> {
     ends_with_script: bool,
     source: Source,
     input: TypedInput,
+    // Lines of standard input, and those that were posted, are counted apart; this is the number of the one that is in work.
     line_number: usize,
+    typed_lines: usize,
+    posted_lines: usize,
     lists: ShowLists<'a>,
     wish: Option<Wish>,
     // Up to this moment a list waits for what was written of it to be taken.
@@ -151,6 +154,8 @@ impl<'a, R: MachineClock, O: Write> DeskOrders<'a, R, O> {
             source: Source::Script,
             input: TypedInput::new(alloc),
             line_number: 0,
+            typed_lines: 0,
+            posted_lines: 0,
             lists: ShowLists::of(alloc, plan.show)?,
             wish: None,
             held_until: 0,
@@ -178,6 +183,9 @@ impl<'a, R: MachineClock, O: Write> DeskOrders<'a, R, O> {
     fn close(&mut self) {
         if self.closing == Closing::Open {
             self.closing = Closing::Asked;
+        }
+        if let Some(postbox) = self.posted {
+            postbox.close();
         }
     }
 
@@ -207,6 +215,7 @@ impl<'a, R: MachineClock, O: Write> DeskOrders<'a, R, O> {
                     None => {}
                 },
                 InputState::OutOfMemory => {
+                    self.line_number = self.typed_lines;
                     self.say_fault("out of memory");
                     self.close();
                     return None;

@@ -33,7 +33,7 @@ pub use destinations::{DISCOVERY_UNIVERSE, Destination, Destinations, MAX_HOSTS,
 pub use opening::Opening;
 pub use orders::Orders;
 pub use postbox::{
-    DeskState, MAX_POSTED, MAX_POSTED_ANSWER, MAX_POSTED_OCTETS, Postbox, PostedAnswer,
+    DeskState, MAX_POSTED, MAX_POSTED_ANSWER, MAX_POSTED_OCTETS, PostFault, Postbox, PostedAnswer,
     PostedWriter,
 };
 pub use prompt::{Prompt, PromptWriter};

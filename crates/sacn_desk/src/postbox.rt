@@ -62,6 +62,15 @@ pub struct PostedAnswer {
     pub is_cut: bool,
 }
 
+/// Why a line isn't posted.
+#[derive(Clone, Copy, PartialEq, Eq, Debug)]
+pub enum PostFault {
+    /// Too many wait, or it is too long.
+    NoRoom,
+    /// The desk ends, and obeys no further line.
+    Ending,
+}
+
 /// How far the line is that was taken last.
 #[derive(Clone, Copy, PartialEq, Eq)]
 enum Work {
@@ -78,6 +87,8 @@ struct Post {
     lines: Vec<PostedLine>,
     /// How many lines were posted.
     posted: u64,
+    /// The desk ends, and no further line is taken.
+    is_closed: bool,
     work: Work,
     latest: PostedAnswer,
     /// What is written now belongs to the answer.
@@ -87,18 +98,33 @@ struct Post {
 }
 
 impl Post {
-    fn add(&mut self, text: &[u8]) -> Option<u64> {
+    fn add(&mut self, text: &[u8]) -> Result<u64, PostFault> {
+        if self.is_closed {
+            return Err(PostFault::Ending);
+        }
         if self.lines.len() >= MAX_POSTED || text.len() > MAX_POSTED_OCTETS {
-            return None;
+            return Err(PostFault::NoRoom);
         }
         let ticket = self.posted;
         match self.lines.push(PostedLine::of(ticket, text)) {
             Ok(()) => {
                 self.posted = ticket.saturating_add(1);
-                Some(ticket)
+                Ok(ticket)
             }
-            Err(_) => None,
+            Err(_) => Err(PostFault::NoRoom),
         }
+    }
+
+    // No line is obeyed any more but the one that is in work.
+    fn close(&mut self) {
+        self.is_closed = true;
+        self.lines.clear();
+    }
+
+    // Whether a line that was posted, and whose answer wasn't taken, won't be obeyed.
+    fn has_dropped(&self, ticket: u64) -> bool {
+        let is_taken = self.work != Work::Nothing && self.latest.ticket == ticket;
+        self.is_closed && !is_taken
     }
 
     fn take(&mut self) -> Option<PostedLine> {
@@ -164,6 +190,7 @@ impl Postbox {
         let post = Post {
             lines: Vec::with_capacity(alloc, MAX_POSTED)?,
             posted: 0,
+            is_closed: false,
             work: Work::Nothing,
             latest: PostedAnswer {
                 ticket: 0,
@@ -189,11 +216,28 @@ impl Postbox {
         self.descriptor
     }
 
-    /// Posts a line of at most `MAX_POSTED_OCTETS` octets, without its end. Returns its ticket; None where too many wait, or it is too long.
-    pub fn post(&self, line: &[u8]) -> Option<u64> {
+    /// Posts a line of at most `MAX_POSTED_OCTETS` octets, without its end. Returns its ticket.
+    ///
+    /// Errors: NoRoom where too many wait, it is too long, or memory is refused; Ending where the desk ends.
+    pub fn post(&self, line: &[u8]) -> Result<u64, PostFault> {
         match self.post.try_borrow_mut() {
             Ok(mut post) => post.add(line),
-            Err(_) => None,
+            Err(_) => Err(PostFault::NoRoom),
+        }
+    }
+
+    /// Whether the line of a ticket, whose answer wasn't taken, won't be obeyed, since the desk ends.
+    pub fn has_dropped(&self, ticket: u64) -> bool {
+        match self.post.try_borrow() {
+            Ok(post) => post.has_dropped(ticket),
+            Err(_) => false,
+        }
+    }
+
+    /// The desk ends: of the lines that were posted only the one that is in work is still obeyed.
+    pub(crate) fn close(&self) {
+        if let Ok(mut post) = self.post.try_borrow_mut() {
+            post.close();
         }
     }
 

@@ -8,7 +8,7 @@ use crate::place::{Phase, Place, Shared, Texts};
 use crate::request::{DeskRefusal, DeskRequest};
 use crate::response::{MediaType, push_answer};
 use sacn_console::{ConsoleCore, Show};
-use sacn_desk::{MAX_POSTED_ANSWER, Postbox};
+use sacn_desk::{MAX_POSTED_ANSWER, PostFault, Postbox};
 use sacn_page::{Connection, Hosts};
 use std::alloc::{AllocError, Global};
 use std::net::SocketAddrV4;
@@ -177,6 +177,18 @@ impl<C: Connection + Drop> Callers<C> {
         }
     }
 
+    /// Tells those whose order isn't obeyed any more, since the desk ends.
+    pub fn refuse_dropped(&mut self, desk: Desk<'_>) {
+        for place in self.places.as_mut_slice() {
+            match place.phase() {
+                Phase::Ordered(ticket) if desk.postbox.has_dropped(ticket) => {
+                    place.refuse(DeskRefusal::Ending, &self.texts, desk.now);
+                }
+                _ => {}
+            }
+        }
+    }
+
     /// Answers those whose delay is over, and closes those whose time is up.
     pub fn tick(&mut self, now: u64) {
         for place in self.places.as_mut_slice() {
@@ -246,9 +258,9 @@ fn order<C: Connection + Drop>(
 ) {
     let input = place.input();
     let end = end.min(input.len());
-    let ticket = desk.postbox.post(&input[begin.min(end)..end]);
-    match ticket {
-        Some(ticket) => place.note_order(ticket),
-        None => place.refuse(DeskRefusal::Busy, texts, desk.now),
+    match desk.postbox.post(&input[begin.min(end)..end]) {
+        Ok(ticket) => place.note_order(ticket),
+        Err(PostFault::NoRoom) => place.refuse(DeskRefusal::Busy, texts, desk.now),
+        Err(PostFault::Ending) => place.refuse(DeskRefusal::Ending, texts, desk.now),
     }
 }

@@ -15,7 +15,7 @@ mod response;
 mod server;
 
 pub use callers::{Callers, Desk};
-pub use guard::{has_host, is_order};
+pub use guard::is_order;
 pub use paged::{PagedOrders, ServedDesk};
 pub use penalty::Penalty;
 pub use request::{DeskRefusal, DeskRequest, read_request};

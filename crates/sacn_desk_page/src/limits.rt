@@ -3,14 +3,8 @@
 /// The most connections.
 pub const MAX_CALLERS: usize = 8;
 
-/// The most octets of a request's head.
-pub const MAX_HEAD: usize = 4096;
-
 /// The most places at which the answer to a refused order waits. While there are as many no order is taken, so that all others can still look.
 pub const MAX_DELAYED: usize = 4;
-
-/// The most header fields of a request.
-pub const MAX_FIELDS: usize = 32;
 
 /// The most octets of an order.
 pub const MAX_BODY: usize = 512;

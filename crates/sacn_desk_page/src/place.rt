@@ -1,9 +1,9 @@
 //! A place for one connection of a browser, which asks or orders once.
 
-use crate::limits::{LEAVE_TIME, MAX_BODY, MAX_HEAD, REQUEST_TIME, STALL_TIME};
+use crate::limits::{LEAVE_TIME, MAX_BODY, REQUEST_TIME, STALL_TIME};
 use crate::request::{DeskRefusal, DeskRequest, read_request};
 use crate::response::{MediaType, push_answer, push_refusal};
-use sacn_page::{Connection, Hosts};
+use sacn_page::{Connection, Hosts, MAX_HEAD};
 use std::alloc::{AllocError, Global};
 use std::io::ErrorKind;
 

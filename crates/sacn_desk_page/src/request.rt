@@ -4,10 +4,10 @@ ghost use Rattle.std.specs.Prelude.{◌≡◌, codes, map, IsTrue, Some, option_
 ghost use Rattle.httparse.specs.Borrowed.{header_parts};
 ghost use Rattle.sacn_desk_page.specs.Guards.{BeginsOrder, OnOrder, is_order};
 
-use crate::guard::{has_host, has_origin, is_order};
-use crate::limits::{MAX_BODY, MAX_FIELDS, MAX_HEAD};
+use crate::guard::{has_origin, is_order};
+use crate::limits::MAX_BODY;
 use httparse::{EMPTY_HEADER, Error, Header, Request, Status};
-use sacn_page::Hosts;
+use sacn_page::{Hosts, MAX_FIELDS, MAX_HEAD, has_body, is_own};
 
 /// Why a request isn't answered as it asks.
 #[derive(Clone, Copy, PartialEq, Eq)]
@@ -32,6 +32,8 @@ pub enum DeskRefusal {
     TooLarge,
     /// There is no room for a further connection, or a further order.
     Busy,
+    /// The desk ends, and doesn't obey the order.
+    Ending,
     /// Another version than HTTP/1.0 and HTTP/1.1.
     Version,
 }
@@ -97,7 +99,7 @@ fn asked_by(request: &Request<'_, '_>, body: &Body<'_>, hosts: &Hosts, key: &[u8
         (map header_parts request.now.headers.now))) }
 {
     let fields: &[Header<'_>] = request.headers;
-    if !has_host(fields, hosts) {
+    if !is_own(fields, hosts) {
         return DeskRequest::Refused(DeskRefusal::Foreign);
     }
     match request.path {
@@ -153,7 +155,7 @@ fn order_asked(
         _ => return DeskRequest::Refused(DeskRefusal::NotPost),
     }
     // (the key of a request from elsewhere isn't looked at)
-    if !has_origin(fields, hosts) {
+    if !has_origin(fields) {
         return DeskRequest::Refused(DeskRefusal::Foreign);
     }
     if !is_order("POST", fields, hosts, key) {
@@ -199,19 +201,6 @@ fn trimmed(line: &[u8]) -> &[u8] {
 
 fn is_printable(octet: &u8) -> bool {
     (*octet >= b' ') & (*octet <= b'~')
-}
-
-// Whether a field announces a body.
-fn has_body(fields: &[Header<'_>]) -> bool {
-    for field in fields {
-        if field.name.eq_ignore_ascii_case("transfer-encoding") {
-            return true;
-        }
-        if field.name.eq_ignore_ascii_case("content-length") && field.value != b"0".as_slice() {
-            return true;
-        }
-    }
-    false
 }
 
 // The length that a head tells of its body: one number of digits alone.

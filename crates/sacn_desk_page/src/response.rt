@@ -41,6 +41,7 @@ impl DeskRefusal {
             DeskRefusal::TooLong => 413,
             DeskRefusal::TooLarge => 431,
             DeskRefusal::Busy => 503,
+            DeskRefusal::Ending => 503,
             DeskRefusal::Version => 505,
         }
     }
@@ -58,6 +59,7 @@ impl DeskRefusal {
             DeskRefusal::TooLong => "Content Too Large",
             DeskRefusal::TooLarge => "Request Header Fields Too Large",
             DeskRefusal::Busy => "Service Unavailable",
+            DeskRefusal::Ending => "Service Unavailable",
             DeskRefusal::Version => "HTTP Version Not Supported",
         }
     }
@@ -75,6 +77,7 @@ impl DeskRefusal {
             DeskRefusal::TooLong => "An order has at most 512 octets.\n",
             DeskRefusal::TooLarge => "The head of the request is too large.\n",
             DeskRefusal::Busy => "There is no room for a further order or connection.\n",
+            DeskRefusal::Ending => "The desk ends, and didn't obey this order.\n",
             DeskRefusal::Version => "Only HTTP/1.0 and HTTP/1.1 are spoken.\n",
         }
     }

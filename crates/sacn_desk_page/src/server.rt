@@ -114,6 +114,7 @@ impl DeskPage {
             }
         }
         self.callers.answer_order(desk);
+        self.callers.refuse_dropped(desk);
         self.callers.tick(desk.now);
         if calls {
             self.accept(desk);

@@ -10,10 +10,11 @@ use Rattle.sacn_tell.specs.Refusals.{fault_words}
 use Rattle.sacn_tell.specs.Sentences.{stop_words}
 use Rattle.sacn_tell.specs.Spelling.{sender_text}
 use Rattle.sacn_page.specs.declared.alarms.Alarm.{Alarm}
+use Rattle.sacn_page.specs.declared.alarms.Pair.{Pair}
 use Rattle.sacn_page.specs.declared.alarms.Trouble.{Trouble}
 use Rattle.sacn_page.specs.declared.alarms.Trouble.TheVariants.{Lost, Ended, CameBack, Skipped, Late, Refused, Stopped, Rivals}
 use Rattle.sacn_page.specs.Alarms.{KeptAlarms, after}
-use Rattle.sacn_page.specs.Documents.{first_number}
+use Rattle.sacn_page.specs.Documents.{digits_member, first_number}
 
 -- what happened, in a word
 abbrev pub kind_word : Trouble → List ℕ
@@ -24,7 +25,7 @@ kind_word (Skipped place count) = codes "skipped"
 kind_word (Late place) = codes "late"
 kind_word (Refused sender fault) = codes "refused"
 kind_word (Stopped millis) = codes "stopped"
-kind_word (Rivals contest) = codes "rivals"
+kind_word (Rivals contest pair) = codes "rivals"
 
 -- the place of the source that it is about
 abbrev pub place_of : Trouble → Option ℕ
@@ -35,7 +36,7 @@ place_of (Skipped place count) = Some place
 place_of (Late place) = Some place
 place_of (Refused sender fault) = None
 place_of (Stopped millis) = None
-place_of (Rivals contest) = None
+place_of (Rivals contest pair) = None
 
 unfoldable pub skipped_words : ℕ → List ℕ
 skipped_words count = if count == 1 then codes " skipped a number" else codes " skipped " ++ (decimal count ++ codes " numbers")
@@ -58,7 +59,7 @@ trouble_words (Skipped place count) = skipped_words count
 trouble_words (Late place) = codes " sent a packet out of sequence"
 trouble_words (Refused sender fault) = refused_words sender fault
 trouble_words (Stopped millis) = stop_words millis
-trouble_words (Rivals contest) = rivals_words contest.universe contest.sources contest.priority
+trouble_words (Rivals contest pair) = rivals_words contest.universe contest.sources contest.priority
 
 -- a source by its universe and name (E1.31, 6.2.2)
 unfoldable pub source_words : Stream → List ℕ
@@ -72,12 +73,42 @@ named (Some s) = source_words s
 abbrev pub about : List Stream → Trouble → List ℕ
 about streams trouble = named (option_and_then (λ place. slice_get streams place) (place_of trouble))
 
+-- the CID of the source that it is about (E1.31, 5.6)
+abbrev pub cid_of : Option Stream → List ℕ
+cid_of None = []
+cid_of (Some s) = digits_member (codes "cid") s.cid
+
+abbrev pub about_cid : List Stream → Trouble → List ℕ
+about_cid streams trouble = cid_of (option_and_then (λ place. slice_get streams place) (place_of trouble))
+
+abbrev pub pair_in : Trouble → Option Pair
+pair_in (Lost place) = None
+pair_in (Ended place) = None
+pair_in (CameBack place) = None
+pair_in (Skipped place count) = None
+pair_in (Late place) = None
+pair_in (Refused sender fault) = None
+pair_in (Stopped millis) = None
+pair_in (Rivals contest pair) = pair
+
+-- the CIDs of the first two that contest a universe
+unfoldable pub pair_members : Pair → List ℕ
+pair_members p = digits_member (codes "cid") p.first ++ digits_member (codes "rival") p.second
+
+abbrev pub contest_cids : Option Pair → List ℕ
+contest_cids None = []
+contest_cids (Some p) = pair_members p
+
+unfoldable pub cids : List Stream → Trouble → List ℕ
+cids streams trouble = about_cid streams trouble ++ contest_cids (pair_in trouble)
+
 unfoldable pub alarm_front : Alarm → List ℕ
 alarm_front a = first_number (codes "ms") a.moment ++ word_member (codes "kind") (kind_word a.trouble)
 
 -- a thing that happened at a moment, as an object
 unfoldable pub alarm_object : List Stream → Alarm → List ℕ
-alarm_object streams a = alarm_front a ++ (codes ",\"text\":\"" ++ (about streams a.trouble ++ (trouble_words a.trouble ++ codes "\"}")))
+alarm_object streams a =
+    alarm_front a ++ (codes ",\"text\":\"" ++ (about streams a.trouble ++ (trouble_words a.trouble ++ (codes "\"" ++ (cids streams a.trouble ++ codes "}")))))
 
 -- with commas between them
 abbrev pub alarm_list : List Stream → List Alarm → List ℕ

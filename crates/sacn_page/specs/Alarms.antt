@@ -1,13 +1,18 @@
 -- The things that went wrong, and which of them are kept.
-use Rattle.std.specs.Prelude.{◌≡◌, ℕ, ◌+◌, ◌-◌, ◌^◌, min, nat_le, nat_lt, Bool, true, false, not, ◌==◌, List, [], ◌∷◌, ◌++◌, length, drop, filter, position, remove, Option, None, Some, if◌then◌else◌}
-use Rattle.std.specs.Option.{option_or}
+use Rattle.std.specs.Prelude.{◌≡◌, ℕ, ◌+◌, ◌-◌, ◌^◌, min, nat_le, nat_lt, Bool, true, false, not, ◌&&◌, ◌==◌, List, [], ◌∷◌, ◌++◌, length, drop, filter, find, position, remove, Option, None, Some, if◌then◌else◌}
+use Rattle.std.specs.Option.{option_and_then, option_map, option_or}
+use Rattle.std.specs.Str.{bytes_eq}
 use Rattle.sacn_monitor.specs.declared.news.StreamEvent.{StreamEvent}
 use Rattle.sacn_monitor.specs.declared.news.StreamEvent.TheVariants as event
 use Rattle.sacn_monitor.specs.declared.news.News.{News}
+use Rattle.sacn_monitor.specs.declared.stream.Stream.{Stream}
+use Rattle.sacn_monitor.specs.Rivals.{lights}
+use Rattle.sacn_network.specs.declared.occurrence.Contest.{Contest}
 use Rattle.sacn_network.specs.declared.occurrence.What.{What}
 use Rattle.sacn_network.specs.declared.occurrence.What.TheVariants as what
 use Rattle.sacn_network.specs.Telling.{Told}
 use Rattle.sacn_page.specs.declared.alarms.Alarm.{Alarm}
+use Rattle.sacn_page.specs.declared.alarms.Pair.{Pair}
 use Rattle.sacn_page.specs.declared.alarms.Trouble.{Trouble}
 use Rattle.sacn_page.specs.declared.alarms.Trouble.TheVariants.{Lost, Ended, CameBack, Skipped, Late, Refused, Stopped, Rivals}
 
@@ -31,7 +36,7 @@ is_loss (Skipped place count) = false
 is_loss (Late place) = false
 is_loss (Refused sender fault) = false
 is_loss (Stopped millis) = false
-is_loss (Rivals contest) = false
+is_loss (Rivals contest pair) = false
 
 -- the place of the oldest, if there is one
 abbrev pub oldest : List Alarm → Option ℕ
@@ -96,17 +101,32 @@ event_troubles place event.Repeated = []
 abbrev pub news_troubles : ℕ → News → List Trouble
 news_troubles place news = event_troubles place news.event ++ (if news.skipped == 0 then [] else Skipped place news.skipped ∷ [])
 
+-- a source lights a contested universe at its top priority (E1.31, 6.2.3)
+abbrev pub contests : ℕ → Contest → Stream → Bool
+contests at c s = lights c.universe at s && (s.account.priority == c.priority)
+
+-- it does, beside this one
+abbrev pub rivals : ℕ → Contest → Stream → Stream → Bool
+rivals at c first s = contests at c s && not (bytes_eq first.cid s.cid)
+
+abbrev pub paired : ℕ → Contest → List Stream → Stream → Option Pair
+paired at c ss first = option_map (λ (s : Stream). record { first = first.cid; second = s.cid }) (find (rivals at c first) ss)
+
+-- the first two sources, as they appeared, that contest a universe
+abbrev pub pair_of : ℕ → Contest → List Stream → Option Pair
+pair_of at c ss = option_and_then (paired at c ss) (find (contests at c) ss)
+
 -- a contest that ends is none, nor is a source for which there is no room
-abbrev pub troubles_of : What → List Trouble
-troubles_of (what.Lost place) = Lost place ∷ []
-troubles_of (what.Heard place news) = news_troubles place news
-troubles_of (what.Refused sender fault) = Refused sender fault ∷ []
-troubles_of (what.Untracked sender) = []
-troubles_of (what.Contest contest) = if nat_le 2 contest.sources then Rivals contest ∷ [] else []
+abbrev pub troubles_of : ℕ → List Stream → What → List Trouble
+troubles_of at streams (what.Lost place) = Lost place ∷ []
+troubles_of at streams (what.Heard place news) = news_troubles place news
+troubles_of at streams (what.Refused sender fault) = Refused sender fault ∷ []
+troubles_of at streams (what.Untracked sender) = []
+troubles_of at streams (what.Contest contest) = if nat_le 2 contest.sources then Rivals contest (pair_of at contest streams) ∷ [] else []
 
 -- what one thing told leaves
 abbrev pub alarms_after : Told → KeptAlarms → KeptAlarms
-alarms_after told k = with_troubles told.occurrence.at (troubles_of told.occurrence.what) k
+alarms_after told k = with_troubles told.occurrence.at (troubles_of told.occurrence.at told.book.streams told.occurrence.what) k
 
 -- and what a list of them leaves
 abbrev pub alarms_told : List Told → KeptAlarms → KeptAlarms

@@ -1,10 +1,10 @@
 //! What a viewer reads of the latest things that went wrong.
 
 ghost use Rattle.std.specs.Prelude.{◌≡◌, ◌++◌, OnOk, slice_get, string_bytes};
-ghost use Rattle.sacn_page.specs.AlarmTexts.{about, alarm_front, alarm_list, alarm_object, alarms_member, kind_word, left_out_member, named, place_of, refused_words, rivals_words, skipped_words, source_words, trouble_words};
+ghost use Rattle.sacn_page.specs.AlarmTexts.{about, about_cid, alarm_front, alarm_list, alarm_object, alarms_member, cid_of, cids, contest_cids, kind_word, left_out_member, named, pair_in, pair_members, place_of, refused_words, rivals_words, skipped_words, source_words, trouble_words};
 
-use crate::alarms::{Alarm, Alarms, Trouble};
-use crate::members::push_first_number;
+use crate::alarms::{Alarm, Alarms, Pair, Trouble};
+use crate::members::{push_digits_member, push_first_number};
 use sacn_monitor::{Endpoint, Stream};
 use sacn_packets::{PacketFault, up_to_nul};
 use sacn_tell::{
@@ -26,7 +26,7 @@ impl Trouble {
             Trouble::Late(_) => "late",
             Trouble::Refused(_, _) => "refused",
             Trouble::Stopped(_) => "stopped",
-            Trouble::Rivals(_) => "rivals",
+            Trouble::Rivals(_, _) => "rivals",
         }
     }
 
@@ -44,6 +44,16 @@ impl Trouble {
         }
     }
 
+    // The sources that it is about, where it is about two.
+    fn pair(&self) -> Option<Pair>
+        ensures { result ≡ pair_in self.now }
+    {
+        match self {
+            Trouble::Rivals(_, pair) => *pair,
+            _ => None,
+        }
+    }
+
     // What a person reads.
     fn push_words(&self, text: &mut String) -> Result<(), AllocError>
         ensures { OnOk result
@@ -57,7 +67,7 @@ impl Trouble {
             Trouble::Late(_) => text.push_str(" sent a packet out of sequence"),
             Trouble::Refused(sender, fault) => push_refused(text, sender, *fault),
             Trouble::Stopped(millis) => push_stop(text, *millis),
-            Trouble::Rivals(contest) => {
+            Trouble::Rivals(contest, _) => {
                 push_rivals(text, contest.universe, contest.sources, contest.priority)
             }
         }
@@ -156,7 +166,9 @@ fn push_alarm(text: &mut String, alarm: &Alarm, streams: &[Stream]) -> Result<()
     text.push_str(",\"text\":\"")?;
     push_about(text, &alarm.trouble, streams)?;
     alarm.trouble.push_words(text)?;
-    text.push_str("\"}")
+    text.push('"')?;
+    push_cids(text, &alarm.trouble, streams)?;
+    text.push('}')
 }
 
 #[tactic(auto, unfolding(crate::specs::AlarmTexts::alarm_front))]
@@ -166,6 +178,59 @@ fn push_front(text: &mut String, alarm: &Alarm) -> Result<(), AllocError>
 {
     push_first_number(text, "ms", alarm.moment)?;
     push_word(text, "kind", alarm.trouble.kind())
+}
+
+// The CIDs of the sources that it is about.
+#[tactic(auto, unfolding(crate::specs::AlarmTexts::cids))]
+fn push_cids(text: &mut String, trouble: &Trouble, streams: &[Stream]) -> Result<(), AllocError>
+    ensures { OnOk result
+        (string_bytes text.new ≡ string_bytes text.old ++ cids streams.now trouble.now) }
+{
+    push_about_cid(text, trouble, streams)?;
+    push_contest(text, trouble.pair())
+}
+
+fn push_about_cid(
+    text: &mut String,
+    trouble: &Trouble,
+    streams: &[Stream],
+) -> Result<(), AllocError>
+    ensures { OnOk result (string_bytes text.new
+        ≡ string_bytes text.old ++ about_cid streams.now trouble.now) }
+{
+    match trouble.place() {
+        Some(place) => push_cid_at(text, streams, place),
+        None => Ok(()),
+    }
+}
+
+fn push_cid_at(text: &mut String, streams: &[Stream], place: usize) -> Result<(), AllocError>
+    ensures { OnOk result (string_bytes text.new
+        ≡ string_bytes text.old ++ cid_of (slice_get streams.now place)) }
+{
+    match streams.get(place) {
+        Some(stream) => push_digits_member(text, "cid", &stream.cid),
+        None => Ok(()),
+    }
+}
+
+fn push_contest(text: &mut String, pair: Option<Pair>) -> Result<(), AllocError>
+    ensures { OnOk result
+        (string_bytes text.new ≡ string_bytes text.old ++ contest_cids pair) }
+{
+    match pair {
+        Some(pair) => push_pair(text, &pair),
+        None => Ok(()),
+    }
+}
+
+#[tactic(auto, unfolding(crate::specs::AlarmTexts::pair_members))]
+fn push_pair(text: &mut String, pair: &Pair) -> Result<(), AllocError>
+    ensures { OnOk result
+        (string_bytes text.new ≡ string_bytes text.old ++ pair_members pair.now) }
+{
+    push_digits_member(text, "cid", &pair.first)?;
+    push_digits_member(text, "rival", &pair.second)
 }
 
 // The source that it is about, where it is about one of these.

@@ -1,9 +1,10 @@
 //! What a viewer is to look at: the latest things that went wrong.
 
-ghost use Rattle.std.specs.Prelude.{◌≡◌, ◌≤◌, ◌-◌, [], IfOk, length, nat_le, not, position, vec_capacity};
-ghost use Rattle.sacn_page.specs.Alarms.{after, alarms_after, event_troubles, giving_way, is_loss, news_troubles, no_alarms, oldest, troubles_of, with_alarm, with_latest, with_troubles};
+ghost use Rattle.std.specs.Prelude.{◌≡◌, ◌≤◌, ◌-◌, ◌&&◌, [], IfOk, find, length, nat_le, not, option_copied, position, vec_capacity};
+ghost use Rattle.sacn_monitor.specs.Accounts.{is_fresh};
+ghost use Rattle.sacn_page.specs.Alarms.{after, alarms_after, contests, event_troubles, giving_way, is_loss, news_troubles, no_alarms, oldest, pair_of, paired, rivals, troubles_of, with_alarm, with_latest, with_troubles};
 
-use sacn_monitor::{Endpoint, Monitor, News, StreamEvent};
+use sacn_monitor::{Endpoint, Monitor, News, Stream, StreamEvent, StreamState};
 use sacn_network::{Contest, Observer, Occurrence, What};
 use sacn_packets::PacketFault;
 use std::alloc::{AllocError, Global};
@@ -11,6 +12,13 @@ use std::marker::Model;
 
 /// The most alarms of a network that are kept.
 pub const MAX_ALARMS: usize = 32;
+
+/// Two sources, by their CIDs (E1.31, 5.6).
+#[derive(Clone, Copy)]
+pub struct Pair {
+    pub first: [u8; 16],
+    pub second: [u8; 16],
+}
 
 /// What happened. A place is that of a source on a universe.
 #[derive(Clone, Copy)]
@@ -29,8 +37,8 @@ pub enum Trouble {
     Refused(Endpoint, PacketFault),
     /// This program was stopped for so many milliseconds, in which it heard nothing.
     Stopped(u64),
-    /// Two sources or more share the top priority of a universe (E1.31, 6.2.3).
-    Rivals(Contest),
+    /// Two sources or more share the top priority of a universe (E1.31, 6.2.3): the first two of them, as they appeared.
+    Rivals(Contest, Option<Pair>),
 }
 
 /// A thing that happened at a moment, in milliseconds.
@@ -127,16 +135,16 @@ impl Alarms {
         }
     }
 
-    // Those of what happened on the network.
-    fn add_what(&mut self, at: u64, what: &What)
-        ensures { self.new ≡ with_troubles at (troubles_of what.now) self.old }
+    // Those of what happened on the network, whose streams are these then.
+    fn add_what(&mut self, at: u64, what: &What, streams: &[Stream])
+        ensures { self.new ≡ with_troubles at (troubles_of at streams.now what.now) self.old }
     {
         match what {
             What::Lost(place) => self.add(at, Trouble::Lost(*place)),
             What::Heard(place, news) => self.add_news(at, *place, news),
             What::Refused(sender, fault) => self.add(at, Trouble::Refused(*sender, *fault)),
             What::Contest(contest) if contest.sources >= 2 => {
-                self.add(at, Trouble::Rivals(*contest));
+                self.add(at, Trouble::Rivals(*contest, pair_of(at, contest, streams)));
             }
             What::Contest(_) | What::Untracked(_) => {}
         }
@@ -194,8 +202,8 @@ impl Alarms {
 impl Observer for Alarms {
     ghost Notes = { λ old told new. new ≡ alarms_after told old };
 
-    fn observe(&mut self, occurrence: &Occurrence, _: &Monitor) {
-        self.add_what(occurrence.at, &occurrence.what);
+    fn observe(&mut self, occurrence: &Occurrence, monitor: &Monitor) {
+        self.add_what(occurrence.at, &occurrence.what, monitor.streams());
     }
 }
 
@@ -204,6 +212,71 @@ impl Trouble {
         ensures { result ≡ is_loss self.now }
     {
         matches!(self, Trouble::Lost(_))
+    }
+}
+
+// The first two sources, as they appeared, that contest a universe at a moment.
+fn pair_of(at: u64, contest: &Contest, streams: &[Stream]) -> Option<Pair>
+    ensures { result ≡ pair_of at contest.now streams.now }
+{
+    let first = first_of(at, contest, streams)?;
+    paired(at, contest, streams, first)
+}
+
+// The first source with the next one that contests the universe.
+fn paired(at: u64, contest: &Contest, streams: &[Stream], first: &Stream) -> Option<Pair>
+    ensures { result ≡ paired at contest.now streams.now first.now }
+{
+    let second = rival_of(at, contest, streams, first)?;
+    Some(Pair {
+        first: first.cid,
+        second: second.cid,
+    })
+}
+
+fn first_of<'s>(at: u64, contest: &Contest, streams: &'s [Stream]) -> Option<&'s Stream>
+    ensures { option_copied result ≡ find (contests at contest.now) streams.now }
+{
+    streams.iter().find(|stream| contests(at, contest, stream))
+}
+
+fn rival_of<'s>(
+    at: u64,
+    contest: &Contest,
+    streams: &'s [Stream],
+    first: &Stream,
+) -> Option<&'s Stream>
+    ensures { option_copied result ≡ find (rivals at contest.now first.now) streams.now }
+{
+    streams
+        .iter()
+        .find(|stream| rivals(at, contest, first, stream))
+}
+
+// Whether a source contests a universe beside this one.
+fn rivals(at: u64, contest: &Contest, first: &Stream, stream: &Stream) -> bool
+    ensures { result ≡ rivals at contest.now first.now stream.now }
+{
+    contests(at, contest, stream) & (first.cid != stream.cid)
+}
+
+// Whether a source lights a contested universe at its top priority.
+fn contests(at: u64, contest: &Contest, stream: &Stream) -> bool
+    ensures { result ≡ contests at contest.now stream.now }
+{
+    (stream.universe == contest.universe)
+        & (stream.account.priority == contest.priority)
+        & (stream.account.kinds.live > 0)
+        & sends(at, stream)
+}
+
+// Whether a source sends on its universe.
+fn sends(at: u64, stream: &Stream) -> bool
+    ensures { result ≡ (not stream.now.account.ended && is_fresh at stream.now.account) }
+{
+    match stream.state(at) {
+        StreamState::Sending => true,
+        StreamState::Ended | StreamState::Lost => false,
     }
 }
 

@@ -74,7 +74,7 @@ fn is_among(names: &[String], name: &[u8]) -> bool
 }
 
 /// Whether a text is this word, in letters of either case.
-pub(crate) fn is_word(word: &[u8], text: &[u8]) -> bool
+pub fn is_word(word: &[u8], text: &[u8]) -> bool
     ensures { result ≡ is_word word.now text.now }
 {
     word.eq_ignore_ascii_case(text)

@@ -21,17 +21,19 @@ mod scene;
 mod server;
 mod viewer;
 
-pub use alarms::{Alarm, Alarms, MAX_ALARMS, Trouble};
+pub use alarms::{Alarm, Alarms, MAX_ALARMS, Pair, Trouble};
 pub use audience::{Audience, MAX_SURPLUS, MAX_VIEWERS};
 pub use board::{Board, MAX_LIT};
 pub use document::{Extent, Given, push_document};
 pub use feed::{Feed, MAX_WAIT, MIN_WAIT, Occasion, Owed};
-pub use hosts::Hosts;
+pub use hosts::{Hosts, is_word};
 pub use markup::{Subject, page};
 pub use members::push_facts;
 pub use recording::{MAX_MARKS, Recording, Tape};
 pub use replay::{Replay, Snapshot};
-pub use request::{MAX_FIELDS, MAX_HEAD, RequestReading, RequestRefusal, Target, read_request};
+pub use request::{
+    MAX_FIELDS, MAX_HEAD, RequestReading, RequestRefusal, Target, has_body, is_own, read_request,
+};
 pub use response::{MediaType, event_stream_head, push_event, refusal_response, whole};
 pub use scene::{Facts, Scene, SeekFault};
 pub use server::{Pages, Quiet};

@@ -144,9 +144,9 @@ fn asked_by(request: &Request<'_, '_>, hosts: &Hosts) -> Result<Target, RequestR
     }
 }
 
-// Whether there is one Host field, and it names one of these hosts.
+/// Whether there is one Host field, and it names one of these hosts.
 #[tactic(auto, using(crate::proofs::Mapping::own_is))]
-fn is_own(fields: &[Header<'_>], hosts: &Hosts) -> bool
+pub fn is_own(fields: &[Header<'_>], hosts: &Hosts) -> bool
     ensures { result ≡ is_own hosts.now (map header_parts fields.now) }
 {
     (count_hosts(fields) == 1) & all_own(fields, hosts)
@@ -177,8 +177,8 @@ fn says_own(field: &Header<'_>, hosts: &Hosts) -> bool
     !is_host(field) | hosts.has(field.value)
 }
 
-// Whether a field announces a body.
-fn has_body(fields: &[Header<'_>]) -> bool {
+/// Whether a field announces a body (RFC 9112, 6).
+pub fn has_body(fields: &[Header<'_>]) -> bool {
     for field in fields {
         if field.name.eq_ignore_ascii_case("transfer-encoding") {
             return true;

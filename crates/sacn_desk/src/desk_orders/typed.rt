@@ -100,9 +100,17 @@ impl<'a, R: MachineClock, O: Write> DeskOrders<'a, R, O> {
 }
 
 impl<'a, R: MachineClock, O: Write> DeskOrders<'a, R, O> {
-    // A line is begun.
-    fn begin_line(&mut self) {
-        self.line_number = self.line_number.saturating_add(1);
+    // A line of standard input is begun.
+    fn begin_typed(&mut self) {
+        self.typed_lines = self.typed_lines.saturating_add(1);
+        self.line_number = self.typed_lines;
+        self.leave_prompt();
+    }
+
+    // A posted line is begun.
+    fn begin_posted(&mut self) {
+        self.posted_lines = self.posted_lines.saturating_add(1);
+        self.line_number = self.posted_lines;
         self.leave_prompt();
     }
 
@@ -111,7 +119,7 @@ impl<'a, R: MachineClock, O: Write> DeskOrders<'a, R, O> {
         if let Some(postbox) = self.posted {
             postbox.end_answer();
         }
-        self.begin_line();
+        self.begin_typed();
         let said = line_said(self.alloc, self.input.line.line(), self.line_number);
         self.input.line.clear();
         self.take_said(said)
@@ -143,7 +151,7 @@ impl<'a, R: MachineClock, O: Write> DeskOrders<'a, R, O> {
     }
 
     fn take_posted(&mut self, postbox: &Postbox, line: &PostedLine) -> Option<Command> {
-        self.begin_line();
+        self.begin_posted();
         self.say_posted(line);
         postbox.begin_answer();
         let said = line_said(self.alloc, Some(line.text()), self.line_number);

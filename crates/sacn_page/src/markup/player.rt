@@ -2,19 +2,22 @@
 
 /// It follows the script of the page.
 pub const INCIDENTS: &str = r##"
-// What befalls one source on many universes within a second is one line: alarms of one kind, whose texts are the same but for the universe in front.
+// What befalls one source, or two that contest, on many universes within a second is one line: alarms of one kind and the same CIDs, whose texts are the same but
+// for the universe in front.
 const SPAN = 1000;
 function gathered(alarms) {
   const lines = [];
   for (const alarm of alarms) {
     const [, universe, words] = /^universe (\d+): (.*)$/s.exec(alarm.text) || [];
-    let line = words === undefined ? undefined : lines.findLast((it) => it.kind === alarm.kind && it.words === words && alarm.ms >= it.ms && alarm.ms <= it.ms + SPAN);
-    if (!line) lines.push(line = { ms: alarm.ms, kind: alarm.kind, words, alarms: [], universes: new Set() });
+    let line = words === undefined ? undefined : lines.findLast((it) => it.kind === alarm.kind && it.words === words && areSame(it, alarm) && alarm.ms >= it.ms && alarm.ms <= it.ms + SPAN);
+    if (!line) lines.push(line = { ms: alarm.ms, kind: alarm.kind, cid: alarm.cid, rival: alarm.rival, words, alarms: [], universes: new Set() });
     line.alarms.push(alarm);
     line.universes.add(Number(universe));
   }
   return lines;
 }
+// Whether two are about the same sources.
+function areSame(one, other) { return one.cid === other.cid && one.rival === other.rival; }
 // Numbers as ranges: 1-30, 32.
 function rangesOf(numbers) {
   const ranges = [];

@@ -77,7 +77,7 @@ function keepAlarm(alarm) {
 
 // An alarm that was known before stays the object that its line stands for, so that its line stays. (Two of one moment may have the same words.)
 function sameAgain(before, alarm) {
-  const at = before.findIndex((it) => it.ms === alarm.ms && it.kind === alarm.kind && it.text === alarm.text);
+  const at = before.findIndex((it) => it.ms === alarm.ms && it.kind === alarm.kind && it.text === alarm.text && areSame(it, alarm));
   return at < 0 ? alarm : before.splice(at, 1)[0];
 }
 
