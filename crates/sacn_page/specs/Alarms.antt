@@ -6,7 +6,7 @@ use Rattle.sacn_monitor.specs.declared.news.StreamEvent.{StreamEvent}
 use Rattle.sacn_monitor.specs.declared.news.StreamEvent.TheVariants as event
 use Rattle.sacn_monitor.specs.declared.news.News.{News}
 use Rattle.sacn_monitor.specs.declared.stream.Stream.{Stream}
-use Rattle.sacn_monitor.specs.Rivals.{lights}
+use Rattle.sacn_monitor.specs.Rivals.{lights, priority_at}
 use Rattle.sacn_network.specs.declared.occurrence.Contest.{Contest}
 use Rattle.sacn_network.specs.declared.occurrence.What.{What}
 use Rattle.sacn_network.specs.declared.occurrence.What.TheVariants as what
@@ -103,7 +103,7 @@ news_troubles place news = event_troubles place news.event ++ (if news.skipped =
 
 -- a source lights a contested universe at its top priority (E1.31, 6.2.3)
 abbrev pub contests : ℕ → Contest → Stream → Bool
-contests at c s = lights c.universe at s && (s.account.priority == c.priority)
+contests at c s = lights c.universe at s && (priority_at at s == c.priority)
 
 -- it does, beside this one
 abbrev pub rivals : ℕ → Contest → Stream → Stream → Bool

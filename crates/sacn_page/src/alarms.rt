@@ -1,10 +1,9 @@
 //! What a viewer is to look at: the latest things that went wrong.
 
-ghost use Rattle.std.specs.Prelude.{◌≡◌, ◌≤◌, ◌-◌, ◌&&◌, [], IfOk, find, length, nat_le, not, option_copied, position, vec_capacity};
-ghost use Rattle.sacn_monitor.specs.Accounts.{is_fresh};
+ghost use Rattle.std.specs.Prelude.{◌≡◌, ◌≤◌, ◌-◌, [], IfOk, find, length, nat_le, not, option_copied, position, vec_capacity};
 ghost use Rattle.sacn_page.specs.Alarms.{after, alarms_after, contests, event_troubles, giving_way, is_loss, news_troubles, no_alarms, oldest, pair_of, paired, rivals, troubles_of, with_alarm, with_latest, with_troubles};
 
-use sacn_monitor::{Endpoint, Monitor, News, Stream, StreamEvent, StreamState};
+use sacn_monitor::{Endpoint, Monitor, News, Stream, StreamEvent};
 use sacn_network::{Contest, Observer, Occurrence, What};
 use sacn_packets::PacketFault;
 use std::alloc::{AllocError, Global};
@@ -264,20 +263,7 @@ fn rivals(at: u64, contest: &Contest, first: &Stream, stream: &Stream) -> bool
 fn contests(at: u64, contest: &Contest, stream: &Stream) -> bool
     ensures { result ≡ contests at contest.now stream.now }
 {
-    (stream.universe == contest.universe)
-        & (stream.account.priority == contest.priority)
-        & (stream.account.kinds.live > 0)
-        & sends(at, stream)
-}
-
-// Whether a source sends on its universe.
-fn sends(at: u64, stream: &Stream) -> bool
-    ensures { result ≡ (not stream.now.account.ended && is_fresh at stream.now.account) }
-{
-    match stream.state(at) {
-        StreamState::Sending => true,
-        StreamState::Ended | StreamState::Lost => false,
-    }
+    stream.lights(contest.universe, at) & (stream.priority_at(at) == contest.priority)
 }
 
 // These alarms again, with room for so many.
