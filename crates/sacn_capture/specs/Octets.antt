@@ -12,3 +12,8 @@ number16 Little octets at = slice_index octets at + 2 ^ 8 * slice_index octets (
 abbrev pub number32 : ByteOrder → List ℕ → ℕ → ℕ
 number32 Big octets at = 2 ^ 16 * number16 Big octets at + number16 Big octets (at + 2)
 number32 Little octets at = number16 Little octets at + 2 ^ 16 * number16 Little octets (at + 2)
+
+-- the number in the eight octets at a place
+abbrev pub number64 : ByteOrder → List ℕ → ℕ → ℕ
+number64 Big octets at = 2 ^ 32 * number32 Big octets at + number32 Big octets (at + 4)
+number64 Little octets at = number32 Little octets at + 2 ^ 32 * number32 Little octets (at + 4)

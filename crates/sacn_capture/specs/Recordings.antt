@@ -16,7 +16,7 @@ use Rattle.sacn_capture.specs.declared.pcapng.BlockKind.TheVariants.{Interface, 
 use Rattle.sacn_capture.specs.declared.headers.Format.{Format}
 use Rattle.sacn_capture.specs.declared.headers.Format.TheVariants.{Pcap, Pcapng}
 use Rattle.sacn_capture.specs.Check.{checked}
-use Rattle.sacn_capture.specs.Clocks.{milliseconds}
+use Rattle.sacn_capture.specs.Clocks.{milliseconds, shifted}
 use Rattle.sacn_capture.specs.Octets.{number32}
 use Rattle.sacn_capture.specs.Frames.{Sent, reading_datagram}
 use Rattle.sacn_capture.specs.Pcap.{given, stamp_of, header_at, reading_record}
@@ -106,7 +106,7 @@ packet_behind link captured moment rest order size state = octets captured ▷ �
 abbrev pub enhanced_behind : ByteOrder → ℕ → State → EnhancedHead → Reading Piece
 enhanced_behind order size state head =
     says (interface_at state head.interface)
-    ▷ λ interface. packet_behind interface.link head.captured (milliseconds head.ticks interface.units) (size - 32 - head.captured) order size state
+    ▷ λ interface. packet_behind interface.link head.captured (shifted interface.shift (milliseconds head.ticks interface.units)) (size - 32 - head.captured) order size state
 
 abbrev pub enhanced_piece : ByteOrder → ℕ → State → Reading Piece
 enhanced_piece order size state = octets 20 ▷ λ head. says (reading_enhanced order size head) ▷ λ h. enhanced_behind order size state h

@@ -11,7 +11,7 @@ ghost use Rattle.sacn_capture.specs.Placement.{content_in};
 ghost use Rattle.sacn_capture.specs.Streams.{TakesFrame, Reads, ReadsPiece, file_place, state_of};
 
 use crate::buffer::{Frame, LONGEST_KEPT};
-use crate::clock::milliseconds_of;
+use crate::clock::{milliseconds_of, shifted};
 use crate::faults::FaultKind;
 use crate::headers::{end_of_block, skip_to_end};
 use crate::interface::Described;
@@ -112,7 +112,10 @@ impl<R: BufRead> Pieces<R> {
             (enhanced_behind order size (state_of self.old) head) self.old self.new result }
     {
         let interface = self.interface_at(head.interface as usize)?;
-        let moment = milliseconds_of(head.ticks, interface.units);
+        let moment = shifted(
+            interface.shift,
+            milliseconds_of(head.ticks, interface.units),
+        );
         let rest = size - 32 - head.captured;
         self.packet_frame(interface.link, head.captured, moment, rest, order, size)
     }

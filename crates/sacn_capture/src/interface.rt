@@ -2,6 +2,7 @@
 
 ghost use Rattle.std.specs.Prelude.{◌<◌};
 
+use crate::clock::Shift;
 use crate::links::LinkType;
 
 /// An interface that a section describes.
@@ -13,5 +14,7 @@ pub struct Described {
     pub longest: u32,
     /// The ticks of a second.
     pub units: u64,
+    /// How much later or earlier its moments are than its ticks say.
+    pub shift: Option<Shift>,
     ghost some: { 0 < units },
 }

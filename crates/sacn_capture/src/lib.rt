@@ -23,7 +23,7 @@ mod pieces;
 mod stream;
 
 pub use bookmark::Bookmark;
-pub use clock::{milliseconds_of, units_in};
+pub use clock::{Shift, milliseconds_of, shift_of, shifted, units_in};
 pub use faults::{CaptureFault, FaultKind};
 pub use frame::{Datagram, datagram_in};
 pub use frame_counts::FrameCounts;

@@ -1,12 +1,12 @@
 //! The blocks of a pcapng file: section header, interface description, enhanced and simple packet.
 
-ghost use Rattle.std.specs.Prelude.{◌≡◌, ◌+◌, ◌<◌, ◌≤◌, ◌↔◌, length, drop, IfOk, IfNone, IsTrue};
+ghost use Rattle.std.specs.Prelude.{◌≡◌, ◌+◌, ◌<◌, ◌≤◌, ◌↔◌, length, drop, option_map, IfOk, IfNone, IsTrue};
 ghost use Rattle.sacn_capture.specs.Check.{map_ok};
 ghost use Rattle.sacn_capture.specs.Octets.{number32};
 ghost use Rattle.sacn_capture.specs.declared.octets.ByteOrder.TheVariants.{Big};
-ghost use Rattle.sacn_capture.specs.Pcapng.{option_answer, option_size, IsOption, section_type, section_at, units_of_options, kept_of, kind_of, order_of, reading_block, reading_section, resolution_among, interface_of, reading_interface, reading_enhanced, reading_simple};
+ghost use Rattle.sacn_capture.specs.Pcapng.{option_answer, option_size, IsOption, section_type, section_at, units_of_options, kept_of, kind_of, order_of, reading_block, reading_section, option_value, resolution_by, shift_by, shift_of_options, interface_of, reading_interface, reading_enhanced, reading_simple};
 
-use crate::clock::units_in;
+use crate::clock::{Shift, shift_of, units_in};
 use crate::faults::FaultKind;
 use crate::interface::Described;
 use crate::links::link_type;
@@ -46,6 +46,8 @@ const MIN_SECTION: u32 = 28;
 const OPTION_END: u16 = 0;
 
 const OPTION_RESOLUTION: u16 = 9;
+
+const OPTION_SHIFT: u16 = 14;
 
 /// An option's code and length.
 const OPTION_HEAD: usize = 4;
@@ -175,10 +177,12 @@ pub fn interface_in(order: ByteOrder, body: &[u8]) -> Result<Described, FaultKin
         return Err(FaultKind::Length);
     }
     let units = units_among(order, &body[8..])?;
+    let shift = shift_among(order, &body[8..])?;
     Ok(Described {
         link: link_type(order.u16_at(body, 0)),
         longest: order.u32_at(body, 4),
         units,
+        shift,
     })
 }
 
@@ -250,45 +254,83 @@ fn units_among(order: ByteOrder, options: &[u8]) -> Result<u64, FaultKind>
     ensures units { result ≡ units_of_options order options.now }
     ensures some { IfOk result (λ units. 0 < units) }
 {
-    units_in(resolution_in(order, options)?)
+    let value = option_value(order, OPTION_RESOLUTION, options)?;
+    units_in(resolution_by(value)?)
 }
 
-// The resolution that the options give, or that of microseconds.
-fn resolution_in(order: ByteOrder, options: &[u8]) -> Result<u8, FaultKind>
-    ensures { result ≡ resolution_among (length options.now) order options.now }
+fn shift_among(order: ByteOrder, options: &[u8]) -> Result<Option<Shift>, FaultKind>
+    ensures { result ≡ shift_of_options order options.now }
+{
+    let value = option_value(order, OPTION_SHIFT, options)?;
+    shift_by(order, value)
+}
+
+// The resolution that an option gives, or that of microseconds.
+fn resolution_by(value: Option<&[u8]>) -> Result<u8, FaultKind>
+    ensures { result ≡ resolution_by (option_map (λ octets. octets.now) value.entry) }
+{
+    let Some(octets) = value else {
+        return Ok(MICROSECONDS);
+    };
+    if octets.len() != 1 {
+        return Err(FaultKind::Length);
+    }
+    Ok(octets[0])
+}
+
+// The shift that an option gives.
+fn shift_by(order: ByteOrder, value: Option<&[u8]>) -> Result<Option<Shift>, FaultKind>
+    ensures { result ≡ shift_by order (option_map (λ octets. octets.now) value.entry) }
+{
+    let Some(octets) = value else {
+        return Ok(None);
+    };
+    if octets.len() != 8 {
+        return Err(FaultKind::Length);
+    }
+    Ok(Some(shift_of(order.u64_at(octets, 0))))
+}
+
+// The value of the first option of a code.
+fn option_value(order: ByteOrder, code: u16, options: &[u8]) -> Result<Option<&[u8]>, FaultKind>
+    ensures { map_ok (λ found. option_map (λ octets. octets.now) found) result
+        ≡ option_value code order options.now }
 {
     let mut rest = options;
     for turn in 0..options.len() {
-        match answer_of_option(order, rest) {
+        match answer_of_option(order, code, rest) {
             Some(found) => return found,
             None => rest = after_option(order, rest),
         }
     }
-    Ok(MICROSECONDS)
+    Ok(None)
 }
 
-// What the option at the front answers; none where the next is to be asked.
-fn answer_of_option(order: ByteOrder, options: &[u8]) -> Option<Result<u8, FaultKind>>
-    ensures answer { result ≡ option_answer order options.now }
+// What the option at the front answers where a code is looked for; none where the next is to be asked.
+fn answer_of_option(
+    order: ByteOrder,
+    code: u16,
+    options: &[u8],
+) -> Option<Result<Option<&[u8]>, FaultKind>>
+    ensures answer { option_map (λ found. map_ok (λ value. option_map (λ octets. octets.now) value) found) result
+        ≡ option_answer code order options.now }
     ensures whole { IfNone result (IsOption order options.now) }
 {
     if options.len() < OPTION_HEAD {
-        return Some(Ok(MICROSECONDS));
+        return Some(Ok(None));
     }
-    let code = order.u16_at(options, 0);
-    if code == OPTION_END {
-        return Some(Ok(MICROSECONDS));
+    let found = order.u16_at(options, 0);
+    if found == OPTION_END {
+        return Some(Ok(None));
     }
     if options.len() < size_of_option(order, options) {
         return Some(Err(FaultKind::Length));
     }
-    if code != OPTION_RESOLUTION {
+    if found != code {
         return None;
     }
-    if order.u16_at(options, 2) != 1 {
-        return Some(Err(FaultKind::Length));
-    }
-    Some(Ok(options[OPTION_HEAD]))
+    let len = order.u16_at(options, 2) as usize;
+    Some(Ok(Some(&options[OPTION_HEAD..OPTION_HEAD + len])))
 }
 
 // The options behind the first.

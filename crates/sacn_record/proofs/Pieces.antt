@@ -1,5 +1,5 @@
 -- The block of a datagram, read.
-use Rattle.std.proofs.Common.{◌≡◌, ℕ, ◌-◌, Bool, false, List, [], ◌∷◌, ◌++◌, length, Some, Result, Ok, refl, ap, ◌∙◌}
+use Rattle.std.proofs.Common.{◌≡◌, ℕ, ◌-◌, Bool, false, List, [], ◌∷◌, ◌++◌, length, None, Some, Result, Ok, refl, ap, ◌∙◌}
 use Rattle.std.specs.Prelude.{◌==◌, if◌then◌else◌}
 use Rattle.sacn_capture.specs.declared.octets.ByteOrder.TheVariants.{Big, Little}
 use Rattle.sacn_capture.specs.declared.links.LinkType.TheVariants.{RawIp}
@@ -7,7 +7,7 @@ use Rattle.sacn_capture.specs.declared.pcapng.BlockHead.{BlockHead}
 use Rattle.sacn_capture.specs.declared.pcapng.BlockKind.TheVariants.{Enhanced}
 use Rattle.sacn_capture.specs.declared.pcapng.EnhancedHead.{EnhancedHead}
 use Rattle.sacn_capture.specs.declared.headers.Format.TheVariants.{Pcapng}
-use Rattle.sacn_capture.specs.Clocks.{milliseconds}
+use Rattle.sacn_capture.specs.Clocks.{milliseconds, shifted}
 use Rattle.sacn_capture.specs.Octets.{number32}
 use Rattle.sacn_capture.specs.Frames.{Sent}
 use Rattle.sacn_capture.specs.Files.{octets, says, gives, ◌▷◌}
@@ -17,7 +17,7 @@ use Rattle.sacn_capture.specs.Recordings.{State, Piece, piece, block_piece, sect
 use Rattle.sacn_record.proofs.Steps.{place, up, octets_front, behind, behind_said, skipped_read}
 
 abbrev pub the_interface : pcapng.Taken
-the_interface = record { link = Some RawIp; longest = 0; units = 1000000 }
+the_interface = record { link = Some RawIp; longest = 0; units = 1000000; shift = None }
 
 abbrev pub during : ℕ → State
 during moment = record { format = Pcapng Little; interfaces = the_interface ∷ []; moment = moment }
@@ -51,7 +51,7 @@ module _ (at m s n t : ℕ) (head h p pad tail rest : List ℕ) (sent : Sent) wh
       let found : BlockHead = record { kind = Enhanced; length = s } in
       let enhanced : EnhancedHead = record { interface = 0; ticks = t; captured = n } in
       let of_interface =
-      behind_said (interface_at (during m) 0) (λ (i : pcapng.Taken). packet_behind i.link n (milliseconds t i.units) (s - 32 - n) Little s (during m)) (place (up a 20) after) the_interface r refl (frame_read lp lpad lt et content) in
+      behind_said (interface_at (during m) 0) (λ (i : pcapng.Taken). packet_behind i.link n (shifted i.shift (milliseconds t i.units)) (s - 32 - n) Little s (during m)) (place (up a 20) after) the_interface r refl (frame_read lp lpad lt et content) in
       let of_head = behind_said (reading_enhanced Little s h) (λ (e : EnhancedHead). enhanced_behind Little s (during m) e) (place (up a 20) after) enhanced r eh of_interface in
       let of_body =
       behind (octets 20) (λ (x : List ℕ). says (reading_enhanced Little s x) ▷ λ (e : EnhancedHead). enhanced_behind Little s (during m) e) (place a (h ++ after)) (place (up a 20) after) h r (octets_front 20 a h after lb) of_head in
