@@ -405,9 +405,15 @@ def back(path):
     r.sent(-5000, 1, data(A, b"Main", 1, 1, b"\1"))
     r.sent(1000, 1, data(A, b"Main", 1, 2, b"\1"))
 
-{"events": events, "many": many, "listings": listings, "silent": silent, "pair": pair, "strays": strays, "previews": previews, "unread": unread, "links": links, "back": back}[sys.argv[1]](sys.argv[2])
+def elsewhere(path):
+    r = Recording(path)
+    r.sent(0, 1, data(A, b"Main", 1, 0, b"\x80"))
+    r.sent(0, 2, data(B, b"Spare", 9, 0, b"\x40"))
+    r.sent(3000, 9, b"z", port=53)
+
+{"events": events, "many": many, "listings": listings, "silent": silent, "pair": pair, "strays": strays, "previews": previews, "unread": unread, "links": links, "back": back, "elsewhere": elsewhere}[sys.argv[1]](sys.argv[2])
 P
-for name in events many listings silent pair strays previews unread links back; do python3 recordings.py "$name" "$name.pcap" || exit 1; done
+for name in events many listings silent pair strays previews unread links back elsewhere; do python3 recordings.py "$name" "$name.pcap" || exit 1; done
 
 A=aaaaaaaaaaaaaaaaaaaaaaaaaaaaaaaa
 B=bbbbbbbbbbbbbbbbbbbbbbbbbbbbbbbb
@@ -653,6 +659,13 @@ if cmp -s frames.text out; then
   echo "ok explain: the frames of a node, each with its cause"
 else
   echo "not ok explain: the frames of a node: $(diff frames.text out | head -n 3 | cut -c 1-120 | tr '\n' '|')"
+fi
+# (two sources are lost at one moment, one of them on a universe that no port shows)
+said=$("$sacn" explain elsewhere.pcap --setup node.toml </dev/null 2>err | grep ' port .* by the loss of ')
+if [ "$said" = "     2.500 s  port         1  by the loss of $A \"Main\"" ]; then
+  echo "ok explain: a loss elsewhere hides no source"
+else
+  echo "not ok explain: a loss elsewhere hides no source: $said"
 fi
 {
   echo "{\"ms\":0,\"event\":\"frame\",\"port\":1,\"cause\":\"start\",\"slots\":\"$(slots "")\"}"

@@ -124,11 +124,11 @@ module _ {O : Type 0} (contents : O → Option (List ℕ)) where
   -- the node loses a source: first the losses of the network were written, and then its frames
   pub dark_written : {T E : Type 0} (r : Result T E) (at : ℕ) (s : Scene) (network : Ledger) (a b c : LineWriter O) → network ≡ ticked at s.network → b.options ≡ a.options
       → Tells contents a.teller b.teller (told_lines a.teller.form a.options.universes.now (tick_told at s.network))
-      → OnOk r (Tells contents b.teller c.teller (loss_shown b.teller.form at (dark_reason at network) s.stage)) → OnOk r (Tells contents a.teller c.teller (dark_told at s a.teller.form a.options.universes.now))
+      → OnOk r (Tells contents b.teller c.teller (loss_shown b.teller.form at (dark_reason at network s.stage) s.stage)) → OnOk r (Tells contents a.teller c.teller (dark_told at s a.teller.form a.options.universes.now))
   dark_written (Err fault) at s network a b c after options first next = tt
   dark_written (Ok x) at s network a b c after options first next =
-      next_told a b c (λ form wanted. told_lines form wanted (tick_told at s.network)) (λ form wanted. loss_shown form at (dark_reason at (ticked at s.network)) s.stage) options first
-      (subst (λ (n : Ledger). Tells contents b.teller c.teller (loss_shown b.teller.form at (dark_reason at n) s.stage)) after next)
+      next_told a b c (λ form wanted. told_lines form wanted (tick_told at s.network)) (λ form wanted. loss_shown form at (dark_reason at (ticked at s.network) s.stage) s.stage) options first
+      (subst (λ (n : Ledger). Tells contents b.teller c.teller (loss_shown b.teller.form at (dark_reason at n s.stage) s.stage)) after next)
 
   -- the losses of the network that are left
   pub silence_is_told : (t : ℕ) (old mid new : Follower O) → mid.writer.options ≡ old.writer.options → TellsDark contents t old mid

@@ -1,8 +1,11 @@
 -- Why a frame of a node is another one than before.
-use Rattle.std.specs.Prelude.{ℕ, ◌-◌, ◌==◌, Bool, not, ◌&&◌, ◌||◌, List, ◌++◌, codes, decimal, slice_get, position, Option, None, Some, if◌then◌else◌}
-use Rattle.std.specs.List.{list_all}
+use Rattle.std.specs.Prelude.{ℕ, ◌-◌, ◌==◌, Bool, not, ◌&&◌, ◌||◌, List, [], ◌∷◌, ◌++◌, codes, decimal, slice_get, position, Option, None, Some, if◌then◌else◌}
+use Rattle.std.specs.List.{list_all, list_any}
 use Rattle.std.specs.Option.{option_and_then}
 use Rattle.std.specs.Str.{bytes_eq}
+use Rattle.sacn_node.specs.Changes.{node_shows}
+use Rattle.sacn_node.specs.Cores.{Node}
+use Rattle.sacn_node.specs.Setup.{port_numbers}
 use Rattle.sacn_sources.specs.declared.limits.TheConstants.{NETWORK_DATA_LOSS}
 use Rattle.sacn_monitor.specs.declared.news.Noted.{Noted}
 use Rattle.sacn_monitor.specs.declared.news.Noted.TheVariants.{Refused, Page, Sync, Untracked, Heard}
@@ -43,21 +46,25 @@ cause_among streams Sync = OfOther
 cause_among streams Untracked = OfOther
 cause_among streams (Heard place news) = reason_among (slice_get streams place)
 
--- at this moment a stream is lost: no packet of it came for so long (E1.31, 6.7.1)
-abbrev pub is_lost_at : ℕ → Stream → Bool
-is_lost_at at s = not s.account.ended && (at - s.account.latest == NETWORK_DATA_LOSS)
+-- a port of a node shows slots of this universe
+abbrev pub is_of_node : Node → ℕ → Bool
+is_of_node n universe = list_any (λ port. node_shows port (universe ∷ []) n) (port_numbers n.ports)
+
+-- at this moment a stream of a node's universes is lost: no packet of it came for so long (E1.31, 6.7.1)
+abbrev pub is_lost_at : Node → ℕ → Stream → Bool
+is_lost_at n at s = (not s.account.ended && (at - s.account.latest == NETWORK_DATA_LOSS)) && is_of_node n s.universe
 
 -- each stream that is lost then is one of this source
-abbrev pub are_lost_of : ℕ → List ℕ → List Stream → Bool
-are_lost_of at cid ss = list_all (λ s. not (is_lost_at at s) || bytes_eq s.cid cid) ss
+abbrev pub are_lost_of : Node → ℕ → List ℕ → List Stream → Bool
+are_lost_of n at cid ss = list_all (λ s. not (is_lost_at n at s) || bytes_eq s.cid cid) ss
 
-abbrev pub lost_alone : ℕ → List Stream → Option Stream → Reason
-lost_alone at ss None = OfLoss
-lost_alone at ss (Some s) = if are_lost_of at s.cid ss then OfLossOf s else OfLoss
+abbrev pub lost_alone : Node → ℕ → List Stream → Option Stream → Reason
+lost_alone n at ss None = OfLoss
+lost_alone n at ss (Some s) = if are_lost_of n at s.cid ss then OfLossOf s else OfLoss
 
--- the loss of a source at this moment, which is known where it is one alone
-abbrev pub loss_among : ℕ → List Stream → Reason
-loss_among at ss = lost_alone at ss (option_and_then (slice_get ss) (position (is_lost_at at) ss))
+-- the loss of a source of a node's universes at this moment, which is known where it is one alone
+abbrev pub loss_among : Node → ℕ → List Stream → Reason
+loss_among n at ss = lost_alone n at ss (option_and_then (slice_get ss) (position (is_lost_at n at) ss))
 
 unfoldable pub on_universe : List ℕ → ℕ → List ℕ
 on_universe word universe = word ++ (codes " on universe " ++ (decimal universe ++ codes " of "))

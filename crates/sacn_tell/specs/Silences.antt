@@ -5,7 +5,7 @@ use Rattle.sacn_network.specs.Networks.{LeavesNone, tick_told, ticked}
 use Rattle.sacn_node.specs.Cores.{core_lost}
 use Rattle.sacn_tell.specs.declared.follower.Follower.{Follower}
 use Rattle.sacn_tell.specs.declared.options.Form.{Form}
-use Rattle.sacn_tell.specs.Causes.{Reason, loss_among}
+use Rattle.sacn_tell.specs.Causes.{OfLoss, Reason, loss_among}
 use Rattle.sacn_tell.specs.LineWriting.{told_lines}
 use Rattle.sacn_tell.specs.Shows.{Staged, after_loss, loss_shown, staged}
 use Rattle.sacn_tell.specs.Tellings.{Tells}
@@ -30,12 +30,13 @@ abbrev pub IsLit : ℕ → Option Staged → Type 0
 IsLit t stage = (m : ℕ) → m ≤ t → m < 2 ^ 64 - 1 → IfSome stage (λ s. core_lost m s.node.core ≡ 0)
 
 -- why the node's frames change then, by the streams of a network
-abbrev pub dark_reason : ℕ → Ledger → Reason
-dark_reason at network = loss_among at network.monitor.streams
+abbrev pub dark_reason : ℕ → Ledger → Option Staged → Reason
+dark_reason at network None = OfLoss
+dark_reason at network (Some s) = loss_among s.node at network.monitor.streams
 
 -- the losses of the network up to such a moment, and then the node's frames
 abbrev pub dark_told : ℕ → Scene → Form → List ℕ → List ℕ
-dark_told at s form wanted = told_lines form wanted (tick_told at s.network) ++ loss_shown form at (dark_reason at (ticked at s.network)) s.stage
+dark_told at s form wanted = told_lines form wanted (tick_told at s.network) ++ loss_shown form at (dark_reason at (ticked at s.network) s.stage) s.stage
 
 abbrev pub after_dark : ℕ → Scene → Scene
 after_dark at s = record { network = ticked at s.network; stage = after_loss at s.stage }

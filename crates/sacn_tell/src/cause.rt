@@ -1,12 +1,13 @@
 //! Why a frame of a node is another one.
 
 ghost use Rattle.std.specs.Prelude.{◌≡◌, ◌++◌, OnOk, position, slice_get, string_bytes};
-ghost use Rattle.sacn_tell.specs.Causes.{are_lost_of, on_universe, by_words, cause_among, cause_words, by_members, cause_members, is_lost_at, loss_among, lost_alone, lost_members, lost_words, reason_of};
+ghost use Rattle.sacn_tell.specs.Causes.{are_lost_of, on_universe, by_words, cause_among, cause_words, by_members, cause_members, is_lost_at, is_of_node, loss_among, lost_alone, lost_members, lost_words, reason_of};
 ghost use Rattle.sacn_tell.specs.Members.{name_of};
 ghost use Rattle.sacn_tell.specs.Sentences.{source_text};
 
 use crate::{event_words, json};
 use sacn_monitor::{Noted, Stream};
+use sacn_node::NodeCore;
 use sacn_packets::up_to_nul;
 use sacn_sources::NETWORK_DATA_LOSS;
 use std::alloc::AllocError;
@@ -43,46 +44,57 @@ pub fn cause_of(streams: &[Stream], noted: Noted) -> Cause<'_>
     }
 }
 
-/// Why a frame changes at a moment at which a source is lost.
-pub fn loss_of(streams: &[Stream], at: u64) -> Cause<'_>
-    ensures { reason_of result ≡ loss_among at streams.now }
+/// Why a frame of a node changes at a moment at which a source of its universes is lost.
+pub fn loss_of<'s>(streams: &'s [Stream], node: &NodeCore, at: u64) -> Cause<'s>
+    ensures { reason_of result ≡ loss_among node.now at streams.now }
 {
-    match lost_place(streams, at) {
-        Some(place) => loss_at(streams, at, place),
+    match lost_place(streams, node, at) {
+        Some(place) => loss_at(streams, node, at, place),
         None => Cause::Lost,
     }
 }
 
-// The place of the first stream that is lost at a moment.
-fn lost_place(streams: &[Stream], at: u64) -> Option<usize>
-    ensures { result ≡ position (is_lost_at at) streams.now }
+// The place of the first stream of a node's universes that is lost at a moment.
+fn lost_place(streams: &[Stream], node: &NodeCore, at: u64) -> Option<usize>
+    ensures { result ≡ position (is_lost_at node.now at) streams.now }
 {
-    streams.iter().position(|stream| is_lost_at(stream, at))
+    streams
+        .iter()
+        .position(|stream| is_lost_at(stream, node, at))
 }
 
 // The loss of the source at a place.
-fn loss_at(streams: &[Stream], at: u64, place: usize) -> Cause<'_>
-    ensures { reason_of result ≡ lost_alone at streams.now (slice_get streams.now place) }
+fn loss_at<'s>(streams: &'s [Stream], node: &NodeCore, at: u64, place: usize) -> Cause<'s>
+    ensures { reason_of result ≡ lost_alone node.now at streams.now (slice_get streams.now place) }
 {
     match streams.get(place) {
-        Some(stream) if are_lost_of(streams, at, &stream.cid) => Cause::LostOf(stream),
+        Some(stream) if are_lost_of(streams, node, at, &stream.cid) => Cause::LostOf(stream),
         _ => Cause::Lost,
     }
 }
 
-// Whether each stream that is lost at a moment is of this source.
-fn are_lost_of(streams: &[Stream], at: u64, cid: &[u8; 16]) -> bool
-    ensures { result ≡ are_lost_of at cid.now streams.now }
+// Whether each stream of a node's universes that is lost at a moment is of this source.
+fn are_lost_of(streams: &[Stream], node: &NodeCore, at: u64, cid: &[u8; 16]) -> bool
+    ensures { result ≡ are_lost_of node.now at cid.now streams.now }
 {
-    streams
-        .iter()
-        .all(|stream| !is_lost_at(stream, at) | (stream.cid == *cid))
+    streams.iter().all(|stream| !is_lost_at(stream, node, at) | (stream.cid == *cid))
 }
 
-fn is_lost_at(stream: &Stream, at: u64) -> bool
-    ensures { result ≡ is_lost_at at stream.now }
+fn is_lost_at(stream: &Stream, node: &NodeCore, at: u64) -> bool
+    ensures { result ≡ is_lost_at node.now at stream.now }
 {
-    !stream.account.ended & (at.saturating_sub(stream.account.latest) == NETWORK_DATA_LOSS)
+    let is_silent = at.saturating_sub(stream.account.latest) == NETWORK_DATA_LOSS;
+    !stream.account.ended & is_silent && is_of_node(node, stream.universe)
+}
+
+// Whether a port of a node shows slots of this universe.
+fn is_of_node(node: &NodeCore, universe: u16) -> bool
+    ensures { result ≡ is_of_node node.now universe }
+{
+    let universes = [universe];
+    node.port_numbers()
+        .iter()
+        .any(|port| node.shows(*port, &universes))
 }
 
 /// A cause in words.

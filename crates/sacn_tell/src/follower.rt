@@ -301,8 +301,8 @@ impl<'a, O: Write> Follower<'a, O> {
     // The frames of the node, where it loses a source at a moment.
     fn show_dark(&mut self, at: u64) -> Result<(), TellFault>
         ensures told { OnOk result (Tells O.contents self.old.writer.teller self.new.writer.teller
-            (loss_shown self.old.writer.teller.form at (dark_reason at self.old.network)
-            (staged self.old.stage))) }
+            (loss_shown self.old.writer.teller.form at
+            (dark_reason at self.old.network (staged self.old.stage)) (staged self.old.stage))) }
         ensures stage { OnOk result
             (staged self.new.stage ≡ after_loss at (staged self.old.stage)) }
         ensures network { self.new.network ≡ self.old.network }
@@ -312,8 +312,8 @@ impl<'a, O: Write> Follower<'a, O> {
         let Some(stage) = &mut self.stage else {
             return Ok(());
         };
+        let cause = loss_of(self.network.monitor().streams(), stage.node(), at);
         stage.tick(at);
-        let cause = loss_of(self.network.monitor().streams(), at);
         stage.show(at, &cause, &mut self.writer.teller)
     }
 

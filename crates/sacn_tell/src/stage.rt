@@ -69,6 +69,13 @@ impl Stage {
         Ok(stage)
     }
 
+    /// The node.
+    pub fn node(&self) -> &NodeCore
+        ensures { result.now ≡ self.now.core }
+    {
+        &self.core
+    }
+
     /// Gives the node what a datagram was read as, and returns whether a frame may have changed.
     pub fn take(&mut self, now: u64, reading: &Reading<'_>) -> bool
         ensures answer { result ≡ may_change_frames now reading.now self.old.core.core }
