@@ -344,6 +344,11 @@ def strays(path):
     r.sent(2700, 5, data(A, b"Desk", 1, 4, options=0x40))
     r.sent(2800, 9, b"z", port=53)
 
+def behind(path):
+    r = Recording(path)
+    r.sent(0, 5, data(A, b"Desk", 1, 10, options=0x40))
+    r.sent(20, 5, data(A, b"Desk", 1, 5, b"\x80"))
+
 def previews(path):
     r = Recording(path)
     for turn in range(32):
@@ -411,9 +416,9 @@ def elsewhere(path):
     r.sent(0, 2, data(B, b"Spare", 9, 0, b"\x40"))
     r.sent(3000, 9, b"z", port=53)
 
-{"events": events, "many": many, "listings": listings, "silent": silent, "pair": pair, "strays": strays, "previews": previews, "unread": unread, "links": links, "back": back, "elsewhere": elsewhere}[sys.argv[1]](sys.argv[2])
+{"events": events, "many": many, "listings": listings, "silent": silent, "pair": pair, "strays": strays, "previews": previews, "unread": unread, "links": links, "back": back, "elsewhere": elsewhere, "behind": behind}[sys.argv[1]](sys.argv[2])
 P
-for name in events many listings silent pair strays previews unread links back elsewhere; do python3 recordings.py "$name" "$name.pcap" || exit 1; done
+for name in events many listings silent pair strays previews unread links back elsewhere behind; do python3 recordings.py "$name" "$name.pcap" || exit 1; done
 
 A=aaaaaaaaaaaaaaaaaaaaaaaaaaaaaaaa
 B=bbbbbbbbbbbbbbbbbbbbbbbbbbbbbbbb
@@ -629,6 +634,12 @@ before_tables "frames of an unknown link" links.lines 3 '"cut":0,"fragments":0,"
 
 # frame PORT MOMENT DIGITS: the line of a frame as a node prints it, the start code and slots of these digits, and 0 in the rest
 frame() { printf '%s %s 00%s%0*d\n' "$1" "$2" "$3" $((1024 - ${#3})) 0; }
+# A recording that begins with a termination, behind which levels come with an earlier number: the node holds nothing of the source then, so that they are taken.
+cat >behind.each <<E
+     0.020 s  universe     1  $A "Desk"  appears at 10.0.0.5:5000, priority 100
+     0.020 s  universe     1  $A "Desk"  begins its numbers anew
+E
+happens "what a node takes isn't told as discarded" behind.each behind.pcap
 # slots DIGITS: the same slots alone
 slots() { printf '%s%0*d' "$1" $((1024 - ${#1})) 0; }
 printf 'version = 1\n[[port]]\nnumber = 1\nuniverse = 1\n[[port]]\nnumber = 2\nuniverse = 2\n' >node.toml

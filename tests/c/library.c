@@ -360,7 +360,7 @@ static void monitor(void) {
     CHECK(sacn_monitor_tick(&monitor, 3539, &place) == SACN_RANGE && place == 77);
     CHECK(sacn_monitor_tick(&monitor, 3540, &place) == SACN_DONE && place == 0 && sacn_monitor_tick(&monitor, 3540, &place) == SACN_RANGE);
     CHECK(sacn_monitor_account(&monitor, 0, &stream) == SACN_DONE && stream.state == SACN_LOST);
-    CHECK(sacn_monitor_take(&monitor, 3600, &sender, out, packet_of(5, 0, 1, out), &news) == SACN_DONE && news.event == SACN_EVENT_ENDED);
+    CHECK(sacn_monitor_take(&monitor, 3600, &sender, out, packet_of(5, 0, 1, out), &news) == SACN_DONE && news.event == SACN_EVENT_GOES_ON);
     CHECK(sacn_monitor_account(&monitor, 0, &stream) == SACN_DONE && stream.state == SACN_ENDED && stream.terminations == 1);
     /* (on another universe: a preview, another start code, another priority, another name, numbers that begin anew, all in the fifth second) */
     for (int i = 0; i < 5; i++) {

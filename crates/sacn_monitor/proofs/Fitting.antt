@@ -63,7 +63,7 @@ heard_by true t sender d a known = discarded_fitted (d.number == a.sequence_numb
 heard_by false t sender d a known = taken_fitted t sender d a
 
 pub heard_fitted : (t : ℕ) (sender : Endpoint) (d : Data) (a : Account) → IsFitted a.name → IsFitted (after_packet t sender d a).name
-heard_fitted t sender d a known = heard_by (is_discarded t d.number a) t sender d a known
+heard_fitted t sender d a known = heard_by (is_discarded t d a) t sender d a known
 
 -- ---- what a register keeps
 

@@ -14,7 +14,7 @@ use Rattle.sacn_monitor.specs.declared.news.StreamEvent.TheVariants.{GoesOn, App
 use Rattle.sacn_monitor.specs.declared.news.Change.{Change}
 use Rattle.sacn_monitor.specs.declared.news.News.{News}
 use Rattle.sacn_monitor.specs.declared.holding.Holding.TheVariants.{Nothing}
-use Rattle.sacn_monitor.specs.Holdings.{held_after, is_relit}
+use Rattle.sacn_monitor.specs.Holdings.{begins_holding, held_after, is_relit}
 use Rattle.sacn_monitor.specs.Kinds.{more, no_packets, with_one_more}
 use Rattle.sacn_monitor.specs.Rates.{first_rate, rate_after}
 use Rattle.sacn_monitor.specs.declared.numbering.Numbering.{Numbering}
@@ -40,9 +40,9 @@ same_sender a b = bytes_eq a.address b.address && (a.port == b.port)
 abbrev pub is_fresh : ℕ → Account → Bool
 is_fresh t a = nat_lt (t - a.latest) NETWORK_DATA_LOSS
 
--- at t a packet of this number is out of sequence
-abbrev pub is_discarded : ℕ → ℕ → Account → Bool
-is_discarded t arrived a = is_fresh t a && is_late a.sequence_number arrived
+-- at t a packet is out of sequence, and a node holds nothing anew by it
+abbrev pub is_discarded : ℕ → Data → Account → Bool
+is_discarded t d a = is_fresh t a && (is_late a.sequence_number d.number && not (begins_holding t (kind_of d) a.holding))
 
 -- a packet that is taken at t is the first of a stream: the one before was lost, or had ended
 abbrev pub begins_life : ℕ → Bool → Account → Bool
@@ -105,7 +105,7 @@ after_taken t sender d a = record {
 }
 
 abbrev pub after_packet : ℕ → Endpoint → Data → Account → Account
-after_packet t sender d a = if is_discarded t d.number a then after_discarded d.number a else after_taken t sender d a
+after_packet t sender d a = if is_discarded t d a then after_discarded d.number a else after_taken t sender d a
 
 unfoldable pub first_account : ℕ → Endpoint → Data → Account
 first_account t sender d = record {
@@ -166,4 +166,4 @@ taken_news t sender d a = record {
 }
 
 abbrev pub news_of : ℕ → Endpoint → Data → Account → News
-news_of t sender d a = if is_discarded t d.number a then quiet (discarded_event d.number a) else taken_news t sender d a
+news_of t sender d a = if is_discarded t d a then quiet (discarded_event d.number a) else taken_news t sender d a

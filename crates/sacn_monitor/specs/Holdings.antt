@@ -23,6 +23,13 @@ held_after t Termination priority h = if is_held t h then Ended t else Nothing
 held_after t Preview priority h = h
 held_after t Other priority h = h
 
+-- a packet of this kind would be held at t where nothing is: a node takes it whatever its number
+abbrev pub begins_holding : ℕ → Kind → Holding → Bool
+begins_holding t Live h = not (is_held t h)
+begins_holding t Termination h = false
+begins_holding t Preview h = false
+begins_holding t Other h = false
+
 -- the priority at which it lights the universe at t, if it does
 abbrev pub light_at : ℕ → Holding → Option ℕ
 light_at t Nothing = None

@@ -25,8 +25,8 @@ pub struct Endpoint {
 
 /// What is known of one source on one universe. Moments are in milliseconds; each count stops at 2^64 - 1.
 ///
-/// A packet is taken where it is in sequence after the latest taken one (E1.31, 6.7.2), or where that was 2500 ms ago or
-/// more (E1.31, 6.7.1); the others are discarded.
+/// A packet is taken where it is in sequence after the latest taken one (E1.31, 6.7.2), where that was 2500 ms ago or
+/// more (E1.31, 6.7.1), or where it has levels and a node holds nothing of its source; the others are discarded.
 #[derive(Clone, Copy, PartialEq, Eq)]
 pub struct Account {
     /// The sender of the latest taken packet.
@@ -95,7 +95,7 @@ impl Account {
         ensures news { result ≡ news_of moment sender packet.now self.old }
         ensures account { self.new ≡ after_packet moment sender packet.now self.old }
     {
-        if self.discards(moment, packet.number()) {
+        if self.discards(moment, packet) {
             return News::quiet(self.discard(packet.number()));
         }
         self.take(moment, sender, packet)
@@ -108,11 +108,14 @@ impl Account {
         moment.saturating_sub(self.latest) < NETWORK_DATA_LOSS
     }
 
-    // Whether a packet with this number is out of sequence.
-    fn discards(&self, moment: u64, arrived: u8) -> bool
-        ensures { result ≡ is_discarded moment arrived self.now }
+    // Whether a packet is out of sequence, and a node holds nothing anew by it. Most packets are in sequence, and nothing more is asked
+    // of these.
+    fn discards(&self, moment: u64, packet: &DataView<'_>) -> bool
+        ensures { result ≡ is_discarded moment packet.now self.now }
     {
-        self.is_fresh(moment) & !in_sequence(self.sequence_number, arrived)
+        !in_sequence(self.sequence_number, packet.number())
+            && self.is_fresh(moment)
+            && !self.holding.is_begun_by(moment, kind_of(packet))
     }
 
     // The event of a taken packet. One that ends a stream that isn't there tells nothing.

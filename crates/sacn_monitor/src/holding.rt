@@ -1,7 +1,7 @@
 //! What a node holds of a source on a universe.
 
 ghost use Rattle.std.specs.Prelude.{◌≡◌};
-ghost use Rattle.sacn_monitor.specs.Holdings.{held_after, is_held, is_relit, lasts, light_at, same_light};
+ghost use Rattle.sacn_monitor.specs.Holdings.{begins_holding, held_after, is_held, is_relit, lasts, light_at, same_light};
 
 use sacn_sources::{Kind, NETWORK_DATA_LOSS};
 
@@ -27,6 +27,16 @@ impl Holding {
             Kind::Termination if self.is_held(moment) => Holding::Ended(moment),
             Kind::Termination => Holding::Nothing,
             Kind::Preview | Kind::Other => self,
+        }
+    }
+
+    /// Whether a packet of this kind would be held where nothing is, so that a node takes it whatever its number.
+    pub(crate) fn is_begun_by(self, moment: u64, kind: Kind) -> bool
+        ensures { result ≡ begins_holding moment kind self }
+    {
+        match kind {
+            Kind::Live => !self.is_held(moment),
+            Kind::Termination | Kind::Preview | Kind::Other => false,
         }
     }
 

@@ -35,7 +35,7 @@ pub struct News {
     pub event: StreamEvent,
     /// The sequence numbers that were skipped: so many packets are missing. One that the source is known to leave out isn't counted.
     pub skipped: u8,
-    /// The sequence numbers go back by twenty or more: the sender began them anew (E1.31, 6.7.2).
+    /// The sequence numbers go back, by twenty or more or where a node holds nothing of the source: they begin anew (E1.31, 6.7.2).
     pub began_anew: bool,
     /// The number that the source leaves out at each turn of its numbers, where it is known to from this packet on.
     pub leaves_out: Option<u8>,

@@ -157,11 +157,11 @@ first_of : (a b : Bool) → a && b ≡ true → a ≡ true
 first_of true b e = refl
 first_of false b e = absurd cc
 
-discarded_soon : (t arrived : ℕ) (s : Stream) → t ≤ 2 ^ 64 - 1 → is_discarded t arrived s.account ≡ true → t ≤ loss_of (with_account s (after_discarded arrived s.account))
-discarded_soon t arrived s held is =
+discarded_soon : (t : ℕ) (d : Data) (s : Stream) → t ≤ 2 ^ 64 - 1 → is_discarded t d s.account ≡ true → t ≤ loss_of (with_account s (after_discarded d.number s.account))
+discarded_soon t d s held is =
     let young = ltb-true (t - s.account.latest) NETWORK_DATA_LOSS (first_of _ _ is) in
     let still : t ≤ lost_by s.account.ended s.account.latest = lost_later t s.account.latest s.account.ended held young in
-    elim (arrived == s.account.sequence_number) as (λ b. t ≤ loss_of (with_account s (cond b (record s.account { repeats = more 1 s.account.repeats }) (record s.account { late = more 1 s.account.late })))) [
+    elim (d.number == s.account.sequence_number) as (λ b. t ≤ loss_of (with_account s (cond b (record s.account { repeats = more 1 s.account.repeats }) (record s.account { late = more 1 s.account.late })))) [
       | true ↦ still
       | false ↦ still
     ]
@@ -172,8 +172,8 @@ taken_soon t sender d s held = lost_later t t d.terminated held (omega arith)
 
 heard_soon : (t : ℕ) (sender : Endpoint) (d : Data) (s : Stream) → t ≤ 2 ^ 64 - 1 → t ≤ loss_of (stream_after t sender d s)
 heard_soon t sender d s held =
-    elim (is_discarded t d.number s.account) as (λ b. is_discarded t d.number s.account ≡ b → t ≤ loss_of (with_account s (cond b (after_discarded d.number s.account) (after_taken t sender d s.account)))) [
-      | true ↦ λ is. discarded_soon t d.number s held is
+    elim (is_discarded t d s.account) as (λ b. is_discarded t d s.account ≡ b → t ≤ loss_of (with_account s (cond b (after_discarded d.number s.account) (after_taken t sender d s.account)))) [
+      | true ↦ λ is. discarded_soon t d s held is
       | false ↦ λ is. taken_soon t sender d s held
     ] refl
 
