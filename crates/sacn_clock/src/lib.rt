@@ -12,7 +12,7 @@ mod times;
 mod zone;
 
 pub use ahead::{Ahead, MOST_AHEAD};
-pub use moments::{Moments, Recorded, WallClock};
+pub use moments::{Afterwards, Moments, Present, Recorded, WallClock};
 pub use stamped::{Stamped, Timing};
 pub use times::{CLOCK_LETTERS, ClockText, TimeText, clock_text, time_text};
 pub use zone::LocalZone;

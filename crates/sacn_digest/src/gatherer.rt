@@ -83,6 +83,11 @@ impl<'a, O: Write> Gatherer<'a, O> {
         Ok(())
     }
 
+    /// Tells a stop of this program, of so many milliseconds.
+    pub(crate) fn tell_stop(&mut self, now: u64, millis: u64) -> Result<(), TellFault> {
+        self.writer.teller.tell_stop(now, millis)
+    }
+
     /// Writes the empty line that parts incidents from what follows, where there were some and they are lines for people.
     pub(crate) fn part(&mut self) -> Result<(), TellFault> {
         match self.writer.teller.form {

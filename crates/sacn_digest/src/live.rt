@@ -1,6 +1,7 @@
 //! Incidents of a network, told as they pass.
 
 use crate::gatherer::Gatherer;
+use sacn_capture::FrameCounts;
 use sacn_monitor::{Endpoint, Monitor};
 use sacn_network::Network;
 use sacn_packets::{Packet, Reading};
@@ -68,11 +69,40 @@ impl<'a, O: Write> LiveDigest<'a, O> {
         self.network.next_end().min(self.gatherer.next_pass())
     }
 
+    /// Tells that this program was stopped for so many milliseconds, in which it heard nothing. No account changes, and nothing
+    /// ends.
+    ///
+    /// Errors: OutOfMemory; Device where a line can't be written.
+    pub fn tell_stop(&mut self, now: u64, millis: u64) -> Result<(), TellFault> {
+        self.gatherer.tell_stop(now, millis)
+    }
+
     /// Tells the incidents that are still open.
     ///
     /// Errors: OutOfMemory; Device where a line can't be written.
     pub fn finish(&mut self) -> Result<(), TellFault> {
         self.gatherer.finish(self.network.monitor().streams())
+    }
+
+    /// Ends what was heard as it happened: tells the incidents that are still open, and then the tables of sources, universes and
+    /// lists, and the counts.
+    ///
+    /// Errors: OutOfMemory; Device where a line can't be written.
+    pub fn end(&mut self, now: u64) -> Result<(), TellFault> {
+        self.tick(now)?;
+        self.finish()?;
+        let tally = *self.monitor().tally();
+        let mut frames = FrameCounts::new();
+        frames.datagrams = tally.datagrams;
+        self.tell_tables(&Report {
+            frames,
+            tally,
+            pages_passed: self.pages_passed(),
+            other_ports: 0,
+            went_back: 0,
+            streams: self.monitor().streams().len(),
+            length: now,
+        })
     }
 
     /// Writes the empty line that parts incidents from what follows, where there were some and they are lines for people.
