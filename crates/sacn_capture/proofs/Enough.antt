@@ -14,7 +14,7 @@ use Rattle.sacn_capture.specs.declared.pcapng.BlockKind.TheVariants.{Interface, 
 use Rattle.sacn_capture.specs.Check.{◌>>=◌}
 use Rattle.sacn_capture.specs.Octets.{number32}
 use Rattle.sacn_capture.specs.Files.{Place, Reading, octets, says, gives, ◌▷◌}
-use Rattle.sacn_capture.specs.Clocks.{milliseconds}
+use Rattle.sacn_capture.specs.Clocks.{milliseconds, shifted}
 use Rattle.sacn_capture.specs.declared.pcapng.EnhancedHead.{EnhancedHead}
 use Rattle.sacn_capture.specs.Pcapng.{Taken, section_type, reading_block, reading_enhanced, reading_simple}
 use Rattle.sacn_capture.specs.Recordings.{State, Piece, Told, interface_at, framed, piece, piece_by, pieces, rest_of, told_by, with_frame, unless_ended, ends, record_behind, other_behind, block_piece, section_piece, section_behind, skipped, closed, interface_piece, packet_behind, enhanced_piece, enhanced_behind, simple_piece, simple_behind}
@@ -82,8 +82,8 @@ packet_take link captured moment rest order size state =
 enhanced_behind_take : (order : ByteOrder) (size : ℕ) (state : State) (head : EnhancedHead) → Takes 0 (enhanced_behind order size state head)
 enhanced_behind_take order size state head =
     then_take {A = Taken} {B = Piece} 0 (says (interface_at state head.interface))
-    (λ interface. packet_behind interface.link head.captured (milliseconds head.ticks interface.units) (size - 32 - head.captured) order size state)
-    (λ interface. packet_take interface.link head.captured (milliseconds head.ticks interface.units) (size - 32 - head.captured) order size state) (says_take (interface_at state head.interface))
+    (λ interface. packet_behind interface.link head.captured (shifted interface.shift (milliseconds head.ticks interface.units)) (size - 32 - head.captured) order size state)
+    (λ interface. packet_take interface.link head.captured (shifted interface.shift (milliseconds head.ticks interface.units)) (size - 32 - head.captured) order size state) (says_take (interface_at state head.interface))
 
 enhanced_take : (order : ByteOrder) (size : ℕ) (state : State) → Takes 0 (enhanced_piece order size state)
 enhanced_take order size state =
