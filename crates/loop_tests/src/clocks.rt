@@ -1,6 +1,9 @@
 //! Times of day: on the calendar, in lines and objects, and where a recording begins. Values are those of Python's `datetime` and `zoneinfo`.
 use jiff::tz::TimeZone;
-use sacn_clock::{Ahead, LocalZone, Moments, Recorded, Stamped, Timing, clock_text, time_text};
+use sacn_clock::{
+    Afterwards, Ahead, LocalZone, Moments, Present, Recorded, Stamped, Timing, clock_text,
+    time_text,
+};
 use std::alloc::Global;
 use std::io::{self, Read, Write};
 use std::test::*;
@@ -94,6 +97,28 @@ fn write_pieces<M: Moments + Drop>(
 
 fn is_text(text: io::Result<Vec<u8>>, wanted: &[u8]) -> bool {
     text.is_ok_and(|text| text.as_slice() == wanted)
+}
+
+#[test]
+fn what_is_told_later_has_the_time_at_which_it_was(rt: HostRuntime) {
+    let zone = LocalZone::utc(rt.alloc());
+    let present = Present::new();
+    present.set(900);
+    let lines: &[&[u8]] = &[
+        b"     0.400 s  lost\n",
+        b"counts\n",
+        b"     0.950 s  back\n",
+    ];
+    let clock = Afterwards::new(Seconds { lines: 0 }, &present);
+    let text = written(rt.alloc(), clock, Timing::Clock(&zone), lines);
+    let wanted =
+        b"00:00:00.500      0.400 s  lost\n00:00:02.000 counts\n00:00:03.000      0.950 s  back\n";
+    assert!(rt; is_text(text, wanted));
+    let clock = Afterwards::new(Seconds { lines: 0 }, &present);
+    let lines: &[&[u8]] = &[b"{\"ms\":899,\"event\":\"incident\"}\n"];
+    let text = written(rt.alloc(), clock, Timing::Member, lines);
+    let wanted = b"{\"ms\":899,\"time\":\"1970-01-01T00:00:00.999Z\",\"event\":\"incident\"}\n";
+    assert!(rt; is_text(text, wanted));
 }
 
 #[test]
