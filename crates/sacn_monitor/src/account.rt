@@ -6,13 +6,13 @@ ghost use Rattle.sacn_packets.specs.Naming.{padded};
 ghost use Rattle.sacn_monitor.specs.declared.news.StreamEvent.TheVariants.{Appeared, CameBack};
 ghost use Rattle.sacn_monitor.specs.Accounts.{same_sender, is_fresh, is_discarded, begins_apart, begins_life, lost_at, numbering_at, renumbered, number_news, begins_anew, changed, first_event, has_begun, is_away, taken_event, discarded_event, is_next, fitted, name_of, IsFitted, taken_news, news_of, after_packet, after_taken, after_discarded, first_account};
 
-use crate::holding::Holding;
+use crate::holding::{Holding, lasts};
 use crate::kinds::Kinds;
 use crate::news::{Change, News, StreamEvent};
 use crate::numbering::{NumberNews, Numbering, OPENING_STEP};
 use crate::rate::Rate;
 use sacn_packets::{DataView, put};
-use sacn_sources::{NETWORK_DATA_LOSS, in_sequence, kind_of, signed_step};
+use sacn_sources::{in_sequence, kind_of, signed_step};
 
 /// Where a datagram came from.
 #[derive(Clone, Copy, PartialEq, Eq)]
@@ -105,7 +105,7 @@ impl Account {
     pub(crate) fn is_fresh(&self, moment: u64) -> bool
         ensures { result ≡ is_fresh moment self.now }
     {
-        moment.saturating_sub(self.latest) < NETWORK_DATA_LOSS
+        lasts(moment, self.latest)
     }
 
     // Whether a packet is out of sequence, and a node holds nothing anew by it. Most packets are in sequence, and nothing more is asked

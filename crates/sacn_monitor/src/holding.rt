@@ -70,8 +70,8 @@ impl Holding {
     }
 }
 
-// Whether what was renewed isn't lost at a moment.
-fn lasts(moment: u64, renewed: u64) -> bool
+/// Whether what was renewed at a moment isn't lost at another one.
+pub(crate) fn lasts(moment: u64, renewed: u64) -> bool
     ensures { result ≡ lasts moment renewed }
 {
     moment.saturating_sub(renewed) < NETWORK_DATA_LOSS
