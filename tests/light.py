@@ -240,7 +240,7 @@ def a_flood():
 
 def a_stopped_watch():
     """A watch that is stopped for four seconds while a source sends on."""
-    watch = start([SACN, "watch", "--plain", "--port", str(PORT)], stdin=subprocess.PIPE, stdout=open(f"{ROOM}/lines", "w", encoding="utf-8"), stderr=open(f"{ROOM}/said", "w", encoding="utf-8"))
+    watch = start([SACN, "watch", "--plain", "--each", "--port", str(PORT)], stdin=subprocess.PIPE, stdout=open(f"{ROOM}/lines", "w", encoding="utf-8"), stderr=open(f"{ROOM}/said", "w", encoding="utf-8"))
     said("said", "hears")
     console = Console()
     console.fade(40)

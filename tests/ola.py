@@ -243,7 +243,7 @@ class Watch:
         # (what the launcher does once it has found the program)
         script = write("watch", f'. {shlex.quote(TOP)}/tools/run.sh\nsacn_join={shlex.quote(os.environ["SACN_JOIN"])}\nrun {shlex.quote(SACN)} watch "$@"\n')
         self.out, self.said = open(f"{ROOM}/lines", "w", encoding="utf-8"), open(f"{ROOM}/said", "w", encoding="utf-8")
-        self.run = start([*inside, "bash", script, "--join", "vb", "--plain", *words], stdin=subprocess.DEVNULL, stdout=self.out, stderr=self.said)
+        self.run = start([*inside, "bash", script, "--join", "vb", "--plain", "--each", *words], stdin=subprocess.DEVNULL, stdout=self.out, stderr=self.said)
         if not stage.said("said", "hears"):
             raise RuntimeError(f"the watch doesn't begin: {text_of('said')}")
 

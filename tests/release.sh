@@ -236,7 +236,7 @@ else
   wait "${running[-1]}" 2>/dev/null
   unset 'running[-1]'
 
-  ip netns exec "$near" setpriv --reuid 65534 --regid 65534 --clear-groups bash "$room/run" watch --join eth0 --plain --seconds 60 >"$room/told" 2>"$room/said" </dev/null &
+  ip netns exec "$near" setpriv --reuid 65534 --regid 65534 --clear-groups bash "$room/run" watch --join eth0 --plain --each --seconds 60 >"$room/told" 2>"$room/said" </dev/null &
   running+=($!)
   told "$room/said" '^hears' || fails "a watch that joins" "$(head -n 1 "$room/said")"
   printf 'version = 1\ncid = "00010203-0405-0607-0809-0a0b0c0d0e0f"\nname = "Desk"\nuniverses = [%s 900]\nsend_to = [5568]\n' "$(seq -s , 1 40 | sed 's/$/,/')" >"$room/wide.toml"
@@ -278,7 +278,7 @@ P
   if [ "$(joined)" = 0 ]; then ok "the groups are left at its end"; else fails "the groups at its end" "$(joined) are still joined"; fi
   # A device that doesn't say that it takes multicast; and a group that the machine refuses for a while.
   ip -n "$near" link set eth0 multicast off
-  ip netns exec "$near" bash "$room/run" watch --join eth0 --plain --seconds 60 >"$room/told" 2>"$room/said" </dev/null &
+  ip netns exec "$near" bash "$room/run" watch --join eth0 --plain --each --seconds 60 >"$room/told" 2>"$room/said" </dev/null &
   running+=($!)
   told "$room/said" '^hears' || fails "a watch on a device without multicast" "$(head -n 1 "$room/said")"
   if command -v python3 >/dev/null; then

@@ -49,6 +49,8 @@ ends "a file" 2 "error: *" file
 ends "a clock for a screen" 2 "error: --clock: without --plain" --clock
 ends "a clock for objects, which have their time" 2 "error: --json: beside --clock" --plain --json --clock
 ends "a clock for a page" 2 "error: --page: beside --clock" --page 8080 --clock
+ends "each thing for objects, which tell it" 2 "error: --json: beside --each" --json --each
+ends "each thing for a page" 2 "error: --page: beside --each" --page 8080 --each
 # (Input that ends while it runs ends it; one that had ended before doesn't.)
 status=0
 : >err
@@ -97,9 +99,18 @@ tells() {
   done
   echo "ok watch: $name"
 }
-tells "a desk, as text" --plain "universe     1  $C \"Desk\"  appears at 127\.0\.0\.1:[0-9]+, priority 100$" \
+tells "each thing of a desk" "--plain --each" "universe     1  $C \"Desk\"  appears at 127\.0\.0\.1:[0-9]+, priority 100$" \
   "universe     1  $C \"Desk\"  ends its stream$" "^universe state " "^       1 ended  .* $C \"Desk\" at 127" "^datagrams to the port  "
-tells "a desk, without a terminal" "" "universe     2  $C \"Desk\"  appears" "universe     2  $C \"Desk\"  ends its stream$"
+tells "each thing of a desk, without a terminal" --each "universe     2  $C \"Desk\"  appears" "universe     2  $C \"Desk\"  ends its stream$"
+! grep -qE ' on 1' out
+verdict "which isn't told again for all its universes" $? "$(grep -E ' on 1' out | head -n 1)"
+# (the moment of a line is in seconds; what isn't of one moment says so behind it)
+desk_line='^ *[0-9]+\.[0-9]{3} s  "Desk" 0001\.\.0f'
+tells "a desk, as text" --plain "$desk_line appears on 1-2 at 127\.0\.0\.1:[0-9]+, priority 100( \(2 times, .*\))?$" \
+  "$desk_line ends its stream on 1-2( \(2 times, .*\))?$" "^universe state " "^       1 ended  .* $C \"Desk\" at 127" "^datagrams to the port  "
+tells "a desk, without a terminal" "" "$desk_line appears on 1-2 " "$desk_line ends its stream on 1-2" "^universe state "
+[ "$(grep -c '"Desk" 0001\.\.0f ' out)" = 2 ] && ! grep -qE 's  universe ' out
+verdict "two universes that come and end are a line each time" $? "$(head -n 3 out)"
 # times PATTERN DAY: whether the time in each of the lines with this pattern, which is what its parentheses hold, is of the last minute; one without a
 # date may be of the day before, which is so many milliseconds
 times() {
@@ -119,11 +130,11 @@ tells "a desk, as JSON" --json "^{\"ms\":[0-9]+,\"time\":\"[0-9-]{10}T[0-9:]{8}\
   '"event":"ended","universe":1' '^{"row":"source","universe":1,.*"state":"ended"' '^{"row":"counts",'
 times '^\{"ms":[0-9]+,"time":"([^"]*)","event":' 0 && ! grep '"ms":' out | grep -qvE '"ms":[0-9]+,"time":"'
 verdict "each object with a moment has its time" $? "$(head -n 1 out)"
-TZ=XST-5:30 tells "a desk, with the time of day" "--plain --clock" "^[0-9:]{8}\.[0-9]{3}  +[0-9]+\.[0-9]{3} s  universe     1  $C \"Desk\"  appears at" "^[0-9:.]{12} universe state "
+TZ=XST-5:30 tells "a desk, with the time of day" "--plain --clock" "^[0-9:]{8}\.[0-9]{3}  +[0-9]+\.[0-9]{3} s  \"Desk\" 0001\.\.0f appears on 1-2 at" "^[0-9:.]{12} universe state "
 TZ=XST-5:30 times '^([0-9:.]{12}) ' 86400000 && ! grep -qvE '^[0-9:]{8}\.[0-9]{3} ' out
 verdict "which is that of the time zone, on each line" $? "$(head -n 1 out)"
-tells "one universe" "--plain --universe 2" 'universe     2  ' '^       2 ended '
-if grep -qE 'universe     1  |^       1 ' out; then echo "not ok watch: one universe alone"; else echo "ok watch: one universe alone"; fi
+tells "one universe" "--plain --universe 2" "$desk_line appears on 2 at" '^       2 ended '
+if grep -qE ' on 1|^       1 ' out; then echo "not ok watch: one universe alone"; else echo "ok watch: one universe alone"; fi
 
 # stopped NAME FORM KILLED PATTERN: a watch that is stopped for five seconds beside a desk that goes on, or that is killed meanwhile
 stopped() {
@@ -183,6 +194,29 @@ for _ in $(seq 8); do
   wait "$watch" || left=$((left + 1))
 done
 verdict "TERM and CONT at once end it" "$left" "$left of 8 went on, or ended badly"
+
+# A desk that is killed is told as lost once its second has passed, though no packet comes, and once.
+: >err
+: >out
+mkfifo life
+"$sacn" watch --port 25831 --plain <life >out 2>err &
+watch=$!
+started+=("$watch")
+exec 4>life
+for _ in $(seq 300); do grep -q '^hears' err && break; sleep 0.1; done
+"$sacn" desk show.toml --script stay.txt --stay </dev/null >desk.out 2>&1 &
+desk=$!
+started+=("$desk")
+for _ in $(seq 100); do grep -q ' appears on ' out && break; sleep 0.1; done
+kill -KILL "$desk"
+wait "$desk" 2>/dev/null
+for _ in $(seq 100); do grep -q ' lost on ' out && break; sleep 0.1; done
+grep -qE "$desk_line lost on 1-2" out && ! grep -q '^universe state' out
+verdict "a desk that is killed is told as lost on all its universes" $? "$(tail -n 1 out)"
+exec 4>&-
+wait "$watch"
+[ $? = 0 ] && [ "$(grep -c ' lost on ' out)" = 1 ] && grep -q '^universe state' out
+verdict "once" $? "$(grep ' lost on ' out | tail -n 1)"
 
 # A watch that joined groups and hears nothing says which, as lines and beside a page.
 join=$top/release/$(uname -m)-linux/sacn-join

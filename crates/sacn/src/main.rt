@@ -5,6 +5,7 @@ mod check;
 mod explain;
 mod frames;
 mod gateway;
+mod heard;
 mod keys;
 mod manual;
 mod page;

@@ -1,5 +1,7 @@
 //! Outputs whose lines have the time of day in front, where that is asked.
-use sacn_clock::{CLOCK_LETTERS, LocalZone, Moments, Stamped, Timing, WallClock, clock_text};
+use sacn_clock::{
+    Afterwards, CLOCK_LETTERS, LocalZone, Moments, Present, Stamped, Timing, WallClock, clock_text,
+};
 use sacn_machine::{ClockFront, Outlet, Outputs};
 use std::alloc::AllocError;
 use std::env::Env;
@@ -46,6 +48,22 @@ impl<'a, R: Clock> Write for TimedOutlet<'a, R> {
     }
 }
 
+/// One of two outputs, whose lines are written some time after what they tell, and have the time of that.
+#[derive(Drop)]
+pub struct LateOutlet<'a, R> {
+    out: Stamped<'a, Outlet<'a>, Afterwards<'a, WallClock<'a, R>>>,
+}
+
+impl<'a, R: Clock> Write for LateOutlet<'a, R> {
+    fn write(&mut self, octets: &[u8]) -> Result<usize> {
+        self.out.write(octets)
+    }
+
+    fn flush(&mut self) -> Result<()> {
+        self.out.flush()
+    }
+}
+
 /// The outputs of a loop, and what is put into their lines.
 #[derive(Drop)]
 pub struct TimedOutputs<'a, R> {
@@ -68,6 +86,14 @@ impl<'a, R: Clock> TimedOutputs<'a, R> {
     pub fn out(&self) -> TimedOutlet<'a, R> {
         let clock = WallClock::new(self.rt);
         TimedOutlet {
+            out: Stamped::new(self.outputs.out(), clock, self.timing),
+        }
+    }
+
+    /// Standard output, for what is told some time after it happened, by one who sets the present.
+    pub fn late_out(&self, present: &'a Present) -> LateOutlet<'a, R> {
+        let clock = Afterwards::new(WallClock::new(self.rt), present);
+        LateOutlet {
             out: Stamped::new(self.outputs.out(), clock, self.timing),
         }
     }

@@ -1,18 +1,19 @@
 //! A network watched.
-use crate::explain::form_of;
+use crate::heard::tell_heard;
 use crate::keys::ScreenKeys;
 use crate::page::serve;
 use crate::piped::Piped;
 use crate::screen::{hands_keys, show};
 use crate::timed::{TimedOutputs, timing_of, zone_of};
+use sacn_clock::Present;
 use sacn_commands::ending::{DEVICE_FAILED, Ending};
 use sacn_commands::live::{clock_of, joined_groups, of_socket, say_hearing};
+use sacn_machine::limits::SILENT_START;
 use sacn_machine::{
-    Lines, MAX_KEYS, Outputs, Typed, TypedKeys, UdpReceiver, guard_standard_descriptors,
-    output_is_terminal,
+    ClockFront, Lines, MAX_KEYS, Outputs, Typed, TypedKeys, UdpReceiver,
+    guard_standard_descriptors, output_is_terminal,
 };
-use sacn_tell::Options;
-use sacn_watch::{Leaving, LeavingListener, RunningListener, WatchFault, watch_lines};
+use sacn_watch::{Leaving, LeavingListener, RunningListener, WatchFault};
 use sacn_words::{WatchAsked, moment_of};
 use std::env::Env;
 use std::io::{ErrorKind, Write};
@@ -53,7 +54,7 @@ pub fn watch<R: AllocGlobal + Files + Env + Net + Clock, O: Write, E: Write>(
         let universe = asked.universes.first().copied();
         return serve(rt, place, page, universe, until, err);
     }
-    if asked.is_plain | asked.is_json || !output_is_terminal() {
+    if asked.wants_lines() || !output_is_terminal() {
         return tell(rt, place, asked, until);
     }
     show_at(rt, place, asked, until, out, err)
@@ -119,8 +120,17 @@ fn tell<R: AllocGlobal + Files + Env + Net + Clock>(
     let zone = zone_of(rt, asked.has_clock)?;
     let timing = timing_of(&zone, asked.is_json, asked.has_clock);
     let timed = TimedOutputs::new(rt, &outputs, timing);
+    let present = Present::new();
     let mut reader_has_gone = false;
-    let run = tell_timed(rt, place, asked, until, &timed, &mut reader_has_gone);
+    let run = tell_timed(
+        rt,
+        place,
+        asked,
+        until,
+        &timed,
+        &present,
+        &mut reader_has_gone,
+    );
     // (nobody is told how many lines wait for a reader that has gone)
     if reader_has_gone {
         let _ = outputs.err().flush();
@@ -137,33 +147,40 @@ fn tell_timed<'a, R: AllocGlobal + Net + Env + Clock>(
     asked: &WatchAsked,
     until: u64,
     outputs: &TimedOutputs<'a, R>,
+    present: &'a Present,
     reader_has_gone: &mut bool,
 ) -> Result<(), Ending> {
     let mut out = Piped::new(outputs.out());
-    let told = (outputs.outputs, joined_groups(rt));
-    let run = tell_on(rt, place, asked, until, told, &mut out);
-    *reader_has_gone = out.reader_has_gone();
-    out.ending(run)
+    let mut late = Piped::new(outputs.late_out(present));
+    let front = outputs.front_in(SILENT_START);
+    let tended = (outputs.outputs, joined_groups(rt), front);
+    let told = (&mut out, &mut late);
+    let run = tell_on(rt, place, asked, until, tended, told, present);
+    *reader_has_gone = out.reader_has_gone() | late.reader_has_gone();
+    out.ending(late.ending(run))
 }
 
-fn tell_on<'a, R: AllocGlobal + Net + Clock, O: Write>(
+fn tell_on<'a, R: AllocGlobal + Net + Clock, O: Write, L: Write>(
     rt: &'a R,
     place: Place,
     asked: &WatchAsked,
     until: u64,
-    (outputs, joined): (&'a Outputs, Option<String>),
-    out: &mut O,
+    (outputs, joined, front): (&'a Outputs, Option<String>, ClockFront),
+    (out, late): (&mut O, &mut L),
+    present: &Present,
 ) -> Result<(), Ending> {
     let mut receiver = receiver_at(rt, place, &mut outputs.err())?;
-    receiver.tend(outputs, joined);
+    receiver.tend(outputs, joined, front);
     say_hearing(place.address, receiver.room(), &mut outputs.err());
-    let options = Options {
-        port: asked.port,
-        universes: asked.universes.as_slice(),
-        form: form_of(asked.is_json),
-    };
     let mut listener = RunningListener::new(receiver);
-    watch_end(watch_lines(rt.alloc(), &mut listener, &options, until, out))
+    watch_end(tell_heard(
+        rt.alloc(),
+        &mut listener,
+        asked,
+        until,
+        (out, late),
+        present,
+    ))
 }
 
 /// An address of the machine's own (RFC 1122, 3.2.1.3) at which nothing listens alone.

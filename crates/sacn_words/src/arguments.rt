@@ -81,6 +81,12 @@ pub const EACH: Argument<'static> = Argument {
     ..FLAG
 };
 
+/// That of a watch.
+pub const WATCH_EACH: Argument<'static> = Argument {
+    help: "Prints a line for each thing that happens on a universe, as it happens, in place of those of what each source does on all; in a terminal too",
+    ..EACH
+};
+
 pub const JSON: Argument<'static> = Argument {
     name: "json",
     help: "Prints an object of JSON on each line",
@@ -91,6 +97,12 @@ pub const CLOCK: Argument<'static> = Argument {
     name: "clock",
     help: "Puts the time of day in front of each line, to the millisecond, of the time zone that TZ says, or else the machine's",
     ..FLAG
+};
+
+/// That of a watch.
+pub const WATCH_CLOCK: Argument<'static> = Argument {
+    help: "Puts the time of day in front of each line of --plain, to the millisecond, of the time zone that TZ says, or else the machine's",
+    ..CLOCK
 };
 
 pub const PAGE: Argument<'static> = Argument {

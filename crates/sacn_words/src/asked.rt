@@ -135,13 +135,23 @@ pub struct WatchAsked {
     pub seconds: Option<u64>,
     /// Whether what is told is objects of JSON, one a line, and not text.
     pub is_json: bool,
+    /// Whether what is told is lines in a terminal too.
     pub is_plain: bool,
+    /// Whether lines tell each thing that happens on a universe, and not what each source does on all.
+    pub has_each: bool,
     /// Whether each line of text has the time of day in front.
     pub has_clock: bool,
     /// Whether it hears also where another receiver has the port.
     pub is_beside: bool,
     /// Where a page is served in place of what is printed.
     pub page: Option<SocketAddrV4>,
+}
+
+impl WatchAsked {
+    /// Whether lines or objects are asked for, in a terminal too.
+    pub fn wants_lines(&self) -> bool {
+        self.is_plain | self.has_each | self.is_json
+    }
 }
 
 /// The files that are checked.
@@ -290,7 +300,9 @@ fn watch<'a>(words: &mut Words<'_, 'a>) -> Asked<'a> {
     words.beside("page", "plain");
     words.beside("page", "json");
     words.beside("page", "clock");
+    words.beside("page", "each");
     words.beside("json", "clock");
+    words.beside("json", "each");
     words.without("clock", "plain");
     Asked::Watch(WatchAsked {
         listen,
@@ -300,6 +312,7 @@ fn watch<'a>(words: &mut Words<'_, 'a>) -> Asked<'a> {
         seconds,
         is_json: words.is_given("json"),
         is_plain: words.is_given("plain"),
+        has_each: words.is_given("each"),
         has_clock: words.is_given("clock"),
         is_beside: words.is_given("beside"),
     })

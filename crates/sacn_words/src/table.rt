@@ -2,6 +2,7 @@
 use crate::arguments::{
     CLOCK, DESK_PAGE, DESK_SCRIPT_HELP, EACH, FIRST, FLAG, FRAMES, HELP, HELP_LETTER, JOIN, JSON,
     KEY, LISTEN, OPERAND, OPTION, PAGE, SCRIPT_HELP, SECONDS, SETUP, SETUP_HELP, SHOW, TURNS,
+    WATCH_CLOCK, WATCH_EACH,
 };
 use crate::manual::{Argument, ArgumentKind, SHELL_WORDS, SHELLS, Subcommand};
 use std::alloc::{AllocError, Global};
@@ -241,7 +242,7 @@ const EXPLAIN: Subcommand<'static> = Subcommand {
 
 const WATCH: Subcommand<'static> = Subcommand {
     name: "watch",
-    about: "Hears a network until it is stopped, and tells each thing that happens, then tables; in a terminal it shows a screen, steered by keys that its last row tells",
+    about: "Hears a network until it is stopped, and tells what each source does, on all its universes, then tables; in a terminal it shows a screen, steered by keys that its last row tells",
     usage: "sacn watch [OPTIONS]",
     arguments: &[
         LISTEN,
@@ -266,10 +267,8 @@ const WATCH: Subcommand<'static> = Subcommand {
             help: "Prints lines in a terminal too",
             ..FLAG
         },
-        Argument {
-            help: "Puts the time of day in front of each line of --plain, to the millisecond, of the time zone that TZ says, or else the machine's",
-            ..CLOCK
-        },
+        WATCH_EACH,
+        WATCH_CLOCK,
         PAGE,
         Argument {
             name: "beside",
