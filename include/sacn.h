@@ -475,7 +475,7 @@ enum sacn_stream_state {
 };
 
 /* The account of a source on a universe. Moments and times are in milliseconds; a count stops at 2^64 - 1. A packet is taken where it is in
-   sequence, or where the latest one is 2500 ms old. */
+   sequence, where the latest one is 2500 ms old, or where it has levels and a node holds nothing of its source. */
 struct sacn_stream {
     /* The moments of the first packet and of the latest one that was taken. */
     uint64_t first;

@@ -97,19 +97,31 @@ class Light:
         return False
 
 
-def post(line, key=KEY, origin=f"http://{AT}", **more):
-    """The status of the answer to an order, the answer, and how long it took in seconds."""
-    begin = time.monotonic()
+def asked(line, key=KEY, origin=f"http://{AT}", **more):
+    """A connection on which an order was sent."""
     asking = http.client.HTTPConnection(AT, timeout=30)
     fields = {"Origin": origin, "X-Key": key, **more}
     asking.request("POST", "/order", line.encode(), {name: value for name, value in fields.items() if value is not None})
-    answer = asking.getresponse()
-    text = answer.read().decode()
-    return answer.status, text.strip(), time.monotonic() - begin
+    return asking
+
+
+def answered(asking):
+    """The status of the answer there, and the answer; 0 where the connection ends without one."""
+    try:
+        answer = asking.getresponse()
+        return answer.status, answer.read().decode().strip()
+    except (OSError, http.client.HTTPException) as error:
+        return 0, type(error).__name__
+
+
+def post(line, **how):
+    """The status of the answer to an order, the answer, and how long it took in seconds."""
+    begin = time.monotonic()
+    return *answered(asked(line, **how)), time.monotonic() - begin
 
 
 def tried(line):
-    """The status and the answer, or 0 where the connection ends without one."""
+    """The status and the answer, or 0 also where no connection is had."""
     try:
         return post(line)[:2]
     except (OSError, http.client.HTTPException) as error:
@@ -268,11 +280,13 @@ def desk_of(name, *words):
         desk = start(SACN, "desk", f"{ROOM}/show.toml", "--page", str(PAGE), "--key", KEY, *words, stdout=out)
     for _ in range(100):
         try:
-            http.client.HTTPConnection(AT, timeout=5).request("GET", "/state")
+            line = http.client.HTTPConnection(AT, timeout=5)
+            line.request("GET", "/state")
+            line.getresponse().read()
             return desk, heard
-        except OSError:
+        except (OSError, http.client.HTTPException):
             time.sleep(0.1)
-    return desk, heard
+    raise RuntimeError(f"the desk's page doesn't answer: {name}")
 
 
 def ended(desk):
@@ -317,14 +331,11 @@ def ending():
     desk, heard = desk_of("ending")
     first = post("goto 1")
     desk.send_signal(signal.SIGSTOP)
-    told = []
-    late = threading.Thread(target=lambda: told.append(tried("goto 2")))
-    late.start()
-    time.sleep(0.5)
+    late = asked("goto 2")
     desk.stdin.close()
     desk.send_signal(signal.SIGCONT)
-    late.join()
-    is_told = told == [(503, "The desk ends, and didn't obey this order.")]
+    told = answered(late)
+    is_told = told == (503, "The desk ends, and didn't obey this order.")
     verdict("an order that comes while the desk ends is told so", first[0] == 200 and is_told, f"{first} {told}")
     verdict("and the desk ends", ended(desk), f"{desk.returncode}")
     with open(heard, encoding="utf-8") as lines:

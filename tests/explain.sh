@@ -575,6 +575,12 @@ cat >strays.each <<E
      0.100 s  universe     1  $A "Desk"  appears at 10.0.0.5:5000, priority 100
      2.600 s  universe     1  $A "Desk"  is lost: silent since 0.100 s
 E
+# A recording that begins with a termination, behind which levels come with an earlier number: the node holds nothing of the source then, so that they are taken.
+cat >behind.each <<E
+     0.020 s  universe     1  $A "Desk"  appears at 10.0.0.5:5000, priority 100
+     0.020 s  universe     1  $A "Desk"  begins its numbers anew
+E
+happens "what a node takes isn't told as discarded" behind.each behind.pcap
 # Spare sends previews alone at 0.3 s, levels at 0.5 s, and then previews alone until 5.5 s, one of them at another priority: its levels are held from 0.5 s to 3 s, and
 # its next packet comes at 3.1 s. It sends levels again at 5.7 s, ends its stream at 5.9 s, and previews alone bring it back.
 cat >previews.each <<E
@@ -634,12 +640,6 @@ before_tables "frames of an unknown link" links.lines 3 '"cut":0,"fragments":0,"
 
 # frame PORT MOMENT DIGITS: the line of a frame as a node prints it, the start code and slots of these digits, and 0 in the rest
 frame() { printf '%s %s 00%s%0*d\n' "$1" "$2" "$3" $((1024 - ${#3})) 0; }
-# A recording that begins with a termination, behind which levels come with an earlier number: the node holds nothing of the source then, so that they are taken.
-cat >behind.each <<E
-     0.020 s  universe     1  $A "Desk"  appears at 10.0.0.5:5000, priority 100
-     0.020 s  universe     1  $A "Desk"  begins its numbers anew
-E
-happens "what a node takes isn't told as discarded" behind.each behind.pcap
 # slots DIGITS: the same slots alone
 slots() { printf '%s%0*d' "$1" $((1024 - ${#1})) 0; }
 printf 'version = 1\n[[port]]\nnumber = 1\nuniverse = 1\n[[port]]\nnumber = 2\nuniverse = 2\n' >node.toml

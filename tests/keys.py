@@ -227,7 +227,10 @@ def told(status):
         screen.waits_for("^sacn watch ")
         for it in signal.SIGTERM, signal.SIGCONT:
             os.kill(screen.pid, it)
-        if screen.ends() != int(status) or not screen.is_given_back():
+        ended = screen.ends()
+        if ended != int(status):
+            sys.exit(f"it ends with {ended}")
+        if not screen.is_given_back():
             sys.exit("the terminal isn't given back")
 
 
