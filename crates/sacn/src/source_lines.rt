@@ -237,9 +237,10 @@ impl<'s, 'o, E: Write> Teller<'s, 'o, E> {
         }
     }
 
-    // What is said of a source that appears here, unless it was said before.
+    // What is said of a source that appears here, unless it was said before; behind an end that was heard here it wasn't.
     fn appeared(&self, at: u64, stream: &Stream) -> Option<&'static str> {
-        if self.sends_there(at, stream) {
+        let has_ended = stream.account.kinds.terminations > 0;
+        if !has_ended && self.sends_there(at, stream) {
             None
         } else {
             Some("came")

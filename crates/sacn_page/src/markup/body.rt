@@ -9,7 +9,7 @@ pub const BODY: &str = r##"</head>
   <span id="counts">waiting for the program</span>
 </header>
 <div id="banner" role="alert" hidden></div>
-<noscript>This page needs scripts. The same is told as text by: sacn watch --plain, and sacn explain</noscript>
+<noscript>This page needs scripts. The same is told as text by: sacn watch --each, and sacn explain --each</noscript>
 <main>
   <section id="time-part" aria-labelledby="time-head" hidden>
     <h2 id="time-head">Moment <output id="moment" for="time">0:00.000</output> <span id="length" class="note"></span> <span id="clock" class="note"></span></h2>

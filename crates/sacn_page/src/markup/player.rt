@@ -17,7 +17,7 @@ function gathered(alarms) {
   return lines;
 }
 // Whether two are about the same sources.
-function areSame(one, other) { return one.cid === other.cid && one.rival === other.rival; }
+function areSame(one, other) { return one.cid === other.cid && one.rival === other.rival || one.cid === other.rival && one.rival === other.cid; }
 // Numbers as ranges: 1-30, 32.
 function rangesOf(numbers) {
   const ranges = [];
