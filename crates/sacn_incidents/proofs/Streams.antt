@@ -4,12 +4,13 @@ use Rattle.std.specs.List.{position}
 use Rattle.std.specs.Option.{option_and_then, option_map}
 use Rattle.sacn_monitor.specs.declared.stream.Stream.{Stream}
 use Rattle.sacn_monitor.specs.Books.{Book}
+use Rattle.sacn_network.specs.Contests.{takes_part}
 use Rattle.sacn_network.specs.declared.occurrence.Contest.{Contest as ContestOf}
 use Rattle.sacn_network.specs.declared.occurrence.What.TheVariants.{Contest, Heard, Lost, Refused, Untracked}
 use Rattle.sacn_incidents.specs.declared.deed.Act.{Act}
 use Rattle.sacn_incidents.specs.declared.deed.Act.TheVariants.{IsLost, Meets}
 use Rattle.sacn_incidents.specs.declared.deed.Rival.{Rival}
-use Rattle.sacn_incidents.specs.Deeds.{deed_at, deed_by, meeting_by, meets, presence_of, rival_at}
+use Rattle.sacn_incidents.specs.Deeds.{deed_at, deed_by, meeting_by, presence_of, rival_at}
 use Rattle.sacn_incidents.specs.Calls.{DeedsAreOfStreams, IsOfStream}
 
 found : (at : ℕ) (act : Act) (place : ℕ) (b : Book) (o : Option Stream) → slice_get b.streams place ≡ o → IsOfStream b (option_map (deed_by at act place) o)
@@ -34,6 +35,6 @@ contest at c b (Some place) = meeting at b place (rival_at at c (drop (place + 1
 pub of_streams : DeedsAreOfStreams
 of_streams at (Lost place) b = at_place at IsLost place b
 of_streams at (Heard place news) b = acting at place b (presence_of news.event)
-of_streams at (Contest c) b = contest at c b (position (meets at c) b.streams)
+of_streams at (Contest c) b = contest at c b (position (takes_part at c) b.streams)
 of_streams at (Refused sender fault) b = refl
 of_streams at (Untracked sender) b = refl

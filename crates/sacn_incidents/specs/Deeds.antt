@@ -7,8 +7,8 @@ use Rattle.sacn_monitor.specs.declared.stream.Stream.{Stream}
 use Rattle.sacn_monitor.specs.declared.news.StreamEvent.{StreamEvent}
 use Rattle.sacn_monitor.specs.declared.news.StreamEvent.TheVariants.{GoesOn, Appeared, CameBack, Ended, OutOfSequence, Repeated}
 use Rattle.sacn_monitor.specs.Books.{Book}
-use Rattle.sacn_monitor.specs.Rivals.{lights, priority_at}
 use Rattle.sacn_network.specs.declared.occurrence.Contest.{Contest as ContestOf}
+use Rattle.sacn_network.specs.Contests.{takes_part}
 use Rattle.sacn_network.specs.declared.occurrence.What.{What}
 use Rattle.sacn_network.specs.declared.occurrence.What.TheVariants.{Contest, Heard, Lost, Refused, Untracked}
 use Rattle.sacn_incidents.specs.declared.deed.Act.{Act}
@@ -44,23 +44,19 @@ presence_of GoesOn = None
 presence_of OutOfSequence = None
 presence_of Repeated = None
 
--- a source lights a contested universe at its top priority
-abbrev pub meets : ℕ → ContestOf → Stream → Bool
-meets at c s = lights c.universe at s && (priority_at at s == c.priority)
-
 abbrev pub rival_by : ContestOf → Stream → Rival
 rival_by c s = record { cid = s.cid; priority = c.priority; sources = c.sources }
 
 -- the first of these that does
 abbrev pub rival_at : ℕ → ContestOf → List Stream → Option Rival
-rival_at at c ss = option_and_then (λ place. option_map (rival_by c) (slice_get ss place)) (position (meets at c) ss)
+rival_at at c ss = option_and_then (λ place. option_map (rival_by c) (slice_get ss place)) (position (takes_part at c) ss)
 
 -- the first that does, where it meets another one behind it
 abbrev pub meeting_by : ℕ → ContestOf → List Stream → ℕ → Option Deed
 meeting_by at c ss place = option_and_then (λ rival. deed_at at (Meets rival) place ss) (rival_at at c (drop (place + 1) ss))
 
 abbrev pub meeting_at : ℕ → ContestOf → List Stream → Option Deed
-meeting_at at c ss = option_and_then (meeting_by at c ss) (position (meets at c) ss)
+meeting_at at c ss = option_and_then (meeting_by at c ss) (position (takes_part at c) ss)
 
 -- what an occurrence tells of a source; a datagram that is refused, or for which there is no room, tells of none
 abbrev pub deed_of : ℕ → What → Book → Option Deed

@@ -2,7 +2,8 @@
 
 ghost use Rattle.std.specs.Prelude.{◌≡◌, ◌+◌, drop};
 ghost use Rattle.std.specs.List.{position};
-ghost use Rattle.sacn_incidents.specs.Deeds.{meeting_at, meets, rival_at};
+ghost use Rattle.sacn_incidents.specs.Deeds.{meeting_at, rival_at};
+ghost use Rattle.sacn_network.specs.Contests.{takes_part};
 
 use crate::deed::{Act, Deed, Rival, deed_at};
 use sacn_monitor::{Monitor, Stream};
@@ -34,13 +35,7 @@ fn rival_behind(at: u64, contest: &Contest, place: usize, streams: &[Stream]) ->
 
 // The place of the first that lights the universe at its top priority.
 fn place_of(at: u64, contest: &Contest, streams: &[Stream]) -> Option<usize>
-    ensures { result ≡ position (meets at contest.now) streams.now }
+    ensures { result ≡ position (takes_part at contest.now) streams.now }
 {
-    streams.iter().position(|stream| meets(at, contest, stream))
-}
-
-fn meets(at: u64, contest: &Contest, stream: &Stream) -> bool
-    ensures { result ≡ meets at contest.now stream.now }
-{
-    stream.lights(contest.universe, at) & (stream.priority_at(at) == contest.priority)
+    streams.iter().position(|stream| contest.has(at, stream))
 }

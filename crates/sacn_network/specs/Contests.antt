@@ -1,12 +1,17 @@
 -- Contests of universes: what is told of them, and what is kept.
-use Rattle.std.specs.Prelude.{ℕ, nat_le, Bool, List, [], ◌∷◌, Option, None, Some, if◌then◌else◌}
+use Rattle.std.specs.Prelude.{ℕ, nat_le, ◌&&◌, ◌==◌, Bool, List, [], ◌∷◌, Option, None, Some, if◌then◌else◌}
 use Rattle.sacn_monitor.specs.declared.stream.Stream.{Stream}
 use Rattle.sacn_monitor.specs.Books.{Book}
-use Rattle.sacn_monitor.specs.Rivals.{rivals, top_priority}
+use Rattle.sacn_monitor.specs.Rivals.{lights, priority_at, rivals, top_priority}
 use Rattle.sacn_network.specs.declared.ledger.Ledger.{Ledger}
+use Rattle.sacn_network.specs.declared.occurrence.Contest.{Contest as ContestOf}
 use Rattle.sacn_network.specs.declared.occurrence.What.TheVariants.{Contest}
 use Rattle.sacn_network.specs.Telling.{Told, told_now}
 use Rattle.sacn_network.specs.Sets.{has_bit, is_otherwise, marked}
+
+-- at t a source lights the universe of a contest at its priority
+abbrev pub takes_part : ℕ → ContestOf → Stream → Bool
+takes_part t c s = lights c.universe t s && (priority_at t s == c.priority)
 
 -- two sources or more light a universe at its top priority
 abbrev pub is_contested : ℕ → Book → Bool

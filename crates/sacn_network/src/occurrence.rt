@@ -1,6 +1,9 @@
 //! What happens on a network.
 
-use sacn_monitor::{Endpoint, News};
+ghost use Rattle.std.specs.Prelude.{◌≡◌};
+ghost use Rattle.sacn_network.specs.Contests.{takes_part};
+
+use sacn_monitor::{Endpoint, News, Stream};
 use sacn_packets::PacketFault;
 
 /// So many sources light a universe at its top priority (E1.31, 6.2.3). Where these are two or more, their levels are merged.
@@ -12,6 +15,15 @@ pub struct Contest {
     pub sources: usize,
     /// The greatest priority of the sources that light it, 0 to 200; 0 where none does.
     pub priority: u8,
+}
+
+impl Contest {
+    /// Whether a source lights the universe at that priority at a moment.
+    pub fn has(&self, at: u64, stream: &Stream) -> bool
+        ensures { result ≡ takes_part at self.now stream.now }
+    {
+        stream.lights(self.universe, at) & (stream.priority_at(at) == self.priority)
+    }
 }
 
 /// What happened. A place is that of a stream among the monitor's `streams`.

@@ -6,7 +6,7 @@ use Rattle.sacn_monitor.specs.declared.news.StreamEvent.{StreamEvent}
 use Rattle.sacn_monitor.specs.declared.news.StreamEvent.TheVariants as event
 use Rattle.sacn_monitor.specs.declared.news.News.{News}
 use Rattle.sacn_monitor.specs.declared.stream.Stream.{Stream}
-use Rattle.sacn_monitor.specs.Rivals.{lights, priority_at}
+use Rattle.sacn_network.specs.Contests.{takes_part}
 use Rattle.sacn_network.specs.declared.occurrence.Contest.{Contest}
 use Rattle.sacn_network.specs.declared.occurrence.What.{What}
 use Rattle.sacn_network.specs.declared.occurrence.What.TheVariants as what
@@ -101,20 +101,16 @@ event_troubles place event.Repeated = []
 abbrev pub news_troubles : ℕ → News → List Trouble
 news_troubles place news = event_troubles place news.event ++ (if news.skipped == 0 then [] else Skipped place news.skipped ∷ [])
 
--- a source lights a contested universe at its top priority (E1.31, 6.2.3)
-abbrev pub contests : ℕ → Contest → Stream → Bool
-contests at c s = lights c.universe at s && (priority_at at s == c.priority)
-
--- it does, beside this one
+-- a source takes part in a contest beside this one
 abbrev pub rivals : ℕ → Contest → Stream → Stream → Bool
-rivals at c first s = contests at c s && not (bytes_eq first.cid s.cid)
+rivals at c first s = takes_part at c s && not (bytes_eq first.cid s.cid)
 
 abbrev pub paired : ℕ → Contest → List Stream → Stream → Option Pair
 paired at c ss first = option_map (λ (s : Stream). record { first = first.cid; second = s.cid }) (find (rivals at c first) ss)
 
--- the first two sources, as they appeared, that contest a universe
+-- the first two sources, as they appeared, that take part in it
 abbrev pub pair_of : ℕ → Contest → List Stream → Option Pair
-pair_of at c ss = option_and_then (paired at c ss) (find (contests at c) ss)
+pair_of at c ss = option_and_then (paired at c ss) (find (takes_part at c) ss)
 
 -- a contest that ends is none, nor is a source for which there is no room
 abbrev pub troubles_of : ℕ → List Stream → What → List Trouble

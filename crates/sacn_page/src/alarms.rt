@@ -1,7 +1,8 @@
 //! What a viewer is to look at: the latest things that went wrong.
 
 ghost use Rattle.std.specs.Prelude.{◌≡◌, ◌≤◌, ◌-◌, [], IfOk, find, length, nat_le, not, option_copied, position, vec_capacity};
-ghost use Rattle.sacn_page.specs.Alarms.{after, alarms_after, contests, event_troubles, giving_way, is_loss, news_troubles, no_alarms, oldest, pair_of, paired, rivals, troubles_of, with_alarm, with_latest, with_troubles};
+ghost use Rattle.sacn_network.specs.Contests.{takes_part};
+ghost use Rattle.sacn_page.specs.Alarms.{after, alarms_after, event_troubles, giving_way, is_loss, news_troubles, no_alarms, oldest, pair_of, paired, rivals, troubles_of, with_alarm, with_latest, with_troubles};
 
 use sacn_monitor::{Endpoint, Monitor, News, Stream, StreamEvent};
 use sacn_network::{Contest, Observer, Occurrence, What};
@@ -214,7 +215,7 @@ impl Trouble {
     }
 }
 
-// The first two sources, as they appeared, that contest a universe at a moment.
+// The first two sources, as they appeared, that take part in a contest at a moment.
 fn pair_of(at: u64, contest: &Contest, streams: &[Stream]) -> Option<Pair>
     ensures { result ≡ pair_of at contest.now streams.now }
 {
@@ -222,7 +223,7 @@ fn pair_of(at: u64, contest: &Contest, streams: &[Stream]) -> Option<Pair>
     paired(at, contest, streams, first)
 }
 
-// The first source with the next one that contests the universe.
+// The first source with the next one that takes part in it.
 fn paired(at: u64, contest: &Contest, streams: &[Stream], first: &Stream) -> Option<Pair>
     ensures { result ≡ paired at contest.now streams.now first.now }
 {
@@ -234,9 +235,9 @@ fn paired(at: u64, contest: &Contest, streams: &[Stream], first: &Stream) -> Opt
 }
 
 fn first_of<'s>(at: u64, contest: &Contest, streams: &'s [Stream]) -> Option<&'s Stream>
-    ensures { option_copied result ≡ find (contests at contest.now) streams.now }
+    ensures { option_copied result ≡ find (takes_part at contest.now) streams.now }
 {
-    streams.iter().find(|stream| contests(at, contest, stream))
+    streams.iter().find(|stream| contest.has(at, stream))
 }
 
 fn rival_of<'s>(
@@ -252,18 +253,11 @@ fn rival_of<'s>(
         .find(|stream| rivals(at, contest, first, stream))
 }
 
-// Whether a source contests a universe beside this one.
+// Whether a source takes part in a contest beside this one.
 fn rivals(at: u64, contest: &Contest, first: &Stream, stream: &Stream) -> bool
     ensures { result ≡ rivals at contest.now first.now stream.now }
 {
-    contests(at, contest, stream) & (first.cid != stream.cid)
-}
-
-// Whether a source lights a contested universe at its top priority.
-fn contests(at: u64, contest: &Contest, stream: &Stream) -> bool
-    ensures { result ≡ contests at contest.now stream.now }
-{
-    stream.lights(contest.universe, at) & (stream.priority_at(at) == contest.priority)
+    contest.has(at, stream) & (first.cid != stream.cid)
 }
 
 // These alarms again, with room for so many.
