@@ -15,7 +15,7 @@ use Rattle.sacn_tell.specs.Numbers.{numbers_member, ranges_text}
 -- how many sources send at the top priority of a universe
 unfoldable pub rivals_words : ℕ → ℕ → List ℕ
 rivals_words sources priority =
-    if sources == 0 then codes "no source sends any longer"
+    if sources == 0 then codes "no source lights it any longer"
     else (if sources == 1 then codes "one source alone sends at the top priority, " ++ decimal priority
     else decimal sources ++ (codes " sources send at the top priority, " ++ decimal priority))
 

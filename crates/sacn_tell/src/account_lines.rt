@@ -57,7 +57,7 @@ fn push_rivals(text: &mut String, sources: u64, priority: u8) -> Result<(), Allo
         (string_bytes text.new ≡ string_bytes text.old ++ rivals_words sources priority) }
 {
     match sources {
-        0 => text.push_str("no source sends any longer"),
+        0 => text.push_str("no source lights it any longer"),
         1 => write!(
             text,
             "one source alone sends at the top priority, {priority}"

@@ -19,14 +19,14 @@ ghost use Rattle.sacn_tell.specs.Tellings.{Tells, with_line_end};
 use crate::cause::{cause_of, loss_of};
 use crate::fault::{ExplainFault, TellFault};
 use crate::line_writer::LineWriter;
-use crate::listings::{Listings, PageNews};
+use crate::listings::Listings;
 use crate::options::Options;
 use crate::report::Report;
 use crate::stage::Stage;
 use sacn_monitor::{Endpoint, Noted, Stream, Tally};
 use sacn_network::{Network, Unobserved};
 use sacn_node::NodeSetup;
-use sacn_packets::{Packet, Reading, read_packet};
+use sacn_packets::{Reading, read_packet};
 use std::alloc::Global;
 use std::io::Write;
 
@@ -327,18 +327,7 @@ impl<'a, O: Write> Follower<'a, O> {
         ensures stage { self.new.stage ≡ self.old.stage }
         ensures options { self.new.writer.options ≡ self.old.writer.options }
     {
-        let Ok(Packet::PagePacket(page)) = reading else {
-            return Ok(());
-        };
-        let event = match self.listings.take(now, page)? {
-            PageNews::Nothing => return Ok(()),
-            PageNews::Appears => "lists",
-            PageNews::Changes => "relists",
-        };
-        match self.listings.of(&page.cid()) {
-            Some(listing) => self.writer.teller.tell_listing(now, event, listing),
-            None => Ok(()),
-        }
+        self.writer.tell_page(now, reading, &mut self.listings)
     }
 
     // The frames of the node after a datagram.

@@ -2,19 +2,22 @@
 
 ghost use Rattle.std.specs.Prelude.{◌≡◌, [], None, OnOk, slice_get, string_bytes};
 ghost use Rattle.sacn_tell.specs.Choice.{is_wanted};
+ghost use Rattle.sacn_tell.specs.KeptLists.{after_reading, listed_in};
 ghost use Rattle.sacn_tell.specs.LineWriting.{heard_text, lost_text, what_text, where_wanted};
 ghost use Rattle.sacn_tell.specs.Lines.{rivals_line};
+ghost use Rattle.sacn_tell.specs.ListBooks.{list_book, page_told};
 ghost use Rattle.sacn_tell.specs.Tables.{tables_told};
 ghost use Rattle.sacn_tell.specs.Tellings.{Tells, with_line_end};
 
 use crate::fault::TellFault;
-use crate::listings::Listings;
+use crate::listings::{Listings, PageNews};
 use crate::options::Options;
 use crate::report::Report;
 use crate::tables;
 use crate::teller::Teller;
 use sacn_monitor::{Monitor, News, Stream};
 use sacn_network::{Contest, Observer, Occurrence, What};
+use sacn_packets::{Packet, Reading};
 use std::alloc::Global;
 use std::io::Write;
 
@@ -69,6 +72,33 @@ impl<'a, O: Write> LineWriter<'a, O> {
             self.old.options.universes.now monitor.now.streams listings.now.known.items report.now)) }
     {
         tables::tell(&mut self.teller, &self.options, monitor, listings, report)
+    }
+
+    /// Takes a page of a source's list into the lists, and tells that list where the page makes it another one than before.
+    pub fn tell_page(
+        &mut self,
+        now: u64,
+        reading: &Reading<'_>,
+        listings: &mut Listings,
+    ) -> Result<(), TellFault>
+        ensures told { OnOk result (Tells O.contents self.old.teller self.new.teller
+            (page_told self.old.teller.form now reading.now (list_book listings.old))) }
+        ensures listed { OnOk result
+            (listed_in listings.new ≡ after_reading reading.now (listed_in listings.old)) }
+        ensures options { self.new.options ≡ self.old.options }
+    {
+        let Ok(Packet::PagePacket(page)) = reading else {
+            return Ok(());
+        };
+        let event = match listings.take(now, page)? {
+            PageNews::Nothing => return Ok(()),
+            PageNews::Appears => "lists",
+            PageNews::Changes => "relists",
+        };
+        match listings.of(&page.cid()) {
+            Some(listing) => self.teller.tell_listing(now, event, listing),
+            None => Ok(()),
+        }
     }
 
     // Whether a universe is asked for.
