@@ -214,6 +214,17 @@ def incidents_of(lines):
     return found
 
 
+def unlike_events(incidents, heard):
+    """The incidents of a watch that aren't what INCIDENTS has, each at the moment of its event among the other objects, since the moments are those of this run."""
+    if len(incidents) != len(INCIDENTS):
+        return incidents
+    moments = {(it["event"], it["universe"], it.get("cid")): it["ms"] for it in reversed(heard) if "universe" in it and "event" in it}
+    told = [it | {"ms": wanted["ms"], "first": wanted["ms"], "latest": wanted["ms"]} for it, wanted in zip(incidents, INCIDENTS)]
+    named = [(it["act"], it["universes"][0], it["cid"] if it["act"] != "rivals" else None) for it in incidents]
+    are_timely = [it["first"] == it["latest"] == it["ms"] == moments.get(name) for it, name in zip(incidents, named)]
+    return [] if all(are_timely) and incidents_of(told) == INCIDENTS else (incidents, moments)
+
+
 def row_of(line):
     """What an incident's object tells, with a letter for each CID."""
     letters = {CIDS[it].hex(): it for it in CIDS}
@@ -267,6 +278,10 @@ def main():
         is_first = lines[: len(incidents)] == incidents
         verdict("explain tells first what each source did", is_first and incidents_of(incidents) == INCIDENTS, incidents)
         lines = [it for it in lines if it not in incidents]
+        alongside = [it for it in heard if it.get("event") == "incident"]
+        heard = [it for it in heard if it not in alongside]
+        unlike = unlike_events(alongside, heard)
+        verdict("a watch tells what each source did, once, at the moment of its event", not unlike, unlike)
         for name, all_rows in (("explain", lines), ("a watch's lines", heard)):
             rows = [it for it in all_rows if it.get("row") == "source"]
             told(name, rows, sum(it["refused"] for it in all_rows if it.get("row") == "counts"))

@@ -127,7 +127,8 @@ times() {
   [ "$seen" -gt 0 ]
 }
 tells "a desk, as JSON" --json "^{\"ms\":[0-9]+,\"time\":\"[0-9-]{10}T[0-9:]{8}\.[0-9]{3}Z\",\"event\":\"appeared\",\"universe\":1,\"cid\":\"$C\",\"name\":\"Desk\",\"address\":\"127.0.0.1\"" \
-  '"event":"ended","universe":1' '^{"row":"source","universe":1,.*"state":"ended"' '^{"row":"counts",'
+  "\"event\":\"incident\",\"act\":\"appeared\",\"cid\":\"$C\",\"name\":\"Desk\",\"universes\":\[1,2\],.*\"times\":2}$" '"event":"ended","universe":1' '"event":"incident","act":"ended",.*"universes":\[1,2\]' \
+  '^{"row":"source","universe":1,.*"state":"ended"' '^{"row":"counts",'
 times '^\{"ms":[0-9]+,"time":"([^"]*)","event":' 0 && ! grep '"ms":' out | grep -qvE '"ms":[0-9]+,"time":"'
 verdict "each object with a moment has its time" $? "$(head -n 1 out)"
 TZ=XST-5:30 tells "a desk, with the time of day" "--plain --clock" "^[0-9:]{8}\.[0-9]{3}  +[0-9]+\.[0-9]{3} s  \"Desk\" 0001\.\.0f appears on 1-2 at" "^[0-9:.]{12} universe state "

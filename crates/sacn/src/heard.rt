@@ -1,4 +1,4 @@
-//! What a watch hears, told: what each source does, once for all its universes, or each thing that happens on each.
+//! What a watch hears, told: what each source does, once for all its universes, and each thing that happens on each.
 use crate::explain::form_of;
 use sacn_clock::Present;
 use sacn_digest::LiveDigest;
@@ -22,13 +22,13 @@ pub fn tell_heard<I: Listener, O: Write, L: Write>(
     (out, late): (&mut O, &mut L),
     present: &Present,
 ) -> Result<(), WatchFault> {
-    if asked.has_each | asked.is_json {
+    if asked.has_each {
         return tell_each(alloc, listener, asked, until, out);
     }
     tell_incidents(alloc, listener, asked, until, late, present)
 }
 
-// The same as a line or an object for each thing that happens on a universe.
+// The same as a line for each thing that happens on a universe.
 fn tell_each<I: Listener, O: Write>(
     alloc: Global,
     listener: &mut I,
@@ -39,12 +39,12 @@ fn tell_each<I: Listener, O: Write>(
     let options = Options {
         port: asked.port,
         universes: asked.universes.as_slice(),
-        form: form_of(asked.is_json),
+        form: Form::Text,
     };
     watch_lines(alloc, listener, &options, until, out)
 }
 
-// The same as lines of what each source does.
+// The same as lines of what each source does; or as objects, with one for each thing that happens on a universe beside them.
 fn tell_incidents<I: Listener, L: Write>(
     alloc: Global,
     listener: &mut I,
@@ -56,9 +56,12 @@ fn tell_incidents<I: Listener, L: Write>(
     let options = Options {
         port: asked.port,
         universes: asked.universes.as_slice(),
-        form: Form::Text,
+        form: form_of(asked.is_json),
     };
-    let digest = LiveDigest::new(alloc, options, late)?;
+    let mut digest = LiveDigest::new(alloc, options, late)?;
+    if asked.is_json {
+        digest.tell_each();
+    }
     let mut incidents = IncidentWatcher { digest, present };
     run_watch(listener, &mut incidents, until)
 }
@@ -71,7 +74,7 @@ fn of_telling(told: Result<(), TellFault>) -> Result<(), WatchFault> {
     }
 }
 
-/// Tells what each source does, once for all its universes, and tables at the end.
+/// Tells what each source does, once for all its universes, as objects also each thing that happens, and tables at the end.
 #[derive(Drop)]
 struct IncidentWatcher<'a, 'p, O> {
     digest: LiveDigest<'a, O>,

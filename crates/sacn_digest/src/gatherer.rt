@@ -7,6 +7,7 @@ use crate::universes::{first_place, universes_of};
 use sacn_incidents::{Deed, Incident, Incidents, MAX_OPEN, deed_of};
 use sacn_monitor::{Monitor, Stream};
 use sacn_network::{Observer, Occurrence};
+use sacn_packets::{Packet, Reading};
 use sacn_tell::{Form, LineWriter, Listings, Options, Report, TellFault};
 use std::alloc::{AllocError, Global};
 use std::io::Write;
@@ -22,6 +23,8 @@ pub(crate) struct Gatherer<'a, O> {
     failure: Option<TellFault>,
     /// Whether an incident was written.
     has_told: bool,
+    /// Whether each thing that happens is written too, at once.
+    has_each: bool,
 }
 
 impl<'a, O: Write> Gatherer<'a, O> {
@@ -42,7 +45,13 @@ impl<'a, O: Write> Gatherer<'a, O> {
             writer: LineWriter::new(alloc, options, out),
             failure: None,
             has_told: false,
+            has_each: false,
         })
+    }
+
+    /// From now on each thing that happens is written too.
+    pub(crate) fn tell_each(&mut self) {
+        self.has_each = true;
     }
 
     /// Hands out the failure that is kept. From then on it writes again.
@@ -106,10 +115,30 @@ impl<'a, O: Write> Gatherer<'a, O> {
         self.writer.tell_tables(monitor, listings, report)
     }
 
+    /// Takes a page of a source's list into the lists. Where each thing is written, so is a list that is another one than before.
+    pub(crate) fn take_page(
+        &mut self,
+        now: u64,
+        reading: &Reading<'_>,
+        listings: &mut Listings,
+    ) -> Result<(), TellFault> {
+        if self.has_each {
+            return self.writer.tell_page(now, reading, listings);
+        }
+        if let Ok(Packet::PagePacket(page)) = reading {
+            listings.take(now, page)?;
+        }
+        Ok(())
+    }
+
     // What happened is a part of an incident, where it is a deed of a source.
     fn take(&mut self, occurrence: &Occurrence, monitor: &Monitor) -> Result<(), TellFault> {
         let streams = monitor.streams();
         self.pass(occurrence.at, streams)?;
+        if self.has_each {
+            self.writer.observe(occurrence, monitor);
+            self.writer.settle()?;
+        }
         match deed_of(occurrence, monitor) {
             Some(deed) => self.take_deed(&deed, streams),
             None => Ok(()),

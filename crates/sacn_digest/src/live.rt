@@ -4,7 +4,7 @@ use crate::gatherer::Gatherer;
 use sacn_capture::FrameCounts;
 use sacn_monitor::{Endpoint, Monitor};
 use sacn_network::Network;
-use sacn_packets::{Packet, Reading};
+use sacn_packets::Reading;
 use sacn_tell::{ExplainFault, Listings, Options, Report, TellFault};
 use std::alloc::Global;
 use std::io::Write;
@@ -33,6 +33,11 @@ impl<'a, O: Write> LiveDigest<'a, O> {
         })
     }
 
+    /// From now on each thing that happens on a universe is told too, as it happens, and each source's list.
+    pub fn tell_each(&mut self) {
+        self.gatherer.tell_each();
+    }
+
     /// Takes what a datagram was read as that came at a moment from a sender.
     ///
     /// Errors: OutOfMemory; Device where a line can't be written.
@@ -44,15 +49,7 @@ impl<'a, O: Write> LiveDigest<'a, O> {
     ) -> Result<(), TellFault> {
         self.network.take(now, sender, reading, &mut self.gatherer);
         self.gatherer.settle()?;
-        self.take_page(now, reading)
-    }
-
-    // A page of a source's list.
-    fn take_page(&mut self, now: u64, reading: &Reading<'_>) -> Result<(), TellFault> {
-        if let Ok(Packet::PagePacket(page)) = reading {
-            self.listings.take(now, page)?;
-        }
-        Ok(())
+        self.gatherer.take_page(now, reading, &mut self.listings)
     }
 
     /// Time passes: what ends by silence is a part of incidents, and those that have passed are told.
