@@ -264,7 +264,9 @@ impl Account {
         let number = self.note_number(moment, packet.terminated(), packet.number());
         let gap = moment.saturating_sub(self.latest);
         let kind = kind_of(packet);
-        let holding = self.holding.after(moment, kind, packet.priority());
+        let relit = self
+            .holding
+            .take(self.latest, moment, kind, packet.priority());
         let news = News {
             event: self.taken_event(moment, packet.terminated()),
             skipped: number.skipped,
@@ -273,7 +275,7 @@ impl Account {
             priority: change(self.priority, packet.priority()),
             renamed: rename(&mut self.name, packet),
             moved: !same_sender(&self.sender, &sender),
-            relit: self.holding.is_relit(self.latest, moment, holding),
+            relit,
         };
         self.sender = sender;
         self.priority = packet.priority();
@@ -281,7 +283,6 @@ impl Account {
         self.sequence_number = packet.number();
         self.ended = packet.terminated();
         self.kinds.count(kind);
-        self.holding = holding;
         self.skipped = self.skipped.saturating_add(u64::from(number.skipped));
         self.greatest_gap = self.greatest_gap.max(gap);
         self.rate.count(moment);
