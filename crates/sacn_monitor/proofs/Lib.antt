@@ -1,6 +1,7 @@
 pub mod Admitting
 pub mod Chaining
 pub mod Fitting
+pub mod GoingOn
 pub mod Leading
 pub mod Losses
 pub mod Tracking

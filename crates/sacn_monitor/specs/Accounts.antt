@@ -6,6 +6,7 @@ use Rattle.sacn_packets.specs.Naming.{padded}
 use Rattle.sacn_packets.specs.Data.{Data}
 use Rattle.sacn_sources.specs.Sequence.{step, is_late}
 use Rattle.sacn_sources.specs.Packets.{kind_of}
+use Rattle.sacn_sources.specs.declared.kind.Kind.TheVariants.{Live}
 use Rattle.sacn_sources.specs.declared.limits.TheConstants.{NETWORK_DATA_LOSS}
 use Rattle.sacn_monitor.specs.declared.account.Account.{Account}
 use Rattle.sacn_monitor.specs.declared.account.Endpoint.{Endpoint}
@@ -13,7 +14,7 @@ use Rattle.sacn_monitor.specs.declared.news.StreamEvent.{StreamEvent}
 use Rattle.sacn_monitor.specs.declared.news.StreamEvent.TheVariants.{GoesOn, Appeared, CameBack, Ended, OutOfSequence, Repeated}
 use Rattle.sacn_monitor.specs.declared.news.Change.{Change}
 use Rattle.sacn_monitor.specs.declared.news.News.{News}
-use Rattle.sacn_monitor.specs.declared.holding.Holding.TheVariants.{Nothing}
+use Rattle.sacn_monitor.specs.declared.holding.Holding.TheVariants.{Nothing, Levels}
 use Rattle.sacn_monitor.specs.Holdings.{begins_holding, held_after, is_relit}
 use Rattle.sacn_monitor.specs.Kinds.{more, no_packets, with_one_more}
 use Rattle.sacn_monitor.specs.Rates.{first_rate, rate_after}
@@ -66,7 +67,7 @@ begins_anew t arrived a = is_fresh t a && int_lt (step a.sequence_number arrived
 
 -- a packet that is taken at t has the next number of a stream that goes on, and nothing else is awaited of it
 abbrev pub is_next : ℕ → ℕ → Account → Bool
-is_next t arrived a = (ahead_of a.sequence_number arrived == 1) && is_settled a.numbering && not a.ended && is_fresh t a
+is_next t arrived a = (ahead_of a.sequence_number arrived == 1) && is_settled arrived a.numbering && not a.ended && is_fresh t a
 
 -- what the number of a packet that is taken at t tells
 abbrev pub number_news : ℕ → Bool → ℕ → Account → NumberNews
@@ -100,6 +101,18 @@ after_taken t sender d a = record {
   skipped = more (lost_at t d.terminated d.number a) a.skipped;
   late = a.late;
   repeats = a.repeats;
+  greatest_gap = max a.greatest_gap (t - a.latest);
+  rate = rate_after t a.rate;
+}
+
+-- one that goes on as the one before: its levels are held anew, and nothing else is new
+abbrev pub after_gone_on : ℕ → ℕ → Account → Account
+after_gone_on t arrived a = record a {
+  latest = t;
+  sequence_number = arrived;
+  kinds = with_one_more Live a.kinds;
+  holding = Levels t a.priority;
+  skipped = more 0 a.skipped;
   greatest_gap = max a.greatest_gap (t - a.latest);
   rate = rate_after t a.rate;
 }

@@ -1,7 +1,6 @@
 -- How a source numbers its packets: which numbers it loses, and which it leaves out by a rule of its own.
-use Rattle.std.specs.Prelude.{◌≡◌, ◌≢◌, ℕ, ◌<◌, ◌≤◌, ◌-◌, ◌+◌, ◌%◌, min, nat_le, nat_lt, Bool, true, false, not, ◌&&◌, ◌==◌, Option, Some, None, if◌then◌else◌}
+use Rattle.std.specs.Prelude.{◌≡◌, ◌≢◌, ℕ, ◌<◌, ◌≤◌, ◌-◌, ◌+◌, ◌%◌, min, nat_le, nat_lt, Bool, true, false, not, ◌&&◌, ◌||◌, ◌==◌, Option, Some, None, if◌then◌else◌}
 use Rattle.sacn_monitor.specs.declared.numbering.Numbering.{Numbering}
-use Rattle.sacn_monitor.specs.declared.numbering.NumberNews.{NumberNews}
 use Rattle.sacn_monitor.specs.declared.numbering.TheConstants.{OMISSION_TURNS, OPENING_STEP}
 
 -- how far one number lies ahead of another, in turns of 256
@@ -23,12 +22,9 @@ passes_over held arrived number = nat_lt (ahead_of held arrived) 128 && (nat_lt 
 abbrev pub first_numbering : Numbering
 first_numbering = record { opens = true; left_out = 0; turns = 0 }
 
-abbrev pub no_number_news : NumberNews
-no_number_news = record { skipped = 0; began_anew = false; leaves_out = None }
-
--- no first packets are awaited, nor is a number known that may be left out
-abbrev pub is_settled : Numbering → Bool
-is_settled n = not n.opens && (n.turns == 0)
+-- the number that comes next in turn tells nothing of it: no first packets are awaited, nor is it a number that seems to be left out
+abbrev pub is_settled : ℕ → Numbering → Bool
+is_settled arrived n = not n.opens && ((n.turns == 0) || not (arrived == n.left_out))
 
 -- a stream, or numbers that begin anew, begin with two copies of a packet, the second of which is so far ahead
 abbrev pub begins : ℕ → ℕ → Numbering → Bool

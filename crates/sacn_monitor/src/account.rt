@@ -4,7 +4,7 @@ ghost use Rattle.std.specs.Prelude.{◌≡◌, ◌≤◌, not, length, if◌then
 ghost use Rattle.std.specs.Str.{bytes_eq};
 ghost use Rattle.sacn_packets.specs.Naming.{padded};
 ghost use Rattle.sacn_monitor.specs.declared.news.StreamEvent.TheVariants.{Appeared, CameBack};
-ghost use Rattle.sacn_monitor.specs.Accounts.{same_sender, is_fresh, is_discarded, begins_apart, begins_life, lost_at, numbering_at, renumbered, number_news, begins_anew, changed, first_event, has_begun, is_away, taken_event, discarded_event, is_next, fitted, name_of, IsFitted, taken_news, news_of, after_packet, after_taken, after_discarded, first_account};
+ghost use Rattle.sacn_monitor.specs.Accounts.{same_sender, is_fresh, is_discarded, begins_apart, begins_life, lost_at, numbering_at, renumbered, number_news, begins_anew, changed, first_event, has_begun, is_away, taken_event, discarded_event, fitted, name_of, IsFitted, taken_news, news_of, after_packet, after_taken, after_discarded, first_account};
 
 use crate::holding::{Holding, lasts};
 use crate::kinds::Kinds;
@@ -200,32 +200,8 @@ impl Account {
         self.is_fresh(moment) & (signed_step(self.sequence_number, arrived) < 0)
     }
 
-    // What a taken packet's number tells. Mostly it is the next one in turn, which tells nothing and changes nothing: the same
-    // as `note_any_number` makes of it.
+    // What a taken packet's number tells.
     fn note_number(&mut self, moment: u64, terminated: bool, arrived: u8) -> NumberNews
-        ensures news { result ≡ number_news moment terminated arrived self.old }
-        ensures account { self.new ≡ renumbered moment terminated arrived self.old }
-    {
-        if self.is_next(moment, arrived) {
-            NumberNews::none()
-        } else {
-            self.note_any_number(moment, terminated, arrived)
-        }
-    }
-
-    // Whether a taken packet has the next number of a stream that goes on, and nothing else is awaited of it.
-    fn is_next(&self, moment: u64, arrived: u8) -> bool
-        ensures { result ≡ is_next moment arrived self.now }
-    {
-        (arrived.wrapping_sub(self.sequence_number) == 1)
-            & self.numbering.is_settled()
-            & !self.ended
-            & self.is_fresh(moment)
-    }
-
-    // What any taken packet's number tells. Out of line, so that the test before it is made in the caller.
-    #[inline(never)]
-    fn note_any_number(&mut self, moment: u64, terminated: bool, arrived: u8) -> NumberNews
         ensures news { result ≡ number_news moment terminated arrived self.old }
         ensures account { self.new ≡ renumbered moment terminated arrived self.old }
     {
@@ -254,19 +230,32 @@ impl Account {
         }
     }
 
-    // A packet that is taken. Returns what it tells that is new.
-    #[tactic(auto, unfolding(crate::specs::Accounts::taken_news, crate::specs::Accounts::after_taken))]
+    // A packet that is taken. Returns what it tells that is new. Mostly it goes on as the one before, and tells nothing: the same
+    // as `take_any` makes of it.
     fn take(&mut self, moment: u64, sender: Endpoint, packet: &DataView<'_>) -> News
         requires { IsFitted self.old.name }
+        ensures news { result ≡ taken_news moment sender packet.now self.old }
+        ensures account { self.new ≡ after_taken moment sender packet.now self.old }
+    {
+        if self.goes_on(moment, &sender, packet) {
+            self.go_on(moment, packet.number());
+            News::quiet(StreamEvent::GoesOn)
+        } else {
+            self.take_any(moment, sender, packet)
+        }
+    }
+
+    // Any packet that is taken. Out of line, so that the test before it is made in the caller.
+    #[inline(never)]
+    #[tactic(auto, unfolding(crate::specs::Accounts::taken_news, crate::specs::Accounts::after_taken))]
+    fn take_any(&mut self, moment: u64, sender: Endpoint, packet: &DataView<'_>) -> News
         ensures news { result ≡ taken_news moment sender packet.now self.old }
         ensures account { self.new ≡ after_taken moment sender packet.now self.old }
     {
         let number = self.note_number(moment, packet.terminated(), packet.number());
         let gap = moment.saturating_sub(self.latest);
         let kind = kind_of(packet);
-        let relit = self
-            .holding
-            .take(self.latest, moment, kind, packet.priority());
+        let holding = self.holding.after(moment, kind, packet.priority());
         let news = News {
             event: self.taken_event(moment, packet.terminated()),
             skipped: number.skipped,
@@ -275,7 +264,7 @@ impl Account {
             priority: change(self.priority, packet.priority()),
             renamed: rename(&mut self.name, packet),
             moved: !same_sender(&self.sender, &sender),
-            relit,
+            relit: self.holding.is_relit(self.latest, moment, holding),
         };
         self.sender = sender;
         self.priority = packet.priority();
@@ -283,6 +272,7 @@ impl Account {
         self.sequence_number = packet.number();
         self.ended = packet.terminated();
         self.kinds.count(kind);
+        self.holding = holding;
         self.skipped = self.skipped.saturating_add(u64::from(number.skipped));
         self.greatest_gap = self.greatest_gap.max(gap);
         self.rate.count(moment);
@@ -312,32 +302,15 @@ fn change(from: u8, to: u8) -> Option<Change>
     }
 }
 
-// Whether two datagrams came from one place.
-fn same_sender(a: &Endpoint, b: &Endpoint) -> bool
+/// Whether two datagrams came from one place.
+pub(crate) fn same_sender(a: &Endpoint, b: &Endpoint) -> bool
     ensures { result ≡ same_sender a.now b.now }
 {
     (a.address == b.address) & (a.port == b.port)
 }
 
 // A packet's name in place of another. Returns whether it is another one.
-//
-// Mostly the packet's whole field is the kept name to the octet. What is read from that, fitted, is that name again: so one
-// compare of the fields spares the search for the name's end and a write, and gives what `refit` gives.
 fn rename(name: &mut [u8; 64], packet: &DataView<'_>) -> bool
-    requires { IsFitted name.old }
-    ensures renamed { result ≡ not (bytes_eq name.old (name_of packet.now)) }
-    ensures name { name.new ≡ name_of packet.now }
-{
-    if *name == *packet.name_field() {
-        return false;
-    }
-    refit(name, packet)
-}
-
-// The same of any two: the packet's name, fitted, is compared and written. Out of line, so that the test before it is made in
-// the caller.
-#[inline(never)]
-fn refit(name: &mut [u8; 64], packet: &DataView<'_>) -> bool
     ensures renamed { result ≡ not (bytes_eq name.old (name_of packet.now)) }
     ensures name { name.new ≡ name_of packet.now }
 {

@@ -61,39 +61,8 @@ impl Holding {
         }
     }
 
-    /// Takes a packet of this kind and priority; the latest one before it was taken at `latest`. Returns whether the light is
-    /// another one than before, or went out since.
-    ///
-    /// Mostly levels follow levels in time, at one priority: the light stays, and what is held is renewed. That is what `take_any`
-    /// makes of it.
-    pub(crate) fn take(&mut self, latest: u64, moment: u64, kind: Kind, priority: u8) -> bool
-        ensures relit { result ≡ is_relit latest moment self.old (held_after moment kind priority self.old) }
-        ensures held { self.new ≡ held_after moment kind priority self.old }
-    {
-        match (*self, kind) {
-            (Holding::Levels(renewed, held), Kind::Live)
-                if (renewed == latest) & (held == priority) & lasts(moment, renewed) => {
-                *self = Holding::Levels(moment, priority);
-                false
-            }
-            _ => self.take_any(latest, moment, kind, priority),
-        }
-    }
-
-    // The same of any packet. Out of line, so that the test before it is made in the caller.
-    #[inline(never)]
-    fn take_any(&mut self, latest: u64, moment: u64, kind: Kind, priority: u8) -> bool
-        ensures relit { result ≡ is_relit latest moment self.old (held_after moment kind priority self.old) }
-        ensures held { self.new ≡ held_after moment kind priority self.old }
-    {
-        let after = self.after(moment, kind, priority);
-        let relit = self.is_relit(latest, moment, after);
-        *self = after;
-        relit
-    }
-
-    // Whether the light is another one with what is held after a packet, or went out since the packet before.
-    fn is_relit(self, latest: u64, moment: u64, after: Self) -> bool
+    /// Whether the light is another one with what is held after a packet, or went out since the packet before.
+    pub(crate) fn is_relit(self, latest: u64, moment: u64, after: Self) -> bool
         ensures { result ≡ is_relit latest moment self after }
     {
         let light = self.light(moment);

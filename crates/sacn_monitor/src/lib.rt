@@ -6,6 +6,7 @@
 #![tactic(auto)]
 
 mod account;
+mod going_on;
 mod holding;
 mod kinds;
 pub mod laws;

@@ -1,7 +1,7 @@
 //! How a source numbers its packets: by which steps, and which number it leaves out.
 
 ghost use Rattle.std.specs.Prelude.{◌≡◌};
-ghost use Rattle.sacn_monitor.specs.Numberings.{first_numbering, begins, goes_back, is_settled, lost_in, no_number_news, numbering_after, omission_in, passes_over, skipped_by, turns_after};
+ghost use Rattle.sacn_monitor.specs.Numberings.{first_numbering, begins, goes_back, is_settled, lost_in, numbering_after, omission_in, passes_over, skipped_by, turns_after};
 
 /// A source that has left out the same number so many turns in a row leaves it out by a rule of its own.
 pub(crate) const OMISSION_TURNS: u8 = 3;
@@ -27,19 +27,6 @@ pub(crate) struct NumberNews {
     pub(crate) skipped: u8,
     pub(crate) began_anew: bool,
     pub(crate) leaves_out: Option<u8>,
-}
-
-impl NumberNews {
-    /// That of the next number in turn.
-    pub(crate) fn none() -> Self
-        ensures { result ≡ no_number_news }
-    {
-        NumberNews {
-            skipped: 0,
-            began_anew: false,
-            leaves_out: None,
-        }
-    }
 }
 
 impl Numbering {
@@ -90,11 +77,11 @@ impl Numbering {
         }
     }
 
-    /// Whether a step to the very next number changes nothing of it.
-    pub(crate) fn is_settled(self) -> bool
-        ensures { result ≡ is_settled self }
+    /// Whether a step to the very next number, this one, changes nothing of it.
+    pub(crate) fn is_settled(self, arrived: u8) -> bool
+        ensures { result ≡ is_settled arrived self }
     {
-        !self.opens & (self.turns == 0)
+        !self.opens && (self.turns == 0 || arrived != self.left_out)
     }
 
     /// How many packets were lost in that step. None is where a stream begins so, nor is the number that the source is
