@@ -1,0 +1,4 @@
+pub mod Noting
+pub mod Pacing
+pub mod Running
+pub mod Auditing

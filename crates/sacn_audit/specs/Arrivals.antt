@@ -1,0 +1,45 @@
+-- The packets of one stream, those of one source on one universe: a list, the latest first.
+use Rattle.std.specs.Prelude.{ℕ, ◌+◌, ◌/◌, ◌%◌, max, Bool, ◌&&◌, ◌==◌, List, [], ◌∷◌, count_by}
+use Rattle.std.specs.List.{prefix_len}
+use Rattle.std.specs.Str.{bytes_eq}
+use Rattle.sacn_packets.specs.Data.{Data}
+
+-- a packet, and when it came
+pub record Arrival : Type 0 where
+  pub moment : ℕ
+  pub packet : Data
+
+-- the moment in use after these: the greatest that was handed in
+abbrev pub latest_moment : List Arrival → ℕ
+latest_moment [] = 0
+latest_moment (x ∷ earlier) = max x.moment (latest_moment earlier)
+
+-- these packets, each at the moment in use: none is before an earlier one
+abbrev pub in_turn : List Arrival → List Arrival
+in_turn [] = []
+in_turn (x ∷ earlier) = record { moment = latest_moment (x ∷ earlier); packet = x.packet } ∷ in_turn earlier
+
+-- the whole second of the clock that a moment in milliseconds is in
+abbrev pub second_of : ℕ → ℕ
+second_of t = t / 1000
+
+-- how many came in the second that is so many before this one
+abbrev pub packets_in : ℕ → ℕ → List Arrival → ℕ
+packets_in before second xs = count_by (λ x. second_of x.moment + before == second) xs
+
+-- a packet has the number after that of another one
+abbrev pub follows : Data → Data → Bool
+follows earlier d = d.number == (earlier.number + 1) % 256
+
+-- two packets have one start code and the same slots
+abbrev pub same_content : Data → Data → Bool
+same_content a b = (a.start == b.start) && bytes_eq a.slots b.slots
+
+-- how many in a row, the latest and those before it, have the content of the latest
+abbrev pub run : List Arrival → ℕ
+run [] = 0
+run (x ∷ earlier) = 1 + prefix_len (λ y. same_content y.packet x.packet) earlier
+
+-- how many in a row, the latest and those before it, end the stream
+abbrev pub ends : List Arrival → ℕ
+ends xs = prefix_len (λ x. x.packet.terminated) xs
