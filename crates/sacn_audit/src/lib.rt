@@ -19,3 +19,6 @@ pub use content::Content;
 pub use pace::Pace;
 pub use rule::Rule;
 pub use sight::Sight;
+
+#[cfg(test)]
+mod tests;
