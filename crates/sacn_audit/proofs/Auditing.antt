@@ -2,11 +2,11 @@
 use Rattle.std.proofs.Common.{◌≡◌, ◌<◌, ◌≤◌, ℕ, ◌+◌, ◌-◌, Bool, true, false, not, ◌&&◌, cond, List, [], ◌∷◌, min, max, nat_lt, refl, sym, ap, ◌∙◌, arith}
 use Rattle.std.proofs.lemmas.Bool.Decides.{nat_tests}
 use Rattle.sacn_audit.specs.declared.rule.Rule.{Rule}
-use Rattle.sacn_audit.specs.declared.rule.Rule.TheVariants.{TooFast, Silent, SentOnce, ShortEnd, NameNotEnded}
+use Rattle.sacn_audit.specs.declared.rule.Rule.TheVariants.{TooFast, Silent, ShortChange, ShortEnd, NameNotEnded}
 use Rattle.sacn_audit.specs.declared.breach.Breaches.{Breaches}
 use Rattle.sacn_audit.specs.declared.audit.StreamAudit.{StreamAudit}
 use Rattle.sacn_audit.specs.Arrivals.{Arrival, ends, follows, in_turn, latest_moment, packets_in, run, second_of}
-use Rattle.sacn_audit.specs.Rules.{breaks, goes_too_fast, had_short_end, leaves_name_open, moments_where, was_sent_once, was_silent}
+use Rattle.sacn_audit.specs.Rules.{breaks, goes_too_fast, had_short_end, leaves_name_open, moments_where, had_short_change, was_silent}
 use Rattle.sacn_audit.specs.Breaches.{breach_by, breach_of, no_breach, noted_if}
 use Rattle.sacn_audit.specs.Audits.{after_at, after_packet, first_audit, is_short, is_too_fast, judged, sight_of}
 use Rattle.sacn_audit.specs.Histories.{BreachesAreOfTheirPackets, ShortEndsAreOfTheirPackets, audit_by, audit_with}
@@ -18,7 +18,7 @@ abbrev breaches_of : List Arrival → Breaches
 breaches_of xs = record {
   too_fast = breach_by (moments_where goes_too_fast xs);
   silent = breach_by (moments_where was_silent xs);
-  sent_once = breach_by (moments_where was_sent_once xs);
+  short_change = breach_by (moments_where had_short_change xs);
   short_end = breach_by (moments_where had_short_end xs);
   name_not_ended = breach_by (moments_where leaves_name_open xs);
 }
@@ -40,8 +40,8 @@ audit_of x earlier = record {
 short : (n : ℕ) → is_short (min n 3) ≡ nat_lt 0 n && nat_lt n 3
 short n = grind (arith, nat_tests)
 
-once : (n : ℕ) → nat_lt (min n 3) 3 ≡ nat_lt n 3
-once n = grind (arith, nat_tests)
+few : (n : ℕ) → nat_lt (min n 3) 3 ≡ nat_lt n 3
+few n = grind (arith, nat_tests)
 
 module _ (x y : Arrival) (earlier : List Arrival) where
   abbrev ys : List Arrival
@@ -56,8 +56,8 @@ module _ (x y : Arrival) (earlier : List Arrival) where
   fast : is_too_fast (pace_of x ys) ≡ goes_too_fast (x ∷ ys)
   fast = ap (λ (b : Bool). nat_lt 44 (packets_in 1 (second_of x.moment) (x ∷ ys)) && b) (too_many (packets_in 0 (second_of x.moment) (x ∷ ys)))
 
-  sent_once : follows y.packet x.packet && nat_lt 500 (x.moment - y.moment) && nat_lt (min (run ys) 3) 3 ≡ was_sent_once (x ∷ ys)
-  sent_once = ap (λ (b : Bool). follows y.packet x.packet && nat_lt 500 (x.moment - y.moment) && b) (once (run ys))
+  short_change : follows y.packet x.packet && nat_lt 500 (x.moment - y.moment) && nat_lt (min (run ys) 3) 3 ≡ had_short_change (x ∷ ys)
+  short_change = ap (λ (b : Bool). follows y.packet x.packet && nat_lt 500 (x.moment - y.moment) && b) (few (run ys))
 
   short_end : not x.packet.terminated && is_short (min (ends ys) 3) ≡ had_short_end (x ∷ ys)
   short_end = ap (λ (b : Bool). not x.packet.terminated && b) (short (ends ys))
@@ -66,10 +66,10 @@ module _ (x y : Arrival) (earlier : List Arrival) where
   judges =
       let too_fast = noted (is_too_fast (pace_of x ys)) (goes_too_fast (x ∷ ys)) (moments_where goes_too_fast ys) fast in
       let silent = noted (was_silent (x ∷ ys)) (was_silent (x ∷ ys)) (moments_where was_silent ys) refl in
-      let once = noted (follows y.packet x.packet && nat_lt 500 (x.moment - y.moment) && nat_lt (min (run ys) 3) 3) (was_sent_once (x ∷ ys)) (moments_where was_sent_once ys) sent_once in
+      let change = noted (follows y.packet x.packet && nat_lt 500 (x.moment - y.moment) && nat_lt (min (run ys) 3) 3) (had_short_change (x ∷ ys)) (moments_where had_short_change ys) short_change in
       let end = noted (not x.packet.terminated && is_short (min (ends ys) 3)) (had_short_end (x ∷ ys)) (moments_where had_short_end ys) short_end in
       let name = noted (leaves_name_open (x ∷ ys)) (leaves_name_open (x ∷ ys)) (moments_where leaves_name_open ys) refl in
-      λ i. record { too_fast = too_fast i; silent = silent i; sent_once = once i; short_end = end i; name_not_ended = name i }
+      λ i. record { too_fast = too_fast i; silent = silent i; short_change = change i; short_end = end i; name_not_ended = name i }
 
   heard : second_of y.moment ≤ second_of x.moment → ((before second : ℕ) → second_of y.moment + before < second → packets_in before second ys ≡ 0) → after_at x.moment x.packet (audit_of y earlier) ≡ audit_of x ys
   heard ordered later =
@@ -99,7 +99,7 @@ begins x =
       pace = pace i;
       ends = ends i;
       run = 1;
-      breaches = record { too_fast = fast i; silent = no_breach; sent_once = no_breach; short_end = end i; name_not_ended = name i };
+      breaches = record { too_fast = fast i; silent = no_breach; short_change = no_breach; short_end = end i; name_not_ended = name i };
     }
 
 -- ---- packets in turn
@@ -120,7 +120,7 @@ is_audit_of x (y ∷ earlier) =
 by_rule : (rule : Rule) (xs : List Arrival) → breach_of rule (breaches_of xs) ≡ breach_by (moments_where (breaks rule) xs)
 by_rule TooFast xs = refl
 by_rule Silent xs = refl
-by_rule SentOnce xs = refl
+by_rule ShortChange xs = refl
 by_rule ShortEnd xs = refl
 by_rule NameNotEnded xs = refl
 

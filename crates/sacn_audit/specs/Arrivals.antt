@@ -1,5 +1,5 @@
 -- The packets of one stream, those of one source on one universe: a list, the latest first.
-use Rattle.std.specs.Prelude.{ℕ, ◌+◌, ◌/◌, ◌%◌, max, Bool, ◌&&◌, ◌==◌, List, [], ◌∷◌, count_by}
+use Rattle.std.specs.Prelude.{◌≤◌, ℕ, ◌+◌, ◌/◌, ◌%◌, max, Bool, ◌&&◌, ◌==◌, List, [], ◌∷◌, count_by}
 use Rattle.std.specs.List.{prefix_len}
 use Rattle.std.specs.Str.{bytes_eq}
 use Rattle.sacn_packets.specs.Data.{Data}
@@ -18,6 +18,11 @@ latest_moment (x ∷ earlier) = max x.moment (latest_moment earlier)
 abbrev pub in_turn : List Arrival → List Arrival
 in_turn [] = []
 in_turn (x ∷ earlier) = record { moment = latest_moment (x ∷ earlier); packet = x.packet } ∷ in_turn earlier
+
+-- none is before an earlier one
+abbrev pub IsInOrder : List Arrival → Type 0
+IsInOrder [] = Unit {0}
+IsInOrder (x ∷ earlier) = (latest_moment earlier ≤ x.moment) × IsInOrder earlier
 
 -- the whole second of the clock that a moment in milliseconds is in
 abbrev pub second_of : ℕ → ℕ

@@ -50,15 +50,15 @@ shows start slots a = (a.latest.start == start) && bytes_eq a.content slots
 abbrev pub is_silent : ℕ → Sight → StreamAudit → Bool
 is_silent t s a = is_after a.latest s && not a.latest.terminated && nat_lt 1000 (t - a.moment)
 
-abbrev pub is_sent_once : ℕ → Sight → StreamAudit → Bool
-is_sent_once t s a = is_after a.latest s && nat_lt 500 (t - a.moment) && nat_lt a.run 3
+abbrev pub is_short_change : ℕ → Sight → StreamAudit → Bool
+is_short_change t s a = is_after a.latest s && nat_lt 500 (t - a.moment) && nat_lt a.run 3
 
 -- where the pace counts it already
 abbrev pub judged : ℕ → Sight → StreamAudit → Breaches
 judged t s a = record {
   too_fast = noted_if (is_too_fast a.pace) t a.breaches.too_fast;
   silent = noted_if (is_silent t s a) t a.breaches.silent;
-  sent_once = noted_if (is_sent_once t s a) t a.breaches.sent_once;
+  short_change = noted_if (is_short_change t s a) t a.breaches.short_change;
   short_end = noted_if (not s.terminated && is_short a.ends) t a.breaches.short_end;
   name_not_ended = noted_if (not s.is_name_ended) t a.breaches.name_not_ended;
 }

@@ -1,7 +1,7 @@
 -- How often a rule was broken, and when.
 use Rattle.std.specs.Prelude.{ℕ, ◌+◌, ◌-◌, ◌^◌, min, Bool, ◌==◌, List, [], ◌∷◌, length, if◌then◌else◌}
 use Rattle.sacn_audit.specs.declared.rule.Rule.{Rule}
-use Rattle.sacn_audit.specs.declared.rule.Rule.TheVariants.{TooFast, Silent, SentOnce, ShortEnd, NameNotEnded}
+use Rattle.sacn_audit.specs.declared.rule.Rule.TheVariants.{TooFast, Silent, ShortChange, ShortEnd, NameNotEnded}
 use Rattle.sacn_audit.specs.declared.breach.Breach.{Breach}
 use Rattle.sacn_audit.specs.declared.breach.Breaches.{Breaches}
 
@@ -28,11 +28,11 @@ abbrev pub noted_if : Bool → ℕ → Breach → Breach
 noted_if is_broken t b = if is_broken then noted t b else b
 
 abbrev pub no_breaches : Breaches
-no_breaches = record { too_fast = no_breach; silent = no_breach; sent_once = no_breach; short_end = no_breach; name_not_ended = no_breach }
+no_breaches = record { too_fast = no_breach; silent = no_breach; short_change = no_breach; short_end = no_breach; name_not_ended = no_breach }
 
 abbrev pub breach_of : Rule → Breaches → Breach
 breach_of TooFast b = b.too_fast
 breach_of Silent b = b.silent
-breach_of SentOnce b = b.sent_once
+breach_of ShortChange b = b.short_change
 breach_of ShortEnd b = b.short_end
 breach_of NameNotEnded b = b.name_not_ended

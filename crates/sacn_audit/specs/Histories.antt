@@ -3,7 +3,7 @@ use Rattle.std.specs.Prelude.{◌≡◌, Bool, false, List, [], ◌∷◌, Optio
 use Rattle.sacn_audit.specs.declared.rule.Rule.{Rule}
 use Rattle.sacn_audit.specs.declared.breach.Breach.{Breach}
 use Rattle.sacn_audit.specs.declared.audit.StreamAudit.{StreamAudit}
-use Rattle.sacn_audit.specs.Arrivals.{Arrival, in_turn}
+use Rattle.sacn_audit.specs.Arrivals.{Arrival, IsInOrder, in_turn}
 use Rattle.sacn_audit.specs.Rules.{breaks, is_short_end, moments_where}
 use Rattle.sacn_audit.specs.Breaches.{breach_by, breach_of, no_breach}
 use Rattle.sacn_audit.specs.Audits.{after_packet, first_audit, is_short}
@@ -33,3 +33,7 @@ BreachesAreOfTheirPackets = (xs : List Arrival) (rule : Rule) → breach_in rule
 -- It says that the stream has a short end where its packets have one.
 abbrev pub ShortEndsAreOfTheirPackets : Type 0
 ShortEndsAreOfTheirPackets = (xs : List Arrival) → is_short_in (audit_by xs) ≡ is_short_end xs
+
+-- Packets of which none is before an earlier one are in turn as they are.
+abbrev pub OrderIsKept : Type 0
+OrderIsKept = (xs : List Arrival) → IsInOrder xs → in_turn xs ≡ xs

@@ -2,7 +2,7 @@
 use Rattle.std.specs.Prelude.{ℕ, ◌-◌, nat_lt, Bool, false, not, ◌&&◌, ◌==◌, List, [], ◌∷◌, if◌then◌else◌}
 use Rattle.std.specs.List.{list_any}
 use Rattle.sacn_audit.specs.declared.rule.Rule.{Rule}
-use Rattle.sacn_audit.specs.declared.rule.Rule.TheVariants.{TooFast, Silent, SentOnce, ShortEnd, NameNotEnded}
+use Rattle.sacn_audit.specs.declared.rule.Rule.TheVariants.{TooFast, Silent, ShortChange, ShortEnd, NameNotEnded}
 use Rattle.sacn_audit.specs.Arrivals.{Arrival, ends, follows, packets_in, run, second_of}
 
 -- the second before had more than 44 packets, and it is the 45th of its own
@@ -10,23 +10,23 @@ abbrev pub goes_too_fast : List Arrival → Bool
 goes_too_fast [] = false
 goes_too_fast (x ∷ earlier) = nat_lt 44 (packets_in 1 (second_of x.moment) (x ∷ earlier)) && (packets_in 0 (second_of x.moment) (x ∷ earlier) == 45)
 
--- it comes more than 1000 ms after one that it goes on from: nothing was lost in between, and the stream hadn't ended
+-- it comes more than 1000 ms after one that it follows, which doesn't end the stream: nothing was lost in between
 abbrev pub was_silent : List Arrival → Bool
 was_silent [] = false
 was_silent (x ∷ []) = false
 was_silent (x ∷ y ∷ earlier) = follows y.packet x.packet && not y.packet.terminated && nat_lt 1000 (x.moment - y.moment)
 
--- it comes more than 500 ms after one that it follows, which had its content in a row with fewer than three packets
-abbrev pub was_sent_once : List Arrival → Bool
-was_sent_once [] = false
-was_sent_once (x ∷ []) = false
-was_sent_once (x ∷ y ∷ earlier) = follows y.packet x.packet && nat_lt 500 (x.moment - y.moment) && nat_lt (run (y ∷ earlier)) 3
+-- it comes more than 500 ms after one that it follows, and fewer than three in a row had the content of that one
+abbrev pub had_short_change : List Arrival → Bool
+had_short_change [] = false
+had_short_change (x ∷ []) = false
+had_short_change (x ∷ y ∷ earlier) = follows y.packet x.packet && nat_lt 500 (x.moment - y.moment) && nat_lt (run (y ∷ earlier)) 3
 
 -- the stream has ended, with fewer than three packets that say so
 abbrev pub is_short_end : List Arrival → Bool
 is_short_end xs = nat_lt 0 (ends xs) && nat_lt (ends xs) 3
 
--- it goes on where the stream had ended so
+-- it goes on with a stream that had ended so
 abbrev pub had_short_end : List Arrival → Bool
 had_short_end [] = false
 had_short_end (x ∷ earlier) = not x.packet.terminated && is_short_end earlier
@@ -39,7 +39,7 @@ leaves_name_open (x ∷ earlier) = not (list_any (λ octet. octet == 0) x.packet
 abbrev pub breaks : Rule → List Arrival → Bool
 breaks TooFast xs = goes_too_fast xs
 breaks Silent xs = was_silent xs
-breaks SentOnce xs = was_sent_once xs
+breaks ShortChange xs = had_short_change xs
 breaks ShortEnd xs = had_short_end xs
 breaks NameNotEnded xs = leaves_name_open xs
 

@@ -2,7 +2,7 @@
 
 ghost use Rattle.std.specs.Prelude.{◌≡◌};
 ghost use Rattle.sacn_audit.specs.Breaches.{breach_of};
-ghost use Rattle.sacn_audit.specs.Audits.{after_packet, ends_after, first_audit, is_sent_once, is_short, is_silent, judged, run_after, shows};
+ghost use Rattle.sacn_audit.specs.Audits.{after_packet, ends_after, first_audit, is_short_change, is_short, is_silent, judged, run_after, shows};
 
 use crate::breach::{Breach, Breaches};
 use crate::content::Content;
@@ -98,12 +98,12 @@ impl StreamAudit {
         ensures { self.new ≡ (record self.old { breaches = judged moment sight self.old }) }
     {
         let is_silent = self.is_silent(moment, sight);
-        let is_sent_once = self.is_sent_once(moment, sight);
+        let is_short_change = self.is_short_change(moment, sight);
         let had_short_end = !sight.terminated & self.is_short_end();
         let is_too_fast = self.pace.is_too_fast();
         self.breaches.too_fast.note_if(is_too_fast, moment);
         self.breaches.silent.note_if(is_silent, moment);
-        self.breaches.sent_once.note_if(is_sent_once, moment);
+        self.breaches.short_change.note_if(is_short_change, moment);
         self.breaches.short_end.note_if(had_short_end, moment);
         self.breaches
             .name_not_ended
@@ -120,8 +120,8 @@ impl StreamAudit {
     }
 
     // Whether the latest content wasn't repeated.
-    fn is_sent_once(&self, moment: u64, sight: Sight) -> bool
-        ensures { result ≡ is_sent_once moment sight self.now }
+    fn is_short_change(&self, moment: u64, sight: Sight) -> bool
+        ensures { result ≡ is_short_change moment sight self.now }
     {
         sight.is_after(self.latest)
             & (moment.saturating_sub(self.moment) > LONGEST_REPEAT)

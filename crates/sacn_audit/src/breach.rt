@@ -56,8 +56,8 @@ pub struct Breaches {
     pub too_fast: Breach,
     /// Of `Rule::Silent`.
     pub silent: Breach,
-    /// Of `Rule::SentOnce`.
-    pub sent_once: Breach,
+    /// Of `Rule::ShortChange`.
+    pub short_change: Breach,
     /// Of `Rule::ShortEnd`.
     pub short_end: Breach,
     /// Of `Rule::NameNotEnded`.
@@ -72,7 +72,7 @@ impl Breaches {
         Breaches {
             too_fast: Breach::none(),
             silent: Breach::none(),
-            sent_once: Breach::none(),
+            short_change: Breach::none(),
             short_end: Breach::none(),
             name_not_ended: Breach::none(),
         }
@@ -85,7 +85,7 @@ impl Breaches {
         match rule {
             Rule::TooFast => self.too_fast,
             Rule::Silent => self.silent,
-            Rule::SentOnce => self.sent_once,
+            Rule::ShortChange => self.short_change,
             Rule::ShortEnd => self.short_end,
             Rule::NameNotEnded => self.name_not_ended,
         }

@@ -190,16 +190,16 @@ fn a_change_is_sent_three_times(rt: HostRuntime) {
     stream.send(1975, 30);
     stream.send(2475, 30);
     stream.send(2500, 30);
-    assert!(rt; stream.breach_of(Rule::SentOnce) == Breach::none());
+    assert!(rt; stream.breach_of(Rule::ShortChange) == Breach::none());
     stream.send(2525, 40);
     stream.send(3026, 40);
-    assert!(rt; stream.breach_of(Rule::SentOnce) == broken(1, 3026, 3026));
+    assert!(rt; stream.breach_of(Rule::ShortChange) == broken(1, 3026, 3026));
     stream.hand(3050, 0xDD, 40, false);
     stream.lose();
     stream.send(3950, 40);
-    assert!(rt; stream.breach_of(Rule::SentOnce) == broken(1, 3026, 3026));
+    assert!(rt; stream.breach_of(Rule::ShortChange) == broken(1, 3026, 3026));
     stream.hand(4000, 0xDD, 40, false);
     stream.hand(4025, 0xDD, 40, false);
     stream.send(4900, 40);
-    assert!(rt; stream.breach_of(Rule::SentOnce) == broken(2, 3026, 4900));
+    assert!(rt; stream.breach_of(Rule::ShortChange) == broken(2, 3026, 4900));
 }
