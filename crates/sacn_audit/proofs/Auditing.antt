@@ -5,14 +5,14 @@ use Rattle.sacn_audit.specs.declared.rule.Rule.{Rule}
 use Rattle.sacn_audit.specs.declared.rule.Rule.TheVariants.{TooFast, Silent, ShortChange, ShortEnd, NameNotEnded}
 use Rattle.sacn_audit.specs.declared.breach.Breaches.{Breaches}
 use Rattle.sacn_audit.specs.declared.audit.StreamAudit.{StreamAudit}
-use Rattle.sacn_audit.specs.Arrivals.{Arrival, ends, follows, in_turn, latest_moment, packets_in, run, second_of}
+use Rattle.sacn_audit.specs.Arrivals.{Arrival, ends, follows, in_turn, latest_moment, packets_in, second_of}
 use Rattle.sacn_audit.specs.Rules.{breaks, goes_too_fast, had_short_end, leaves_name_open, moments_where, had_short_change, was_silent}
 use Rattle.sacn_audit.specs.Breaches.{breach_by, breach_of, no_breach, noted_if}
 use Rattle.sacn_audit.specs.Audits.{after_at, after_packet, first_audit, is_short, is_too_fast, judged, sight_of}
 use Rattle.sacn_audit.specs.Histories.{BreachesAreOfTheirPackets, ShortEndsAreOfTheirPackets, audit_by, audit_with}
 use Rattle.sacn_audit.proofs.Noting.{noted_by}
 use Rattle.sacn_audit.proofs.Pacing.{first_paced, first_slow, in_order, none_later, pace_of, paced, too_many}
-use Rattle.sacn_audit.proofs.Running.{ends_in_turn, ends_more, run_more}
+use Rattle.sacn_audit.proofs.Running.{copies, copies_more, ends_in_turn, ends_more, some_copies}
 
 abbrev breaches_of : List Arrival → Breaches
 breaches_of xs = record {
@@ -31,7 +31,7 @@ audit_of x earlier = record {
   content = x.packet.slots;
   pace = pace_of x earlier;
   ends = min (ends (x ∷ earlier)) 3;
-  run = min (run (x ∷ earlier)) 3;
+  copies = copies (x ∷ earlier);
   breaches = breaches_of (x ∷ earlier);
 }
 
@@ -39,9 +39,6 @@ audit_of x earlier = record {
 
 short : (n : ℕ) → is_short (min n 3) ≡ nat_lt 0 n && nat_lt n 3
 short n = grind (arith, nat_tests)
-
-few : (n : ℕ) → nat_lt (min n 3) 3 ≡ nat_lt n 3
-few n = grind (arith, nat_tests)
 
 module _ (x y : Arrival) (earlier : List Arrival) where
   abbrev ys : List Arrival
@@ -56,8 +53,8 @@ module _ (x y : Arrival) (earlier : List Arrival) where
   fast : is_too_fast (pace_of x ys) ≡ goes_too_fast (x ∷ ys)
   fast = ap (λ (b : Bool). nat_lt 44 (packets_in 1 (second_of x.moment) (x ∷ ys)) && b) (too_many (packets_in 0 (second_of x.moment) (x ∷ ys)))
 
-  short_change : follows y.packet x.packet && nat_lt 500 (x.moment - y.moment) && nat_lt (min (run ys) 3) 3 ≡ had_short_change (x ∷ ys)
-  short_change = ap (λ (b : Bool). follows y.packet x.packet && nat_lt 500 (x.moment - y.moment) && b) (few (run ys))
+  short_change : follows y.packet x.packet && not y.packet.terminated && nat_lt 500 (x.moment - y.moment) && nat_lt 0 (copies ys) ≡ had_short_change (x ∷ ys)
+  short_change = ap (λ (b : Bool). follows y.packet x.packet && not y.packet.terminated && nat_lt 500 (x.moment - y.moment) && b) (some_copies y earlier)
 
   short_end : not x.packet.terminated && is_short (min (ends ys) 3) ≡ had_short_end (x ∷ ys)
   short_end = ap (λ (b : Bool). not x.packet.terminated && b) (short (ends ys))
@@ -66,7 +63,7 @@ module _ (x y : Arrival) (earlier : List Arrival) where
   judges =
       let too_fast = noted (is_too_fast (pace_of x ys)) (goes_too_fast (x ∷ ys)) (moments_where goes_too_fast ys) fast in
       let silent = noted (was_silent (x ∷ ys)) (was_silent (x ∷ ys)) (moments_where was_silent ys) refl in
-      let change = noted (follows y.packet x.packet && nat_lt 500 (x.moment - y.moment) && nat_lt (min (run ys) 3) 3) (had_short_change (x ∷ ys)) (moments_where had_short_change ys) short_change in
+      let change = noted (follows y.packet x.packet && not y.packet.terminated && nat_lt 500 (x.moment - y.moment) && nat_lt 0 (copies ys)) (had_short_change (x ∷ ys)) (moments_where had_short_change ys) short_change in
       let end = noted (not x.packet.terminated && is_short (min (ends ys) 3)) (had_short_end (x ∷ ys)) (moments_where had_short_end ys) short_end in
       let name = noted (leaves_name_open (x ∷ ys)) (leaves_name_open (x ∷ ys)) (moments_where leaves_name_open ys) refl in
       λ i. record { too_fast = too_fast i; silent = silent i; short_change = change i; short_end = end i; name_not_ended = name i }
@@ -75,9 +72,9 @@ module _ (x y : Arrival) (earlier : List Arrival) where
   heard ordered later =
       let pace = paced x y earlier ordered later in
       let ends = ends_more x ys in
-      let run = run_more x y earlier in
+      let copied = copies_more x y earlier in
       let breaches = ap (λ p. judged x.moment (sight_of x.packet) (record (audit_of y earlier) { pace = p })) pace ∙ judges in
-      λ i. record { moment = x.moment; latest = sight_of x.packet; content = x.packet.slots; pace = pace i; ends = ends i; run = run i; breaches = breaches i }
+      λ i. record { moment = x.moment; latest = sight_of x.packet; content = x.packet.slots; pace = pace i; ends = ends i; copies = copied i; breaches = breaches i }
 
 -- ---- the first packet
 
@@ -98,7 +95,7 @@ begins x =
       content = x.packet.slots;
       pace = pace i;
       ends = ends i;
-      run = 1;
+      copies = 0;
       breaches = record { too_fast = fast i; silent = no_breach; short_change = no_breach; short_end = end i; name_not_ended = name i };
     }
 

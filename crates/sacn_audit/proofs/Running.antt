@@ -1,12 +1,9 @@
--- Packets in a row: those that end a stream, and those of one content.
-use Rattle.std.proofs.Common.{◌≡◌, ℕ, ◌+◌, Bool, true, false, ◌&&◌, ◌==◌, cond, List, [], ◌∷◌, min, refl, sym, ap, ◌∙◌, arith}
-use Rattle.std.proofs.lemmas.Bool.{eqb-true}
-use Rattle.std.proofs.lemmas.Slice.Eq.{bytes_eq-Decides}
-use Rattle.std.specs.List.{prefix_len}
+-- Packets in a row: those that end a stream, and those with levels that have changed.
+use Rattle.std.proofs.Common.{◌≡◌, ℕ, ◌+◌, nat_lt, Bool, true, false, not, ◌&&◌, ◌||◌, ◌==◌, cond, List, [], ◌∷◌, min, refl, ap, arith}
 use Rattle.std.specs.Str.{bytes_eq}
-use Rattle.sacn_packets.specs.Data.{Data}
-use Rattle.sacn_audit.specs.Arrivals.{Arrival, ends, in_turn, run, same_content}
-use Rattle.sacn_audit.specs.Audits.{ends_after, run_after}
+use Rattle.sacn_audit.specs.Arrivals.{Arrival, changes, ends, goes_on, in_turn, repeats}
+use Rattle.sacn_audit.specs.Audits.{copies_after, ends_after}
+use Rattle.sacn_audit.specs.Rules.{is_short_change}
 
 one_more : (n : ℕ) → min (min n 3 + 1) 3 ≡ min (1 + n) 3
 one_more n = omega arith
@@ -22,26 +19,28 @@ pub ends_in_turn : (xs : List Arrival) → ends (in_turn xs) ≡ ends xs
 ends_in_turn [] = refl
 ends_in_turn (x ∷ xs) = ap (λ (n : ℕ). cond x.packet.terminated (1 + n) 0) (ends_in_turn xs)
 
--- ---- of one content
+-- ---- levels that have changed
 
-both : (a b : Bool) → a && b ≡ true → (a ≡ true) × (b ≡ true)
-both true b e = (refl, e)
-both false b e = absurd cc
+-- so many packets have them: none where that isn't seen, or where three have them
+abbrev pub copies_by : Bool → Bool → ℕ
+copies_by changes repeats = cond changes 1 (cond repeats 2 0)
 
--- what has the content of the one has that of the other
-abbrev has_content_of : Data → Arrival → Bool
-has_content_of d z = same_content z.packet d
+abbrev pub copies : List Arrival → ℕ
+copies [] = 0
+copies (x ∷ earlier) = copies_by (changes (x ∷ earlier)) (repeats (x ∷ earlier) && changes earlier)
 
-alike : (a b : Data) → same_content a b ≡ true → has_content_of b ≡ has_content_of a
-alike a b same =
-    let parts = both (a.start == b.start) (bytes_eq a.slots b.slots) same in
-    let start = sym (eqb-true a.start b.start parts.0) in
-    let slots = sym ((bytes_eq-Decides a.slots b.slots).0 parts.1) in
-    λ i. λ (z : Arrival). (z.packet.start == start i) && bytes_eq z.packet.slots (slots i)
+is_first : (changes repeats : Bool) → (copies_by changes repeats == 1) ≡ changes
+is_first true repeats = refl
+is_first false true = refl
+is_first false false = refl
 
-run_by : (x y : Arrival) (earlier : List Arrival) (same : Bool) → same_content y.packet x.packet ≡ same → run_after same (min (run (y ∷ earlier)) 3) ≡ min (1 + cond same (1 + prefix_len (λ (z : Arrival). same_content z.packet x.packet) earlier) 0) 3
-run_by x y earlier true same = one_more (run (y ∷ earlier)) ∙ ap (λ (p : Arrival → Bool). min (1 + (1 + prefix_len p earlier)) 3) (sym (alike y.packet x.packet same))
-run_by x y earlier false same = refl
+pub copies_more : (x y : Arrival) (earlier : List Arrival) → copies_after (goes_on y.packet x.packet) (bytes_eq y.packet.slots x.packet.slots) (copies (y ∷ earlier)) ≡ copies (x ∷ y ∷ earlier)
+copies_more x y earlier = ap (λ (b : Bool). copies_by (changes (x ∷ y ∷ earlier)) (repeats (x ∷ y ∷ earlier) && b)) (is_first (changes (y ∷ earlier)) (repeats (y ∷ earlier) && changes earlier))
 
-pub run_more : (x y : Arrival) (earlier : List Arrival) → run_after (same_content y.packet x.packet) (min (run (y ∷ earlier)) 3) ≡ min (run (x ∷ y ∷ earlier)) 3
-run_more x y earlier = run_by x y earlier (same_content y.packet x.packet) refl
+some_by : (changes repeats : Bool) → nat_lt 0 (copies_by changes repeats) ≡ changes || repeats
+some_by true repeats = refl
+some_by false true = refl
+some_by false false = refl
+
+pub some_copies : (x : Arrival) (earlier : List Arrival) → nat_lt 0 (copies (x ∷ earlier)) ≡ is_short_change (x ∷ earlier)
+some_copies x earlier = some_by (changes (x ∷ earlier)) (repeats (x ∷ earlier) && changes earlier)

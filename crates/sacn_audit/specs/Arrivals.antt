@@ -1,5 +1,5 @@
 -- The packets of one stream, those of one source on one universe: a list, the latest first.
-use Rattle.std.specs.Prelude.{◌≤◌, ℕ, ◌+◌, ◌/◌, ◌%◌, max, Bool, ◌&&◌, ◌==◌, List, [], ◌∷◌, count_by}
+use Rattle.std.specs.Prelude.{◌≤◌, ℕ, ◌+◌, ◌/◌, ◌%◌, max, Bool, false, not, ◌&&◌, ◌==◌, List, [], ◌∷◌, count_by}
 use Rattle.std.specs.List.{prefix_len}
 use Rattle.std.specs.Str.{bytes_eq}
 use Rattle.sacn_packets.specs.Data.{Data}
@@ -36,14 +36,20 @@ packets_in before second xs = count_by (λ x. second_of x.moment + before == sec
 abbrev pub follows : Data → Data → Bool
 follows earlier d = d.number == (earlier.number + 1) % 256
 
--- two packets have one start code and the same slots
-abbrev pub same_content : Data → Data → Bool
-same_content a b = (a.start == b.start) && bytes_eq a.slots b.slots
+-- a packet comes right after another one, and both have levels of a stream that goes on: nothing was lost in between
+abbrev pub goes_on : Data → Data → Bool
+goes_on earlier d = follows earlier d && not earlier.terminated && (earlier.start == 0) && (d.start == 0)
 
--- how many in a row, the latest and those before it, have the content of the latest
-abbrev pub run : List Arrival → ℕ
-run [] = 0
-run (x ∷ earlier) = 1 + prefix_len (λ y. same_content y.packet x.packet) earlier
+-- the latest packet goes on with other levels than the one before it; with the same ones
+abbrev pub changes : List Arrival → Bool
+changes [] = false
+changes (x ∷ []) = false
+changes (x ∷ y ∷ earlier) = goes_on y.packet x.packet && not (bytes_eq y.packet.slots x.packet.slots)
+
+abbrev pub repeats : List Arrival → Bool
+repeats [] = false
+repeats (x ∷ []) = false
+repeats (x ∷ y ∷ earlier) = goes_on y.packet x.packet && bytes_eq y.packet.slots x.packet.slots
 
 -- how many in a row, the latest and those before it, end the stream
 abbrev pub ends : List Arrival → ℕ

@@ -39,19 +39,20 @@ ends_after terminated n = if terminated then min (n + 1) 3 else 0
 abbrev pub is_short : ℕ → Bool
 is_short n = nat_lt 0 n && nat_lt n 3
 
-abbrev pub run_after : Bool → ℕ → ℕ
-run_after is_same n = if is_same then min (n + 1) 3 else 1
+-- the packets so far with levels that have changed: none where that wasn't seen, or where three have them
+abbrev pub copies_after : Bool → Bool → ℕ → ℕ
+copies_after goes_on is_same n = if goes_on && not is_same then 1 else (if (goes_on && is_same) && (n == 1) then 2 else 0)
 
 -- ---- what a packet that is seen at t breaks
 
-abbrev pub shows : ℕ → List ℕ → StreamAudit → Bool
-shows start slots a = (a.latest.start == start) && bytes_eq a.content slots
+abbrev pub carries_on : Sight → Sight → Bool
+carries_on earlier s = is_after earlier s && not earlier.terminated && (earlier.start == 0) && (s.start == 0)
 
 abbrev pub is_silent : ℕ → Sight → StreamAudit → Bool
 is_silent t s a = is_after a.latest s && not a.latest.terminated && nat_lt 1000 (t - a.moment)
 
 abbrev pub is_short_change : ℕ → Sight → StreamAudit → Bool
-is_short_change t s a = is_after a.latest s && nat_lt 500 (t - a.moment) && nat_lt a.run 3
+is_short_change t s a = is_after a.latest s && not a.latest.terminated && nat_lt 500 (t - a.moment) && nat_lt 0 a.copies
 
 -- where the pace counts it already
 abbrev pub judged : ℕ → Sight → StreamAudit → Breaches
@@ -72,7 +73,7 @@ first_audit t d = record {
   content = d.slots;
   pace = first_pace t;
   ends = ends_after d.terminated 0;
-  run = 1;
+  copies = 0;
   breaches = record no_breaches { name_not_ended = noted_if (not (sight_of d).is_name_ended) t no_breaches.name_not_ended };
 }
 
@@ -83,7 +84,7 @@ after_at t d a = record {
   content = d.slots;
   pace = pace_after t a.pace;
   ends = ends_after d.terminated a.ends;
-  run = run_after (shows d.start d.slots a) a.run;
+  copies = copies_after (carries_on a.latest (sight_of d)) (bytes_eq a.content d.slots) a.copies;
   breaches = judged t (sight_of d) (record a { pace = pace_after t a.pace });
 }
 

@@ -1,9 +1,9 @@
 -- The rules: which packets break them, by what came before these. A test looks at a list whose first packet breaks its rule.
-use Rattle.std.specs.Prelude.{ℕ, ◌-◌, nat_lt, Bool, false, not, ◌&&◌, ◌==◌, List, [], ◌∷◌, if◌then◌else◌}
+use Rattle.std.specs.Prelude.{ℕ, ◌-◌, nat_lt, Bool, false, not, ◌&&◌, ◌||◌, ◌==◌, List, [], ◌∷◌, if◌then◌else◌}
 use Rattle.std.specs.List.{list_any}
 use Rattle.sacn_audit.specs.declared.rule.Rule.{Rule}
 use Rattle.sacn_audit.specs.declared.rule.Rule.TheVariants.{TooFast, Silent, ShortChange, ShortEnd, NameNotEnded}
-use Rattle.sacn_audit.specs.Arrivals.{Arrival, ends, follows, packets_in, run, second_of}
+use Rattle.sacn_audit.specs.Arrivals.{Arrival, changes, ends, follows, packets_in, repeats, second_of}
 
 -- the second before had more than 44 packets, and it is the 45th of its own
 abbrev pub goes_too_fast : List Arrival → Bool
@@ -16,11 +16,16 @@ was_silent [] = false
 was_silent (x ∷ []) = false
 was_silent (x ∷ y ∷ earlier) = follows y.packet x.packet && not y.packet.terminated && nat_lt 1000 (x.moment - y.moment)
 
--- it comes more than 500 ms after one that it follows, and fewer than three in a row had the content of that one
+-- the levels of the latest packet have changed, and it is the first or the second that has them
+abbrev pub is_short_change : List Arrival → Bool
+is_short_change [] = false
+is_short_change (x ∷ earlier) = changes (x ∷ earlier) || (repeats (x ∷ earlier) && changes earlier)
+
+-- it comes more than 500 ms after one that it goes on from, whose levels had changed so
 abbrev pub had_short_change : List Arrival → Bool
 had_short_change [] = false
 had_short_change (x ∷ []) = false
-had_short_change (x ∷ y ∷ earlier) = follows y.packet x.packet && nat_lt 500 (x.moment - y.moment) && nat_lt (run (y ∷ earlier)) 3
+had_short_change (x ∷ y ∷ earlier) = follows y.packet x.packet && not y.packet.terminated && nat_lt 500 (x.moment - y.moment) && is_short_change (y ∷ earlier)
 
 -- the stream has ended, with fewer than three packets that say so
 abbrev pub is_short_end : List Arrival → Bool

@@ -2,7 +2,7 @@
 
 ghost use Rattle.std.specs.Prelude.{◌≡◌};
 ghost use Rattle.sacn_audit.specs.Breaches.{breach_of};
-ghost use Rattle.sacn_audit.specs.Audits.{after_packet, ends_after, first_audit, is_short_change, is_short, is_silent, judged, run_after, shows};
+ghost use Rattle.sacn_audit.specs.Audits.{after_packet, ends_after, first_audit, is_short_change, is_short, is_silent, judged, copies_after};
 
 use crate::breach::{Breach, Breaches};
 use crate::content::Content;
@@ -26,8 +26,8 @@ pub struct StreamAudit {
     pace: Pace,
     // The latest packets in a row that end the stream: 3 for three or more.
     ends: u8,
-    // The latest packets in a row with the content of the latest: 3 for three or more.
-    run: u8,
+    // The packets so far with the latest levels, where these were seen to change: 0 once three have them.
+    copies: u8,
     breaches: Breaches,
 }
 
@@ -47,7 +47,7 @@ impl StreamAudit {
             content: Content::of(packet.slots()),
             pace: Pace::begin(moment),
             ends: ends_after(sight.terminated, 0),
-            run: 1,
+            copies: 0,
             breaches,
         }
     }
@@ -59,13 +59,13 @@ impl StreamAudit {
         let moment = moment.max(self.moment);
         let sight = Sight::of(packet);
         let slots = packet.slots();
-        let is_same = self.shows(sight.start, slots);
+        let is_same = self.content.is_same(slots);
         self.pace.count(moment);
         self.judge(moment, sight);
+        self.copies = copies_after(sight.carries_on(self.latest), is_same, self.copies);
         self.moment = moment;
         self.latest = sight;
         self.ends = ends_after(sight.terminated, self.ends);
-        self.run = run_after(is_same, self.run);
         if !is_same {
             self.content.set(slots);
         }
@@ -84,13 +84,6 @@ impl StreamAudit {
         ensures { result ≡ is_short self.now.ends }
     {
         0 < self.ends && self.ends < COPIES
-    }
-
-    // Whether the latest packet has this start code and these slots.
-    fn shows(&self, start: u8, slots: &[u8]) -> bool
-        ensures { result ≡ shows start slots.now self.now }
-    {
-        (self.latest.start == start) & self.content.is_same(slots)
     }
 
     // Notes which rules a packet breaks. The pace counts it already, and all else is of those before it.
@@ -124,8 +117,9 @@ impl StreamAudit {
         ensures { result ≡ is_short_change moment sight self.now }
     {
         sight.is_after(self.latest)
+            & !self.latest.terminated
             & (moment.saturating_sub(self.moment) > LONGEST_REPEAT)
-            & (self.run < COPIES)
+            & (self.copies > 0)
     }
 }
 
@@ -140,13 +134,13 @@ fn ends_after(terminated: bool, ends: u8) -> u8
     }
 }
 
-// The packets in a row of one content, after one more: 3 for three or more.
-fn run_after(is_same: bool, run: u8) -> u8
-    ensures { result ≡ run_after is_same run }
+// The packets with levels that have changed, after one more, which goes on from the latest or doesn't, with its slots or with others.
+fn copies_after(goes_on: bool, is_same: bool, copies: u8) -> u8
+    ensures { result ≡ copies_after goes_on is_same copies }
 {
-    if is_same {
-        run.saturating_add(1).min(COPIES)
-    } else {
-        1
+    match (goes_on, is_same) {
+        (true, false) => 1,
+        (true, true) if copies == 1 => 2,
+        _ => 0,
     }
 }

@@ -2,7 +2,7 @@
 
 ghost use Rattle.std.specs.Prelude.{◌≡◌, ◌==◌};
 ghost use Rattle.std.specs.List.{list_any};
-ghost use Rattle.sacn_audit.specs.Audits.{sight_of, is_after};
+ghost use Rattle.sacn_audit.specs.Audits.{carries_on, sight_of, is_after};
 
 use sacn_packets::DataView;
 
@@ -37,6 +37,13 @@ impl Sight {
         ensures { result ≡ is_after earlier self }
     {
         self.number == earlier.number.wrapping_add(1)
+    }
+
+    /// Whether it comes right after an earlier packet, and both have levels of a stream that goes on.
+    pub(crate) fn carries_on(self, earlier: Self) -> bool
+        ensures { result ≡ carries_on earlier self }
+    {
+        self.is_after(earlier) & !earlier.terminated & (earlier.start == 0) & (self.start == 0)
     }
 }
 

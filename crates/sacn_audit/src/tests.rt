@@ -198,8 +198,27 @@ fn a_change_is_sent_three_times(rt: HostRuntime) {
     stream.lose();
     stream.send(3950, 40);
     assert!(rt; stream.breach_of(Rule::ShortChange) == broken(1, 3026, 3026));
-    stream.hand(4000, 0xDD, 40, false);
-    stream.hand(4025, 0xDD, 40, false);
-    stream.send(4900, 40);
-    assert!(rt; stream.breach_of(Rule::ShortChange) == broken(2, 3026, 4900));
+    stream.send(4000, 50);
+    stream.send(4025, 50);
+    stream.send(4600, 50);
+    assert!(rt; stream.breach_of(Rule::ShortChange) == broken(2, 3026, 4600));
+}
+
+#[test]
+fn what_does_not_go_on_is_no_short_change(rt: HostRuntime) {
+    let mut stream = Stream::new();
+    // a recording may begin with the latest repeat of a change
+    stream.send(0, 10);
+    stream.send(900, 10);
+    stream.send(1800, 10);
+    // priorities for slots beside the levels, in the same numbers
+    stream.hand(1825, 0xDD, 100, false);
+    stream.send(1850, 20);
+    stream.hand(1875, 0xDD, 100, false);
+    stream.send(2750, 20);
+    // an end, of one packet, and a stream that begins anew
+    stream.end(2775);
+    stream.send(3600, 30);
+    assert!(rt; stream.breach_of(Rule::ShortChange) == Breach::none());
+    assert!(rt; stream.breach_of(Rule::ShortEnd) == broken(1, 3600, 3600));
 }
