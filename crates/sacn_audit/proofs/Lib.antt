@@ -1,0 +1,5 @@
+pub mod Noting
+pub mod Ordering
+pub mod Pacing
+pub mod Running
+pub mod Auditing

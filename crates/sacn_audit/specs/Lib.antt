@@ -1,0 +1,5 @@
+pub mod Arrivals
+pub mod Rules
+pub mod Breaches
+pub mod Audits
+pub mod Histories

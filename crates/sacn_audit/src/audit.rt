@@ -1,0 +1,146 @@
+//! The audit of one stream.
+
+ghost use Rattle.std.specs.Prelude.{◌≡◌};
+ghost use Rattle.sacn_audit.specs.Breaches.{breach_of};
+ghost use Rattle.sacn_audit.specs.Audits.{after_packet, ends_after, first_audit, is_short_change, is_short, is_silent, judged, copies_after};
+
+use crate::breach::{Breach, Breaches};
+use crate::content::Content;
+use crate::limits::{COPIES, LONGEST_GAP, LONGEST_REPEAT};
+use crate::pace::Pace;
+use crate::rule::Rule;
+use crate::sight::Sight;
+use sacn_packets::DataView;
+
+/// Which rules the packets of one stream break: those of one source on one universe. No call takes memory.
+///
+/// Moments are in milliseconds of one clock, and are handed in so that none is before an earlier one; one that is counts as the
+/// latest.
+#[derive(Drop)]
+pub struct StreamAudit {
+    // The moment of the latest packet.
+    moment: u64,
+    // The latest packet, and its slots.
+    latest: Sight,
+    content: Content,
+    pace: Pace,
+    // The latest packets in a row that end the stream: 3 for three or more.
+    ends: u8,
+    // The packets so far with the latest levels, where these were seen to change: 0 once three have them.
+    copies: u8,
+    breaches: Breaches,
+}
+
+impl StreamAudit {
+    /// The audit of a stream whose first packet this is.
+    pub fn begin(moment: u64, packet: &DataView<'_>) -> Self
+        ensures { result ≡ first_audit moment packet.now }
+    {
+        let sight = Sight::of(packet);
+        let mut breaches = Breaches::none();
+        breaches
+            .name_not_ended
+            .note_if(!sight.is_name_ended, moment);
+        StreamAudit {
+            moment,
+            latest: sight,
+            content: Content::of(packet.slots()),
+            pace: Pace::begin(moment),
+            ends: ends_after(sight.terminated, 0),
+            copies: 0,
+            breaches,
+        }
+    }
+
+    /// One packet more.
+    pub fn hear(&mut self, moment: u64, packet: &DataView<'_>)
+        ensures { self.new ≡ after_packet moment packet.now self.old }
+    {
+        let moment = moment.max(self.moment);
+        let sight = Sight::of(packet);
+        let slots = packet.slots();
+        let is_same = self.content.is_same(slots);
+        self.pace.count(moment);
+        self.judge(moment, sight);
+        self.copies = copies_after(sight.carries_on(self.latest), is_same, self.copies);
+        self.moment = moment;
+        self.latest = sight;
+        self.ends = ends_after(sight.terminated, self.ends);
+        if !is_same {
+            self.content.set(slots);
+        }
+    }
+
+    /// How often a rule was broken, and when.
+    pub fn breach_of(&self, rule: Rule) -> Breach
+        ensures { result ≡ breach_of rule self.now.breaches }
+    {
+        self.breaches.of(rule)
+    }
+
+    /// Whether the stream has ended by now with fewer than three packets that end it (E1.31, 6.2.6). Where nothing follows, this
+    /// is a breach of `Rule::ShortEnd` that isn't counted yet.
+    pub fn is_short_end(&self) -> bool
+        ensures { result ≡ is_short self.now.ends }
+    {
+        0 < self.ends && self.ends < COPIES
+    }
+
+    // Notes which rules a packet breaks. The pace counts it already, and all else is of those before it.
+    fn judge(&mut self, moment: u64, sight: Sight)
+        ensures { self.new ≡ (record self.old { breaches = judged moment sight self.old }) }
+    {
+        let is_silent = self.is_silent(moment, sight);
+        let is_short_change = self.is_short_change(moment, sight);
+        let had_short_end = !sight.terminated & self.is_short_end();
+        let is_too_fast = self.pace.is_too_fast();
+        self.breaches.too_fast.note_if(is_too_fast, moment);
+        self.breaches.silent.note_if(is_silent, moment);
+        self.breaches.short_change.note_if(is_short_change, moment);
+        self.breaches.short_end.note_if(had_short_end, moment);
+        self.breaches
+            .name_not_ended
+            .note_if(!sight.is_name_ended, moment);
+    }
+
+    // Whether the stream went on after too long a silence.
+    fn is_silent(&self, moment: u64, sight: Sight) -> bool
+        ensures { result ≡ is_silent moment sight self.now }
+    {
+        sight.is_after(self.latest)
+            & !self.latest.terminated
+            & (moment.saturating_sub(self.moment) > LONGEST_GAP)
+    }
+
+    // Whether the latest content wasn't repeated.
+    fn is_short_change(&self, moment: u64, sight: Sight) -> bool
+        ensures { result ≡ is_short_change moment sight self.now }
+    {
+        sight.is_after(self.latest)
+            & !self.latest.terminated
+            & (moment.saturating_sub(self.moment) > LONGEST_REPEAT)
+            & (self.copies > 0)
+    }
+}
+
+// The packets in a row that end the stream, after one more: 3 for three or more.
+fn ends_after(terminated: bool, ends: u8) -> u8
+    ensures { result ≡ ends_after terminated ends }
+{
+    if terminated {
+        ends.saturating_add(1).min(COPIES)
+    } else {
+        0
+    }
+}
+
+// The packets with levels that have changed, after one more, which goes on from the latest or doesn't, with its slots or with others.
+fn copies_after(goes_on: bool, is_same: bool, copies: u8) -> u8
+    ensures { result ≡ copies_after goes_on is_same copies }
+{
+    match (goes_on, is_same) {
+        (true, false) => 1,
+        (true, true) if copies == 1 => 2,
+        _ => 0,
+    }
+}

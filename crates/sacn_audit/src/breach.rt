@@ -1,0 +1,93 @@
+//! How often a rule was broken, and when.
+
+ghost use Rattle.std.specs.Prelude.{◌≡◌};
+ghost use Rattle.sacn_audit.specs.Breaches.{breach_of, no_breach, no_breaches, noted, noted_if};
+
+use crate::rule::Rule;
+
+/// How often a rule was broken, and when. Moments are in milliseconds; all are 0 where it wasn't.
+#[derive(Clone, Copy, PartialEq, Eq)]
+pub struct Breach {
+    /// So many times, at most 2^64 - 1.
+    pub times: u64,
+    /// The moment of the first time.
+    pub first: u64,
+    /// The moment of the latest time.
+    pub latest: u64,
+}
+
+impl Breach {
+    /// A rule that wasn't broken yet.
+    pub fn none() -> Self
+        ensures { result ≡ no_breach }
+    {
+        Breach {
+            times: 0,
+            first: 0,
+            latest: 0,
+        }
+    }
+
+    /// It was broken once more, at this moment.
+    pub fn note(&mut self, moment: u64)
+        ensures { self.new ≡ noted moment self.old }
+    {
+        if self.times == 0 {
+            self.first = moment;
+        }
+        self.times = self.times.saturating_add(1);
+        self.latest = moment;
+    }
+
+    /// It was broken once more, if it was.
+    pub(crate) fn note_if(&mut self, is_broken: bool, moment: u64)
+        ensures { self.new ≡ noted_if is_broken moment self.old }
+    {
+        if is_broken {
+            self.note(moment);
+        }
+    }
+}
+
+/// The breach of each rule.
+#[derive(Clone, Copy, PartialEq, Eq)]
+pub struct Breaches {
+    /// Of `Rule::TooFast`.
+    pub too_fast: Breach,
+    /// Of `Rule::Silent`.
+    pub silent: Breach,
+    /// Of `Rule::ShortChange`.
+    pub short_change: Breach,
+    /// Of `Rule::ShortEnd`.
+    pub short_end: Breach,
+    /// Of `Rule::NameNotEnded`.
+    pub name_not_ended: Breach,
+}
+
+impl Breaches {
+    /// No rule was broken yet.
+    pub(crate) fn none() -> Self
+        ensures { result ≡ no_breaches }
+    {
+        Breaches {
+            too_fast: Breach::none(),
+            silent: Breach::none(),
+            short_change: Breach::none(),
+            short_end: Breach::none(),
+            name_not_ended: Breach::none(),
+        }
+    }
+
+    /// That of one rule.
+    pub(crate) fn of(&self, rule: Rule) -> Breach
+        ensures { result ≡ breach_of rule self.now }
+    {
+        match rule {
+            Rule::TooFast => self.too_fast,
+            Rule::Silent => self.silent,
+            Rule::ShortChange => self.short_change,
+            Rule::ShortEnd => self.short_end,
+            Rule::NameNotEnded => self.name_not_ended,
+        }
+    }
+}

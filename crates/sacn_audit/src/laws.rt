@@ -1,0 +1,19 @@
+//! Laws of the definitions: functions that do nothing, each of which has a law as its contract.
+
+ghost use Rattle.sacn_audit.specs.Histories.{BreachesAreOfTheirPackets, OrderIsKept, ShortEndsAreOfTheirPackets};
+
+/// For any packets of a stream the audit that heard them says of each rule how many of them broke it, and when the first and
+/// the latest of these came, each at its moment or, where that was before an earlier one, at the latest.
+pub fn breaches_are_of_their_packets()
+    ensures { BreachesAreOfTheirPackets }
+{}
+
+/// It says that the stream has a short end where the latest packets are one.
+pub fn short_ends_are_of_their_packets()
+    ensures { ShortEndsAreOfTheirPackets }
+{}
+
+/// Where no packet is before an earlier one, each counts at its own moment.
+pub fn order_is_kept()
+    ensures { OrderIsKept }
+{}

@@ -1,0 +1,24 @@
+//! Which rules of streaming ACN (ANSI E1.31-2018) the packets of one stream break: those of one source on one universe.
+//!
+//! A [`StreamAudit`] is handed each packet of the stream with its moment, and keeps of each [`Rule`] how often it was broken,
+//! when first and when last. It has a fixed size, and no call takes memory. What it keeps over any packets stands in [`laws`].
+#![tactic(auto)]
+
+mod audit;
+mod breach;
+mod content;
+pub mod laws;
+mod limits;
+mod pace;
+mod rule;
+mod sight;
+
+pub use audit::StreamAudit;
+pub use breach::{Breach, Breaches};
+pub use content::Content;
+pub use pace::Pace;
+pub use rule::Rule;
+pub use sight::Sight;
+
+#[cfg(test)]
+mod tests;

@@ -1,0 +1,17 @@
+//! The numbers of the rules.
+
+/// Milliseconds in a second.
+pub(crate) const SECOND: u64 = 1000;
+
+/// The most packets of a stream in a second (E1.31, 6.6.1): the greatest refresh rate of E1.11 for 512 slots.
+pub(crate) const MOST_IN_A_SECOND: u8 = 44;
+
+/// The most milliseconds between two packets of a stream that goes on (E1.31, 6.6.2).
+pub(crate) const LONGEST_GAP: u64 = 1000;
+
+/// A stream that sent nothing for more milliseconds than this has stopped repeating what it shows: it only keeps alive.
+pub(crate) const LONGEST_REPEAT: u64 = 500;
+
+/// So many packets show what has changed before a source may send less often (E1.31, 6.6.2), and so many end a stream
+/// (E1.31, 6.2.6).
+pub(crate) const COPIES: u8 = 3;

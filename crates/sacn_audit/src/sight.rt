@@ -1,0 +1,54 @@
+//! What an audit looks at of one data packet, beside its slots.
+
+ghost use Rattle.std.specs.Prelude.{◌≡◌, ◌==◌};
+ghost use Rattle.std.specs.List.{list_any};
+ghost use Rattle.sacn_audit.specs.Audits.{carries_on, sight_of, is_after};
+
+use sacn_packets::DataView;
+
+/// What an audit looks at of one data packet, beside its slots.
+#[derive(Clone, Copy, PartialEq, Eq)]
+pub struct Sight {
+    /// The sequence number (E1.31, 6.2.5).
+    pub number: u8,
+    /// Whether it ends the stream: Stream_Terminated (E1.31, 6.2.6).
+    pub terminated: bool,
+    /// The start code of DMX512-A, 0 for levels (E1.31, 7.7).
+    pub start: u8,
+    /// Whether the field of the source's name has a NUL (E1.31, 6.2.2).
+    pub is_name_ended: bool,
+}
+
+impl Sight {
+    /// What is seen of a packet.
+    pub fn of(packet: &DataView<'_>) -> Self
+        ensures { result ≡ sight_of packet.now }
+    {
+        Sight {
+            number: packet.number(),
+            terminated: packet.terminated(),
+            start: packet.start(),
+            is_name_ended: has_nul(packet.name_field()),
+        }
+    }
+
+    /// Whether it has the number after that of an earlier packet: nothing was lost in between.
+    pub(crate) fn is_after(self, earlier: Self) -> bool
+        ensures { result ≡ is_after earlier self }
+    {
+        self.number == earlier.number.wrapping_add(1)
+    }
+
+    /// Whether it comes right after an earlier packet, and both have levels of a stream that goes on.
+    pub(crate) fn carries_on(self, earlier: Self) -> bool
+        ensures { result ≡ carries_on earlier self }
+    {
+        self.is_after(earlier) & !earlier.terminated & (earlier.start == 0) & (self.start == 0)
+    }
+}
+
+fn has_nul(field: &[u8]) -> bool
+    ensures { result ≡ list_any (λ octet. octet == 0) field.now }
+{
+    field.contains(&0)
+}
