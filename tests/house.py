@@ -3,6 +3,7 @@
 import glob
 import os
 import re
+import subprocess
 import sys
 
 README_OCTETS = 9000
@@ -189,6 +190,12 @@ def long_readme():
             yield f"README.md line {number} has {len(line)} letters, more than {COLUMNS}"
 
 
+def stale_definitions():
+    told = subprocess.run([sys.executable, "tools/definitions.py", "--check"], capture_output=True, text=True, check=False)
+    if told.returncode:
+        yield (told.stdout or told.stderr).strip().rpartition("\n")[2]
+
+
 def verdict(what, faults):
     told = list(faults)
     print(f"not ok house: {what}: {'; '.join(told[:8])}" if told else f"ok house: {what}")
@@ -205,6 +212,7 @@ LOOKS = {
     "a public type's name stands once": shared_names,
     "a crate is small, and its files are named for what they hold": large_crates,
     "the README is short": long_readme,
+    "the list of definitions is that of specs/": stale_definitions,
 }
 
 sys.exit(0 if all([verdict(what, look()) for what, look in LOOKS.items()]) else 1)
