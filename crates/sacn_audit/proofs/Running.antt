@@ -1,5 +1,5 @@
 -- Packets in a row: those that end a stream, and those with levels that have changed.
-use Rattle.std.proofs.Common.{◌≡◌, ℕ, ◌+◌, nat_lt, Bool, true, false, not, ◌&&◌, ◌||◌, ◌==◌, cond, List, [], ◌∷◌, min, refl, ap, arith}
+use Rattle.std.proofs.Common.{◌≡◌, ℕ, ◌+◌, nat_lt, Bool, true, false, ◌&&◌, ◌||◌, ◌==◌, cond, List, [], ◌∷◌, min, refl, ap, arith}
 use Rattle.std.specs.Str.{bytes_eq}
 use Rattle.sacn_audit.specs.Arrivals.{Arrival, changes, ends, goes_on, in_turn, repeats}
 use Rattle.sacn_audit.specs.Audits.{copies_after, ends_after}

@@ -1,5 +1,5 @@
 -- What a packet changes in the audit of its stream.
-use Rattle.std.specs.Prelude.{ℕ, ◌+◌, ◌-◌, ◌%◌, min, max, nat_lt, Bool, false, not, ◌&&◌, ◌==◌, List, if◌then◌else◌}
+use Rattle.std.specs.Prelude.{ℕ, ◌+◌, ◌-◌, ◌%◌, min, max, nat_lt, Bool, false, not, ◌&&◌, ◌==◌, if◌then◌else◌}
 use Rattle.std.specs.List.{list_any}
 use Rattle.std.specs.Str.{bytes_eq}
 use Rattle.sacn_packets.specs.Data.{Data}
@@ -48,11 +48,15 @@ copies_after goes_on is_same n = if goes_on && not is_same then 1 else (if (goes
 abbrev pub carries_on : Sight → Sight → Bool
 carries_on earlier s = is_after earlier s && not earlier.terminated && (earlier.start == 0) && (s.start == 0)
 
+-- nothing was lost between the latest packet and this one, and the stream hadn't ended
+abbrev pub is_continued : Sight → StreamAudit → Bool
+is_continued s a = is_after a.latest s && not a.latest.terminated
+
 abbrev pub is_silent : ℕ → Sight → StreamAudit → Bool
-is_silent t s a = is_after a.latest s && not a.latest.terminated && nat_lt 1000 (t - a.moment)
+is_silent t s a = is_continued s a && nat_lt 1000 (t - a.moment)
 
 abbrev pub is_short_change : ℕ → Sight → StreamAudit → Bool
-is_short_change t s a = is_after a.latest s && not a.latest.terminated && nat_lt 500 (t - a.moment) && nat_lt 0 a.copies
+is_short_change t s a = is_continued s a && nat_lt 500 (t - a.moment) && nat_lt 0 a.copies
 
 -- where the pace counts it already
 abbrev pub judged : ℕ → Sight → StreamAudit → Breaches

@@ -2,7 +2,7 @@
 
 ghost use Rattle.std.specs.Prelude.{◌≡◌};
 ghost use Rattle.sacn_audit.specs.Breaches.{breach_of};
-ghost use Rattle.sacn_audit.specs.Audits.{after_packet, ends_after, first_audit, is_short_change, is_short, is_silent, judged, copies_after};
+ghost use Rattle.sacn_audit.specs.Audits.{after_packet, ends_after, first_audit, is_continued, is_short_change, is_short, is_silent, judged, copies_after};
 
 use crate::breach::{Breach, Breaches};
 use crate::content::Content;
@@ -107,19 +107,23 @@ impl StreamAudit {
     fn is_silent(&self, moment: u64, sight: Sight) -> bool
         ensures { result ≡ is_silent moment sight self.now }
     {
-        sight.is_after(self.latest)
-            & !self.latest.terminated
-            & (moment.saturating_sub(self.moment) > LONGEST_GAP)
+        self.is_continued(sight) & (moment.saturating_sub(self.moment) > LONGEST_GAP)
     }
 
     // Whether the latest content wasn't repeated.
     fn is_short_change(&self, moment: u64, sight: Sight) -> bool
         ensures { result ≡ is_short_change moment sight self.now }
     {
-        sight.is_after(self.latest)
-            & !self.latest.terminated
+        self.is_continued(sight)
             & (moment.saturating_sub(self.moment) > LONGEST_REPEAT)
             & (self.copies > 0)
+    }
+
+    // Whether nothing was lost between the latest packet and the next one, and the stream hadn't ended.
+    fn is_continued(&self, sight: Sight) -> bool
+        ensures { result ≡ is_continued sight self.now }
+    {
+        sight.is_after(self.latest) & !self.latest.terminated
     }
 }
 
