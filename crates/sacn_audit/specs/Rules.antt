@@ -21,7 +21,7 @@ abbrev pub is_short_change : List Arrival → Bool
 is_short_change [] = false
 is_short_change (x ∷ earlier) = changes (x ∷ earlier) || (repeats (x ∷ earlier) && changes earlier)
 
--- it comes more than 500 ms after one that it goes on from, whose levels had changed so
+-- it comes more than 500 ms after one that it follows and that doesn't end the stream, whose levels had changed so
 abbrev pub had_short_change : List Arrival → Bool
 had_short_change [] = false
 had_short_change (x ∷ []) = false
