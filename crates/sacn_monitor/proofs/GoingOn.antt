@@ -1,5 +1,5 @@
 -- A packet that goes on as the one before it tells nothing.
-use Rattle.std.proofs.Common.{rules, ◌≡◌, ℕ, ◌-◌, Bool, true, false, not, ◌&&◌, ◌==◌, List, nat_lt, None, Option, max, refl, sym, ap, ◌∙◌, arith}
+use Rattle.std.proofs.Common.{rules, ◌≡◌, ℕ, ◌-◌, Bool, true, false, not, ◌&&◌, ◌==◌, List, None, max, refl, sym, ap, ◌∙◌}
 use Rattle.std.proofs.lemmas.Bool.{eqb-true}
 use Rattle.std.proofs.lemmas.Slice.Eq.{bytes_eq-Decides}
 use Rattle.std.specs.List.{before_first}
@@ -13,7 +13,6 @@ use Rattle.sacn_monitor.specs.declared.account.Endpoint.{Endpoint}
 use Rattle.sacn_monitor.specs.declared.holding.Holding.{Holding}
 use Rattle.sacn_monitor.specs.declared.holding.Holding.TheVariants.{Levels}
 use Rattle.sacn_monitor.specs.declared.news.StreamEvent.TheVariants.{GoesOn}
-use Rattle.sacn_monitor.specs.declared.news.Change.{Change}
 use Rattle.sacn_monitor.specs.declared.numbering.Numbering.{Numbering}
 use Rattle.sacn_monitor.specs.Holdings.{held_after, is_relit}
 use Rattle.sacn_monitor.specs.Kinds.{more, with_one_more}
@@ -27,9 +26,6 @@ both false b e = absurd cc
 
 no_end : (d : Data) → kind_of d ≡ Live → d.terminated ≡ false
 no_end d live = search rules
-
-fresh : (t arrived : ℕ) (a : Account) → is_next t arrived a ≡ true → is_fresh t a ≡ true
-fresh t arrived a next = search rules
 
 goes_on : (t arrived : ℕ) (a : Account) → is_next t arrived a ≡ true → taken_event t false a ≡ GoesOn
 goes_on t arrived a next = search rules

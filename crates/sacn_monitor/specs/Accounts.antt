@@ -65,7 +65,7 @@ numbering_at begins arrived a = if begins then first_numbering else numbering_af
 abbrev pub begins_anew : ℕ → ℕ → Account → Bool
 begins_anew t arrived a = is_fresh t a && int_lt (step a.sequence_number arrived) (pos 0)
 
--- a packet that is taken at t has the next number of a stream that goes on, and nothing else is awaited of it
+-- a packet that is taken at t has the next number of a stream that goes on, and this step tells nothing of how its sender numbers
 abbrev pub is_next : ℕ → ℕ → Account → Bool
 is_next t arrived a = (ahead_of a.sequence_number arrived == 1) && is_settled arrived a.numbering && not a.ended && is_fresh t a
 

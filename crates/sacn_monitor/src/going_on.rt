@@ -49,7 +49,7 @@ impl Account {
         self.rate.count(moment);
     }
 
-    // Whether a taken packet has the next number of a stream that goes on, and nothing else is awaited of it.
+    // Whether a taken packet has the next number of a stream that goes on, and this step tells nothing of how its sender numbers.
     fn is_next(&self, moment: u64, arrived: u8) -> bool
         ensures { result ≡ is_next moment arrived self.now }
     {
