@@ -5,7 +5,7 @@ use Rattle.std.specs.List.{position}
 use Rattle.std.specs.Option.{option_and_then, option_map}
 use Rattle.sacn_monitor.specs.declared.stream.Stream.{Stream}
 use Rattle.sacn_monitor.specs.declared.news.StreamEvent.{StreamEvent}
-use Rattle.sacn_monitor.specs.declared.news.StreamEvent.TheVariants.{GoesOn, Appeared, CameBack, Ended, OutOfSequence, Repeated}
+use Rattle.sacn_monitor.specs.declared.news.StreamEvent.TheVariants.{Appeared, CameBack, Ended}
 use Rattle.sacn_monitor.specs.Books.{Book}
 use Rattle.sacn_network.specs.declared.occurrence.Contest.{Contest as ContestOf}
 use Rattle.sacn_network.specs.Contests.{takes_part}
@@ -35,14 +35,12 @@ deed_by at act place s = record { source = s.cid; act = act; place = place; at =
 abbrev pub deed_at : ℕ → Act → ℕ → List Stream → Option Deed
 deed_at at act place ss = option_map (deed_by at act place) (slice_get ss place)
 
--- what changes whether a source is there
+-- what changes whether a source is there; no other event does
 abbrev pub presence_of : StreamEvent → Option Act
 presence_of Appeared = Some Appears
 presence_of CameBack = Some IsBack
 presence_of Ended = Some Ends
-presence_of GoesOn = None
-presence_of OutOfSequence = None
-presence_of Repeated = None
+presence_of _ = None
 
 abbrev pub rival_by : ContestOf → Stream → Rival
 rival_by c s = record { cid = s.cid; priority = c.priority; sources = c.sources }

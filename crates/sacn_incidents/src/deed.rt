@@ -94,7 +94,7 @@ fn presence_of(event: StreamEvent) -> Option<Act>
         StreamEvent::Appeared => Some(Act::Appears),
         StreamEvent::CameBack => Some(Act::IsBack),
         StreamEvent::Ended => Some(Act::Ends),
-        StreamEvent::GoesOn | StreamEvent::OutOfSequence | StreamEvent::Repeated => None,
+        _ => None,
     }
 }
 
