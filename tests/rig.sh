@@ -397,6 +397,71 @@ assert told('^"months" eeee..ee .*: came$') == 1 and told('^"months" eeee..ee .*
 P
 }
 
+# What a source does on several universes within a second is one line, whose time of day is that of its beginning; and each source that lights a port is told, also where
+# the gateway ends before its second is over.
+what_a_source_does_is_one_line() {
+  {
+    printf 'version = 2\nudp_port = 25859\n[[port]]\nnumber = 1\n'
+    for universe in $(seq 8); do printf '[[port.range]]\nuniverse = %d\nslot = 1\ncount = 16\nport_slot = %d\n' "$universe" $((16 * universe - 15)); done
+  } >"$work/node.toml"
+  python3 - "$sacn" "$work" <<'P'
+import os, re, socket, subprocess, sys, time
+work = sys.argv[2]
+def packet(cid, name, universe, slots, priority=100, ends=False):
+    slots = b"\0" + slots
+    dmp = (0x7000 + 10 + len(slots)).to_bytes(2, "big") + bytes([2, 0xa1, 0, 0, 0, 1]) + len(slots).to_bytes(2, "big") + slots
+    framing = b"\0\0\0\2" + name.ljust(64, b"\0") + bytes([priority, 0, 0, 1 if ends else 0, 0x40 if ends else 0, 0, universe])
+    framing = (0x7000 + 2 + len(framing) + len(dmp)).to_bytes(2, "big") + framing + dmp
+    root = b"\0\0\0\4" + cid
+    root = (0x7000 + 2 + len(root) + len(framing)).to_bytes(2, "big") + root + framing
+    return b"\0\x10\0\0ASC-E1.17\0\0\0" + root
+one, two = bytes([0xaa] * 16), bytes([0xbb] * 16)
+out = socket.socket(socket.AF_INET, socket.SOCK_DGRAM)
+def send(octets): out.sendto(octets, ("127.0.0.1", 25859))
+def begin(seconds, *more):
+    said = open(work + "/said", "w")
+    words = [sys.argv[1], "gateway", work + "/node.toml", "--frames", "digits", "--seconds", str(seconds), *more]
+    run = subprocess.Popen(words, stdout=open(work + "/lines", "w"), stderr=said, env=dict(os.environ, TZ="UTC0"))
+    until(lambda: told("hears "), "it hears")
+    return run
+def told(pattern): return len(re.findall(pattern, open(work + "/said").read(), re.M))
+def until(is_so, what):
+    limit = time.monotonic() + 20
+    while not is_so():
+        assert time.monotonic() < limit, (what, open(work + "/said").read()[-600:])
+        time.sleep(0.05)
+run = begin(30, "--clock")
+for universe in (1, 2, 3, 4, 5, 8): send(packet(one, b"one", universe, b"\xff"))
+until(lambda: told(": came$"), "the first came")
+for universe in (1, 2, 3, 4, 5, 8): send(packet(one, b"one", universe, b"\xff", ends=True))
+send(packet(two, b"two", 2, b"\x07", 90)), send(packet(two, b"two", 3, b"\x07"))
+until(lambda: told(": lost$"), "the second is lost")
+run.terminate(), run.wait()
+lines = [line for line in open(work + "/said").read().splitlines() if re.search(": [a-z]+$", line)]
+wanted = ['"one" aaaa..aa at 127.0.0.1, priority 100, universes 1-5, 8: came', '"one" aaaa..aa at 127.0.0.1, priority 100, universes 1-5, 8: ended',
+          '"two" bbbb..bb at 127.0.0.1, priorities 90-100, universes 2-3: came', '"two" bbbb..bb at 127.0.0.1, priorities 90-100, universes 2-3: lost']
+assert [line[13:] for line in lines] == wanted, lines
+def millis(line):
+    hours, minutes, seconds = line[:12].split(":")
+    return (int(hours) * 60 + int(minutes)) * 60000 + round(float(seconds) * 1000)
+# (the frame is written in the turn of the packet that came first, and the line a second later)
+lit = next(line for line in open(work + "/lines") if line.split()[3][2:4] == "ff")
+assert (millis(lines[0]) - millis(lit)) % 86400000 <= 500 or millis(lines[0]) <= millis(lit), (lines[0], lit[:40])
+# a source more each 150 ms, of which each lights a slot of its own
+run = begin(2)
+count = 0
+while run.poll() is None and count < 15:
+    send(packet(bytes([0xc0 + count] * 16), b"source %d" % count, 1, bytes(count) + b"\xff"))
+    count += 1
+    time.sleep(0.15)
+run.wait()
+frame = open(work + "/lines").read().splitlines()[-1].split()[2]
+lights = {number for number in range(16) if frame[2 + 2 * number : 4 + 2 * number] == "ff"}
+came = {int(number) for number in re.findall('^"source ([0-9]+)" .*: came$', open(work + "/said").read(), re.M)}
+assert lights and lights == came, (lights, came)
+P
+}
+
 # A gateway and a watch that hear nothing say so once, after five seconds, and what was joined where the launcher says it; one that hears something doesn't.
 silence_is_said() {
   setup 25815 1 >"$work/node.toml"
@@ -579,7 +644,7 @@ P
 
 [ -x "$sacn" ] || { echo "not ok the program is built: $sacn isn't there"; exit 1; }
 tests="a_desk_lights_a_gateway a_script_ends_the_desk a_port_is_shared a_stop_drops_the_backlog
-  a_lost_source_goes_dark an_interface_gets_frames an_unread_output_holds_nothing_up a_stuck_interface_costs_itself_alone sources_are_told_for_months silence_is_said Ctrl_C_ends_each_universe bad_words_are_named groups_are_printed a_small_stack_is_enough a_host_that_refuses_stops_no_other"
+  a_lost_source_goes_dark an_interface_gets_frames an_unread_output_holds_nothing_up a_stuck_interface_costs_itself_alone sources_are_told_for_months what_a_source_does_is_one_line silence_is_said Ctrl_C_ends_each_universe bad_words_are_named groups_are_printed a_small_stack_is_enough a_host_that_refuses_stops_no_other"
 for test in $tests; do
   "$test"
   verdict "$test" $?

@@ -2,22 +2,20 @@
 use crate::frames::{Unprinted, lines_of, run_printing};
 use crate::keys::ScreenKeys;
 use crate::screen::{hands_keys, screen_of, size_file};
-use crate::source_lines::{Spoken, endpoint_of};
-use crate::timed::{TimedOutlet, TimedOutputs, timing_of, zone_of};
+use crate::shown::Shown;
+use crate::source_lines::Spoken;
+use crate::timed::{Age, BelatedOutlet, TimedOutlet, TimedOutputs, timing_of, zone_of};
 use crate::watch::watch_end;
 use sacn_commands::ending::Ending;
 use sacn_commands::gateway::{address_of, diagnosis_of, receiver_of, run_setups, setups_of};
 use sacn_commands::live::{clock_of, joined_groups, of_socket, universes_of_setups};
 use sacn_commands::paging::say_page;
-use sacn_gateway::limits::TURN_SPAN;
-use sacn_gateway::{Notes, PassedOver};
-use sacn_machine::limits::{MAX_BURST, SILENT_START};
+use sacn_machine::limits::SILENT_START;
 use sacn_machine::{
-    DeviceFault, Octets4, Outputs, TypedKeys, UdpReceiver, guard_standard_descriptors,
-    output_is_terminal,
+    Outputs, TypedKeys, UdpReceiver, guard_standard_descriptors, output_is_terminal,
 };
 use sacn_monitor::Endpoint;
-use sacn_node::{NodeSetup, NodeTaken};
+use sacn_node::NodeSetup;
 use sacn_packets::Reading;
 use sacn_page::{Board, MAX_ALARMS, Pages};
 use sacn_watch::{Keyboard, Screen, Sizes, WatchFault, Watcher};
@@ -41,7 +39,8 @@ pub fn gateway<R: AllocGlobal + Files + Env + Net + Clock, I: Read + Drop>(
     let outputs = Outputs::new(rt.alloc(), lines_of(asked))?;
     let zone = zone_of(rt, asked.has_clock)?;
     let timing = timing_of(&zone, false, asked.has_clock);
-    let timed = TimedOutputs::new(rt, &outputs, timing);
+    let age = Age::new();
+    let timed = TimedOutputs::new(rt, &outputs, timing, &age);
     let keys = TypedKeys::new();
     let run = gateway_on(rt, asked, input, &timed, &keys);
     outputs.finish(&mut clock);
@@ -77,7 +76,9 @@ fn run_alone<'a, R: AllocGlobal + Env + Net + Clock>(
     let mut receiver = receiver_of(rt, asked, setups, &mut outputs.err())?;
     receiver.tend(outputs.outputs, joined, outputs.front_in(SILENT_START));
     let mut spoken = spoken_of(rt, &receiver, outputs)?;
-    run_printing(rt, asked, setups, &mut receiver, &mut spoken, outputs)
+    let run = run_printing(rt, asked, setups, &mut receiver, &mut spoken, outputs);
+    spoken.end();
+    run
 }
 
 // Runs a gateway that serves a page at this place.
@@ -96,15 +97,11 @@ fn run_shown<'a, R: AllocGlobal + Env + Net + Clock>(
     receiver.tend(outputs.outputs, joined, outputs.front_in(SILENT_START));
     receiver.wait_beside(pages.descriptor());
     say_page(place, &mut outputs.err());
-    let mut shown = Shown {
-        spoken: spoken_of(rt, &receiver, outputs)?,
-        viewers: &mut pages,
-        name: "page",
-        err: outputs.err(),
-        has_failed: false,
-        turn: Turn::new(),
-    };
-    run_printing(rt, asked, setups, &mut receiver, &mut shown, outputs)
+    let spoken = spoken_of(rt, &receiver, outputs)?;
+    let mut shown = Shown::new(spoken, &mut pages, "page", outputs.err());
+    let run = run_printing(rt, asked, setups, &mut receiver, &mut shown, outputs);
+    shown.end();
+    run
 }
 
 // Runs a gateway that shows what it hears on the terminal at standard output, in place of its frames.
@@ -161,25 +158,24 @@ fn run_beside_screen<'a, R: AllocGlobal + Net + Clock, W: Watcher>(
     screen: &mut W,
     outputs: &TimedOutputs<'a, R>,
 ) -> Result<(), Ending> {
-    let mut shown = Shown {
-        spoken: spoken_of(rt, receiver, outputs)?,
-        viewers: screen,
-        name: "screen",
-        err: outputs.err(),
-        has_failed: false,
-        turn: Turn::new(),
-    };
-    run_setups(rt, asked, setups, receiver, &mut shown, Unprinted)
+    let spoken = spoken_of(rt, receiver, outputs)?;
+    let mut shown = Shown::new(spoken, screen, "screen", outputs.err());
+    let run = run_setups(rt, asked, setups, receiver, &mut shown, Unprinted);
+    shown.end();
+    run
 }
 
-// What says on standard error what a gateway hears.
+/// What says on standard error what a gateway hears.
+type SpokenOn<'a, R> = Spoken<TimedOutlet<'a, R>, BelatedOutlet<'a, R>>;
+
+// The same, of which nothing was said yet.
 fn spoken_of<'a, R: AllocGlobal + Net + Clock>(
     rt: &'a R,
     receiver: &UdpReceiver<'a, R>,
     outputs: &TimedOutputs<'a, R>,
-) -> Result<Spoken<TimedOutlet<'a, R>>, Ending> {
+) -> Result<SpokenOn<'a, R>, Ending> {
     let diagnosis = diagnosis_of(rt, receiver, outputs.err())?;
-    Ok(Spoken::new(rt.alloc(), diagnosis, outputs.err())?)
+    Ok(Spoken::new(rt.alloc(), diagnosis, outputs.belated_err())?)
 }
 
 /// A screen beside a gateway. It draws only where all that it drew before has gone out, and its last row is the newest line of standard error.
@@ -255,137 +251,5 @@ impl<'s, 'o, O: Write, Z: Sizes, K: Keyboard> Watcher for PatientScreen<'s, 'o, 
 
     fn end(&mut self, now: u64) -> Result<(), WatchFault> {
         self.screen.end(now)
-    }
-}
-
-/// How long viewers wait at most while more datagrams come than a turn takes, in milliseconds.
-const PATIENCE: u64 = 250;
-
-/// What a turn brought so far, and when viewers were looked at last.
-#[derive(Clone, Copy)]
-struct Turn {
-    /// The moment of the turn's first datagram.
-    begun: u64,
-    /// The turn's receives that brought something.
-    receives: usize,
-    /// The moment at which viewers were looked at last.
-    looked: u64,
-    /// They weren't looked at when the latest turn ended.
-    is_owed: bool,
-}
-
-impl Turn {
-    /// Nothing came yet.
-    fn new() -> Turn {
-        Turn {
-            begun: 0,
-            receives: 0,
-            looked: 0,
-            is_owed: false,
-        }
-    }
-
-    /// A receive brought something.
-    fn note(&mut self, now: u64) {
-        if self.receives == 0 {
-            self.begun = now;
-        }
-        self.receives = self.receives.saturating_add(1);
-    }
-
-    /// Whether it took as long as a turn may, or as many datagrams, so that more wait.
-    fn is_full(&self, now: u64) -> bool {
-        self.receives >= MAX_BURST
-            || self.receives > 0 && now >= self.begun.saturating_add(TURN_SPAN)
-    }
-
-    /// Ends the turn. Returns whether viewers are to be looked at: they wait where more datagrams do, and they were looked at a
-    /// short while ago.
-    fn end(&mut self, now: u64) -> bool {
-        self.is_owed = self.is_full(now) && now < self.due();
-        self.receives = 0;
-        if !self.is_owed {
-            self.looked = now;
-        }
-        !self.is_owed
-    }
-
-    /// The moment from which on viewers wait no longer.
-    fn due(&self) -> u64 {
-        self.looked.saturating_add(PATIENCE)
-    }
-}
-
-/// Looks on at a gateway, for its standard error and for those who view what it hears.
-#[derive(Drop)]
-struct Shown<'a, E, S, W> {
-    spoken: Spoken<S>,
-    viewers: &'a mut W,
-    /// What they look at.
-    name: &'static str,
-    err: E,
-    /// It was said that something can't be shown.
-    has_failed: bool,
-    turn: Turn,
-}
-
-impl<'a, E: Write, S: Write + Drop, W> Shown<'a, E, S, W> {
-    // Says, once, that there wasn't memory for all that viewers are to be shown, or that it can't be written. The gateway goes on, and so do they.
-    fn note_viewers(&mut self, came: Result<(), WatchFault>) {
-        let Err(fault) = came else {
-            return;
-        };
-        if self.has_failed {
-            return;
-        }
-        self.has_failed = true;
-        let name = self.name;
-        let _ = match fault {
-            WatchFault::OutOfMemory => writeln!(self.err, "{name} OutOfMemory"),
-            WatchFault::Device => writeln!(self.err, "{name} device write"),
-        };
-    }
-}
-
-impl<'a, E: Write, S: Write + Drop, W: Watcher> Notes for Shown<'a, E, S, W> {
-    fn note_taken(
-        &mut self,
-        now: u64,
-        sender: SocketAddrV4,
-        reading: &Reading<'_>,
-        taken: NodeTaken,
-    ) {
-        self.turn.note(now);
-        self.spoken.note_taken(now, sender, reading, taken);
-        let came = self.viewers.take(now, endpoint_of(sender), reading);
-        self.note_viewers(came);
-    }
-
-    fn note_passed_over(&mut self, now: u64, sender: Octets4, why: PassedOver) {
-        self.turn.note(now);
-        self.spoken.note_passed_over(now, sender, why);
-    }
-
-    fn note_failure(&mut self, now: u64) {
-        self.spoken.note_failure(now);
-    }
-
-    fn note_interface(&mut self, port: u8, name: &str, fault: Option<DeviceFault>) {
-        self.spoken.note_interface(port, name, fault);
-    }
-
-    fn note_turn(&mut self, now: u64) {
-        self.spoken.note_turn(now);
-        if self.turn.end(now) {
-            let came = self.viewers.show(now);
-            self.note_viewers(came);
-        }
-    }
-
-    fn wakes(&self) -> u64 {
-        if self.turn.is_owed {
-            return self.turn.due();
-        }
-        self.viewers.wakes()
     }
 }

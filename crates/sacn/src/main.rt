@@ -4,6 +4,7 @@
 mod check;
 mod explain;
 mod frames;
+mod gathered;
 mod gateway;
 mod heard;
 mod keys;
@@ -14,6 +15,7 @@ mod program;
 mod recording;
 mod room;
 mod screen;
+mod shown;
 mod source_lines;
 mod timed;
 mod watch;

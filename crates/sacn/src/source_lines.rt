@@ -1,37 +1,44 @@
 //! What a gateway says of the sources that its node holds.
-use sacn_gateway::{Allowance, Diagnosis, Notes, PassedOver};
+use crate::gathered::{Gathered, Speaker};
+use crate::timed::LateWrite;
+use sacn_gateway::{Diagnosis, Notes, PassedOver};
+use sacn_incidents::{Act, Deed, deed_of};
 use sacn_machine::limits::SAID_EACH;
 use sacn_machine::{DeviceFault, Octets4};
-use sacn_monitor::{Endpoint, MAX_STREAMS, Monitor, News, Noted, Stream, StreamEvent, StreamState};
-use sacn_network::{Network, Observer, Occurrence, What};
+use sacn_monitor::{Endpoint, MAX_STREAMS, Monitor, Noted, Stream, StreamState};
+use sacn_network::{Network, Observer, Occurrence};
 use sacn_node::NodeTaken;
 use sacn_packets::Reading;
 use sacn_sources::{NETWORK_DATA_LOSS, Taken};
-use sacn_tell::push_named_source;
 use std::alloc::{AllocError, Global};
 use std::io::Write;
 use std::net::SocketAddrV4;
 
 /// Looks on at a gateway, for its standard error: what it hears of sources, and what else there is to say.
 #[derive(Drop)]
-pub struct Spoken<E> {
+pub struct Spoken<E, L> {
     diagnosis: Diagnosis<E>,
-    sources: SourceLines<E>,
+    sources: SourceLines<L>,
 }
 
-impl<E: Write + Drop> Spoken<E> {
+impl<E: Write + Drop, L: LateWrite + Drop> Spoken<E, L> {
     /// What is said of sources goes to this output.
     ///
     /// Errors: OutOfMemory.
-    pub fn new(alloc: Global, diagnosis: Diagnosis<E>, err: E) -> Result<Self, AllocError> {
+    pub fn new(alloc: Global, diagnosis: Diagnosis<E>, late: L) -> Result<Self, AllocError> {
         Ok(Spoken {
             diagnosis,
-            sources: SourceLines::new(alloc, err)?,
+            sources: SourceLines::new(alloc, late)?,
         })
+    }
+
+    /// The gateway ends: what sources did in its last second is said.
+    pub fn end(&mut self) {
+        self.sources.end();
     }
 }
 
-impl<E: Write + Drop> Notes for Spoken<E> {
+impl<E: Write + Drop, L: LateWrite + Drop> Notes for Spoken<E, L> {
     fn note_taken(
         &mut self,
         now: u64,
@@ -62,9 +69,8 @@ impl<E: Write + Drop> Notes for Spoken<E> {
         self.sources.check(now);
     }
 
-    // (what it says, it says within half a second of its moment)
     fn wakes(&self) -> u64 {
-        self.diagnosis.wakes()
+        self.diagnosis.wakes().min(self.sources.wakes())
     }
 }
 
@@ -85,45 +91,64 @@ pub fn endpoint_of(sender: SocketAddrV4) -> Endpoint {
     }
 }
 
-/// Says on an output which sources come, end and are lost: an account of a network that is handed what the node holds.
+/// Says on an output which sources come, end and are lost, each once for all its universes: an account of a network that is handed
+/// what the node holds.
 ///
 /// An account keeps each source for ever, and has room for so many. Where that is full of others than those that send, it makes way for a
 /// new one, beside which it stays until each of its sources has sent again or is lost.
 #[derive(Drop)]
-struct SourceLines<E> {
+struct SourceLines<L> {
     alloc: Global,
-    network: Network,
+    sources: Sources,
     former: Option<Former>,
     /// It isn't looked for room before this moment.
     next_look: u64,
     /// It was said that there are more sources than an account has room for.
     is_over: bool,
-    speaker: Speaker<E>,
+    speaker: Speaker<L>,
+    /// The moment of the latest turn.
+    now: u64,
+}
+
+/// An account, and what its sources did within the last second.
+#[derive(Drop)]
+struct Sources {
+    network: Network,
+    gathered: Gathered,
 }
 
 /// An account that was full, and the moment at which each of its sources has sent again or is lost.
 #[derive(Drop)]
 struct Former {
-    network: Network,
+    sources: Sources,
     until: u64,
 }
 
-impl<E: Write + Drop> SourceLines<E> {
+impl Sources {
     /// None is there.
     ///
     /// Errors: OutOfMemory.
-    fn new(alloc: Global, err: E) -> Result<Self, AllocError> {
+    fn new(alloc: Global) -> Result<Self, AllocError> {
+        Ok(Sources {
+            network: Network::new(alloc)?,
+            gathered: Gathered::new(alloc)?,
+        })
+    }
+}
+
+impl<L: LateWrite + Drop> SourceLines<L> {
+    /// None is there.
+    ///
+    /// Errors: OutOfMemory.
+    fn new(alloc: Global, late: L) -> Result<Self, AllocError> {
         Ok(SourceLines {
             alloc,
-            network: Network::new(alloc)?,
+            sources: Sources::new(alloc)?,
             former: None,
             next_look: 0,
             is_over: false,
-            speaker: Speaker {
-                alloc,
-                err,
-                allowance: Allowance::new(),
-            },
+            speaker: Speaker::new(alloc, late),
+            now: 0,
         })
     }
 
@@ -142,7 +167,7 @@ impl<E: Write + Drop> SourceLines<E> {
             return false;
         }
         self.next_look = now.saturating_add(SAID_EACH);
-        let streams = self.network.monitor().streams();
+        let streams = self.sources.network.monitor().streams();
         if streams
             .iter()
             .any(|it| it.state(now) != StreamState::Sending)
@@ -152,7 +177,7 @@ impl<E: Write + Drop> SourceLines<E> {
         if !self.is_over {
             self.is_over = true;
             let _ = writeln!(
-                self.speaker.err,
+                self.speaker.late,
                 "more than {MAX_STREAMS} sources on universes: which others come and go isn't told"
             );
         }
@@ -161,43 +186,48 @@ impl<E: Write + Drop> SourceLines<E> {
 
     fn hand(&mut self, now: u64, sender: Endpoint, reading: &Reading<'_>) -> Noted {
         let other = match &self.former {
-            Some(former) => Some(former.network.monitor()),
+            Some(former) => Some(former.sources.network.monitor()),
             None => None,
         };
         let mut teller = Teller {
             speaker: &mut self.speaker,
+            gathered: &mut self.sources.gathered,
             other,
             is_former: false,
         };
-        let noted = self.network.take(now, sender, reading, &mut teller);
-        teller.tell_other_end(now, noted, self.network.monitor());
+        let noted = self.sources.network.take(now, sender, reading, &mut teller);
+        teller.tell_other_end(now, noted, self.sources.network.monitor());
         noted
     }
 
     // A new account stands in place of this one.
     fn renew(&mut self, now: u64) -> Result<(), AllocError> {
-        let network = std::mem::replace(&mut self.network, Network::new(self.alloc)?);
+        let sources = std::mem::replace(&mut self.sources, Sources::new(self.alloc)?);
         self.former = Some(Former {
-            network,
+            sources,
             until: now.saturating_add(NETWORK_DATA_LOSS),
         });
         Ok(())
     }
 
-    /// Says which sources are lost at a moment, and how many lines weren't written.
+    /// Says which sources are lost at a moment, what they did more than a second ago, and how many lines weren't written.
     fn check(&mut self, now: u64) {
-        self.speaker.allowance.say(now, &mut self.speaker.err);
+        self.now = now;
+        self.speaker.say_rest(now);
         self.check_former(now);
         let other = match &self.former {
-            Some(former) => Some(former.network.monitor()),
+            Some(former) => Some(former.sources.network.monitor()),
             None => None,
         };
         let mut teller = Teller {
             speaker: &mut self.speaker,
+            gathered: &mut self.sources.gathered,
             other,
             is_former: false,
         };
-        self.network.tick(now, &mut teller);
+        self.sources.network.tick(now, &mut teller);
+        let streams = self.sources.network.monitor().streams();
+        self.sources.gathered.pass(now, streams, &mut self.speaker);
     }
 
     fn check_former(&mut self, now: u64) {
@@ -206,57 +236,94 @@ impl<E: Write + Drop> SourceLines<E> {
         };
         let mut teller = Teller {
             speaker: &mut self.speaker,
-            other: Some(self.network.monitor()),
+            gathered: &mut former.sources.gathered,
+            other: Some(self.sources.network.monitor()),
             is_former: true,
         };
-        former.network.tick(now, &mut teller);
+        former.sources.network.tick(now, &mut teller);
+        let streams = former.sources.network.monitor().streams();
+        former
+            .sources
+            .gathered
+            .pass(now, streams, &mut self.speaker);
         if now >= former.until {
+            former
+                .sources
+                .gathered
+                .finish(now, streams, &mut self.speaker);
             self.former = None;
         }
     }
+
+    /// The moment at which there is something to say of what sources did, where nothing comes; `u64::MAX` where there isn't.
+    fn wakes(&self) -> u64 {
+        self.sources.gathered.next_pass()
+    }
+
+    /// Says all that is still to be said.
+    fn end(&mut self) {
+        if let Some(former) = &mut self.former {
+            let streams = former.sources.network.monitor().streams();
+            former
+                .sources
+                .gathered
+                .finish(self.now, streams, &mut self.speaker);
+        }
+        let streams = self.sources.network.monitor().streams();
+        self.sources
+            .gathered
+            .finish(self.now, streams, &mut self.speaker);
+        self.speaker.say_rest(u64::MAX);
+    }
 }
 
-/// Says what an account tells, unless another one knows better.
+/// Gathers what an account tells, unless another one knows better.
 #[derive(Drop)]
-struct Teller<'s, 'o, E> {
-    speaker: &'s mut Speaker<E>,
+struct Teller<'s, 'g, 'o, L> {
+    speaker: &'s mut Speaker<L>,
+    gathered: &'g mut Gathered,
     /// The other account, where there is one.
     other: Option<&'o Monitor>,
     /// The other one stands in place of this one, which was full.
     is_former: bool,
 }
 
-impl<'s, 'o, E: Write> Teller<'s, 'o, E> {
-    // What is to be said of a stream's packet.
-    fn word_of(&self, at: u64, news: &News, stream: &Stream) -> Option<&'static str> {
-        match news.event {
-            StreamEvent::Ended => Some("ended"),
-            StreamEvent::Appeared => self.appeared(at, stream),
-            StreamEvent::CameBack => Some("came"),
-            _ => None,
+impl<'s, 'g, 'o, L: LateWrite> Teller<'s, 'g, 'o, L> {
+    // What is to be said of what a source did on a universe: that it came, also back, that it ended, or that it is lost.
+    fn act_of(&self, deed: &Deed, stream: &Stream) -> Option<Act> {
+        match deed.act {
+            Act::Appears if self.came_there(deed.at, stream) => None,
+            Act::Appears | Act::IsBack => Some(Act::Appears),
+            Act::Ends => Some(Act::Ends),
+            Act::IsLost if self.goes_on(stream) => None,
+            Act::IsLost => Some(Act::IsLost),
+            Act::Meets(_) => None,
         }
     }
 
-    // What is said of a source that appears here, unless it was said before; behind an end that was heard here it wasn't.
-    fn appeared(&self, at: u64, stream: &Stream) -> Option<&'static str> {
+    // Whether it was said of a source that appears here that it came: behind an end that was heard here it wasn't.
+    fn came_there(&self, at: u64, stream: &Stream) -> bool {
         let has_ended = stream.account.kinds.terminations > 0;
-        if !has_ended && self.sends_there(at, stream) {
-            None
-        } else {
-            Some("came")
-        }
+        !has_ended && self.sends_there(at, stream)
     }
 
-    // Says the end of a source that sent where another account stands in place of this one: here it is the end of none.
+    // The end of a source that sent where another account stands in place of this one: here it is the end of none.
     fn tell_other_end(&mut self, at: u64, noted: Noted, monitor: &Monitor) {
         let Noted::Heard(place, _) = noted else {
             return;
         };
-        if let Some(stream) = monitor.streams().get(place) {
-            let is_first = stream.account.ended & (stream.account.kinds.total() == 1);
-            if is_first && self.sends_there(at, stream) {
-                self.speaker.say(at, stream, "ended");
-            }
+        let Some(stream) = monitor.streams().get(place) else {
+            return;
+        };
+        let is_first = stream.account.ended & (stream.account.kinds.total() == 1);
+        if is_first && self.sends_there(at, stream) {
+            let deed = Deed {
+                source: stream.cid,
+                act: Act::Ends,
+                place,
+                at,
+            };
+            self.gathered.take(&deed, monitor.streams(), self.speaker);
         }
     }
 
@@ -287,49 +354,19 @@ fn find<'m>(monitor: &'m Monitor, stream: &Stream) -> Option<&'m Stream> {
         && other.cid == stream.cid)
 }
 
-impl<'s, 'o, E: Write> Observer for Teller<'s, 'o, E> {
+impl<'s, 'g, 'o, L: LateWrite> Observer for Teller<'s, 'g, 'o, L> {
     fn observe(&mut self, occurrence: &Occurrence, monitor: &Monitor) {
-        let at = occurrence.at;
-        match &occurrence.what {
-            What::Lost(place) => {
-                if let Some(stream) = monitor.streams().get(*place) {
-                    if !self.goes_on(stream) {
-                        self.speaker.say(at, stream, "lost");
-                    }
-                }
-            }
-            What::Heard(place, news) => {
-                if let Some(stream) = monitor.streams().get(*place) {
-                    if let Some(word) = self.word_of(at, news, stream) {
-                        self.speaker.say(at, stream, word);
-                    }
-                }
-            }
-            What::Refused(_, _) => {}
-            What::Untracked(_) => {}
-            What::Contest(_) => {}
-        }
-    }
-}
-
-/// Writes lines, and no more in a second than is allowed.
-#[derive(Drop)]
-struct Speaker<E> {
-    alloc: Global,
-    err: E,
-    allowance: Allowance,
-}
-
-impl<E: Write> Speaker<E> {
-    // Says what became of a source.
-    fn say(&mut self, at: u64, stream: &Stream, word: &str) {
-        self.allowance.say(at, &mut self.err);
-        if !self.allowance.admits(at) {
+        let streams = monitor.streams();
+        self.gathered.pass(occurrence.at, streams, self.speaker);
+        let Some(deed) = deed_of(occurrence, monitor) else {
             return;
-        }
-        let mut line = String::new(self.alloc);
-        if push_named_source(&mut line, stream, word).is_ok() {
-            let _ = writeln!(self.err, "{line}");
+        };
+        let Some(stream) = streams.get(deed.place) else {
+            return;
+        };
+        if let Some(act) = self.act_of(&deed, stream) {
+            self.gathered
+                .take(&Deed { act, ..deed }, streams, self.speaker);
         }
     }
 }

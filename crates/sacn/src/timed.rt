@@ -4,6 +4,7 @@ use sacn_clock::{
 };
 use sacn_machine::{ClockFront, Outlet, Outputs};
 use std::alloc::AllocError;
+use std::cell::Cell;
 use std::env::Env;
 use std::io::{Result, Write};
 use std::rt::{Clock, Files};
@@ -64,21 +65,82 @@ impl<'a, R: Clock> Write for LateOutlet<'a, R> {
     }
 }
 
+/// An output for lines that are written some time after what they tell.
+pub trait LateWrite: Write {
+    /// From now on lines tell of what was so many milliseconds ago.
+    fn set_age(&mut self, millis: u64);
+}
+
+/// How long ago it was what the next line tells, in milliseconds: set by who tells it, read by who writes.
+#[derive(Drop)]
+pub struct Age {
+    millis: Cell<u64>,
+}
+
+impl Age {
+    /// It tells of now.
+    pub fn new() -> Self {
+        Age {
+            millis: Cell::new(0),
+        }
+    }
+}
+
+/// A clock for lines of such an age.
+#[derive(Drop)]
+struct Belated<'a, M> {
+    clock: M,
+    age: &'a Age,
+}
+
+impl<'a, M: Moments> Moments for Belated<'a, M> {
+    fn moment_of(&mut self, line: &[u8]) -> Option<u64> {
+        self.clock
+            .moment_of(line)?
+            .checked_sub(self.age.millis.get())
+    }
+}
+
+/// An output whose lines have the time of what they tell, as who writes them says.
+#[derive(Drop)]
+pub struct BelatedOutlet<'a, R> {
+    out: Stamped<'a, Outlet<'a>, Belated<'a, WallClock<'a, R>>>,
+    age: &'a Age,
+}
+
+impl<'a, R: Clock> Write for BelatedOutlet<'a, R> {
+    fn write(&mut self, octets: &[u8]) -> Result<usize> {
+        self.out.write(octets)
+    }
+
+    fn flush(&mut self) -> Result<()> {
+        self.out.flush()
+    }
+}
+
+impl<'a, R: Clock> LateWrite for BelatedOutlet<'a, R> {
+    fn set_age(&mut self, millis: u64) {
+        self.age.millis.set(millis);
+    }
+}
+
 /// The outputs of a loop, and what is put into their lines.
 #[derive(Drop)]
 pub struct TimedOutputs<'a, R> {
     rt: &'a R,
     pub outputs: &'a Outputs,
     timing: Timing<'a>,
+    age: &'a Age,
 }
 
 impl<'a, R: Clock> TimedOutputs<'a, R> {
-    /// These outputs, with this in their lines.
-    pub fn new(rt: &'a R, outputs: &'a Outputs, timing: Timing<'a>) -> Self {
+    /// These outputs, with this in their lines. (`age` is that of belated lines.)
+    pub fn new(rt: &'a R, outputs: &'a Outputs, timing: Timing<'a>, age: &'a Age) -> Self {
         TimedOutputs {
             rt,
             outputs,
             timing,
+            age,
         }
     }
 
@@ -103,6 +165,18 @@ impl<'a, R: Clock> TimedOutputs<'a, R> {
         let clock = WallClock::new(self.rt);
         TimedOutlet {
             out: Stamped::new(self.outputs.err(), clock, self.timing),
+        }
+    }
+
+    /// Standard error, for what is told some time after it happened, by one who says how long.
+    pub fn belated_err(&self) -> BelatedOutlet<'a, R> {
+        let clock = Belated {
+            clock: WallClock::new(self.rt),
+            age: self.age,
+        };
+        BelatedOutlet {
+            out: Stamped::new(self.outputs.err(), clock, self.timing),
+            age: self.age,
         }
     }
 

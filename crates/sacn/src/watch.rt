@@ -4,7 +4,7 @@ use crate::keys::ScreenKeys;
 use crate::page::serve;
 use crate::piped::Piped;
 use crate::screen::{hands_keys, show};
-use crate::timed::{TimedOutputs, timing_of, zone_of};
+use crate::timed::{Age, TimedOutputs, timing_of, zone_of};
 use sacn_clock::Present;
 use sacn_commands::ending::{DEVICE_FAILED, Ending};
 use sacn_commands::live::{clock_of, joined_groups, of_socket, say_hearing};
@@ -119,7 +119,8 @@ fn tell<R: AllocGlobal + Files + Env + Net + Clock>(
     let outputs = Outputs::new(rt.alloc(), lines)?;
     let zone = zone_of(rt, asked.has_clock)?;
     let timing = timing_of(&zone, asked.is_json, asked.has_clock);
-    let timed = TimedOutputs::new(rt, &outputs, timing);
+    let age = Age::new();
+    let timed = TimedOutputs::new(rt, &outputs, timing, &age);
     let present = Present::new();
     let mut reader_has_gone = false;
     let run = tell_timed(

@@ -12,10 +12,13 @@ mod names;
 mod objects;
 mod presences;
 mod sentences;
+mod source_lines;
 mod universes;
 
 pub use digest::{Parts, tell_digest};
 pub use live::LiveDigest;
+pub use presences::Presences;
+pub use source_lines::push_source_line;
 
 #[cfg(test)]
 mod tests;

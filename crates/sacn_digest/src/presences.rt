@@ -1,4 +1,4 @@
-//! From where, and at which priority, sources sent when they came.
+//! From where, and at which priority, sources sent when they did something.
 
 use sacn_incidents::{Act, Deed, Incident};
 use sacn_monitor::{Endpoint, MAX_STREAMS, Stream};
@@ -12,7 +12,7 @@ pub(crate) struct Presence {
     pub(crate) highest: u8,
 }
 
-/// That of a stream which hasn't come.
+/// That of a stream which did nothing.
 const NOWHERE: Presence = Presence {
     sender: Endpoint {
         address: [0, 0, 0, 0],
@@ -22,39 +22,47 @@ const NOWHERE: Presence = Presence {
     highest: 0,
 };
 
-/// What streams sent when they came, by place: an incident is told when it has passed, and its source may send otherwise by then.
+/// What streams sent when they did something, by place: an incident is told when it has passed, and its source may send otherwise by then.
 #[derive(Drop)]
-pub(crate) struct Presences {
+pub struct Presences {
     appeared: Vec<Presence>,
     came_back: Vec<Presence>,
+    ended: Vec<Presence>,
+    lost: Vec<Presence>,
 }
 
 impl Presences {
-    /// No stream has come, and all room is taken.
+    /// No stream has done anything, and all room is taken.
     ///
     /// Errors: a request for it was refused.
-    pub(crate) fn new(alloc: Global) -> Result<Self, AllocError> {
+    pub fn new(alloc: Global) -> Result<Self, AllocError> {
         Ok(Presences {
             appeared: nowhere(alloc)?,
             came_back: nowhere(alloc)?,
+            ended: nowhere(alloc)?,
+            lost: nowhere(alloc)?,
         })
     }
 
-    /// Notes what a stream sends, where a deed says that it comes.
-    pub(crate) fn note(&mut self, deed: &Deed, stream: &Stream) {
+    /// Notes what a stream sends, or sent last, at a deed of its source.
+    pub fn note(&mut self, deed: &Deed, stream: &Stream) {
         let presence = presence_of(stream);
         match deed.act {
             Act::Appears => put(&mut self.appeared, deed.place, presence),
             Act::IsBack => put(&mut self.came_back, deed.place, presence),
-            Act::Ends | Act::IsLost | Act::Meets(_) => {}
+            Act::Ends => put(&mut self.ended, deed.place, presence),
+            Act::IsLost => put(&mut self.lost, deed.place, presence),
+            Act::Meets(_) => {}
         }
     }
 
-    /// What the streams of an incident sent when they came, by what they did then: from where that at its first place sent, and at which priorities all.
+    /// What the streams of an incident sent at its deeds: from where that at its first place sent, and at which priorities all. Of rivals it isn't known.
     pub(crate) fn of(&self, first: usize, incident: &Incident) -> Presence {
         let presences = match incident.act {
+            Act::Appears | Act::Meets(_) => self.appeared.as_slice(),
             Act::IsBack => self.came_back.as_slice(),
-            _ => self.appeared.as_slice(),
+            Act::Ends => self.ended.as_slice(),
+            Act::IsLost => self.lost.as_slice(),
         };
         let mut presence = presence_at(presences, first);
         for (place, is_there) in incident.places.iter().enumerate() {

@@ -2,10 +2,11 @@
 
 ghost use Rattle.std.specs.Prelude.{◌≤◌};
 
-use crate::presences::Presence;
+use crate::presences::{Presence, Presences};
 use crate::sentences::push_line;
+use crate::source_lines::push_source_line;
 use crate::{Parts, tell_digest};
-use sacn_incidents::{Act, Incident, Rival};
+use sacn_incidents::{Act, Deed, Incident, Rival};
 use sacn_monitor::{Endpoint, MAX_STREAMS, Monitor};
 use sacn_packets::{DataFields, write_data};
 use sacn_tell::{ExplainFault, Form, Options};
@@ -230,4 +231,54 @@ fn other_priorities_are_told(rt: HostRuntime) {
     let wanted =
         r#"     0.005 s  "M" 4d4d..4d appears on 7-8 at 10.0.0.5:5568, priorities 100-150"#;
     assert!(rt; told.is_ok_and(|text| text.as_str() == wanted));
+}
+
+// The line without a moment of what a source did on these universes; it is heard on one more.
+fn falling_silent(alloc: Global, universes: &[u16], act: Act) -> Result<String, AllocError> {
+    let mut monitor = Monitor::new(alloc)?;
+    let sender = Endpoint {
+        address: [10, 0, 0, 5],
+        port: 5568,
+    };
+    let mut presences = Presences::new(alloc)?;
+    let mut incident = Incident {
+        source: [b'M'; 16],
+        act,
+        places: [false; MAX_STREAMS],
+        first: 5,
+        latest: 5,
+        times: 0,
+    };
+    for (place, universe) in universes.iter().enumerate() {
+        if (*universe >= 1) & (*universe <= 63999) & (place < MAX_STREAMS) {
+            monitor.take(0, sender, &packet(b'M', *universe));
+            incident.places[place] = true;
+            let deed = Deed {
+                source: [b'M'; 16],
+                act,
+                place,
+                at: 5,
+            };
+            if let Some(stream) = monitor.streams().get(place) {
+                presences.note(&deed, stream);
+            }
+        }
+    }
+    monitor.take(0, sender, &packet(b'M', 9));
+    let mut text = String::new(alloc);
+    push_source_line(&mut text, alloc, &incident, &presences, monitor.streams())?;
+    Ok(text)
+}
+
+#[test]
+fn a_gateway_tells_a_source_with_its_address(rt: HostRuntime) {
+    let one = falling_silent(rt.alloc(), &[7], Act::IsLost);
+    let wanted = r#""M" 4d4d..4d at 10.0.0.5, priority 100, universe 7: lost"#;
+    assert!(rt; one.is_ok_and(|text| text.as_str() == wanted));
+    let some = falling_silent(rt.alloc(), &[12, 1, 2, 3], Act::Ends);
+    let wanted = r#""M" 4d4d..4d at 10.0.0.5, priority 100, universes 1-3, 12: ended"#;
+    assert!(rt; some.is_ok_and(|text| text.as_str() == wanted));
+    let some = falling_silent(rt.alloc(), &[2, 1], Act::IsBack);
+    let wanted = r#""M" 4d4d..4d at 10.0.0.5, priority 100, universes 1-2: came"#;
+    assert!(rt; some.is_ok_and(|text| text.as_str() == wanted));
 }

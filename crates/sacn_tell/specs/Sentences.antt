@@ -1,5 +1,5 @@
 -- What is said for people of each thing that happens.
-use Rattle.std.specs.Prelude.{ℕ, ◌/◌, ◌%◌, ◌==◌, List, [], ◌++◌, ◌∷◌, codes, decimal, slice_index, if◌then◌else◌}
+use Rattle.std.specs.Prelude.{ℕ, ◌/◌, ◌%◌, ◌==◌, List, [], ◌++◌, ◌∷◌, codes, decimal, length, slice_index, if◌then◌else◌}
 use Rattle.sacn_packets.specs.declared.root.fault.PacketFault.{PacketFault}
 use Rattle.sacn_monitor.specs.declared.account.Endpoint.{Endpoint}
 use Rattle.sacn_monitor.specs.declared.news.Change.{Change}
@@ -7,6 +7,8 @@ use Rattle.sacn_monitor.specs.declared.news.StreamEvent.{StreamEvent}
 use Rattle.sacn_monitor.specs.declared.news.StreamEvent.TheVariants.{GoesOn, Appeared, CameBack, Ended, OutOfSequence, Repeated}
 use Rattle.sacn_monitor.specs.declared.stream.Stream.{Stream}
 use Rattle.sacn_tell.specs.Spelling.{right, zeros, octets_text, address_text, sender_text, moment_text, name_text}
+use Rattle.sacn_tell.specs.declared.event_words.NamedSource.{NamedSource}
+use Rattle.sacn_tell.specs.Numbers.{ranges_text}
 use Rattle.sacn_tell.specs.Members.{name_of}
 use Rattle.sacn_tell.specs.Refusals.{fault_words}
 
@@ -91,6 +93,18 @@ untracked_words s = codes "from " ++ (sender_text s ++ codes "  no room for a fu
 unfoldable pub short_cid : List ℕ → List ℕ
 short_cid cid = octets_text (slice_index cid 0 ∷ slice_index cid 1 ∷ []) ++ (codes ".." ++ octets_text (slice_index cid 15 ∷ []))
 
--- a source on a universe, its name first, and what became of it
-unfoldable pub named_source_words : Stream → List ℕ → List ℕ
-named_source_words s word = name_text (name_of s) ++ (codes " " ++ (short_cid s.cid ++ (codes " at " ++ (address_text s.account.sender.address ++ (codes ", priority " ++ (decimal s.account.priority ++ (codes ", universe " ++ (decimal s.universe ++ (codes ": " ++ word)))))))))
+-- the priorities from a lowest one to a highest
+unfoldable pub priorities_words : ℕ → ℕ → List ℕ
+priorities_words lowest highest = if lowest == highest then codes "priority " ++ decimal lowest else codes "priorities " ++ (decimal lowest ++ (codes "-" ++ decimal highest))
+
+-- universes, as ranges where there are several
+unfoldable pub universes_words : List ℕ → List ℕ
+universes_words universes = (if length universes == 1 then codes "universe " else codes "universes ") ++ ranges_text universes
+
+-- a source, its name first, and where it sends from
+unfoldable pub named_sender : NamedSource → List ℕ
+named_sender s = name_text s.name.now ++ (codes " " ++ (short_cid s.cid.now ++ (codes " at " ++ address_text s.address)))
+
+-- a source on some of its universes, its name first, and what became of it
+unfoldable pub named_source_words : NamedSource → List ℕ → List ℕ
+named_source_words s word = named_sender s ++ (codes ", " ++ (priorities_words s.lowest s.highest ++ (codes ", " ++ (universes_words s.universes.now ++ (codes ": " ++ word)))))

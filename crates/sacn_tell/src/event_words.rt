@@ -1,8 +1,9 @@
 //! Things that happen, in words for people.
 
 ghost use Rattle.std.specs.Prelude.{◌≡◌, ◌++◌, OnOk, string_bytes};
-ghost use Rattle.sacn_tell.specs.Sentences.{line_front, source_text, universe_text, stream_front, presence_words, event_words, moved_words, loss_words, priority_words, omission_words, skipped_words, refusal_words, refused_words, untracked_words, seconds_text, stop_words, stopped_words, short_cid, named_source_words};
+ghost use Rattle.sacn_tell.specs.Sentences.{line_front, source_text, universe_text, stream_front, presence_words, event_words, moved_words, loss_words, priority_words, omission_words, skipped_words, refusal_words, refused_words, untracked_words, seconds_text, stop_words, stopped_words, short_cid, named_sender, named_source_words, priorities_words, universes_words};
 
+use crate::numbers::push_ranges;
 use crate::places::written_universe;
 use crate::refusals::fault_words;
 use crate::spelling::{
@@ -203,20 +204,77 @@ pub fn push_short_cid(text: &mut String, cid: &[u8; 16]) -> Result<(), AllocErro
     push_digits(text, &[cid[15]])
 }
 
-/// A source on a universe, its name first, and what became of it: `"Desk" 0001..0f at 10.0.0.5, priority 100, universe 1: came`.
+/// A source on some of its universes, as a line names it.
+#[derive(Clone, Copy)]
+pub struct NamedSource<'a> {
+    /// Its CID, a UUID (E1.31, 5.6).
+    pub cid: &'a [u8; 16],
+    /// Its name, up to the first NUL of the field (E1.31, 6.2.2).
+    pub name: &'a [u8],
+    /// The IPv4 address that it sends from.
+    pub address: [u8; 4],
+    /// The lowest priority at which it sends there, 0 to 200 (E1.31, 6.2.3).
+    pub lowest: u8,
+    /// The highest.
+    pub highest: u8,
+    /// The universes, ascending, each once.
+    pub universes: &'a [u16],
+}
+
+/// A source on some of its universes, its name first, and what became of it: `"Desk" 0001..0f at 10.0.0.5, priority 100, universe 1:
+/// came`, `"Desk" 0001..0f at 10.0.0.5, priorities 90-100, universes 1-4, 7: lost`.
 ///
 /// Errors: OutOfMemory.
 #[tactic(auto, unfolding(crate::specs::Sentences::named_source_words))]
-pub fn push_named_source(text: &mut String, stream: &Stream, word: &str) -> Result<(), AllocError>
+pub fn push_named_source(
+    text: &mut String,
+    source: &NamedSource<'_>,
+    word: &str,
+) -> Result<(), AllocError>
     ensures { OnOk result (string_bytes text.new
-        ≡ string_bytes text.old ++ named_source_words stream.now word.now) }
+        ≡ string_bytes text.old ++ named_source_words source.now word.now) }
 {
-    push_name(text, up_to_nul(&stream.account.name))?;
+    push_sender_named(text, source)?;
+    text.push_str(", ")?;
+    push_priorities(text, source.lowest, source.highest)?;
+    text.push_str(", ")?;
+    push_universes(text, source.universes)?;
+    text.push_str(": ")?;
+    text.push_str(word)
+}
+
+// A source, its name first, and where it sends from.
+#[tactic(auto, unfolding(crate::specs::Sentences::named_sender))]
+fn push_sender_named(text: &mut String, source: &NamedSource<'_>) -> Result<(), AllocError>
+    ensures { OnOk result (string_bytes text.new
+        ≡ string_bytes text.old ++ named_sender source.now) }
+{
+    push_name(text, source.name)?;
     text.push_str(" ")?;
-    push_short_cid(text, &stream.cid)?;
+    push_short_cid(text, source.cid)?;
     text.push_str(" at ")?;
-    push_address(text, &stream.account.sender.address)?;
-    let priority = stream.account.priority;
-    let universe = stream.universe;
-    write!(text, ", priority {priority}, universe {universe}: {word}")
+    push_address(text, &source.address)
+}
+
+// The priorities from a lowest one to a highest.
+#[tactic(auto, unfolding(crate::specs::Sentences::priorities_words))]
+fn push_priorities(text: &mut String, lowest: u8, highest: u8) -> Result<(), AllocError>
+    ensures { OnOk result (string_bytes text.new
+        ≡ string_bytes text.old ++ priorities_words lowest highest) }
+{
+    if lowest == highest {
+        return write!(text, "priority {lowest}");
+    }
+    write!(text, "priorities {lowest}-{highest}")
+}
+
+// Universes, as ranges where there are several.
+#[tactic(auto, unfolding(crate::specs::Sentences::universes_words))]
+fn push_universes(text: &mut String, universes: &[u16]) -> Result<(), AllocError>
+    ensures { OnOk result (string_bytes text.new
+        ≡ string_bytes text.old ++ universes_words universes.now) }
+{
+    let is_one = universes.len() == 1;
+    text.push_str(if is_one { "universe " } else { "universes " })?;
+    push_ranges(text, universes)
 }

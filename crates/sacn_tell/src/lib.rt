@@ -28,7 +28,7 @@ mod tables;
 mod teller;
 
 pub use event_words::{
-    begin as begin_line, push_named_source, push_seconds, push_short_cid, push_stop,
+    NamedSource, begin as begin_line, push_named_source, push_seconds, push_short_cid, push_stop,
 };
 pub use fault::{ExplainFault, TellFault};
 pub use follow::{Timeline, explain};
