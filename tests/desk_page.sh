@@ -71,11 +71,21 @@ refused 2 "error: --key: Key" show.toml --page $tcp --key ""
 refused 2 "error: 0: Port" show.toml --page 0 --key abcd
 refused 2 "error: here:80: Address" show.toml --page here:80 --key abcd
 refused 2 "error: *" show.toml --page $tcp --key abcd --key abcd
+printf 'abc\n' >short.key
+printf 'abcd\nefgh\n' >lines.key
+printf 'ab\377d\n' >octets.key
+refused 2 "error: --key-file: without --page" show.toml --key-file short.key
+refused 2 "error: --key: beside --key-file" show.toml --page $tcp --key abcd --key-file short.key
+refused 3 "refused short.key Key" show.toml --page $tcp --key-file short.key
+refused 3 "refused lines.key Key" show.toml --page $tcp --key-file lines.key
+refused 3 "refused octets.key NotText" show.toml --page $tcp --key-file octets.key
+refused 4 "device read absent.key" show.toml --page $tcp --key-file absent.key
 refused 4 "device socket 192.0.2.1:$tcp AddrNotAvailable" show.toml --page 192.0.2.1:$tcp --key abcd
 
 key=Open-Sesame_4
+printf '%s\r\n' "$key" >key
 mkfifo typed
-"$sacn" desk show.toml --page $tcp --key $key <typed >out 2>err &
+"$sacn" desk show.toml --page $tcp --key-file key <typed >out 2>err &
 desk=$!
 exec {typed}>typed
 trap 'kill "$desk" 2>/dev/null; rm -rf "$room"' EXIT

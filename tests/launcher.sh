@@ -361,7 +361,7 @@ every_command_is_placed() {
   words=$("$top/crates/sacn/out/sacn" --help 2>/dev/null | sed -n '/^Commands:/,/^$/s/^  \([a-z]*\) .*/\1/p')
   stage=$(sed -n 's/^stage="\(.*\)"$/\1/p' "$top/sacn")
   for name in $words; do
-    case " $stage decode sim groups explain check manual completion " in *" $name "*) ;; *) echo "# $name"; return 1 ;; esac
+    case " $stage decode sim groups explain audit check manual completion " in *" $name "*) ;; *) echo "# $name"; return 1 ;; esac
   done
   [ -n "$words" ]
 }

@@ -212,7 +212,7 @@ fn perform_script<R: AllocGlobal + Files + Env + Net + Clock>(
     perform(rt, asked, show, Some(script.as_slice()), outputs)
 }
 
-fn perform<'a, R: AllocGlobal + Env + Net + Clock>(
+fn perform<'a, R: AllocGlobal + Files + Env + Net + Clock>(
     rt: &R,
     asked: &DeskAsked<'_>,
     show: &'a Show,

@@ -87,6 +87,13 @@ pub const WATCH_EACH: Argument<'static> = Argument {
     ..EACH
 };
 
+pub const CAPTURE: Argument<'static> = Argument {
+    name: "CAPTURE",
+    help: "A recording: a file of the formats pcap or pcapng",
+    value: Some("CAPTURE"),
+    ..OPERAND
+};
+
 pub const JSON: Argument<'static> = Argument {
     name: "json",
     help: "Prints an object of JSON on each line",
@@ -114,7 +121,7 @@ pub const PAGE: Argument<'static> = Argument {
 
 /// That of a desk.
 pub const DESK_PAGE: Argument<'static> = Argument {
-    help: "Serves a page that orders the desk for browsers there, of this machine where only a port is named; only with --key",
+    help: "Serves a page that orders the desk for browsers there, of this machine where only a port is named; only with --key or --key-file",
     ..PAGE
 };
 
@@ -122,6 +129,13 @@ pub const KEY: Argument<'static> = Argument {
     name: "key",
     help: "The word that is typed once into the page of --page, so that it may order: 4 to 64 letters, digits, - and _",
     value: Some("WORD"),
+    ..OPTION
+};
+
+pub const KEY_FILE: Argument<'static> = Argument {
+    name: "key-file",
+    help: "A file with the word of --key, which others of this machine see among the desk's words",
+    value: Some("FILE"),
     ..OPTION
 };
 

@@ -46,6 +46,12 @@ pub enum Asked<'a> {
         device: &'a str,
     },
     Explain(ExplainAsked<'a>),
+    /// The rules that the packets of a recording break.
+    Audit {
+        capture: &'a str,
+        port: u16,
+        is_json: bool,
+    },
     Watch(WatchAsked),
     Check(CheckAsked<'a>),
     /// A text that is made from the table of commands.
@@ -95,7 +101,16 @@ pub struct DeskAsked<'a> {
 pub struct DeskPageAsked<'a> {
     pub place: SocketAddrV4,
     /// The word that its orders have to have.
-    pub key: &'a str,
+    pub key: DeskKeyAsked<'a>,
+}
+
+/// Where the key of a desk's page stands.
+#[derive(Clone, Copy)]
+pub enum DeskKeyAsked<'a> {
+    /// Among the words.
+    Word(&'a str),
+    /// In a file of this path.
+    File(&'a str),
 }
 
 /// What is asked of a recording.
@@ -234,11 +249,21 @@ fn time_to_live<'a>(words: &mut Words<'_, 'a>, to: &[Destination]) -> u8 {
 
 // The page that orders a desk. Neither it nor its key is given without the other.
 fn desk_page<'a>(words: &mut Words<'_, 'a>) -> Option<DeskPageAsked<'a>> {
-    words.without("page", "key");
-    words.without("key", "page");
-    match (words.value("page", page), words.key()) {
-        (Some(place), Some(key)) => Some(DeskPageAsked { place, key }),
-        _ => None,
+    words.beside("key", "key-file");
+    words.without("key-file", "page");
+    if !words.is_given("key-file") {
+        words.without("page", "key");
+        words.without("key", "page");
+    }
+    let place = words.value("page", page)?;
+    let key = desk_key(words)?;
+    Some(DeskPageAsked { place, key })
+}
+
+fn desk_key<'a>(words: &mut Words<'_, 'a>) -> Option<DeskKeyAsked<'a>> {
+    match words.optional_file("key-file") {
+        Some(path) => Some(DeskKeyAsked::File(path)),
+        None => Some(DeskKeyAsked::Word(words.key()?)),
     }
 }
 
@@ -337,6 +362,11 @@ fn asked_of<'a>(command: &str, words: &mut Words<'_, 'a>) -> Asked<'a> {
             file: words.file("FILE"),
         },
         "explain" => explain(words),
+        "audit" => Asked::Audit {
+            capture: words.file("CAPTURE"),
+            port: words.value("port", port).unwrap_or(DEFAULT_UDP_PORT),
+            is_json: words.is_given("json"),
+        },
         "watch" => watch(words),
         "check" => Asked::Check(CheckAsked {
             kind: words.value("as", kind),

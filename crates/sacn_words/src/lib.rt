@@ -6,15 +6,16 @@ mod asked;
 pub mod manual;
 mod program;
 mod reading;
+mod recordings;
 mod spelled;
 mod table;
 mod tree;
 
 pub use asked::{
-    Asked, CheckAsked, DeskAsked, DeskPageAsked, ExplainAsked, GatewayAsked, MAX_SETUPS,
-    WatchAsked, moment_of, parse,
+    Asked, CheckAsked, DeskAsked, DeskKeyAsked, DeskPageAsked, ExplainAsked, GatewayAsked,
+    MAX_SETUPS, WatchAsked, moment_of, parse,
 };
 pub use manual::Syntax;
 pub use program::manual_text;
 pub use reading::STANDARD_INPUT;
-pub use spelled::FrameForm;
+pub use spelled::{FrameForm, is_key};

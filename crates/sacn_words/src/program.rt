@@ -10,7 +10,7 @@ kit rattle-kit-13b logic dac8208d650f15bf
 kit rattle-kit-13f logic dac8208d650f15bf";
 
 /// The day of the manual's latest change.
-const DATE: &str = "2026-11-27";
+const DATE: &str = "2026-11-30";
 
 const USAGE: &str = "sacn [COMMAND]";
 
@@ -31,6 +31,7 @@ pub const NOTES: &str = "Examples, in a clone of the repository:
   ./sacn desk examples/show.toml --to 127.0.0.1
   ./sacn groups examples/node.toml --device eth0
   ./sacn explain examples/ola.pcap
+  ./sacn audit examples/ola.pcap
   ./sacn watch --seconds 60
   ./sacn check examples/show.toml
 

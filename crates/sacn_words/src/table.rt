@@ -1,10 +1,11 @@
 //! The table of the commands and their arguments. Help, manual and completions are made from it.
 use crate::arguments::{
-    CLOCK, DESK_PAGE, DESK_SCRIPT_HELP, EACH, FIRST, FLAG, FRAMES, HELP, HELP_LETTER, JOIN, JSON,
-    KEY, LISTEN, OPERAND, OPTION, PAGE, SCRIPT_HELP, SECONDS, SETUP, SETUP_HELP, SHOW, TURNS,
-    WATCH_CLOCK, WATCH_EACH,
+    CLOCK, DESK_PAGE, DESK_SCRIPT_HELP, FIRST, FLAG, FRAMES, HELP, HELP_LETTER, JOIN, JSON, KEY,
+    KEY_FILE, LISTEN, OPERAND, OPTION, PAGE, SCRIPT_HELP, SECONDS, SETUP, SHOW, TURNS, WATCH_CLOCK,
+    WATCH_EACH,
 };
 use crate::manual::{Argument, ArgumentKind, SHELL_WORDS, SHELLS, Subcommand};
+use crate::recordings::{AUDIT, EXPLAIN};
 use std::alloc::{AllocError, Global};
 
 const DECODE: Subcommand<'static> = Subcommand {
@@ -166,6 +167,7 @@ const DESK: Subcommand<'static> = Subcommand {
         },
         DESK_PAGE,
         KEY,
+        KEY_FILE,
         HELP_LETTER,
         HELP,
     ],
@@ -188,52 +190,6 @@ const GROUPS: Subcommand<'static> = Subcommand {
             value: Some("DEV"),
             is_required: true,
             ..OPTION
-        },
-        HELP_LETTER,
-        HELP,
-    ],
-};
-
-const EXPLAIN: Subcommand<'static> = Subcommand {
-    name: "explain",
-    about: "Tells what a recording of a network holds: a line for what each source did, on all its universes, then tables",
-    usage: "sacn explain [OPTIONS] <CAPTURE>",
-    arguments: &[
-        Argument {
-            name: "CAPTURE",
-            help: "A recording: a file of the formats pcap or pcapng",
-            value: Some("CAPTURE"),
-            ..OPERAND
-        },
-        Argument {
-            name: "setup",
-            help: SETUP_HELP,
-            value: Some("SETUP"),
-            ..OPTION
-        },
-        Argument {
-            name: "port",
-            help: "The UDP port of the datagrams that are told; else the setup's, else 5568",
-            value: Some("P"),
-            ..OPTION
-        },
-        Argument {
-            name: "universe",
-            help: "A universe, or several as 1-512, whose lines and rows are told; else all",
-            value: Some("U"),
-            is_repeated: true,
-            ..OPTION
-        },
-        EACH,
-        JSON,
-        Argument {
-            help: "Puts the recording's time of day in front of each line, to the millisecond, of the time zone that TZ says, or else the machine's",
-            ..CLOCK
-        },
-        PAGE,
-        Argument {
-            help: "How many seconds it runs with --page, 1 to 1000000000",
-            ..SECONDS
         },
         HELP_LETTER,
         HELP,
@@ -362,6 +318,10 @@ fn explain() -> Subcommand<'static> {
     EXPLAIN
 }
 
+fn audit() -> Subcommand<'static> {
+    AUDIT
+}
+
 fn watch() -> Subcommand<'static> {
     WATCH
 }
@@ -389,6 +349,7 @@ pub fn commands(alloc: Global) -> Result<Vec<Subcommand<'static>>, AllocError> {
         desk(),
         groups(),
         explain(),
+        audit(),
         watch(),
         check(),
         manual(),
