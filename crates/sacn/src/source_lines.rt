@@ -1,5 +1,5 @@
 //! What a gateway says of the sources that its node holds.
-use crate::gathered::{Gathered, Speaker};
+use crate::recent_deeds::{RecentDeeds, Speaker};
 use crate::timed::LateWrite;
 use sacn_gateway::{Diagnosis, Notes, PassedOver};
 use sacn_incidents::{Act, Deed, deed_of};
@@ -114,7 +114,7 @@ struct SourceLines<L> {
 #[derive(Drop)]
 struct Sources {
     network: Network,
-    gathered: Gathered,
+    deeds: RecentDeeds,
 }
 
 /// An account that was full, and the moment at which each of its sources has sent again or is lost.
@@ -131,7 +131,7 @@ impl Sources {
     fn new(alloc: Global) -> Result<Self, AllocError> {
         Ok(Sources {
             network: Network::new(alloc)?,
-            gathered: Gathered::new(alloc)?,
+            deeds: RecentDeeds::new(alloc)?,
         })
     }
 }
@@ -191,7 +191,7 @@ impl<L: LateWrite + Drop> SourceLines<L> {
         };
         let mut teller = Teller {
             speaker: &mut self.speaker,
-            gathered: &mut self.sources.gathered,
+            deeds: &mut self.sources.deeds,
             other,
             is_former: false,
         };
@@ -221,13 +221,13 @@ impl<L: LateWrite + Drop> SourceLines<L> {
         };
         let mut teller = Teller {
             speaker: &mut self.speaker,
-            gathered: &mut self.sources.gathered,
+            deeds: &mut self.sources.deeds,
             other,
             is_former: false,
         };
         self.sources.network.tick(now, &mut teller);
         let streams = self.sources.network.monitor().streams();
-        self.sources.gathered.pass(now, streams, &mut self.speaker);
+        self.sources.deeds.pass(now, streams, &mut self.speaker);
     }
 
     fn check_former(&mut self, now: u64) {
@@ -236,28 +236,22 @@ impl<L: LateWrite + Drop> SourceLines<L> {
         };
         let mut teller = Teller {
             speaker: &mut self.speaker,
-            gathered: &mut former.sources.gathered,
+            deeds: &mut former.sources.deeds,
             other: Some(self.sources.network.monitor()),
             is_former: true,
         };
         former.sources.network.tick(now, &mut teller);
         let streams = former.sources.network.monitor().streams();
-        former
-            .sources
-            .gathered
-            .pass(now, streams, &mut self.speaker);
+        former.sources.deeds.pass(now, streams, &mut self.speaker);
         if now >= former.until {
-            former
-                .sources
-                .gathered
-                .finish(now, streams, &mut self.speaker);
+            former.sources.deeds.finish(now, streams, &mut self.speaker);
             self.former = None;
         }
     }
 
     /// The moment at which there is something to say of what sources did, where nothing comes; `u64::MAX` where there isn't.
     fn wakes(&self) -> u64 {
-        self.sources.gathered.next_pass()
+        self.sources.deeds.next_pass()
     }
 
     /// Says all that is still to be said.
@@ -266,12 +260,12 @@ impl<L: LateWrite + Drop> SourceLines<L> {
             let streams = former.sources.network.monitor().streams();
             former
                 .sources
-                .gathered
+                .deeds
                 .finish(self.now, streams, &mut self.speaker);
         }
         let streams = self.sources.network.monitor().streams();
         self.sources
-            .gathered
+            .deeds
             .finish(self.now, streams, &mut self.speaker);
         self.speaker.say_rest(u64::MAX);
     }
@@ -281,7 +275,7 @@ impl<L: LateWrite + Drop> SourceLines<L> {
 #[derive(Drop)]
 struct Teller<'s, 'g, 'o, L> {
     speaker: &'s mut Speaker<L>,
-    gathered: &'g mut Gathered,
+    deeds: &'g mut RecentDeeds,
     /// The other account, where there is one.
     other: Option<&'o Monitor>,
     /// The other one stands in place of this one, which was full.
@@ -323,7 +317,7 @@ impl<'s, 'g, 'o, L: LateWrite> Teller<'s, 'g, 'o, L> {
                 place,
                 at,
             };
-            self.gathered.take(&deed, monitor.streams(), self.speaker);
+            self.deeds.take(&deed, monitor.streams(), self.speaker);
         }
     }
 
@@ -357,7 +351,7 @@ fn find<'m>(monitor: &'m Monitor, stream: &Stream) -> Option<&'m Stream> {
 impl<'s, 'g, 'o, L: LateWrite> Observer for Teller<'s, 'g, 'o, L> {
     fn observe(&mut self, occurrence: &Occurrence, monitor: &Monitor) {
         let streams = monitor.streams();
-        self.gathered.pass(occurrence.at, streams, self.speaker);
+        self.deeds.pass(occurrence.at, streams, self.speaker);
         let Some(deed) = deed_of(occurrence, monitor) else {
             return;
         };
@@ -365,7 +359,7 @@ impl<'s, 'g, 'o, L: LateWrite> Observer for Teller<'s, 'g, 'o, L> {
             return;
         };
         if let Some(act) = self.act_of(&deed, stream) {
-            self.gathered
+            self.deeds
                 .take(&Deed { act, ..deed }, streams, self.speaker);
         }
     }

@@ -9,17 +9,17 @@ use std::io::Write;
 
 /// What the sources of an account did within the last second, gathered by source and deed, and what they sent then.
 #[derive(Drop)]
-pub struct Gathered {
+pub struct RecentDeeds {
     incidents: Incidents,
     presences: Presences,
 }
 
-impl Gathered {
+impl RecentDeeds {
     /// Nothing was done.
     ///
     /// Errors: OutOfMemory.
     pub fn new(alloc: Global) -> Result<Self, AllocError> {
-        Ok(Gathered {
+        Ok(RecentDeeds {
             incidents: Incidents::new(alloc)?,
             presences: Presences::new(alloc)?,
         })
