@@ -9,7 +9,7 @@ import sys
 README_OCTETS = 9000
 COLUMNS = 120
 CRATE_FILES = 25
-DOCUMENTS = ["README.md", "CHANGELOG.md", "tests/README.md", *sorted(glob.glob("docs/*.md")), *sorted(glob.glob("crates/*/NOTES.md"))]
+DOCUMENTS = ["README.md", "CHANGELOG.md", "tests/README.md", "tests/rows/README.md", *sorted(glob.glob("docs/*.md")), *sorted(glob.glob("crates/*/NOTES.md"))]
 
 # What stands once, or so often at most, in the code of the product's crates.
 MOST = {
