@@ -13,8 +13,8 @@ DOCUMENTS = ["README.md", "CHANGELOG.md", "tests/README.md", "tests/rows/README.
 
 # What stands once, or so often at most, in the code of the product's crates.
 MOST = {
-    # (by a desk that stands by, too: which stream a packet of its own ends; and by what tells a recording's incidents)
-    "a datagram is read": (r"(?<!fn )(?<!proved_)\bread_packet\(", 11),
+    # (by a desk that stands by, too: which stream a packet of its own ends; by what tells a recording's incidents; and by an audit)
+    "a datagram is read": (r"(?<!fn )(?<!proved_)\bread_packet\(", 12),
     "a packet's kind is told": (r"\bfn kind_of\(packet\b", 1),
     # (by the network's loop of losses, where it has none, and by C)
     "a monitor's clock is moved": (r"\bmonitor\.tick\(", 3),
