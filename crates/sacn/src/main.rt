@@ -1,10 +1,10 @@
 //! `sacn`: packets of streaming ACN read, checked and shown; consoles and nodes run.
 #![tactic(auto)]
 
+mod audit;
 mod check;
 mod explain;
 mod frames;
-mod gathered;
 mod gateway;
 mod heard;
 mod keys;
@@ -12,6 +12,7 @@ mod manual;
 mod page;
 mod piped;
 mod program;
+mod recent_deeds;
 mod recording;
 mod room;
 mod screen;

@@ -1,4 +1,5 @@
 //! The program, over any words, input and outputs.
+use crate::audit::{self, AuditOf};
 use crate::piped::Piped;
 use crate::room::ask_for_room;
 use crate::{check, explain, gateway, manual, watch};
@@ -77,6 +78,20 @@ fn run_beside<R: AllocGlobal + Files + Env + Net + Clock, I: Read + Drop, O: Wri
         Asked::Explain(asked) => {
             let mut out = Piped::new(out);
             let told = explain::tell(rt, asked, input, &mut out, err);
+            out.ending(told)
+        }
+        Asked::Audit {
+            capture,
+            port,
+            is_json,
+        } => {
+            let mut out = Piped::new(out);
+            let asked = AuditOf {
+                capture,
+                port: *port,
+                is_json: *is_json,
+            };
+            let told = audit::tell(rt, asked, input, &mut out, err);
             out.ending(told)
         }
         Asked::Check(asked) => {

@@ -1,0 +1,124 @@
+//! Which rules of E1.31 the packets of a recording break.
+use crate::explain::{ROOM, say_capture_fault, say_unread};
+use sacn_audit::Audit;
+use sacn_capture::{Capture, CaptureFault, Datagram};
+use sacn_commands::ending::{Ending, of_write};
+use sacn_findings::{push_objects, push_text};
+use sacn_packets::{Packet, read_packet};
+use sacn_tell::Timeline;
+use sacn_words::STANDARD_INPUT;
+use std::alloc::Global;
+use std::fs;
+use std::io::{BufRead, BufReader, Read, Write};
+use std::rt::Files;
+
+/// What is asked of a recording.
+#[derive(Clone, Copy)]
+pub struct AuditOf<'a> {
+    pub capture: &'a str,
+    /// The UDP port of the datagrams that are looked at.
+    pub port: u16,
+    /// Whether what is found is objects of JSON, one a line, and not text.
+    pub is_json: bool,
+}
+
+/// An audit of a recording up to its end, or to what is wrong with it.
+#[derive(Drop)]
+struct Audited {
+    audit: Audit,
+    stopped: Option<CaptureFault>,
+}
+
+/// Tells for each source of a recording which rules its packets break. What comes before a fault of the recording is told.
+pub fn tell<R: AllocGlobal + Files, I: Read + Drop, O: Write, E: Write>(
+    rt: &R,
+    asked: AuditOf<'_>,
+    input: &mut I,
+    out: &mut O,
+    err: &mut E,
+) -> Result<(), Ending> {
+    if asked.capture == STANDARD_INPUT {
+        let audited = audited(rt.alloc(), asked, input, err)?;
+        return tell_audited(rt.alloc(), asked, &audited, out, err);
+    }
+    let Ok(file) = fs::open(rt, asked.capture) else {
+        return Err(say_unread(asked.capture, err));
+    };
+    let audited = audited(rt.alloc(), asked, file, err)?;
+    tell_audited(rt.alloc(), asked, &audited, out, err)
+}
+
+fn audited<I: Read + Drop, E: Write>(
+    alloc: Global,
+    asked: AuditOf<'_>,
+    input: I,
+    err: &mut E,
+) -> Result<Audited, Ending> {
+    let mut audit = Audit::new(alloc)?;
+    let Ok(reader) = BufReader::with_capacity(alloc, ROOM, input) else {
+        return Err(Ending::OutOfMemory);
+    };
+    match Capture::open(alloc, reader) {
+        Ok(mut capture) => {
+            let stopped = follow(&mut capture, &mut audit, asked.port);
+            Ok(Audited { audit, stopped })
+        }
+        Err(fault) => Err(say_capture_fault(asked.capture, fault, err)),
+    }
+}
+
+// Hands an audit the packets of a recording up to its end, or to what is wrong with it.
+fn follow<I: BufRead + Drop>(
+    capture: &mut Capture<I>,
+    audit: &mut Audit,
+    port: u16,
+) -> Option<CaptureFault> {
+    let mut timeline = Timeline::begin();
+    // (no device holds so many frames)
+    for _ in 0..u64::MAX {
+        match capture.next() {
+            Ok(Some(frame)) => {
+                timeline.advance(frame.moment);
+                match &frame.content {
+                    Ok(datagram) if datagram.destination_port == port => {
+                        hear(audit, timeline.now, datagram);
+                    }
+                    _ => {}
+                }
+            }
+            Ok(None) => return None,
+            Err(fault) => return Some(fault),
+        }
+    }
+    None
+}
+
+fn hear(audit: &mut Audit, now: u64, datagram: &Datagram<'_>) {
+    if let Ok(Packet::DataPacket(packet)) = read_packet(datagram.payload) {
+        audit.hear(now, datagram.sender, &packet);
+    }
+}
+
+fn tell_audited<O: Write, E: Write>(
+    alloc: Global,
+    asked: AuditOf<'_>,
+    audited: &Audited,
+    out: &mut O,
+    err: &mut E,
+) -> Result<(), Ending> {
+    let mut text = String::new(alloc);
+    if asked.is_json {
+        push_objects(alloc, &mut text, &audited.audit)?;
+    } else {
+        push_text(alloc, &mut text, &audited.audit)?;
+        if audited.audit.sources().is_empty() {
+            text.push_str("no packets of streaming ACN\n")?;
+        }
+    }
+    of_write(out.write_all(text.as_str().as_bytes()))?;
+    of_write(out.flush())?;
+    match audited.stopped {
+        Some(fault) => Err(say_capture_fault(asked.capture, fault, err)),
+        None => Ok(()),
+    }
+}

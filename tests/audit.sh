@@ -1,0 +1,135 @@
+#!/usr/bin/env bash
+# Audits recordings with the built program: each rule where a source breaks it and where it just doesn't, faulty recordings, and a desk of ours, which conforms.
+# Prints 'ok NAME', 'not ok NAME: why' or 'skipped NAME: why' for each, as ./test counts them.
+set -u
+top=$(cd "$(dirname "$(readlink -f "$0")")/.." && pwd)
+sacn=${SACN:-$top/crates/sacn/out/sacn}
+if [ ! -x "$sacn" ]; then
+  echo "skipped audit: sacn isn't built"
+  exit 0
+fi
+room=$(mktemp -d)
+trap 'rm -rf "$room"' EXIT
+cd "$room" || exit 1
+
+# A recording for each rule: NAME.pcap, and what is told of it: NAME.text. What is wanted stands here as the standard and the numbers of the packets have it.
+python3 - <<'P' || echo "not ok audit: the recordings are made"
+import struct
+def packet(source, number, universe=1, slots=b"\xff", start=0, name=None, ends=False):
+    slots = bytes([start]) + slots
+    name = (b"Source %d" % source).ljust(64, b"\0") if name is None else name
+    dmp = struct.pack(">H", 0x7000 + 10 + len(slots)) + bytes([2, 0xa1, 0, 0, 0, 1]) + struct.pack(">H", len(slots)) + slots
+    framing = b"\0\0\0\2" + name + bytes([100, 0, 0, number % 256, 0x40 if ends else 0]) + struct.pack(">H", universe)
+    framing = struct.pack(">H", 0x7000 + 2 + len(framing) + len(dmp)) + framing + dmp
+    root = b"\0\0\0\4" + bytes([source] * 16)
+    return b"\0\x10\0\0ASC-E1.17\0\0\0" + struct.pack(">H", 0x7000 + 2 + len(root) + len(framing)) + root + framing
+def frame(octets, address, port=5568):
+    udp = struct.pack(">HHHH", 5568, port, 8 + len(octets), 0) + octets
+    head = struct.pack(">BBHHHBBH4s4s", 0x45, 0, 20 + len(udp), 0, 0, 64, 17, 0, bytes([10, 0, 0, address]), bytes([239, 255, 0, 1]))
+    return bytes(12) + b"\x08\0" + head + udp
+def write(name, packets, text):
+    """Packets are (millisecond, octets, last number of the sender's address)."""
+    with open(name + ".pcap", "wb") as out:
+        out.write(struct.pack("<IHHiIII", 0xa1b2c3d4, 2, 4, 0, 0, 65535, 1))
+        for at, octets, address in sorted(packets, key=lambda it: it[0]):
+            whole = frame(octets, address)
+            out.write(struct.pack("<IIII", 1700000000 + at // 1000, at % 1000 * 1000, len(whole), len(whole)) + whole)
+    open(name + ".text", "w").write(text)
+def stream(source, moments, address=5, numbers=None, ends=3, **fields):
+    """A stream whose numbers go up by one, and three packets that end it, 20 ms apart."""
+    numbers = range(len(moments)) if numbers is None else numbers
+    made = [(at, packet(source, number, **fields), address) for at, number in zip(moments, numbers)]
+    return made + [(moments[-1] + 20 * (1 + it), packet(source, numbers[-1] + 1 + it, ends=True, **fields), address) for it in range(ends)]
+steady = list(range(0, 20000, 25))
+at = '"Source %d" %s at 10.0.0.5'
+def who(source, address=5): return '"Source %d" %02x%02x..%02x at 10.0.0.%d' % (source, source, source, source, address)
+write("conforms", stream(1, steady), who(1) + ": conforms\n")
+# 44 a second, and one more: 50 packets in each of twenty seconds, whose 45th comes 880 ms behind its begin; the first second has none before it
+edge = [1000 * second + 1000 * count // 44 for second in range(20) for count in range(44)]
+write("rate44", stream(2, edge), who(2) + ": conforms\n")
+fast = list(range(0, 20000, 20))
+write("rate50", stream(3, fast, universe=7) + stream(3, fast, universe=8),
+      who(3) + ":\n  6.6.1 faster than 44 a second on 7-8 (38 times, the first at 1.880 s, the latest at 19.880 s)\n")
+# 255 is followed by 1: in turns of 255 packets, of which the third ends with packet 765, and the fourth with packet 1020
+def without_0(count): return [1 + it % 255 for it in range(count)]
+long = list(range(0, 26000, 25))
+write("skips", stream(4, long, numbers=without_0(len(long))),
+      who(4) + ":\n  6.2.5 a number left out in each turn on 1 (2 times, the first at 19.125 s, the latest at 25.500 s)\n")
+write("skips2", stream(5, steady[:764], numbers=without_0(764)), who(5) + ": conforms\n")
+stays = [0, 1, 2, 2, 2, 2] + list(range(3, 3 + len(steady) - 6))
+write("stays", stream(6, steady, numbers=stays), who(6) + ":\n  6.2.5 numbers that don't go up on 1 (once, at 0.125 s)\n")
+stays = [0, 1, 2, 2, 2] + list(range(3, 3 + len(steady) - 5))
+write("stays3", stream(7, steady, numbers=stays), who(7) + ": conforms\n")
+second = [1000 * it for it in range(20)]
+write("second", stream(8, second), who(8) + ": conforms\n")
+write("silent", stream(9, second + [20001, 21000]), who(9) + ":\n  6.6.2 levels more than 1 s apart on 1 (once, at 20.001 s)\n")
+# other levels from packet 400 on, 10.000 s, and 501 ms without a packet behind the first, the second or the third that has them
+def changed(source, copies):
+    moments = [it if it < 10000 + 25 * copies else it + 476 for it in steady]
+    old, new = stream(source, moments, ends=0), stream(source, moments, ends=3, slots=b"\x07")
+    return old[:400] + new[400:]
+for copies in (1, 2):
+    write("change%d" % copies, changed(9 + copies, copies),
+          who(9 + copies) + ":\n  6.6.2 changed levels sent fewer than three times on 1 (once, at 10.%03d s)\n" % (501 + 25 * (copies - 1)))
+write("change3", changed(12, 3), who(12) + ": conforms\n")
+# an end of two packets, behind which the stream goes on, or nothing comes
+end = stream(13, steady, ends=2)
+write("end2", end, who(13) + ":\n  6.2.6 ended by fewer than three packets on 1, and nothing came after them\n")
+write("ended2", end + stream(13, [25000 + it for it in steady], numbers=range(802, 802 + len(steady))),
+      who(13) + ":\n  6.2.6 ended by fewer than three packets on 1 (once, at 25.000 s)\n")
+write("name64", stream(14, steady[:1], name=b"n" * 64),
+      '"' + "n" * 64 + '" 0e0e..0e at 10.0.0.5:\n  6.2.2 a name without an end on 1 (4 times, the first at 0.000 s, the latest at 0.060 s)\n'
+      "  can't be seen in so short a recording: 6.2.5, 6.6.1, 6.6.2\n")
+write("name63", stream(15, steady, name=b"n" * 63 + b"\0"), '"' + "n" * 63 + '" 0f0f..0f at 10.0.0.5: conforms\n')
+write("nametext", stream(16, steady, name=b"K\xe4se".ljust(64, b"\0")),
+      '"K\u00e4se" 1010..10 at 10.0.0.5:\n  6.2.2 a name that isn\'t UTF-8 on 1 (803 times, the first at 0.000 s, the latest at 20.035 s)\n')
+write("nametext8", stream(17, steady, name="K\u00e4se".encode().ljust(64, b"\0")), '"K\u00e4se" 1111..11 at 10.0.0.5: conforms\n')
+# every second packet comes from another address; and one that moves, 2501 ms after its latest packet
+two = [(moment, octets, 5 + number % 2) for number, (moment, octets, _) in enumerate(stream(18, steady))]
+write("two", two, who(18) + ":\n  5.6 one CID at two addresses (802 times, the first at 0.025 s, the latest at 20.035 s)\n")
+moves = stream(19, steady) + stream(19, [it + 22536 for it in steady], address=6, numbers=range(803, 803 + len(steady)))
+write("moves", moves, who(19, 6) + ": conforms\n")
+text = [(10, packet(20, 1, start=0x17), 5), (20, packet(20, 2, start=0xdd), 5)]
+write("start", [(0, packet(20, 0), 5)] + text + stream(20, [it + 30 for it in steady], numbers=range(3, 3 + len(steady))),
+      who(20) + ": conforms\n  seen, no breach: 7.7 a start code other than 0 and 0xDD on 1 (once, at 0.010 s)\n")
+write("nothing", [], "no packets of streaming ACN\n")
+P
+
+# tells NAME STATUS WANTED-ERRORS WANTED-OUTPUT WORD..: an audit ends so, and prints this file
+tells() {
+  local name=$1 wanted=$2 said=$3 output=$4 status=0 first
+  shift 4
+  timeout 60 "$sacn" audit "$@" </dev/null >out 2>err || status=$?
+  first=$(head -n 1 err)
+  # shellcheck disable=SC2053
+  if [ "$status" != "$wanted" ]; then
+    echo "not ok audit: $name: status $status, '$first'"
+  elif ! [[ $first == $said ]]; then
+    echo "not ok audit: $name: '$first'"
+  elif ! cmp -s "$output" out; then
+    echo "not ok audit: $name: it prints something else: $(diff "$output" out | head -n 4 | cut -c 1-160 | tr '\n' '|')"
+  else
+    echo "ok audit: $name"
+  fi
+}
+for name in conforms rate44 rate50 skips skips2 stays stays3 second silent change1 change2 change3 end2 ended2 name64 name63 nametext nametext8 two moves start nothing; do
+  tells "$name" 0 "" $name.text $name.pcap
+done
+# What is broken is told up to where a recording is faulty; what is no recording has nothing.
+: >empty
+{ cat rate50.pcap; printf 'cut'; } >cut.pcap
+tells "a recording that is cut" 3 "refused cut.pcap octet * CutShort" rate50.text cut.pcap
+printf 'no recording, but some other text' >other
+tells "what is no recording" 3 "refused other octet 0 NotACapture" empty other
+tells "a file that isn't there" 4 "device read absent" empty absent
+tells "another port" 0 "" nothing.text conforms.pcap --port 5569
+cat silent.pcap | timeout 60 "$sacn" audit - >out 2>err && cmp -s out silent.text && [ ! -s err ]
+[ $? = 0 ] && echo "ok audit: standard input" || echo "not ok audit: standard input: $(head -c 200 err out)"
+# Objects: one a line, each a JSON document, of the same rules.
+"$sacn" audit --json rate50.pcap >out 2>err && python3 - <<'P'
+import json
+objects = [json.loads(line) for line in open("out")]
+assert [(it["event"], it["section"], it["universes"], it["first"], it["latest"], it["times"]) for it in objects] == [("breach", "6.6.1", [7, 8], 1880, 19880, 38)], objects
+assert objects[0]["cid"] == "03" * 16 and objects[0]["name"] == "Source 3" and objects[0]["address"] == "10.0.0.5", objects
+P
+[ $? = 0 ] && echo "ok audit: objects" || echo "not ok audit: objects: $(head -c 300 out)"
