@@ -1,17 +1,18 @@
 -- An audit is the one that the list of its packets has: each of its numbers is one of the list.
-use Rattle.std.proofs.Common.{◌≡◌, ◌<◌, ◌≤◌, ℕ, ◌+◌, ◌-◌, Bool, true, false, not, ◌&&◌, cond, List, [], ◌∷◌, min, max, nat_lt, refl, sym, ap, ◌∙◌, arith}
+use Rattle.std.proofs.Common.{◌≡◌, ◌<◌, ◌≤◌, ℕ, ◌+◌, ◌-◌, Bool, true, false, not, ◌&&◌, ◌==◌, cond, List, [], ◌∷◌, min, max, nat_lt, refl, sym, ap, ◌∙◌, arith}
 use Rattle.std.proofs.lemmas.Bool.Decides.{nat_tests}
 use Rattle.sacn_audit.specs.declared.rule.Rule.{Rule}
-use Rattle.sacn_audit.specs.declared.rule.Rule.TheVariants.{TooFast, Silent, ShortChange, ShortEnd, NameNotEnded}
+use Rattle.sacn_audit.specs.declared.rule.Rule.TheVariants.{TooFast, Silent, ShortChange, ShortEnd, NameNotEnded, NameNotText, NumberStays, NumberLeftOut, OtherStart}
 use Rattle.sacn_audit.specs.declared.breach.Breaches.{Breaches}
 use Rattle.sacn_audit.specs.declared.audit.StreamAudit.{StreamAudit}
-use Rattle.sacn_audit.specs.Arrivals.{Arrival, ends, follows, in_turn, latest_moment, packets_in, second_of}
-use Rattle.sacn_audit.specs.Rules.{breaks, goes_too_fast, had_short_end, leaves_name_open, moments_where, had_short_change, was_silent}
+use Rattle.sacn_audit.specs.Arrivals.{Arrival, ends, follows, in_turn, latest_levels, latest_moment, packets_in, passes_one, second_of}
+use Rattle.sacn_audit.specs.Rules.{breaks, goes_too_fast, had_short_end, has_no_text, has_other_start, keeps_number, leaves_name_open, leaves_number_out, moments_where, had_short_change, was_silent}
 use Rattle.sacn_audit.specs.Breaches.{breach_by, breach_of, no_breach, noted_if}
-use Rattle.sacn_audit.specs.Audits.{after_at, after_packet, first_audit, is_short, is_too_fast, judged, sight_of}
+use Rattle.sacn_audit.specs.Audits.{after_at, after_packet, counted, first_audit, is_short, is_too_fast, judged, sight_of}
 use Rattle.sacn_audit.specs.Histories.{BreachesAreOfTheirPackets, ShortEndsAreOfTheirPackets, audit_by, audit_with}
 use Rattle.sacn_audit.proofs.Noting.{noted_by}
 use Rattle.sacn_audit.proofs.Pacing.{first_paced, first_slow, in_order, none_later, pace_of, paced, too_many}
+use Rattle.sacn_audit.proofs.Counting.{counted_more, first_counted, first_stays_not, leaves, numbering_of, stays}
 use Rattle.sacn_audit.proofs.Running.{copies, copies_more, ends_in_turn, ends_more, some_copies}
 
 abbrev breaches_of : List Arrival → Breaches
@@ -21,6 +22,10 @@ breaches_of xs = record {
   short_change = breach_by (moments_where had_short_change xs);
   short_end = breach_by (moments_where had_short_end xs);
   name_not_ended = breach_by (moments_where leaves_name_open xs);
+  name_not_text = breach_by (moments_where has_no_text xs);
+  number_stays = breach_by (moments_where keeps_number xs);
+  number_left_out = breach_by (moments_where leaves_number_out xs);
+  other_start = breach_by (moments_where has_other_start xs);
 }
 
 -- the audit of a list that is in turn
@@ -29,7 +34,9 @@ audit_of x earlier = record {
   moment = x.moment;
   latest = sight_of x.packet;
   content = x.packet.slots;
+  levels = latest_levels (x ∷ earlier);
   pace = pace_of x earlier;
+  numbering = numbering_of x earlier;
   ends = min (ends (x ∷ earlier)) 3;
   copies = copies (x ∷ earlier);
   breaches = breaches_of (x ∷ earlier);
@@ -45,7 +52,7 @@ module _ (x y : Arrival) (earlier : List Arrival) where
   ys = y ∷ earlier
 
   abbrev before : StreamAudit
-  before = record (audit_of y earlier) { pace = pace_of x ys }
+  before = record (audit_of y earlier) { pace = pace_of x ys; numbering = numbering_of x ys }
 
   noted : (is_broken test : Bool) (ms : List ℕ) → is_broken ≡ test → noted_if is_broken x.moment (breach_by ms) ≡ breach_by (cond test (x.moment ∷ ms) ms)
   noted is_broken test ms e = noted_by is_broken x.moment ms ∙ ap (λ (b : Bool). breach_by (cond b (x.moment ∷ ms) ms)) e
@@ -66,15 +73,41 @@ module _ (x y : Arrival) (earlier : List Arrival) where
       let change = noted (follows y.packet x.packet && not y.packet.terminated && nat_lt 500 (x.moment - y.moment) && nat_lt 0 (copies ys)) (had_short_change (x ∷ ys)) (moments_where had_short_change ys) short_change in
       let end = noted (not x.packet.terminated && is_short (min (ends ys) 3)) (had_short_end (x ∷ ys)) (moments_where had_short_end ys) short_end in
       let name = noted (leaves_name_open (x ∷ ys)) (leaves_name_open (x ∷ ys)) (moments_where leaves_name_open ys) refl in
-      λ i. record { too_fast = too_fast i; silent = silent i; short_change = change i; short_end = end i; name_not_ended = name i }
+      let text = noted (has_no_text (x ∷ ys)) (has_no_text (x ∷ ys)) (moments_where has_no_text ys) refl in
+      let start = noted (has_other_start (x ∷ ys)) (has_other_start (x ∷ ys)) (moments_where has_other_start ys) refl in
+      let stay = noted ((numbering_of x ys).same == 4) (keeps_number (x ∷ ys)) (moments_where keeps_number ys) (stays x ys) in
+      let left = noted (passes_one y.packet x.packet && ((numbering_of x ys).turns == 3)) (leaves_number_out (x ∷ ys)) (moments_where leaves_number_out ys) (leaves x y earlier) in
+      λ i. record {
+        too_fast = too_fast i;
+        silent = silent i;
+        short_change = change i;
+        short_end = end i;
+        name_not_ended = name i;
+        name_not_text = text i;
+        number_stays = stay i;
+        number_left_out = left i;
+        other_start = start i;
+      }
 
   heard : second_of y.moment ≤ second_of x.moment → ((before second : ℕ) → second_of y.moment + before < second → packets_in before second ys ≡ 0) → after_at x.moment x.packet (audit_of y earlier) ≡ audit_of x ys
   heard ordered later =
       let pace = paced x y earlier ordered later in
+      let numbering = counted_more x y earlier in
       let ends = ends_more x ys in
       let copied = copies_more x y earlier in
-      let breaches = ap (λ p. judged x.moment (sight_of x.packet) (record (audit_of y earlier) { pace = p })) pace ∙ judges in
-      λ i. record { moment = x.moment; latest = sight_of x.packet; content = x.packet.slots; pace = pace i; ends = ends i; copies = copied i; breaches = breaches i }
+      let counts : counted x.moment (sight_of x.packet) (audit_of y earlier) ≡ before = λ i. record (audit_of y earlier) { pace = pace i; numbering = numbering i } in
+      let breaches = ap (judged x.moment (sight_of x.packet)) counts ∙ judges in
+      λ i. record {
+        moment = x.moment;
+        latest = sight_of x.packet;
+        content = x.packet.slots;
+        levels = latest_levels (x ∷ ys);
+        pace = pace i;
+        numbering = numbering i;
+        ends = ends i;
+        copies = copied i;
+        breaches = breaches i;
+      }
 
 -- ---- the first packet
 
@@ -85,18 +118,34 @@ not_both false = refl
 begins : (x : Arrival) → first_audit x.moment x.packet ≡ audit_of x []
 begins x =
     let pace = first_paced x in
+    let numbering = first_counted x in
     let ends = ends_more x [] in
     let fast = ap (λ (b : Bool). breach_by (cond b (x.moment ∷ []) [])) (sym (first_slow x)) in
     let end = ap (λ (b : Bool). breach_by (cond b (x.moment ∷ []) [])) (sym (not_both (not x.packet.terminated))) in
     let name = noted_by (leaves_name_open (x ∷ [])) x.moment [] in
+    let text = noted_by (has_no_text (x ∷ [])) x.moment [] in
+    let start = noted_by (has_other_start (x ∷ [])) x.moment [] in
+    let stay = ap (λ (b : Bool). breach_by (cond b (x.moment ∷ []) [])) (sym (first_stays_not x)) in
     λ i. record {
       moment = x.moment;
       latest = sight_of x.packet;
       content = x.packet.slots;
+      levels = latest_levels (x ∷ []);
       pace = pace i;
+      numbering = numbering i;
       ends = ends i;
       copies = 0;
-      breaches = record { too_fast = fast i; silent = no_breach; short_change = no_breach; short_end = end i; name_not_ended = name i };
+      breaches = record {
+        too_fast = fast i;
+        silent = no_breach;
+        short_change = no_breach;
+        short_end = end i;
+        name_not_ended = name i;
+        name_not_text = text i;
+        number_stays = stay i;
+        number_left_out = no_breach;
+        other_start = start i;
+      };
     }
 
 -- ---- packets in turn
@@ -120,6 +169,10 @@ by_rule Silent xs = refl
 by_rule ShortChange xs = refl
 by_rule ShortEnd xs = refl
 by_rule NameNotEnded xs = refl
+by_rule NameNotText xs = refl
+by_rule NumberStays xs = refl
+by_rule NumberLeftOut xs = refl
+by_rule OtherStart xs = refl
 
 pub breaches_are_of_their_packets : BreachesAreOfTheirPackets
 breaches_are_of_their_packets [] rule = refl

@@ -1,20 +1,28 @@
 -- What a packet changes in the audit of its stream.
-use Rattle.std.specs.Prelude.{ℕ, ◌+◌, ◌-◌, ◌%◌, min, max, nat_lt, Bool, false, not, ◌&&◌, ◌==◌, if◌then◌else◌}
-use Rattle.std.specs.List.{list_any}
-use Rattle.std.specs.Str.{bytes_eq}
+use Rattle.std.specs.Prelude.{ℕ, ◌+◌, ◌-◌, min, max, nat_lt, Bool, false, not, ◌&&◌, ◌==◌, Option, Some, None, if◌then◌else◌}
+use Rattle.std.specs.List.{before_first, list_any}
+use Rattle.std.specs.Str.{bytes_eq, is_utf8}
 use Rattle.sacn_packets.specs.Data.{Data}
 use Rattle.sacn_audit.specs.declared.sight.Sight.{Sight}
 use Rattle.sacn_audit.specs.declared.pace.Pace.{Pace}
+use Rattle.sacn_audit.specs.declared.numbering.Numbering.{Numbering}
 use Rattle.sacn_audit.specs.declared.breach.Breaches.{Breaches}
 use Rattle.sacn_audit.specs.declared.audit.StreamAudit.{StreamAudit}
-use Rattle.sacn_audit.specs.Arrivals.{second_of}
+use Rattle.sacn_audit.specs.Arrivals.{number_after, second_of}
+use Rattle.sacn_audit.specs.Rules.{is_late}
 use Rattle.sacn_audit.specs.Breaches.{no_breaches, noted_if}
 
 abbrev pub sight_of : Data → Sight
-sight_of d = record { number = d.number; terminated = d.terminated; start = d.start; is_name_ended = list_any (λ octet. octet == 0) d.name }
+sight_of d = record {
+  number = d.number;
+  terminated = d.terminated;
+  start = d.start;
+  is_name_ended = list_any (λ octet. octet == 0) d.name;
+  is_name_text = is_utf8 (before_first (λ octet. octet == 0) d.name);
+}
 
 abbrev pub is_after : Sight → Sight → Bool
-is_after earlier s = s.number == (earlier.number + 1) % 256
+is_after earlier s = s.number == number_after earlier.number
 
 -- ---- how fast
 
@@ -30,6 +38,30 @@ pace_after t p =
 
 abbrev pub is_too_fast : Pace → Bool
 is_too_fast p = p.follows_many && (p.count == 45)
+
+-- ---- by which numbers
+
+abbrev pub first_numbering : Numbering
+first_numbering = record { left_out = 0; turns = 0; same = 1 }
+
+-- a number passes over the one before it alone
+abbrev pub passes_over : ℕ → ℕ → Bool
+passes_over held arrived = arrived == number_after (number_after held)
+
+abbrev pub left_out_after : ℕ → ℕ → Numbering → ℕ
+left_out_after held arrived n = if passes_over held arrived then number_after held else n.left_out
+
+abbrev pub turns_after : ℕ → ℕ → Numbering → ℕ
+turns_after held arrived n =
+    if passes_over held arrived then (if number_after held == n.left_out then min (n.turns + 1) 3 else 1)
+    else if (arrived == number_after held) && not (arrived == n.left_out) then n.turns else 0
+
+abbrev pub same_after : ℕ → ℕ → Numbering → ℕ
+same_after held arrived n = if arrived == held then min (n.same + 1) 4 else 1
+
+-- a packet more, of the number that arrived, after one of that held
+abbrev pub numbering_after : ℕ → ℕ → Numbering → Numbering
+numbering_after held arrived n = record { left_out = left_out_after held arrived n; turns = turns_after held arrived n; same = same_after held arrived n }
 
 -- ---- how many in a row
 
@@ -53,19 +85,31 @@ abbrev pub is_continued : Sight → StreamAudit → Bool
 is_continued s a = is_after a.latest s && not a.latest.terminated
 
 abbrev pub is_silent : ℕ → Sight → StreamAudit → Bool
-is_silent t s a = is_continued s a && nat_lt 1000 (t - a.moment)
+is_silent t s a = is_continued s a && (s.start == 0) && is_late t a.levels
 
 abbrev pub is_short_change : ℕ → Sight → StreamAudit → Bool
 is_short_change t s a = is_continued s a && nat_lt 500 (t - a.moment) && nat_lt 0 a.copies
 
--- where the pace counts it already
+abbrev pub leaves_out : Sight → StreamAudit → Bool
+leaves_out s a = passes_over a.latest.number s.number && (a.numbering.turns == 3)
+
+-- by itself, whatever came before
+abbrev pub judged_alone : ℕ → Sight → Breaches → Breaches
+judged_alone t s b = record b {
+  name_not_ended = noted_if (not s.is_name_ended) t b.name_not_ended;
+  name_not_text = noted_if (not s.is_name_text) t b.name_not_text;
+  other_start = noted_if (not (s.start == 0) && not (s.start == 221)) t b.other_start;
+}
+
+-- where the pace and the numbering count it already
 abbrev pub judged : ℕ → Sight → StreamAudit → Breaches
-judged t s a = record {
+judged t s a = record (judged_alone t s a.breaches) {
   too_fast = noted_if (is_too_fast a.pace) t a.breaches.too_fast;
   silent = noted_if (is_silent t s a) t a.breaches.silent;
   short_change = noted_if (is_short_change t s a) t a.breaches.short_change;
   short_end = noted_if (not s.terminated && is_short a.ends) t a.breaches.short_end;
-  name_not_ended = noted_if (not s.is_name_ended) t a.breaches.name_not_ended;
+  number_stays = noted_if (a.numbering.same == 4) t a.breaches.number_stays;
+  number_left_out = noted_if (leaves_out s a) t a.breaches.number_left_out;
 }
 
 -- ---- packets in turn
@@ -75,21 +119,33 @@ first_audit t d = record {
   moment = t;
   latest = sight_of d;
   content = d.slots;
+  levels = if d.start == 0 then Some t else None;
   pace = first_pace t;
+  numbering = first_numbering;
   ends = ends_after d.terminated 0;
   copies = 0;
-  breaches = record no_breaches { name_not_ended = noted_if (not (sight_of d).is_name_ended) t no_breaches.name_not_ended };
+  breaches = judged_alone t (sight_of d) no_breaches;
 }
+
+-- the moment of the latest levels, where nothing was lost since
+abbrev pub levels_after : ℕ → Sight → StreamAudit → Option ℕ
+levels_after t s a = if s.start == 0 then Some t else if is_continued s a then a.levels else None
+
+-- the pace and the numbering count a packet
+abbrev pub counted : ℕ → Sight → StreamAudit → StreamAudit
+counted t s a = record a { pace = pace_after t a.pace; numbering = numbering_after a.latest.number s.number a.numbering }
 
 abbrev pub after_at : ℕ → Data → StreamAudit → StreamAudit
 after_at t d a = record {
   moment = t;
   latest = sight_of d;
   content = d.slots;
+  levels = levels_after t (sight_of d) a;
   pace = pace_after t a.pace;
+  numbering = numbering_after a.latest.number d.number a.numbering;
   ends = ends_after d.terminated a.ends;
   copies = copies_after (carries_on a.latest (sight_of d)) (bytes_eq a.content d.slots) a.copies;
-  breaches = judged t (sight_of d) (record a { pace = pace_after t a.pace });
+  breaches = judged t (sight_of d) (counted t (sight_of d) a);
 }
 
 abbrev pub after_packet : ℕ → Data → StreamAudit → StreamAudit

@@ -1,7 +1,7 @@
 -- How often a rule was broken, and when.
 use Rattle.std.specs.Prelude.{ℕ, ◌+◌, ◌-◌, ◌^◌, min, Bool, ◌==◌, List, [], ◌∷◌, length, if◌then◌else◌}
 use Rattle.sacn_audit.specs.declared.rule.Rule.{Rule}
-use Rattle.sacn_audit.specs.declared.rule.Rule.TheVariants.{TooFast, Silent, ShortChange, ShortEnd, NameNotEnded}
+use Rattle.sacn_audit.specs.declared.rule.Rule.TheVariants.{TooFast, Silent, ShortChange, ShortEnd, NameNotEnded, NameNotText, NumberStays, NumberLeftOut, OtherStart}
 use Rattle.sacn_audit.specs.declared.breach.Breach.{Breach}
 use Rattle.sacn_audit.specs.declared.breach.Breaches.{Breaches}
 
@@ -28,7 +28,17 @@ abbrev pub noted_if : Bool → ℕ → Breach → Breach
 noted_if is_broken t b = if is_broken then noted t b else b
 
 abbrev pub no_breaches : Breaches
-no_breaches = record { too_fast = no_breach; silent = no_breach; short_change = no_breach; short_end = no_breach; name_not_ended = no_breach }
+no_breaches = record {
+  too_fast = no_breach;
+  silent = no_breach;
+  short_change = no_breach;
+  short_end = no_breach;
+  name_not_ended = no_breach;
+  name_not_text = no_breach;
+  number_stays = no_breach;
+  number_left_out = no_breach;
+  other_start = no_breach;
+}
 
 abbrev pub breach_of : Rule → Breaches → Breach
 breach_of TooFast b = b.too_fast
@@ -36,3 +46,7 @@ breach_of Silent b = b.silent
 breach_of ShortChange b = b.short_change
 breach_of ShortEnd b = b.short_end
 breach_of NameNotEnded b = b.name_not_ended
+breach_of NameNotText b = b.name_not_text
+breach_of NumberStays b = b.number_stays
+breach_of NumberLeftOut b = b.number_left_out
+breach_of OtherStart b = b.other_start

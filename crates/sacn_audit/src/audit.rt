@@ -2,15 +2,17 @@
 
 ghost use Rattle.std.specs.Prelude.{◌≡◌};
 ghost use Rattle.sacn_audit.specs.Breaches.{breach_of};
-ghost use Rattle.sacn_audit.specs.Audits.{after_packet, ends_after, first_audit, is_continued, is_short_change, is_short, is_silent, judged, copies_after};
+ghost use Rattle.sacn_audit.specs.Audits.{after_packet, copies_after, counted, ends_after, first_audit, is_continued, is_short_change, is_short, is_silent, judged, leaves_out, levels_after};
+ghost use Rattle.sacn_audit.specs.Rules.{is_late};
 
 use crate::breach::{Breach, Breaches};
 use crate::content::Content;
-use crate::limits::{COPIES, LONGEST_GAP, LONGEST_REPEAT};
+use crate::limits::{COPIES, COPIES_IN_A_ROW, LONGEST_GAP, LONGEST_REPEAT, TURNS};
+use crate::numbering::{Numbering, passes_over};
 use crate::pace::Pace;
 use crate::rule::Rule;
 use crate::sight::Sight;
-use sacn_packets::DataView;
+use sacn_packets::{DataView, NULL_START_CODE};
 
 /// Which rules the packets of one stream break: those of one source on one universe. No call takes memory.
 ///
@@ -23,7 +25,10 @@ pub struct StreamAudit {
     // The latest packet, and its slots.
     latest: Sight,
     content: Content,
+    // The moment of the latest packet with levels, where nothing was lost since, and the stream didn't end.
+    levels: Option<u64>,
     pace: Pace,
+    numbering: Numbering,
     // The latest packets in a row that end the stream: 3 for three or more.
     ends: u8,
     // The packets so far with the latest levels, where these were seen to change: 0 once three have them.
@@ -38,14 +43,19 @@ impl StreamAudit {
     {
         let sight = Sight::of(packet);
         let mut breaches = Breaches::none();
-        breaches
-            .name_not_ended
-            .note_if(!sight.is_name_ended, moment);
+        breaches.judge_alone(moment, sight);
+        let levels = if sight.start == NULL_START_CODE {
+            Some(moment)
+        } else {
+            None
+        };
         StreamAudit {
             moment,
             latest: sight,
             content: Content::of(packet.slots()),
+            levels,
             pace: Pace::begin(moment),
+            numbering: Numbering::first(),
             ends: ends_after(sight.terminated, 0),
             copies: 0,
             breaches,
@@ -60,8 +70,9 @@ impl StreamAudit {
         let sight = Sight::of(packet);
         let slots = packet.slots();
         let is_same = self.content.is_same(slots);
-        self.pace.count(moment);
+        self.count(moment, sight);
         self.judge(moment, sight);
+        self.levels = self.levels_after(moment, sight);
         self.copies = copies_after(sight.carries_on(self.latest), is_same, self.copies);
         self.moment = moment;
         self.latest = sight;
@@ -86,7 +97,15 @@ impl StreamAudit {
         0 < self.ends && self.ends < COPIES
     }
 
-    // Notes which rules a packet breaks. The pace counts it already, and all else is of those before it.
+    // Counts a packet, by its moment and its number.
+    fn count(&mut self, moment: u64, sight: Sight)
+        ensures { self.new ≡ counted moment sight self.old }
+    {
+        self.pace.count(moment);
+        self.numbering = self.numbering.after(self.latest.number, sight.number);
+    }
+
+    // Notes which rules a packet breaks. The pace and the numbering count it already, and all else is of those before it.
     fn judge(&mut self, moment: u64, sight: Sight)
         ensures { self.new ≡ (record self.old { breaches = judged moment sight self.old }) }
     {
@@ -94,20 +113,43 @@ impl StreamAudit {
         let is_short_change = self.is_short_change(moment, sight);
         let had_short_end = !sight.terminated & self.is_short_end();
         let is_too_fast = self.pace.is_too_fast();
+        let stays = self.numbering.same == COPIES_IN_A_ROW;
+        let leaves_out = self.leaves_out(sight);
         self.breaches.too_fast.note_if(is_too_fast, moment);
         self.breaches.silent.note_if(is_silent, moment);
         self.breaches.short_change.note_if(is_short_change, moment);
         self.breaches.short_end.note_if(had_short_end, moment);
-        self.breaches
-            .name_not_ended
-            .note_if(!sight.is_name_ended, moment);
+        self.breaches.number_stays.note_if(stays, moment);
+        self.breaches.number_left_out.note_if(leaves_out, moment);
+        self.breaches.judge_alone(moment, sight);
     }
 
-    // Whether the stream went on after too long a silence.
+    // Whether levels come after too long a silence.
     fn is_silent(&self, moment: u64, sight: Sight) -> bool
         ensures { result ≡ is_silent moment sight self.now }
     {
-        self.is_continued(sight) & (moment.saturating_sub(self.moment) > LONGEST_GAP)
+        self.is_continued(sight) & (sight.start == NULL_START_CODE) & is_late(moment, self.levels)
+    }
+
+    // The moment of the latest levels after a packet more.
+    fn levels_after(&self, moment: u64, sight: Sight) -> Option<u64>
+        ensures { result ≡ levels_after moment sight self.now }
+    {
+        if sight.start == NULL_START_CODE {
+            return Some(moment);
+        }
+        if self.is_continued(sight) {
+            self.levels
+        } else {
+            None
+        }
+    }
+
+    // Whether a packet passes over a number that is left out by habit.
+    fn leaves_out(&self, sight: Sight) -> bool
+        ensures { result ≡ leaves_out sight self.now }
+    {
+        passes_over(self.latest.number, sight.number) & (self.numbering.turns == TURNS)
     }
 
     // Whether the latest content wasn't repeated.
@@ -124,6 +166,16 @@ impl StreamAudit {
         ensures { result ≡ is_continued sight self.now }
     {
         sight.is_after(self.latest) & !self.latest.terminated
+    }
+}
+
+// Whether a moment is too long after that of levels, where there is one.
+fn is_late(moment: u64, levels: Option<u64>) -> bool
+    ensures { result ≡ is_late moment levels }
+{
+    match levels {
+        Some(earlier) => moment.saturating_sub(earlier) > LONGEST_GAP,
+        None => false,
     }
 }
 

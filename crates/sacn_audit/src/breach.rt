@@ -1,9 +1,11 @@
 //! How often a rule was broken, and when.
 
 ghost use Rattle.std.specs.Prelude.{◌≡◌};
+ghost use Rattle.sacn_audit.specs.Audits.{judged_alone};
 ghost use Rattle.sacn_audit.specs.Breaches.{breach_of, no_breach, no_breaches, noted, noted_if};
 
 use crate::rule::Rule;
+use crate::sight::Sight;
 
 /// How often a rule was broken, and when. Moments are in milliseconds; all are 0 where it wasn't.
 #[derive(Clone, Copy, PartialEq, Eq)]
@@ -62,6 +64,14 @@ pub struct Breaches {
     pub short_end: Breach,
     /// Of `Rule::NameNotEnded`.
     pub name_not_ended: Breach,
+    /// Of `Rule::NameNotText`.
+    pub name_not_text: Breach,
+    /// Of `Rule::NumberStays`.
+    pub number_stays: Breach,
+    /// Of `Rule::NumberLeftOut`.
+    pub number_left_out: Breach,
+    /// Of `Rule::OtherStart`.
+    pub other_start: Breach,
 }
 
 impl Breaches {
@@ -75,7 +85,20 @@ impl Breaches {
             short_change: Breach::none(),
             short_end: Breach::none(),
             name_not_ended: Breach::none(),
+            name_not_text: Breach::none(),
+            number_stays: Breach::none(),
+            number_left_out: Breach::none(),
+            other_start: Breach::none(),
         }
+    }
+
+    /// Notes which rules a packet breaks by itself, whatever came before.
+    pub(crate) fn judge_alone(&mut self, moment: u64, sight: Sight)
+        ensures { self.new ≡ judged_alone moment sight self.old }
+    {
+        self.name_not_ended.note_if(!sight.is_name_ended, moment);
+        self.name_not_text.note_if(!sight.is_name_text, moment);
+        self.other_start.note_if(sight.has_other_start(), moment);
     }
 
     /// That of one rule.
@@ -88,6 +111,10 @@ impl Breaches {
             Rule::ShortChange => self.short_change,
             Rule::ShortEnd => self.short_end,
             Rule::NameNotEnded => self.name_not_ended,
+            Rule::NameNotText => self.name_not_text,
+            Rule::NumberStays => self.number_stays,
+            Rule::NumberLeftOut => self.number_left_out,
+            Rule::OtherStart => self.other_start,
         }
     }
 }

@@ -6,7 +6,7 @@ pub(crate) const SECOND: u64 = 1000;
 /// The most packets of a stream in a second (E1.31, 6.6.1): the greatest refresh rate of E1.11 for 512 slots.
 pub(crate) const MOST_IN_A_SECOND: u8 = 44;
 
-/// The most milliseconds between two packets of a stream that goes on (E1.31, 6.6.2).
+/// The most milliseconds between packets with levels of a stream that goes on (E1.31, 6.6.2).
 pub(crate) const LONGEST_GAP: u64 = 1000;
 
 /// A stream that sent nothing for more milliseconds than this has stopped repeating what it shows: it only keeps alive.
@@ -15,3 +15,12 @@ pub(crate) const LONGEST_REPEAT: u64 = 500;
 /// So many packets show what has changed before a source may send less often (E1.31, 6.6.2), and so many end a stream
 /// (E1.31, 6.2.6).
 pub(crate) const COPIES: u8 = 3;
+
+/// A source that passed over one number so many turns in a row leaves it out by habit.
+pub(crate) const TURNS: u8 = 3;
+
+/// So many packets in a row with one number aren't copies that were made on the way.
+pub(crate) const COPIES_IN_A_ROW: u8 = 4;
+
+/// The start code of priorities for slots, beside 0 for levels.
+pub(crate) const PRIORITY_START_CODE: u8 = 0xDD;

@@ -1,15 +1,15 @@
 //! The rules that are looked at.
 
-/// A rule of E1.31 that the packets of a stream may break.
+/// A rule of E1.31 that the packets of a stream may break; and what is told of them that breaks none (`OtherStart`).
 #[derive(Clone, Copy, PartialEq, Eq)]
 pub enum Rule {
     /// More than 44 packets in each of two whole seconds of the clock that follow one another (6.6.1). Broken once for each
     /// second that completes such a pair, at its 45th packet. 44 is the rate of 512 slots (E1.11), however many this stream has and
     /// whatever rate its user has set; copies that were made on the way count.
     TooFast,
-    /// More than 1000 ms between two packets of a stream that goes on (6.6.2), of whatever start code: the second has the number
-    /// after the first, so that none was lost in between (nor, by these numbers, a multiple of 256), and the first doesn't end the
-    /// stream. Broken at the second.
+    /// More than 1000 ms between two packets with levels (start code 0) of a stream that goes on (6.6.2): what lies between them has
+    /// other start codes, each packet has the number after the one before it, so that none was lost in between (nor, by these
+    /// numbers, a multiple of 256), and none before the second ends the stream. Broken at the second.
     Silent,
     /// Levels that changed and were sent fewer than three times before the sender sent less often (6.6.2): a packet, of whatever
     /// start code, comes more than 500 ms after one that has the number before its own and doesn't end the stream, and the levels of
@@ -21,4 +21,16 @@ pub enum Rule {
     ShortEnd,
     /// The field of the source's name has no NUL (6.2.2). Broken at each such packet.
     NameNotEnded,
+    /// The source's name, up to the first NUL of its field, is not UTF-8 (6.2.2). Broken at each such packet.
+    NameNotText,
+    /// Numbers that don't go up by one (6.2.5): four packets in a row have one number. Broken at the fourth, and at each further one.
+    /// A receiver discards all but the first (6.7.2). Up to three are taken for copies of one packet that were made on the way.
+    NumberStays,
+    /// A number that is left out by habit (6.2.5), so that a receiver counts a packet as lost in each turn of 256: three turns in a row
+    /// went from the number before it to the one after it, and all other packets of these turns go up by one. Broken at the third
+    /// such step, and at each further one. What is lost on the way at the same number three turns in a row looks the same.
+    NumberLeftOut,
+    /// No breach, and told as seen: a start code that is neither 0 (levels) nor 0xDD (priorities for slots). The standard has room for
+    /// any (7.7), and a node that shows levels alone ignores such packets. Told at each of them.
+    OtherStart,
 }

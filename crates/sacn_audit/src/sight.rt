@@ -1,10 +1,13 @@
 //! What an audit looks at of one data packet, beside its slots.
 
-ghost use Rattle.std.specs.Prelude.{◌≡◌, ◌==◌};
+ghost use Rattle.std.specs.Prelude.{◌≡◌, ◌==◌, ◌&&◌, not};
 ghost use Rattle.std.specs.List.{list_any};
+ghost use Rattle.std.specs.Str.{is_utf8};
 ghost use Rattle.sacn_audit.specs.Audits.{carries_on, sight_of, is_after};
 
-use sacn_packets::DataView;
+use crate::limits::PRIORITY_START_CODE;
+use crate::numbering::number_after;
+use sacn_packets::{DataView, NULL_START_CODE};
 
 /// What an audit looks at of one data packet, beside its slots.
 #[derive(Clone, Copy, PartialEq, Eq)]
@@ -17,6 +20,8 @@ pub struct Sight {
     pub start: u8,
     /// Whether the field of the source's name has a NUL (E1.31, 6.2.2).
     pub is_name_ended: bool,
+    /// Whether the source's name is UTF-8 (E1.31, 6.2.2).
+    pub is_name_text: bool,
 }
 
 impl Sight {
@@ -29,6 +34,7 @@ impl Sight {
             terminated: packet.terminated(),
             start: packet.start(),
             is_name_ended: has_nul(packet.name_field()),
+            is_name_text: is_text(packet.name()),
         }
     }
 
@@ -36,7 +42,7 @@ impl Sight {
     pub(crate) fn is_after(self, earlier: Self) -> bool
         ensures { result ≡ is_after earlier self }
     {
-        self.number == earlier.number.wrapping_add(1)
+        self.number == number_after(earlier.number)
     }
 
     /// Whether it comes right after an earlier packet, and both have levels of a stream that goes on.
@@ -44,6 +50,23 @@ impl Sight {
         ensures { result ≡ carries_on earlier self }
     {
         self.is_after(earlier) & !earlier.terminated & (earlier.start == 0) & (self.start == 0)
+    }
+
+    /// Whether it has neither levels nor priorities for slots.
+    pub(crate) fn has_other_start(self) -> bool
+        ensures { result ≡ not (self.start == 0) && not (self.start == 221) }
+    {
+        (self.start != NULL_START_CODE) & (self.start != PRIORITY_START_CODE)
+    }
+}
+
+// Whether they are UTF-8.
+fn is_text(octets: &[u8]) -> bool
+    ensures { result ≡ is_utf8 octets.now }
+{
+    match str::from_utf8(octets) {
+        Ok(_) => true,
+        Err(_) => false,
     }
 }
 

@@ -70,6 +70,19 @@ impl Stream {
         }
     }
 
+    // So many packets a millisecond apart, from a moment on, of which none has the number 0.
+    fn send_without_0(&mut self, moment: u64, packets: u64)
+        requires moment { moment ≤ 1000 }
+        requires packets { packets ≤ 1000 }
+    {
+        for packet in 0..packets {
+            self.send(moment + packet, 255);
+            if self.number == 0 {
+                self.number = 1;
+            }
+        }
+    }
+
     fn breach_of(&self, rule: Rule) -> Breach {
         match &self.audit {
             Some(audit) => audit.breach_of(rule),
@@ -133,6 +146,24 @@ fn silence_is_longer_than_a_second(rt: HostRuntime) {
 }
 
 #[test]
+fn silence_is_of_levels(rt: HostRuntime) {
+    let mut stream = Stream::new();
+    stream.send(1000, 255);
+    // priorities for slots, which don't keep the levels alive
+    stream.hand(1900, 0xDD, 100, false);
+    stream.send(2000, 255);
+    stream.hand(4000, 0xDD, 100, false);
+    assert!(rt; stream.breach_of(Rule::Silent) == Breach::none());
+    stream.send(4001, 255);
+    assert!(rt; stream.breach_of(Rule::Silent) == broken(1, 4001, 4001));
+    stream.hand(4500, 0xDD, 100, false);
+    stream.lose();
+    stream.hand(5000, 0xDD, 100, false);
+    stream.send(6000, 255);
+    assert!(rt; stream.breach_of(Rule::Silent) == broken(1, 4001, 4001));
+}
+
+#[test]
 fn a_moment_before_the_latest_is_the_latest(rt: HostRuntime) {
     let mut stream = Stream::new();
     stream.send(5000, 255);
@@ -174,6 +205,81 @@ fn a_name_has_sixty_three_octets(rt: HostRuntime) {
     stream.send(200, 255);
     stream.send(300, 255);
     assert!(rt; stream.breach_of(Rule::NameNotEnded) == broken(2, 200, 300));
+}
+
+#[test]
+fn a_name_is_a_text(rt: HostRuntime) {
+    let mut stream = Stream::new();
+    // "Büh", and behind its NUL what stood there before
+    stream.name[0] = b'B';
+    stream.name[1] = 0xC3;
+    stream.name[2] = 0xBC;
+    stream.name[3] = b'h';
+    stream.name[5] = 0xFC;
+    stream.send(100, 255);
+    assert!(rt; stream.breach_of(Rule::NameNotText) == Breach::none());
+    // the same name in Latin-1
+    stream.name[1] = 0xFC;
+    stream.name[2] = b'h';
+    stream.name[3] = 0;
+    stream.send(200, 255);
+    stream.send(300, 255);
+    assert!(rt; stream.breach_of(Rule::NameNotText) == broken(2, 200, 300));
+    assert!(rt; stream.breach_of(Rule::NameNotEnded) == Breach::none());
+}
+
+#[test]
+fn a_number_that_stays_is_no_number(rt: HostRuntime) {
+    let mut stream = Stream::new();
+    for moment in [0, 25, 50] {
+        stream.number = 7;
+        stream.send(moment, 255);
+    }
+    stream.send(75, 255);
+    assert!(rt; stream.breach_of(Rule::NumberStays) == Breach::none());
+    for moment in [100, 125, 150, 175, 200] {
+        stream.number = 9;
+        stream.send(moment, 255);
+    }
+    assert!(rt; stream.breach_of(Rule::NumberStays) == broken(2, 175, 200));
+}
+
+#[test]
+fn a_number_is_left_out_by_habit(rt: HostRuntime) {
+    let mut stream = Stream::new();
+    stream.number = 254;
+    // twice from 255 to 1, at 2 and at 257
+    stream.send_without_0(0, 512);
+    assert!(rt; stream.breach_of(Rule::NumberLeftOut) == Breach::none());
+    stream.send_without_0(512, 255);
+    assert!(rt; stream.breach_of(Rule::NumberLeftOut) == broken(1, 512, 512));
+    stream.send_without_0(767, 1);
+    assert!(rt; stream.breach_of(Rule::NumberLeftOut) == broken(2, 512, 767));
+}
+
+#[test]
+fn what_is_lost_at_times_is_left_out_by_nobody(rt: HostRuntime) {
+    let mut stream = Stream::new();
+    stream.number = 254;
+    stream.send_without_0(0, 512);
+    // the third turn has it, and another one is lost
+    stream.number = 0;
+    stream.send_without_0(512, 20);
+    stream.lose();
+    stream.send_without_0(600, 600);
+    assert!(rt; stream.breach_of(Rule::NumberLeftOut) == Breach::none());
+}
+
+#[test]
+fn other_start_codes_are_told_as_seen(rt: HostRuntime) {
+    let mut stream = Stream::new();
+    stream.send(0, 255);
+    stream.hand(25, 0xDD, 100, false);
+    assert!(rt; stream.breach_of(Rule::OtherStart) == Breach::none());
+    stream.hand(50, 0x17, 65, false);
+    stream.send(75, 255);
+    stream.hand(100, 0xCC, 1, false);
+    assert!(rt; stream.breach_of(Rule::OtherStart) == broken(2, 50, 100));
 }
 
 #[test]
