@@ -4,3 +4,7 @@ pub mod Pacing
 pub mod Running
 pub mod Counting
 pub mod Auditing
+pub mod Keys
+pub mod Finding
+pub mod Tracking
+pub mod NetworkAuditing

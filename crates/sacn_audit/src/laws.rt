@@ -1,6 +1,7 @@
 //! Laws of the definitions: functions that do nothing, each of which has a law as its contract.
 
 ghost use Rattle.sacn_audit.specs.Histories.{BreachesAreOfTheirPackets, OrderIsKept, ShortEndsAreOfTheirPackets};
+ghost use Rattle.sacn_audit.specs.NetworkHistories.{AuditsAreOfTheirPackets, SourcesAreOfTheirPackets};
 
 /// For any packets of a stream the audit that heard them says of each rule how many of them broke it, and when the first and
 /// the latest of these came, each at its moment or, where that was before an earlier one, at the latest.
@@ -16,4 +17,15 @@ pub fn short_ends_are_of_their_packets()
 /// Where no packet is before an earlier one, each counts at its own moment.
 pub fn order_is_kept()
     ensures { OrderIsKept }
+{}
+
+/// After any packets of a network the audit of a stream is that of its own packets, whatever else came. Where there is no room for
+/// a further one it may have none.
+pub fn audits_are_of_their_packets()
+    ensures { AuditsAreOfTheirPackets }
+{}
+
+/// So is the audit of a source.
+pub fn sources_are_of_their_packets()
+    ensures { SourcesAreOfTheirPackets }
 {}

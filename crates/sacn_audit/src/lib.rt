@@ -7,20 +7,29 @@
 mod audit;
 mod breach;
 mod content;
+mod hints;
 pub mod laws;
 mod limits;
+mod network_audit;
 mod numbering;
 mod pace;
 mod rule;
 mod sight;
+mod source;
+mod source_register;
+mod stream_register;
 
 pub use audit::StreamAudit;
 pub use breach::{Breach, Breaches};
 pub use content::Content;
+pub use limits::MAX_STREAMS;
+pub use network_audit::Audit;
 pub use numbering::Numbering;
 pub use pace::Pace;
 pub use rule::Rule;
 pub use sight::Sight;
+pub use source::SourceAudit;
+pub use stream_register::AuditedStream;
 
 #[cfg(test)]
 mod tests;

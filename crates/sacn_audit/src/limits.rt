@@ -24,3 +24,13 @@ pub(crate) const COPIES_IN_A_ROW: u8 = 4;
 
 /// The start code of priorities for slots, beside 0 for levels.
 pub(crate) const PRIORITY_START_CODE: u8 = 0xDD;
+
+/// The most streams that an audit of a network keeps, and the most sources. A packet of a further stream is counted as untracked.
+pub const MAX_STREAMS: usize = 1024;
+
+/// How many hints there are of the places of streams, and of sources.
+pub(crate) const HINTS: usize = 65536;
+
+/// A source that was silent for more milliseconds than this is lost (E1.31, 6.7.1): what it sends then is no longer at once with what
+/// it sent before.
+pub(crate) const AT_ONCE: u64 = 2500;

@@ -1,0 +1,65 @@
+-- What an audit of a network keeps over any packets: a list, the latest first.
+use Rattle.std.specs.Prelude.{◌≡◌, ℕ, ◌≤◌, ◌⊎◌, Bool, ◌&&◌, ◌==◌, List, [], ◌∷◌, length, find, Option, Some, None, if◌then◌else◌}
+use Rattle.std.specs.Option.{option_map}
+use Rattle.std.specs.Str.{bytes_eq}
+use Rattle.sacn_packets.specs.Data.{Data}
+use Rattle.sacn_audit.specs.declared.limits.TheConstants.{MAX_STREAMS}
+use Rattle.sacn_audit.specs.declared.audit.StreamAudit.{StreamAudit}
+use Rattle.sacn_audit.specs.declared.source.SourceAudit.{SourceAudit}
+use Rattle.sacn_audit.specs.declared.stream_register.AuditedStream.{AuditedStream}
+use Rattle.sacn_audit.specs.Arrivals.{Arrival}
+use Rattle.sacn_audit.specs.Histories.{audit_by}
+use Rattle.sacn_audit.specs.Networks.{Network, after_heard, first_source, is_from, is_of, nothing_heard, source_after}
+
+-- a packet, when it came, and from which IPv4 address
+pub record Heard : Type 0 where
+  pub moment : ℕ
+  pub address : List ℕ
+  pub packet : Data
+
+-- what the contracts of the calls say
+abbrev pub after_all : List Heard → Network
+after_all [] = nothing_heard
+after_all (x ∷ earlier) = after_heard x.moment x.address x.packet (after_all earlier)
+
+-- ---- a stream
+
+abbrev pub is_on : ℕ → List ℕ → Data → Bool
+is_on universe cid d = (d.universe == universe) && bytes_eq d.cid cid
+
+-- the packets of this source on this universe
+abbrev pub arrivals : ℕ → List ℕ → List Heard → List Arrival
+arrivals universe cid [] = []
+arrivals universe cid (x ∷ earlier) = if is_on universe cid x.packet then record { moment = x.moment; packet = x.packet } ∷ arrivals universe cid earlier else arrivals universe cid earlier
+
+-- its audit that is kept
+abbrev pub audit_in : ℕ → List ℕ → List AuditedStream → Option StreamAudit
+audit_in universe cid ss = option_map (λ s. s.audit) (find (is_of universe cid) ss)
+
+-- After any packets the audit of a stream is that of its own packets, whatever else came; or it has none, and there is no room
+-- for a further one.
+abbrev pub AuditsAreOfTheirPackets : Type 0
+AuditsAreOfTheirPackets = (xs : List Heard) (universe : ℕ) (cid : List ℕ) →
+    (audit_in universe cid (after_all xs).streams ≡ audit_by (arrivals universe cid xs))
+    ⊎ ((audit_in universe cid (after_all xs).streams ≡ None) × (MAX_STREAMS ≤ length (after_all xs).streams))
+
+-- ---- a source
+
+-- the packets of this source
+abbrev pub packets_from : List ℕ → List Heard → List Heard
+packets_from cid [] = []
+packets_from cid (x ∷ earlier) = if bytes_eq x.packet.cid cid then x ∷ packets_from cid earlier else packets_from cid earlier
+
+abbrev pub source_with : Heard → Option SourceAudit → SourceAudit
+source_with x None = first_source x.moment x.address x.packet
+source_with x (Some s) = source_after x.moment x.address x.packet s
+
+abbrev pub source_by : List Heard → Option SourceAudit
+source_by [] = None
+source_by (x ∷ earlier) = Some (source_with x (source_by earlier))
+
+-- After any packets the audit of a source is that of its own packets; or it has none, and there is no room for a further one.
+abbrev pub SourcesAreOfTheirPackets : Type 0
+SourcesAreOfTheirPackets = (xs : List Heard) (cid : List ℕ) →
+    (find (is_from cid) (after_all xs).sources ≡ source_by (packets_from cid xs))
+    ⊎ ((find (is_from cid) (after_all xs).sources ≡ None) × (MAX_STREAMS ≤ length (after_all xs).sources))

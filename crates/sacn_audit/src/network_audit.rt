@@ -1,0 +1,77 @@
+//! The audits of all streams of a network.
+
+ghost use Rattle.std.specs.Prelude.{◌≡◌, IfOk};
+ghost use Rattle.sacn_audit.specs.Networks.{after_heard, nothing_heard};
+
+use crate::source::SourceAudit;
+use crate::source_register::SourceRegister;
+use crate::stream_register::{AuditedStream, StreamRegister};
+use sacn_packets::DataView;
+use std::alloc::{AllocError, Global};
+use std::marker::Model;
+
+/// Which rules the packets of a network break, for up to `MAX_STREAMS` streams, of up to `MAX_STREAMS` sources.
+///
+/// Its value is the list of the streams and that of the sources, in the order in which they appeared, and the count of the packets
+/// of further streams. No call but `new` takes memory.
+#[derive(Drop)]
+pub struct Audit {
+    streams: StreamRegister,
+    sources: SourceRegister,
+    untracked: u64,
+}
+
+impl Model for Audit {
+    ghost use Rattle.sacn_audit.specs.Networks.{Network};
+
+    ghost Value = { Network };
+
+    ghost view = { λ a. record { streams = a.streams; sources = a.sources; untracked = a.untracked } };
+}
+
+impl Audit {
+    /// An audit that has heard nothing, with all its room taken in four requests: about 1.3 MB.
+    ///
+    /// Errors: a request for memory was refused.
+    pub fn new(alloc: Global) -> Result<Self, AllocError>
+        ensures { IfOk result (λ a. a ≡ nothing_heard) }
+    {
+        Ok(Audit {
+            streams: StreamRegister::new(alloc)?,
+            sources: SourceRegister::new(alloc)?,
+            untracked: 0,
+        })
+    }
+
+    /// A packet that came at a moment, in milliseconds, from an IPv4 address. Moments are handed in so that of one source none is before
+    /// an earlier one; one that is counts as the latest of its stream, and of its source.
+    pub fn hear(&mut self, moment: u64, address: [u8; 4], packet: &DataView<'_>)
+        ensures { self.new ≡ after_heard moment address packet.now self.old }
+    {
+        if !self.streams.hear(moment, packet) {
+            self.untracked = self.untracked.saturating_add(1);
+        }
+        self.sources.hear(moment, address, packet);
+    }
+
+    /// The streams, in the order in which they appeared.
+    pub fn streams(&self) -> &[AuditedStream]
+        ensures { result.now ≡ self.now.streams }
+    {
+        self.streams.as_slice()
+    }
+
+    /// The sources, in the order in which they appeared.
+    pub fn sources(&self) -> &[SourceAudit]
+        ensures { result.now ≡ self.now.sources }
+    {
+        self.sources.as_slice()
+    }
+
+    /// The packets of streams for which there was no room, at most 2^64 - 1.
+    pub fn untracked(&self) -> u64
+        ensures { result ≡ self.now.untracked }
+    {
+        self.untracked
+    }
+}
