@@ -8,3 +8,4 @@ pub mod Keys
 pub mod Finding
 pub mod Tracking
 pub mod NetworkAuditing
+pub mod Senders

@@ -1,13 +1,15 @@
 -- What an audit of a network keeps over any packets: a list, the latest first.
-use Rattle.std.specs.Prelude.{◌≡◌, ℕ, ◌≤◌, ◌⊎◌, Bool, ◌&&◌, ◌==◌, List, [], ◌∷◌, length, find, Option, Some, None, if◌then◌else◌}
+use Rattle.std.specs.Prelude.{◌≡◌, ℕ, ◌≤◌, ◌-◌, ◌⊎◌, max, nat_le, Bool, false, not, ◌&&◌, ◌==◌, List, [], ◌∷◌, length, find, Option, Some, None, if◌then◌else◌}
 use Rattle.std.specs.Option.{option_map}
 use Rattle.std.specs.Str.{bytes_eq}
 use Rattle.sacn_packets.specs.Data.{Data}
 use Rattle.sacn_audit.specs.declared.limits.TheConstants.{MAX_STREAMS}
 use Rattle.sacn_audit.specs.declared.audit.StreamAudit.{StreamAudit}
+use Rattle.sacn_audit.specs.declared.breach.Breach.{Breach}
 use Rattle.sacn_audit.specs.declared.source.SourceAudit.{SourceAudit}
 use Rattle.sacn_audit.specs.declared.stream_register.AuditedStream.{AuditedStream}
 use Rattle.sacn_audit.specs.Arrivals.{Arrival}
+use Rattle.sacn_audit.specs.Breaches.{breach_by, no_breach}
 use Rattle.sacn_audit.specs.Histories.{audit_by}
 use Rattle.sacn_audit.specs.Networks.{Network, after_heard, first_source, is_from, is_of, nothing_heard, source_after}
 
@@ -63,3 +65,29 @@ abbrev pub SourcesAreOfTheirPackets : Type 0
 SourcesAreOfTheirPackets = (xs : List Heard) (cid : List ℕ) →
     (find (is_from cid) (after_all xs).sources ≡ source_by (packets_from cid xs))
     ⊎ ((find (is_from cid) (after_all xs).sources ≡ None) × (MAX_STREAMS ≤ length (after_all xs).sources))
+
+-- ---- one source at two addresses
+
+-- the moment in use after these packets of a source: the greatest that was handed in
+abbrev pub moment_after : List Heard → ℕ
+moment_after [] = 0
+moment_after (x ∷ earlier) = max x.moment (moment_after earlier)
+
+-- the latest comes from another address than the one before it, at most 2500 ms later
+abbrev pub has_two_senders : List Heard → Bool
+has_two_senders [] = false
+has_two_senders (x ∷ []) = false
+has_two_senders (x ∷ y ∷ earlier) = not (bytes_eq y.address x.address) && nat_le (moment_after (x ∷ y ∷ earlier) - moment_after (y ∷ earlier)) 2500
+
+-- the moments at which that was so, the latest first
+abbrev pub two_senders_at : List Heard → List ℕ
+two_senders_at [] = []
+two_senders_at (x ∷ earlier) = if has_two_senders (x ∷ earlier) then moment_after (x ∷ earlier) ∷ two_senders_at earlier else two_senders_at earlier
+
+abbrev pub two_senders_in : Option SourceAudit → Breach
+two_senders_in None = no_breach
+two_senders_in (Some s) = s.two_senders
+
+-- For any packets of a source its audit says how often it had two addresses at once, the first and the latest moment of these.
+abbrev pub SendersAreOfTheirPackets : Type 0
+SendersAreOfTheirPackets = (xs : List Heard) → two_senders_in (source_by xs) ≡ breach_by (two_senders_at xs)

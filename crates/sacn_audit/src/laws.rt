@@ -1,7 +1,7 @@
 //! Laws of the definitions: functions that do nothing, each of which has a law as its contract.
 
 ghost use Rattle.sacn_audit.specs.Histories.{BreachesAreOfTheirPackets, OrderIsKept, ShortEndsAreOfTheirPackets};
-ghost use Rattle.sacn_audit.specs.NetworkHistories.{AuditsAreOfTheirPackets, SourcesAreOfTheirPackets};
+ghost use Rattle.sacn_audit.specs.NetworkHistories.{AuditsAreOfTheirPackets, SendersAreOfTheirPackets, SourcesAreOfTheirPackets};
 
 /// For any packets of a stream the audit that heard them says of each rule how many of them broke it, and when the first and
 /// the latest of these came, each at its moment or, where that was before an earlier one, at the latest.
@@ -28,4 +28,10 @@ pub fn audits_are_of_their_packets()
 /// So is the audit of a source.
 pub fn sources_are_of_their_packets()
     ensures { SourcesAreOfTheirPackets }
+{}
+
+/// For any packets of a source its audit says how often a packet came from another address than the one before it, at most 2500 ms
+/// later, and when the first and the latest of these came, each at its moment or, where that was before an earlier one, at the latest.
+pub fn senders_are_of_their_packets()
+    ensures { SendersAreOfTheirPackets }
 {}

@@ -32,4 +32,6 @@ pub use source::SourceAudit;
 pub use stream_register::AuditedStream;
 
 #[cfg(test)]
+mod network_tests;
+#[cfg(test)]
 mod tests;
