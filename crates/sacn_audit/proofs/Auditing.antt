@@ -12,7 +12,7 @@ use Rattle.sacn_audit.specs.Audits.{after_at, after_packet, counted, first_audit
 use Rattle.sacn_audit.specs.Histories.{BreachesAreOfTheirPackets, ShortEndsAreOfTheirPackets, audit_by, audit_with}
 use Rattle.sacn_audit.proofs.Noting.{noted_by}
 use Rattle.sacn_audit.proofs.Pacing.{first_paced, first_slow, in_order, none_later, pace_of, paced, too_many}
-use Rattle.sacn_audit.proofs.Counting.{counted_more, first_counted, first_stays_not, leaves, numbering_of, stays}
+use Rattle.sacn_audit.proofs.Counting.{counted_more, first_counted, first_stays_not, leaves, habits_of, stays}
 use Rattle.sacn_audit.proofs.Running.{copies, copies_more, ends_in_turn, ends_more, some_copies}
 
 abbrev breaches_of : List Arrival → Breaches
@@ -36,7 +36,7 @@ audit_of x earlier = record {
   content = x.packet.slots;
   levels = latest_levels (x ∷ earlier);
   pace = pace_of x earlier;
-  numbering = numbering_of x earlier;
+  habits = habits_of x earlier;
   ends = min (ends (x ∷ earlier)) 3;
   copies = copies (x ∷ earlier);
   breaches = breaches_of (x ∷ earlier);
@@ -52,7 +52,7 @@ module _ (x y : Arrival) (earlier : List Arrival) where
   ys = y ∷ earlier
 
   abbrev before : StreamAudit
-  before = record (audit_of y earlier) { pace = pace_of x ys; numbering = numbering_of x ys }
+  before = record (audit_of y earlier) { pace = pace_of x ys; habits = habits_of x ys }
 
   noted : (is_broken test : Bool) (ms : List ℕ) → is_broken ≡ test → noted_if is_broken x.moment (breach_by ms) ≡ breach_by (cond test (x.moment ∷ ms) ms)
   noted is_broken test ms e = noted_by is_broken x.moment ms ∙ ap (λ (b : Bool). breach_by (cond b (x.moment ∷ ms) ms)) e
@@ -75,8 +75,8 @@ module _ (x y : Arrival) (earlier : List Arrival) where
       let name = noted (leaves_name_open (x ∷ ys)) (leaves_name_open (x ∷ ys)) (moments_where leaves_name_open ys) refl in
       let text = noted (has_no_text (x ∷ ys)) (has_no_text (x ∷ ys)) (moments_where has_no_text ys) refl in
       let start = noted (has_other_start (x ∷ ys)) (has_other_start (x ∷ ys)) (moments_where has_other_start ys) refl in
-      let stay = noted ((numbering_of x ys).same == 4) (keeps_number (x ∷ ys)) (moments_where keeps_number ys) (stays x ys) in
-      let left = noted (passes_one y.packet x.packet && ((numbering_of x ys).turns == 3)) (leaves_number_out (x ∷ ys)) (moments_where leaves_number_out ys) (leaves x y earlier) in
+      let stay = noted ((habits_of x ys).same == 4) (keeps_number (x ∷ ys)) (moments_where keeps_number ys) (stays x ys) in
+      let left = noted (passes_one y.packet x.packet && ((habits_of x ys).turns == 3)) (leaves_number_out (x ∷ ys)) (moments_where leaves_number_out ys) (leaves x y earlier) in
       λ i. record {
         too_fast = too_fast i;
         silent = silent i;
@@ -92,10 +92,10 @@ module _ (x y : Arrival) (earlier : List Arrival) where
   heard : second_of y.moment ≤ second_of x.moment → ((before second : ℕ) → second_of y.moment + before < second → packets_in before second ys ≡ 0) → after_at x.moment x.packet (audit_of y earlier) ≡ audit_of x ys
   heard ordered later =
       let pace = paced x y earlier ordered later in
-      let numbering = counted_more x y earlier in
+      let habits = counted_more x y earlier in
       let ends = ends_more x ys in
       let copied = copies_more x y earlier in
-      let counts : counted x.moment (sight_of x.packet) (audit_of y earlier) ≡ before = λ i. record (audit_of y earlier) { pace = pace i; numbering = numbering i } in
+      let counts : counted x.moment (sight_of x.packet) (audit_of y earlier) ≡ before = λ i. record (audit_of y earlier) { pace = pace i; habits = habits i } in
       let breaches = ap (judged x.moment (sight_of x.packet)) counts ∙ judges in
       λ i. record {
         moment = x.moment;
@@ -103,7 +103,7 @@ module _ (x y : Arrival) (earlier : List Arrival) where
         content = x.packet.slots;
         levels = latest_levels (x ∷ ys);
         pace = pace i;
-        numbering = numbering i;
+        habits = habits i;
         ends = ends i;
         copies = copied i;
         breaches = breaches i;
@@ -118,7 +118,7 @@ not_both false = refl
 begins : (x : Arrival) → first_audit x.moment x.packet ≡ audit_of x []
 begins x =
     let pace = first_paced x in
-    let numbering = first_counted x in
+    let habits = first_counted x in
     let ends = ends_more x [] in
     let fast = ap (λ (b : Bool). breach_by (cond b (x.moment ∷ []) [])) (sym (first_slow x)) in
     let end = ap (λ (b : Bool). breach_by (cond b (x.moment ∷ []) [])) (sym (not_both (not x.packet.terminated))) in
@@ -132,7 +132,7 @@ begins x =
       content = x.packet.slots;
       levels = latest_levels (x ∷ []);
       pace = pace i;
-      numbering = numbering i;
+      habits = habits i;
       ends = ends i;
       copies = 0;
       breaches = record {

@@ -2,10 +2,10 @@
 use Rattle.std.proofs.Common.{◌≡◌, ℕ, ◌+◌, ◌%◌, Bool, true, false, not, ◌&&◌, ◌==◌, nat_lt, cond, List, [], ◌∷◌, min, refl, sym, ap, ◌∙◌, arith}
 use Rattle.std.proofs.lemmas.Bool.{eqb-true}
 use Rattle.std.proofs.lemmas.Bool.Decides.{nat_tests}
-use Rattle.sacn_audit.specs.declared.numbering.Numbering.{Numbering}
+use Rattle.sacn_audit.specs.declared.number_habits.NumberHabits.{NumberHabits}
 use Rattle.sacn_audit.specs.Arrivals.{Arrival, follows, in_a_row, number_after, passes_one, turns_without}
 use Rattle.sacn_audit.specs.Rules.{keeps_number, leaves_number_out}
-use Rattle.sacn_audit.specs.Audits.{first_numbering, numbering_after, same_after, turns_after}
+use Rattle.sacn_audit.specs.Audits.{first_habits, habits_after, same_after, turns_after}
 
 -- the latest number that was passed over alone
 abbrev pub left_out_by : List Arrival → ℕ
@@ -13,9 +13,9 @@ left_out_by [] = 0
 left_out_by (x ∷ []) = 0
 left_out_by (x ∷ y ∷ earlier) = cond (passes_one y.packet x.packet) (number_after y.packet.number) (left_out_by (y ∷ earlier))
 
--- the numbering that a list has
-abbrev pub numbering_of : Arrival → List Arrival → Numbering
-numbering_of x earlier = record {
+-- the habits that a list has
+abbrev pub habits_of : Arrival → List Arrival → NumberHabits
+habits_of x earlier = record {
   left_out = left_out_by (x ∷ earlier);
   turns = min (turns_without (left_out_by (x ∷ earlier)) (x ∷ earlier)) 3;
   same = min (in_a_row x.packet.number (x ∷ earlier)) 4;
@@ -106,7 +106,7 @@ module _ (x y : Arrival) (earlier : List Arrival) where
   same_by true e = one_copy (in_a_row y.packet.number ys) ∙ ap (λ (n : ℕ). min (1 + in_a_row n ys) 4) (sym (eqb-true x.packet.number y.packet.number e))
   same_by false e = ap (λ (b : Bool). min (1 + cond b (1 + in_a_row x.packet.number earlier) 0) 4) (sym (turned x.packet.number y.packet.number e))
 
-  pub counted_more : numbering_after y.packet.number x.packet.number (numbering_of y earlier) ≡ numbering_of x ys
+  pub counted_more : habits_after y.packet.number x.packet.number (habits_of y earlier) ≡ habits_of x ys
   counted_more =
       let turns = turns_by (passes_one y.packet x.packet) in
       let same = same_by (x.packet.number == y.packet.number) refl ∙ ap (λ (b : Bool). min (cond b (1 + in_a_row x.packet.number ys) 0) 4) (sym (itself x.packet.number)) in
@@ -116,10 +116,10 @@ module _ (x y : Arrival) (earlier : List Arrival) where
   leaves_by true = three (turns_without here (x ∷ ys))
   leaves_by false = refl
 
-  pub leaves : passes_one y.packet x.packet && ((numbering_of x ys).turns == 3) ≡ leaves_number_out (x ∷ ys)
+  pub leaves : passes_one y.packet x.packet && ((habits_of x ys).turns == 3) ≡ leaves_number_out (x ∷ ys)
   leaves = leaves_by (passes_one y.packet x.packet)
 
-pub stays : (x : Arrival) (earlier : List Arrival) → ((numbering_of x earlier).same == 4) ≡ keeps_number (x ∷ earlier)
+pub stays : (x : Arrival) (earlier : List Arrival) → ((habits_of x earlier).same == 4) ≡ keeps_number (x ∷ earlier)
 stays x earlier = four (in_a_row x.packet.number (x ∷ earlier))
 
 -- ---- the first packet
@@ -132,7 +132,7 @@ few : (b : Bool) → nat_lt 3 (cond b 1 0) ≡ false
 few true = refl
 few false = refl
 
-pub first_counted : (x : Arrival) → first_numbering ≡ numbering_of x []
+pub first_counted : (x : Arrival) → first_habits ≡ habits_of x []
 first_counted x =
     let same = alone (x.packet.number == x.packet.number) (itself x.packet.number) in
     λ i. record { left_out = 0; turns = 0; same = same i }

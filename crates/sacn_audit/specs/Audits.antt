@@ -5,7 +5,7 @@ use Rattle.std.specs.Str.{bytes_eq, is_utf8}
 use Rattle.sacn_packets.specs.Data.{Data}
 use Rattle.sacn_audit.specs.declared.sight.Sight.{Sight}
 use Rattle.sacn_audit.specs.declared.pace.Pace.{Pace}
-use Rattle.sacn_audit.specs.declared.numbering.Numbering.{Numbering}
+use Rattle.sacn_audit.specs.declared.number_habits.NumberHabits.{NumberHabits}
 use Rattle.sacn_audit.specs.declared.breach.Breaches.{Breaches}
 use Rattle.sacn_audit.specs.declared.audit.StreamAudit.{StreamAudit}
 use Rattle.sacn_audit.specs.Arrivals.{number_after, second_of}
@@ -41,27 +41,27 @@ is_too_fast p = p.follows_many && (p.count == 45)
 
 -- ---- by which numbers
 
-abbrev pub first_numbering : Numbering
-first_numbering = record { left_out = 0; turns = 0; same = 1 }
+abbrev pub first_habits : NumberHabits
+first_habits = record { left_out = 0; turns = 0; same = 1 }
 
 -- a number passes over the one before it alone
 abbrev pub passes_over : ℕ → ℕ → Bool
 passes_over held arrived = arrived == number_after (number_after held)
 
-abbrev pub left_out_after : ℕ → ℕ → Numbering → ℕ
+abbrev pub left_out_after : ℕ → ℕ → NumberHabits → ℕ
 left_out_after held arrived n = if passes_over held arrived then number_after held else n.left_out
 
-abbrev pub turns_after : ℕ → ℕ → Numbering → ℕ
+abbrev pub turns_after : ℕ → ℕ → NumberHabits → ℕ
 turns_after held arrived n =
     if passes_over held arrived then (if number_after held == n.left_out then min (n.turns + 1) 3 else 1)
     else if (arrived == number_after held) && not (arrived == n.left_out) then n.turns else 0
 
-abbrev pub same_after : ℕ → ℕ → Numbering → ℕ
+abbrev pub same_after : ℕ → ℕ → NumberHabits → ℕ
 same_after held arrived n = if arrived == held then min (n.same + 1) 4 else 1
 
 -- a packet more, of the number that arrived, after one of that held
-abbrev pub numbering_after : ℕ → ℕ → Numbering → Numbering
-numbering_after held arrived n = record { left_out = left_out_after held arrived n; turns = turns_after held arrived n; same = same_after held arrived n }
+abbrev pub habits_after : ℕ → ℕ → NumberHabits → NumberHabits
+habits_after held arrived n = record { left_out = left_out_after held arrived n; turns = turns_after held arrived n; same = same_after held arrived n }
 
 -- ---- how many in a row
 
@@ -91,7 +91,7 @@ abbrev pub is_short_change : ℕ → Sight → StreamAudit → Bool
 is_short_change t s a = is_continued s a && nat_lt 500 (t - a.moment) && nat_lt 0 a.copies
 
 abbrev pub leaves_out : Sight → StreamAudit → Bool
-leaves_out s a = passes_over a.latest.number s.number && (a.numbering.turns == 3)
+leaves_out s a = passes_over a.latest.number s.number && (a.habits.turns == 3)
 
 -- by itself, whatever came before
 abbrev pub judged_alone : ℕ → Sight → Breaches → Breaches
@@ -101,14 +101,14 @@ judged_alone t s b = record b {
   other_start = noted_if (not (s.start == 0) && not (s.start == 221)) t b.other_start;
 }
 
--- where the pace and the numbering count it already
+-- where the pace and the habits count it already
 abbrev pub judged : ℕ → Sight → StreamAudit → Breaches
 judged t s a = record (judged_alone t s a.breaches) {
   too_fast = noted_if (is_too_fast a.pace) t a.breaches.too_fast;
   silent = noted_if (is_silent t s a) t a.breaches.silent;
   short_change = noted_if (is_short_change t s a) t a.breaches.short_change;
   short_end = noted_if (not s.terminated && is_short a.ends) t a.breaches.short_end;
-  number_stays = noted_if (a.numbering.same == 4) t a.breaches.number_stays;
+  number_stays = noted_if (a.habits.same == 4) t a.breaches.number_stays;
   number_left_out = noted_if (leaves_out s a) t a.breaches.number_left_out;
 }
 
@@ -121,7 +121,7 @@ first_audit t d = record {
   content = d.slots;
   levels = if d.start == 0 then Some t else None;
   pace = first_pace t;
-  numbering = first_numbering;
+  habits = first_habits;
   ends = ends_after d.terminated 0;
   copies = 0;
   breaches = judged_alone t (sight_of d) no_breaches;
@@ -131,9 +131,9 @@ first_audit t d = record {
 abbrev pub levels_after : ℕ → Sight → StreamAudit → Option ℕ
 levels_after t s a = if s.start == 0 then Some t else if is_continued s a then a.levels else None
 
--- the pace and the numbering count a packet
+-- the pace and the habits count a packet
 abbrev pub counted : ℕ → Sight → StreamAudit → StreamAudit
-counted t s a = record a { pace = pace_after t a.pace; numbering = numbering_after a.latest.number s.number a.numbering }
+counted t s a = record a { pace = pace_after t a.pace; habits = habits_after a.latest.number s.number a.habits }
 
 abbrev pub after_at : ℕ → Data → StreamAudit → StreamAudit
 after_at t d a = record {
@@ -142,7 +142,7 @@ after_at t d a = record {
   content = d.slots;
   levels = levels_after t (sight_of d) a;
   pace = pace_after t a.pace;
-  numbering = numbering_after a.latest.number d.number a.numbering;
+  habits = habits_after a.latest.number d.number a.habits;
   ends = ends_after d.terminated a.ends;
   copies = copies_after (carries_on a.latest (sight_of d)) (bytes_eq a.content d.slots) a.copies;
   breaches = judged t (sight_of d) (counted t (sight_of d) a);

@@ -3,6 +3,7 @@ use Rattle.std.specs.Prelude.{◌≡◌, ℕ, ◌≤◌, ◌-◌, ◌⊎◌, max
 use Rattle.std.specs.Option.{option_map}
 use Rattle.std.specs.Str.{bytes_eq}
 use Rattle.sacn_packets.specs.Data.{Data}
+use Rattle.sacn_sources.specs.declared.limits.TheConstants.{NETWORK_DATA_LOSS}
 use Rattle.sacn_audit.specs.declared.limits.TheConstants.{MAX_STREAMS}
 use Rattle.sacn_audit.specs.declared.audit.StreamAudit.{StreamAudit}
 use Rattle.sacn_audit.specs.declared.breach.Breach.{Breach}
@@ -77,7 +78,7 @@ moment_after (x ∷ earlier) = max x.moment (moment_after earlier)
 abbrev pub has_two_senders : List Heard → Bool
 has_two_senders [] = false
 has_two_senders (x ∷ []) = false
-has_two_senders (x ∷ y ∷ earlier) = not (bytes_eq y.address x.address) && nat_le (moment_after (x ∷ y ∷ earlier) - moment_after (y ∷ earlier)) 2500
+has_two_senders (x ∷ y ∷ earlier) = not (bytes_eq y.address x.address) && nat_le (moment_after (x ∷ y ∷ earlier) - moment_after (y ∷ earlier)) NETWORK_DATA_LOSS
 
 -- the moments at which that was so, the latest first
 abbrev pub two_senders_at : List Heard → List ℕ

@@ -3,6 +3,7 @@ use Rattle.std.specs.Prelude.{◌≡◌, ℕ, ◌+◌, ◌-◌, ◌^◌, min, ma
 use Rattle.std.specs.List.{AllPairs, position}
 use Rattle.std.specs.Str.{bytes_eq}
 use Rattle.sacn_packets.specs.Data.{Data}
+use Rattle.sacn_sources.specs.declared.limits.TheConstants.{NETWORK_DATA_LOSS}
 use Rattle.sacn_audit.specs.declared.source.SourceAudit.{SourceAudit}
 use Rattle.sacn_audit.specs.declared.stream_register.AuditedStream.{AuditedStream}
 use Rattle.sacn_audit.specs.Breaches.{no_breach, noted_if}
@@ -46,7 +47,7 @@ first_source t address d = record { cid = d.cid; name = d.name; address = addres
 
 -- at t a packet comes from another address, at most 2500 ms after the latest one
 abbrev pub is_elsewhere : ℕ → List ℕ → SourceAudit → Bool
-is_elsewhere t address s = not (bytes_eq s.address address) && nat_le (t - s.moment) 2500
+is_elsewhere t address s = not (bytes_eq s.address address) && nat_le (t - s.moment) NETWORK_DATA_LOSS
 
 abbrev pub source_at : ℕ → List ℕ → Data → SourceAudit → SourceAudit
 source_at t address d s = record s { name = d.name; address = address; moment = t; two_senders = noted_if (is_elsewhere t address s) t s.two_senders }

@@ -8,7 +8,7 @@ ghost use Rattle.sacn_audit.specs.Rules.{is_late};
 use crate::breach::{Breach, Breaches};
 use crate::content::Content;
 use crate::limits::{COPIES, COPIES_IN_A_ROW, LONGEST_GAP, LONGEST_REPEAT, TURNS};
-use crate::numbering::{Numbering, passes_over};
+use crate::number_habits::{NumberHabits, passes_over};
 use crate::pace::Pace;
 use crate::rule::Rule;
 use crate::sight::Sight;
@@ -28,7 +28,7 @@ pub struct StreamAudit {
     // The moment of the latest packet with levels, where nothing was lost since, and the stream didn't end.
     levels: Option<u64>,
     pace: Pace,
-    numbering: Numbering,
+    habits: NumberHabits,
     // The latest packets in a row that end the stream: 3 for three or more.
     ends: u8,
     // The packets so far with the latest levels, where these were seen to change: 0 once three have them.
@@ -55,7 +55,7 @@ impl StreamAudit {
             content: Content::of(packet.slots()),
             levels,
             pace: Pace::begin(moment),
-            numbering: Numbering::first(),
+            habits: NumberHabits::first(),
             ends: ends_after(sight.terminated, 0),
             copies: 0,
             breaches,
@@ -102,10 +102,10 @@ impl StreamAudit {
         ensures { self.new ≡ counted moment sight self.old }
     {
         self.pace.count(moment);
-        self.numbering = self.numbering.after(self.latest.number, sight.number);
+        self.habits = self.habits.after(self.latest.number, sight.number);
     }
 
-    // Notes which rules a packet breaks. The pace and the numbering count it already, and all else is of those before it.
+    // Notes which rules a packet breaks. The pace and the habits count it already, and all else is of those before it.
     fn judge(&mut self, moment: u64, sight: Sight)
         ensures { self.new ≡ (record self.old { breaches = judged moment sight self.old }) }
     {
@@ -113,7 +113,7 @@ impl StreamAudit {
         let is_short_change = self.is_short_change(moment, sight);
         let had_short_end = !sight.terminated & self.is_short_end();
         let is_too_fast = self.pace.is_too_fast();
-        let stays = self.numbering.same == COPIES_IN_A_ROW;
+        let stays = self.habits.same == COPIES_IN_A_ROW;
         let leaves_out = self.leaves_out(sight);
         self.breaches.too_fast.note_if(is_too_fast, moment);
         self.breaches.silent.note_if(is_silent, moment);
@@ -149,7 +149,7 @@ impl StreamAudit {
     fn leaves_out(&self, sight: Sight) -> bool
         ensures { result ≡ leaves_out sight self.now }
     {
-        passes_over(self.latest.number, sight.number) & (self.numbering.turns == TURNS)
+        passes_over(self.latest.number, sight.number) & (self.habits.turns == TURNS)
     }
 
     // Whether the latest content wasn't repeated.

@@ -1,7 +1,9 @@
-//! Which rules of streaming ACN (ANSI E1.31-2018) the packets of one stream break: those of one source on one universe.
+//! Which rules of streaming ACN (ANSI E1.31-2018) the packets of a network break.
 //!
-//! A [`StreamAudit`] is handed each packet of the stream with its moment, and keeps of each [`Rule`] how often it was broken,
-//! when first and when last. It has a fixed size, and no call takes memory. What it keeps over any packets stands in [`laws`].
+//! A [`StreamAudit`] is handed each packet of one stream, those of one source on one universe, with its moment, and keeps of each
+//! [`Rule`] how often it was broken, when first and when last. It has a fixed size. An [`Audit`] keeps those of up to
+//! [`MAX_STREAMS`] streams, and of their sources which had two addresses at once. Hearing takes no memory. What is kept over any
+//! packets stands in [`laws`].
 #![tactic(auto)]
 
 mod audit;
@@ -11,7 +13,7 @@ mod hints;
 pub mod laws;
 mod limits;
 mod network_audit;
-mod numbering;
+mod number_habits;
 mod pace;
 mod rule;
 mod sight;
@@ -24,7 +26,7 @@ pub use breach::{Breach, Breaches};
 pub use content::Content;
 pub use limits::MAX_STREAMS;
 pub use network_audit::Audit;
-pub use numbering::Numbering;
+pub use number_habits::NumberHabits;
 pub use pace::Pace;
 pub use rule::Rule;
 pub use sight::Sight;

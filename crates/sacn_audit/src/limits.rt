@@ -30,7 +30,3 @@ pub const MAX_STREAMS: usize = 1024;
 
 /// How many hints there are of the places of streams, and of sources.
 pub(crate) const HINTS: usize = 65536;
-
-/// A source that was silent for more milliseconds than this is lost (E1.31, 6.7.1): what it sends then is no longer at once with what
-/// it sent before.
-pub(crate) const AT_ONCE: u64 = 2500;

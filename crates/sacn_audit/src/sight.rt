@@ -6,7 +6,7 @@ ghost use Rattle.std.specs.Str.{is_utf8};
 ghost use Rattle.sacn_audit.specs.Audits.{carries_on, sight_of, is_after};
 
 use crate::limits::PRIORITY_START_CODE;
-use crate::numbering::number_after;
+use crate::number_habits::number_after;
 use sacn_packets::{DataView, NULL_START_CODE};
 
 /// What an audit looks at of one data packet, beside its slots.

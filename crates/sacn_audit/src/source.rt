@@ -4,8 +4,8 @@ ghost use Rattle.std.specs.Prelude.{◌≡◌};
 ghost use Rattle.sacn_audit.specs.Networks.{first_source, is_elsewhere, is_from, source_after};
 
 use crate::breach::Breach;
-use crate::limits::AT_ONCE;
 use sacn_packets::DataView;
+use sacn_sources::NETWORK_DATA_LOSS;
 
 /// A source, over all its universes. Moments are in milliseconds.
 #[derive(Clone, Copy, PartialEq, Eq)]
@@ -21,8 +21,9 @@ pub struct SourceAudit {
     /// The moment of the latest packet: the greatest that was handed in with one of its packets.
     pub moment: u64,
     /// One CID at two addresses at once (E1.31, 5.6: no other component has it). Broken at each packet that comes from another address
-    /// than the packet of this source before it, at most 2500 ms later. So a source that moves breaks it once, and two devices with
-    /// one CID do so again and again, as one device does that sends from two addresses.
+    /// than the packet of this source before it, at most 2500 ms later, for as long as a silent source counts (6.7.1). So a source
+    /// that moves breaks it once, and two devices with one CID do so again and again, as one device does that sends from two
+    /// addresses.
     pub two_senders: Breach,
 }
 
@@ -64,6 +65,6 @@ impl SourceAudit {
     fn is_elsewhere(&self, moment: u64, address: &[u8; 4]) -> bool
         ensures { result ≡ is_elsewhere moment address.now self.now }
     {
-        (self.address != *address) & (moment.saturating_sub(self.moment) <= AT_ONCE)
+        (self.address != *address) & (moment.saturating_sub(self.moment) <= NETWORK_DATA_LOSS)
     }
 }

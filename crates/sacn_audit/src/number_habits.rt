@@ -2,13 +2,13 @@
 
 ghost use Rattle.std.specs.Prelude.{◌≡◌};
 ghost use Rattle.sacn_audit.specs.Arrivals.{number_after};
-ghost use Rattle.sacn_audit.specs.Audits.{first_numbering, numbering_after, passes_over, turns_after};
+ghost use Rattle.sacn_audit.specs.Audits.{first_habits, habits_after, passes_over, turns_after};
 
 use crate::limits::{COPIES_IN_A_ROW, TURNS};
 
 /// By which numbers the packets of a stream come.
 #[derive(Clone, Copy, PartialEq, Eq)]
-pub struct Numbering {
+pub struct NumberHabits {
     /// The latest number that was passed over alone; 0 where none was.
     pub left_out: u8,
     /// So many turns in a row passed it over, while all else went up by one: 3 for three or more, 0 where that isn't so.
@@ -17,12 +17,12 @@ pub struct Numbering {
     pub same: u8,
 }
 
-impl Numbering {
-    /// That of a first packet.
+impl NumberHabits {
+    /// Those of a first packet.
     pub(crate) fn first() -> Self
-        ensures { result ≡ first_numbering }
+        ensures { result ≡ first_habits }
     {
-        Numbering {
+        NumberHabits {
             left_out: 0,
             turns: 0,
             same: 1,
@@ -31,7 +31,7 @@ impl Numbering {
 
     /// One packet more, which has the number that arrived, after one that has the number held.
     pub(crate) fn after(self, held: u8, arrived: u8) -> Self
-        ensures { result ≡ numbering_after held arrived self }
+        ensures { result ≡ habits_after held arrived self }
     {
         let left_out = if passes_over(held, arrived) {
             number_after(held)
@@ -43,7 +43,7 @@ impl Numbering {
         } else {
             1
         };
-        Numbering {
+        NumberHabits {
             left_out,
             turns: self.turns_after(held, arrived),
             same,

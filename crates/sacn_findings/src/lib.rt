@@ -1,0 +1,18 @@
+//! What an [`Audit`](sacn_audit::Audit) found, as text for people and as objects of JSON for programs: for each source which rules of
+//! streaming ACN (ANSI E1.31-2018) its packets broke, on which universes, how often and when.
+//!
+//! That totals are sums of what was counted is proved; how they are spelled is tested.
+#![tactic(auto)]
+
+mod findings;
+mod objects;
+mod rule_rows;
+mod sentences;
+mod sources;
+
+pub use findings::total_of;
+pub use objects::push_objects;
+pub use sentences::push_text;
+
+#[cfg(test)]
+mod tests;

@@ -1,0 +1,115 @@
+//! What was found, as objects of JSON for programs.
+
+use crate::findings::{short_ends_of, total_of, universes_of};
+use crate::rule_rows::{ROWS, Row};
+use crate::sentences::{conforms, is_unseen};
+use crate::sources::push_address;
+use sacn_audit::{Audit, AuditedStream, Breach, SourceAudit};
+use sacn_packets::up_to_nul;
+use sacn_tell::{begin_object, push_key, push_number, push_numbers, push_source_members, push_word};
+use std::alloc::{AllocError, Global};
+
+/// Pushes an object for each source and each rule that it broke, a line each; for a source that broke none one object `conforms`.
+///
+/// Errors: a growth was refused.
+pub fn push_objects(alloc: Global, text: &mut String, audit: &Audit) -> Result<(), AllocError> {
+    for source in audit.sources() {
+        push_source_objects(alloc, text, audit.streams(), source)?;
+    }
+    Ok(())
+}
+
+fn push_source_objects(
+    alloc: Global,
+    text: &mut String,
+    streams: &[AuditedStream],
+    source: &SourceAudit,
+) -> Result<(), AllocError> {
+    if conforms(streams, source) {
+        begin(text, source.moment, "conforms", source)?;
+        text.push_str("}\n")?;
+    }
+    push_two_senders(text, source)?;
+    for row in &ROWS {
+        push_finding(alloc, text, streams, source, row)?;
+        if is_unseen(streams, source, row) {
+            begin(text, source.moment, "unseen", source)?;
+            push_rule(text, row.section, row.words)?;
+            text.push_str("}\n")?;
+        }
+    }
+    push_short_end(alloc, text, streams, source)
+}
+
+fn push_finding(
+    alloc: Global,
+    text: &mut String,
+    streams: &[AuditedStream],
+    source: &SourceAudit,
+    row: &Row,
+) -> Result<(), AllocError> {
+    let total = total_of(streams, &source.cid, row.rule);
+    if total.times == 0 {
+        return Ok(());
+    }
+    let universes = universes_of(alloc, streams, &source.cid, row.rule)?;
+    let event = if row.is_breach { "breach" } else { "seen" };
+    begin(text, total.latest, event, source)?;
+    push_rule(text, row.section, row.words)?;
+    push_numbers(text, "universes", universes.as_slice())?;
+    push_moments(text, total)
+}
+
+// The front of an object: its moment, its key, and the source.
+fn begin(
+    text: &mut String,
+    moment: u64,
+    event: &str,
+    source: &SourceAudit,
+) -> Result<(), AllocError> {
+    begin_object(text, moment, event)?;
+    push_source_members(text, &source.cid, up_to_nul(&source.name))?;
+    push_key(text, "address")?;
+    text.push('"')?;
+    push_address(text, source.address)?;
+    text.push('"')
+}
+
+fn push_rule(text: &mut String, section: &str, words: &str) -> Result<(), AllocError> {
+    push_word(text, "section", section)?;
+    push_word(text, "rule", words)
+}
+
+// Its first and its latest moment, how often it was, and the end of the object.
+fn push_moments(text: &mut String, breach: Breach) -> Result<(), AllocError> {
+    push_number(text, "first", breach.first)?;
+    push_number(text, "latest", breach.latest)?;
+    push_number(text, "times", breach.times)?;
+    text.push_str("}\n")
+}
+
+fn push_two_senders(text: &mut String, source: &SourceAudit) -> Result<(), AllocError> {
+    if source.two_senders.times == 0 {
+        return Ok(());
+    }
+    begin(text, source.two_senders.latest, "breach", source)?;
+    push_rule(text, "5.6", "one CID at two addresses")?;
+    push_moments(text, source.two_senders)
+}
+
+// Streams that have ended by too few packets, after which nothing came.
+fn push_short_end(
+    alloc: Global,
+    text: &mut String,
+    streams: &[AuditedStream],
+    source: &SourceAudit,
+) -> Result<(), AllocError> {
+    let universes = short_ends_of(alloc, streams, &source.cid)?;
+    if universes.is_empty() {
+        return Ok(());
+    }
+    begin(text, source.moment, "open_end", source)?;
+    push_rule(text, "6.2.6", "ended by fewer than three packets")?;
+    push_numbers(text, "universes", universes.as_slice())?;
+    text.push_str("}\n")
+}

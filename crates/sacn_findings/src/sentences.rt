@@ -1,0 +1,159 @@
+//! What was found, as text for people.
+
+use crate::findings::{short_ends_of, total_of, universes_of};
+use crate::rule_rows::{ROWS, Row};
+use crate::sources::{heard_for, push_source};
+use sacn_audit::{Audit, AuditedStream, Breach, Rule, SourceAudit};
+use sacn_tell::{push_decimal, push_ranges, push_seconds};
+use std::alloc::{AllocError, Global};
+
+/// Pushes a block for each source, in the order in which they appeared: `"Main FOH" 0001..0f at 10.0.0.5: conforms`, or a line for each
+/// rule that it broke. What the audit had no room for is told at the end.
+///
+/// Errors: a growth was refused.
+pub fn push_text(alloc: Global, text: &mut String, audit: &Audit) -> Result<(), AllocError> {
+    for source in audit.sources() {
+        push_block(alloc, text, audit.streams(), source)?;
+    }
+    push_untracked(text, audit.untracked())
+}
+
+fn push_block(
+    alloc: Global,
+    text: &mut String,
+    streams: &[AuditedStream],
+    source: &SourceAudit,
+) -> Result<(), AllocError> {
+    push_source(text, source)?;
+    if conforms(streams, source) {
+        text.push_str(": conforms\n")?;
+    } else {
+        text.push_str(":\n")?;
+    }
+    push_two_senders(text, source)?;
+    for row in &ROWS {
+        push_finding(alloc, text, streams, source, row)?;
+        if row.rule == Rule::ShortEnd {
+            push_short_end(alloc, text, streams, source)?;
+        }
+    }
+    push_unseen(text, streams, source)
+}
+
+/// Whether a source breaks no rule, as far as was heard of it.
+pub(crate) fn conforms(streams: &[AuditedStream], source: &SourceAudit) -> bool {
+    for row in &ROWS {
+        if row.is_breach && total_of(streams, &source.cid, row.rule).times > 0 {
+            return false;
+        }
+    }
+    for stream in streams {
+        if stream.cid == source.cid && stream.audit.is_short_end() {
+            return false;
+        }
+    }
+    source.two_senders.times == 0
+}
+
+// A line for a rule that was broken.
+fn push_finding(
+    alloc: Global,
+    text: &mut String,
+    streams: &[AuditedStream],
+    source: &SourceAudit,
+    row: &Row,
+) -> Result<(), AllocError> {
+    let total = total_of(streams, &source.cid, row.rule);
+    if total.times == 0 {
+        return Ok(());
+    }
+    let universes = universes_of(alloc, streams, &source.cid, row.rule)?;
+    text.push_str(if row.is_breach { "  " } else { "  seen, no breach: " })?;
+    text.push_str(row.section)?;
+    text.push(' ')?;
+    text.push_str(row.words)?;
+    push_where(text, universes.as_slice())?;
+    push_times(text, total)
+}
+
+fn push_where(text: &mut String, universes: &[u16]) -> Result<(), AllocError> {
+    text.push_str(" on ")?;
+    push_ranges(text, universes)
+}
+
+// How often, and when: ` (60 times, the first at 3.200 s, the latest at 61.105 s)`, and the end of the line.
+fn push_times(text: &mut String, breach: Breach) -> Result<(), AllocError> {
+    if breach.times == 1 {
+        text.push_str(" (once, at ")?;
+        push_seconds(text, breach.first)?;
+        return text.push_str(" s)\n");
+    }
+    text.push_str(" (")?;
+    push_decimal(text, breach.times)?;
+    text.push_str(" times, the first at ")?;
+    push_seconds(text, breach.first)?;
+    text.push_str(" s, the latest at ")?;
+    push_seconds(text, breach.latest)?;
+    text.push_str(" s)\n")
+}
+
+fn push_two_senders(text: &mut String, source: &SourceAudit) -> Result<(), AllocError> {
+    if source.two_senders.times == 0 {
+        return Ok(());
+    }
+    text.push_str("  5.6 one CID at two addresses")?;
+    push_times(text, source.two_senders)
+}
+
+// Streams that have ended by too few packets, after which nothing came.
+fn push_short_end(
+    alloc: Global,
+    text: &mut String,
+    streams: &[AuditedStream],
+    source: &SourceAudit,
+) -> Result<(), AllocError> {
+    let universes = short_ends_of(alloc, streams, &source.cid)?;
+    if universes.is_empty() {
+        return Ok(());
+    }
+    text.push_str("  6.2.6 ended by fewer than three packets")?;
+    push_where(text, universes.as_slice())?;
+    text.push_str(", and nothing came after them\n")
+}
+
+/// Whether a rule that wasn't broken can't be seen, since the source was heard for too short a time.
+pub(crate) fn is_unseen(streams: &[AuditedStream], source: &SourceAudit, row: &Row) -> bool {
+    heard_for(source) < row.least && total_of(streams, &source.cid, row.rule).times == 0
+}
+
+// The clauses of the rules that can't be seen, each once.
+fn push_unseen(
+    text: &mut String,
+    streams: &[AuditedStream],
+    source: &SourceAudit,
+) -> Result<(), AllocError> {
+    let mut latest = "";
+    for row in &ROWS {
+        if is_unseen(streams, source, row) && row.section != latest {
+            text.push_str(if latest.is_empty() {
+                "  can't be seen in so short a recording: "
+            } else {
+                ", "
+            })?;
+            text.push_str(row.section)?;
+            latest = row.section;
+        }
+    }
+    if latest.is_empty() {
+        return Ok(());
+    }
+    text.push('\n')
+}
+
+fn push_untracked(text: &mut String, untracked: u64) -> Result<(), AllocError> {
+    if untracked == 0 {
+        return Ok(());
+    }
+    push_decimal(text, untracked)?;
+    text.push_str(" packets of further streams weren't looked at\n")
+}
