@@ -38,17 +38,17 @@ pub fn tell<R: AllocGlobal + Files, I: Read + Drop, O: Write, E: Write>(
     err: &mut E,
 ) -> Result<(), Ending> {
     if asked.capture == STANDARD_INPUT {
-        let audited = audited(rt.alloc(), asked, input, err)?;
+        let audited = audit_of(rt.alloc(), asked, input, err)?;
         return tell_audited(rt.alloc(), asked, &audited, out, err);
     }
     let Ok(file) = fs::open(rt, asked.capture) else {
         return Err(say_unread(asked.capture, err));
     };
-    let audited = audited(rt.alloc(), asked, file, err)?;
+    let audited = audit_of(rt.alloc(), asked, file, err)?;
     tell_audited(rt.alloc(), asked, &audited, out, err)
 }
 
-fn audited<I: Read + Drop, E: Write>(
+fn audit_of<I: Read + Drop, E: Write>(
     alloc: Global,
     asked: AuditOf<'_>,
     input: I,
