@@ -6,7 +6,9 @@ use crate::sentences::{conforms, is_unseen};
 use crate::sources::push_address;
 use sacn_audit::{Audit, AuditedStream, Breach, SourceAudit};
 use sacn_packets::up_to_nul;
-use sacn_tell::{begin_object, push_key, push_number, push_numbers, push_source_members, push_word};
+use sacn_tell::{
+    begin_object, push_key, push_number, push_numbers, push_source_members, push_word,
+};
 use std::alloc::{AllocError, Global};
 
 /// Pushes an object for each source and each rule that it broke, a line each; for a source that broke none one object `conforms`.

@@ -68,7 +68,11 @@ fn push_finding(
         return Ok(());
     }
     let universes = universes_of(alloc, streams, &source.cid, row.rule)?;
-    text.push_str(if row.is_breach { "  " } else { "  seen, no breach: " })?;
+    text.push_str(if row.is_breach {
+        "  "
+    } else {
+        "  seen, no breach: "
+    })?;
     text.push_str(row.section)?;
     text.push(' ')?;
     text.push_str(row.words)?;
@@ -134,20 +138,32 @@ fn push_unseen(
 ) -> Result<(), AllocError> {
     let mut latest = "";
     for row in &ROWS {
-        if is_unseen(streams, source, row) && row.section != latest {
-            text.push_str(if latest.is_empty() {
-                "  can't be seen in so short a recording: "
-            } else {
-                ", "
-            })?;
-            text.push_str(row.section)?;
-            latest = row.section;
-        }
+        latest = push_where_unseen(text, streams, source, row, latest)?;
     }
     if latest.is_empty() {
         return Ok(());
     }
     text.push('\n')
+}
+
+// The clause of a rule that can't be seen, where it isn't the latest one that stands there. Returns the latest one, an empty text for none.
+fn push_where_unseen(
+    text: &mut String,
+    streams: &[AuditedStream],
+    source: &SourceAudit,
+    row: &Row,
+    latest: &'static str,
+) -> Result<&'static str, AllocError> {
+    if !is_unseen(streams, source, row) || row.section == latest {
+        return Ok(latest);
+    }
+    if latest.is_empty() {
+        text.push_str("  can't be seen in so short a recording: ")?;
+    } else {
+        text.push_str(", ")?;
+    }
+    text.push_str(row.section)?;
+    Ok(row.section)
 }
 
 fn push_untracked(text: &mut String, untracked: u64) -> Result<(), AllocError> {

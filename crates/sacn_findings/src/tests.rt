@@ -103,7 +103,8 @@ fn a_steady_source_conforms(rt: HostRuntime) {
     let alloc = rt.alloc();
     let wanted = "\"Main FOH\" 0001..0f at 10.0.0.5: conforms\n";
     assert!(rt; reads(alloc, steady(alloc), wanted));
-    let wanted = "{\"ms\":18000,\"event\":\"conforms\",\"cid\":\"000102030405060708090a0b0c0d0e0f\",\"name\":\"Main FOH\",\"address\":\"10.0.0.5\"}\n";
+    let wanted =
+        "{\"ms\":18000,\"event\":\"conforms\",\"cid\":\"000102030405060708090a0b0c0d0e0f\",\"name\":\"Main FOH\",\"address\":\"10.0.0.5\"}\n";
     assert!(rt; reads_as_objects(alloc, steady(alloc), wanted));
 }
 
@@ -120,7 +121,8 @@ fn universes_are_gathered(rt: HostRuntime) {
 #[test]
 fn a_rule_is_one_object(rt: HostRuntime) {
     let alloc = rt.alloc();
-    let wanted = r#"{"ms":11044,"event":"unseen","cid":"4d4d4d4d4d4d4d4d4d4d4d4d4d4d4d4d","name":"Spare","address":"10.0.0.5","section":"6.2.5","rule":"numbers that don't go up"}
+    let wanted =
+        r#"{"ms":11044,"event":"unseen","cid":"4d4d4d4d4d4d4d4d4d4d4d4d4d4d4d4d","name":"Spare","address":"10.0.0.5","section":"6.2.5","rule":"numbers that don't go up"}
 {"ms":11044,"event":"unseen","cid":"4d4d4d4d4d4d4d4d4d4d4d4d4d4d4d4d","name":"Spare","address":"10.0.0.5","section":"6.2.5","rule":"a number left out in each turn"}
 {"ms":11044,"event":"breach","cid":"4d4d4d4d4d4d4d4d4d4d4d4d4d4d4d4d","name":"Spare","address":"10.0.0.5","section":"6.6.1","rule":"faster than 44 a second","universes":[1,2],"first":11044,"latest":11044,"times":2}
 "#;
