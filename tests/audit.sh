@@ -34,7 +34,7 @@ def write(name, packets, text):
         for at, octets, address in sorted(packets, key=lambda it: it[0]):
             whole = frame(octets, address)
             out.write(struct.pack("<IIII", 1700000000 + at // 1000, at % 1000 * 1000, len(whole), len(whole)) + whole)
-    open(name + ".text", "w").write(text)
+    open(name + ".text", "w", encoding="utf-8").write(text)
 def stream(source, moments, address=5, numbers=None, ends=3, **fields):
     """A stream whose numbers go up by one, and three packets that end it, 20 ms apart."""
     numbers = range(len(moments)) if numbers is None else numbers
@@ -79,7 +79,7 @@ write("ended2", end + stream(13, [25000 + it for it in steady], numbers=range(80
       who(13) + ":\n  6.2.6 ended by fewer than three packets on 1 (once, at 25.000 s)\n")
 write("name64", stream(14, steady[:1], name=b"n" * 64),
       '"' + "n" * 64 + '" 0e0e..0e at 10.0.0.5:\n  6.2.2 a name without an end on 1 (4 times, the first at 0.000 s, the latest at 0.060 s)\n'
-      "  can't be seen in so short a recording: 6.2.5, 6.6.1, 6.6.2\n")
+      "  can't be seen in so short a recording: 6.2.5 numbers that don't go up; 6.2.5 a number left out in each turn; 6.6.1 faster than 44 a second; 6.6.2 levels more than 1 s apart; 6.6.2 changed levels sent fewer than three times\n")
 write("name63", stream(15, steady, name=b"n" * 63 + b"\0"), '"' + "n" * 63 + '" 0f0f..0f at 10.0.0.5: conforms\n')
 write("nametext", stream(16, steady, name=b"K\xe4se".ljust(64, b"\0")),
       '"K\u00e4se" 1010..10 at 10.0.0.5:\n  6.2.2 a name that isn\'t UTF-8 on 1 (803 times, the first at 0.000 s, the latest at 20.035 s)\n')

@@ -79,6 +79,7 @@ refused 2 "error: --key: beside --key-file" show.toml --page $tcp --key abcd --k
 refused 3 "refused short.key Key" show.toml --page $tcp --key-file short.key
 refused 3 "refused lines.key Key" show.toml --page $tcp --key-file lines.key
 refused 3 "refused octets.key NotText" show.toml --page $tcp --key-file octets.key
+refused 2 "error: -: InputTaken" show.toml --page $tcp --key-file -
 refused 4 "device read absent.key" show.toml --page $tcp --key-file absent.key
 refused 4 "device socket 192.0.2.1:$tcp AddrNotAvailable" show.toml --page 192.0.2.1:$tcp --key abcd
 

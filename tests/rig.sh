@@ -446,14 +446,24 @@ def millis(line):
     return (int(hours) * 60 + int(minutes)) * 60000 + round(float(seconds) * 1000)
 # (the frame is written in the turn of the packet that came first, and the line a second later)
 lit = next(line for line in open(work + "/lines") if line.split()[3][2:4] == "ff")
-assert (millis(lines[0]) - millis(lit)) % 86400000 <= 500 or millis(lines[0]) <= millis(lit), (lines[0], lit[:40])
-# a source more each 150 ms, of which each lights a slot of its own
+day = 86400000
+assert abs((millis(lines[0]) - millis(lit) + day // 2) % day - day // 2) <= 500, (lines[0], lit[:40])
+# one that comes, ends and comes within a second: each is told, in its order
+run = begin(30)
+for number, ends in enumerate((False, True, False)):
+    octets = bytearray(packet(one, b"one", 1, b"\xff", ends=ends))
+    octets[111] = number
+    send(octets)
+until(lambda: told(": came$") == 2, "it came again")
+run.terminate(), run.wait()
+assert re.findall(": ([a-z]+)$", open(work + "/said").read(), re.M) == ["came", "ended", "came"], open(work + "/said").read()
+# a source more each 250 ms, of which each lights a slot of its own: so few that a line of each may come in one second
 run = begin(2)
 count = 0
-while run.poll() is None and count < 15:
+while run.poll() is None and count < 9:
     send(packet(bytes([0xc0 + count] * 16), b"source %d" % count, 1, bytes(count) + b"\xff"))
     count += 1
-    time.sleep(0.15)
+    time.sleep(0.25)
 run.wait()
 frame = open(work + "/lines").read().splitlines()[-1].split()[2]
 lights = {number for number in range(16) if frame[2 + 2 * number : 4 + 2 * number] == "ff"}

@@ -3,7 +3,7 @@ use crate::timed::LateWrite;
 use sacn_digest::{Presences, push_source_line};
 use sacn_gateway::Allowance;
 use sacn_incidents::{Deed, Incident, Incidents, MAX_OPEN};
-use sacn_monitor::Stream;
+use sacn_monitor::{MAX_STREAMS, Stream};
 use std::alloc::{AllocError, Global};
 use std::io::Write;
 
@@ -12,6 +12,8 @@ use std::io::Write;
 pub struct RecentDeeds {
     incidents: Incidents,
     presences: Presences,
+    /// For each place whether a deed there is still to be said.
+    unsaid: [bool; MAX_STREAMS],
 }
 
 impl RecentDeeds {
@@ -22,6 +24,7 @@ impl RecentDeeds {
         Ok(RecentDeeds {
             incidents: Incidents::new(alloc)?,
             presences: Presences::new(alloc)?,
+            unsaid: [false; MAX_STREAMS],
         })
     }
 
@@ -30,18 +33,22 @@ impl RecentDeeds {
         self.incidents.next_pass()
     }
 
-    /// A deed of a stream's source.
+    /// A deed of a stream's source. What it did there before is said first, so that of each stream the latest line says what is so.
     pub fn take<L: LateWrite>(
         &mut self,
         deed: &Deed,
         streams: &[Stream],
         speaker: &mut Speaker<L>,
     ) {
+        self.say_before(deed, streams, speaker);
         if let Some(stream) = streams.get(deed.place) {
             self.presences.note(deed, stream);
         }
         if let Some(oldest) = self.incidents.take(deed) {
-            speaker.say(deed.at, &oldest, &self.presences, streams);
+            self.say(deed.at, &oldest, streams, speaker);
+        }
+        if deed.place < MAX_STREAMS {
+            self.unsaid[deed.place] = true;
         }
     }
 
@@ -49,7 +56,7 @@ impl RecentDeeds {
     pub fn pass<L: LateWrite>(&mut self, now: u64, streams: &[Stream], speaker: &mut Speaker<L>) {
         for _ in 0..MAX_OPEN {
             match self.incidents.pass(now) {
-                Some(incident) => speaker.say(now, &incident, &self.presences, streams),
+                Some(incident) => self.say(now, &incident, streams, speaker),
                 None => return,
             }
         }
@@ -59,10 +66,43 @@ impl RecentDeeds {
     pub fn finish<L: LateWrite>(&mut self, now: u64, streams: &[Stream], speaker: &mut Speaker<L>) {
         for _ in 0..MAX_OPEN {
             match self.incidents.finish() {
-                Some(incident) => speaker.say(now, &incident, &self.presences, streams),
+                Some(incident) => self.say(now, &incident, streams, speaker),
                 None => return,
             }
         }
+    }
+
+    // Says all up to an earlier deed at the place of this one.
+    fn say_before<L: LateWrite>(
+        &mut self,
+        deed: &Deed,
+        streams: &[Stream],
+        speaker: &mut Speaker<L>,
+    ) {
+        for _ in 0..MAX_OPEN {
+            if deed.place >= MAX_STREAMS || !self.unsaid[deed.place] {
+                return;
+            }
+            match self.incidents.finish() {
+                Some(incident) => self.say(deed.at, &incident, streams, speaker),
+                None => return,
+            }
+        }
+    }
+
+    fn say<L: LateWrite>(
+        &mut self,
+        now: u64,
+        incident: &Incident,
+        streams: &[Stream],
+        speaker: &mut Speaker<L>,
+    ) {
+        for place in 0..MAX_STREAMS {
+            if incident.places[place] {
+                self.unsaid[place] = false;
+            }
+        }
+        speaker.say(now, incident, &self.presences, streams);
     }
 }
 

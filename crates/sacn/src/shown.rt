@@ -154,9 +154,11 @@ impl<'a, E: Write, S: Write + Drop, L: LateWrite + Drop, W: Watcher> Notes
     }
 
     fn wakes(&self) -> u64 {
-        if self.turn.is_owed {
-            return self.turn.due();
-        }
-        self.viewers.wakes()
+        let wakes = if self.turn.is_owed {
+            self.turn.due()
+        } else {
+            self.viewers.wakes()
+        };
+        wakes.min(self.spoken.wakes())
     }
 }

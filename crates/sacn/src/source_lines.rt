@@ -154,6 +154,8 @@ impl<L: LateWrite + Drop> SourceLines<L> {
 
     /// A packet with levels, or an end, that the node took.
     fn take(&mut self, now: u64, sender: Endpoint, reading: &Reading<'_>) {
+        // (who is lost there before this packet comes here is told first)
+        self.check_former(now);
         if let Noted::Untracked = self.hand(now, sender, reading) {
             if self.has_made_room(now) {
                 let _ = self.hand(now, sender, reading);
@@ -251,7 +253,11 @@ impl<L: LateWrite + Drop> SourceLines<L> {
 
     /// The moment at which there is something to say of what sources did, where nothing comes; `u64::MAX` where there isn't.
     fn wakes(&self) -> u64 {
-        self.sources.deeds.next_pass()
+        let next = self.sources.deeds.next_pass();
+        match &self.former {
+            Some(former) => next.min(former.sources.deeds.next_pass()).min(former.until),
+            None => next,
+        }
     }
 
     /// Says all that is still to be said.

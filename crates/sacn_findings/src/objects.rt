@@ -12,13 +12,22 @@ use sacn_tell::{
 use std::alloc::{AllocError, Global};
 
 /// Pushes an object for each source and each rule that it broke, a line each; for a source that broke none one object `conforms`.
+/// Where the audit had no room for some packets there is none of these, and an object `untracked` at the end.
 ///
 /// Errors: a growth was refused.
 pub fn push_objects(alloc: Global, text: &mut String, audit: &Audit) -> Result<(), AllocError> {
+    let is_whole = audit.untracked() == 0;
+    let mut latest = 0;
     for source in audit.sources() {
-        push_source_objects(alloc, text, audit.streams(), source)?;
+        push_source_objects(alloc, text, audit.streams(), source, is_whole)?;
+        latest = source.moment.max(latest);
     }
-    Ok(())
+    if is_whole {
+        return Ok(());
+    }
+    begin_object(text, latest, "untracked")?;
+    push_number(text, "packets", audit.untracked())?;
+    text.push_str("}\n")
 }
 
 fn push_source_objects(
@@ -26,8 +35,9 @@ fn push_source_objects(
     text: &mut String,
     streams: &[AuditedStream],
     source: &SourceAudit,
+    is_whole: bool,
 ) -> Result<(), AllocError> {
-    if conforms(streams, source) {
+    if is_whole && conforms(streams, source) {
         begin(text, source.moment, "conforms", source)?;
         text.push_str("}\n")?;
     }

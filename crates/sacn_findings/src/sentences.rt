@@ -8,12 +8,13 @@ use sacn_tell::{push_decimal, push_ranges, push_seconds};
 use std::alloc::{AllocError, Global};
 
 /// Pushes a block for each source, in the order in which they appeared: `"Main FOH" 0001..0f at 10.0.0.5: conforms`, or a line for each
-/// rule that it broke. What the audit had no room for is told at the end.
+/// rule that it broke. What the audit had no room for is told at the end, and then no source is told as one that conforms.
 ///
 /// Errors: a growth was refused.
 pub fn push_text(alloc: Global, text: &mut String, audit: &Audit) -> Result<(), AllocError> {
+    let is_whole = audit.untracked() == 0;
     for source in audit.sources() {
-        push_block(alloc, text, audit.streams(), source)?;
+        push_block(alloc, text, audit.streams(), source, is_whole)?;
     }
     push_untracked(text, audit.untracked())
 }
@@ -23,13 +24,14 @@ fn push_block(
     text: &mut String,
     streams: &[AuditedStream],
     source: &SourceAudit,
+    is_whole: bool,
 ) -> Result<(), AllocError> {
     push_source(text, source)?;
-    if conforms(streams, source) {
-        text.push_str(": conforms\n")?;
+    text.push_str(if is_whole && conforms(streams, source) {
+        ": conforms\n"
     } else {
-        text.push_str(":\n")?;
-    }
+        ":\n"
+    })?;
     push_two_senders(text, source)?;
     for row in &ROWS {
         push_finding(alloc, text, streams, source, row)?;
@@ -130,40 +132,42 @@ pub(crate) fn is_unseen(streams: &[AuditedStream], source: &SourceAudit, row: &R
     heard_for(source) < row.least && total_of(streams, &source.cid, row.rule).times == 0
 }
 
-// The clauses of the rules that can't be seen, each once.
+// The rules that can't be seen.
 fn push_unseen(
     text: &mut String,
     streams: &[AuditedStream],
     source: &SourceAudit,
 ) -> Result<(), AllocError> {
-    let mut latest = "";
+    let mut is_first = true;
     for row in &ROWS {
-        latest = push_where_unseen(text, streams, source, row, latest)?;
+        is_first = push_where_unseen(text, streams, source, row, is_first)?;
     }
-    if latest.is_empty() {
+    if is_first {
         return Ok(());
     }
     text.push('\n')
 }
 
-// The clause of a rule that can't be seen, where it isn't the latest one that stands there. Returns the latest one, an empty text for none.
+// A rule, where it can't be seen. Returns whether none stands there so far.
 fn push_where_unseen(
     text: &mut String,
     streams: &[AuditedStream],
     source: &SourceAudit,
     row: &Row,
-    latest: &'static str,
-) -> Result<&'static str, AllocError> {
-    if !is_unseen(streams, source, row) || row.section == latest {
-        return Ok(latest);
+    is_first: bool,
+) -> Result<bool, AllocError> {
+    if !is_unseen(streams, source, row) {
+        return Ok(is_first);
     }
-    if latest.is_empty() {
-        text.push_str("  can't be seen in so short a recording: ")?;
+    text.push_str(if is_first {
+        "  can't be seen in so short a recording: "
     } else {
-        text.push_str(", ")?;
-    }
+        "; "
+    })?;
     text.push_str(row.section)?;
-    Ok(row.section)
+    text.push(' ')?;
+    text.push_str(row.words)?;
+    Ok(false)
 }
 
 fn push_untracked(text: &mut String, untracked: u64) -> Result<(), AllocError> {

@@ -113,7 +113,7 @@ fn universes_are_gathered(rt: HostRuntime) {
     let alloc = rt.alloc();
     let wanted = r#""Spare" 4d4d..4d at 10.0.0.5:
   6.6.1 faster than 44 a second on 1-2 (2 times, the first at 11.044 s, the latest at 11.044 s)
-  can't be seen in so short a recording: 6.2.5
+  can't be seen in so short a recording: 6.2.5 numbers that don't go up; 6.2.5 a number left out in each turn
 "#;
     assert!(rt; reads(alloc, fast(alloc), wanted));
 }
@@ -136,7 +136,7 @@ fn what_is_no_breach_is_told_as_seen(rt: HostRuntime) {
   5.6 one CID at two addresses (once, at 0.100 s)
   6.2.6 ended by fewer than three packets on 1, and nothing came after them
   seen, no breach: 7.7 a start code other than 0 and 0xDD on 1 (once, at 0.100 s)
-  can't be seen in so short a recording: 6.2.5, 6.6.1, 6.6.2
+  can't be seen in so short a recording: 6.2.5 numbers that don't go up; 6.2.5 a number left out in each turn; 6.6.1 faster than 44 a second; 6.6.2 levels more than 1 s apart; 6.6.2 changed levels sent fewer than three times
 "#;
     assert!(rt; reads(alloc, careless(alloc), wanted));
 }

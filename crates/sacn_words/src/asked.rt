@@ -271,10 +271,10 @@ fn desk<'a>(words: &mut Words<'_, 'a>) -> Asked<'a> {
     let first = words.octet("first");
     let to = destinations(words);
     let ttl = time_to_live(words, to.as_slice());
-    let page = desk_page(words);
-    words.without("stay", "script");
     // (its orders are there)
     words.take_input();
+    let page = desk_page(words);
+    words.without("stay", "script");
     Asked::Desk(DeskAsked {
         bind: words.value("bind", host).unwrap_or(Ipv4Addr::UNSPECIFIED),
         show: words.file("SHOW"),
