@@ -108,7 +108,8 @@ class Terminal:
             modes[3] &= ~termios.ECHO
         termios.tcsetattr(there, termios.TCSANOW, modes)
         known = {name: word for name, word in os.environ.items() if name not in ("NO_COLOR", "SACN_TYPED", "COLUMNS")}
-        own = lambda: fcntl.ioctl(1, termios.TIOCSCTTY, 0)
+        # (a shell takes no signal that was ignored before it, as nohup has HUP)
+        own = lambda: (signal.signal(signal.SIGHUP, signal.SIG_DFL), fcntl.ioctl(1, termios.TIOCSCTTY, 0))
         self.run = subprocess.Popen(
             [*command, "desk", self.file.name, *words],
             stdin=there if inputs is None else inputs,
