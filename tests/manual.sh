@@ -37,7 +37,7 @@ for command in $commands; do
   awk -v start="    if [[ \$command == $command ]]; then" 'index($0, start) == 1 {on = 1; next} on && $0 == "    fi" {exit} on' bash >of_bash
   part zsh "    if [[ \$command == $command ]]; then" "    fi" >of_zsh
   grep -F "'__fish_seen_subcommand_from $command'" fish >of_fish
-  options=$("$sacn" "$command" --help | awk '/^Options:/ {on = 1; next} on && NF == 0 {exit} on' | grep -oE '^ +(-[a-z], )?--[a-z]+' | tr -d ' ' | tr , '\n')
+  options=$("$sacn" "$command" --help | awk '/^Options:/ {on = 1; next} on && NF == 0 {exit} on' | grep -oE '^ +(-[a-z], )?--[a-z]+(-[a-z]+)*' | tr -d ' ' | tr , '\n')
   [ -n "$options" ] || missing=" no options"
   for option in $options; do
     grep -qE -- "^$option( |\$)" of_page || missing+=" $option of page"
@@ -48,12 +48,12 @@ for command in $commands; do
   done
   usage=$("$sacn" "$command" --help | sed -n 's/^Usage: //p')
   grep -qxF -- ".B $usage" of_page && grep -qxF -- "$usage" plain || missing+=" usage"
-  for value in $("$sacn" "$command" --help | grep -oE '^ +--[a-z]+ <[^>]+>' | sed 's/^ *//;s/ <.*//'); do
+  for value in $("$sacn" "$command" --help | grep -oE '^ +--[a-z-]+ <[^>]+>' | sed 's/^ *//;s/ <.*//'); do
     name=$("$sacn" "$command" --help | sed -n "s/^ *$value <\([^>]*\)>.*/\1/p")
     grep -qF -- "$value $name" of_page || missing+=" value of $value"
   done
   # Nothing else stands there, and what does is told of.
-  for option in $(grep -oE -- '^--?[a-z]+' of_page) $(grep -oE -- "options\\+=' [-a-z]+'" of_bash | grep -oE -- '--?[a-z]+'); do
+  for option in $(grep -oE -- '^--?[a-z]+(-[a-z]+)*' of_page) $(grep -oE -- "options\\+=' [-a-z]+'" of_bash | grep -oE -- '--?[a-z]+(-[a-z]+)*'); do
     grep -qxF -- "$option" <<<"$options" || missing+=" $option of help"
   done
   missing+=$(awk 'name != "" && ($0 == "" || index($0, ".") == 1) {printf " words on %s", name} {name = last == ".TP" ? $1 : ""; last = $0}' of_page)
