@@ -87,6 +87,9 @@ refused 4 "device read absent" desk absent "${hosts[@]}"
 refused 2 "error: --to: TooManyDestinations" desk absent "${hosts[@]}" --to 10.0.0.1
 
 # Those of a recording's page.
+refused 2 "error: 0: Port" audit x --port 0
+refused 2 "error: *" audit
+refused 4 "device read absent" audit absent
 refused 2 "error: 0: Port" explain x --page 0
 refused 2 "error: 65536: Port" explain x --page 65536
 refused 2 "error: 127.0.0.1:0: Port" explain x --page 127.0.0.1:0
@@ -222,6 +225,7 @@ helps desk "A show: a TOML file"
 helps desk "A script: a text file"
 helps groups "A setup or a show"
 helps explain "Serves a page for browsers"
+helps audit "The UDP port of the datagrams that are looked at"
 
 # What the launcher prints before the program is built is the program's own help, of itself and of each command that it lists.
 help_is_kept() {
