@@ -23,16 +23,17 @@ def packet(source, number, universe=1, slots=b"\xff", start=0, name=None, ends=F
     framing = struct.pack(">H", 0x7000 + 2 + len(framing) + len(dmp)) + framing + dmp
     root = b"\0\0\0\4" + bytes([source] * 16)
     return b"\0\x10\0\0ASC-E1.17\0\0\0" + struct.pack(">H", 0x7000 + 2 + len(root) + len(framing)) + root + framing
-def frame(octets, address, port=5568):
+def group(octets): return bytes([239, 255]) + octets[113:115]
+def frame(octets, address, to, port=5568):
     udp = struct.pack(">HHHH", 5568, port, 8 + len(octets), 0) + octets
-    head = struct.pack(">BBHHHBBH4s4s", 0x45, 0, 20 + len(udp), 0, 0, 64, 17, 0, bytes([10, 0, 0, address]), bytes([239, 255, 0, 1]))
+    head = struct.pack(">BBHHHBBH4s4s", 0x45, 0, 20 + len(udp), 0, 0, 64, 17, 0, bytes([10, 0, 0, address]), to)
     return bytes(12) + b"\x08\0" + head + udp
 def write(name, packets, text):
-    """Packets are (millisecond, octets, last number of the sender's address)."""
+    """Packets are (millisecond, octets, last number of the sender's address), and where it isn't their universe's group the address that they go to."""
     with open(name + ".pcap", "wb") as out:
         out.write(struct.pack("<IHHiIII", 0xa1b2c3d4, 2, 4, 0, 0, 65535, 1))
-        for at, octets, address in sorted(packets, key=lambda it: it[0]):
-            whole = frame(octets, address)
+        for at, octets, address, *to in sorted(packets, key=lambda it: it[0]):
+            whole = frame(octets, address, to[0] if to else group(octets))
             out.write(struct.pack("<IIII", 1700000000 + at // 1000, at % 1000 * 1000, len(whole), len(whole)) + whole)
     open(name + ".text", "w", encoding="utf-8").write(text)
 def stream(source, moments, address=5, numbers=None, ends=3, **fields):
@@ -92,6 +93,12 @@ write("moves", moves, who(19, 6) + ": conforms\n")
 text = [(10, packet(20, 1, start=0x17), 5), (20, packet(20, 2, start=0xdd), 5)]
 write("start", [(0, packet(20, 0), 5)] + text + stream(20, [it + 30 for it in steady], numbers=range(3, 3 + len(steady))),
       who(20) + ": conforms\n  seen, no breach: 7.7 a start code other than 0 and 0xDD on 1 (once, at 0.010 s)\n")
+# universe 1 by the group of universe 0; and universe 257 by its own, to one host, and to all of a network
+def sent(packets, to): return [(moment, octets, address, bytes(to)) for moment, octets, address in packets]
+write("group0", sent(stream(21, steady), [239, 255, 0, 0]),
+      who(21) + ":\n  9.3.1 sent to another multicast group than its universe's on 1 (803 times, the first at 0.000 s, the latest at 20.035 s)\n")
+hosts = stream(22, steady, universe=257)
+write("groups", sent(hosts[:200], [239, 255, 1, 1]) + sent(hosts[200:400], [10, 0, 0, 9]) + sent(hosts[400:], [10, 255, 255, 255]), who(22) + ": conforms\n")
 write("nothing", [], "no packets of streaming ACN\n")
 P
 
@@ -112,7 +119,7 @@ tells() {
     echo "ok audit: $name"
   fi
 }
-for name in conforms rate44 rate50 skips skips2 stays stays3 second silent change1 change2 change3 end2 ended2 name64 name63 nametext nametext8 two moves start nothing; do
+for name in conforms rate44 rate50 skips skips2 stays stays3 second silent change1 change2 change3 end2 ended2 name64 name63 nametext nametext8 two moves start group0 groups nothing; do
   tells "$name" 0 "" $name.text $name.pcap
 done
 # What is broken is told up to where a recording is faulty; what is no recording has nothing.

@@ -95,7 +95,7 @@ fn follow<I: BufRead + Drop>(
 
 fn hear(audit: &mut Audit, now: u64, datagram: &Datagram<'_>) {
     if let Ok(Packet::DataPacket(packet)) = read_packet(datagram.payload) {
-        audit.hear(now, datagram.sender, &packet);
+        audit.hear(now, datagram.sender, datagram.destination, &packet);
     }
 }
 

@@ -12,7 +12,7 @@ use Rattle.sacn_audit.specs.declared.stream_register.AuditedStream.{AuditedStrea
 use Rattle.sacn_audit.specs.Arrivals.{Arrival}
 use Rattle.sacn_audit.specs.Histories.{audit_by, audit_with}
 use Rattle.sacn_audit.specs.Networks.{first_source, first_stream, is_from, is_of, place_from, place_of, source_after, sources_after, stream_after, streams_after}
-use Rattle.sacn_audit.specs.NetworkHistories.{AuditsAreOfTheirPackets, Heard, SourcesAreOfTheirPackets, after_all, arrivals, is_on, packets_from, source_by, source_with}
+use Rattle.sacn_audit.specs.NetworkHistories.{AuditsAreOfTheirPackets, Heard, SourcesAreOfTheirPackets, after_all, arrival_of, arrivals, is_on, packets_from, source_by, source_with}
 use Rattle.sacn_audit.proofs.Tracking.{Tracks, tracks_other, tracks_own}
 
 both : (a b : Bool) → a && b ≡ true → (a ≡ true) × (b ≡ true)
@@ -49,11 +49,11 @@ module _ (universe : ℕ) (cid : List ℕ) where
     d = x.packet
 
     abbrev a : Arrival
-    a = record { moment = x.moment; packet = x.packet }
+    a = arrival_of x
 
-    heard_by : (k : Bool) → is_on universe cid d ≡ k → Follows (streams_after x.moment d ss) (audit_by (cond k (a ∷ xs) xs))
-    heard_by true e = tracks_own (λ (s : AuditedStream). s.audit) q (stream_after x.moment d) (first_stream x.moment d) (λ s. refl) ss (audit_by xs) (audit_with a) e (λ s. refl) refl (place_of d.universe d.cid ss) (looks d ss e) follows
-    heard_by false e = tracks_other (λ (s : AuditedStream). s.audit) q (stream_after x.moment d) (first_stream x.moment d) (λ s. refl) ss (audit_by xs) (is_of d.universe d.cid) (λ s h. like d s h ∙ e) e (place_of d.universe d.cid ss) refl follows
+    heard_by : (k : Bool) → is_on universe cid d ≡ k → Follows (streams_after x.moment x.destination d ss) (audit_by (cond k (a ∷ xs) xs))
+    heard_by true e = tracks_own (λ (s : AuditedStream). s.audit) q (stream_after x.moment x.destination d) (first_stream x.moment x.destination d) (λ s. refl) ss (audit_by xs) (audit_with a) e (λ s. refl) refl (place_of d.universe d.cid ss) (looks d ss e) follows
+    heard_by false e = tracks_other (λ (s : AuditedStream). s.audit) q (stream_after x.moment x.destination d) (first_stream x.moment x.destination d) (λ s. refl) ss (audit_by xs) (is_of d.universe d.cid) (λ s h. like d s h ∙ e) e (place_of d.universe d.cid ss) refl follows
 
 pub audits_are_of_their_packets : AuditsAreOfTheirPackets
 audits_are_of_their_packets [] universe cid = inl refl

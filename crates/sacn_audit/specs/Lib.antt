@@ -1,4 +1,5 @@
 pub mod Arrivals
+pub mod Groups
 pub mod Rules
 pub mod Breaches
 pub mod Audits

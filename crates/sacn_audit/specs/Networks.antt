@@ -22,14 +22,15 @@ AreDistinct ss = AllPairs (λ earlier later. is_of later.universe later.cid earl
 abbrev pub place_of : ℕ → List ℕ → List AuditedStream → Option ℕ
 place_of universe cid ss = position (is_of universe cid) ss
 
-abbrev pub first_stream : ℕ → Data → AuditedStream
-first_stream t d = record { universe = d.universe; cid = d.cid; audit = first_audit t d }
+abbrev pub first_stream : ℕ → List ℕ → Data → AuditedStream
+first_stream t destination d = record { universe = d.universe; cid = d.cid; audit = first_audit t destination d }
 
-abbrev pub stream_after : ℕ → Data → AuditedStream → AuditedStream
-stream_after t d s = record s { audit = after_packet t d s.audit }
+abbrev pub stream_after : ℕ → List ℕ → Data → AuditedStream → AuditedStream
+stream_after t destination d s = record s { audit = after_packet t destination d s.audit }
 
-abbrev pub streams_after : ℕ → Data → List AuditedStream → List AuditedStream
-streams_after t d ss = heard_at (stream_after t d) (first_stream t d) ss (place_of d.universe d.cid ss)
+abbrev pub streams_after : ℕ → List ℕ → Data → List AuditedStream → List AuditedStream
+streams_after t destination d ss =
+    heard_at (stream_after t destination d) (first_stream t destination d) ss (place_of d.universe d.cid ss)
 
 -- ---- a source, over all its universes
 
@@ -72,9 +73,9 @@ nothing_heard = record { streams = []; sources = []; untracked = 0 }
 abbrev pub is_tracked : Data → List AuditedStream → Bool
 is_tracked d ss = has_room ss (place_of d.universe d.cid ss)
 
-abbrev pub after_heard : ℕ → List ℕ → Data → Network → Network
-after_heard t address d n = record {
-  streams = streams_after t d n.streams;
+abbrev pub after_heard : ℕ → List ℕ → List ℕ → Data → Network → Network
+after_heard t address destination d n = record {
+  streams = streams_after t destination d n.streams;
   sources = sources_after t address d n.sources;
   untracked = if is_tracked d n.streams then n.untracked else min (n.untracked + 1) (2 ^ 64 - 1);
 }

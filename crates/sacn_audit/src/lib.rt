@@ -9,6 +9,7 @@
 mod audit;
 mod breach;
 mod content;
+mod groups;
 mod hints;
 pub mod laws;
 mod limits;

@@ -22,6 +22,10 @@ pub(crate) const TURNS: u8 = 3;
 /// So many packets in a row with one number aren't copies that were made on the way.
 pub(crate) const COPIES_IN_A_ROW: u8 = 4;
 
+/// The first octet of a multicast address of IPv4 is one of these: 224.0.0.0/4.
+pub(crate) const FIRST_OF_MULTICAST: u8 = 224;
+pub(crate) const LAST_OF_MULTICAST: u8 = 239;
+
 /// The start code of priorities for slots, beside 0 for levels.
 pub(crate) const PRIORITY_START_CODE: u8 = 0xDD;
 

@@ -43,12 +43,18 @@ impl Audit {
         })
     }
 
-    /// A packet that came at a moment, in milliseconds, from an IPv4 address. Moments are handed in so that of one source none is before
+    /// A packet that came at a moment, in milliseconds, from an IPv4 address, and that was sent to another one. Moments are handed in so that of one source none is before
     /// an earlier one; one that is counts as the latest of its stream, and of its source.
-    pub fn hear(&mut self, moment: u64, address: [u8; 4], packet: &DataView<'_>)
-        ensures { self.new ≡ after_heard moment address packet.now self.old }
+    pub fn hear(
+        &mut self,
+        moment: u64,
+        address: [u8; 4],
+        destination: [u8; 4],
+        packet: &DataView<'_>,
+    )
+        ensures { self.new ≡ after_heard moment address destination packet.now self.old }
     {
-        if !self.streams.hear(moment, packet) {
+        if !self.streams.hear(moment, destination, packet) {
             self.untracked = self.untracked.saturating_add(1);
         }
         self.sources.hear(moment, address, packet);
