@@ -99,6 +99,11 @@ write("group0", sent(stream(21, steady), [239, 255, 0, 0]),
       who(21) + ":\n  9.3.1 sent to another multicast group than its universe's on 1 (803 times, the first at 0.000 s, the latest at 20.035 s)\n")
 hosts = stream(22, steady, universe=257)
 write("groups", sent(hosts[:200], [239, 255, 1, 1]) + sent(hosts[200:400], [10, 0, 0, 9]) + sent(hosts[400:], [10, 255, 255, 255]), who(22) + ": conforms\n")
+# universes 1 and 2 in turn by one counter: of the packets that follow one of the other universe and count on, packet 8 is the eighth
+turns = [(25 * it, packet(23, it, universe=1 + it % 2), 5) for it in range(800)] + [(20000 + 20 * it, packet(23, 800 + it, universe=1 + it % 2, ends=True), 5) for it in range(6)]
+write("counter", turns, who(23) + ":\n  6.2.5 one counter for several universes (798 times, the first at 0.200 s, the latest at 20.100 s)\n")
+# universes 1 to 8 in turn, each by its own counter, which is one ahead of that before it: seven packets count on, and then one doesn't
+write("counters", sum((stream(24, steady, universe=it, numbers=range(it, it + len(steady))) for it in range(1, 9)), []), who(24) + ": conforms\n")
 write("nothing", [], "no packets of streaming ACN\n")
 P
 
@@ -119,7 +124,7 @@ tells() {
     echo "ok audit: $name"
   fi
 }
-for name in conforms rate44 rate50 skips skips2 stays stays3 second silent change1 change2 change3 end2 ended2 name64 name63 nametext nametext8 two moves start group0 groups nothing; do
+for name in conforms rate44 rate50 skips skips2 stays stays3 second silent change1 change2 change3 end2 ended2 name64 name63 nametext nametext8 two moves start group0 groups counter counters nothing; do
   tells "$name" 0 "" $name.text $name.pcap
 done
 # What is broken is told up to where a recording is faulty; what is no recording has nothing.

@@ -4,6 +4,8 @@ pub mod Rules
 pub mod Breaches
 pub mod Audits
 pub mod Histories
+pub mod Counters
 pub mod Registers
 pub mod Networks
 pub mod NetworkHistories
+pub mod CounterHistories

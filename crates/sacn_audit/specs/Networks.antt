@@ -8,6 +8,7 @@ use Rattle.sacn_audit.specs.declared.source.SourceAudit.{SourceAudit}
 use Rattle.sacn_audit.specs.declared.stream_register.AuditedStream.{AuditedStream}
 use Rattle.sacn_audit.specs.Breaches.{no_breach, noted_if}
 use Rattle.sacn_audit.specs.Audits.{after_packet, first_audit}
+use Rattle.sacn_audit.specs.Counters.{first_numbers, has_one_counter, numbers_after}
 use Rattle.sacn_audit.specs.Registers.{has_room, heard_at}
 
 -- ---- a stream
@@ -44,14 +45,30 @@ abbrev pub place_from : List ℕ → List SourceAudit → Option ℕ
 place_from cid ss = position (is_from cid) ss
 
 abbrev pub first_source : ℕ → List ℕ → Data → SourceAudit
-first_source t address d = record { cid = d.cid; name = d.name; address = address; first = t; moment = t; two_senders = no_breach }
+first_source t address d = record {
+  cid = d.cid;
+  name = d.name;
+  address = address;
+  first = t;
+  moment = t;
+  two_senders = no_breach;
+  numbers = first_numbers d;
+  one_counter = no_breach;
+}
 
 -- at t a packet comes from another address, at most 2500 ms after the latest one
 abbrev pub is_elsewhere : ℕ → List ℕ → SourceAudit → Bool
 is_elsewhere t address s = not (bytes_eq s.address address) && nat_le (t - s.moment) NETWORK_DATA_LOSS
 
 abbrev pub source_at : ℕ → List ℕ → Data → SourceAudit → SourceAudit
-source_at t address d s = record s { name = d.name; address = address; moment = t; two_senders = noted_if (is_elsewhere t address s) t s.two_senders }
+source_at t address d s = record s {
+  name = d.name;
+  address = address;
+  moment = t;
+  two_senders = noted_if (is_elsewhere t address s) t s.two_senders;
+  numbers = numbers_after d s.numbers;
+  one_counter = noted_if (has_one_counter (numbers_after d s.numbers)) t s.one_counter;
+}
 
 abbrev pub source_after : ℕ → List ℕ → Data → SourceAudit → SourceAudit
 source_after t address d s = source_at (max t s.moment) address d s

@@ -19,6 +19,7 @@ mod pace;
 mod rule;
 mod sight;
 mod source;
+mod source_numbers;
 mod source_register;
 mod stream_register;
 
@@ -32,8 +33,11 @@ pub use pace::Pace;
 pub use rule::Rule;
 pub use sight::Sight;
 pub use source::SourceAudit;
+pub use source_numbers::SourceNumbers;
 pub use stream_register::AuditedStream;
 
+#[cfg(test)]
+mod counter_tests;
 #[cfg(test)]
 mod network_tests;
 #[cfg(test)]

@@ -22,6 +22,9 @@ pub(crate) const TURNS: u8 = 3;
 /// So many packets in a row with one number aren't copies that were made on the way.
 pub(crate) const COPIES_IN_A_ROW: u8 = 4;
 
+/// So many packets in a row that go on counting from one universe to another show that the universes have one counter.
+pub(crate) const COUNTED_ON: u8 = 8;
+
 /// The first octet of a multicast address of IPv4 is one of these: 224.0.0.0/4.
 pub(crate) const FIRST_OF_MULTICAST: u8 = 224;
 pub(crate) const LAST_OF_MULTICAST: u8 = 239;

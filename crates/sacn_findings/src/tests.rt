@@ -95,6 +95,15 @@ fn misdirected(alloc: Global) -> Result<Heard, AllocError> {
     Ok(heard)
 }
 
+// Universes 1 and 2 in turn, by one counter.
+fn by_one_counter(alloc: Global) -> Result<Heard, AllocError> {
+    let mut heard = Heard::of(alloc, DESK, "Main FOH")?;
+    for number in 0..41u8 {
+        heard.send(450 * u64::from(number), number % 2 == 1, 0, number, false);
+    }
+    Ok(heard)
+}
+
 // What is printed is this.
 fn reads(alloc: Global, heard: Result<Heard, AllocError>, wanted: &str) -> bool {
     let mut text = String::new(alloc);
@@ -139,6 +148,18 @@ fn another_group_is_told(rt: HostRuntime) {
   9.3.1 sent to another multicast group than its universe's on 1 (21 times, the first at 0.000 s, the latest at 18.000 s)
 "#;
     assert!(rt; reads(alloc, misdirected(alloc), wanted));
+}
+
+#[test]
+fn one_counter_is_told(rt: HostRuntime) {
+    let alloc = rt.alloc();
+    let wanted = r#""Main FOH" 0001..0f at 10.0.0.5:
+  6.2.5 one counter for several universes (33 times, the first at 3.600 s, the latest at 18.000 s)
+"#;
+    assert!(rt; reads(alloc, by_one_counter(alloc), wanted));
+    let wanted = r#"{"ms":18000,"event":"breach","cid":"000102030405060708090a0b0c0d0e0f","name":"Main FOH","address":"10.0.0.5","section":"6.2.5","rule":"one counter for several universes","first":3600,"latest":18000,"times":33}
+"#;
+    assert!(rt; reads_as_objects(alloc, by_one_counter(alloc), wanted));
 }
 
 #[test]
