@@ -10,3 +10,4 @@ pub mod Tracking
 pub mod NetworkAuditing
 pub mod Senders
 pub mod CountingOn
+pub mod Refusing

@@ -1,5 +1,5 @@
 -- One counter for several universes: what a packet changes in what is kept of the numbers of its source.
-use Rattle.std.specs.Prelude.{ℕ, ◌+◌, min, Bool, not, ◌&&◌, ◌==◌, if◌then◌else◌}
+use Rattle.std.specs.Prelude.{◌+◌, min, Bool, not, ◌&&◌, ◌==◌, if◌then◌else◌}
 use Rattle.sacn_packets.specs.Data.{Data}
 use Rattle.sacn_audit.specs.declared.source_numbers.SourceNumbers.{SourceNumbers}
 use Rattle.sacn_audit.specs.Arrivals.{number_after}

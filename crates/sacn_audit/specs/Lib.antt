@@ -6,6 +6,7 @@ pub mod Audits
 pub mod Histories
 pub mod Counters
 pub mod Registers
+pub mod Refusals
 pub mod Networks
 pub mod NetworkHistories
 pub mod CounterHistories

@@ -3,12 +3,15 @@ use Rattle.std.specs.Prelude.{◌≡◌, ℕ, ◌+◌, ◌-◌, ◌^◌, min, ma
 use Rattle.std.specs.List.{AllPairs, position}
 use Rattle.std.specs.Str.{bytes_eq}
 use Rattle.sacn_packets.specs.Data.{Data}
+use Rattle.sacn_packets.specs.declared.root.fault.PacketFault.{PacketFault}
 use Rattle.sacn_sources.specs.declared.limits.TheConstants.{NETWORK_DATA_LOSS}
 use Rattle.sacn_audit.specs.declared.source.SourceAudit.{SourceAudit}
+use Rattle.sacn_audit.specs.declared.refused.RefusedPackets.{RefusedPackets}
 use Rattle.sacn_audit.specs.declared.stream_register.AuditedStream.{AuditedStream}
 use Rattle.sacn_audit.specs.Breaches.{no_breach, noted_if}
 use Rattle.sacn_audit.specs.Audits.{after_packet, first_audit}
 use Rattle.sacn_audit.specs.Counters.{first_numbers, has_one_counter, numbers_after}
+use Rattle.sacn_audit.specs.Refusals.{is_kept, refused_after}
 use Rattle.sacn_audit.specs.Registers.{has_room, heard_at}
 
 -- ---- a stream
@@ -78,21 +81,32 @@ sources_after t address d ss = heard_at (source_after t address d) (first_source
 
 -- ---- all of them
 
--- the streams and the sources, each in the order in which they appeared, and how many packets were of none of these streams
+-- the streams and the sources, each in the order in which they appeared, and how many packets were of none of these
+-- streams; and so what can't be read
 pub record Network : Type 0 where
   pub streams : List AuditedStream
   pub sources : List SourceAudit
   pub untracked : ℕ
+  pub refused : List RefusedPackets
+  pub refused_untracked : ℕ
 
 abbrev pub nothing_heard : Network
-nothing_heard = record { streams = []; sources = []; untracked = 0 }
+nothing_heard = record { streams = []; sources = []; untracked = 0; refused = []; refused_untracked = 0 }
 
 abbrev pub is_tracked : Data → List AuditedStream → Bool
 is_tracked d ss = has_room ss (place_of d.universe d.cid ss)
 
 abbrev pub after_heard : ℕ → List ℕ → List ℕ → Data → Network → Network
-after_heard t address destination d n = record {
+after_heard t address destination d n = record n {
   streams = streams_after t destination d n.streams;
   sources = sources_after t address d n.sources;
   untracked = if is_tracked d n.streams then n.untracked else min (n.untracked + 1) (2 ^ 64 - 1);
+}
+
+-- a datagram that can't be read
+abbrev pub after_refused : ℕ → List ℕ → PacketFault → Network → Network
+after_refused t address fault n = record n {
+  refused = refused_after t address fault n.refused;
+  refused_untracked =
+      if is_kept address fault n.refused then n.refused_untracked else min (n.refused_untracked + 1) (2 ^ 64 - 1);
 }

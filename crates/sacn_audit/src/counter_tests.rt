@@ -43,7 +43,12 @@ fn by_one_counter(alloc: Global, packets: u8) -> Result<Breach, AllocError> {
     let mut audit = Audit::new(alloc)?;
     for packet in 0..packets {
         let universe = u16::from(packet % 2) + 1;
-        send(&mut audit, u64::from(packet), universe, packet.wrapping_add(250));
+        send(
+            &mut audit,
+            u64::from(packet),
+            universe,
+            packet.wrapping_add(250),
+        );
     }
     Ok(of_counter(&audit))
 }

@@ -3,6 +3,7 @@
 ghost use Rattle.sacn_audit.specs.Histories.{BreachesAreOfTheirPackets, OrderIsKept, ShortEndsAreOfTheirPackets};
 ghost use Rattle.sacn_audit.specs.CounterHistories.{CountersAreOfTheirPackets};
 ghost use Rattle.sacn_audit.specs.NetworkHistories.{AuditsAreOfTheirPackets, SendersAreOfTheirPackets, SourcesAreOfTheirPackets};
+ghost use Rattle.sacn_audit.specs.Refusals.{RefusalsAreOfTheirPackets};
 
 /// For any packets of a stream the audit that heard them says of each rule how many of them broke it, and when the first and
 /// the latest of these came, each at its moment or, where that was before an earlier one, at the latest.
@@ -42,4 +43,10 @@ pub fn senders_are_of_their_packets()
 /// was before an earlier one, at the latest.
 pub fn counters_are_of_their_packets()
     ensures { CountersAreOfTheirPackets }
+{}
+
+/// After any datagrams that can't be read, what is kept of a sender and a fault is how many of its datagrams had it, the first and the
+/// latest moment of these, whatever else came. Where there is no room for a further pair it may be nothing.
+pub fn refusals_are_of_their_packets()
+    ensures { RefusalsAreOfTheirPackets }
 {}

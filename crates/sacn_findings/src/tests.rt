@@ -157,7 +157,8 @@ fn one_counter_is_told(rt: HostRuntime) {
   6.2.5 one counter for several universes (33 times, the first at 3.600 s, the latest at 18.000 s)
 "#;
     assert!(rt; reads(alloc, by_one_counter(alloc), wanted));
-    let wanted = r#"{"ms":18000,"event":"breach","cid":"000102030405060708090a0b0c0d0e0f","name":"Main FOH","address":"10.0.0.5","section":"6.2.5","rule":"one counter for several universes","first":3600,"latest":18000,"times":33}
+    let wanted =
+        r#"{"ms":18000,"event":"breach","cid":"000102030405060708090a0b0c0d0e0f","name":"Main FOH","address":"10.0.0.5","section":"6.2.5","rule":"one counter for several universes","first":3600,"latest":18000,"times":33}
 "#;
     assert!(rt; reads_as_objects(alloc, by_one_counter(alloc), wanted));
 }
