@@ -88,13 +88,14 @@ fn begin(
     text.push('"')
 }
 
-fn push_rule(text: &mut String, section: &str, words: &str) -> Result<(), AllocError> {
+/// A rule: its clause, and what breaks it.
+pub(crate) fn push_rule(text: &mut String, section: &str, words: &str) -> Result<(), AllocError> {
     push_word(text, "section", section)?;
     push_word(text, "rule", words)
 }
 
-// Its first and its latest moment, how often it was, and the end of the object.
-fn push_moments(text: &mut String, breach: Breach) -> Result<(), AllocError> {
+/// Its first and its latest moment, how often it was, and the end of the object.
+pub(crate) fn push_moments(text: &mut String, breach: Breach) -> Result<(), AllocError> {
     push_number(text, "first", breach.first)?;
     push_number(text, "latest", breach.latest)?;
     push_number(text, "times", breach.times)?;

@@ -89,8 +89,8 @@ fn push_where(text: &mut String, universes: &[u16]) -> Result<(), AllocError> {
     push_ranges(text, universes)
 }
 
-// How often, and when: ` (60 times, the first at 3.200 s, the latest at 61.105 s)`, and the end of the line.
-fn push_times(text: &mut String, breach: Breach) -> Result<(), AllocError> {
+/// How often, and when: ` (60 times, the first at 3.200 s, the latest at 61.105 s)`, and the end of the line.
+pub(crate) fn push_times(text: &mut String, breach: Breach) -> Result<(), AllocError> {
     if breach.times == 1 {
         text.push_str(" (once, at ")?;
         push_seconds(text, breach.first)?;
