@@ -23,18 +23,24 @@ def packet(source, number, universe=1, slots=b"\xff", start=0, name=None, ends=F
     framing = struct.pack(">H", 0x7000 + 2 + len(framing) + len(dmp)) + framing + dmp
     root = b"\0\0\0\4" + bytes([source] * 16)
     return b"\0\x10\0\0ASC-E1.17\0\0\0" + struct.pack(">H", 0x7000 + 2 + len(root) + len(framing)) + root + framing
-def frame(octets, address, port=5568):
+def group(octets): return bytes([239, 255]) + octets[113:115]
+def frame(octets, address, to, port=5568):
     udp = struct.pack(">HHHH", 5568, port, 8 + len(octets), 0) + octets
-    head = struct.pack(">BBHHHBBH4s4s", 0x45, 0, 20 + len(udp), 0, 0, 64, 17, 0, bytes([10, 0, 0, address]), bytes([239, 255, 0, 1]))
+    head = struct.pack(">BBHHHBBH4s4s", 0x45, 0, 20 + len(udp), 0, 0, 64, 17, 0, bytes([10, 0, 0, address]), to)
     return bytes(12) + b"\x08\0" + head + udp
-def write(name, packets, text):
-    """Packets are (millisecond, octets, last number of the sender's address)."""
+def write_frames(name, frames, text):
+    """Frames are (millisecond, octets, how many of these were recorded)."""
     with open(name + ".pcap", "wb") as out:
         out.write(struct.pack("<IHHiIII", 0xa1b2c3d4, 2, 4, 0, 0, 65535, 1))
-        for at, octets, address in sorted(packets, key=lambda it: it[0]):
-            whole = frame(octets, address)
-            out.write(struct.pack("<IIII", 1700000000 + at // 1000, at % 1000 * 1000, len(whole), len(whole)) + whole)
+        for at, whole, kept in sorted(frames, key=lambda it: it[0]):
+            out.write(struct.pack("<IIII", 1700000000 + at // 1000, at % 1000 * 1000, kept, len(whole)) + whole[:kept])
     open(name + ".text", "w", encoding="utf-8").write(text)
+def framed(packets):
+    frames = [(at, frame(octets, address, to[0] if to else group(octets))) for at, octets, address, *to in packets]
+    return [(at, whole, len(whole)) for at, whole in frames]
+def write(name, packets, text):
+    """Packets are (millisecond, octets, last number of the sender's address), and where it isn't their universe's group the address that they go to."""
+    write_frames(name, framed(packets), text)
 def stream(source, moments, address=5, numbers=None, ends=3, **fields):
     """A stream whose numbers go up by one, and three packets that end it, 20 ms apart."""
     numbers = range(len(moments)) if numbers is None else numbers
@@ -92,6 +98,37 @@ write("moves", moves, who(19, 6) + ": conforms\n")
 text = [(10, packet(20, 1, start=0x17), 5), (20, packet(20, 2, start=0xdd), 5)]
 write("start", [(0, packet(20, 0), 5)] + text + stream(20, [it + 30 for it in steady], numbers=range(3, 3 + len(steady))),
       who(20) + ": conforms\n  seen, no breach: 7.7 a start code other than 0 and 0xDD on 1 (once, at 0.010 s)\n")
+# universe 1 by the group of universe 0; and universe 257 by its own, to one host, and to all of a network
+def sent(packets, to): return [(moment, octets, address, bytes(to)) for moment, octets, address in packets]
+write("group0", sent(stream(21, steady), [239, 255, 0, 0]),
+      who(21) + ":\n  9.3.1 sent to another multicast group than its universe's on 1 (803 times, the first at 0.000 s, the latest at 20.035 s)\n")
+hosts = stream(22, steady, universe=257)
+write("groups", sent(hosts[:200], [239, 255, 1, 1]) + sent(hosts[200:400], [10, 0, 0, 9]) + sent(hosts[400:], [10, 255, 255, 255]), who(22) + ": conforms\n")
+# universes 1 and 2 in turn by one counter: of the packets that follow one of the other universe and count on, packet 8 is the eighth
+turns = [(25 * it, packet(23, it, universe=1 + it % 2), 5) for it in range(800)] + [(20000 + 20 * it, packet(23, 800 + it, universe=1 + it % 2, ends=True), 5) for it in range(6)]
+write("counter", turns, who(23) + ":\n  6.2.5 one counter for several universes (798 times, the first at 0.200 s, the latest at 20.100 s)\n")
+# universes 1 to 8 in turn, each by its own counter, which is one ahead of that before it: seven packets count on, and then one doesn't
+write("counters", sum((stream(24, steady, universe=it, numbers=range(it, it + len(steady))) for it in range(1, 9)), []), who(24) + ": conforms\n")
+# what can't be read: a printer at the port, and a source of priority 201, or of a vector of the drafts; and a priority of 200
+def with_octets(octets, at, put): return octets[:at] + put + octets[at + len(put):]
+def unread(at, put): return with_octets(packet(26, 0), at, put)
+printer = [(500, b"hello", 100, bytes([10, 0, 0, 9])), (1500, b"hello, printer", 100, bytes([10, 0, 0, 9]))]
+printer_line = "10.0.0.100 sends what can't be read: no packets of streaming ACN (2 times, the first at 0.500 s, the latest at 1.500 s)\n"
+tester = [(1000, unread(108, b"\xc9"), 9), (2500, unread(18, b"\0\0\0\3"), 9), (4000, unread(108, b"\xc9"), 9)]
+write("unread", stream(25, steady) + printer + tester,
+      who(25) + ": conforms\n" + printer_line +
+      "10.0.0.9 sends what can't be read: 6.2.3 a priority above 200 (2 times, the first at 1.000 s, the latest at 4.000 s)\n"
+      "10.0.0.9 sends what can't be read: 5.5 neither data nor an extended packet, as those of the standard's drafts (once, at 2.500 s)\n")
+write("priority200", [(moment, with_octets(octets, 108, b"\xc8"), address) for moment, octets, address in stream(26, steady)], who(26) + ": conforms\n")
+write("printer", [(0, b"hello", 100, bytes([10, 0, 0, 9]))],
+      "no packets of streaming ACN\n10.0.0.100 sends what can't be read: no packets of streaming ACN (once, at 0.000 s)\n")
+# frames that can't be read: one cut short, two fragments, and one of IPv6
+conforms = framed(stream(27, steady))
+whole = conforms[0][1]
+fragment = with_octets(whole, 20, b"\x20")
+lost = [(100, whole, 60), (200, fragment, len(whole)), (300, fragment, len(whole)), (400, with_octets(whole, 12, b"\x86\xdd"), len(whole))]
+rows = [("cut short, as by a snap length", 1), ("a fragment of IP", 2), ("IPv6", 1)]
+write_frames("frames", conforms + lost, "\nframes that couldn't be read\n" + "".join("%-30s %d\n" % it for it in rows) + "\n" + who(27) + ": conforms\n")
 write("nothing", [], "no packets of streaming ACN\n")
 P
 
@@ -112,7 +149,7 @@ tells() {
     echo "ok audit: $name"
   fi
 }
-for name in conforms rate44 rate50 skips skips2 stays stays3 second silent change1 change2 change3 end2 ended2 name64 name63 nametext nametext8 two moves start nothing; do
+for name in conforms rate44 rate50 skips skips2 stays stays3 second silent change1 change2 change3 end2 ended2 name64 name63 nametext nametext8 two moves start group0 groups counter counters unread priority200 printer frames nothing; do
   tells "$name" 0 "" $name.text $name.pcap
 done
 # What is broken is told up to where a recording is faulty; what is no recording has nothing.
@@ -133,3 +170,12 @@ assert [(it["event"], it["section"], it["universes"], it["first"], it["latest"],
 assert objects[0]["cid"] == "03" * 16 and objects[0]["name"] == "Source 3" and objects[0]["address"] == "10.0.0.5", objects
 P
 [ $? = 0 ] && echo "ok audit: objects" || echo "not ok audit: objects: $(head -c 300 out)"
+{ "$sacn" audit --json unread.pcap && "$sacn" audit --json frames.pcap; } >out 2>err && python3 - <<'P'
+import json
+objects = [json.loads(line) for line in open("out")]
+unread = [tuple(it.get(key) for key in ("address", "section", "first", "latest", "times")) for it in objects if it["event"] == "unread"]
+assert unread == [("10.0.0.100", None, 500, 1500, 2), ("10.0.0.9", "6.2.3", 1000, 4000, 2), ("10.0.0.9", "5.5", 2500, 2500, 1)], objects
+frames = [it for it in objects if it["event"] == "unread_frames"]
+assert frames == [{"ms": 20035, "event": "unread_frames", "cut": 1, "fragments": 2, "ipv6": 1, "wrong_ipv4": 0, "other_links": 0, "too_long": 0}], frames
+P
+[ $? = 0 ] && echo "ok audit: objects of what can't be read" || echo "not ok audit: objects of what can't be read: $(head -c 300 out)"

@@ -1,13 +1,13 @@
 //! Which rules of E1.31 the packets of a recording break.
 use crate::explain::{ROOM, say_capture_fault, say_unread};
 use sacn_audit::Audit;
-use sacn_capture::{Capture, CaptureFault, Datagram};
+use sacn_capture::{Capture, CaptureFault, Datagram, FrameCounts};
 use sacn_commands::ending::{Ending, of_write};
-use sacn_findings::{push_objects, push_text};
+use sacn_findings::{push_objects, push_text, push_unread, push_unread_objects};
 use sacn_packets::{Packet, read_packet};
-use sacn_tell::Timeline;
+use sacn_tell::{Timeline, begin_object, has_unread, unread_members, unread_text};
 use sacn_words::STANDARD_INPUT;
-use std::alloc::Global;
+use std::alloc::{AllocError, Global};
 use std::fs;
 use std::io::{BufRead, BufReader, Read, Write};
 use std::rt::Files;
@@ -26,6 +26,10 @@ pub struct AuditOf<'a> {
 #[derive(Drop)]
 struct Audited {
     audit: Audit,
+    /// Its frames, by what they were.
+    frames: FrameCounts,
+    /// The moment of the last frame, in milliseconds from the first.
+    length: u64,
     stopped: Option<CaptureFault>,
 }
 
@@ -60,8 +64,14 @@ fn audit_of<I: Read + Drop, E: Write>(
     };
     match Capture::open(alloc, reader) {
         Ok(mut capture) => {
-            let stopped = follow(&mut capture, &mut audit, asked.port);
-            Ok(Audited { audit, stopped })
+            let mut timeline = Timeline::begin();
+            let stopped = follow(&mut capture, &mut audit, &mut timeline, asked.port);
+            Ok(Audited {
+                audit,
+                frames: capture.counts(),
+                length: timeline.now,
+                stopped,
+            })
         }
         Err(fault) => Err(say_capture_fault(asked.capture, fault, err)),
     }
@@ -71,9 +81,9 @@ fn audit_of<I: Read + Drop, E: Write>(
 fn follow<I: BufRead + Drop>(
     capture: &mut Capture<I>,
     audit: &mut Audit,
+    timeline: &mut Timeline,
     port: u16,
 ) -> Option<CaptureFault> {
-    let mut timeline = Timeline::begin();
     // (no device holds so many frames)
     for _ in 0..u64::MAX {
         match capture.next() {
@@ -94,8 +104,12 @@ fn follow<I: BufRead + Drop>(
 }
 
 fn hear(audit: &mut Audit, now: u64, datagram: &Datagram<'_>) {
-    if let Ok(Packet::DataPacket(packet)) = read_packet(datagram.payload) {
-        audit.hear(now, datagram.sender, &packet);
+    match read_packet(datagram.payload) {
+        Ok(Packet::DataPacket(packet)) => {
+            audit.hear(now, datagram.sender, datagram.destination, &packet);
+        }
+        Ok(_) => {}
+        Err(fault) => audit.hear_refused(now, datagram.sender, fault),
     }
 }
 
@@ -108,12 +122,9 @@ fn tell_audited<O: Write, E: Write>(
 ) -> Result<(), Ending> {
     let mut text = String::new(alloc);
     if asked.is_json {
-        push_objects(alloc, &mut text, &audited.audit)?;
+        push_json(alloc, &mut text, audited)?;
     } else {
-        push_text(alloc, &mut text, &audited.audit)?;
-        if audited.audit.sources().is_empty() {
-            text.push_str("no packets of streaming ACN\n")?;
-        }
+        push_lines(alloc, &mut text, audited)?;
     }
     of_write(out.write_all(text.as_str().as_bytes()))?;
     of_write(out.flush())?;
@@ -121,4 +132,28 @@ fn tell_audited<O: Write, E: Write>(
         Some(fault) => Err(say_capture_fault(asked.capture, fault, err)),
         None => Ok(()),
     }
+}
+
+// What is told of a recording, for people: what of it couldn't be read stands first, and what its senders sent that can't be read last.
+fn push_lines(alloc: Global, text: &mut String, audited: &Audited) -> Result<(), AllocError> {
+    if has_unread(&audited.frames) {
+        unread_text(text, &audited.frames)?;
+        text.push_str("\n\n")?;
+    }
+    push_text(alloc, text, &audited.audit)?;
+    if audited.audit.sources().is_empty() {
+        text.push_str("no packets of streaming ACN\n")?;
+    }
+    push_unread(text, &audited.audit)
+}
+
+// The same as objects.
+fn push_json(alloc: Global, text: &mut String, audited: &Audited) -> Result<(), AllocError> {
+    if has_unread(&audited.frames) {
+        begin_object(text, audited.length, "unread_frames")?;
+        unread_members(text, &audited.frames)?;
+        text.push_str("}\n")?;
+    }
+    push_objects(alloc, text, &audited.audit)?;
+    push_unread_objects(text, &audited.audit)
 }

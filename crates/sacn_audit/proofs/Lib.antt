@@ -9,3 +9,5 @@ pub mod Finding
 pub mod Tracking
 pub mod NetworkAuditing
 pub mod Senders
+pub mod CountingOn
+pub mod Refusing

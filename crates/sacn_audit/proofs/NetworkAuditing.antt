@@ -12,7 +12,7 @@ use Rattle.sacn_audit.specs.declared.stream_register.AuditedStream.{AuditedStrea
 use Rattle.sacn_audit.specs.Arrivals.{Arrival}
 use Rattle.sacn_audit.specs.Histories.{audit_by, audit_with}
 use Rattle.sacn_audit.specs.Networks.{first_source, first_stream, is_from, is_of, place_from, place_of, source_after, sources_after, stream_after, streams_after}
-use Rattle.sacn_audit.specs.NetworkHistories.{AuditsAreOfTheirPackets, Heard, SourcesAreOfTheirPackets, after_all, arrivals, is_on, packets_from, source_by, source_with}
+use Rattle.sacn_audit.specs.NetworkHistories.{AuditsAreOfTheirPackets, Heard, SourcesAreOfTheirPackets, after_all, arrival_of, arrivals, is_on, packets_from, source_by, source_with}
 use Rattle.sacn_audit.proofs.Tracking.{Tracks, tracks_other, tracks_own}
 
 both : (a b : Bool) → a && b ≡ true → (a ≡ true) × (b ≡ true)
@@ -26,7 +26,7 @@ module _ (universe : ℕ) (cid : List ℕ) where
   q s = is_of universe cid s
 
   abbrev Follows : List AuditedStream → Option StreamAudit → Type 0
-  Follows ss o = Tracks (λ (s : AuditedStream). s.audit) q ss o
+  Follows ss o = Tracks 1024 (λ (s : AuditedStream). s.audit) q ss o
 
   -- a stream of the packet's source and universe is ours exactly where the packet is
   like : (d : Data) (s : AuditedStream) → is_of d.universe d.cid s ≡ true → q s ≡ is_on universe cid d
@@ -49,11 +49,11 @@ module _ (universe : ℕ) (cid : List ℕ) where
     d = x.packet
 
     abbrev a : Arrival
-    a = record { moment = x.moment; packet = x.packet }
+    a = arrival_of x
 
-    heard_by : (k : Bool) → is_on universe cid d ≡ k → Follows (streams_after x.moment d ss) (audit_by (cond k (a ∷ xs) xs))
-    heard_by true e = tracks_own (λ (s : AuditedStream). s.audit) q (stream_after x.moment d) (first_stream x.moment d) (λ s. refl) ss (audit_by xs) (audit_with a) e (λ s. refl) refl (place_of d.universe d.cid ss) (looks d ss e) follows
-    heard_by false e = tracks_other (λ (s : AuditedStream). s.audit) q (stream_after x.moment d) (first_stream x.moment d) (λ s. refl) ss (audit_by xs) (is_of d.universe d.cid) (λ s h. like d s h ∙ e) e (place_of d.universe d.cid ss) refl follows
+    heard_by : (k : Bool) → is_on universe cid d ≡ k → Follows (streams_after x.moment x.destination d ss) (audit_by (cond k (a ∷ xs) xs))
+    heard_by true e = tracks_own 1024 (λ (s : AuditedStream). s.audit) q (stream_after x.moment x.destination d) (first_stream x.moment x.destination d) (λ s. refl) ss (audit_by xs) (audit_with a) e (λ s. refl) refl (place_of d.universe d.cid ss) (looks d ss e) follows
+    heard_by false e = tracks_other 1024 (λ (s : AuditedStream). s.audit) q (stream_after x.moment x.destination d) (first_stream x.moment x.destination d) (λ s. refl) ss (audit_by xs) (is_of d.universe d.cid) (λ s h. like d s h ∙ e) e (place_of d.universe d.cid ss) refl follows
 
 pub audits_are_of_their_packets : AuditsAreOfTheirPackets
 audits_are_of_their_packets [] universe cid = inl refl
@@ -63,7 +63,7 @@ audits_are_of_their_packets (x ∷ earlier) universe cid = heard_by universe cid
 
 module _ (cid : List ℕ) where
   abbrev Keeps : List SourceAudit → Option SourceAudit → Type 0
-  Keeps ss o = Tracks (λ (s : SourceAudit). s) (is_from cid) ss o
+  Keeps ss o = Tracks 1024 (λ (s : SourceAudit). s) (is_from cid) ss o
 
   module _ (x : Heard) (ss : List SourceAudit) (xs : List Heard) (keeps : Keeps ss (source_by xs)) where
     abbrev sender : Data
@@ -76,8 +76,8 @@ module _ (cid : List ℕ) where
     like_from s e = ap (λ (c : List ℕ). bytes_eq c cid) ((bytes_eq-Decides s.cid sender.cid).0 e)
 
     heard_from : (k : Bool) → bytes_eq sender.cid cid ≡ k → Keeps (sources_after x.moment x.address sender ss) (source_by (cond k (x ∷ xs) xs))
-    heard_from true e = tracks_own (λ (s : SourceAudit). s) (is_from cid) (source_after x.moment x.address sender) (first_source x.moment x.address sender) (λ s. refl) ss (source_by xs) (source_with x) e (λ s. refl) refl (place_from sender.cid ss) (looks_from e) keeps
-    heard_from false e = tracks_other (λ (s : SourceAudit). s) (is_from cid) (source_after x.moment x.address sender) (first_source x.moment x.address sender) (λ s. refl) ss (source_by xs) (is_from sender.cid) (λ s h. like_from s h ∙ e) e (place_from sender.cid ss) refl keeps
+    heard_from true e = tracks_own 1024 (λ (s : SourceAudit). s) (is_from cid) (source_after x.moment x.address sender) (first_source x.moment x.address sender) (λ s. refl) ss (source_by xs) (source_with x) e (λ s. refl) refl (place_from sender.cid ss) (looks_from e) keeps
+    heard_from false e = tracks_other 1024 (λ (s : SourceAudit). s) (is_from cid) (source_after x.moment x.address sender) (first_source x.moment x.address sender) (λ s. refl) ss (source_by xs) (is_from sender.cid) (λ s h. like_from s h ∙ e) e (place_from sender.cid ss) refl keeps
 
 kept_from : (xs : List Heard) (cid : List ℕ) → Keeps cid (after_all xs).sources (source_by (packets_from cid xs))
 kept_from [] cid = inl refl

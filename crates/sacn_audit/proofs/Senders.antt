@@ -9,7 +9,7 @@ use Rattle.sacn_audit.proofs.Noting.{noted_by}
 itself : (t : ℕ) → t ≡ max t 0
 itself t = omega arith
 
-moment_is : (x : Heard) (earlier : List Heard) → (source_with x (source_by earlier)).moment ≡ moment_after (x ∷ earlier)
+pub moment_is : (x : Heard) (earlier : List Heard) → (source_with x (source_by earlier)).moment ≡ moment_after (x ∷ earlier)
 moment_is x [] = itself x.moment
 moment_is x (y ∷ earlier) = ap (max x.moment) (moment_is y earlier)
 

@@ -1,8 +1,12 @@
 pub mod Arrivals
+pub mod Groups
 pub mod Rules
 pub mod Breaches
 pub mod Audits
 pub mod Histories
+pub mod Counters
 pub mod Registers
+pub mod Refusals
 pub mod Networks
 pub mod NetworkHistories
+pub mod CounterHistories

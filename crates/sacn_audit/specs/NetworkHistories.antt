@@ -14,26 +14,31 @@ use Rattle.sacn_audit.specs.Breaches.{breach_by, no_breach}
 use Rattle.sacn_audit.specs.Histories.{audit_by}
 use Rattle.sacn_audit.specs.Networks.{Network, after_heard, first_source, is_from, is_of, nothing_heard, source_after}
 
--- a packet, when it came, and from which IPv4 address
+-- a packet, when it came, from which IPv4 address, and to which it was sent
 pub record Heard : Type 0 where
   pub moment : ℕ
   pub address : List ℕ
+  pub destination : List ℕ
   pub packet : Data
 
 -- what the contracts of the calls say
 abbrev pub after_all : List Heard → Network
 after_all [] = nothing_heard
-after_all (x ∷ earlier) = after_heard x.moment x.address x.packet (after_all earlier)
+after_all (x ∷ earlier) = after_heard x.moment x.address x.destination x.packet (after_all earlier)
 
 -- ---- a stream
 
 abbrev pub is_on : ℕ → List ℕ → Data → Bool
 is_on universe cid d = (d.universe == universe) && bytes_eq d.cid cid
 
+abbrev pub arrival_of : Heard → Arrival
+arrival_of x = record { moment = x.moment; destination = x.destination; packet = x.packet }
+
 -- the packets of this source on this universe
 abbrev pub arrivals : ℕ → List ℕ → List Heard → List Arrival
 arrivals universe cid [] = []
-arrivals universe cid (x ∷ earlier) = if is_on universe cid x.packet then record { moment = x.moment; packet = x.packet } ∷ arrivals universe cid earlier else arrivals universe cid earlier
+arrivals universe cid (x ∷ earlier) =
+    if is_on universe cid x.packet then arrival_of x ∷ arrivals universe cid earlier else arrivals universe cid earlier
 
 -- its audit that is kept
 abbrev pub audit_in : ℕ → List ℕ → List AuditedStream → Option StreamAudit

@@ -4,6 +4,7 @@ ghost use Rattle.std.specs.Prelude.{◌≡◌};
 ghost use Rattle.sacn_audit.specs.Networks.{first_source, is_elsewhere, is_from, source_after};
 
 use crate::breach::Breach;
+use crate::source_numbers::SourceNumbers;
 use sacn_packets::DataView;
 use sacn_sources::NETWORK_DATA_LOSS;
 
@@ -25,6 +26,12 @@ pub struct SourceAudit {
     /// that moves breaks it once, and two devices with one CID do so again and again, as one device does that sends from two
     /// addresses.
     pub two_senders: Breach,
+    /// The numbers of its packets, whatever universes they are on.
+    pub numbers: SourceNumbers,
+    /// One counter for several universes (E1.31, 6.2.5 and 6.7: a sequence for each universe): eight packets of this source in a row
+    /// are each on another universe than the packet before it and have the number after that one's. Broken at the eighth, and at each
+    /// further one.
+    pub one_counter: Breach,
 }
 
 impl SourceAudit {
@@ -39,6 +46,8 @@ impl SourceAudit {
             first: moment,
             moment,
             two_senders: Breach::none(),
+            numbers: SourceNumbers::first(packet),
+            one_counter: Breach::none(),
         }
     }
 
@@ -48,7 +57,10 @@ impl SourceAudit {
     {
         let moment = moment.max(self.moment);
         let is_elsewhere = self.is_elsewhere(moment, &address);
+        let numbers = self.numbers.after(packet);
         self.two_senders.note_if(is_elsewhere, moment);
+        self.one_counter.note_if(numbers.has_one_counter(), moment);
+        self.numbers = numbers;
         self.name = *packet.name_field();
         self.address = address;
         self.moment = moment;

@@ -23,20 +23,20 @@ pub struct AuditedStream {
 }
 
 impl AuditedStream {
-    fn begin(moment: u64, packet: &DataView<'_>) -> Self
-        ensures { result ≡ first_stream moment packet.now }
+    fn begin(moment: u64, destination: [u8; 4], packet: &DataView<'_>) -> Self
+        ensures { result ≡ first_stream moment destination packet.now }
     {
         AuditedStream {
             universe: packet.universe(),
             cid: packet.cid(),
-            audit: StreamAudit::begin(moment, packet),
+            audit: StreamAudit::begin(moment, destination, packet),
         }
     }
 
-    fn hear(&mut self, moment: u64, packet: &DataView<'_>)
-        ensures { self.new ≡ stream_after moment packet.now self.old }
+    fn hear(&mut self, moment: u64, destination: [u8; 4], packet: &DataView<'_>)
+        ensures { self.new ≡ stream_after moment destination packet.now self.old }
     {
-        self.audit.hear(moment, packet);
+        self.audit.hear(moment, destination, packet);
     }
 
     /// Whether it is the stream of a source on a universe.
@@ -87,16 +87,16 @@ impl StreamRegister {
     }
 
     /// A packet: of a stream that is there, or of a further one, where there is room. Returns whether there was.
-    pub(crate) fn hear(&mut self, moment: u64, packet: &DataView<'_>) -> bool
+    pub(crate) fn hear(&mut self, moment: u64, destination: [u8; 4], packet: &DataView<'_>) -> bool
         ensures tracked { result ≡ is_tracked packet.now self.old }
-        ensures streams { self.new ≡ streams_after moment packet.now self.old }
+        ensures streams { self.new ≡ streams_after moment destination packet.now self.old }
     {
         match self.place_of(packet.universe(), &packet.cid()) {
             Some(at) => {
-                self.hear_at(at, moment, packet);
+                self.hear_at(at, moment, destination, packet);
                 true
             }
-            None => self.admit(moment, packet),
+            None => self.admit(moment, destination, packet),
         }
     }
 
@@ -112,25 +112,25 @@ impl StreamRegister {
     }
 
     // A packet of the stream at a place.
-    fn hear_at(&mut self, at: usize, moment: u64, packet: &DataView<'_>)
+    fn hear_at(&mut self, at: usize, moment: u64, destination: [u8; 4], packet: &DataView<'_>)
         requires { at < length self.old }
-        ensures { (s : AuditedStream) → self.new ≡ slice_set self.old at (stream_after moment packet.now (slice_index_or self.old at s)) }
+        ensures { (s : AuditedStream) → self.new ≡ slice_set self.old at (stream_after moment destination packet.now (slice_index_or self.old at s)) }
     {
-        self.streams[at].hear(moment, packet);
+        self.streams[at].hear(moment, destination, packet);
         self.hints
             .keep(key_of(packet.universe(), &packet.cid()), at);
     }
 
     // The first packet of a stream. Returns whether there was room for it.
-    fn admit(&mut self, moment: u64, packet: &DataView<'_>) -> bool
+    fn admit(&mut self, moment: u64, destination: [u8; 4], packet: &DataView<'_>) -> bool
         requires { place_of packet.now.universe packet.now.cid self.old ≡ None }
         ensures tracked { result ≡ is_tracked packet.now self.old }
-        ensures streams { self.new ≡ streams_after moment packet.now self.old }
+        ensures streams { self.new ≡ streams_after moment destination packet.now self.old }
     {
         if self.streams.len() >= MAX_STREAMS {
             return false;
         }
-        self.push(AuditedStream::begin(moment, packet));
+        self.push(AuditedStream::begin(moment, destination, packet));
         true
     }
 

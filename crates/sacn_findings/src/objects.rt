@@ -42,6 +42,7 @@ fn push_source_objects(
         text.push_str("}\n")?;
     }
     push_two_senders(text, source)?;
+    push_one_counter(text, source)?;
     for row in &ROWS {
         push_finding(alloc, text, streams, source, row)?;
         if is_unseen(streams, source, row) {
@@ -87,13 +88,14 @@ fn begin(
     text.push('"')
 }
 
-fn push_rule(text: &mut String, section: &str, words: &str) -> Result<(), AllocError> {
+/// A rule: its clause, and what breaks it.
+pub(crate) fn push_rule(text: &mut String, section: &str, words: &str) -> Result<(), AllocError> {
     push_word(text, "section", section)?;
     push_word(text, "rule", words)
 }
 
-// Its first and its latest moment, how often it was, and the end of the object.
-fn push_moments(text: &mut String, breach: Breach) -> Result<(), AllocError> {
+/// Its first and its latest moment, how often it was, and the end of the object.
+pub(crate) fn push_moments(text: &mut String, breach: Breach) -> Result<(), AllocError> {
     push_number(text, "first", breach.first)?;
     push_number(text, "latest", breach.latest)?;
     push_number(text, "times", breach.times)?;
@@ -107,6 +109,15 @@ fn push_two_senders(text: &mut String, source: &SourceAudit) -> Result<(), Alloc
     begin(text, source.two_senders.latest, "breach", source)?;
     push_rule(text, "5.6", "one CID at two addresses")?;
     push_moments(text, source.two_senders)
+}
+
+fn push_one_counter(text: &mut String, source: &SourceAudit) -> Result<(), AllocError> {
+    if source.one_counter.times == 0 {
+        return Ok(());
+    }
+    begin(text, source.one_counter.latest, "breach", source)?;
+    push_rule(text, "6.2.5", "one counter for several universes")?;
+    push_moments(text, source.one_counter)
 }
 
 // Streams that have ended by too few packets, after which nothing came.

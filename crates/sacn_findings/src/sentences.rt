@@ -35,8 +35,10 @@ fn push_block(
     push_two_senders(text, source)?;
     for row in &ROWS {
         push_finding(alloc, text, streams, source, row)?;
-        if row.rule == Rule::ShortEnd {
-            push_short_end(alloc, text, streams, source)?;
+        match row.rule {
+            Rule::NumberLeftOut => push_one_counter(text, source)?,
+            Rule::ShortEnd => push_short_end(alloc, text, streams, source)?,
+            _ => {}
         }
     }
     push_unseen(text, streams, source)
@@ -54,7 +56,7 @@ pub(crate) fn conforms(streams: &[AuditedStream], source: &SourceAudit) -> bool 
             return false;
         }
     }
-    source.two_senders.times == 0
+    source.two_senders.times == 0 && source.one_counter.times == 0
 }
 
 // A line for a rule that was broken.
@@ -87,8 +89,8 @@ fn push_where(text: &mut String, universes: &[u16]) -> Result<(), AllocError> {
     push_ranges(text, universes)
 }
 
-// How often, and when: ` (60 times, the first at 3.200 s, the latest at 61.105 s)`, and the end of the line.
-fn push_times(text: &mut String, breach: Breach) -> Result<(), AllocError> {
+/// How often, and when: ` (60 times, the first at 3.200 s, the latest at 61.105 s)`, and the end of the line.
+pub(crate) fn push_times(text: &mut String, breach: Breach) -> Result<(), AllocError> {
     if breach.times == 1 {
         text.push_str(" (once, at ")?;
         push_seconds(text, breach.first)?;
@@ -109,6 +111,14 @@ fn push_two_senders(text: &mut String, source: &SourceAudit) -> Result<(), Alloc
     }
     text.push_str("  5.6 one CID at two addresses")?;
     push_times(text, source.two_senders)
+}
+
+fn push_one_counter(text: &mut String, source: &SourceAudit) -> Result<(), AllocError> {
+    if source.one_counter.times == 0 {
+        return Ok(());
+    }
+    text.push_str("  6.2.5 one counter for several universes")?;
+    push_times(text, source.one_counter)
 }
 
 // Streams that have ended by too few packets, after which nothing came.

@@ -14,6 +14,7 @@ struct Heard {
     cid: [u8; 16],
     name: &'static str,
     address: [u8; 4],
+    destination: [u8; 4],
 }
 
 impl Heard {
@@ -23,6 +24,7 @@ impl Heard {
             cid,
             name,
             address: [10, 0, 0, 5],
+            destination: [10, 0, 0, 9],
         })
     }
 
@@ -46,7 +48,8 @@ impl Heard {
         };
         write_data(&fields, &mut octets);
         if let Ok(Packet::DataPacket(packet)) = read_packet(&octets) {
-            self.audit.hear(moment, self.address, &packet);
+            self.audit
+                .hear(moment, self.address, self.destination, &packet);
         }
     }
 }
@@ -78,6 +81,26 @@ fn careless(alloc: Global) -> Result<Heard, AllocError> {
     heard.address = [10, 0, 0, 6];
     heard.send(100, false, 0x17, 2, false);
     heard.send(200, false, 0, 3, true);
+    Ok(heard)
+}
+
+// As many packets, to the group of universe 2.
+fn misdirected(alloc: Global) -> Result<Heard, AllocError> {
+    let mut heard = Heard::of(alloc, DESK, "Main FOH")?;
+    heard.destination = [239, 255, 0, 2];
+    for number in 0..21u8 {
+        heard.send(900 * u64::from(number), false, 0, number, false);
+        heard.send(900 * u64::from(number), true, 0, number, false);
+    }
+    Ok(heard)
+}
+
+// Universes 1 and 2 in turn, by one counter.
+fn by_one_counter(alloc: Global) -> Result<Heard, AllocError> {
+    let mut heard = Heard::of(alloc, DESK, "Main FOH")?;
+    for number in 0..41u8 {
+        heard.send(450 * u64::from(number), number % 2 == 1, 0, number, false);
+    }
     Ok(heard)
 }
 
@@ -116,6 +139,28 @@ fn universes_are_gathered(rt: HostRuntime) {
   can't be seen in so short a recording: 6.2.5 numbers that don't go up; 6.2.5 a number left out in each turn
 "#;
     assert!(rt; reads(alloc, fast(alloc), wanted));
+}
+
+#[test]
+fn another_group_is_told(rt: HostRuntime) {
+    let alloc = rt.alloc();
+    let wanted = r#""Main FOH" 0001..0f at 10.0.0.5:
+  9.3.1 sent to another multicast group than its universe's on 1 (21 times, the first at 0.000 s, the latest at 18.000 s)
+"#;
+    assert!(rt; reads(alloc, misdirected(alloc), wanted));
+}
+
+#[test]
+fn one_counter_is_told(rt: HostRuntime) {
+    let alloc = rt.alloc();
+    let wanted = r#""Main FOH" 0001..0f at 10.0.0.5:
+  6.2.5 one counter for several universes (33 times, the first at 3.600 s, the latest at 18.000 s)
+"#;
+    assert!(rt; reads(alloc, by_one_counter(alloc), wanted));
+    let wanted =
+        r#"{"ms":18000,"event":"breach","cid":"000102030405060708090a0b0c0d0e0f","name":"Main FOH","address":"10.0.0.5","section":"6.2.5","rule":"one counter for several universes","first":3600,"latest":18000,"times":33}
+"#;
+    assert!(rt; reads_as_objects(alloc, by_one_counter(alloc), wanted));
 }
 
 #[test]
