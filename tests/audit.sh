@@ -23,12 +23,33 @@ def packet(source, number, universe=1, slots=b"\xff", start=0, name=None, ends=F
     framing = struct.pack(">H", 0x7000 + 2 + len(framing) + len(dmp)) + framing + dmp
     root = b"\0\0\0\4" + bytes([source] * 16)
     return b"\0\x10\0\0ASC-E1.17\0\0\0" + struct.pack(">H", 0x7000 + 2 + len(root) + len(framing)) + root + framing
+def page(source, universes, number=0, last=0, name=None):
+    """A page of universe discovery (E1.31, 6.4 and 8)."""
+    name = (b"Source %d" % source).ljust(64, b"\0") if name is None else name
+    layer = b"\0\0\0\1" + bytes([number, last]) + b"".join(struct.pack(">H", it) for it in universes)
+    layer = struct.pack(">H", 0x7000 + 2 + len(layer)) + layer
+    framing = b"\0\0\0\2" + name + bytes(4)
+    framing = struct.pack(">H", 0x7000 + 2 + len(framing) + len(layer)) + framing + layer
+    root = b"\0\0\0\x08" + bytes([source] * 16)
+    return b"\0\x10\0\0ASC-E1.17\0\0\0" + struct.pack(">H", 0x7000 + 2 + len(root) + len(framing)) + root + framing
+def with_pages(packets):
+    """Beside these data packets, sorted, a list of each source's universes at its first one and each 10 s from then on, with the name and the address of the packet before."""
+    pages = []
+    for source in sorted({octets[22] for _, octets, _ in packets}):
+        own = [it for it in packets if it[1][22] == source]
+        universes = sorted({struct.unpack(">H", octets[113:115])[0] for _, octets, _ in own})
+        for at in range(own[0][0], own[-1][0] + 1, 10000):
+            _, before, address = [it for it in own if it[0] <= at][-1]
+            pages.append((at, page(source, universes, name=before[44:108]), address))
+    return packets + pages
 def frame(octets, address, port=5568):
     udp = struct.pack(">HHHH", 5568, port, 8 + len(octets), 0) + octets
     head = struct.pack(">BBHHHBBH4s4s", 0x45, 0, 20 + len(udp), 0, 0, 64, 17, 0, bytes([10, 0, 0, address]), bytes([239, 255, 0, 1]))
     return bytes(12) + b"\x08\0" + head + udp
-def write(name, packets, text):
-    """Packets are (millisecond, octets, last number of the sender's address)."""
+def write(name, packets, text, lists=None):
+    """Packets are (millisecond, octets, last number of the sender's address), with a list of universes each 10 s, or with these pages."""
+    packets = sorted(packets, key=lambda it: it[0])
+    packets = with_pages(packets) if lists is None else packets + lists
     with open(name + ".pcap", "wb") as out:
         out.write(struct.pack("<IHHiIII", 0xa1b2c3d4, 2, 4, 0, 0, 65535, 1))
         for at, octets, address in sorted(packets, key=lambda it: it[0]):
@@ -79,7 +100,7 @@ write("ended2", end + stream(13, [25000 + it for it in steady], numbers=range(80
       who(13) + ":\n  6.2.6 ended by fewer than three packets on 1 (once, at 25.000 s)\n")
 write("name64", stream(14, steady[:1], name=b"n" * 64),
       '"' + "n" * 64 + '" 0e0e..0e at 10.0.0.5:\n  6.2.2 a name without an end on 1 (4 times, the first at 0.000 s, the latest at 0.060 s)\n'
-      "  can't be seen in so short a recording: 6.2.5 numbers that don't go up; 6.2.5 a number left out in each turn; 6.6.1 faster than 44 a second; 6.6.2 levels more than 1 s apart; 6.6.2 changed levels sent fewer than three times\n")
+      "  can't be seen in so short a recording: 6.2.5 numbers that don't go up; 6.2.5 a number left out in each turn; 6.6.1 faster than 44 a second; 6.6.2 levels more than 1 s apart; 6.6.2 changed levels sent fewer than three times; 8 no list of universes for 12 s; 8 a list that lacks a universe it sends\n")
 write("name63", stream(15, steady, name=b"n" * 63 + b"\0"), '"' + "n" * 63 + '" 0f0f..0f at 10.0.0.5: conforms\n')
 write("nametext", stream(16, steady, name=b"K\xe4se".ljust(64, b"\0")),
       '"K\u00e4se" 1010..10 at 10.0.0.5:\n  6.2.2 a name that isn\'t UTF-8 on 1 (803 times, the first at 0.000 s, the latest at 20.035 s)\n')
@@ -92,6 +113,29 @@ write("moves", moves, who(19, 6) + ": conforms\n")
 text = [(10, packet(20, 1, start=0x17), 5), (20, packet(20, 2, start=0xdd), 5)]
 write("start", [(0, packet(20, 0), 5)] + text + stream(20, [it + 30 for it in steady], numbers=range(3, 3 + len(steady))),
       who(20) + ": conforms\n  seen, no breach: 7.7 a start code other than 0 and 0xDD on 1 (once, at 0.010 s)\n")
+# No list at all; one that is late twice, at the first packet more than 12 s after the list before; one that just isn't; and a source that comes back 3 s after its end with a list 13 s after the one before.
+write("unlisted", stream(21, steady), who(21) + ":\n  8 no list of universes for 12 s (once, at 12.025 s)\n", [])
+def listed(source, universes, *moments): return [(it, page(source, universes), 5) for it in moments]
+minute = list(range(0, 30000, 25))
+write("late", stream(22, minute), who(22) + ":\n  8 no list of universes for 12 s (2 times, the first at 12.025 s, the latest at 25.025 s)\n", listed(22, [1], 0, 13010, 26000))
+write("late12", stream(23, minute), who(23) + ": conforms\n", listed(23, [1], 0, 12010, 24015))
+write("back", stream(24, steady[:400]) + stream(24, [13000 + it for it in steady[:400]], numbers=range(403, 803)), who(24) + ": conforms\n", listed(24, [1], 0, 13010))
+# Of two universes the list has one, more than 10 s after both began; and just so long after. Another source's universes are none of it.
+both = stream(25, steady, universe=1) + stream(25, steady, universe=2)
+write("lacks", both, who(25) + ":\n  8 a list that lacks a universe it sends (2 times, the first at 10.001 s, the latest at 20.000 s)\n", listed(25, [1], 0, 10001, 20000))
+write("lacks10", both, who(25) + ": conforms\n", listed(25, [1], 0, 10000) + listed(25, [1, 2], 20000))
+short = stream(25, steady, universe=1) + stream(25, steady[:399], universe=2)
+write("lacksnone", short, who(25) + ": conforms\n", listed(25, [1, 2], 0) + listed(25, [1], 10045, 20000))
+# Two pages, of which each tells of its own part; the second lacks the universe behind its last number, and the first has none to tell of.
+parts = stream(26, steady, universe=2) + stream(26, steady, universe=9)
+write("pages", parts, who(26) + ": conforms\n", [(at, page(26, numbers, number, 1), 5) for at in (0, 10500) for number, numbers in enumerate(([1, 2], [9, 10]))])
+write("pageslack", parts, who(26) + ":\n  8 a list that lacks a universe it sends (once, at 10.500 s)\n  seen, no breach: 8 a list with a universe that wasn't heard (2 times, the first at 12.001 s, the latest at 12.001 s)\n",
+      [(at, page(26, numbers, number, 1), 5) for at in (0, 10500) for number, numbers in enumerate(([1, 2], [6, 8]))] + [(12001, page(26, [1, 2], 0, 1), 5), (12001, page(26, [6, 9], 1, 1), 5)])
+# A universe that wasn't heard for more than 12 s; one that was; and a source of pages alone.
+ended = stream(27, steady, universe=1) + stream(27, steady[:319], universe=9)
+write("unheard", ended, who(27) + ": conforms\n  seen, no breach: 8 a list with a universe that wasn't heard (once, at 20.011 s)\n", listed(27, [1, 9], 0, 10000, 20011))
+write("unheard12", ended, who(27) + ": conforms\n", listed(27, [1, 9], 0, 10000, 20010))
+write("alone", [], who(28) + ": conforms\n  seen, no breach: 8 a list with a universe that wasn't heard (once, at 20.000 s)\n", listed(28, [1], 0, 10000, 20000))
 write("nothing", [], "no packets of streaming ACN\n")
 P
 
@@ -112,7 +156,7 @@ tells() {
     echo "ok audit: $name"
   fi
 }
-for name in conforms rate44 rate50 skips skips2 stays stays3 second silent change1 change2 change3 end2 ended2 name64 name63 nametext nametext8 two moves start nothing; do
+for name in conforms rate44 rate50 skips skips2 stays stays3 second silent change1 change2 change3 end2 ended2 name64 name63 nametext nametext8 two moves start unlisted late late12 back lacks lacks10 lacksnone pages pageslack unheard unheard12 alone nothing; do
   tells "$name" 0 "" $name.text $name.pcap
 done
 # What is broken is told up to where a recording is faulty; what is no recording has nothing.

@@ -94,8 +94,10 @@ fn follow<I: BufRead + Drop>(
 }
 
 fn hear(audit: &mut Audit, now: u64, datagram: &Datagram<'_>) {
-    if let Ok(Packet::DataPacket(packet)) = read_packet(datagram.payload) {
-        audit.hear(now, datagram.sender, &packet);
+    match read_packet(datagram.payload) {
+        Ok(Packet::DataPacket(packet)) => audit.hear(now, datagram.sender, &packet),
+        Ok(Packet::PagePacket(page)) => audit.hear_page(now, datagram.sender, &page),
+        _ => {}
     }
 }
 

@@ -9,3 +9,4 @@ pub mod Finding
 pub mod Tracking
 pub mod NetworkAuditing
 pub mod Senders
+pub mod AwaitedLists

@@ -4,5 +4,7 @@ pub mod Breaches
 pub mod Audits
 pub mod Histories
 pub mod Registers
+pub mod UniverseLists
 pub mod Networks
 pub mod NetworkHistories
+pub mod ListHistories

@@ -22,6 +22,13 @@ pub(crate) const TURNS: u8 = 3;
 /// So many packets in a row with one number aren't copies that were made on the way.
 pub(crate) const COPIES_IN_A_ROW: u8 = 4;
 
+/// A source sends its list of universes at least so often, in milliseconds (E1.31, 4.3 and appendix A:
+/// E131_UNIVERSE_DISCOVERY_INTERVAL).
+pub(crate) const LIST_INTERVAL: u64 = 10_000;
+
+/// The most milliseconds without a list of universes: the interval, and two seconds of slack.
+pub(crate) const LONGEST_WITHOUT_LIST: u64 = LIST_INTERVAL + 2000;
+
 /// The start code of priorities for slots, beside 0 for levels.
 pub(crate) const PRIORITY_START_CODE: u8 = 0xDD;
 

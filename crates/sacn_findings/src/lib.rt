@@ -5,6 +5,7 @@
 #![tactic(auto)]
 
 mod findings;
+mod list_findings;
 mod objects;
 mod rule_rows;
 mod sentences;

@@ -1,8 +1,9 @@
 //! What was found, as objects of JSON for programs.
 
 use crate::findings::{short_ends_of, total_of, universes_of};
+use crate::list_findings::{ListFinding, SECTION, list_findings};
 use crate::rule_rows::{ROWS, Row};
-use crate::sentences::{conforms, is_unseen};
+use crate::sentences::{conforms, is_list_unseen, is_unseen};
 use crate::sources::push_address;
 use sacn_audit::{Audit, AuditedStream, Breach, SourceAudit};
 use sacn_packets::up_to_nul;
@@ -45,9 +46,13 @@ fn push_source_objects(
     for row in &ROWS {
         push_finding(alloc, text, streams, source, row)?;
         if is_unseen(streams, source, row) {
-            begin(text, source.moment, "unseen", source)?;
-            push_rule(text, row.section, row.words)?;
-            text.push_str("}\n")?;
+            push_unseen(text, source, row.section, row.words)?;
+        }
+    }
+    for finding in &list_findings(source) {
+        push_list_finding(text, source, finding)?;
+        if is_list_unseen(source, finding) {
+            push_unseen(text, source, SECTION, finding.words)?;
         }
     }
     push_short_end(alloc, text, streams, source)
@@ -65,11 +70,40 @@ fn push_finding(
         return Ok(());
     }
     let universes = universes_of(alloc, streams, &source.cid, row.rule)?;
-    let event = if row.is_breach { "breach" } else { "seen" };
-    begin(text, total.latest, event, source)?;
+    begin(text, total.latest, event_of(row.is_breach), source)?;
     push_rule(text, row.section, row.words)?;
     push_numbers(text, "universes", universes.as_slice())?;
     push_moments(text, total)
+}
+
+fn push_list_finding(
+    text: &mut String,
+    source: &SourceAudit,
+    finding: &ListFinding,
+) -> Result<(), AllocError> {
+    let breach = finding.breach;
+    if breach.times == 0 {
+        return Ok(());
+    }
+    begin(text, breach.latest, event_of(finding.is_breach), source)?;
+    push_rule(text, SECTION, finding.words)?;
+    push_moments(text, breach)
+}
+
+// A rule that can't be seen.
+fn push_unseen(
+    text: &mut String,
+    source: &SourceAudit,
+    section: &str,
+    words: &str,
+) -> Result<(), AllocError> {
+    begin(text, source.moment, "unseen", source)?;
+    push_rule(text, section, words)?;
+    text.push_str("}\n")
+}
+
+fn event_of(is_breach: bool) -> &'static str {
+    if is_breach { "breach" } else { "seen" }
 }
 
 // The front of an object: its moment, its key, and the source.

@@ -1,6 +1,7 @@
 //! What was found, as text for people.
 
 use crate::findings::{short_ends_of, total_of, universes_of};
+use crate::list_findings::{ListFinding, SECTION, list_findings};
 use crate::rule_rows::{ROWS, Row};
 use crate::sources::{heard_for, push_source};
 use sacn_audit::{Audit, AuditedStream, Breach, Rule, SourceAudit};
@@ -39,6 +40,9 @@ fn push_block(
             push_short_end(alloc, text, streams, source)?;
         }
     }
+    for finding in &list_findings(source) {
+        push_list_finding(text, finding)?;
+    }
     push_unseen(text, streams, source)
 }
 
@@ -54,7 +58,8 @@ pub(crate) fn conforms(streams: &[AuditedStream], source: &SourceAudit) -> bool 
             return false;
         }
     }
-    source.two_senders.times == 0
+    let [none, lacking, _] = list_findings(source);
+    source.two_senders.times == 0 && none.breach.times == 0 && lacking.breach.times == 0
 }
 
 // A line for a rule that was broken.
@@ -70,16 +75,26 @@ fn push_finding(
         return Ok(());
     }
     let universes = universes_of(alloc, streams, &source.cid, row.rule)?;
-    text.push_str(if row.is_breach {
+    push_rule(text, row.is_breach, row.section, row.words)?;
+    push_where(text, universes.as_slice())?;
+    push_times(text, total)
+}
+
+// The front of a line: its clause, and what breaks it.
+fn push_rule(
+    text: &mut String,
+    is_breach: bool,
+    section: &str,
+    words: &str,
+) -> Result<(), AllocError> {
+    text.push_str(if is_breach {
         "  "
     } else {
         "  seen, no breach: "
     })?;
-    text.push_str(row.section)?;
+    text.push_str(section)?;
     text.push(' ')?;
-    text.push_str(row.words)?;
-    push_where(text, universes.as_slice())?;
-    push_times(text, total)
+    text.push_str(words)
 }
 
 fn push_where(text: &mut String, universes: &[u16]) -> Result<(), AllocError> {
@@ -111,6 +126,15 @@ fn push_two_senders(text: &mut String, source: &SourceAudit) -> Result<(), Alloc
     push_times(text, source.two_senders)
 }
 
+// A line for a rule of lists of universes, where it was broken.
+fn push_list_finding(text: &mut String, finding: &ListFinding) -> Result<(), AllocError> {
+    if finding.breach.times == 0 {
+        return Ok(());
+    }
+    push_rule(text, finding.is_breach, SECTION, finding.words)?;
+    push_times(text, finding.breach)
+}
+
 // Streams that have ended by too few packets, after which nothing came.
 fn push_short_end(
     alloc: Global,
@@ -132,6 +156,11 @@ pub(crate) fn is_unseen(streams: &[AuditedStream], source: &SourceAudit, row: &R
     heard_for(source) < row.least && total_of(streams, &source.cid, row.rule).times == 0
 }
 
+/// Whether a rule of lists that wasn't broken can't be seen, since the source was heard for too short a time.
+pub(crate) fn is_list_unseen(source: &SourceAudit, finding: &ListFinding) -> bool {
+    heard_for(source) < finding.least && finding.breach.times == 0
+}
+
 // The rules that can't be seen.
 fn push_unseen(
     text: &mut String,
@@ -140,7 +169,16 @@ fn push_unseen(
 ) -> Result<(), AllocError> {
     let mut is_first = true;
     for row in &ROWS {
-        is_first = push_where_unseen(text, streams, source, row, is_first)?;
+        if is_unseen(streams, source, row) {
+            push_one_unseen(text, row.section, row.words, is_first)?;
+            is_first = false;
+        }
+    }
+    for finding in &list_findings(source) {
+        if is_list_unseen(source, finding) {
+            push_one_unseen(text, SECTION, finding.words, is_first)?;
+            is_first = false;
+        }
     }
     if is_first {
         return Ok(());
@@ -148,26 +186,21 @@ fn push_unseen(
     text.push('\n')
 }
 
-// A rule, where it can't be seen. Returns whether none stands there so far.
-fn push_where_unseen(
+// A rule that can't be seen, the first of these or a further one.
+fn push_one_unseen(
     text: &mut String,
-    streams: &[AuditedStream],
-    source: &SourceAudit,
-    row: &Row,
+    section: &str,
+    words: &str,
     is_first: bool,
-) -> Result<bool, AllocError> {
-    if !is_unseen(streams, source, row) {
-        return Ok(is_first);
-    }
+) -> Result<(), AllocError> {
     text.push_str(if is_first {
         "  can't be seen in so short a recording: "
     } else {
         "; "
     })?;
-    text.push_str(row.section)?;
+    text.push_str(section)?;
     text.push(' ')?;
-    text.push_str(row.words)?;
-    Ok(false)
+    text.push_str(words)
 }
 
 fn push_untracked(text: &mut String, untracked: u64) -> Result<(), AllocError> {
