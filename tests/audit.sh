@@ -136,6 +136,15 @@ ended = stream(27, steady, universe=1) + stream(27, steady[:319], universe=9)
 write("unheard", ended, who(27) + ": conforms\n  seen, no breach: 8 a list with a universe that wasn't heard (once, at 20.011 s)\n", listed(27, [1, 9], 0, 10000, 20011))
 write("unheard12", ended, who(27) + ": conforms\n", listed(27, [1, 9], 0, 10000, 20010))
 write("alone", [], who(28) + ": conforms\n  seen, no breach: 8 a list with a universe that wasn't heard (once, at 20.000 s)\n", listed(28, [1], 0, 10000, 20000))
+# Two sources of one name: both are heard at 20.035 s, or the second one begins behind that.
+def twins(begin):
+    name = b"Desk".ljust(64, b"\0")
+    return stream(29, steady, name=name) + stream(30, [begin + it for it in steady], address=6, name=name)
+def desk(source, address, other=None):
+    other = "  seen, no breach: 6.2.2 the name of another source too: %s\n" % other if other else ""
+    return '"Desk" %02x%02x..%02x at 10.0.0.%d: conforms\n' % (source, source, source, address) + other
+write("twins", twins(20035), desk(29, 5, "1e1e..1e at 10.0.0.6") + desk(30, 6, "1d1d..1d at 10.0.0.5"))
+write("successor", twins(20036), desk(29, 5) + desk(30, 6))
 write("nothing", [], "no packets of streaming ACN\n")
 P
 
@@ -156,7 +165,7 @@ tells() {
     echo "ok audit: $name"
   fi
 }
-for name in conforms rate44 rate50 skips skips2 stays stays3 second silent change1 change2 change3 end2 ended2 name64 name63 nametext nametext8 two moves start unlisted late late12 back lacks lacks10 lacksnone pages pageslack unheard unheard12 alone nothing; do
+for name in conforms rate44 rate50 skips skips2 stays stays3 second silent change1 change2 change3 end2 ended2 name64 name63 nametext nametext8 two moves start unlisted late late12 back lacks lacks10 lacksnone pages pageslack unheard unheard12 alone twins successor nothing; do
   tells "$name" 0 "" $name.text $name.pcap
 done
 # What is broken is told up to where a recording is faulty; what is no recording has nothing.
@@ -177,3 +186,14 @@ assert [(it["event"], it["section"], it["universes"], it["first"], it["latest"],
 assert objects[0]["cid"] == "03" * 16 and objects[0]["name"] == "Source 3" and objects[0]["address"] == "10.0.0.5", objects
 P
 [ $? = 0 ] && echo "ok audit: objects" || echo "not ok audit: objects: $(head -c 300 out)"
+"$sacn" audit --json twins.pcap >out 2>err && "$sacn" audit --json late.pcap >>out 2>>err && "$sacn" audit --json unheard.pcap >>out 2>>err && python3 - <<'P'
+import json
+objects = [json.loads(line) for line in open("out")]
+twins, lists = [it for it in objects if it["name"] == "Desk"], [it for it in objects if it["name"] != "Desk"]
+assert [(it["event"], it.get("section"), it.get("other")) for it in twins if it["cid"] == "1d" * 16] == [("conforms", None, None), ("seen", "6.2.2", "1e" * 16)], twins
+assert [(it["event"], it.get("section"), it.get("other")) for it in twins if it["cid"] == "1e" * 16] == [("conforms", None, None), ("seen", "6.2.2", "1d" * 16)], twins
+assert [(it["event"], it.get("section"), it.get("rule"), it.get("first"), it.get("latest"), it.get("times")) for it in lists] == [
+    ("breach", "8", "no list of universes for 12 s", 12025, 25025, 2), ("conforms", None, None, None, None, None),
+    ("seen", "8", "a list with a universe that wasn't heard", 20011, 20011, 1)], lists
+P
+[ $? = 0 ] && echo "ok audit: objects of names and lists" || echo "not ok audit: objects of names and lists: $(head -c 300 out)"

@@ -1,6 +1,5 @@
 -- How often a source sends no list of its universes for more than 12 s is a number of the list of its packets and pages.
-use Rattle.std.proofs.Common.{◌≡◌, ℕ, ◌-◌, Bool, true, false, not, ◌&&◌, ◌||◌, cond, List, [], ◌∷◌, Some, None, max, nat_lt, refl, sym, ap, ◌∙◌, arith}
-use Rattle.sacn_audit.specs.declared.breach.Breach.{Breach}
+use Rattle.std.proofs.Common.{◌≡◌, ℕ, ◌-◌, Bool, true, not, ◌&&◌, ◌||◌, cond, List, [], ◌∷◌, Some, None, max, nat_lt, refl, sym, ap, ◌∙◌, arith}
 use Rattle.sacn_audit.specs.declared.source.SourceAudit.{SourceAudit}
 use Rattle.sacn_audit.specs.Breaches.{breach_by, no_breach, noted_if}
 use Rattle.sacn_audit.specs.NetworkHistories.{Heard, SentData, SentPage, SourcePacket, moment_after, source_by, source_with, source_with_packet}

@@ -1,7 +1,6 @@
 -- How often a source had two addresses at once is a number of the list of its packets.
-use Rattle.std.proofs.Common.{◌≡◌, ℕ, ◌-◌, Bool, not, ◌&&◌, cond, List, [], ◌∷◌, Option, Some, None, max, nat_le, refl, ap, ◌∙◌, arith}
+use Rattle.std.proofs.Common.{◌≡◌, ℕ, ◌-◌, not, ◌&&◌, List, [], ◌∷◌, Option, Some, None, max, nat_le, refl, ap, ◌∙◌, arith}
 use Rattle.std.specs.Str.{bytes_eq}
-use Rattle.sacn_audit.specs.declared.breach.Breach.{Breach}
 use Rattle.sacn_audit.specs.Breaches.{breach_by, no_breach, noted_if}
 use Rattle.sacn_audit.specs.declared.source.SourceAudit.{SourceAudit}
 use Rattle.sacn_audit.specs.Networks.{is_elsewhere}

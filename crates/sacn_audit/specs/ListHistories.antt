@@ -2,8 +2,6 @@
 -- latest first.
 use Rattle.std.specs.Prelude.{◌≡◌, ℕ, ◌-◌, nat_lt, Bool, true, false, not, ◌&&◌, ◌||◌, List, [], ◌∷◌, Option, Some, None}
 use Rattle.std.specs.Prelude.{if◌then◌else◌}
-use Rattle.sacn_packets.specs.Data.{Data}
-use Rattle.sacn_packets.specs.Page.{Page}
 use Rattle.sacn_sources.specs.declared.limits.TheConstants.{NETWORK_DATA_LOSS}
 use Rattle.sacn_audit.specs.declared.breach.Breach.{Breach}
 use Rattle.sacn_audit.specs.declared.source.SourceAudit.{SourceAudit}

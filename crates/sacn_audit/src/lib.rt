@@ -2,8 +2,9 @@
 //!
 //! A [`StreamAudit`] is handed each packet of one stream, those of one source on one universe, with its moment, and keeps of each
 //! [`Rule`] how often it was broken, when first and when last. It has a fixed size. An [`Audit`] keeps those of up to
-//! [`MAX_STREAMS`] streams, and of their sources which had two addresses at once. Hearing takes no memory. What is kept over any
-//! packets stands in [`laws`].
+//! [`MAX_STREAMS`] streams, and of their sources which had two addresses at once, which sent no list of universes, and which sent one
+//! that lacks a universe or has one that wasn't heard ([`PageHabits`]). Hearing takes no memory. What is kept over any packets stands
+//! in [`laws`].
 #![tactic(auto)]
 
 mod audit;

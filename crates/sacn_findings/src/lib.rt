@@ -6,12 +6,14 @@
 
 mod findings;
 mod list_findings;
+mod namesakes;
 mod objects;
 mod rule_rows;
 mod sentences;
 mod sources;
 
 pub use findings::total_of;
+pub use namesakes::namesake_at;
 pub use objects::push_objects;
 pub use sentences::push_text;
 

@@ -2,13 +2,14 @@
 
 use crate::findings::{short_ends_of, total_of, universes_of};
 use crate::list_findings::{ListFinding, SECTION, list_findings};
+use crate::namesakes::{self, namesake_at};
 use crate::rule_rows::{ROWS, Row};
 use crate::sentences::{conforms, is_list_unseen, is_unseen};
 use crate::sources::push_address;
-use sacn_audit::{Audit, AuditedStream, Breach, SourceAudit};
+use sacn_audit::{Audit, AuditedStream, Breach, Rule, SourceAudit};
 use sacn_packets::up_to_nul;
 use sacn_tell::{
-    begin_object, push_key, push_number, push_numbers, push_source_members, push_word,
+    begin_object, push_cid, push_key, push_number, push_numbers, push_source_members, push_word,
 };
 use std::alloc::{AllocError, Global};
 
@@ -20,7 +21,7 @@ pub fn push_objects(alloc: Global, text: &mut String, audit: &Audit) -> Result<(
     let is_whole = audit.untracked() == 0;
     let mut latest = 0;
     for source in audit.sources() {
-        push_source_objects(alloc, text, audit.streams(), source, is_whole)?;
+        push_source_objects(alloc, text, audit, source, is_whole)?;
         latest = source.moment.max(latest);
     }
     if is_whole {
@@ -34,10 +35,11 @@ pub fn push_objects(alloc: Global, text: &mut String, audit: &Audit) -> Result<(
 fn push_source_objects(
     alloc: Global,
     text: &mut String,
-    streams: &[AuditedStream],
+    audit: &Audit,
     source: &SourceAudit,
     is_whole: bool,
 ) -> Result<(), AllocError> {
+    let streams = audit.streams();
     if is_whole && conforms(streams, source) {
         begin(text, source.moment, "conforms", source)?;
         text.push_str("}\n")?;
@@ -47,6 +49,9 @@ fn push_source_objects(
         push_finding(alloc, text, streams, source, row)?;
         if is_unseen(streams, source, row) {
             push_unseen(text, source, row.section, row.words)?;
+        }
+        if row.rule == Rule::NameNotText {
+            push_namesake(text, audit.sources(), source)?;
         }
     }
     for finding in &list_findings(source) {
@@ -74,6 +79,26 @@ fn push_finding(
     push_rule(text, row.section, row.words)?;
     push_numbers(text, "universes", universes.as_slice())?;
     push_moments(text, total)
+}
+
+// Another source of the same name, by its CID.
+fn push_namesake(
+    text: &mut String,
+    sources: &[SourceAudit],
+    source: &SourceAudit,
+) -> Result<(), AllocError> {
+    let Some(at) = namesake_at(source, sources) else {
+        return Ok(());
+    };
+    let Some(other) = sources.get(at) else {
+        return Ok(());
+    };
+    begin(text, source.moment, event_of(false), source)?;
+    push_rule(text, namesakes::SECTION, namesakes::WORDS)?;
+    push_key(text, "other")?;
+    text.push('"')?;
+    push_cid(text, &other.cid)?;
+    text.push_str("\"}\n")
 }
 
 fn push_list_finding(

@@ -2,10 +2,11 @@
 
 use crate::findings::{short_ends_of, total_of, universes_of};
 use crate::list_findings::{ListFinding, SECTION, list_findings};
+use crate::namesakes::{self, namesake_at};
 use crate::rule_rows::{ROWS, Row};
-use crate::sources::{heard_for, push_source};
+use crate::sources::{heard_for, push_address, push_source};
 use sacn_audit::{Audit, AuditedStream, Breach, Rule, SourceAudit};
-use sacn_tell::{push_decimal, push_ranges, push_seconds};
+use sacn_tell::{push_decimal, push_ranges, push_seconds, push_short_cid};
 use std::alloc::{AllocError, Global};
 
 /// Pushes a block for each source, in the order in which they appeared: `"Main FOH" 0001..0f at 10.0.0.5: conforms`, or a line for each
@@ -15,7 +16,7 @@ use std::alloc::{AllocError, Global};
 pub fn push_text(alloc: Global, text: &mut String, audit: &Audit) -> Result<(), AllocError> {
     let is_whole = audit.untracked() == 0;
     for source in audit.sources() {
-        push_block(alloc, text, audit.streams(), source, is_whole)?;
+        push_block(alloc, text, audit, source, is_whole)?;
     }
     push_untracked(text, audit.untracked())
 }
@@ -23,10 +24,11 @@ pub fn push_text(alloc: Global, text: &mut String, audit: &Audit) -> Result<(), 
 fn push_block(
     alloc: Global,
     text: &mut String,
-    streams: &[AuditedStream],
+    audit: &Audit,
     source: &SourceAudit,
     is_whole: bool,
 ) -> Result<(), AllocError> {
+    let streams = audit.streams();
     push_source(text, source)?;
     text.push_str(if is_whole && conforms(streams, source) {
         ": conforms\n"
@@ -38,6 +40,9 @@ fn push_block(
         push_finding(alloc, text, streams, source, row)?;
         if row.rule == Rule::ShortEnd {
             push_short_end(alloc, text, streams, source)?;
+        }
+        if row.rule == Rule::NameNotText {
+            push_namesake(text, audit.sources(), source)?;
         }
     }
     for finding in &list_findings(source) {
@@ -124,6 +129,26 @@ fn push_two_senders(text: &mut String, source: &SourceAudit) -> Result<(), Alloc
     }
     text.push_str("  5.6 one CID at two addresses")?;
     push_times(text, source.two_senders)
+}
+
+// Another source of the same name: `6.2.2 the name of another source too: 4d4d..4d at 10.0.0.6`.
+fn push_namesake(
+    text: &mut String,
+    sources: &[SourceAudit],
+    source: &SourceAudit,
+) -> Result<(), AllocError> {
+    let Some(at) = namesake_at(source, sources) else {
+        return Ok(());
+    };
+    let Some(other) = sources.get(at) else {
+        return Ok(());
+    };
+    push_rule(text, false, namesakes::SECTION, namesakes::WORDS)?;
+    text.push_str(": ")?;
+    push_short_cid(text, &other.cid)?;
+    text.push_str(" at ")?;
+    push_address(text, other.address)?;
+    text.push('\n')
 }
 
 // A line for a rule of lists of universes, where it was broken.
