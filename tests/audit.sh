@@ -122,7 +122,7 @@ write("late12", stream(23, minute), who(23) + ": conforms\n", listed(23, [1], 0,
 write("back", stream(24, steady[:400]) + stream(24, [13000 + it for it in steady[:400]], numbers=range(403, 803)), who(24) + ": conforms\n", listed(24, [1], 0, 13010))
 # Of two universes the list has one, more than 10 s after both began; and just so long after. Another source's universes are none of it.
 both = stream(25, steady, universe=1) + stream(25, steady, universe=2)
-write("lacks", both, who(25) + ":\n  8 a list that lacks a universe it sends (2 times, the first at 10.001 s, the latest at 20.000 s)\n", listed(25, [1], 0, 10001, 20000))
+write("lacks", both, who(25) + ":\n  8 a list that lacks a universe it sends (2 times, the first at 10.001 s, the latest at 19.000 s)\n", listed(25, [1], 0, 10001, 19000))
 write("lacks10", both, who(25) + ": conforms\n", listed(25, [1], 0, 10000) + listed(25, [1, 2], 20000))
 short = stream(25, steady, universe=1) + stream(25, steady[:399], universe=2)
 write("lacksnone", short, who(25) + ": conforms\n", listed(25, [1, 2], 0) + listed(25, [1], 10045, 20000))
