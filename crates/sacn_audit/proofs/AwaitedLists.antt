@@ -67,7 +67,7 @@ awaited_is x (y ∷ earlier) =
     let before : ℕ = moment_after (y ∷ earlier) in
     next_awaited x.moment x.address s x.packet
     ∙ ap (λ (m : ℕ). cond (is_page x.packet || nat_lt 2500 (max x.moment m - m)) (max x.moment m) s.pages.awaited)
-      (moment_is y earlier)
+    (moment_is y earlier)
     ∙ ap (λ (since : ℕ). cond (is_page x.packet || nat_lt 2500 (t - before)) t since) (awaited_is y earlier)
 
 -- a list that is awaited since one moment, after another packet at `before`, when one was awaited since another moment

@@ -87,7 +87,7 @@ pages_beside t before h = record h {
   began = heard_since t before h;
   awaited = awaited_since t before h;
   no_list =
-    noted_if (is_without_list t (awaited_since t before h) && not (is_without_list before h.awaited)) t h.no_list;
+      noted_if (is_without_list t (awaited_since t before h) && not (is_without_list before h.awaited)) t h.no_list;
 }
 
 -- a page. Which universes are heard is known of a source that is heard for more than 12 s.
