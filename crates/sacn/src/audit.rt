@@ -1,11 +1,11 @@
 //! Which rules of E1.31 the packets of a recording break.
 use crate::explain::{ROOM, say_capture_fault, say_unread};
 use sacn_audit::Audit;
-use sacn_capture::{Capture, CaptureFault, Datagram, FrameCounts};
+use sacn_capture::{Capture, CaptureFault, Datagram};
 use sacn_commands::ending::{Ending, of_write};
 use sacn_findings::{push_objects, push_text, push_unread, push_unread_objects};
 use sacn_packets::{Packet, read_packet};
-use sacn_tell::{Timeline, begin_object, has_unread, unread_members, unread_text};
+use sacn_tell::Timeline;
 use sacn_words::STANDARD_INPUT;
 use std::alloc::{AllocError, Global};
 use std::fs;
@@ -26,10 +26,6 @@ pub struct AuditOf<'a> {
 #[derive(Drop)]
 struct Audited {
     audit: Audit,
-    /// Its frames, by what they were.
-    frames: FrameCounts,
-    /// The moment of the last frame, in milliseconds from the first.
-    length: u64,
     stopped: Option<CaptureFault>,
 }
 
@@ -64,14 +60,8 @@ fn audit_of<I: Read + Drop, E: Write>(
     };
     match Capture::open(alloc, reader) {
         Ok(mut capture) => {
-            let mut timeline = Timeline::begin();
-            let stopped = follow(&mut capture, &mut audit, &mut timeline, asked.port);
-            Ok(Audited {
-                audit,
-                frames: capture.counts(),
-                length: timeline.now,
-                stopped,
-            })
+            let stopped = follow(&mut capture, &mut audit, asked.port);
+            Ok(Audited { audit, stopped })
         }
         Err(fault) => Err(say_capture_fault(asked.capture, fault, err)),
     }
@@ -81,9 +71,9 @@ fn audit_of<I: Read + Drop, E: Write>(
 fn follow<I: BufRead + Drop>(
     capture: &mut Capture<I>,
     audit: &mut Audit,
-    timeline: &mut Timeline,
     port: u16,
 ) -> Option<CaptureFault> {
+    let mut timeline = Timeline::begin();
     // (no device holds so many frames)
     for _ in 0..u64::MAX {
         match capture.next() {
@@ -108,6 +98,7 @@ fn hear(audit: &mut Audit, now: u64, datagram: &Datagram<'_>) {
         Ok(Packet::DataPacket(packet)) => {
             audit.hear(now, datagram.sender, datagram.destination, &packet);
         }
+        Ok(Packet::PagePacket(page)) => audit.hear_page(now, datagram.sender, &page),
         Ok(_) => {}
         Err(fault) => audit.hear_refused(now, datagram.sender, fault),
     }
@@ -132,28 +123,4 @@ fn tell_audited<O: Write, E: Write>(
         Some(fault) => Err(say_capture_fault(asked.capture, fault, err)),
         None => Ok(()),
     }
-}
-
-// What is told of a recording, for people: what of it couldn't be read stands first, and what its senders sent that can't be read last.
-fn push_lines(alloc: Global, text: &mut String, audited: &Audited) -> Result<(), AllocError> {
-    if has_unread(&audited.frames) {
-        unread_text(text, &audited.frames)?;
-        text.push_str("\n\n")?;
-    }
-    push_text(alloc, text, &audited.audit)?;
-    if audited.audit.sources().is_empty() {
-        text.push_str("no packets of streaming ACN\n")?;
-    }
-    push_unread(text, &audited.audit)
-}
-
-// The same as objects.
-fn push_json(alloc: Global, text: &mut String, audited: &Audited) -> Result<(), AllocError> {
-    if has_unread(&audited.frames) {
-        begin_object(text, audited.length, "unread_frames")?;
-        unread_members(text, &audited.frames)?;
-        text.push_str("}\n")?;
-    }
-    push_objects(alloc, text, &audited.audit)?;
-    push_unread_objects(text, &audited.audit)
 }

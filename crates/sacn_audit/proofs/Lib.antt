@@ -11,3 +11,4 @@ pub mod NetworkAuditing
 pub mod Senders
 pub mod CountingOn
 pub mod Refusing
+pub mod AwaitedLists

@@ -1,5 +1,5 @@
 -- One counter for several universes: what a packet changes in what is kept of the numbers of its source.
-use Rattle.std.specs.Prelude.{◌+◌, min, Bool, not, ◌&&◌, ◌==◌, if◌then◌else◌}
+use Rattle.std.specs.Prelude.{◌+◌, min, Bool, not, ◌&&◌, ◌==◌, Option, Some, None, if◌then◌else◌}
 use Rattle.sacn_packets.specs.Data.{Data}
 use Rattle.sacn_audit.specs.declared.source_numbers.SourceNumbers.{SourceNumbers}
 use Rattle.sacn_audit.specs.Arrivals.{number_after}
@@ -11,8 +11,9 @@ first_numbers d = record { universe = d.universe; number = d.number; counted_on 
 abbrev pub counts_on : Data → SourceNumbers → Bool
 counts_on d n = not (d.universe == n.universe) && (d.number == number_after n.number)
 
-abbrev pub numbers_after : Data → SourceNumbers → SourceNumbers
-numbers_after d n = record {
+abbrev pub numbers_after : Data → Option SourceNumbers → SourceNumbers
+numbers_after d None = first_numbers d
+numbers_after d (Some n) = record {
   universe = d.universe;
   number = d.number;
   counted_on = if counts_on d n then min (n.counted_on + 1) 8 else 0;

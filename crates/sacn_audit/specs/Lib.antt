@@ -7,6 +7,8 @@ pub mod Histories
 pub mod Counters
 pub mod Registers
 pub mod Refusals
+pub mod UniverseLists
 pub mod Networks
 pub mod NetworkHistories
+pub mod ListHistories
 pub mod CounterHistories

@@ -97,6 +97,20 @@ impl StreamAudit {
         0 < self.ends && self.ends < COPIES
     }
 
+    /// The moment of the latest packet: the greatest that was handed in.
+    pub fn moment(&self) -> u64
+        ensures { result ≡ self.now.moment }
+    {
+        self.moment
+    }
+
+    /// Whether the latest packet ends the stream.
+    pub fn is_ended(&self) -> bool
+        ensures { result ≡ self.now.latest.terminated }
+    {
+        self.latest.terminated
+    }
+
     // Counts a packet, by its moment and its number.
     fn count(&mut self, moment: u64, sight: Sight)
         ensures { self.new ≡ counted moment sight self.old }

@@ -2,6 +2,7 @@
 
 ghost use Rattle.sacn_audit.specs.Histories.{BreachesAreOfTheirPackets, OrderIsKept, ShortEndsAreOfTheirPackets};
 ghost use Rattle.sacn_audit.specs.CounterHistories.{CountersAreOfTheirPackets};
+ghost use Rattle.sacn_audit.specs.ListHistories.{MissingListsAreOfTheirPackets};
 ghost use Rattle.sacn_audit.specs.NetworkHistories.{AuditsAreOfTheirPackets, SendersAreOfTheirPackets, SourcesAreOfTheirPackets};
 ghost use Rattle.sacn_audit.specs.Refusals.{RefusalsAreOfTheirPackets};
 
@@ -27,7 +28,8 @@ pub fn audits_are_of_their_packets()
     ensures { AuditsAreOfTheirPackets }
 {}
 
-/// So is the audit of a source.
+/// So is the audit of a source, that of its own packets and pages; but for what its pages say beside its streams, which
+/// `Audit::hear_page` tells.
 pub fn sources_are_of_their_packets()
     ensures { SourcesAreOfTheirPackets }
 {}
@@ -49,4 +51,10 @@ pub fn counters_are_of_their_packets()
 /// latest moment of these, whatever else came. Where there is no room for a further pair it may be nothing.
 pub fn refusals_are_of_their_packets()
     ensures { RefusalsAreOfTheirPackets }
+{}
+
+/// For any packets of a source its audit says how often no list of its universes came for more than 12 s, and when that was first and
+/// last so, each at the moment of the packet that came so late.
+pub fn missing_lists_are_of_their_packets()
+    ensures { MissingListsAreOfTheirPackets }
 {}

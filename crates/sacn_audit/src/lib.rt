@@ -2,7 +2,8 @@
 //!
 //! A [`StreamAudit`] is handed each packet of one stream, those of one source on one universe, with its moment, and keeps of each
 //! [`Rule`] how often it was broken, when first and when last. It has a fixed size. An [`Audit`] keeps those of up to
-//! [`MAX_STREAMS`] streams, of their sources which had two addresses at once or one counter for several universes, and of up to
+//! [`MAX_STREAMS`] streams; of their sources which had two addresses at once, which had one counter for several universes, which sent
+//! no list of universes, and which sent one that lacks a universe or has one that wasn't heard ([`PageHabits`]); and of up to
 //! [`MAX_REFUSED`] pairs of a sender and a fault how often something couldn't be read. Hearing takes no memory. What is kept over
 //! any packets stands in [`laws`].
 #![tactic(auto)]
@@ -17,6 +18,8 @@ mod limits;
 mod network_audit;
 mod number_habits;
 mod pace;
+mod page_habits;
+mod page_verdict;
 mod refused;
 mod rule;
 mod sight;
@@ -32,6 +35,8 @@ pub use limits::{MAX_REFUSED, MAX_STREAMS};
 pub use network_audit::Audit;
 pub use number_habits::NumberHabits;
 pub use pace::Pace;
+pub use page_habits::PageHabits;
+pub use page_verdict::PageVerdict;
 pub use refused::RefusedPackets;
 pub use rule::Rule;
 pub use sight::Sight;

@@ -29,6 +29,12 @@ pub(crate) const COUNTED_ON: u8 = 8;
 pub(crate) const FIRST_OF_MULTICAST: u8 = 224;
 
 pub(crate) const LAST_OF_MULTICAST: u8 = 239;
+/// A source sends its list of universes at least so often, in milliseconds (E1.31, 4.3 and appendix A:
+/// E131_UNIVERSE_DISCOVERY_INTERVAL).
+pub(crate) const LIST_INTERVAL: u64 = 10_000;
+
+/// The most milliseconds without a list of universes: the interval, and two seconds of slack.
+pub(crate) const LONGEST_WITHOUT_LIST: u64 = LIST_INTERVAL + 2000;
 
 /// The start code of priorities for slots, beside 0 for levels.
 pub(crate) const PRIORITY_START_CODE: u8 = 0xDD;

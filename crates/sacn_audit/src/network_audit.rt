@@ -1,13 +1,14 @@
 //! The audits of all streams of a network.
 
 ghost use Rattle.std.specs.Prelude.{◌≡◌, IfOk};
-ghost use Rattle.sacn_audit.specs.Networks.{after_heard, after_refused, nothing_heard};
+ghost use Rattle.sacn_audit.specs.Networks.{after_heard, after_page, after_refused, nothing_heard, passed_over};
 
+use crate::page_verdict::PageVerdict;
 use crate::refused::{RefusedPackets, RefusedRegister};
 use crate::source::SourceAudit;
 use crate::source_register::SourceRegister;
 use crate::stream_register::{AuditedStream, StreamRegister};
-use sacn_packets::{DataView, PacketFault};
+use sacn_packets::{DataView, PacketFault, PageView};
 use std::alloc::{AllocError, Global};
 use std::marker::Model;
 
@@ -15,7 +16,7 @@ use std::marker::Model;
 /// read, for up to `MAX_REFUSED` pairs of a sender and a fault.
 ///
 /// Its value is the lists of the streams, of the sources and of these pairs, each in the order in which they appeared, and the counts
-/// of the packets of further streams and of further pairs. No call but `new` takes memory.
+/// of the packets and pages of further streams and sources, and of further pairs. No call but `new` takes memory.
 #[derive(Drop)]
 pub struct Audit {
     streams: StreamRegister,
@@ -60,10 +61,19 @@ impl Audit {
     )
         ensures { self.new ≡ after_heard moment address destination packet.now self.old }
     {
-        if !self.streams.hear(moment, destination, packet) {
-            self.untracked = self.untracked.saturating_add(1);
-        }
-        self.sources.hear(moment, address, packet);
+        let is_tracked = self.streams.hear(moment, destination, packet);
+        let is_known = self.sources.hear(moment, address, packet);
+        self.untracked = passed_over(is_tracked & is_known, self.untracked);
+    }
+
+    /// A page of universe discovery (E1.31, 8), likewise: of a source that sends pages alone, too. What it says is looked at beside the streams
+    /// that are heard, where none of them is untracked.
+    pub fn hear_page(&mut self, moment: u64, address: [u8; 4], page: &PageView<'_>)
+        ensures { self.new ≡ after_page moment address page.now self.old }
+    {
+        let verdict = PageVerdict::of(moment, page, self.untracked, self.streams.as_slice());
+        let is_known = self.sources.hear_page(moment, address, page, verdict);
+        self.untracked = passed_over(is_known, self.untracked);
     }
 
     /// A datagram that is no packet, since it fails a check: when it came, in milliseconds, and from which IPv4 address. Moments are
@@ -90,7 +100,7 @@ impl Audit {
         self.sources.as_slice()
     }
 
-    /// The packets of streams for which there was no room, at most 2^64 - 1.
+    /// The packets of streams, and the packets and pages of sources, for which there was no room, at most 2^64 - 1.
     pub fn untracked(&self) -> u64
         ensures { result ≡ self.now.untracked }
     {
@@ -109,5 +119,16 @@ impl Audit {
         ensures { result ≡ self.now.refused_untracked }
     {
         self.refused_untracked
+    }
+}
+
+// How many packets and pages there was no room for, after one more.
+fn passed_over(is_taken: bool, untracked: u64) -> u64
+    ensures { result ≡ passed_over is_taken untracked }
+{
+    if is_taken {
+        untracked
+    } else {
+        untracked.saturating_add(1)
     }
 }

@@ -31,12 +31,15 @@ impl SourceNumbers {
         }
     }
 
-    /// One packet more.
-    pub(crate) fn after(self, packet: &DataView<'_>) -> Self
-        ensures { result ≡ numbers_after packet.now self }
+    /// Those of a packet more, after those before it, where there are any.
+    pub(crate) fn after(earlier: Option<Self>, packet: &DataView<'_>) -> Self
+        ensures { result ≡ numbers_after packet.now earlier }
     {
-        let counted_on = if self.counts_on(packet) {
-            self.counted_on.saturating_add(1).min(COUNTED_ON)
+        let Some(earlier) = earlier else {
+            return SourceNumbers::first(packet);
+        };
+        let counted_on = if earlier.counts_on(packet) {
+            earlier.counted_on.saturating_add(1).min(COUNTED_ON)
         } else {
             0
         };

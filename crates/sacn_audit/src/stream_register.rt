@@ -3,12 +3,13 @@
 ghost use Rattle.std.specs.Prelude.{◌≡◌, ◌<◌, ◌++◌, ◌∷◌, [], None, IfOk, length, slice_index_or, slice_set};
 ghost use Rattle.std.specs.List.{position};
 ghost use Rattle.sacn_audit.specs.declared.limits.TheConstants.{MAX_STREAMS};
-ghost use Rattle.sacn_audit.specs.Networks.{first_stream, is_of, is_tracked, place_of, stream_after, streams_after};
+ghost use Rattle.sacn_audit.specs.Networks.{sent_since, first_stream, is_of, is_tracked, place_of, stream_after, streams_after};
 
 use crate::audit::StreamAudit;
 use crate::hints::{Hints, key_of};
 use crate::limits::MAX_STREAMS;
 use sacn_packets::DataView;
+use sacn_sources::NETWORK_DATA_LOSS;
 use std::alloc::{AllocError, Global};
 use std::marker::Model;
 
@@ -19,6 +20,9 @@ pub struct AuditedStream {
     pub universe: u16,
     /// The source's CID, a UUID (E1.31, 5.6).
     pub cid: [u8; 16],
+    /// The source sends it since this moment, in milliseconds: that of the first packet, or of the first one after an end or after more
+    /// than 2500 ms of silence, by which a stream is lost (E1.31, 6.7.1).
+    pub began: u64,
     pub audit: StreamAudit,
 }
 
@@ -29,6 +33,7 @@ impl AuditedStream {
         AuditedStream {
             universe: packet.universe(),
             cid: packet.cid(),
+            began: moment,
             audit: StreamAudit::begin(moment, destination, packet),
         }
     }
@@ -36,7 +41,20 @@ impl AuditedStream {
     fn hear(&mut self, moment: u64, destination: [u8; 4], packet: &DataView<'_>)
         ensures { self.new ≡ stream_after moment destination packet.now self.old }
     {
+        self.began = self.sent_since(moment);
         self.audit.hear(moment, destination, packet);
+    }
+
+    // Since when the source sends the stream, where a packet comes at a moment.
+    fn sent_since(&self, moment: u64) -> u64
+        ensures { result ≡ sent_since moment self.now }
+    {
+        let is_lost = moment.saturating_sub(self.audit.moment()) > NETWORK_DATA_LOSS;
+        if self.audit.is_ended() || is_lost {
+            moment.max(self.audit.moment())
+        } else {
+            self.began
+        }
     }
 
     /// Whether it is the stream of a source on a universe.

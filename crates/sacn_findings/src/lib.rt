@@ -5,6 +5,8 @@
 #![tactic(auto)]
 
 mod findings;
+mod list_findings;
+mod namesakes;
 mod objects;
 mod rule_rows;
 mod sentences;
@@ -13,6 +15,7 @@ mod unread;
 mod unread_rows;
 
 pub use findings::total_of;
+pub use namesakes::namesake_at;
 pub use objects::push_objects;
 pub use sentences::push_text;
 pub use unread::{push_unread, push_unread_objects};

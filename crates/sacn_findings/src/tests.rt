@@ -52,13 +52,35 @@ impl Heard {
                 .hear(moment, self.address, self.destination, &packet);
         }
     }
+
+    // One page.
+    fn list(&mut self, moment: u64, octets: &[u8]) {
+        if let Ok(Packet::PagePacket(page)) = read_packet(octets) {
+            self.audit.hear_page(moment, self.address, &page);
+        }
+    }
 }
 
-// A packet each 900 ms, for 18 s.
+// The octets of a page that lists universe 1 alone (E1.31, 6.4 and 8), of a source with this CID and no name.
+fn page_of(alloc: Global, cid: &[u8; 16]) -> Result<Vec<u8>, AllocError> {
+    let mut octets = Vec::new(alloc);
+    octets.extend_from_slice(b"\x00\x10\x00\x00ASC-E1.17\x00\x00\x00\x70\x6a\x00\x00\x00\x08")?;
+    octets.extend_from_slice(cid)?;
+    octets.extend_from_slice(b"\x70\x54\x00\x00\x00\x02")?;
+    octets.extend_from_slice(&[0; 68])?;
+    octets.extend_from_slice(b"\x70\x0a\x00\x00\x00\x01\x00\x00\x00\x01")?;
+    Ok(octets)
+}
+
+// A packet each 900 ms, for 18 s, and a list amid them.
 fn steady(alloc: Global) -> Result<Heard, AllocError> {
     let mut heard = Heard::of(alloc, DESK, "Main FOH")?;
+    let page = page_of(alloc, &DESK)?;
     for number in 0..21u8 {
         heard.send(900 * u64::from(number), false, 0, number, false);
+        if number == 10 {
+            heard.list(9000, page.as_slice());
+        }
     }
     Ok(heard)
 }
@@ -136,7 +158,7 @@ fn universes_are_gathered(rt: HostRuntime) {
     let alloc = rt.alloc();
     let wanted = r#""Spare" 4d4d..4d at 10.0.0.5:
   6.6.1 faster than 44 a second on 1-2 (2 times, the first at 11.044 s, the latest at 11.044 s)
-  can't be seen in so short a recording: 6.2.5 numbers that don't go up; 6.2.5 a number left out in each turn
+  can't be seen in so short a recording: 6.2.5 numbers that don't go up; 6.2.5 a number left out in each turn; 8 no list of universes for 12 s; 8 a list that lacks a universe it sends
 "#;
     assert!(rt; reads(alloc, fast(alloc), wanted));
 }
@@ -170,6 +192,8 @@ fn a_rule_is_one_object(rt: HostRuntime) {
         r#"{"ms":11044,"event":"unseen","cid":"4d4d4d4d4d4d4d4d4d4d4d4d4d4d4d4d","name":"Spare","address":"10.0.0.5","section":"6.2.5","rule":"numbers that don't go up"}
 {"ms":11044,"event":"unseen","cid":"4d4d4d4d4d4d4d4d4d4d4d4d4d4d4d4d","name":"Spare","address":"10.0.0.5","section":"6.2.5","rule":"a number left out in each turn"}
 {"ms":11044,"event":"breach","cid":"4d4d4d4d4d4d4d4d4d4d4d4d4d4d4d4d","name":"Spare","address":"10.0.0.5","section":"6.6.1","rule":"faster than 44 a second","universes":[1,2],"first":11044,"latest":11044,"times":2}
+{"ms":11044,"event":"unseen","cid":"4d4d4d4d4d4d4d4d4d4d4d4d4d4d4d4d","name":"Spare","address":"10.0.0.5","section":"8","rule":"no list of universes for 12 s"}
+{"ms":11044,"event":"unseen","cid":"4d4d4d4d4d4d4d4d4d4d4d4d4d4d4d4d","name":"Spare","address":"10.0.0.5","section":"8","rule":"a list that lacks a universe it sends"}
 "#;
     assert!(rt; reads_as_objects(alloc, fast(alloc), wanted));
 }
@@ -181,7 +205,7 @@ fn what_is_no_breach_is_told_as_seen(rt: HostRuntime) {
   5.6 one CID at two addresses (once, at 0.100 s)
   6.2.6 ended by fewer than three packets on 1, and nothing came after them
   seen, no breach: 7.7 a start code other than 0 and 0xDD on 1 (once, at 0.100 s)
-  can't be seen in so short a recording: 6.2.5 numbers that don't go up; 6.2.5 a number left out in each turn; 6.6.1 faster than 44 a second; 6.6.2 levels more than 1 s apart; 6.6.2 changed levels sent fewer than three times
+  can't be seen in so short a recording: 6.2.5 numbers that don't go up; 6.2.5 a number left out in each turn; 6.6.1 faster than 44 a second; 6.6.2 levels more than 1 s apart; 6.6.2 changed levels sent fewer than three times; 8 no list of universes for 12 s; 8 a list that lacks a universe it sends
 "#;
     assert!(rt; reads(alloc, careless(alloc), wanted));
 }
