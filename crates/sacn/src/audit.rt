@@ -1,10 +1,10 @@
 //! Which rules of E1.31 the packets of a recording break.
-use crate::explain::{ROOM, say_capture_fault, say_unread};
+use crate::auditing::{findings_of, hear};
+use crate::explain::{ROOM, form_of, say_capture_fault, say_unread};
 use sacn_audit::Audit;
-use sacn_capture::{Capture, CaptureFault, Datagram};
+use sacn_capture::{Capture, CaptureFault};
 use sacn_commands::ending::{Ending, of_write};
-use sacn_findings::{push_objects, push_text, push_unread, push_unread_objects};
-use sacn_packets::{Packet, read_packet};
+use sacn_packets::read_packet;
 use sacn_tell::Timeline;
 use sacn_words::STANDARD_INPUT;
 use std::alloc::{AllocError, Global};
@@ -81,7 +81,14 @@ fn follow<I: BufRead + Drop>(
                 timeline.advance(frame.moment);
                 match &frame.content {
                     Ok(datagram) if datagram.destination_port == port => {
-                        hear(audit, timeline.now, datagram);
+                        let reading = read_packet(datagram.payload);
+                        hear(
+                            audit,
+                            timeline.now,
+                            datagram.sender,
+                            datagram.destination,
+                            &reading,
+                        );
                     }
                     _ => {}
                 }
@@ -93,17 +100,6 @@ fn follow<I: BufRead + Drop>(
     None
 }
 
-fn hear(audit: &mut Audit, now: u64, datagram: &Datagram<'_>) {
-    match read_packet(datagram.payload) {
-        Ok(Packet::DataPacket(packet)) => {
-            audit.hear(now, datagram.sender, datagram.destination, &packet);
-        }
-        Ok(Packet::PagePacket(page)) => audit.hear_page(now, datagram.sender, &page),
-        Ok(_) => {}
-        Err(fault) => audit.hear_refused(now, datagram.sender, fault),
-    }
-}
-
 fn tell_audited<O: Write, E: Write>(
     alloc: Global,
     asked: AuditOf<'_>,
@@ -111,12 +107,7 @@ fn tell_audited<O: Write, E: Write>(
     out: &mut O,
     err: &mut E,
 ) -> Result<(), Ending> {
-    let mut text = String::new(alloc);
-    if asked.is_json {
-        push_json(alloc, &mut text, audited)?;
-    } else {
-        push_lines(alloc, &mut text, audited)?;
-    }
+    let text = findings_of(alloc, &audited.audit, form_of(asked.is_json))?;
     of_write(out.write_all(text.as_str().as_bytes()))?;
     of_write(out.flush())?;
     match audited.stopped {
