@@ -60,7 +60,7 @@ module _ (universe : ℕ) (cid : List ℕ) where
 
 pub audits_are_of_their_packets : AuditsAreOfTheirPackets
 audits_are_of_their_packets [] universe cid = inl refl
-audits_are_of_their_packets (x ∷ earlier) universe cid = followed universe cid x.moment x.address x.packet (after_all earlier) (arrivals universe cid earlier) (audits_are_of_their_packets earlier universe cid)
+audits_are_of_their_packets (x ∷ earlier) universe cid = followed universe cid x.moment x.address x.destination x.packet (after_all earlier) (arrivals universe cid earlier) (audits_are_of_their_packets earlier universe cid)
 
 -- ---- a source
 
