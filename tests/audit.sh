@@ -1,5 +1,6 @@
 #!/usr/bin/env bash
-# Audits recordings with the built program: each rule where a source breaks it and where it just doesn't, faulty recordings, and a desk of ours, which conforms.
+# Audits recordings with the built program: each rule where a source breaks it and where it just doesn't, and faulty recordings; and what a watch and a gateway hear on
+# loopback: a desk of ours, which conforms, and a source that breaks two rules.
 # Prints 'ok NAME', 'not ok NAME: why' or 'skipped NAME: why' for each, as ./test counts them.
 set -u
 top=$(cd "$(dirname "$(readlink -f "$0")")/.." && pwd)
@@ -23,18 +24,47 @@ def packet(source, number, universe=1, slots=b"\xff", start=0, name=None, ends=F
     framing = struct.pack(">H", 0x7000 + 2 + len(framing) + len(dmp)) + framing + dmp
     root = b"\0\0\0\4" + bytes([source] * 16)
     return b"\0\x10\0\0ASC-E1.17\0\0\0" + struct.pack(">H", 0x7000 + 2 + len(root) + len(framing)) + root + framing
-def frame(octets, address, port=5568):
+def page(source, universes, number=0, last=0, name=None):
+    """A page of universe discovery (E1.31, 6.4 and 8)."""
+    name = (b"Source %d" % source).ljust(64, b"\0") if name is None else name
+    layer = b"\0\0\0\1" + bytes([number, last]) + b"".join(struct.pack(">H", it) for it in universes)
+    layer = struct.pack(">H", 0x7000 + 2 + len(layer)) + layer
+    framing = b"\0\0\0\2" + name + bytes(4)
+    framing = struct.pack(">H", 0x7000 + 2 + len(framing) + len(layer)) + framing + layer
+    root = b"\0\0\0\x08" + bytes([source] * 16)
+    return b"\0\x10\0\0ASC-E1.17\0\0\0" + struct.pack(">H", 0x7000 + 2 + len(root) + len(framing)) + root + framing
+def with_pages(packets):
+    """Beside these data packets, sorted, a list of each source's universes at its first one and each 10 s from then on, with the name and the address of the packet before."""
+    pages = []
+    for source in sorted({octets[22] for _, octets, *_ in packets}):
+        own = [it for it in packets if it[1][22] == source]
+        universes = sorted({struct.unpack(">H", octets[113:115])[0] for _, octets, *_ in own})
+        for at in range(own[0][0], own[-1][0] + 1, 10000):
+            _, before, address, *_ = [it for it in own if it[0] <= at][-1]
+            pages.append((at, page(source, universes, name=before[44:108]), address))
+    return packets + pages
+def group(octets):
+    """The group of a data packet's universe, or of pages (9.3.1 and 9.3.2)."""
+    return bytes([239, 255]) + (octets[113:115] if octets[21] == 4 else b"\xfa\xd6")
+def frame(octets, address, to, port=5568):
     udp = struct.pack(">HHHH", 5568, port, 8 + len(octets), 0) + octets
-    head = struct.pack(">BBHHHBBH4s4s", 0x45, 0, 20 + len(udp), 0, 0, 64, 17, 0, bytes([10, 0, 0, address]), bytes([239, 255, 0, 1]))
+    head = struct.pack(">BBHHHBBH4s4s", 0x45, 0, 20 + len(udp), 0, 0, 64, 17, 0, bytes([10, 0, 0, address]), to)
     return bytes(12) + b"\x08\0" + head + udp
-def write(name, packets, text):
-    """Packets are (millisecond, octets, last number of the sender's address)."""
+def write_frames(name, frames, text):
+    """Frames are (millisecond, octets, how many of these were recorded)."""
     with open(name + ".pcap", "wb") as out:
         out.write(struct.pack("<IHHiIII", 0xa1b2c3d4, 2, 4, 0, 0, 65535, 1))
-        for at, octets, address in sorted(packets, key=lambda it: it[0]):
-            whole = frame(octets, address)
-            out.write(struct.pack("<IIII", 1700000000 + at // 1000, at % 1000 * 1000, len(whole), len(whole)) + whole)
+        for at, whole, kept in sorted(frames, key=lambda it: it[0]):
+            out.write(struct.pack("<IIII", 1700000000 + at // 1000, at % 1000 * 1000, kept, len(whole)) + whole[:kept])
     open(name + ".text", "w", encoding="utf-8").write(text)
+def framed(packets):
+    frames = [(at, frame(octets, address, to[0] if to else group(octets))) for at, octets, address, *to in packets]
+    return [(at, whole, len(whole)) for at, whole in frames]
+def write(name, packets, text, lists=None):
+    """Packets are (millisecond, octets, last number of the sender's address), and where it isn't their universe's group the address that they go to;
+    with a list of universes each 10 s, or with these pages."""
+    packets = sorted(packets, key=lambda it: it[0])
+    write_frames(name, framed(with_pages(packets) if lists is None else packets + lists), text)
 def stream(source, moments, address=5, numbers=None, ends=3, **fields):
     """A stream whose numbers go up by one, and three packets that end it, 20 ms apart."""
     numbers = range(len(moments)) if numbers is None else numbers
@@ -79,7 +109,7 @@ write("ended2", end + stream(13, [25000 + it for it in steady], numbers=range(80
       who(13) + ":\n  6.2.6 ended by fewer than three packets on 1 (once, at 25.000 s)\n")
 write("name64", stream(14, steady[:1], name=b"n" * 64),
       '"' + "n" * 64 + '" 0e0e..0e at 10.0.0.5:\n  6.2.2 a name without an end on 1 (4 times, the first at 0.000 s, the latest at 0.060 s)\n'
-      "  can't be seen in so short a recording: 6.2.5 numbers that don't go up; 6.2.5 a number left out in each turn; 6.6.1 faster than 44 a second; 6.6.2 levels more than 1 s apart; 6.6.2 changed levels sent fewer than three times\n")
+      "  can't be seen in so short a recording: 6.2.5 numbers that don't go up; 6.2.5 a number left out in each turn; 6.6.1 faster than 44 a second; 6.6.2 levels more than 1 s apart; 6.6.2 changed levels sent fewer than three times; 8 no list of universes for 12 s; 8 a list that lacks a universe it sends\n")
 write("name63", stream(15, steady, name=b"n" * 63 + b"\0"), '"' + "n" * 63 + '" 0f0f..0f at 10.0.0.5: conforms\n')
 write("nametext", stream(16, steady, name=b"K\xe4se".ljust(64, b"\0")),
       '"K\u00e4se" 1010..10 at 10.0.0.5:\n  6.2.2 a name that isn\'t UTF-8 on 1 (803 times, the first at 0.000 s, the latest at 20.035 s)\n')
@@ -92,7 +122,66 @@ write("moves", moves, who(19, 6) + ": conforms\n")
 text = [(10, packet(20, 1, start=0x17), 5), (20, packet(20, 2, start=0xdd), 5)]
 write("start", [(0, packet(20, 0), 5)] + text + stream(20, [it + 30 for it in steady], numbers=range(3, 3 + len(steady))),
       who(20) + ": conforms\n  seen, no breach: 7.7 a start code other than 0 and 0xDD on 1 (once, at 0.010 s)\n")
+# universe 1 by the group of universe 0; and universe 257 by its own, to one host, and to all of a network
+def sent(packets, to): return [(moment, octets, address, bytes(to)) for moment, octets, address in packets]
+write("group0", sent(stream(21, steady), [239, 255, 0, 0]),
+      who(21) + ":\n  9.3.1 sent to another multicast group than its universe's on 1 (803 times, the first at 0.000 s, the latest at 20.035 s)\n")
+hosts = stream(22, steady, universe=257)
+write("groups", sent(hosts[:200], [239, 255, 1, 1]) + sent(hosts[200:400], [10, 0, 0, 9]) + sent(hosts[400:], [10, 255, 255, 255]), who(22) + ": conforms\n")
+# universes 1 and 2 in turn by one counter: of the packets that follow one of the other universe and count on, packet 8 is the eighth
+turns = [(25 * it, packet(23, it, universe=1 + it % 2), 5) for it in range(800)] + [(20000 + 20 * it, packet(23, 800 + it, universe=1 + it % 2, ends=True), 5) for it in range(6)]
+write("counter", turns, who(23) + ":\n  6.2.5 one counter for several universes (798 times, the first at 0.200 s, the latest at 20.100 s)\n")
+# universes 1 to 8 in turn, each by its own counter, which is one ahead of that before it: seven packets count on, and then one doesn't
+write("counters", sum((stream(24, steady, universe=it, numbers=range(it, it + len(steady))) for it in range(1, 9)), []), who(24) + ": conforms\n")
+# what can't be read: a printer at the port, and a source of priority 201, or of a vector of the drafts; and a priority of 200
+def with_octets(octets, at, put): return octets[:at] + put + octets[at + len(put):]
+def unread(at, put): return with_octets(packet(26, 0), at, put)
+printer = [(500, b"hello", 100, bytes([10, 0, 0, 9])), (1500, b"hello, printer", 100, bytes([10, 0, 0, 9]))]
+printer_line = "10.0.0.100 sends what can't be read: no packets of streaming ACN (2 times, the first at 0.500 s, the latest at 1.500 s)\n"
+tester = [(1000, unread(108, b"\xc9"), 9), (2500, unread(18, b"\0\0\0\3"), 9), (4000, unread(108, b"\xc9"), 9)]
+write("unread", with_pages(stream(25, steady)) + printer + tester,
+      who(25) + ": conforms\n" + printer_line +
+      "10.0.0.9 sends what can't be read: 6.2.3 a priority above 200 (2 times, the first at 1.000 s, the latest at 4.000 s)\n"
+      "10.0.0.9 sends what can't be read: 5.5 neither data nor an extended packet, as those of the standard's drafts (once, at 2.500 s)\n", [])
+write("priority200", [(moment, with_octets(octets, 108, b"\xc8"), address) for moment, octets, address in stream(26, steady)], who(26) + ": conforms\n")
+write("printer", [(0, b"hello", 100, bytes([10, 0, 0, 9]))],
+      "no packets of streaming ACN\n10.0.0.100 sends what can't be read: no packets of streaming ACN (once, at 0.000 s)\n", [])
+# No list at all; one that is late twice, at the first packet more than 12 s after the list before; one that just isn't; and a source that comes back 3 s after its end with a list 13 s after the one before.
+write("unlisted", stream(21, steady), who(21) + ":\n  8 no list of universes for 12 s (once, at 12.025 s)\n", [])
+def listed(source, universes, *moments): return [(it, page(source, universes), 5) for it in moments]
+minute = list(range(0, 30000, 25))
+write("late", stream(22, minute), who(22) + ":\n  8 no list of universes for 12 s (2 times, the first at 12.025 s, the latest at 25.025 s)\n", listed(22, [1], 0, 13010, 26000))
+write("late12", stream(23, minute), who(23) + ": conforms\n", listed(23, [1], 0, 12010, 24015))
+write("back", stream(24, steady[:400]) + stream(24, [13000 + it for it in steady[:400]], numbers=range(403, 803)), who(24) + ": conforms\n", listed(24, [1], 0, 13010))
+# Of two universes the list has one, more than 10 s after both began; and just so long after. Another source's universes are none of it.
+both = stream(25, steady, universe=1) + stream(25, steady, universe=2)
+write("lacks", both, who(25) + ":\n  8 a list that lacks a universe it sends (2 times, the first at 10.001 s, the latest at 19.000 s)\n", listed(25, [1], 0, 10001, 19000))
+write("lacks10", both, who(25) + ": conforms\n", listed(25, [1], 0, 10000) + listed(25, [1, 2], 20000))
+short = stream(25, steady, universe=1) + stream(25, steady[:399], universe=2)
+write("lacksnone", short, who(25) + ": conforms\n", listed(25, [1, 2], 0) + listed(25, [1], 10045, 20000))
+# Two pages, of which each tells of its own part; the second lacks the universe behind its last number, and the first has none to tell of.
+parts = stream(26, steady, universe=2) + stream(26, steady, universe=9)
+write("pages", parts, who(26) + ": conforms\n", [(at, page(26, numbers, number, 1), 5) for at in (0, 10500) for number, numbers in enumerate(([1, 2], [9, 10]))])
+write("pageslack", parts, who(26) + ":\n  8 a list that lacks a universe it sends (once, at 10.500 s)\n  seen, no breach: 8 a list with a universe that wasn't heard (2 times, the first at 12.001 s, the latest at 12.001 s)\n",
+      [(at, page(26, numbers, number, 1), 5) for at in (0, 10500) for number, numbers in enumerate(([1, 2], [6, 8]))] + [(12001, page(26, [1, 2], 0, 1), 5), (12001, page(26, [6, 9], 1, 1), 5)])
+# A universe that wasn't heard for more than 12 s; one that was; and a source of pages alone.
+ended = stream(27, steady, universe=1) + stream(27, steady[:319], universe=9)
+write("unheard", ended, who(27) + ": conforms\n  seen, no breach: 8 a list with a universe that wasn't heard (once, at 20.011 s)\n", listed(27, [1, 9], 0, 10000, 20011))
+write("unheard12", ended, who(27) + ": conforms\n", listed(27, [1, 9], 0, 10000, 20010))
+write("alone", [], who(28) + ": conforms\n  seen, no breach: 8 a list with a universe that wasn't heard (once, at 20.000 s)\n", listed(28, [1], 0, 10000, 20000))
+# Two sources of one name: both are heard at 20.035 s, or the second one begins behind that.
+def twins(begin):
+    name = b"Desk".ljust(64, b"\0")
+    return stream(29, steady, name=name) + stream(30, [begin + it for it in steady], address=6, name=name)
+def desk(source, address, other=None):
+    other = "  seen, no breach: 6.2.2 the name of another source too: %s\n" % other if other else ""
+    return '"Desk" %02x%02x..%02x at 10.0.0.%d: conforms\n' % (source, source, source, address) + other
+write("twins", twins(20035), desk(29, 5, "1e1e..1e at 10.0.0.6") + desk(30, 6, "1d1d..1d at 10.0.0.5"))
+write("successor", twins(20036), desk(29, 5) + desk(30, 6))
 write("nothing", [], "no packets of streaming ACN\n")
+# What is sent live: three packets of a name without an end, and one of priority 201.
+for place, octets in enumerate([packet(31, number, name=b"n" * 64) for number in range(3)] + [with_octets(packet(31, 3), 108, b"\xc9")]):
+    open("live%d.sacn" % place, "wb").write(octets)
 P
 
 # tells NAME STATUS WANTED-ERRORS WANTED-OUTPUT WORD..: an audit ends so, and prints this file
@@ -112,7 +201,7 @@ tells() {
     echo "ok audit: $name"
   fi
 }
-for name in conforms rate44 rate50 skips skips2 stays stays3 second silent change1 change2 change3 end2 ended2 name64 name63 nametext nametext8 two moves start nothing; do
+for name in conforms rate44 rate50 skips skips2 stays stays3 second silent change1 change2 change3 end2 ended2 name64 name63 nametext nametext8 two moves start group0 groups counter counters unread priority200 printer unlisted late late12 back lacks lacks10 lacksnone pages pageslack unheard unheard12 alone twins successor nothing; do
   tells "$name" 0 "" $name.text $name.pcap
 done
 # What is broken is told up to where a recording is faulty; what is no recording has nothing.
@@ -133,3 +222,73 @@ assert [(it["event"], it["section"], it["universes"], it["first"], it["latest"],
 assert objects[0]["cid"] == "03" * 16 and objects[0]["name"] == "Source 3" and objects[0]["address"] == "10.0.0.5", objects
 P
 [ $? = 0 ] && echo "ok audit: objects" || echo "not ok audit: objects: $(head -c 300 out)"
+"$sacn" audit --json unread.pcap >out 2>err && python3 - <<'P'
+import json
+objects = [json.loads(line) for line in open("out")]
+unread = [tuple(it.get(key) for key in ("address", "section", "first", "latest", "times")) for it in objects if it["event"] == "unread"]
+assert unread == [("10.0.0.100", None, 500, 1500, 2), ("10.0.0.9", "6.2.3", 1000, 4000, 2), ("10.0.0.9", "5.5", 2500, 2500, 1)], objects
+P
+[ $? = 0 ] && echo "ok audit: objects of what can't be read" || echo "not ok audit: objects of what can't be read: $(head -c 300 out)"
+"$sacn" audit --json twins.pcap >out 2>err && "$sacn" audit --json late.pcap >>out 2>>err && "$sacn" audit --json unheard.pcap >>out 2>>err && python3 - <<'P'
+import json
+objects = [json.loads(line) for line in open("out")]
+twins, lists = [it for it in objects if it["name"] == "Desk"], [it for it in objects if it["name"] != "Desk"]
+assert [(it["event"], it.get("section"), it.get("other")) for it in twins if it["cid"] == "1d" * 16] == [("conforms", None, None), ("seen", "6.2.2", "1e" * 16)], twins
+assert [(it["event"], it.get("section"), it.get("other")) for it in twins if it["cid"] == "1e" * 16] == [("conforms", None, None), ("seen", "6.2.2", "1d" * 16)], twins
+assert [(it["event"], it.get("section"), it.get("rule"), it.get("first"), it.get("latest"), it.get("times")) for it in lists] == [
+    ("breach", "8", "no list of universes for 12 s", 12025, 25025, 2), ("conforms", None, None, None, None, None),
+    ("seen", "8", "a list with a universe that wasn't heard", 20011, 20011, 1)], lists
+P
+[ $? = 0 ] && echo "ok audit: objects of names and lists" || echo "not ok audit: objects of names and lists: $(head -c 300 out)"
+
+# What is heard as it comes. A watch ends with its input.
+printf 'version = 1\nudp_port = 25865\n[[port]]\nnumber = 1\nuniverse = 1\n' >node.toml
+printf 'version = 1\ncid = "00010203-0405-0607-0809-0a0b0c0d0e0f"\nname = "Desk"\nuniverses = [1]\nsend_to = [25864]\n[[patch]]\nchannel = 1\nuniverse = 1\nslot = 1\n' >show.toml
+send_live() { python3 -c 'import socket, sys; s = socket.socket(socket.AF_INET, socket.SOCK_DGRAM); [s.sendto(open("live%d.sacn" % it, "rb").read(), ("127.0.0.1", int(sys.argv[1]))) for it in range(4)]' "$1"; }
+told() { for _ in $(seq 200); do grep -q "$1" "$2" && return 0; sleep 0.05; done; return 1; }
+mkfifo held orders
+# hears_live WORD..: starts a watch that audits
+hears_live() {
+  : >hears
+  "$sacn" watch --port 25864 --audit "$@" <held >live 2>hears &
+  watch=$!
+  exec 4>held
+  told '^hears' hears
+}
+hears_live
+: >answers
+"$sacn" desk show.toml <orders >answers 2>desk &
+desk=$!
+exec 3>orders
+echo "1 at full" >&3
+told '^ok' answers
+exec 3>&-
+wait $desk
+exec 4>&-
+wait $watch
+status=$?
+[ $status = 0 ] && [ "$(head -n 1 live)" = '"Desk" 0001..0f at 127.0.0.1: conforms' ] && [ "$(wc -l <live)" = 2 ] && grep -q "^  can't be seen in so short a recording: .*; 8 a list that lacks a universe it sends$" live
+[ $? = 0 ] && echo "ok audit: a desk that a watch hears conforms" || echo "not ok audit: a desk that a watch hears conforms: status $status, $(head -c 300 live)"
+hears_live --json
+send_live 25864
+# (a datagram that came is taken before the end of standard input)
+exec 4>&-
+wait $watch
+python3 - <<'P'
+import json
+objects = [json.loads(line) for line in open("live")]
+broken = [(it["event"], it.get("cid"), it.get("section"), it.get("rule"), it.get("universes"), it.get("times")) for it in objects if it["event"] in ("breach", "unread")]
+assert broken == [("breach", "1f" * 16, "6.2.2", "a name without an end", [1], 3), ("unread", None, "6.2.3", "a priority above 200", None, 1)], objects
+P
+[ $? = 0 ] && echo "ok audit: objects of a watch" || echo "not ok audit: objects of a watch: $(head -c 300 live)"
+: >hears
+"$sacn" gateway node.toml --audit --seconds 3 >frames 2>hears &
+gateway=$!
+told '^hears' hears
+send_live 25865
+wait $gateway
+status=$?
+name=$(printf 'n%.0s' $(seq 64))
+[ $status = 0 ] && grep -q '^1 [0-9]* 00ff' frames && grep -qxF "\"$name\" 1f1f..1f at 127.0.0.1:" hears && grep -qE '^  6\.2\.2 a name without an end on 1 \(3 times, the first at [0-9.]+ s, the latest at [0-9.]+ s\)$' hears &&
+  [[ $(tail -n 1 hears) =~ ^"127.0.0.1 sends what can't be read: 6.2.3 a priority above 200 (once, at "[0-9.]+" s)"$ ]]
+[ $? = 0 ] && echo "ok audit: a gateway tells once its seconds are over" || echo "not ok audit: a gateway tells once its seconds are over: status $status, $(tail -n 4 hears)"

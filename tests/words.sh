@@ -51,6 +51,9 @@ refused 2 "error: *" gateway x --seconds 1 --seconds 1
 refused 2 "error: *" gateway x --turns 5
 refused 2 "error: --watch: beside --clock" gateway x --watch --clock
 refused 2 "error: *" gateway x --clock --clock
+refused 2 "error: --audit: without --seconds" gateway x --audit
+refused 2 "error: --watch: beside --audit" gateway x --watch --audit --seconds 1
+refused 4 "device read absent" gateway absent --audit --seconds 1
 refused 4 "??:??:??.??? device read absent" gateway absent --clock
 
 # Those of a desk: hosts with ports, groups, numbers.
@@ -138,6 +141,10 @@ refused 2 "error: --stay: without --script" desk x --bind x --stay
 refused 2 "error: 0: Port" explain x --port 0 --universe 0 --page 0 --json
 refused 2 "error: --page: beside --json" explain x --page 0 --json --seconds +5
 refused 2 "error: --page: beside --plain" watch --universe 0 --json --plain --page 0
+refused 2 "error: --page: beside --audit" watch --page 8080 --audit
+refused 2 "error: --plain: beside --audit" watch --plain --audit
+refused 2 "error: --each: beside --audit" watch --each --audit --json
+refused 2 "error: --clock: without --plain" watch --audit --clock
 
 # Files that are absent, or faulty: each is named, with its fault.
 show='version = 1

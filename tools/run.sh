@@ -410,7 +410,7 @@ is_in_front() {
 # was told before stands in `modes`, empty where nothing has to be told again.
 quiet_keys() {
   local word
-  for word in "$@"; do case $word in --plain | --each | --json | --page | --page=*) return 0 ;; esac; done
+  for word in "$@"; do case $word in --plain | --each | --json | --audit | --page | --page=*) return 0 ;; esac; done
   if [ -t 0 ] && [ -t 1 ] && is_in_front && modes=$(stty -g 2>/dev/null); then hush_keys; fi
 }
 

@@ -1,13 +1,13 @@
 //! Which rules of E1.31 the packets of a recording break.
-use crate::explain::{ROOM, say_capture_fault, say_unread};
+use crate::auditing::{findings_of, hear};
+use crate::explain::{ROOM, form_of, say_capture_fault, say_unread};
 use sacn_audit::Audit;
-use sacn_capture::{Capture, CaptureFault, Datagram};
+use sacn_capture::{Capture, CaptureFault};
 use sacn_commands::ending::{Ending, of_write};
-use sacn_findings::{push_objects, push_text};
-use sacn_packets::{Packet, read_packet};
+use sacn_packets::read_packet;
 use sacn_tell::Timeline;
 use sacn_words::STANDARD_INPUT;
-use std::alloc::Global;
+use std::alloc::{AllocError, Global};
 use std::fs;
 use std::io::{BufRead, BufReader, Read, Write};
 use std::rt::Files;
@@ -81,7 +81,14 @@ fn follow<I: BufRead + Drop>(
                 timeline.advance(frame.moment);
                 match &frame.content {
                     Ok(datagram) if datagram.destination_port == port => {
-                        hear(audit, timeline.now, datagram);
+                        let reading = read_packet(datagram.payload);
+                        hear(
+                            audit,
+                            timeline.now,
+                            datagram.sender,
+                            datagram.destination,
+                            &reading,
+                        );
                     }
                     _ => {}
                 }
@@ -93,12 +100,6 @@ fn follow<I: BufRead + Drop>(
     None
 }
 
-fn hear(audit: &mut Audit, now: u64, datagram: &Datagram<'_>) {
-    if let Ok(Packet::DataPacket(packet)) = read_packet(datagram.payload) {
-        audit.hear(now, datagram.sender, &packet);
-    }
-}
-
 fn tell_audited<O: Write, E: Write>(
     alloc: Global,
     asked: AuditOf<'_>,
@@ -106,15 +107,7 @@ fn tell_audited<O: Write, E: Write>(
     out: &mut O,
     err: &mut E,
 ) -> Result<(), Ending> {
-    let mut text = String::new(alloc);
-    if asked.is_json {
-        push_objects(alloc, &mut text, &audited.audit)?;
-    } else {
-        push_text(alloc, &mut text, &audited.audit)?;
-        if audited.audit.sources().is_empty() {
-            text.push_str("no packets of streaming ACN\n")?;
-        }
-    }
+    let text = findings_of(alloc, &audited.audit, form_of(asked.is_json))?;
     of_write(out.write_all(text.as_str().as_bytes()))?;
     of_write(out.flush())?;
     match audited.stopped {

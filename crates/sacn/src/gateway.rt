@@ -1,4 +1,5 @@
 //! A gateway, and a page or a screen of what it hears.
+use crate::auditing::{Auditing, Unviewed};
 use crate::frames::{Unprinted, lines_of, run_printing};
 use crate::keys::ScreenKeys;
 use crate::screen::{hands_keys, screen_of, size_file};
@@ -61,6 +62,7 @@ fn gateway_on<'a, R: AllocGlobal + Files + Env + Net + Clock, I: Read + Drop>(
     }
     match asked.page {
         Some(place) => run_shown(rt, asked, setups.as_slice(), place, (outputs, joined)),
+        None if asked.is_audit => run_audited(rt, asked, setups.as_slice(), (outputs, joined)),
         None => run_alone(rt, asked, setups.as_slice(), (outputs, joined)),
     }
 }
@@ -81,6 +83,52 @@ fn run_alone<'a, R: AllocGlobal + Env + Net + Clock>(
     run
 }
 
+// Runs a gateway that serves no page, and audits what it hears.
+#[inline(never)]
+fn run_audited<'a, R: AllocGlobal + Env + Net + Clock>(
+    rt: &'a R,
+    asked: &GatewayAsked<'_>,
+    setups: &[NodeSetup],
+    (outputs, joined): (&TimedOutputs<'a, R>, Option<String>),
+) -> Result<(), Ending> {
+    let mut receiver = receiver_of(rt, asked, setups, &mut outputs.err())?;
+    receiver.tend(outputs.outputs, joined, outputs.front_in(SILENT_START));
+    run_viewed(rt, asked, setups, &mut receiver, &mut Unviewed, "audit", outputs)
+}
+
+// Runs a gateway that prints its frames, with these who view what it hears, and an audit of that where one is asked for.
+fn run_viewed<'a, R: AllocGlobal + Env + Net + Clock, W: Watcher>(
+    rt: &'a R,
+    asked: &GatewayAsked<'_>,
+    setups: &[NodeSetup],
+    receiver: &mut UdpReceiver<'a, R>,
+    viewers: &mut W,
+    name: &'static str,
+    outputs: &TimedOutputs<'a, R>,
+) -> Result<(), Ending> {
+    let spoken = spoken_of(rt, receiver, outputs)?;
+    if !asked.is_audit {
+        let mut shown = Shown::new(spoken, viewers, name, outputs.err());
+        let run = run_printing(rt, asked, setups, receiver, &mut shown, outputs);
+        shown.end();
+        return run;
+    }
+    let mut auditing = Auditing::new(rt.alloc(), viewers)?;
+    let mut shown = Shown::new(spoken, &mut auditing, name, outputs.err());
+    let run = run_printing(rt, asked, setups, receiver, &mut shown, outputs);
+    shown.end();
+    say_findings(rt.alloc(), &auditing, &mut outputs.err());
+    run
+}
+
+// Says what an audit found.
+fn say_findings<W: Watcher, E: Write>(alloc: Global, auditing: &Auditing<'_, W>, err: &mut E) {
+    let _ = match auditing.findings(alloc, false) {
+        Ok(text) => err.write_all(text.as_str().as_bytes()),
+        Err(AllocError) => writeln!(err, "audit OutOfMemory"),
+    };
+}
+
 // Runs a gateway that serves a page at this place.
 #[inline(never)]
 fn run_shown<'a, R: AllocGlobal + Env + Net + Clock>(
@@ -97,11 +145,7 @@ fn run_shown<'a, R: AllocGlobal + Env + Net + Clock>(
     receiver.tend(outputs.outputs, joined, outputs.front_in(SILENT_START));
     receiver.wait_beside(pages.descriptor());
     say_page(place, &mut outputs.err());
-    let spoken = spoken_of(rt, &receiver, outputs)?;
-    let mut shown = Shown::new(spoken, &mut pages, "page", outputs.err());
-    let run = run_printing(rt, asked, setups, &mut receiver, &mut shown, outputs);
-    shown.end();
-    run
+    run_viewed(rt, asked, setups, &mut receiver, &mut pages, "page", outputs)
 }
 
 // Runs a gateway that shows what it hears on the terminal at standard output, in place of its frames.

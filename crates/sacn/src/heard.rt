@@ -1,4 +1,5 @@
 //! What a watch hears, told: what each source does, once for all its universes, and each thing that happens on each.
+use crate::auditing::{Auditing, Unviewed};
 use crate::explain::form_of;
 use sacn_clock::Present;
 use sacn_digest::LiveDigest;
@@ -8,7 +9,7 @@ use sacn_tell::{ExplainFault, Form, Options, TellFault};
 use sacn_watch::{Listener, WatchFault, Watcher, run_watch, watch_lines};
 use sacn_words::WatchAsked;
 use std::alloc::Global;
-use std::io::Write;
+use std::io::{self, Write};
 
 /// Tells what a listener hears until a moment in milliseconds, in the form that is asked for, and tables at the end. Both outputs
 /// are standard output: on `late` stands what is told some time after it happened, as its writer knows by the present.
@@ -22,10 +23,34 @@ pub fn tell_heard<I: Listener, O: Write, L: Write>(
     (out, late): (&mut O, &mut L),
     present: &Present,
 ) -> Result<(), WatchFault> {
+    if asked.is_audit {
+        return tell_audit(alloc, listener, asked, until, out);
+    }
     if asked.has_each {
         return tell_each(alloc, listener, asked, until, out);
     }
     tell_incidents(alloc, listener, asked, until, late, present)
+}
+
+// Tells at the end which rules the packets of each source broke.
+fn tell_audit<I: Listener, O: Write>(
+    alloc: Global,
+    listener: &mut I,
+    asked: &WatchAsked,
+    until: u64,
+    out: &mut O,
+) -> Result<(), WatchFault> {
+    let mut unviewed = Unviewed;
+    let mut auditing = Auditing::new(alloc, &mut unviewed)?;
+    run_watch(listener, &mut auditing, until)?;
+    let text = auditing.findings(alloc, asked.is_json)?;
+    of_output(out.write_all(text.as_str().as_bytes()))?;
+    of_output(out.flush())
+}
+
+// What can't be written, as a watch knows it.
+fn of_output(written: io::Result<()>) -> Result<(), WatchFault> {
+    written.map_err(|_| WatchFault::Device)
 }
 
 // The same as a line for each thing that happens on a universe.

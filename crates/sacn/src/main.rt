@@ -2,6 +2,7 @@
 #![tactic(auto)]
 
 mod audit;
+mod auditing;
 mod check;
 mod explain;
 mod frames;

@@ -9,3 +9,6 @@ pub mod Finding
 pub mod Tracking
 pub mod NetworkAuditing
 pub mod Senders
+pub mod CountingOn
+pub mod Refusing
+pub mod AwaitedLists

@@ -11,4 +11,4 @@ order_is_kept [] e = refl
 order_is_kept (x ∷ earlier) e =
     let moment = latest x.moment (latest_moment earlier) e.0 in
     let rest = order_is_kept earlier e.1 in
-    λ i. record { moment = moment i; packet = x.packet } ∷ rest i
+    λ i. record x { moment = moment i } ∷ rest i

@@ -32,7 +32,7 @@ none_later (x ∷ xs) before second e =
     let m : ℕ = max x.moment (latest_moment xs) in
     let ordered : second_of (latest_moment xs) ≤ second_of m = in_order (latest_moment xs) m (omega arith) in
     let rest : packets_in before second (in_turn xs) ≡ 0 = none_later xs before second (omega (arith, ordered, e)) in
-    one_more_is before second (record { moment = m; packet = x.packet }) (in_turn xs)
+    one_more_is before second (record x { moment = m }) (in_turn xs)
     ∙ counts_not (second_of m + before == second) (packets_in before second (in_turn xs)) (apart (second_of m + before) second e)
     ∙ rest
 

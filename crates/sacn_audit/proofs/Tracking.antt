@@ -8,7 +8,7 @@ use Rattle.std.proofs.lemmas.List.{length-set, length-append}
 use Rattle.std.proofs.lemmas.List.Folds.{find_at, find-set, find_past, find-append}
 use Rattle.std.proofs.lemmas.List.Quantifiers.{position-Some}
 use Rattle.std.proofs.lemmas.Option.{slice_get_past, slice_get_within, slice_get_cases, get_or_from_slice_get}
-use Rattle.sacn_audit.specs.Registers.{changed, heard_at}
+use Rattle.sacn_audit.specs.Registers.{changed, heard_within}
 use Rattle.sacn_audit.proofs.Keys.{chosen, placed, refused}
 
 clash : {A : Type 0} (a : A) (o : Option A) → o ≡ None → o ≡ Some a → ⊥
@@ -61,12 +61,12 @@ module _ {S : Type 0} (p : S → Bool) (f : S → S) (ss : List S) (i : ℕ) (pl
 
 -- ---- one element, by what is kept of it
 
-module _ {S A : Type 0} (audit : S → A) (q : S → Bool) where
+module _ {S A : Type 0} (most : ℕ) (audit : S → A) (q : S → Bool) where
   abbrev kept : List S → Option A
   kept ss = option_map audit (find q ss)
 
   abbrev pub Tracks : List S → Option A → Type 0
-  Tracks ss o = (kept ss ≡ o) ⊎ ((kept ss ≡ None) × (1024 ≤ length ss))
+  Tracks ss o = (kept ss ≡ o) ⊎ ((kept ss ≡ None) × (most ≤ length ss))
 
   -- what doesn't touch it and drops none keeps it tracked
   untouched : (ss after : List S) (o : Option A) → kept after ≡ kept ss → length ss ≤ length after → Tracks ss o → Tracks after o
@@ -92,19 +92,19 @@ module _ {S A : Type 0} (audit : S → A) (q : S → Bool) where
           let same : kept ss ≡ Some (audit s) = ap (option_map audit) (found q f ss i place ∙ e) in
           absurd (clash (audit s) (kept ss) full.0 same)
 
-      opened_by : position q ss ≡ None → length ss < 1024 → Tracks ss o → Tracks opened (Some (next o))
+      opened_by : position q ss ≡ None → length ss < most → Tracks ss o → Tracks opened (Some (next o))
       opened_by place room (inl known) =
           let none : find q ss ≡ None = find_none q ss place in
           let before : o ≡ None = sym known ∙ ap (option_map audit) none in
           inl (ap (option_map audit) (find_opened true ours) ∙ ap (λ (g : Option S). option_map audit (option_or g (Some begun))) none ∙ ap (λ (a : A). Some a) first ∙ ap (λ (a : Option A). Some (next a)) (sym before))
       opened_by place room (inr full) = absurd (omega (arith, full.1, room))
 
-      new_by : position q ss ≡ None → (r : Bool) → ltb (length ss) 1024 ≡ r → Tracks ss o → Tracks (cond r opened ss) (Some (next o))
-      new_by place true room tracks = opened_by place (ltb-true (length ss) 1024 room) tracks
-      new_by place false room tracks = inr (ap (option_map audit) (find_none q ss place), ltb-false (length ss) 1024 room)
+      new_by : position q ss ≡ None → (r : Bool) → ltb (length ss) most ≡ r → Tracks ss o → Tracks (cond r opened ss) (Some (next o))
+      new_by place true room tracks = opened_by place (ltb-true (length ss) most room) tracks
+      new_by place false room tracks = inr (ap (option_map audit) (find_none q ss place), ltb-false (length ss) most room)
 
-      pub tracks_own : (m : Option ℕ) → position q ss ≡ m → Tracks ss o → Tracks (heard_at f begun ss m) (Some (next o))
-      tracks_own None place tracks = new_by place (ltb (length ss) 1024) refl tracks
+      pub tracks_own : (m : Option ℕ) → position q ss ≡ m → Tracks ss o → Tracks (heard_within most f begun ss m) (Some (next o))
+      tracks_own None place tracks = new_by place (ltb (length ss) most) refl tracks
       tracks_own (Some i) place tracks = heard_by i place (slice_get ss i) refl tracks
 
     -- a packet of another one, which p looks for
@@ -113,7 +113,7 @@ module _ {S A : Type 0} (audit : S → A) (q : S → Bool) where
       beside_by true tracks = untouched ss opened o (ap (option_map audit) (find_opened false other ∙ or_none (find q ss))) (omega (arith, length-append ss (begun ∷ []))) tracks
       beside_by false tracks = tracks
 
-      pub tracks_other : (m : Option ℕ) → position p ss ≡ m → Tracks ss o → Tracks (heard_at f begun ss m) o
-      tracks_other None place tracks = beside_by (ltb (length ss) 1024) tracks
+      pub tracks_other : (m : Option ℕ) → position p ss ≡ m → Tracks ss o → Tracks (heard_within most f begun ss m) o
+      tracks_other None place tracks = beside_by (ltb (length ss) most) tracks
       tracks_other (Some i) place tracks =
           untouched ss (changed f i ss (slice_get ss i)) o (ap (option_map audit) (by_other p f ss i place q keeps apart (slice_get ss i) refl)) (omega (arith, length_changed p ss f i (slice_get ss i))) tracks

@@ -4,9 +4,10 @@ use Rattle.std.specs.List.{prefix_len}
 use Rattle.std.specs.Str.{bytes_eq}
 use Rattle.sacn_packets.specs.Data.{Data}
 
--- a packet, and when it came
+-- a packet, when it came, and to which IPv4 address it was sent
 pub record Arrival : Type 0 where
   pub moment : ℕ
+  pub destination : List ℕ
   pub packet : Data
 
 -- the moment in use after these: the greatest that was handed in
@@ -17,7 +18,7 @@ latest_moment (x ∷ earlier) = max x.moment (latest_moment earlier)
 -- these packets, each at the moment in use: none is before an earlier one
 abbrev pub in_turn : List Arrival → List Arrival
 in_turn [] = []
-in_turn (x ∷ earlier) = record { moment = latest_moment (x ∷ earlier); packet = x.packet } ∷ in_turn earlier
+in_turn (x ∷ earlier) = record x { moment = latest_moment (x ∷ earlier) } ∷ in_turn earlier
 
 -- none is before an earlier one
 abbrev pub IsInOrder : List Arrival → Type 0

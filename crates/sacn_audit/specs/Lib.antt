@@ -1,8 +1,14 @@
 pub mod Arrivals
+pub mod Groups
 pub mod Rules
 pub mod Breaches
 pub mod Audits
 pub mod Histories
+pub mod Counters
 pub mod Registers
+pub mod Refusals
+pub mod UniverseLists
 pub mod Networks
 pub mod NetworkHistories
+pub mod ListHistories
+pub mod CounterHistories

@@ -37,11 +37,11 @@ pub struct StreamAudit {
 }
 
 impl StreamAudit {
-    /// The audit of a stream whose first packet this is.
-    pub fn begin(moment: u64, packet: &DataView<'_>) -> Self
-        ensures { result ≡ first_audit moment packet.now }
+    /// The audit of a stream whose first packet this is, with the IPv4 address that it was sent to.
+    pub fn begin(moment: u64, destination: [u8; 4], packet: &DataView<'_>) -> Self
+        ensures { result ≡ first_audit moment destination packet.now }
     {
-        let sight = Sight::of(packet);
+        let sight = Sight::of(destination, packet);
         let mut breaches = Breaches::none();
         breaches.judge_alone(moment, sight);
         let levels = if sight.start == NULL_START_CODE {
@@ -62,12 +62,12 @@ impl StreamAudit {
         }
     }
 
-    /// One packet more.
-    pub fn hear(&mut self, moment: u64, packet: &DataView<'_>)
-        ensures { self.new ≡ after_packet moment packet.now self.old }
+    /// One packet more, with the IPv4 address that it was sent to.
+    pub fn hear(&mut self, moment: u64, destination: [u8; 4], packet: &DataView<'_>)
+        ensures { self.new ≡ after_packet moment destination packet.now self.old }
     {
         let moment = moment.max(self.moment);
-        let sight = Sight::of(packet);
+        let sight = Sight::of(destination, packet);
         let slots = packet.slots();
         let is_same = self.content.is_same(slots);
         self.count(moment, sight);
@@ -95,6 +95,20 @@ impl StreamAudit {
         ensures { result ≡ is_short self.now.ends }
     {
         0 < self.ends && self.ends < COPIES
+    }
+
+    /// The moment of the latest packet: the greatest that was handed in.
+    pub fn moment(&self) -> u64
+        ensures { result ≡ self.now.moment }
+    {
+        self.moment
+    }
+
+    /// Whether the latest packet ends the stream.
+    pub fn is_ended(&self) -> bool
+        ensures { result ≡ self.now.latest.terminated }
+    {
+        self.latest.terminated
     }
 
     // Counts a packet, by its moment and its number.

@@ -22,11 +22,29 @@ pub(crate) const TURNS: u8 = 3;
 /// So many packets in a row with one number aren't copies that were made on the way.
 pub(crate) const COPIES_IN_A_ROW: u8 = 4;
 
+/// So many packets in a row that go on counting from one universe to another show that the universes have one counter.
+pub(crate) const COUNTED_ON: u8 = 8;
+
+/// The first octet of a multicast address of IPv4 is one of these: 224.0.0.0/4.
+pub(crate) const FIRST_OF_MULTICAST: u8 = 224;
+
+pub(crate) const LAST_OF_MULTICAST: u8 = 239;
+/// A source sends its list of universes at least so often, in milliseconds (E1.31, 4.3 and appendix A:
+/// E131_UNIVERSE_DISCOVERY_INTERVAL).
+pub(crate) const LIST_INTERVAL: u64 = 10_000;
+
+/// The most milliseconds without a list of universes: the interval, and two seconds of slack.
+pub(crate) const LONGEST_WITHOUT_LIST: u64 = LIST_INTERVAL + 2000;
+
 /// The start code of priorities for slots, beside 0 for levels.
 pub(crate) const PRIORITY_START_CODE: u8 = 0xDD;
 
 /// The most streams that an audit of a network keeps, and the most sources. A packet of a further stream is counted as untracked.
 pub const MAX_STREAMS: usize = 1024;
+
+/// The most pairs of a sender and a fault that an audit of a network keeps of what can't be read. A datagram of a further pair is
+/// counted as untracked.
+pub const MAX_REFUSED: usize = 256;
 
 /// How many hints there are of the places of streams, and of sources.
 pub(crate) const HINTS: usize = 65536;

@@ -8,6 +8,8 @@ use std::alloc::{AllocError, Global};
 
 const DESK: [u8; 4] = [10, 0, 0, 5];
 
+const NODE: [u8; 4] = [10, 0, 0, 9];
+
 const SPARE: [u8; 4] = [10, 0, 0, 6];
 
 // Which packet is sent next.
@@ -39,7 +41,7 @@ fn send(audit: &mut Audit, moment: u64, address: [u8; 4], sent: Sent)
     };
     write_data(&fields, &mut octets);
     if let Ok(Packet::DataPacket(packet)) = read_packet(&octets) {
-        audit.hear(moment, address, &packet);
+        audit.hear(moment, address, NODE, &packet);
     }
 }
 

@@ -30,6 +30,9 @@ pub enum Rule {
     /// went from the number before it to the one after it, and all other packets of these turns go up by one. Broken at the third
     /// such step, and at each further one. What is lost on the way at the same number three turns in a row looks the same.
     NumberLeftOut,
+    /// Sent to a multicast address (224.0.0.0/4) other than 239.255.HIGH.LOW, the group of its universe (9.3.1). Broken at each such
+    /// packet. What is sent to one host, or to all of a network, breaks nothing.
+    OtherGroup,
     /// No breach, and told as seen: a start code that is neither 0 (levels) nor 0xDD (priorities for slots). The standard has room for
     /// any (7.7), and a node that shows levels alone ignores such packets. Told at each of them.
     OtherStart,

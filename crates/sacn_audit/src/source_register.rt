@@ -1,13 +1,14 @@
 //! The sources of a network.
 
-ghost use Rattle.std.specs.Prelude.{◌≡◌, ◌<◌, ◌++◌, ◌∷◌, [], None, IfOk, length, slice_index_or, slice_set};
+ghost use Rattle.std.specs.Prelude.{◌≡◌, ◌<◌, ◌++◌, ◌∷◌, [], None, IfOk, if◌then◌else◌, length, nat_lt, slice_index_or, slice_set};
 ghost use Rattle.sacn_audit.specs.declared.limits.TheConstants.{MAX_STREAMS};
-ghost use Rattle.sacn_audit.specs.Networks.{place_from, source_after, sources_after};
+ghost use Rattle.sacn_audit.specs.Networks.{is_known, place_from, source_after, source_after_page, sources_after, sources_after_page};
 
 use crate::hints::{Hints, key_of};
 use crate::limits::MAX_STREAMS;
+use crate::page_verdict::PageVerdict;
 use crate::source::SourceAudit;
-use sacn_packets::DataView;
+use sacn_packets::{DataView, PageView};
 use std::alloc::{AllocError, Global};
 use std::marker::Model;
 
@@ -50,13 +51,37 @@ impl SourceRegister {
         self.sources.as_slice()
     }
 
-    /// A packet: of a source that is there, or of a further one, where there is room.
-    pub(crate) fn hear(&mut self, moment: u64, address: [u8; 4], packet: &DataView<'_>)
-        ensures { self.new ≡ sources_after moment address packet.now self.old }
+    /// A packet: of a source that is there, or of a further one, where there is room. Returns whether there was.
+    pub(crate) fn hear(&mut self, moment: u64, address: [u8; 4], packet: &DataView<'_>) -> bool
+        ensures known { result ≡ is_known packet.now.cid self.old }
+        ensures sources { self.new ≡ sources_after moment address packet.now self.old }
     {
         match self.place_from(&packet.cid()) {
-            Some(at) => self.hear_at(at, moment, address, packet),
-            None => self.admit(moment, address, packet),
+            Some(at) => {
+                self.hear_at(at, moment, address, packet);
+                true
+            }
+            None => self.admit(SourceAudit::begin(moment, address, packet)),
+        }
+    }
+
+    /// A page, likewise, and what it says beside the streams that are heard.
+    pub(crate) fn hear_page(
+        &mut self,
+        moment: u64,
+        address: [u8; 4],
+        page: &PageView<'_>,
+        verdict: PageVerdict,
+    ) -> bool
+        ensures known { result ≡ is_known page.now.cid self.old }
+        ensures sources { self.new ≡ sources_after_page moment address page.now verdict self.old }
+    {
+        match self.place_from(&page.cid()) {
+            Some(at) => {
+                self.hear_page_at(at, moment, address, page, verdict);
+                true
+            }
+            None => self.admit(SourceAudit::begin_by_page(moment, address, page)),
         }
     }
 
@@ -80,14 +105,33 @@ impl SourceRegister {
         self.hints.keep(key_of(0, &packet.cid()), at);
     }
 
-    // The first packet of a source. It is passed over where there is no room.
-    fn admit(&mut self, moment: u64, address: [u8; 4], packet: &DataView<'_>)
-        requires { place_from packet.now.cid self.old ≡ None }
-        ensures { self.new ≡ sources_after moment address packet.now self.old }
+    // A page of the source at a place.
+    fn hear_page_at(
+        &mut self,
+        at: usize,
+        moment: u64,
+        address: [u8; 4],
+        page: &PageView<'_>,
+        verdict: PageVerdict,
+    )
+        requires { at < length self.old }
+        ensures { (s : SourceAudit) → self.new ≡ slice_set self.old at (source_after_page moment address page.now verdict (slice_index_or self.old at s)) }
     {
-        if self.sources.len() < MAX_STREAMS {
-            self.push(SourceAudit::begin(moment, address, packet));
+        self.sources[at].hear_page(moment, address, page, verdict);
+        self.hints.keep(key_of(0, &page.cid()), at);
+    }
+
+    // A source that is heard for the first time. Returns whether there was room for it.
+    fn admit(&mut self, source: SourceAudit) -> bool
+        requires { place_from source.cid self.old ≡ None }
+        ensures known { result ≡ nat_lt (length self.old) MAX_STREAMS }
+        ensures sources { self.new ≡ if nat_lt (length self.old) MAX_STREAMS then self.old ++ source ∷ [] else self.old }
+    {
+        if self.sources.len() >= MAX_STREAMS {
+            return false;
         }
+        self.push(source);
+        true
     }
 
     // A source more, of a CID that no other has.

@@ -3,12 +3,13 @@
 ghost use Rattle.std.specs.Prelude.{◌≡◌, ◌<◌, ◌++◌, ◌∷◌, [], None, IfOk, length, slice_index_or, slice_set};
 ghost use Rattle.std.specs.List.{position};
 ghost use Rattle.sacn_audit.specs.declared.limits.TheConstants.{MAX_STREAMS};
-ghost use Rattle.sacn_audit.specs.Networks.{first_stream, is_of, is_tracked, place_of, stream_after, streams_after};
+ghost use Rattle.sacn_audit.specs.Networks.{sent_since, first_stream, is_of, is_tracked, place_of, stream_after, streams_after};
 
 use crate::audit::StreamAudit;
 use crate::hints::{Hints, key_of};
 use crate::limits::MAX_STREAMS;
 use sacn_packets::DataView;
+use sacn_sources::NETWORK_DATA_LOSS;
 use std::alloc::{AllocError, Global};
 use std::marker::Model;
 
@@ -19,24 +20,41 @@ pub struct AuditedStream {
     pub universe: u16,
     /// The source's CID, a UUID (E1.31, 5.6).
     pub cid: [u8; 16],
+    /// The source sends it since this moment, in milliseconds: that of the first packet, or of the first one after an end or after more
+    /// than 2500 ms of silence, by which a stream is lost (E1.31, 6.7.1).
+    pub began: u64,
     pub audit: StreamAudit,
 }
 
 impl AuditedStream {
-    fn begin(moment: u64, packet: &DataView<'_>) -> Self
-        ensures { result ≡ first_stream moment packet.now }
+    fn begin(moment: u64, destination: [u8; 4], packet: &DataView<'_>) -> Self
+        ensures { result ≡ first_stream moment destination packet.now }
     {
         AuditedStream {
             universe: packet.universe(),
             cid: packet.cid(),
-            audit: StreamAudit::begin(moment, packet),
+            began: moment,
+            audit: StreamAudit::begin(moment, destination, packet),
         }
     }
 
-    fn hear(&mut self, moment: u64, packet: &DataView<'_>)
-        ensures { self.new ≡ stream_after moment packet.now self.old }
+    fn hear(&mut self, moment: u64, destination: [u8; 4], packet: &DataView<'_>)
+        ensures { self.new ≡ stream_after moment destination packet.now self.old }
     {
-        self.audit.hear(moment, packet);
+        self.began = self.sent_since(moment);
+        self.audit.hear(moment, destination, packet);
+    }
+
+    // Since when the source sends the stream, where a packet comes at a moment.
+    fn sent_since(&self, moment: u64) -> u64
+        ensures { result ≡ sent_since moment self.now }
+    {
+        let is_lost = moment.saturating_sub(self.audit.moment()) > NETWORK_DATA_LOSS;
+        if self.audit.is_ended() || is_lost {
+            moment.max(self.audit.moment())
+        } else {
+            self.began
+        }
     }
 
     /// Whether it is the stream of a source on a universe.
@@ -87,16 +105,16 @@ impl StreamRegister {
     }
 
     /// A packet: of a stream that is there, or of a further one, where there is room. Returns whether there was.
-    pub(crate) fn hear(&mut self, moment: u64, packet: &DataView<'_>) -> bool
+    pub(crate) fn hear(&mut self, moment: u64, destination: [u8; 4], packet: &DataView<'_>) -> bool
         ensures tracked { result ≡ is_tracked packet.now self.old }
-        ensures streams { self.new ≡ streams_after moment packet.now self.old }
+        ensures streams { self.new ≡ streams_after moment destination packet.now self.old }
     {
         match self.place_of(packet.universe(), &packet.cid()) {
             Some(at) => {
-                self.hear_at(at, moment, packet);
+                self.hear_at(at, moment, destination, packet);
                 true
             }
-            None => self.admit(moment, packet),
+            None => self.admit(moment, destination, packet),
         }
     }
 
@@ -112,25 +130,25 @@ impl StreamRegister {
     }
 
     // A packet of the stream at a place.
-    fn hear_at(&mut self, at: usize, moment: u64, packet: &DataView<'_>)
+    fn hear_at(&mut self, at: usize, moment: u64, destination: [u8; 4], packet: &DataView<'_>)
         requires { at < length self.old }
-        ensures { (s : AuditedStream) → self.new ≡ slice_set self.old at (stream_after moment packet.now (slice_index_or self.old at s)) }
+        ensures { (s : AuditedStream) → self.new ≡ slice_set self.old at (stream_after moment destination packet.now (slice_index_or self.old at s)) }
     {
-        self.streams[at].hear(moment, packet);
+        self.streams[at].hear(moment, destination, packet);
         self.hints
             .keep(key_of(packet.universe(), &packet.cid()), at);
     }
 
     // The first packet of a stream. Returns whether there was room for it.
-    fn admit(&mut self, moment: u64, packet: &DataView<'_>) -> bool
+    fn admit(&mut self, moment: u64, destination: [u8; 4], packet: &DataView<'_>) -> bool
         requires { place_of packet.now.universe packet.now.cid self.old ≡ None }
         ensures tracked { result ≡ is_tracked packet.now self.old }
-        ensures streams { self.new ≡ streams_after moment packet.now self.old }
+        ensures streams { self.new ≡ streams_after moment destination packet.now self.old }
     {
         if self.streams.len() >= MAX_STREAMS {
             return false;
         }
-        self.push(AuditedStream::begin(moment, packet));
+        self.push(AuditedStream::begin(moment, destination, packet));
         true
     }
 

@@ -11,6 +11,7 @@ struct Stream {
     audit: Option<StreamAudit>,
     number: u8,
     name: [u8; 64],
+    destination: [u8; 4],
 }
 
 impl Stream {
@@ -19,6 +20,7 @@ impl Stream {
             audit: None,
             number: 250,
             name: [0; 64],
+            destination: [239, 255, 0, 1],
         }
     }
 
@@ -54,8 +56,10 @@ impl Stream {
         self.number = self.number.wrapping_add(1);
         if let Ok(Packet::DataPacket(packet)) = read_packet(&octets) {
             match &mut self.audit {
-                Some(audit) => audit.hear(moment, &packet),
-                None => self.audit = Some(StreamAudit::begin(moment, &packet)),
+                Some(audit) => audit.hear(moment, self.destination, &packet),
+                None => {
+                    self.audit = Some(StreamAudit::begin(moment, self.destination, &packet));
+                }
             }
         }
     }
@@ -280,6 +284,29 @@ fn other_start_codes_are_told_as_seen(rt: HostRuntime) {
     stream.send(75, 255);
     stream.hand(100, 0xCC, 1, false);
     assert!(rt; stream.breach_of(Rule::OtherStart) == broken(2, 50, 100));
+}
+
+#[test]
+fn a_universe_has_one_group(rt: HostRuntime) {
+    let mut stream = Stream::new();
+    stream.send(0, 255);
+    // hosts, all of two networks, and the addresses beside those of multicast
+    for destination in [
+        [10, 0, 0, 9],
+        [10, 255, 255, 255],
+        [255, 255, 255, 255],
+        [223, 255, 0, 1],
+        [240, 255, 0, 1],
+    ] {
+        stream.destination = destination;
+        stream.send(10, 255);
+    }
+    assert!(rt; stream.breach_of(Rule::OtherGroup) == Breach::none());
+    for destination in [[239, 255, 0, 0], [239, 255, 1, 1], [224, 0, 0, 1]] {
+        stream.destination = destination;
+        stream.send(20, 255);
+    }
+    assert!(rt; stream.breach_of(Rule::OtherGroup) == broken(3, 20, 20));
 }
 
 #[test]

@@ -28,8 +28,8 @@ fn with_stream(total: Breach, stream: &AuditedStream, cid: &[u8; 16], rule: Rule
     }
 }
 
-// Two breaches as one.
-fn joined(total: Breach, more: Breach) -> Breach
+/// Two breaches as one.
+pub(crate) fn joined(total: Breach, more: Breach) -> Breach
     ensures whole { result ≡ joined total more }
     ensures times { result.times ≡ min (total.times + more.times) (2 ^ 64 - 1) }
 {

@@ -1,13 +1,15 @@
 //! What was found, as objects of JSON for programs.
 
 use crate::findings::{short_ends_of, total_of, universes_of};
+use crate::list_findings::{ListFinding, SECTION, list_findings};
+use crate::namesakes::{self, namesake_at};
 use crate::rule_rows::{ROWS, Row};
-use crate::sentences::{conforms, is_unseen};
+use crate::sentences::{conforms, is_list_unseen, is_unseen};
 use crate::sources::push_address;
-use sacn_audit::{Audit, AuditedStream, Breach, SourceAudit};
+use sacn_audit::{Audit, AuditedStream, Breach, Rule, SourceAudit};
 use sacn_packets::up_to_nul;
 use sacn_tell::{
-    begin_object, push_key, push_number, push_numbers, push_source_members, push_word,
+    begin_object, push_cid, push_key, push_number, push_numbers, push_source_members, push_word,
 };
 use std::alloc::{AllocError, Global};
 
@@ -19,7 +21,7 @@ pub fn push_objects(alloc: Global, text: &mut String, audit: &Audit) -> Result<(
     let is_whole = audit.untracked() == 0;
     let mut latest = 0;
     for source in audit.sources() {
-        push_source_objects(alloc, text, audit.streams(), source, is_whole)?;
+        push_source_objects(alloc, text, audit, source, is_whole)?;
         latest = source.moment.max(latest);
     }
     if is_whole {
@@ -33,21 +35,30 @@ pub fn push_objects(alloc: Global, text: &mut String, audit: &Audit) -> Result<(
 fn push_source_objects(
     alloc: Global,
     text: &mut String,
-    streams: &[AuditedStream],
+    audit: &Audit,
     source: &SourceAudit,
     is_whole: bool,
 ) -> Result<(), AllocError> {
+    let streams = audit.streams();
     if is_whole && conforms(streams, source) {
         begin(text, source.moment, "conforms", source)?;
         text.push_str("}\n")?;
     }
     push_two_senders(text, source)?;
+    push_one_counter(text, source)?;
     for row in &ROWS {
         push_finding(alloc, text, streams, source, row)?;
         if is_unseen(streams, source, row) {
-            begin(text, source.moment, "unseen", source)?;
-            push_rule(text, row.section, row.words)?;
-            text.push_str("}\n")?;
+            push_unseen(text, source, row.section, row.words)?;
+        }
+        if row.rule == Rule::NameNotText {
+            push_namesake(text, audit.sources(), source)?;
+        }
+    }
+    for finding in &list_findings(source) {
+        push_list_finding(text, source, finding)?;
+        if is_list_unseen(source, finding) {
+            push_unseen(text, source, SECTION, finding.words)?;
         }
     }
     push_short_end(alloc, text, streams, source)
@@ -65,11 +76,60 @@ fn push_finding(
         return Ok(());
     }
     let universes = universes_of(alloc, streams, &source.cid, row.rule)?;
-    let event = if row.is_breach { "breach" } else { "seen" };
-    begin(text, total.latest, event, source)?;
+    begin(text, total.latest, event_of(row.is_breach), source)?;
     push_rule(text, row.section, row.words)?;
     push_numbers(text, "universes", universes.as_slice())?;
     push_moments(text, total)
+}
+
+// Another source of the same name, by its CID.
+fn push_namesake(
+    text: &mut String,
+    sources: &[SourceAudit],
+    source: &SourceAudit,
+) -> Result<(), AllocError> {
+    let Some(at) = namesake_at(source, sources) else {
+        return Ok(());
+    };
+    let Some(other) = sources.get(at) else {
+        return Ok(());
+    };
+    begin(text, source.moment, event_of(false), source)?;
+    push_rule(text, namesakes::SECTION, namesakes::WORDS)?;
+    push_key(text, "other")?;
+    text.push('"')?;
+    push_cid(text, &other.cid)?;
+    text.push_str("\"}\n")
+}
+
+fn push_list_finding(
+    text: &mut String,
+    source: &SourceAudit,
+    finding: &ListFinding,
+) -> Result<(), AllocError> {
+    let breach = finding.breach;
+    if breach.times == 0 {
+        return Ok(());
+    }
+    begin(text, breach.latest, event_of(finding.is_breach), source)?;
+    push_rule(text, SECTION, finding.words)?;
+    push_moments(text, breach)
+}
+
+// A rule that can't be seen.
+fn push_unseen(
+    text: &mut String,
+    source: &SourceAudit,
+    section: &str,
+    words: &str,
+) -> Result<(), AllocError> {
+    begin(text, source.moment, "unseen", source)?;
+    push_rule(text, section, words)?;
+    text.push_str("}\n")
+}
+
+fn event_of(is_breach: bool) -> &'static str {
+    if is_breach { "breach" } else { "seen" }
 }
 
 // The front of an object: its moment, its key, and the source.
@@ -87,13 +147,14 @@ fn begin(
     text.push('"')
 }
 
-fn push_rule(text: &mut String, section: &str, words: &str) -> Result<(), AllocError> {
+/// A rule: its clause, and what breaks it.
+pub(crate) fn push_rule(text: &mut String, section: &str, words: &str) -> Result<(), AllocError> {
     push_word(text, "section", section)?;
     push_word(text, "rule", words)
 }
 
-// Its first and its latest moment, how often it was, and the end of the object.
-fn push_moments(text: &mut String, breach: Breach) -> Result<(), AllocError> {
+/// Its first and its latest moment, how often it was, and the end of the object.
+pub(crate) fn push_moments(text: &mut String, breach: Breach) -> Result<(), AllocError> {
     push_number(text, "first", breach.first)?;
     push_number(text, "latest", breach.latest)?;
     push_number(text, "times", breach.times)?;
@@ -107,6 +168,15 @@ fn push_two_senders(text: &mut String, source: &SourceAudit) -> Result<(), Alloc
     begin(text, source.two_senders.latest, "breach", source)?;
     push_rule(text, "5.6", "one CID at two addresses")?;
     push_moments(text, source.two_senders)
+}
+
+fn push_one_counter(text: &mut String, source: &SourceAudit) -> Result<(), AllocError> {
+    if source.one_counter.times == 0 {
+        return Ok(());
+    }
+    begin(text, source.one_counter.latest, "breach", source)?;
+    push_rule(text, "6.2.5", "one counter for several universes")?;
+    push_moments(text, source.one_counter)
 }
 
 // Streams that have ended by too few packets, after which nothing came.

@@ -16,7 +16,7 @@ pub(crate) struct Row {
     pub(crate) least: u64,
 }
 
-pub(crate) const ROWS: [Row; 9] = [
+pub(crate) const ROWS: [Row; 10] = [
     Row {
         rule: Rule::NameNotEnded,
         section: "6.2.2",
@@ -78,6 +78,13 @@ pub(crate) const ROWS: [Row; 9] = [
         section: "7.7",
         words: "a start code other than 0 and 0xDD",
         is_breach: false,
+        least: 0,
+    },
+    Row {
+        rule: Rule::OtherGroup,
+        section: "9.3.1",
+        words: "sent to another multicast group than its universe's",
+        is_breach: true,
         least: 0,
     },
 ];

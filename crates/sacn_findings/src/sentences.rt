@@ -1,10 +1,12 @@
 //! What was found, as text for people.
 
 use crate::findings::{short_ends_of, total_of, universes_of};
+use crate::list_findings::{ListFinding, SECTION, list_findings};
+use crate::namesakes::{self, namesake_at};
 use crate::rule_rows::{ROWS, Row};
-use crate::sources::{heard_for, push_source};
+use crate::sources::{heard_for, push_address, push_source};
 use sacn_audit::{Audit, AuditedStream, Breach, Rule, SourceAudit};
-use sacn_tell::{push_decimal, push_ranges, push_seconds};
+use sacn_tell::{push_decimal, push_ranges, push_seconds, push_short_cid};
 use std::alloc::{AllocError, Global};
 
 /// Pushes a block for each source, in the order in which they appeared: `"Main FOH" 0001..0f at 10.0.0.5: conforms`, or a line for each
@@ -14,7 +16,7 @@ use std::alloc::{AllocError, Global};
 pub fn push_text(alloc: Global, text: &mut String, audit: &Audit) -> Result<(), AllocError> {
     let is_whole = audit.untracked() == 0;
     for source in audit.sources() {
-        push_block(alloc, text, audit.streams(), source, is_whole)?;
+        push_block(alloc, text, audit, source, is_whole)?;
     }
     push_untracked(text, audit.untracked())
 }
@@ -22,10 +24,11 @@ pub fn push_text(alloc: Global, text: &mut String, audit: &Audit) -> Result<(), 
 fn push_block(
     alloc: Global,
     text: &mut String,
-    streams: &[AuditedStream],
+    audit: &Audit,
     source: &SourceAudit,
     is_whole: bool,
 ) -> Result<(), AllocError> {
+    let streams = audit.streams();
     push_source(text, source)?;
     text.push_str(if is_whole && conforms(streams, source) {
         ": conforms\n"
@@ -35,9 +38,15 @@ fn push_block(
     push_two_senders(text, source)?;
     for row in &ROWS {
         push_finding(alloc, text, streams, source, row)?;
-        if row.rule == Rule::ShortEnd {
-            push_short_end(alloc, text, streams, source)?;
+        match row.rule {
+            Rule::NameNotText => push_namesake(text, audit.sources(), source)?,
+            Rule::NumberLeftOut => push_one_counter(text, source)?,
+            Rule::ShortEnd => push_short_end(alloc, text, streams, source)?,
+            _ => {}
         }
+    }
+    for finding in &list_findings(source) {
+        push_list_finding(text, finding)?;
     }
     push_unseen(text, streams, source)
 }
@@ -54,7 +63,11 @@ pub(crate) fn conforms(streams: &[AuditedStream], source: &SourceAudit) -> bool 
             return false;
         }
     }
+    let [none, lacking, _] = list_findings(source);
     source.two_senders.times == 0
+        && source.one_counter.times == 0
+        && none.breach.times == 0
+        && lacking.breach.times == 0
 }
 
 // A line for a rule that was broken.
@@ -70,16 +83,26 @@ fn push_finding(
         return Ok(());
     }
     let universes = universes_of(alloc, streams, &source.cid, row.rule)?;
-    text.push_str(if row.is_breach {
+    push_rule(text, row.is_breach, row.section, row.words)?;
+    push_where(text, universes.as_slice())?;
+    push_times(text, total)
+}
+
+// The front of a line: its clause, and what breaks it.
+fn push_rule(
+    text: &mut String,
+    is_breach: bool,
+    section: &str,
+    words: &str,
+) -> Result<(), AllocError> {
+    text.push_str(if is_breach {
         "  "
     } else {
         "  seen, no breach: "
     })?;
-    text.push_str(row.section)?;
+    text.push_str(section)?;
     text.push(' ')?;
-    text.push_str(row.words)?;
-    push_where(text, universes.as_slice())?;
-    push_times(text, total)
+    text.push_str(words)
 }
 
 fn push_where(text: &mut String, universes: &[u16]) -> Result<(), AllocError> {
@@ -87,8 +110,8 @@ fn push_where(text: &mut String, universes: &[u16]) -> Result<(), AllocError> {
     push_ranges(text, universes)
 }
 
-// How often, and when: ` (60 times, the first at 3.200 s, the latest at 61.105 s)`, and the end of the line.
-fn push_times(text: &mut String, breach: Breach) -> Result<(), AllocError> {
+/// How often, and when: ` (60 times, the first at 3.200 s, the latest at 61.105 s)`, and the end of the line.
+pub(crate) fn push_times(text: &mut String, breach: Breach) -> Result<(), AllocError> {
     if breach.times == 1 {
         text.push_str(" (once, at ")?;
         push_seconds(text, breach.first)?;
@@ -109,6 +132,43 @@ fn push_two_senders(text: &mut String, source: &SourceAudit) -> Result<(), Alloc
     }
     text.push_str("  5.6 one CID at two addresses")?;
     push_times(text, source.two_senders)
+}
+
+fn push_one_counter(text: &mut String, source: &SourceAudit) -> Result<(), AllocError> {
+    if source.one_counter.times == 0 {
+        return Ok(());
+    }
+    text.push_str("  6.2.5 one counter for several universes")?;
+    push_times(text, source.one_counter)
+}
+
+// Another source of the same name: `6.2.2 the name of another source too: 4d4d..4d at 10.0.0.6`.
+fn push_namesake(
+    text: &mut String,
+    sources: &[SourceAudit],
+    source: &SourceAudit,
+) -> Result<(), AllocError> {
+    let Some(at) = namesake_at(source, sources) else {
+        return Ok(());
+    };
+    let Some(other) = sources.get(at) else {
+        return Ok(());
+    };
+    push_rule(text, false, namesakes::SECTION, namesakes::WORDS)?;
+    text.push_str(": ")?;
+    push_short_cid(text, &other.cid)?;
+    text.push_str(" at ")?;
+    push_address(text, other.address)?;
+    text.push('\n')
+}
+
+// A line for a rule of lists of universes, where it was broken.
+fn push_list_finding(text: &mut String, finding: &ListFinding) -> Result<(), AllocError> {
+    if finding.breach.times == 0 {
+        return Ok(());
+    }
+    push_rule(text, finding.is_breach, SECTION, finding.words)?;
+    push_times(text, finding.breach)
 }
 
 // Streams that have ended by too few packets, after which nothing came.
@@ -132,6 +192,11 @@ pub(crate) fn is_unseen(streams: &[AuditedStream], source: &SourceAudit, row: &R
     heard_for(source) < row.least && total_of(streams, &source.cid, row.rule).times == 0
 }
 
+/// Whether a rule of lists that wasn't broken can't be seen, since the source was heard for too short a time.
+pub(crate) fn is_list_unseen(source: &SourceAudit, finding: &ListFinding) -> bool {
+    heard_for(source) < finding.least && finding.breach.times == 0
+}
+
 // The rules that can't be seen.
 fn push_unseen(
     text: &mut String,
@@ -140,7 +205,16 @@ fn push_unseen(
 ) -> Result<(), AllocError> {
     let mut is_first = true;
     for row in &ROWS {
-        is_first = push_where_unseen(text, streams, source, row, is_first)?;
+        if is_unseen(streams, source, row) {
+            push_one_unseen(text, row.section, row.words, is_first)?;
+            is_first = false;
+        }
+    }
+    for finding in &list_findings(source) {
+        if is_list_unseen(source, finding) {
+            push_one_unseen(text, SECTION, finding.words, is_first)?;
+            is_first = false;
+        }
     }
     if is_first {
         return Ok(());
@@ -148,26 +222,21 @@ fn push_unseen(
     text.push('\n')
 }
 
-// A rule, where it can't be seen. Returns whether none stands there so far.
-fn push_where_unseen(
+// A rule that can't be seen, the first of these or a further one.
+fn push_one_unseen(
     text: &mut String,
-    streams: &[AuditedStream],
-    source: &SourceAudit,
-    row: &Row,
+    section: &str,
+    words: &str,
     is_first: bool,
-) -> Result<bool, AllocError> {
-    if !is_unseen(streams, source, row) {
-        return Ok(is_first);
-    }
+) -> Result<(), AllocError> {
     text.push_str(if is_first {
         "  can't be seen in so short a recording: "
     } else {
         "; "
     })?;
-    text.push_str(row.section)?;
+    text.push_str(section)?;
     text.push(' ')?;
-    text.push_str(row.words)?;
-    Ok(false)
+    text.push_str(words)
 }
 
 fn push_untracked(text: &mut String, untracked: u64) -> Result<(), AllocError> {

@@ -87,6 +87,19 @@ pub const WATCH_EACH: Argument<'static> = Argument {
     ..EACH
 };
 
+/// That of a watch.
+pub const WATCH_AUDIT: Argument<'static> = Argument {
+    name: "audit",
+    help: "Tells at its end which rules of ANSI E1.31-2018 the packets of each source broke, on all universes, in place of all else; with --json as objects",
+    ..FLAG
+};
+
+/// That of a gateway.
+pub const GATEWAY_AUDIT: Argument<'static> = Argument {
+    help: "Tells on standard error, once its --seconds are over, which rules of ANSI E1.31-2018 the packets of each source that it heard broke",
+    ..WATCH_AUDIT
+};
+
 pub const CAPTURE: Argument<'static> = Argument {
     name: "CAPTURE",
     help: "A recording: a file of the formats pcap or pcapng",

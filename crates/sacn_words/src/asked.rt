@@ -76,6 +76,8 @@ pub struct GatewayAsked<'a> {
     pub frames: Option<FrameForm>,
     /// Whether each line has the time of day in front.
     pub has_clock: bool,
+    /// Whether an audit of the senders is told at the end.
+    pub is_audit: bool,
 }
 
 /// What a desk is asked.
@@ -158,6 +160,8 @@ pub struct WatchAsked {
     pub has_clock: bool,
     /// Whether it hears also where another receiver has the port.
     pub is_beside: bool,
+    /// Whether what is told is an audit of the senders, at the end.
+    pub is_audit: bool,
     /// Where a page is served in place of what is printed.
     pub page: Option<SocketAddrV4>,
 }
@@ -165,7 +169,7 @@ pub struct WatchAsked {
 impl WatchAsked {
     /// Whether lines or objects are asked for, in a terminal too.
     pub fn wants_lines(&self) -> bool {
-        self.is_plain | self.has_each | self.is_json
+        self.is_plain | self.has_each | self.is_json | self.is_audit
     }
 }
 
@@ -210,10 +214,13 @@ fn gateway<'a>(words: &mut Words<'_, 'a>) -> Asked<'a> {
     words.beside("watch", "page");
     words.beside("watch", "frames");
     words.beside("watch", "clock");
+    words.beside("watch", "audit");
+    words.without("audit", "seconds");
     Asked::Gateway(GatewayAsked {
         is_watched: words.is_given("watch"),
         frames: words.word("frames").map(frame_form),
         has_clock: words.is_given("clock"),
+        is_audit: words.is_given("audit"),
         seconds: words.seconds(),
         listen: words.value("listen", host).unwrap_or(Ipv4Addr::UNSPECIFIED),
         from: words.values("from", sender),
@@ -329,6 +336,9 @@ fn watch<'a>(words: &mut Words<'_, 'a>) -> Asked<'a> {
     words.beside("json", "clock");
     words.beside("json", "each");
     words.without("clock", "plain");
+    words.beside("page", "audit");
+    words.beside("plain", "audit");
+    words.beside("each", "audit");
     Asked::Watch(WatchAsked {
         listen,
         port,
@@ -340,6 +350,7 @@ fn watch<'a>(words: &mut Words<'_, 'a>) -> Asked<'a> {
         has_each: words.is_given("each"),
         has_clock: words.is_given("clock"),
         is_beside: words.is_given("beside"),
+        is_audit: words.is_given("audit"),
     })
 }
 

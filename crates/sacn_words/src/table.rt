@@ -1,8 +1,8 @@
 //! The table of the commands and their arguments. Help, manual and completions are made from it.
 use crate::arguments::{
-    CLOCK, DESK_PAGE, DESK_SCRIPT_HELP, FIRST, FLAG, FRAMES, HELP, HELP_LETTER, JOIN, JSON, KEY,
-    KEY_FILE, LISTEN, OPERAND, OPTION, PAGE, SCRIPT_HELP, SECONDS, SETUP, SHOW, TURNS, WATCH_CLOCK,
-    WATCH_EACH,
+    CLOCK, DESK_PAGE, DESK_SCRIPT_HELP, FIRST, FLAG, FRAMES, GATEWAY_AUDIT, HELP, HELP_LETTER, JOIN,
+    JSON, KEY, KEY_FILE, LISTEN, OPERAND, OPTION, PAGE, SCRIPT_HELP, SECONDS, SETUP, SHOW, TURNS,
+    WATCH_AUDIT, WATCH_CLOCK, WATCH_EACH,
 };
 use crate::manual::{Argument, ArgumentKind, SHELL_WORDS, SHELLS, Subcommand};
 use crate::recordings::{AUDIT, EXPLAIN};
@@ -108,6 +108,7 @@ const GATEWAY: Subcommand<'static> = Subcommand {
             help: "Shows what it hears on this terminal, in place of the frames",
             ..FLAG
         },
+        GATEWAY_AUDIT,
         FRAMES,
         CLOCK,
         SECONDS,
@@ -225,6 +226,7 @@ const WATCH: Subcommand<'static> = Subcommand {
         },
         WATCH_EACH,
         WATCH_CLOCK,
+        WATCH_AUDIT,
         PAGE,
         Argument {
             name: "beside",

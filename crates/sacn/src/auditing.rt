@@ -1,0 +1,134 @@
+//! An audit of what is heard as it comes.
+use crate::explain::form_of;
+use sacn_audit::Audit;
+use sacn_findings::{push_objects, push_text, push_unread, push_unread_objects};
+use sacn_monitor::Endpoint;
+use sacn_packets::{Packet, Reading};
+use sacn_tell::Form;
+use sacn_watch::{WatchFault, Watcher};
+use std::alloc::{AllocError, Global};
+
+/// An audit of what is heard, and what else takes it.
+#[derive(Drop)]
+pub struct Auditing<'w, W> {
+    audit: Audit,
+    viewers: &'w mut W,
+}
+
+impl<'w, W: Watcher> Auditing<'w, W> {
+    /// Nothing was heard yet.
+    ///
+    /// Errors: a request for memory was refused.
+    pub fn new(alloc: Global, viewers: &'w mut W) -> Result<Self, AllocError> {
+        Ok(Auditing {
+            audit: Audit::new(alloc)?,
+            viewers,
+        })
+    }
+
+    /// What was found so far: for each source the rules that its packets broke, as text or as objects of JSON.
+    ///
+    /// Errors: a request for memory was refused.
+    pub fn findings(&self, alloc: Global, is_json: bool) -> Result<String, AllocError> {
+        findings_of(alloc, &self.audit, form_of(is_json))
+    }
+}
+
+/// What an audit found, in a form.
+///
+/// Errors: a request for memory was refused.
+pub fn findings_of(alloc: Global, audit: &Audit, form: Form) -> Result<String, AllocError> {
+    let mut text = String::new(alloc);
+    match form {
+        Form::Json => {
+            push_objects(alloc, &mut text, audit)?;
+            push_unread_objects(&mut text, audit)?;
+        }
+        Form::Text => {
+            push_text(alloc, &mut text, audit)?;
+            if audit.sources().is_empty() {
+                text.push_str("no packets of streaming ACN\n")?;
+            }
+            push_unread(&mut text, audit)?;
+        }
+    }
+    Ok(text)
+}
+
+/// Audits what a datagram was read as: it came at a moment from an IPv4 address, and was sent to another one.
+pub fn hear(
+    audit: &mut Audit,
+    now: u64,
+    sender: [u8; 4],
+    destination: [u8; 4],
+    reading: &Reading<'_>,
+) {
+    match reading {
+        Ok(Packet::DataPacket(packet)) => audit.hear(now, sender, destination, packet),
+        Ok(Packet::PagePacket(page)) => audit.hear_page(now, sender, page),
+        Ok(Packet::SyncPacket) => {}
+        Err(fault) => audit.hear_refused(now, sender, *fault),
+    }
+}
+
+/// Where a datagram that is heard live was sent: that isn't known, and this is no group's address.
+const UNKNOWN: [u8; 4] = [0; 4];
+
+impl<'w, W: Watcher> Watcher for Auditing<'w, W> {
+    fn take(
+        &mut self,
+        now: u64,
+        sender: Endpoint,
+        reading: &Reading<'_>,
+    ) -> Result<(), WatchFault> {
+        hear(&mut self.audit, now, sender.address, UNKNOWN, reading);
+        self.viewers.take(now, sender, reading)
+    }
+
+    fn note_stop(&mut self, now: u64, millis: u64) -> Result<(), WatchFault> {
+        self.viewers.note_stop(now, millis)
+    }
+
+    fn show(&mut self, now: u64) -> Result<(), WatchFault> {
+        self.viewers.show(now)
+    }
+
+    fn wakes(&self) -> u64 {
+        self.viewers.wakes()
+    }
+
+    fn end(&mut self, now: u64) -> Result<(), WatchFault> {
+        self.viewers.end(now)
+    }
+}
+
+/// Nobody looks.
+#[derive(Drop)]
+pub struct Unviewed;
+
+impl Watcher for Unviewed {
+    fn take(
+        &mut self,
+        _now: u64,
+        _sender: Endpoint,
+        _reading: &Reading<'_>,
+    ) -> Result<(), WatchFault> {
+        Ok(())
+    }
+
+    fn note_stop(&mut self, _now: u64, _millis: u64) -> Result<(), WatchFault> {
+        Ok(())
+    }
+
+    fn show(&mut self, _now: u64) -> Result<(), WatchFault> {
+        Ok(())
+    }
+
+    fn wakes(&self) -> u64 {
+        u64::MAX
+    }
+
+    fn end(&mut self, _now: u64) -> Result<(), WatchFault> {
+        Ok(())
+    }
+}
