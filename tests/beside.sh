@@ -1,5 +1,5 @@
 #!/usr/bin/env bash
-# Starts watches beside a gateway that a desk lights, on loopback: none takes its packets away.
+# Starts watches and gateways beside a gateway that a desk lights, on loopback: none takes its packets away.
 # Prints a line 'ok NAME' or 'not ok NAME: why' for each, and 'N passed, M failed' at the end. It takes the built program: crates/sacn/out/sacn, or
 # the path in SACN.
 set -u
@@ -47,6 +47,18 @@ for try in $(seq 20); do
 done
 verdict "each of twenty watches ends with status 4 and says why" "$others" "$others of them: status $status, $(head -n 1 refused)"
 
+others=0
+for try in $(seq 20); do
+  form=
+  [ $((try % 4)) = 0 ] && form="--listen 127.0.0.1"
+  [ $((try % 4)) = 1 ] && form="--page 127.0.0.1:25852"
+  # shellcheck disable=SC2086
+  "$sacn" gateway node.toml $form --seconds 3 </dev/null >told 2>refused
+  status=$?
+  { [ $status = 4 ] && [ ! -s told ] && [ "$(wc -l <refused)" = 1 ] && grep -q "^port $port has a receiver on this machine: .* this gateway would take it away\. .*; or add --beside here" refused; } || others=$((others + 1))
+done
+verdict "each of twenty further gateways ends with status 4 and says why" "$others" "$others of them: status $status, $(head -n 1 refused)"
+
 # (2500 ms after a packet went elsewhere its source would be lost)
 "$sacn" watch --port 25853 --plain --seconds 4 </dev/zero >free 2>hears
 verdict "a watch of a free port hears" $? "$(head -n 1 hears)"
@@ -55,6 +67,8 @@ verdict "the gateway is lit as before" $? "$(tail -n 2 said)"
 
 "$sacn" watch --port $port --beside --plain --seconds 1 </dev/zero >told 2>hears && grep -q "^hears 0.0.0.0:$port" hears
 verdict "with --beside a watch shares the port" $? "$(head -n 1 hears)"
+"$sacn" gateway node.toml --beside --seconds 1 >told 2>hears && grep -q "^hears 0.0.0.0:$port" hears
+verdict "with --beside a gateway shares the port" $? "$(head -n 1 hears)"
 
 # (what joins groups for a watch hears lists at that port, which takes nothing of what is sent to this machine)
 join=$top/release/$(uname -m)-linux/sacn-join

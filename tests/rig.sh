@@ -100,7 +100,7 @@ def shared():
     s.bind(("0.0.0.0", 25803))
     return s
 first = shared()
-after = subprocess.run([sys.argv[1], "gateway", sys.argv[2], "--seconds", "1"], capture_output=True).returncode
+after = subprocess.run([sys.argv[1], "gateway", sys.argv[2], "--beside", "--seconds", "1"], capture_output=True).returncode
 first.close()
 running = subprocess.Popen([sys.argv[1], "gateway", sys.argv[2], "--seconds", "2"], stdout=subprocess.PIPE, stderr=subprocess.PIPE)
 running.stderr.readline()

@@ -2,6 +2,7 @@
 use crate::auditing::{Auditing, Unviewed};
 use crate::frames::{Unprinted, lines_of, run_printing};
 use crate::keys::ScreenKeys;
+use crate::port::{Sharer, keep_alone};
 use crate::screen::{hands_keys, screen_of, size_file};
 use crate::shown::Shown;
 use crate::source_lines::Spoken;
@@ -67,6 +68,19 @@ fn gateway_on<'a, R: AllocGlobal + Files + Env + Net + Clock, I: Read + Drop>(
     }
 }
 
+// The socket at which setups are heard. No other receiver has the port, unless the gateway is to hear beside one.
+fn own_receiver<'a, R: AllocGlobal + Net + Clock, E: Write>(
+    rt: &'a R,
+    asked: &GatewayAsked<'_>,
+    setups: &[NodeSetup],
+    err: &mut E,
+) -> Result<UdpReceiver<'a, R>, Ending> {
+    if !asked.is_beside {
+        keep_alone(rt, address_of(asked, setups), Sharer::Gateway, err)?;
+    }
+    receiver_of(rt, asked, setups, err)
+}
+
 // Runs a gateway that serves no page. (Out of line, as the next two: no other command's stack has room for it.)
 #[inline(never)]
 fn run_alone<'a, R: AllocGlobal + Env + Net + Clock>(
@@ -75,7 +89,7 @@ fn run_alone<'a, R: AllocGlobal + Env + Net + Clock>(
     setups: &[NodeSetup],
     (outputs, joined): (&TimedOutputs<'a, R>, Option<String>),
 ) -> Result<(), Ending> {
-    let mut receiver = receiver_of(rt, asked, setups, &mut outputs.err())?;
+    let mut receiver = own_receiver(rt, asked, setups, &mut outputs.err())?;
     receiver.tend(outputs.outputs, joined, outputs.front_in(SILENT_START));
     let mut spoken = spoken_of(rt, &receiver, outputs)?;
     let run = run_printing(rt, asked, setups, &mut receiver, &mut spoken, outputs);
@@ -91,7 +105,7 @@ fn run_audited<'a, R: AllocGlobal + Env + Net + Clock>(
     setups: &[NodeSetup],
     (outputs, joined): (&TimedOutputs<'a, R>, Option<String>),
 ) -> Result<(), Ending> {
-    let mut receiver = receiver_of(rt, asked, setups, &mut outputs.err())?;
+    let mut receiver = own_receiver(rt, asked, setups, &mut outputs.err())?;
     receiver.tend(outputs.outputs, joined, outputs.front_in(SILENT_START));
     run_viewed(rt, asked, setups, &mut receiver, &mut Unviewed, "audit", outputs)
 }
@@ -141,7 +155,7 @@ fn run_shown<'a, R: AllocGlobal + Env + Net + Clock>(
     let board = Board::new(rt.alloc(), None, MAX_ALARMS)?;
     let pages = Pages::bind(rt, rt.alloc(), place, board);
     let mut pages = of_socket(pages, place, &mut outputs.err())?;
-    let mut receiver = receiver_of(rt, asked, setups, &mut outputs.err())?;
+    let mut receiver = own_receiver(rt, asked, setups, &mut outputs.err())?;
     receiver.tend(outputs.outputs, joined, outputs.front_in(SILENT_START));
     receiver.wait_beside(pages.descriptor());
     say_page(place, &mut outputs.err());
@@ -157,7 +171,7 @@ fn run_on_screen<'a, R: AllocGlobal + Files + Env + Net + Clock>(
     keys: &'a TypedKeys,
     (outputs, joined): (&TimedOutputs<'a, R>, Option<String>),
 ) -> Result<(), Ending> {
-    let mut receiver = receiver_of(rt, asked, setups, &mut outputs.err())?;
+    let mut receiver = own_receiver(rt, asked, setups, &mut outputs.err())?;
     receiver.tend(outputs.outputs, joined, outputs.front_in(SILENT_START));
     let universe = universes_of_setups(rt, setups)?.first().copied();
     let size_file = size_file(rt);

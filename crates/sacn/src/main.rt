@@ -12,6 +12,7 @@ mod keys;
 mod manual;
 mod page;
 mod piped;
+mod port;
 mod program;
 mod recent_deeds;
 mod recording;

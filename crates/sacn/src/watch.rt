@@ -3,10 +3,11 @@ use crate::heard::tell_heard;
 use crate::keys::ScreenKeys;
 use crate::page::serve;
 use crate::piped::Piped;
+use crate::port::{Sharer, keep_alone};
 use crate::screen::{hands_keys, show};
 use crate::timed::{Age, TimedOutputs, timing_of, zone_of};
 use sacn_clock::Present;
-use sacn_commands::ending::{DEVICE_FAILED, Ending};
+use sacn_commands::ending::Ending;
 use sacn_commands::live::{clock_of, joined_groups, of_socket, say_hearing};
 use sacn_machine::limits::SILENT_START;
 use sacn_machine::{
@@ -16,8 +17,8 @@ use sacn_machine::{
 use sacn_watch::{Leaving, LeavingListener, RunningListener, WatchFault};
 use sacn_words::{WatchAsked, moment_of};
 use std::env::Env;
-use std::io::{ErrorKind, Write};
-use std::net::{Ipv4Addr, Net, SocketAddrV4, UdpSocket};
+use std::io::Write;
+use std::net::{Net, SocketAddrV4};
 use std::rt::{Clock, Files};
 
 /// What came of a watch, where its fault ends the run.
@@ -184,42 +185,6 @@ fn tell_on<'a, R: AllocGlobal + Net + Clock, O: Write, L: Write>(
     ))
 }
 
-/// An address of the machine's own (RFC 1122, 3.2.1.3) at which nothing listens alone.
-const UNUSED: [u8; 4] = [127, 255, 255, 254];
-
-// Whether another receiver would lose packets to one at this address: where that is all of the machine's, one that has all of them, too.
-// What is bound to one address, or to a group, keeps what is sent there.
-fn is_taken<R: Net>(rt: &R, address: SocketAddrV4) -> bool {
-    let port = address.port();
-    if *address.ip() != Ipv4Addr::UNSPECIFIED {
-        return probe(rt, *address.ip(), port) == Some(ErrorKind::AddrInUse);
-    }
-    match probe(rt, Ipv4Addr::from_octets(UNUSED), port) {
-        // (a machine without a loopback)
-        Some(ErrorKind::AddrNotAvailable) => {
-            probe(rt, Ipv4Addr::UNSPECIFIED, port) == Some(ErrorKind::AddrInUse)
-        }
-        fault => fault == Some(ErrorKind::AddrInUse),
-    }
-}
-
-// Why a socket that shares nothing doesn't get this port. One that gets it is closed at once.
-fn probe<R: Net>(rt: &R, address: Ipv4Addr, port: u16) -> Option<ErrorKind> {
-    match UdpSocket::bind(rt, (address, port)) {
-        Ok(_) => None,
-        Err(error) => Some(error.kind()),
-    }
-}
-
-// Says that another receiver has the port, and what to do.
-fn say_taken<E: Write>(port: u16, err: &mut E) -> Ending {
-    let _ = writeln!(
-        err,
-        "port {port} has a receiver on this machine: of what is sent to this machine alone each stream goes to one receiver, so a watch would take it away. Start the gateway with --page PORT or --watch; or add --beside here, where all comes by multicast"
-    );
-    Ending::Said(DEVICE_FAILED)
-}
-
 /// Hears at a place, for as long as standard input goes on. Where another receiver has the port, that is said, and ends the run, but
 /// where the watch was asked to hear beside it.
 pub fn receiver_at<'a, R: Net + Clock, E: Write>(
@@ -227,8 +192,8 @@ pub fn receiver_at<'a, R: Net + Clock, E: Write>(
     place: Place,
     err: &mut E,
 ) -> Result<UdpReceiver<'a, R>, Ending> {
-    if !place.is_beside && is_taken(rt, place.address) {
-        return Err(say_taken(place.address.port(), err));
+    if !place.is_beside {
+        keep_alone(rt, place.address, Sharer::Watch, err)?;
     }
     let bound = UdpReceiver::bind(rt, place.address, clock_of(rt)?);
     let mut receiver = of_socket(bound, place.address, err)?;

@@ -87,6 +87,12 @@ pub const WATCH_EACH: Argument<'static> = Argument {
     ..EACH
 };
 
+pub const BESIDE: Argument<'static> = Argument {
+    name: "beside",
+    help: "Hears also where another receiver of this machine has the port, as where all comes by multicast: what is sent to this machine alone goes to one of them",
+    ..FLAG
+};
+
 /// That of a watch.
 pub const WATCH_AUDIT: Argument<'static> = Argument {
     name: "audit",

@@ -78,6 +78,8 @@ pub struct GatewayAsked<'a> {
     pub has_clock: bool,
     /// Whether an audit of the senders is told at the end.
     pub is_audit: bool,
+    /// Whether it hears also where another receiver has the port.
+    pub is_beside: bool,
 }
 
 /// What a desk is asked.
@@ -221,6 +223,7 @@ fn gateway<'a>(words: &mut Words<'_, 'a>) -> Asked<'a> {
         frames: words.word("frames").map(frame_form),
         has_clock: words.is_given("clock"),
         is_audit: words.is_given("audit"),
+        is_beside: words.is_given("beside"),
         seconds: words.seconds(),
         listen: words.value("listen", host).unwrap_or(Ipv4Addr::UNSPECIFIED),
         from: words.values("from", sender),

@@ -1,8 +1,8 @@
 //! The table of the commands and their arguments. Help, manual and completions are made from it.
 use crate::arguments::{
-    CLOCK, DESK_PAGE, DESK_SCRIPT_HELP, FIRST, FLAG, FRAMES, GATEWAY_AUDIT, HELP, HELP_LETTER, JOIN,
-    JSON, KEY, KEY_FILE, LISTEN, OPERAND, OPTION, PAGE, SCRIPT_HELP, SECONDS, SETUP, SHOW, TURNS,
-    WATCH_AUDIT, WATCH_CLOCK, WATCH_EACH,
+    BESIDE, CLOCK, DESK_PAGE, DESK_SCRIPT_HELP, FIRST, FLAG, FRAMES, GATEWAY_AUDIT, HELP,
+    HELP_LETTER, JOIN, JSON, KEY, KEY_FILE, LISTEN, OPERAND, OPTION, PAGE, SCRIPT_HELP, SECONDS,
+    SETUP, SHOW, TURNS, WATCH_AUDIT, WATCH_CLOCK, WATCH_EACH,
 };
 use crate::manual::{Argument, ArgumentKind, SHELL_WORDS, SHELLS, Subcommand};
 use crate::recordings::{AUDIT, EXPLAIN};
@@ -109,6 +109,7 @@ const GATEWAY: Subcommand<'static> = Subcommand {
             ..FLAG
         },
         GATEWAY_AUDIT,
+        BESIDE,
         FRAMES,
         CLOCK,
         SECONDS,
@@ -228,11 +229,7 @@ const WATCH: Subcommand<'static> = Subcommand {
         WATCH_CLOCK,
         WATCH_AUDIT,
         PAGE,
-        Argument {
-            name: "beside",
-            help: "Hears also where another receiver of this machine has the port, as where all comes by multicast: what is sent to this machine alone goes to one of them",
-            ..FLAG
-        },
+        BESIDE,
         HELP_LETTER,
         HELP,
     ],
