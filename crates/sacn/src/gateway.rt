@@ -107,7 +107,15 @@ fn run_audited<'a, R: AllocGlobal + Env + Net + Clock>(
 ) -> Result<(), Ending> {
     let mut receiver = own_receiver(rt, asked, setups, &mut outputs.err())?;
     receiver.tend(outputs.outputs, joined, outputs.front_in(SILENT_START));
-    run_viewed(rt, asked, setups, &mut receiver, &mut Unviewed, "audit", outputs)
+    run_viewed(
+        rt,
+        asked,
+        setups,
+        &mut receiver,
+        &mut Unviewed,
+        "audit",
+        outputs,
+    )
 }
 
 // Runs a gateway that prints its frames, with these who view what it hears, and an audit of that where one is asked for.
@@ -159,7 +167,15 @@ fn run_shown<'a, R: AllocGlobal + Env + Net + Clock>(
     receiver.tend(outputs.outputs, joined, outputs.front_in(SILENT_START));
     receiver.wait_beside(pages.descriptor());
     say_page(place, &mut outputs.err());
-    run_viewed(rt, asked, setups, &mut receiver, &mut pages, "page", outputs)
+    run_viewed(
+        rt,
+        asked,
+        setups,
+        &mut receiver,
+        &mut pages,
+        "page",
+        outputs,
+    )
 }
 
 // Runs a gateway that shows what it hears on the terminal at standard output, in place of its frames.
