@@ -10,16 +10,16 @@ use std::alloc::{AllocError, Global};
 
 /// An audit of what is heard, and what else takes it.
 #[derive(Drop)]
-pub struct Auditing<'w, W> {
+pub struct Auditing<W> {
     audit: Audit,
-    viewers: &'w mut W,
+    viewers: W,
 }
 
-impl<'w, W: Watcher> Auditing<'w, W> {
+impl<W: Watcher + Drop> Auditing<W> {
     /// Nothing was heard yet.
     ///
     /// Errors: a request for memory was refused.
-    pub fn new(alloc: Global, viewers: &'w mut W) -> Result<Self, AllocError> {
+    pub fn new(alloc: Global, viewers: W) -> Result<Self, AllocError> {
         Ok(Auditing {
             audit: Audit::new(alloc)?,
             viewers,
@@ -74,7 +74,7 @@ pub fn hear(
 /// Where a datagram that is heard live was sent: that isn't known, and this is no group's address.
 const UNKNOWN: [u8; 4] = [0; 4];
 
-impl<'w, W: Watcher> Watcher for Auditing<'w, W> {
+impl<W: Watcher + Drop> Watcher for Auditing<W> {
     fn take(
         &mut self,
         now: u64,

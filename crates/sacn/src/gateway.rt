@@ -107,44 +107,42 @@ fn run_audited<'a, R: AllocGlobal + Env + Net + Clock>(
 ) -> Result<(), Ending> {
     let mut receiver = own_receiver(rt, asked, setups, &mut outputs.err())?;
     receiver.tend(outputs.outputs, joined, outputs.front_in(SILENT_START));
-    run_viewed(
-        rt,
-        asked,
-        setups,
-        &mut receiver,
-        &mut Unviewed,
-        "audit",
-        outputs,
-    )
+    audit_beside(rt, asked, setups, &mut receiver, Unviewed, outputs)
 }
 
-// Runs a gateway that prints its frames, with these who view what it hears, and an audit of that where one is asked for.
+// Runs a gateway that prints its frames, with these who view what it hears.
 fn run_viewed<'a, R: AllocGlobal + Env + Net + Clock, W: Watcher>(
     rt: &'a R,
     asked: &GatewayAsked<'_>,
     setups: &[NodeSetup],
     receiver: &mut UdpReceiver<'a, R>,
     viewers: &mut W,
-    name: &'static str,
     outputs: &TimedOutputs<'a, R>,
 ) -> Result<(), Ending> {
     let spoken = spoken_of(rt, receiver, outputs)?;
-    if !asked.is_audit {
-        let mut shown = Shown::new(spoken, viewers, name, outputs.err());
-        let run = run_printing(rt, asked, setups, receiver, &mut shown, outputs);
-        shown.end();
-        return run;
-    }
-    let mut auditing = Auditing::new(rt.alloc(), viewers)?;
-    let mut shown = Shown::new(spoken, &mut auditing, name, outputs.err());
+    let mut shown = Shown::new(spoken, viewers, "page", outputs.err());
     let run = run_printing(rt, asked, setups, receiver, &mut shown, outputs);
     shown.end();
+    run
+}
+
+// The same, and says at the end what an audit of what it heard found.
+fn audit_beside<'a, R: AllocGlobal + Env + Net + Clock, W: Watcher + Drop>(
+    rt: &'a R,
+    asked: &GatewayAsked<'_>,
+    setups: &[NodeSetup],
+    receiver: &mut UdpReceiver<'a, R>,
+    viewers: W,
+    outputs: &TimedOutputs<'a, R>,
+) -> Result<(), Ending> {
+    let mut auditing = Auditing::new(rt.alloc(), viewers)?;
+    let run = run_viewed(rt, asked, setups, receiver, &mut auditing, outputs);
     say_findings(rt.alloc(), &auditing, &mut outputs.err());
     run
 }
 
 // Says what an audit found.
-fn say_findings<W: Watcher, E: Write>(alloc: Global, auditing: &Auditing<'_, W>, err: &mut E) {
+fn say_findings<W: Watcher + Drop, E: Write>(alloc: Global, auditing: &Auditing<W>, err: &mut E) {
     let _ = match auditing.findings(alloc, false) {
         Ok(text) => err.write_all(text.as_str().as_bytes()),
         Err(AllocError) => writeln!(err, "audit OutOfMemory"),
@@ -167,15 +165,10 @@ fn run_shown<'a, R: AllocGlobal + Env + Net + Clock>(
     receiver.tend(outputs.outputs, joined, outputs.front_in(SILENT_START));
     receiver.wait_beside(pages.descriptor());
     say_page(place, &mut outputs.err());
-    run_viewed(
-        rt,
-        asked,
-        setups,
-        &mut receiver,
-        &mut pages,
-        "page",
-        outputs,
-    )
+    if asked.is_audit {
+        return audit_beside(rt, asked, setups, &mut receiver, pages, outputs);
+    }
+    run_viewed(rt, asked, setups, &mut receiver, &mut pages, outputs)
 }
 
 // Runs a gateway that shows what it hears on the terminal at standard output, in place of its frames.

@@ -40,8 +40,7 @@ fn tell_audit<I: Listener, O: Write>(
     until: u64,
     out: &mut O,
 ) -> Result<(), WatchFault> {
-    let mut unviewed = Unviewed;
-    let mut auditing = Auditing::new(alloc, &mut unviewed)?;
+    let mut auditing = Auditing::new(alloc, Unviewed)?;
     run_watch(listener, &mut auditing, until)?;
     let text = auditing.findings(alloc, asked.is_json)?;
     of_output(out.write_all(text.as_str().as_bytes()))?;
