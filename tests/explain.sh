@@ -463,12 +463,12 @@ E
 cat >events.tables <<E
 
 universe state    priority      first       last     taken   preview     other   skipped      late  repeated   gap ms  source
-       1 lost          120      0.000      3.000         7         0         0         4         1         1     2500  $A "Main" at 10.0.0.2:5000
+       1 lost          120      0.000      3.000         7         0         0         3         1         1     2500  $A "Main" at 10.0.0.2:5000
        1 lost          121      0.600      0.900         4         0         0         0         0         0      100  $B "Spare" at 10.0.0.3:5000
        2 lost          100      0.950      0.950         1         1         0         0         0         0        0  $B "Spare" at 10.0.0.3:5000
 
 universe  sources  sending     taken   skipped discarded
-       1        2        0        11         4         2
+       1        2        0        11         3         2
        2        1        0         1         0         0
 
 lists of universes

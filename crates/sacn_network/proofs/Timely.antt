@@ -12,7 +12,8 @@ use Rattle.sacn_monitor.specs.declared.account.Account.{Account}
 use Rattle.sacn_monitor.specs.declared.account.Endpoint.{Endpoint}
 use Rattle.sacn_monitor.specs.declared.limits.TheConstants.{MAX_STREAMS}
 use Rattle.sacn_monitor.specs.declared.stream.Stream.{Stream}
-use Rattle.sacn_monitor.specs.Accounts.{after_discarded, after_taken, first_account, is_discarded}
+use Rattle.sacn_monitor.specs.Accounts.{after_discarded, after_late, after_taken, first_account, is_discarded, is_found}
+use Rattle.sacn_monitor.specs.Numberings.{ahead_of, digit}
 use Rattle.sacn_monitor.specs.Kinds.{more}
 use Rattle.sacn_monitor.specs.Streams.{falls_silent, first_stream, loss_of, stream_after}
 use Rattle.sacn_monitor.specs.Books.{Book, after_data, after_read, after_tick, changed, next_loss, place_of, silent_place, told_at, untracked, with_datagram, with_told}
@@ -157,13 +158,18 @@ first_of : (a b : Bool) → a && b ≡ true → a ≡ true
 first_of true b e = refl
 first_of false b e = absurd cc
 
+found_soon : (t : ℕ) (found : Bool) (skipped missing : ℕ) (s : Stream) (a : Account) → t ≤ lost_by a.ended a.latest → t ≤ loss_of (with_account s (cond found (record a { skipped = skipped; missing = missing }) a))
+found_soon t true skipped missing s a still = still
+found_soon t false skipped missing s a still = still
+
 discarded_soon : (t : ℕ) (d : Data) (s : Stream) → t ≤ 2 ^ 64 - 1 → is_discarded t d s.account ≡ true → t ≤ loss_of (with_account s (after_discarded d.number s.account))
 discarded_soon t d s held is =
     let young = ltb-true (t - s.account.latest) NETWORK_DATA_LOSS (first_of _ _ is) in
     let still : t ≤ lost_by s.account.ended s.account.latest = lost_later t s.account.latest s.account.ended held young in
-    elim (d.number == s.account.sequence_number) as (λ b. t ≤ loss_of (with_account s (cond b (record s.account { repeats = more 1 s.account.repeats }) (record s.account { late = more 1 s.account.late })))) [
+    let late : Account = record s.account { late = more 1 s.account.late } in
+    elim (d.number == s.account.sequence_number) as (λ b. t ≤ loss_of (with_account s (cond b (record s.account { repeats = more 1 s.account.repeats }) (after_late d.number s.account)))) [
       | true ↦ still
-      | false ↦ still
+      | false ↦ found_soon t (is_found d.number late) (late.skipped - 1) (late.missing - digit (ahead_of d.number late.sequence_number)) s late still
     ]
 
 taken_soon : (t : ℕ) (sender : Endpoint) (d : Data) (s : Stream) → t ≤ 2 ^ 64 - 1 → t ≤ loss_of (with_account s (after_taken t sender d s.account))
