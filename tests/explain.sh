@@ -268,6 +268,11 @@ def page(cid, name, numbers, page=0, last=0):
 def sync():
     return root(8, A, struct.pack(">HIBHH", 0x700b, 1, 0, 0, 0))
 
+def carried(host, payload, port=5568, fragment=0):
+    udp = struct.pack(">HHHH", 5000, port, 8 + len(payload), 0) + payload
+    ip = struct.pack(">BBHHHBBH", 0x45, 0, 20 + len(udp), 0, fragment, 64, 17, 0) + bytes([10, 0, 0, host, 239, 255, 0, 1])
+    return bytes(12) + b"\x08\0" + ip + udp
+
 class Recording:
     def __init__(self, path):
         self.file = open(path, "wb")
@@ -278,9 +283,7 @@ class Recording:
         self.file.write(struct.pack("<IIII", 1000 + moment // 1000, moment % 1000 * 1000, kept, len(octets)) + octets[:kept])
 
     def sent(self, moment, host, payload, port=5568, kept=None, fragment=0):
-        udp = struct.pack(">HHHH", 5000, port, 8 + len(payload), 0) + payload
-        ip = struct.pack(">BBHHHBBH", 0x45, 0, 20 + len(udp), 0, fragment, 64, 17, 0) + bytes([10, 0, 0, host, 239, 255, 0, 1])
-        self.frame(moment, bytes(12) + b"\x08\0" + ip + udp, kept)
+        self.frame(moment, carried(host, payload, port, fragment), kept)
 
 def events(path):
     r = Recording(path)
@@ -396,6 +399,17 @@ def interface(link, options=b""):
 def enhanced(micros, octets, number=0):
     return block(6, struct.pack("<IIIII", number, micros >> 32, micros & 0xffffffff, len(octets), len(octets)) + octets)
 
+# A frame without a moment: the simple packet of a section's first interface.
+def simple(octets):
+    return block(3, struct.pack("<I", len(octets)) + octets)
+
+# Two frames without a moment, one of second 1000, one a tenth of a second later, and one more without.
+def unstamped(path):
+    frames = [carried(1, data(A, b"Main", 1, number, b"\1")) for number in range(5)]
+    with open(path, "wb") as file:
+        file.write(section() + interface(1) + simple(frames[0]) + simple(frames[1]))
+        file.write(enhanced(1000000000, frames[2]) + enhanced(1000100000, frames[3]) + simple(frames[4]))
+
 # Two interfaces: one of a link that is none of those that are read (147, which is left to users), and one of Ethernet. Two frames of the first, one of ARP of the second.
 def links(path):
     with open(path, "wb") as file:
@@ -416,9 +430,9 @@ def elsewhere(path):
     r.sent(0, 2, data(B, b"Spare", 9, 0, b"\x40"))
     r.sent(3000, 9, b"z", port=53)
 
-{"events": events, "many": many, "listings": listings, "silent": silent, "pair": pair, "strays": strays, "previews": previews, "unread": unread, "links": links, "back": back, "elsewhere": elsewhere, "behind": behind}[sys.argv[1]](sys.argv[2])
+{"events": events, "many": many, "listings": listings, "silent": silent, "pair": pair, "strays": strays, "previews": previews, "unread": unread, "unstamped": unstamped, "links": links, "back": back, "elsewhere": elsewhere, "behind": behind}[sys.argv[1]](sys.argv[2])
 P
-for name in events many listings silent pair strays previews unread links back elsewhere behind; do python3 recordings.py "$name" "$name.pcap" || exit 1; done
+for name in events many listings silent pair strays previews unread unstamped links back elsewhere behind; do python3 recordings.py "$name" "$name.pcap" || exit 1; done
 
 A=aaaaaaaaaaaaaaaaaaaaaaaaaaaaaaaa
 B=bbbbbbbbbbbbbbbbbbbbbbbbbbbbbbbb
@@ -635,6 +649,15 @@ before_tables() {
 }
 before_tables "what couldn't be read" unread.lines 9 '"cut":3,"fragments":1,"ipv6":2,"wrong_ipv4":1,"other_links":0,"too_long":1' unread.pcap
 before_tables "frames of an unknown link" links.lines 3 '"cut":0,"fragments":0,"ipv6":0,"wrong_ipv4":0,"other_links":2,"too_long":0' links.pcap
+# Frames before the first moment are at it: a recording begins there, and nothing is silent before.
+timed 1000000 >unstamped.json <<E
+{"ms":0,"event":"incident","act":"appeared","cid":"$A","name":"Main","universes":[1],"first":0,"latest":0,"times":1}
+{"ms":0,"event":"appeared","universe":1,"cid":"$A","name":"Main","address":"10.0.0.1","port":5000,"priority":100}
+{"row":"source","universe":1,"cid":"$A","name":"Main","address":"10.0.0.1","port":5000,"state":"sending","priority":100,"first":0,"last":100,"live":5,"preview":0,"terminated":0,"other":0,"skipped":0,"late":0,"repeated":0,"gap":100,"last_second":0}
+{"row":"universe","universe":1,"sources":1,"sending":1,"taken":5,"skipped":0,"discarded":0}
+{"row":"counts","datagrams":5,"refused":0,"pages":0,"pages_untracked":0,"synchronization":0,"untracked":0,"other_ports":0,"other_frames":0,"went_back":0,"cut":0,"fragments":0,"ipv6":0,"wrong_ipv4":0,"other_links":0,"too_long":0,"ms":100}
+E
+tells "frames before the first moment" 0 "" unstamped.json unstamped.pcap --json
 # A frame that is earlier than the first one went back in time, too.
 "$sacn" explain back.pcap </dev/null 2>err | grep -qx 'frames with an earlier moment  1' && echo "ok explain: a frame that is earlier than the first" || echo "not ok explain: a frame that is earlier than the first: $("$sacn" explain back.pcap </dev/null 2>&1 | tail -n 1)"
 
