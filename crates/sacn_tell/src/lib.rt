@@ -26,7 +26,6 @@ mod stream_rows;
 mod table_rows;
 mod tables;
 mod teller;
-mod twice;
 
 pub use event_words::{
     NamedSource, begin as begin_line, push_named_source, push_seconds, push_short_cid, push_stop,

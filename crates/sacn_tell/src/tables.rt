@@ -13,9 +13,10 @@ use crate::listings::{Listing, Listings};
 use crate::options::{Form, Options};
 use crate::report::{Report, counts_row, has_unread, unread_text};
 use crate::stream_rows::stream_row;
-use crate::table_rows::{Lists, UniverseCounts, list_row, refused_row, universe_row};
+use crate::table_rows::{
+    Lists, UniverseCounts, list_row, refused_row, tell_twice, universe_row,
+};
 use crate::teller::Teller;
-use crate::twice::tell_twice;
 use sacn_capture::FrameCounts;
 use sacn_monitor::{Monitor, Stream, Tally};
 use sacn_packets::PacketFault;

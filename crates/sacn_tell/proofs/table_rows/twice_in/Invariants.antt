@@ -1,6 +1,6 @@
 use Rattle.std.proofs.Common.{◌≡◌, take}
 use Rattle.sacn_tell.specs.Twice.{twice_in}
-use Rattle.sacn_tell.proofs.twice.twice_in.Given as goal
+use Rattle.sacn_tell.proofs.table_rows.twice_in.Given as goal
 
 -- the packets so far
 abbrev pub invariant-loop-stream : goal.invariant-loop-stream
