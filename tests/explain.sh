@@ -595,11 +595,11 @@ cat >behind.each <<E
      0.020 s  universe     1  $A "Desk"  begins its numbers anew
 E
 happens "what a node takes isn't told as discarded" behind.each behind.pcap
-# Spare sends previews alone at 0.3 s, levels at 0.5 s, and then previews alone until 5.5 s, one of them at another priority: its levels are held from 0.5 s to 3 s, and
-# its next packet comes at 3.1 s. It sends levels again at 5.7 s, ends its stream at 5.9 s, and previews alone bring it back.
+# Spare sends previews alone at 0.3 s, levels at 0.5 s, and then previews alone until 5.5 s, one of them at another priority: its levels are held from 0.5 s until 3 s,
+# between two of its packets. It sends levels again at 5.7 s, ends its stream at 5.9 s, and previews alone bring it back.
 cat >previews.each <<E
      0.500 s  universe     1  2 sources send at the top priority, 100
-     3.100 s  universe     1  one source alone sends at the top priority, 100
+     3.000 s  universe     1  one source alone sends at the top priority, 100
      5.700 s  universe     1  2 sources send at the top priority, 100
      5.900 s  universe     1  one source alone sends at the top priority, 100
 E
