@@ -13,9 +13,7 @@ use crate::listings::{Listing, Listings};
 use crate::options::{Form, Options};
 use crate::report::{Report, counts_row, has_unread, unread_text};
 use crate::stream_rows::stream_row;
-use crate::table_rows::{
-    Lists, UniverseCounts, list_row, refused_row, tell_twice, universe_row,
-};
+use crate::table_rows::{Lists, UniverseCounts, list_row, refused_row, tell_twice, universe_row};
 use crate::teller::Teller;
 use sacn_capture::FrameCounts;
 use sacn_monitor::{Monitor, Stream, Tally};
