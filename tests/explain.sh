@@ -444,10 +444,10 @@ cat >events.incidents <<E
      0.600 s  "Main" aaaa..aa and "Spare" bbbb..bb both send on 1 at priority 120
      0.800 s  "Spare" bbbb..bb ends its stream on 1
      0.900 s  "Spare" bbbb..bb is back on 1 at 10.0.0.3:5000, priority 121
-     3.000 s  "Main" aaaa..aa lost on 1
+     3.000 s  "Main" aaaa..aa lost on 1, last at 10.0.0.2:5000, priority 120
      3.000 s  "Main" aaaa..aa is back on 1 at 10.0.0.2:5000, priority 120
-     3.400 s  "Spare" bbbb..bb lost on 1-2 (2 times, the latest at 3.450 s)
-     5.500 s  "Main" aaaa..aa lost on 1
+     3.400 s  "Spare" bbbb..bb lost on 1-2, last at 10.0.0.3:5000, priorities 100-121 (2 times, the latest at 3.450 s)
+     5.500 s  "Main" aaaa..aa lost on 1, last at 10.0.0.2:5000, priority 120
 E
 cat >events.each <<E
      0.000 s  universe     1  $A "Desk"  appears at 10.0.0.1:5000, priority 100
@@ -468,11 +468,11 @@ cat >events.each <<E
      1.000 s  $B "Spare"  lists universes 1, 3-5
      1.200 s  $B "Spare"  lists other universes than before: 1, 7
      1.400 s  from 10.0.0.9:5000  refused: the octets end too early
-     3.000 s  universe     1  $A "Main"  is lost: silent since 0.500 s
+     3.000 s  universe     1  $A "Main"  is lost: silent since 0.500 s, last at 10.0.0.2:5000, priority 120
      3.000 s  universe     1  $A "Main"  is back at 10.0.0.2:5000, priority 120
-     3.400 s  universe     1  $B "Spare"  is lost: silent since 0.900 s
-     3.450 s  universe     2  $B "Spare"  is lost: silent since 0.950 s
-     5.500 s  universe     1  $A "Main"  is lost: silent since 3.000 s
+     3.400 s  universe     1  $B "Spare"  is lost: silent since 0.900 s, last at 10.0.0.3:5000, priority 121
+     3.450 s  universe     2  $B "Spare"  is lost: silent since 0.950 s, last at 10.0.0.3:5000, priority 100
+     5.500 s  universe     1  $A "Main"  is lost: silent since 3.000 s, last at 10.0.0.2:5000, priority 120
 E
 cat >events.tables <<E
 
@@ -506,7 +506,7 @@ cat events.incidents events.tables >events.text
 tells "a recording with each event" 0 "" events.text events.pcap
 tells "each of its universes" 0 "" events.whole events.pcap --each
 grep -vE '^ +1 ' events.tables >second.tables
-printf '%s\n' '     0.950 s  "Spare" bbbb..bb appears on 2 at 10.0.0.3:5000, priority 100' '     3.450 s  "Spare" bbbb..bb lost on 2' >second.incidents
+printf '%s\n' '     0.950 s  "Spare" bbbb..bb appears on 2 at 10.0.0.3:5000, priority 100' '     3.450 s  "Spare" bbbb..bb lost on 2, last at 10.0.0.3:5000, priority 100' >second.incidents
 tells "one of its universes" 0 "" <(cat second.incidents second.tables) events.pcap --universe 2
 tells "each thing on one of its universes" 0 "" <(cat second.incidents; echo; grep -v '  universe     1  ' events.each; cat second.tables) events.pcap --universe 2 --each
 
@@ -539,7 +539,7 @@ fi
 # A console of 30 universes sends on all of them each second, and falls silent after its fifth turn, at 4 s: so it is lost at 6.5 s. That is one line, as its beginning is.
 cat >silent.lines <<'E'
      0.000 s  "Main FOH" aaaa..aa appears on 1-30 at 10.0.0.5:5000, priority 100
-     6.500 s  "Main FOH" aaaa..aa lost on 1-30
+     6.500 s  "Main FOH" aaaa..aa lost on 1-30, last at 10.0.0.5:5000, priority 100
 E
 # begins NAME WANTED WORD..: a run of explain prints these lines before its first empty one
 begins() {
@@ -583,11 +583,11 @@ happens() {
 # A recording that begins with the three terminations of a stream, and has another one of a source that is lost: these begin nothing and end nothing.
 cat >strays.lines <<'E'
      0.100 s  "Desk" aaaa..aa appears on 1 at 10.0.0.5:5000, priority 100
-     2.600 s  "Desk" aaaa..aa lost on 1
+     2.600 s  "Desk" aaaa..aa lost on 1, last at 10.0.0.5:5000, priority 100
 E
 cat >strays.each <<E
      0.100 s  universe     1  $A "Desk"  appears at 10.0.0.5:5000, priority 100
-     2.600 s  universe     1  $A "Desk"  is lost: silent since 0.100 s
+     2.600 s  universe     1  $A "Desk"  is lost: silent since 0.100 s, last at 10.0.0.5:5000, priority 100
 E
 # A recording that begins with a termination, behind which levels come with an earlier number: the node holds nothing of the source then, so that they are taken.
 cat >behind.each <<E
