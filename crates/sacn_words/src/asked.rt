@@ -1,6 +1,7 @@
 //! What the words of a command line ask for.
 use crate::manual::{Syntax, shell_of};
 use crate::reading::{Fault, Words, refusal};
+use crate::recorded::{RecordAsked, record_asked};
 use crate::spelled::{FrameForm, frame_form, host, kind, page, port, sender};
 use crate::tree::matches;
 use clap::{ArgMatches, Error};
@@ -53,6 +54,7 @@ pub enum Asked<'a> {
         is_json: bool,
     },
     Watch(WatchAsked),
+    Record(RecordAsked<'a>),
     Check(CheckAsked<'a>),
     /// A text that is made from the table of commands.
     Manual(Syntax),
@@ -382,6 +384,7 @@ fn asked_of<'a>(command: &str, words: &mut Words<'_, 'a>) -> Asked<'a> {
             is_json: words.is_given("json"),
         },
         "watch" => watch(words),
+        "record" => Asked::Record(record_asked(words)),
         "check" => Asked::Check(CheckAsked {
             kind: words.value("as", kind),
             files: words.paths("FILE"),

@@ -6,6 +6,7 @@ mod asked;
 pub mod manual;
 mod program;
 mod reading;
+mod recorded;
 mod recordings;
 mod spelled;
 mod table;
@@ -16,6 +17,7 @@ pub use asked::{
     MAX_SETUPS, WatchAsked, moment_of, parse,
 };
 pub use manual::Syntax;
-pub use program::manual_text;
+pub use program::{RECORDER, manual_text};
 pub use reading::STANDARD_INPUT;
+pub use recorded::RecordAsked;
 pub use spelled::{FrameForm, is_key};
