@@ -48,6 +48,7 @@ for word in sys.argv[2:]:
     name, _, times = word.partition("*")
     for _ in range(int(times or 1)):
         out.sendto(KINDS[name], ("127.0.0.1", int(sys.argv[1])))
+        time.sleep(0.002 if times else 0)
     print(KINDS[name].hex())
 P
 
@@ -180,11 +181,17 @@ if mount -t tmpfs -o size=64k none small 2>/dev/null; then
   status=0
   for _ in $(seq 400); do kill -0 "$recorder" 2>/dev/null || break; sleep 0.05; done
   ends
-  grep -q '^device write small/night.pcapng StorageFull$' err && grep -q '^the disk is full: what was written can be read up to there$' err && grep -qE '^recorded [0-9]+ datagrams, ' err && [ "$status" = 4 ]
+  grep -q '^device write small/night.pcapng StorageFull$' err && grep -q '^the disk is full: what was recorded before can be read$' err && grep -qE '^recorded [0-9]+ datagrams, ' err && [ "$status" = 4 ]
   verdict "a full disk is said, with the file" $? "status $status, $(paste -s -d ' ' err)"
-  "$sacn" explain small/night.pcapng --port $port >told 2>told.err
-  grep -q 'appears on 1 at 127.0.0.1' told
-  verdict "what is there is read up to where it ends" $? "$(head -n 1 told.err)"
+  "$sacn" explain small/night.pcapng --port $port >told 2>told.err && grep -q 'appears on 1 at 127.0.0.1' told && [ ! -s told.err ]
+  verdict "what was recorded before is a whole recording" $? "$(head -n 1 told.err)"
+  [ "$(sed -n 's/^recorded \([0-9]*\) datagrams, .*/\1/p' err)" -gt 40 ] && [ "$(sed -n 's/^recorded .*, \([0-9]*\) octets.*/\1/p' err)" = "$(stat -c %s small/night.pcapng)" ]
+  verdict "and has what is told of it" $? "$(tail -n 1 err), $(stat -c %s small/night.pcapng)"
+  head -c 65536 /dev/zero >small/all 2>/dev/null
+  begins small/none.pcapng
+  ends
+  [ "$status" = 4 ] && grep -q '^device write small/none.pcapng StorageFull$' err && [ ! -e small/none.pcapng ]
+  verdict "a file that can't be begun isn't there" $? "status $status, $(paste -s -d ' ' err)"
   umount small
 else
   echo "skipped record: a full disk: this machine lets no small disk be made"

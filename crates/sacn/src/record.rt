@@ -1,12 +1,15 @@
 //! A network recorded.
+
+ghost use Rattle.std.specs.Prelude.{◌≤◌, length};
+
 use crate::port::Sharer;
 use crate::tapes::{FileTapes, Names};
 use crate::watch::{Place, receiver_at};
 use crate::wire::LiveWire;
 use sacn_commands::ending::{DEVICE_FAILED, Ending};
 use sacn_commands::live::{joined_groups, say_hearing};
-use sacn_machine::{ClockFront, Lines, Outputs, UdpReceiver, guard_standard_descriptors};
-use sacn_record::{Plan, Totals, run_record};
+use sacn_machine::{ClockFront, Lines, Outputs, guard_standard_descriptors};
+use sacn_record::{RecordPlan, Totals, run_record};
 use sacn_words::{RECORDER, RecordAsked, moment_of};
 use std::env::Env;
 use std::io::{ErrorKind, Write};
@@ -33,19 +36,19 @@ pub fn record<R: AllocGlobal + Files + Env + Net + Clock, E: Write>(
         is_beside: asked.is_beside,
     };
     let outputs = Outputs::new(rt.alloc(), Lines::Plain)?;
-    let receiver = receiver_at(rt, place, err)?;
-    record_at(rt, asked, place, (receiver, &outputs), &names, err)
+    record_at(rt, asked, place, &names, &outputs, err)
 }
 
-// The same by a receiver that has its port.
+// The same into files of these names.
 fn record_at<'a, R: AllocGlobal + Files + Env + Net + Clock, E: Write>(
     rt: &'a R,
     asked: &RecordAsked<'_>,
     place: Place,
-    (mut receiver, outputs): (UdpReceiver<'a, R>, &'a Outputs),
-    names: &Names<'_>,
+    names: &'a Names<'a>,
+    outputs: &'a Outputs,
     err: &mut E,
 ) -> Result<(), Ending> {
+    let mut receiver = receiver_at(rt, place, err)?;
     receiver.tend(outputs, joined_groups(rt), ClockFront::new());
     say_hearing(place.address, receiver.room(), err);
     say_ring(names, asked.ring, err);
@@ -66,13 +69,15 @@ fn record_at<'a, R: AllocGlobal + Files + Env + Net + Clock, E: Write>(
 }
 
 // What is asked of the recorder.
-fn plan_of<'a>(asked: &'a RecordAsked<'_>) -> Plan<'a> {
+fn plan_of<'a>(asked: &'a RecordAsked<'_>) -> RecordPlan<'a>
+    ensures { length result.program.now ≤ 64 }
+{
     let host = if asked.listen == Ipv4Addr::UNSPECIFIED {
         Ipv4Addr::LOCALHOST
     } else {
         asked.listen
     };
-    Plan {
+    RecordPlan {
         program: RECORDER,
         host: host.octets(),
         port: asked.port,
@@ -124,7 +129,7 @@ fn advice_of(kind: ErrorKind) -> Option<&'static str> {
             Some("who runs this may not write there: choose a folder of your own")
         }
         ErrorKind::StorageFull => {
-            Some("the disk is full: what was written can be read up to there")
+            Some("the disk is full: what was recorded before can be read")
         }
         _ => None,
     }

@@ -1,7 +1,7 @@
 //! The files of a recording.
 use sacn_record::Tapes;
 use std::alloc::{AllocError, Global};
-use std::fs::{self, File};
+use std::fs::{self, File, OpenFile};
 use std::io::{self, ErrorKind, Write};
 use std::rt::Files;
 
@@ -86,6 +86,8 @@ pub struct FileTapes<'a, R: Files> {
     rt: &'a R,
     names: &'a Names<'a>,
     file: Option<R::File>,
+    /// How many octets were put whole into the latest file.
+    whole: u64,
 }
 
 impl<'a, R: Files> FileTapes<'a, R> {
@@ -95,6 +97,19 @@ impl<'a, R: Files> FileTapes<'a, R> {
             rt,
             names,
             file: None,
+            whole: 0,
+        }
+    }
+
+    // Takes back what was put in part, so that the file ends with a whole block. One of which nothing is whole is removed.
+    fn take_back(&mut self) {
+        if self.whole == 0 {
+            self.file = None;
+            let _ = fs::remove_file(self.rt, self.names.newest());
+            return;
+        }
+        if let Some(file) = &self.file {
+            let _ = file.set_len(self.whole);
         }
     }
 }
@@ -108,13 +123,19 @@ impl<'a, R: Files> Tapes for FileTapes<'a, R> {
             }
         }
         self.file = Some(File::create_new(self.rt, self.names.newest())?);
+        self.whole = 0;
         Ok(())
     }
 
     fn put(&mut self, octets: &[u8]) -> io::Result<()> {
-        match &mut self.file {
+        let put = match &mut self.file {
             Some(file) => file.write_all(octets),
             None => Err(ErrorKind::NotFound.into()),
+        };
+        match &put {
+            Ok(()) => self.whole = self.whole.saturating_add(octets.len() as u64),
+            Err(_) => self.take_back(),
         }
+        put
     }
 }

@@ -5,14 +5,14 @@ use Rattle.std.specs.List.{flat_map}
 use Rattle.std.proofs.lemmas.Grind.{flat_map-append}
 use Rattle.sacn_capture.specs.Calls.{AreOf, Calls}
 use Rattle.sacn_capture.specs.Recordings.{Shown, Told, recording}
-use Rattle.sacn_record.specs.declared.plan.Plan.{Plan}
+use Rattle.sacn_record.specs.declared.plan.RecordPlan.{RecordPlan}
 use Rattle.sacn_record.specs.Recordings.{Taken, beginning, datagram_block, recording_of}
 use Rattle.sacn_record.specs.Hearing.{Catch, reading_by, asked_in, asked_by}
 use Rattle.sacn_record.specs.Sessions.{Deed, Begun, Put, Tape, all_in, begun_by, begun_for, deeds_by, deeds_for, files_after, is_full, opening, tapes_by, with_deed, with_heard}
 use Rattle.sacn_record.specs.Laws.{AllFit, AreApart, AreReadAs, CallsGiveWhatWasRecorded, IsReadAs}
 
 -- what a tape holds as a file
-abbrev pub file_of : Plan → Tape → List ℕ
+abbrev pub file_of : RecordPlan → Tape → List ℕ
 file_of plan tape = recording_of plan.program.now tape.all
 
 pub files_append : (files : List (List ℕ)) (xs ys : List Deed) → files_after files (xs ++ ys) ≡ files_after (files_after files xs) ys
@@ -34,9 +34,11 @@ abbrev pub IsSomeTape : List Tape → Type 0
 IsSomeTape [] = ⊥
 IsSomeTape (tape ∷ older) = ⊤
 
-module _ (plan : Plan) (now : ℕ) where
+module _ (plan : RecordPlan) (now : ℕ) where
   heard_files : (ts : List Taken) (tapes : List Tape) → IsSomeTape tapes
       → files_after (map (file_of plan) tapes) (deeds_for plan (latest_begun tapes) now ts) ≡ map (file_of plan) (with_heard plan now ts tapes)
+  heard_files [] [] is = absurd is
+  heard_files (t ∷ ts) [] is = absurd is
   heard_files [] (tape ∷ older) is = refl
   heard_files (t ∷ ts) (tape ∷ older) is = by (is_full plan tape.begun now)
     where
@@ -47,6 +49,8 @@ module _ (plan : Plan) (now : ℕ) where
       by false = ap (λ (file : List ℕ). file ∷ map (file_of plan) older) (more_recorded plan.program.now tape.all (t ∷ ts))
 
   heard_some : (ts : List Taken) (tapes : List Tape) → IsSomeTape tapes → IsSomeTape (with_heard plan now ts tapes)
+  heard_some [] [] is = absurd is
+  heard_some (t ∷ ts) [] is = absurd is
   heard_some [] (tape ∷ older) is = tt
   heard_some (t ∷ ts) (tape ∷ older) is = by (is_full plan tape.begun now)
     where
@@ -55,6 +59,8 @@ module _ (plan : Plan) (now : ℕ) where
       by false = tt
 
   heard_begun : (ts : List Taken) (tapes : List Tape) → IsSomeTape tapes → begun_for plan (latest_begun tapes) now ts ≡ latest_begun (with_heard plan now ts tapes)
+  heard_begun [] [] is = absurd is
+  heard_begun (t ∷ ts) [] is = absurd is
   heard_begun [] (tape ∷ older) is = refl
   heard_begun (t ∷ ts) (tape ∷ older) is = by (is_full plan tape.begun now)
     where
@@ -63,6 +69,8 @@ module _ (plan : Plan) (now : ℕ) where
       by false = refl
 
   heard_all : (ts : List Taken) (tapes : List Tape) → IsSomeTape tapes → all_in (with_heard plan now ts tapes) ≡ all_in tapes ++ ts
+  heard_all [] [] is = absurd is
+  heard_all (t ∷ ts) [] is = absurd is
   heard_all [] (tape ∷ older) is = sym (append-nil (all_in older ++ tape.all))
   heard_all (t ∷ ts) (tape ∷ older) is = by (is_full plan tape.begun now)
     where
@@ -71,8 +79,8 @@ module _ (plan : Plan) (now : ℕ) where
       by false = sym (append_assoc (all_in older) tape.all (t ∷ ts))
 
   heard_apart : (ts : List Taken) (tapes : List Tape) → AreApart plan tapes → AreApart plan (with_heard plan now ts tapes)
-  heard_apart ts [] apart = tt
-  heard_apart [] (tape ∷ older) apart = apart
+  heard_apart [] tapes apart = apart
+  heard_apart (t ∷ ts) [] apart = tt
   heard_apart (t ∷ ts) (tape ∷ older) apart = by (is_full plan tape.begun now) refl
     where
       last : (older : List Tape) (all : List Taken) → AreApart plan (tape ∷ older) → AreApart plan (record { begun = tape.begun; all = all } ∷ older)
@@ -83,7 +91,7 @@ module _ (plan : Plan) (now : ℕ) where
       by true is = (leb-true plan.longest (now - tape.begun) is, apart)
       by false is = last older (tape.all ++ t ∷ ts) apart
 
-module _ (plan : Plan) where
+module _ (plan : RecordPlan) where
   pub some_tape : (rounds : List (List Catch)) → IsSomeTape (tapes_by plan rounds)
   some_tape [] = tt
   some_tape (cs ∷ rounds) = heard_some plan (reading_by (cs ∷ rounds)) (asked_in plan cs) (tapes_by plan rounds) (some_tape rounds)
@@ -126,7 +134,7 @@ pub fit_both : (xs ys : List Taken) → AllFit xs → AllFit ys → AllFit (xs +
 fit_both [] ys a b = b
 fit_both (x ∷ xs) ys a b = (a.0, fit_both xs ys a.1 b)
 
-pub tapes_read : CallsGiveWhatWasRecorded → (plan : Plan) → length plan.program.now ≤ 64 → (tapes : List Tape) → AllFit (all_in tapes) → AreReadAs (map (file_of plan) tapes) tapes
+pub tapes_read : CallsGiveWhatWasRecorded → (plan : RecordPlan) → length plan.program.now ≤ 64 → (tapes : List Tape) → AllFit (all_in tapes) → AreReadAs (map (file_of plan) tapes) tapes
 tapes_read gives plan short [] fit = tt
 tapes_read gives plan short (tape ∷ older) fit =
     (gives plan.program.now tape.all short (fit_rest (all_in older) tape.all fit), tapes_read gives plan short older (fit_front (all_in older) tape.all fit))

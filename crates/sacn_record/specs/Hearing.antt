@@ -7,7 +7,7 @@ use Rattle.sacn_packets.specs.declared.framing.packet.Packet.TheVariants.{DataPa
 use Rattle.sacn_capture.specs.Frames.{Sent}
 use Rattle.sacn_record.specs.declared.wire.Arrived.{Arrived}
 use Rattle.sacn_record.specs.declared.wire.Caught.{Caught}
-use Rattle.sacn_record.specs.declared.plan.Plan.{Plan}
+use Rattle.sacn_record.specs.declared.plan.RecordPlan.{RecordPlan}
 use Rattle.sacn_record.specs.declared.plan.TheConstants.{DISCOVERY}
 use Rattle.sacn_record.specs.Recordings.{Taken}
 
@@ -75,7 +75,7 @@ destination_of host (Ok SyncPacket) = host
 destination_of host (Err fault) = host
 
 -- a datagram as it is recorded
-abbrev pub taken_by : Plan → Datagram → Taken
+abbrev pub taken_by : RecordPlan → Datagram → Taken
 taken_by plan d = record {
   moment = d.moment;
   sent = record {
@@ -87,16 +87,16 @@ taken_by plan d = record {
   };
 }
 
-abbrev pub asked_of : Plan → Option Datagram → List Taken
+abbrev pub asked_of : RecordPlan → Option Datagram → List Taken
 asked_of plan None = []
 asked_of plan (Some d) = if is_asked plan.universes.now (reading_packet d.payload) then taken_by plan d ∷ [] else []
 
 -- those of some receives that are asked for, in order
-abbrev pub asked_in : Plan → List Catch → List Taken
+abbrev pub asked_in : RecordPlan → List Catch → List Taken
 asked_in plan [] = []
 asked_in plan (c ∷ cs) = asked_in plan cs ++ asked_of plan c.datagram
 
 -- those of all rounds
-abbrev pub asked_by : Plan → List (List Catch) → List Taken
+abbrev pub asked_by : RecordPlan → List (List Catch) → List Taken
 asked_by plan [] = []
 asked_by plan (cs ∷ rounds) = asked_by plan rounds ++ asked_in plan cs

@@ -1,8 +1,8 @@
 -- What a recorder does with its files. Lists of rounds, of receives and of files have the latest first, those of deeds are in order.
-use Rattle.std.specs.Prelude.{◌≡◌, ℕ, zero, suc, ◌<◌, ◌≤◌, ◌+◌, ◌-◌, ◌^◌, ◌⊎◌, ⊤, Bool, List, [], ◌∷◌, ◌++◌, length, min, nat_le, ◌==◌, if◌then◌else◌, Option, None, Some}
+use Rattle.std.specs.Prelude.{◌≡◌, ℕ, zero, suc, ◌<◌, ◌≤◌, ◌+◌, ◌-◌, ◌^◌, ◌⊎◌, ⊤, Bool, List, [], ◌∷◌, ◌++◌, length, min, nat_le, if◌then◌else◌, Option, None, Some}
 use Rattle.std.specs.List.{flat_map}
 use Rattle.sacn_edge.specs.Additions.{Extends}
-use Rattle.sacn_record.specs.declared.plan.Plan.{Plan}
+use Rattle.sacn_record.specs.declared.plan.RecordPlan.{RecordPlan}
 use Rattle.sacn_record.specs.declared.totals.Totals.{Totals}
 use Rattle.sacn_record.specs.Recordings.{Taken, beginning, datagram_block}
 use Rattle.sacn_record.specs.Hearing.{Catch, reading_by, asked_in, asked_by}
@@ -30,29 +30,29 @@ PutsFront old (Some told) octets = (front : List ℕ) × (left : List ℕ) × (o
 -- ---- the deeds of a recorder
 
 -- a file that was begun at one reading takes no more at another
-abbrev pub is_full : Plan → ℕ → ℕ → Bool
+abbrev pub is_full : RecordPlan → ℕ → ℕ → Bool
 is_full plan begun now = nat_le plan.longest (now - begun)
 
 -- a file is begun as the recording of nothing
-abbrev pub opening : Plan → List Deed
+abbrev pub opening : RecordPlan → List Deed
 opening plan = Begun ∷ Put (beginning plan.program.now) ∷ []
 
 -- the blocks of the datagrams of a round, which ended at a reading, go to the latest file at once; where that one is full, to another
-abbrev pub deeds_for : Plan → ℕ → ℕ → List Taken → List Deed
-deeds_for plan begun now ts =
-    if length ts == 0 then []
-    else if is_full plan begun now then opening plan ++ Put (flat_map datagram_block ts) ∷ []
-    else Put (flat_map datagram_block ts) ∷ []
+abbrev pub deeds_for : RecordPlan → ℕ → ℕ → List Taken → List Deed
+deeds_for plan begun now [] = []
+deeds_for plan begun now (t ∷ ts) =
+    if is_full plan begun now then opening plan ++ Put (flat_map datagram_block (t ∷ ts)) ∷ [] else Put (flat_map datagram_block (t ∷ ts)) ∷ []
 
 -- when the file was begun that is then the latest
-abbrev pub begun_for : Plan → ℕ → ℕ → List Taken → ℕ
-begun_for plan begun now ts = if length ts == 0 then begun else if is_full plan begun now then now else begun
+abbrev pub begun_for : RecordPlan → ℕ → ℕ → List Taken → ℕ
+begun_for plan begun now [] = begun
+begun_for plan begun now (t ∷ ts) = if is_full plan begun now then now else begun
 
-abbrev pub begun_by : Plan → List (List Catch) → ℕ
+abbrev pub begun_by : RecordPlan → List (List Catch) → ℕ
 begun_by plan [] = 0
 begun_by plan (cs ∷ rounds) = begun_for plan (begun_by plan rounds) (reading_by (cs ∷ rounds)) (asked_in plan cs)
 
-abbrev pub deeds_by : Plan → List (List Catch) → List Deed
+abbrev pub deeds_by : RecordPlan → List (List Catch) → List Deed
 deeds_by plan [] = opening plan
 deeds_by plan (cs ∷ rounds) = deeds_by plan rounds ++ deeds_for plan (begun_by plan rounds) (reading_by (cs ∷ rounds)) (asked_in plan cs)
 
@@ -72,7 +72,7 @@ counted_on old zero = old
 counted_on old (suc n) = counted (old + suc n)
 
 -- what is told of it
-abbrev pub totals_by : Plan → List (List Catch) → Totals
+abbrev pub totals_by : RecordPlan → List (List Catch) → Totals
 totals_by plan rounds = record {
   datagrams = counted (length (asked_by plan rounds));
   octets = counted (octets_in (deeds_by plan rounds));
@@ -87,14 +87,14 @@ pub record Tape : Type 0 where
   pub all : List Taken
 
 -- what a round brought goes into the latest file, or begins another where that is full
-abbrev pub with_heard : Plan → ℕ → List Taken → List Tape → List Tape
-with_heard plan now ts [] = []
-with_heard plan now ts (tape ∷ older) =
-    if length ts == 0 then tape ∷ older
-    else if is_full plan tape.begun now then record { begun = now; all = ts } ∷ (tape ∷ older)
-    else record { begun = tape.begun; all = tape.all ++ ts } ∷ older
+abbrev pub with_heard : RecordPlan → ℕ → List Taken → List Tape → List Tape
+with_heard plan now [] tapes = tapes
+with_heard plan now (t ∷ ts) [] = []
+with_heard plan now (t ∷ ts) (tape ∷ older) =
+    if is_full plan tape.begun now then record { begun = now; all = t ∷ ts } ∷ (tape ∷ older)
+    else record { begun = tape.begun; all = tape.all ++ t ∷ ts } ∷ older
 
-abbrev pub tapes_by : Plan → List (List Catch) → List Tape
+abbrev pub tapes_by : RecordPlan → List (List Catch) → List Tape
 tapes_by plan [] = record { begun = 0; all = [] } ∷ []
 tapes_by plan (cs ∷ rounds) = with_heard plan (reading_by (cs ∷ rounds)) (asked_in plan cs) (tapes_by plan rounds)
 

@@ -4,11 +4,11 @@ ghost use Rattle.std.specs.Prelude.{◌≡◌, ◌==◌};
 ghost use Rattle.std.specs.List.{list_any};
 ghost use Rattle.sacn_record.specs.Hearing.{destination_of, is_asked, is_named};
 
-use crate::plan::{DISCOVERY, Plan};
+use crate::plan::{DISCOVERY, RecordPlan};
 use sacn_packets::{Packet, Reading, multicast_group};
 
 /// Whether a datagram is asked for that was read as this.
-pub fn is_asked(plan: &Plan<'_>, reading: &Reading<'_>) -> bool
+pub fn is_asked(plan: &RecordPlan<'_>, reading: &Reading<'_>) -> bool
     ensures { result ≡ is_asked plan.now.universes.now reading.now }
 {
     match reading {
@@ -20,7 +20,7 @@ pub fn is_asked(plan: &Plan<'_>, reading: &Reading<'_>) -> bool
 }
 
 /// The address that it was sent to.
-pub fn destination(plan: &Plan<'_>, reading: &Reading<'_>) -> [u8; 4]
+pub fn destination(plan: &RecordPlan<'_>, reading: &Reading<'_>) -> [u8; 4]
     ensures { result ≡ destination_of plan.now.host reading.now }
 {
     match reading {

@@ -18,7 +18,7 @@ mod totals;
 mod wire;
 
 pub use heard::{Heard, LONGEST_PAYLOAD, LONGEST_PROGRAM};
-pub use plan::Plan;
+pub use plan::RecordPlan;
 pub use recorder::{begin, record};
 pub use session::run_record;
 pub use tapes::Tapes;

@@ -5,7 +5,7 @@ pub const DISCOVERY: u16 = 64214;
 
 /// What is asked of a recorder.
 #[derive(Clone, Copy)]
-pub struct Plan<'a> {
+pub struct RecordPlan<'a> {
     /// The name of the recording program, with its version, in at most `LONGEST_PROGRAM` octets.
     pub program: &'a str,
     /// The address that datagrams were sent to which went to no group.

@@ -11,7 +11,7 @@ ghost use Rattle.sacn_record.specs.Sessions.{Put, begun_for, counted, counted_on
 use crate::blocks::{LONGEST_BEGINNING, put_beginning};
 use crate::choice::{destination, is_asked};
 use crate::heard::{Heard, LONGEST_PAYLOAD};
-use crate::plan::Plan;
+use crate::plan::RecordPlan;
 use crate::recorder::record;
 use crate::tapes::Tapes;
 use crate::totals::Totals;
@@ -41,7 +41,7 @@ pub fn run_record<L: Wire, T: Tapes>(
     alloc: Global,
     wire: &mut L,
     tapes: &mut T,
-    plan: &Plan<'_>,
+    plan: &RecordPlan<'_>,
     until: u64,
     totals: &mut Totals,
 ) -> io::Result<()>
@@ -63,7 +63,7 @@ pub fn run_record<L: Wire, T: Tapes>(
 fn run_rounds<L: Wire, T: Tapes>(
     wire: &mut L,
     tapes: &mut T,
-    plan: &Plan<'_>,
+    plan: &RecordPlan<'_>,
     until: u64,
     waiting: &mut Waiting,
     totals: &mut Totals,
@@ -96,7 +96,7 @@ fn run_rounds<L: Wire, T: Tapes>(
 // Takes all that waits, or as much as a round may.
 fn drain<L: Wire>(
     wire: &mut L,
-    plan: &Plan<'_>,
+    plan: &RecordPlan<'_>,
     waiting: &mut Waiting,
     now: &mut u64,
     buffer: &mut [u8; LONGEST_PAYLOAD],
@@ -119,7 +119,7 @@ fn drain<L: Wire>(
 // Receives once. Returns whether a datagram was there, so that there may be another.
 fn hear<L: Wire>(
     wire: &mut L,
-    plan: &Plan<'_>,
+    plan: &RecordPlan<'_>,
     waiting: &mut Waiting,
     now: &mut u64,
     buffer: &mut [u8; LONGEST_PAYLOAD],
@@ -144,7 +144,7 @@ fn hear<L: Wire>(
 // Adds the block of a datagram, where that is asked for.
 fn add(
     waiting: &mut Waiting,
-    plan: &Plan<'_>,
+    plan: &RecordPlan<'_>,
     arrived: &Arrived,
     payload: &[u8],
 ) -> io::Result<()>
@@ -177,16 +177,17 @@ fn add(
 // that is then the latest.
 fn keep<T: Tapes>(
     tapes: &mut T,
-    plan: &Plan<'_>,
+    plan: &RecordPlan<'_>,
     begun: u64,
     waiting: &mut Waiting,
     totals: &mut Totals,
 ) -> io::Result<u64>
     requires program { length plan.now.program.now ≤ 64 }
     ensures millis { totals.new.millis ≡ totals.old.millis }
-    ensures kept { (ts : List Taken) → waiting.old.blocks.items ≡ flat_map datagram_block ts
-        → waiting.old.count ≡ counted (length ts) → IfOk result (λ latest.
-        Extends (T.told tapes.old) (T.told tapes.new)
+    ensures kept { IfOk result (λ latest. (ts : List Taken)
+        → waiting.old.blocks.items ≡ flat_map datagram_block ts
+        → waiting.old.count ≡ counted (length ts)
+        → Extends (T.told tapes.old) (T.told tapes.new)
         (deeds_for plan.now begun totals.old.millis ts)
         × (latest ≡ begun_for plan.now begun totals.old.millis ts)
         × (waiting.new.count ≡ 0) × (waiting.new.blocks.items ≡ [])
@@ -197,12 +198,33 @@ fn keep<T: Tapes>(
     if waiting.count == 0 {
         return Ok(begun);
     }
-    let is_full = totals.millis.saturating_sub(begun) >= plan.longest;
-    if is_full {
-        open(tapes, plan, totals)?;
+    if totals.millis.saturating_sub(begun) >= plan.longest {
+        keep_anew(tapes, plan, waiting, totals)?;
+        return Ok(totals.millis);
     }
     put(tapes, waiting, totals)?;
-    Ok(if is_full { totals.millis } else { begun })
+    Ok(begun)
+}
+
+// Puts what waits into another file.
+fn keep_anew<T: Tapes>(
+    tapes: &mut T,
+    plan: &RecordPlan<'_>,
+    waiting: &mut Waiting,
+    totals: &mut Totals,
+) -> io::Result<()>
+    requires program { length plan.now.program.now ≤ 64 }
+    ensures millis { totals.new.millis ≡ totals.old.millis }
+    ensures put { OnOk result (Extends (T.told tapes.old) (T.told tapes.new)
+        (opening plan.now ++ Put waiting.old.blocks.items ∷ [])) }
+    ensures none { OnOk result ((waiting.new.count ≡ 0) × (waiting.new.blocks.items ≡ [])) }
+    ensures datagrams { OnOk result (totals.new.datagrams
+        ≡ counted (totals.old.datagrams + waiting.old.count)) }
+    ensures octets { OnOk result (totals.new.octets ≡ counted (totals.old.octets
+        + (octets_in (opening plan.now) + length waiting.old.blocks.items))) }
+{
+    open(tapes, plan, totals)?;
+    put(tapes, waiting, totals)
 }
 
 // Puts what waits into the latest file.
@@ -226,7 +248,7 @@ fn put<T: Tapes>(tapes: &mut T, waiting: &mut Waiting, totals: &mut Totals) -> i
 }
 
 // Begins a file as the recording of nothing.
-fn open<T: Tapes>(tapes: &mut T, plan: &Plan<'_>, totals: &mut Totals) -> io::Result<()>
+fn open<T: Tapes>(tapes: &mut T, plan: &RecordPlan<'_>, totals: &mut Totals) -> io::Result<()>
     requires program { length plan.now.program.now ≤ 64 }
     ensures opened { OnOk result (Extends (T.told tapes.old) (T.told tapes.new)
         (opening plan.now)) }

@@ -1,7 +1,7 @@
 //! A recording beside the same one made by hand from the descriptions of its formats, in which Wireshark finds both datagrams, with
 //! both checksums right; and a ring of two minutes, whose clock is made here.
 
-use crate::{Arrived, Caught, Heard, LONGEST_PAYLOAD, Plan, Tapes, Totals, Wire, begin, record, run_record};
+use crate::{Arrived, Caught, Heard, LONGEST_PAYLOAD, RecordPlan, Tapes, Totals, Wire, begin, record, run_record};
 use arrayvec::ArrayVec;
 use std::io;
 
@@ -130,7 +130,7 @@ fn a_ring_begins_another_file_when_one_is_full(rt: HostRuntime) {
     let mut tapes = Marked {
         octets: ArrayVec::new(),
     };
-    let plan = Plan {
+    let plan = RecordPlan {
         program: "sacn 1.0.0",
         host: FIRST.destination,
         port: FIRST.destination_port,

@@ -40,7 +40,7 @@ pub const NOTES: &str = "Examples, in a clone of the repository:
   ./sacn check examples/show.toml
 
 A file that is named - is standard input; ./- is a file of that name. A desk has its orders
-there, and explain --page its end: these read no file from it.
+there, explain --page and record their end: these read no file from it.
 
 docs/FILES.md tells what stands in the files, and what is printed.
 
