@@ -128,9 +128,7 @@ fn advice_of(kind: ErrorKind) -> Option<&'static str> {
         ErrorKind::PermissionDenied => {
             Some("who runs this may not write there: choose a folder of your own")
         }
-        ErrorKind::StorageFull => {
-            Some("the disk is full: what was recorded before can be read")
-        }
+        ErrorKind::StorageFull => { Some("the disk is full: what was recorded before can be read") }
         _ => None,
     }
 }
