@@ -141,8 +141,8 @@ printer_line = "10.0.0.100 sends what can't be read: no packets of streaming ACN
 tester = [(1000, unread(108, b"\xc9"), 9), (2500, unread(18, b"\0\0\0\3"), 9), (4000, unread(108, b"\xc9"), 9)]
 write("unread", with_pages(stream(25, steady)) + printer + tester,
       who(25) + ": conforms\n" + printer_line +
-      "10.0.0.9 sends what can't be read: 6.2.3 a priority above 200 (2 times, the first at 1.000 s, the latest at 4.000 s)\n"
-      "10.0.0.9 sends what can't be read: 5.5 neither data nor an extended packet, as those of the standard's drafts (once, at 2.500 s)\n", [])
+      "10.0.0.9 sends what can't be read: 6.2.3 the priority is above 200 (2 times, the first at 1.000 s, the latest at 4.000 s)\n"
+      "10.0.0.9 sends what can't be read: 5.5 the root vector is unknown (once, at 2.500 s)\n", [])
 write("priority200", [(moment, with_octets(octets, 108, b"\xc8"), address) for moment, octets, address in stream(26, steady)], who(26) + ": conforms\n")
 write("printer", [(0, b"hello", 100, bytes([10, 0, 0, 9]))],
       "no packets of streaming ACN\n10.0.0.100 sends what can't be read: no packets of streaming ACN (once, at 0.000 s)\n", [])
@@ -278,7 +278,7 @@ python3 - <<'P'
 import json
 objects = [json.loads(line) for line in open("live")]
 broken = [(it["event"], it.get("cid"), it.get("section"), it.get("rule"), it.get("universes"), it.get("times")) for it in objects if it["event"] in ("breach", "unread")]
-assert broken == [("breach", "1f" * 16, "6.2.2", "a name without an end", [1], 3), ("unread", None, "6.2.3", "a priority above 200", None, 1)], objects
+assert broken == [("breach", "1f" * 16, "6.2.2", "a name without an end", [1], 3), ("unread", None, "6.2.3", "the priority is above 200", None, 1)], objects
 P
 [ $? = 0 ] && echo "ok audit: objects of a watch" || echo "not ok audit: objects of a watch: $(head -c 300 live)"
 : >hears
@@ -290,5 +290,5 @@ wait $gateway
 status=$?
 name=$(printf 'n%.0s' $(seq 64))
 [ $status = 0 ] && grep -q '^1 [0-9]* 00ff' frames && grep -qxF "\"$name\" 1f1f..1f at 127.0.0.1:" hears && grep -qE '^  6\.2\.2 a name without an end on 1 \(3 times, the first at [0-9.]+ s, the latest at [0-9.]+ s\)$' hears &&
-  [[ $(tail -n 1 hears) =~ ^"127.0.0.1 sends what can't be read: 6.2.3 a priority above 200 (once, at "[0-9.]+" s)"$ ]]
+  [[ $(tail -n 1 hears) =~ ^"127.0.0.1 sends what can't be read: 6.2.3 the priority is above 200 (once, at "[0-9.]+" s)"$ ]]
 [ $? = 0 ] && echo "ok audit: a gateway tells once its seconds are over" || echo "not ok audit: a gateway tells once its seconds are over: status $status, $(tail -n 4 hears)"

@@ -4,6 +4,7 @@
 //! That totals are sums of what was counted is proved; how they are spelled is tested.
 #![tactic(auto)]
 
+mod clauses;
 mod findings;
 mod list_findings;
 mod namesakes;
@@ -12,7 +13,6 @@ mod rule_rows;
 mod sentences;
 mod sources;
 mod unread;
-mod unread_rows;
 
 pub use findings::total_of;
 pub use namesakes::namesake_at;

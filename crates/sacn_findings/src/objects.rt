@@ -148,7 +148,7 @@ fn begin(
 }
 
 /// A rule: its clause, and what breaks it.
-pub(crate) fn push_rule(text: &mut String, section: &str, words: &str) -> Result<(), AllocError> {
+fn push_rule(text: &mut String, section: &str, words: &str) -> Result<(), AllocError> {
     push_word(text, "section", section)?;
     push_word(text, "rule", words)
 }

@@ -1,46 +1,42 @@
 //! What couldn't be read, by its sender and why.
 
+use crate::clauses::{clauses_of, is_foreign};
 use crate::findings::joined;
-use crate::objects::{push_moments, push_rule};
+use crate::objects::push_moments;
 use crate::sentences::push_times;
 use crate::sources::push_address;
-use crate::unread_rows::{UnreadRow, row_of};
 use sacn_audit::{Audit, Breach, RefusedPackets};
-use sacn_tell::{begin_object, push_decimal, push_key, push_number, push_word};
+use sacn_tell::{begin_object, fault_words, push_decimal, push_key, push_number, push_word};
 use std::alloc::AllocError;
 
 /// What is said of octets that are no packet of streaming ACN.
 const FOREIGN: &str = "no packets of streaming ACN";
 
 /// Pushes a line for each sender and each reason for which its packets can't be read, in the order in which they appeared:
-/// `10.0.0.9 sends what can't be read: 6.2.3 a priority above 200 (once, at 4.000 s)`. What isn't of streaming ACN at all is one line
+/// `10.0.0.9 sends what can't be read: 6.2.3 the priority is above 200 (once, at 4.000 s)`. What isn't of streaming ACN at all is one line
 /// for its sender. What the audit had no room for is told at the end.
 ///
 /// Errors: a growth was refused.
 pub fn push_unread(text: &mut String, audit: &Audit) -> Result<(), AllocError> {
     let refused = audit.refused();
     for (place, packets) in refused.iter().enumerate() {
-        match row_of(packets.fault) {
-            Some(row) => push_line(text, packets, row)?,
-            None if is_first_foreign(refused, place, packets.address) => {
-                push_foreign_line(text, refused, packets.address)?;
-            }
-            None => {}
+        if !is_foreign(packets.fault) {
+            push_line(text, packets)?;
+        } else if is_first_foreign(refused, place, packets.address) {
+            push_foreign_line(text, refused, packets.address)?;
         }
     }
     push_untracked(text, audit.refused_untracked())
 }
 
-// A line for a clause.
-fn push_line(
-    text: &mut String,
-    packets: &RefusedPackets,
-    row: UnreadRow,
-) -> Result<(), AllocError> {
+// A line for a fault.
+fn push_line(text: &mut String, packets: &RefusedPackets) -> Result<(), AllocError> {
     begin_line(text, packets.address)?;
-    text.push_str(row.section)?;
-    text.push(' ')?;
-    text.push_str(row.words)?;
+    if let Some(clauses) = clauses_of(packets.fault) {
+        text.push_str(clauses)?;
+        text.push(' ')?;
+    }
+    text.push_str(fault_words(packets.fault))?;
     push_times(text, packets.breach)
 }
 
@@ -76,21 +72,26 @@ pub fn push_unread_objects(text: &mut String, audit: &Audit) -> Result<(), Alloc
     let mut latest = 0;
     for (place, packets) in refused.iter().enumerate() {
         latest = packets.breach.latest.max(latest);
-        match row_of(packets.fault) {
-            Some(row) => {
-                begin(text, packets.address, packets.breach)?;
-                push_rule(text, row.section, row.words)?;
-                push_moments(text, packets.breach)?;
-            }
-            None if is_first_foreign(refused, place, packets.address) => {
-                push_foreign_object(text, refused, packets.address)?;
-            }
-            None => {}
+        if !is_foreign(packets.fault) {
+            push_object(text, packets)?;
+        } else if is_first_foreign(refused, place, packets.address) {
+            push_foreign_object(text, refused, packets.address)?;
         }
     }
     push_untracked_object(text, latest, audit.refused_untracked())
 }
 
+// An object for a fault.
+fn push_object(text: &mut String, packets: &RefusedPackets) -> Result<(), AllocError> {
+    begin(text, packets.address, packets.breach)?;
+    if let Some(clauses) = clauses_of(packets.fault) {
+        push_word(text, "section", clauses)?;
+    }
+    push_word(text, "rule", fault_words(packets.fault))?;
+    push_moments(text, packets.breach)
+}
+
+// An object for all octets of a sender that aren't of streaming ACN.
 fn push_foreign_object(
     text: &mut String,
     refused: &[RefusedPackets],
@@ -121,8 +122,8 @@ fn push_untracked_object(text: &mut String, latest: u64, untracked: u64) -> Resu
 }
 
 // Whether octets are no packet of streaming ACN, and come from this sender.
-fn is_foreign(packets: &RefusedPackets, address: [u8; 4]) -> bool {
-    packets.address == address && row_of(packets.fault).is_none()
+fn is_foreign_of(packets: &RefusedPackets, address: [u8; 4]) -> bool {
+    packets.address == address && is_foreign(packets.fault)
 }
 
 // Whether no such octets of this sender stand before this place.
@@ -130,14 +131,14 @@ fn is_first_foreign(refused: &[RefusedPackets], place: usize, address: [u8; 4]) 
     !refused
         .iter()
         .take(place)
-        .any(|packets| is_foreign(packets, address))
+        .any(|packets| is_foreign_of(packets, address))
 }
 
 // How often a sender sent such octets, and when.
 fn foreign_of(refused: &[RefusedPackets], address: [u8; 4]) -> Breach {
     let mut total = Breach::none();
     for packets in refused {
-        if is_foreign(packets, address) {
+        if is_foreign_of(packets, address) {
             total = joined(total, packets.breach);
         }
     }

@@ -41,8 +41,8 @@ fn a_line_is_a_sender_and_a_fault(rt: HostRuntime) {
     let alloc = rt.alloc();
     let wanted =
         r#"10.0.0.100 sends what can't be read: no packets of streaming ACN (2 times, the first at 0.500 s, the latest at 2.000 s)
-10.0.0.9 sends what can't be read: 6.2.3 a priority above 200 (2 times, the first at 1.000 s, the latest at 4.000 s)
-10.0.0.9 sends what can't be read: 5.5 neither data nor an extended packet, as those of the standard's drafts (once, at 2.500 s)
+10.0.0.9 sends what can't be read: 6.2.3 the priority is above 200 (2 times, the first at 1.000 s, the latest at 4.000 s)
+10.0.0.9 sends what can't be read: 5.5 the root vector is unknown (once, at 2.500 s)
 "#;
     assert!(rt; reads(alloc, heard(alloc), wanted));
 }
@@ -52,8 +52,8 @@ fn an_object_is_a_sender_and_a_fault(rt: HostRuntime) {
     let alloc = rt.alloc();
     let wanted =
         r#"{"ms":2000,"event":"unread","address":"10.0.0.100","rule":"no packets of streaming ACN","first":500,"latest":2000,"times":2}
-{"ms":4000,"event":"unread","address":"10.0.0.9","section":"6.2.3","rule":"a priority above 200","first":1000,"latest":4000,"times":2}
-{"ms":2500,"event":"unread","address":"10.0.0.9","section":"5.5","rule":"neither data nor an extended packet, as those of the standard's drafts","first":2500,"latest":2500,"times":1}
+{"ms":4000,"event":"unread","address":"10.0.0.9","section":"6.2.3","rule":"the priority is above 200","first":1000,"latest":4000,"times":2}
+{"ms":2500,"event":"unread","address":"10.0.0.9","section":"5.5","rule":"the root vector is unknown","first":2500,"latest":2500,"times":1}
 "#;
     assert!(rt; reads_as_objects(alloc, heard(alloc), wanted));
 }
