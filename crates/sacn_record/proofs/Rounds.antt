@@ -9,7 +9,8 @@ use Rattle.sacn_record.specs.declared.plan.RecordPlan.{RecordPlan}
 use Rattle.sacn_record.specs.declared.totals.Totals.{Totals}
 use Rattle.sacn_record.specs.Recordings.{Taken, datagram_block}
 use Rattle.sacn_record.specs.Laws.{AllFit}
-use Rattle.sacn_record.specs.Hearing.{Catch, caught_by, in_order, reading_after, reading_by, asked_of, asked_in, asked_by}
+use Rattle.sacn_packets.specs.PacketReading.{Reading, reading_packet}
+use Rattle.sacn_record.specs.Hearing.{Catch, Datagram, caught_by, destination_of, is_asked, taken_by, in_order, reading_after, reading_by, asked_of, asked_in, asked_by}
 use Rattle.sacn_record.specs.Sessions.{Deed, Begun, Put, AreBefore, IsOver, begun_by, begun_for, counted, counted_on, deeds_by, deeds_for, is_full, octets_in, opening, totals_by}
 use Rattle.sacn_record.proofs.Taping.{fit_both}
 use Rattle.sacn_record.proofs.Reading.{some_octets}
@@ -165,3 +166,30 @@ module _ (plan : RecordPlan) (cs : List Catch) (rounds : List (List Catch)) (beg
 pub rounds_end : (until : ℕ) (Ended : Type 0) (rounds : List (List Catch)) → AreBefore until rounds → length rounds ≡ 2 ^ 64 - 1 → IsOver until Ended rounds
 rounds_end until Ended [] before all = absurd (omega (arith, all))
 rounds_end until Ended (cs ∷ rounds) before all = (before.1, inr (inr all))
+
+-- ---- what is asked for of one datagram
+
+asked_if : (plan : RecordPlan) (d : Datagram) (reading : Reading) (asked : Bool) → reading ≡ reading_packet d.payload → asked ≡ is_asked plan.universes.now reading
+    → asked_of plan (Some d) ≡ (if asked then taken_by plan d ∷ [] else [])
+asked_if plan d reading asked reads is =
+    ap (λ (r : Reading). if is_asked plan.universes.now r then taken_by plan d ∷ [] else []) (sym reads) ∙ ap (λ (b : Bool). if b then taken_by plan d ∷ [] else []) (sym is)
+
+pub asked_none : (plan : RecordPlan) (d : Datagram) (reading : Reading) (asked : Bool) → reading ≡ reading_packet d.payload → asked ≡ is_asked plan.universes.now reading → asked ≡ false → asked_of plan (Some d) ≡ []
+asked_none plan d reading asked reads is no = asked_if plan d reading asked reads is ∙ ap (λ (b : Bool). if b then taken_by plan d ∷ [] else []) no
+
+-- a datagram as it is recorded, that went to an address
+abbrev pub taken_to : RecordPlan → Datagram → List ℕ → Taken
+taken_to plan d to = record { moment = d.moment; sent = record { sender = d.sender; sender_port = d.sender_port; destination = to; destination_port = plan.port; payload = d.payload } }
+
+pub asked_one : (plan : RecordPlan) (d : Datagram) (reading : Reading) (asked : Bool) (to : List ℕ) → reading ≡ reading_packet d.payload → asked ≡ is_asked plan.universes.now reading → asked ≡ true
+    → to ≡ destination_of plan.host reading → asked_of plan (Some d) ≡ taken_to plan d to ∷ []
+asked_one plan d reading asked to reads is yes goes =
+    let there : destination_of plan.host (reading_packet d.payload) ≡ to = ap (λ (r : Reading). destination_of plan.host r) (sym reads) ∙ sym goes in
+    asked_if plan d reading asked reads is
+    ∙ ap (λ (b : Bool). if b then taken_by plan d ∷ [] else []) yes
+    ∙ ap (λ (t : List ℕ). taken_to plan d t ∷ []) there
+
+-- its block
+pub one_block : (old new : List ℕ) (t : Taken) (ts : List Taken) → ts ≡ t ∷ [] → new ≡ old ++ datagram_block t → new ≡ old ++ flat_map datagram_block ts
+one_block old new t ts is grew =
+    grew ∙ ap (λ (xs : List ℕ). old ++ xs) (sym (append-nil (datagram_block t))) ∙ ap (λ (xs : List Taken). old ++ flat_map datagram_block xs) (sym is)

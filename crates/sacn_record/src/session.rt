@@ -6,7 +6,7 @@ ghost use Rattle.sacn_edge.specs.Additions.{Extends};
 ghost use Rattle.sacn_record.specs.Recordings.{datagram_block, Taken};
 ghost use Rattle.sacn_record.specs.Laws.{AllFit};
 ghost use Rattle.sacn_record.specs.Hearing.{Catch, in_order, caught_by, reading_after, asked_of, asked_in, asked_by, datagram_at};
-ghost use Rattle.sacn_record.specs.Sessions.{Put, begun_for, counted, counted_on, deeds_by, deeds_for, octets_in, opening, totals_by, IsOver};
+ghost use Rattle.sacn_record.specs.Sessions.{Put, begun_for, counted, counted_on, deeds_by, deeds_for, is_full, octets_in, opening, totals_by, IsOver};
 
 use crate::blocks::{LONGEST_BEGINNING, put_beginning};
 use crate::choice::{destination, is_asked};
@@ -169,8 +169,14 @@ fn add(
         payload,
     };
     record(&mut waiting.blocks, &heard)?;
-    waiting.count = waiting.count.saturating_add(1);
+    waiting.count = one_more(waiting.count);
     Ok(())
+}
+
+fn one_more(count: u64) -> u64
+    ensures { result ≡ counted (count + 1) }
+{
+    count.saturating_add(1)
 }
 
 // Puts what waits into the latest file, which was begun at this reading, or where that is full into another one. Returns when the file was begun
@@ -198,12 +204,19 @@ fn keep<T: Tapes>(
     if waiting.count == 0 {
         return Ok(begun);
     }
-    if totals.millis.saturating_sub(begun) >= plan.longest {
+    if is_full(plan, begun, totals.millis) {
         keep_anew(tapes, plan, waiting, totals)?;
         return Ok(totals.millis);
     }
     put(tapes, waiting, totals)?;
     Ok(begun)
+}
+
+// Whether a file that was begun at one reading takes no more at another.
+fn is_full(plan: &RecordPlan<'_>, begun: u64, now: u64) -> bool
+    ensures { result ≡ is_full plan.now begun now }
+{
+    now.saturating_sub(begun) >= plan.longest
 }
 
 // Puts what waits into another file.
@@ -224,7 +237,8 @@ fn keep_anew<T: Tapes>(
         + (octets_in (opening plan.now) + length waiting.old.blocks.items))) }
 {
     open(tapes, plan, totals)?;
-    put(tapes, waiting, totals)
+    put(tapes, waiting, totals)?;
+    Ok(())
 }
 
 // Puts what waits into the latest file.

@@ -1,7 +1,10 @@
 //! A recording beside the same one made by hand from the descriptions of its formats, in which Wireshark finds both datagrams, with
 //! both checksums right; and a ring of two minutes, whose clock is made here.
 
-use crate::{Arrived, Caught, Heard, LONGEST_PAYLOAD, RecordPlan, Tapes, Totals, Wire, begin, record, run_record};
+use crate::{
+    Arrived, Caught, Heard, LONGEST_PAYLOAD, RecordPlan, Tapes, Totals, Wire, begin, record,
+    run_record,
+};
 use arrayvec::ArrayVec;
 use std::io;
 
@@ -138,8 +141,18 @@ fn a_ring_begins_another_file_when_one_is_full(rt: HostRuntime) {
         longest: 60_000,
     };
     let mut totals = Totals::new();
-    let run = run_record(rt.alloc(), &mut wire, &mut tapes, &plan, u64::MAX, &mut totals);
-    let all = run.is_ok() & (totals.datagrams == 4) & (totals.octets == 432) & (totals.millis == 120_009);
+    let run = run_record(
+        rt.alloc(),
+        &mut wire,
+        &mut tapes,
+        &plan,
+        u64::MAX,
+        &mut totals,
+    );
+    let all = run.is_ok()
+        & (totals.datagrams == 4)
+        & (totals.octets == 432)
+        & (totals.millis == 120_009);
     assert!(rt; all);
     assert!(rt; tapes.octets.as_slice() == two_files().as_slice());
 }
