@@ -38,7 +38,7 @@ counted_some old (suc n) some = refl
 
 -- counted on twice
 pub counted_more : (old a b : ℕ) → counted_on (counted_on old a) b ≡ counted_on old (a + b)
-counted_more old zero b = refl
+counted_more old zero b = let same : b ≡ 0 + b = omega arith in ap (λ (n : ℕ). counted_on old n) same
 counted_more old (suc a) zero = let same : suc a ≡ suc a + zero = omega arith in ap (λ (n : ℕ). counted_on old n) same
 counted_more old (suc a) (suc b) =
     let sum : counted (counted (old + suc a) + suc b) ≡ counted (old + (suc a + suc b)) = omega arith in
@@ -51,7 +51,7 @@ count_more old mid new xs ys first next =
 -- from nothing
 pub counted_from : (n : ℕ) → counted_on 0 n ≡ counted n
 counted_from zero = refl
-counted_from (suc n) = refl
+counted_from (suc n) = let same : 0 + suc n ≡ suc n = omega arith in ap counted same
 
 -- counted on from what is counted
 pub counted_again : (a b : ℕ) → counted_on (counted a) b ≡ counted (a + b)
@@ -59,7 +59,7 @@ counted_again a zero = omega arith
 counted_again a (suc b) = omega arith
 
 pub octets_append : (xs ys : List Deed) → octets_in (xs ++ ys) ≡ octets_in xs + octets_in ys
-octets_append [] ys = refl
+octets_append [] ys = omega arith
 octets_append (Begun ∷ xs) ys = octets_append xs ys
 octets_append (Put octets ∷ xs) ys = let rest : octets_in (xs ++ ys) ≡ octets_in xs + octets_in ys = octets_append xs ys in omega (arith, rest)
 
@@ -175,7 +175,7 @@ asked_if plan d reading asked reads is =
     ap (λ (r : Reading). if is_asked plan.universes.now r then taken_by plan d ∷ [] else []) (sym reads) ∙ ap (λ (b : Bool). if b then taken_by plan d ∷ [] else []) (sym is)
 
 pub asked_none : (plan : RecordPlan) (d : Datagram) (reading : Reading) (asked : Bool) → reading ≡ reading_packet d.payload → asked ≡ is_asked plan.universes.now reading → asked ≡ false → asked_of plan (Some d) ≡ []
-asked_none plan d reading asked reads is no = asked_if plan d reading asked reads is ∙ ap (λ (b : Bool). if b then taken_by plan d ∷ [] else []) no
+asked_none plan d reading asked reads is left_out = asked_if plan d reading asked reads is ∙ ap (λ (b : Bool). if b then taken_by plan d ∷ [] else []) left_out
 
 -- a datagram as it is recorded, that went to an address
 abbrev pub taken_to : RecordPlan → Datagram → List ℕ → Taken
@@ -183,10 +183,10 @@ taken_to plan d to = record { moment = d.moment; sent = record { sender = d.send
 
 pub asked_one : (plan : RecordPlan) (d : Datagram) (reading : Reading) (asked : Bool) (to : List ℕ) → reading ≡ reading_packet d.payload → asked ≡ is_asked plan.universes.now reading → asked ≡ true
     → to ≡ destination_of plan.host reading → asked_of plan (Some d) ≡ taken_to plan d to ∷ []
-asked_one plan d reading asked to reads is yes goes =
+asked_one plan d reading asked to reads is wanted goes =
     let there : destination_of plan.host (reading_packet d.payload) ≡ to = ap (λ (r : Reading). destination_of plan.host r) (sym reads) ∙ sym goes in
     asked_if plan d reading asked reads is
-    ∙ ap (λ (b : Bool). if b then taken_by plan d ∷ [] else []) yes
+    ∙ ap (λ (b : Bool). if b then taken_by plan d ∷ [] else []) wanted
     ∙ ap (λ (t : List ℕ). taken_to plan d t ∷ []) there
 
 -- its block

@@ -39,9 +39,9 @@ returns-in_err-drain g c =
     let told = subst (λ t. Extends t (g.L.Wire.told c.drain.new.wire) (in_order d.0)) c.wait.ensures.told d.1 in
     rw p.1 (d.0 ∷ run.0, Extends-append _ _ _ (caught_by run.0) (in_order d.0) run.3 told, tt)
 
-pub returns-in_err-keep : goal.returns-in_err-keep
-returns-in_err-keep g c =
-    let p = err_from_is_err_and c.from_residual-in_err-keep.result c.from_residual-in_err-keep.ensures.1 in
+pub returns-in_err-begun : goal.returns-in_err-begun
+returns-in_err-begun g c =
+    let p = err_from_is_err_and c.from_residual-in_err-begun.result c.from_residual-in_err-begun.ensures.1 in
     let run = c.loop-round.invariant in
     let d = c.in_ok-drain.ensures in
     let told = subst (λ t. Extends t (g.L.Wire.told c.drain.new.wire) (in_order d.0)) c.wait.ensures.told d.1 in
@@ -57,7 +57,7 @@ returns-then-totals-until g c =
     let reads : c.drain.new.now ≡ reading_by (cs ∷ run.0) = d.2 ∙ ap (λ (t : Totals). reading_after t.millis cs) run.6 in
     let blocks : c.drain.new.waiting.blocks.items ≡ flat_map datagram_block (asked_in plan cs) = d.3.0 ∙ ap (λ (xs : List ℕ). xs ++ flat_map datagram_block (asked_in plan cs)) run.8 in
     let counts : c.drain.new.waiting.count ≡ counted (length (asked_in plan cs)) = d.3.1 ∙ ap (λ (n : ℕ). counted_on n (length (asked_in plan cs))) run.7 ∙ counted_from (length (asked_in plan cs)) in
-    let k = c.in_ok-keep.ensures.kept (asked_in plan cs) blocks counts in
+    let k = c.in_ok-begun.ensures.kept (asked_in plan cs) blocks counts in
     let deeds = deeds_more plan cs run.0 c.loop-round.begun c.drain.new.now run.5 reads _ _ _ run.4 k.0 in
     let totals = totals_more plan cs run.0 c.loop-round.begun c.drain.new.now run.5 reads c.loop-round.totals c.keep.new.totals run.6 c.keep.ensures.millis k.4 k.5 in
     let fit = fit_both (asked_by plan run.0) (asked_in plan cs) run.9 d.3.2 in (
@@ -76,7 +76,7 @@ returns-then-has_ended g c =
     let reads : c.drain.new.now ≡ reading_by (cs ∷ run.0) = d.2 ∙ ap (λ (t : Totals). reading_after t.millis cs) run.6 in
     let blocks : c.drain.new.waiting.blocks.items ≡ flat_map datagram_block (asked_in plan cs) = d.3.0 ∙ ap (λ (xs : List ℕ). xs ++ flat_map datagram_block (asked_in plan cs)) run.8 in
     let counts : c.drain.new.waiting.count ≡ counted (length (asked_in plan cs)) = d.3.1 ∙ ap (λ (n : ℕ). counted_on n (length (asked_in plan cs))) run.7 ∙ counted_from (length (asked_in plan cs)) in
-    let k = c.in_ok-keep.ensures.kept (asked_in plan cs) blocks counts in
+    let k = c.in_ok-begun.ensures.kept (asked_in plan cs) blocks counts in
     let deeds = deeds_more plan cs run.0 c.loop-round.begun c.drain.new.now run.5 reads _ _ _ run.4 k.0 in
     let totals = totals_more plan cs run.0 c.loop-round.begun c.drain.new.now run.5 reads c.loop-round.totals c.keep.new.totals run.6 c.keep.ensures.millis k.4 k.5 in
     let fit = fit_both (asked_by plan run.0) (asked_in plan cs) run.9 d.3.2 in (
@@ -95,7 +95,7 @@ loop-round-preserved g c =
     let reads : c.drain.new.now ≡ reading_by (cs ∷ run.0) = d.2 ∙ ap (λ (t : Totals). reading_after t.millis cs) run.6 in
     let blocks : c.drain.new.waiting.blocks.items ≡ flat_map datagram_block (asked_in plan cs) = d.3.0 ∙ ap (λ (xs : List ℕ). xs ++ flat_map datagram_block (asked_in plan cs)) run.8 in
     let counts : c.drain.new.waiting.count ≡ counted (length (asked_in plan cs)) = d.3.1 ∙ ap (λ (n : ℕ). counted_on n (length (asked_in plan cs))) run.7 ∙ counted_from (length (asked_in plan cs)) in
-    let k = c.in_ok-keep.ensures.kept (asked_in plan cs) blocks counts in
+    let k = c.in_ok-begun.ensures.kept (asked_in plan cs) blocks counts in
     let deeds = deeds_more plan cs run.0 c.loop-round.begun c.drain.new.now run.5 reads _ _ _ run.4 k.0 in
     let totals = totals_more plan cs run.0 c.loop-round.begun c.drain.new.now run.5 reads c.loop-round.totals c.keep.new.totals run.6 c.keep.ensures.millis k.4 k.5 in
     let fit = fit_both (asked_by plan run.0) (asked_in plan cs) run.9 d.3.2 in
