@@ -30,7 +30,7 @@ returns-clause-blocks c =
 pub returns-clause-count : goal.returns-clause-count
 returns-clause-count c =
     let e = asked_one c.args.plan.now (datagram_at c.args.arrived.now c.args.payload.now) c.read_packet-reading.result c.is_asked.result c.destination.result c.read_packet-reading.ensures.exact c.is_asked.ensures c.if-not-is_asked.false c.destination.ensures in
-    c.one_more.ensures ∙ sym (ap (λ (ts : List Taken). counted_on c.args.waiting.now.count (length ts)) e)
+    c.one_more-waiting.ensures ∙ sym (ap (λ (ts : List Taken). counted_on c.args.waiting.now.count (length ts)) e)
 
 pub returns-clause-fits : goal.returns-clause-fits
 returns-clause-fits c =

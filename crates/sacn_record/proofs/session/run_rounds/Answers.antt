@@ -14,7 +14,7 @@ use Rattle.sacn_record.proofs.session.run_rounds.Goals as goal
 pub returns-in_err-open : goal.returns-in_err-open
 returns-in_err-open g c =
     let p = err_from_is_err_and c.from_residual.result c.from_residual.ensures.1 in
-    rw p.1 ([], Extends-none _, tt)
+    rw p.1 ([], Extends-none (g.L.Wire.told c.args.wire.now), tt)
 
 pub loop-round-init : goal.loop-round-init
 loop-round-init g c =
