@@ -106,22 +106,30 @@ fn careless(alloc: Global) -> Result<Heard, AllocError> {
     Ok(heard)
 }
 
-// As many packets, to the group of universe 2.
+// As many packets and that list, to the group of universe 2.
 fn misdirected(alloc: Global) -> Result<Heard, AllocError> {
     let mut heard = Heard::of(alloc, DESK, "Main FOH")?;
+    let page = page_of(alloc, &DESK)?;
     heard.destination = [239, 255, 0, 2];
     for number in 0..21u8 {
         heard.send(900 * u64::from(number), false, 0, number, false);
         heard.send(900 * u64::from(number), true, 0, number, false);
+        if number == 10 {
+            heard.list(9000, page.as_slice());
+        }
     }
     Ok(heard)
 }
 
-// Universes 1 and 2 in turn, by one counter.
+// Universes 1 and 2 in turn, by one counter, and that list.
 fn by_one_counter(alloc: Global) -> Result<Heard, AllocError> {
     let mut heard = Heard::of(alloc, DESK, "Main FOH")?;
+    let page = page_of(alloc, &DESK)?;
     for number in 0..41u8 {
         heard.send(450 * u64::from(number), number % 2 == 1, 0, number, false);
+        if number == 20 {
+            heard.list(9000, page.as_slice());
+        }
     }
     Ok(heard)
 }
