@@ -143,7 +143,7 @@ refused 2 "error: --page: beside --json" explain x --page 0 --json --seconds +5
 refused 2 "error: --page: beside --plain" watch --universe 0 --json --plain --page 0
 refused 2 "error: --page: beside --audit" watch --page 8080 --audit
 refused 2 "error: --plain: beside --audit" watch --plain --audit
-refused 2 "error: --each: beside --audit" watch --each --audit --json
+refused 2 "error: --each: beside --audit" watch --each --audit
 refused 2 "error: --clock: without --plain" watch --audit --clock
 
 # Files that are absent, or faulty: each is named, with its fault.
