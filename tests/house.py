@@ -9,6 +9,7 @@ import sys
 README_OCTETS = 9000
 COLUMNS = 120
 CRATE_FILES = 25
+FILE_LINES = 400
 DOCUMENTS = ["README.md", "CHANGELOG.md", "tests/README.md", "tests/rows/README.md", *sorted(glob.glob("docs/*.md")), *sorted(glob.glob("crates/*/NOTES.md"))]
 
 # What stands once, or so often at most, in the code of the product's crates.
@@ -181,6 +182,13 @@ def large_crates():
             yield f"{name}.rt is {len(found)} files: {' '.join(found)}"
 
 
+def long_files():
+    for path in sorted(glob.glob("crates/*/src/**/*.rt", recursive=True)):
+        lines = text_of(path).count("\n")
+        if lines > FILE_LINES:
+            yield f"{path} has {lines} lines, more than {FILE_LINES}"
+
+
 def long_readme():
     size = os.path.getsize("README.md")
     if size > README_OCTETS:
@@ -211,6 +219,7 @@ LOOKS = {
     "one rule stands once": repeated_rules,
     "a public type's name stands once": shared_names,
     "a crate is small, and its files are named for what they hold": large_crates,
+    "a file of code is short": long_files,
     "the README is short": long_readme,
     "the list of definitions is that of specs/": stale_definitions,
 }

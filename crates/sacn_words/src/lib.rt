@@ -3,6 +3,7 @@
 
 mod arguments;
 mod asked;
+mod commands;
 pub mod manual;
 mod program;
 mod reading;
@@ -13,8 +14,9 @@ mod tree;
 
 pub use asked::{
     Asked, CheckAsked, DeskAsked, DeskKeyAsked, DeskPageAsked, ExplainAsked, GatewayAsked,
-    MAX_SETUPS, WatchAsked, moment_of, parse,
+    MAX_SETUPS, WatchAsked, moment_of,
 };
+pub use commands::parse;
 pub use manual::Syntax;
 pub use program::manual_text;
 pub use reading::STANDARD_INPUT;
