@@ -5,7 +5,7 @@ set -u
 # shellcheck source=tests/lib.sh
 . "$(dirname "$(readlink -f "$0")")/lib.sh"
 need sacn
-free_udp_port port
+port=$(free_udp_port)
 
 # refused STATUS WANTED WORD..: a run without input prints nothing, and ends so
 refused() {
