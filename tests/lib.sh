@@ -7,6 +7,7 @@
 # It is then in a folder of its own, `room`. Whatever ends it, what it started by `&` is ended, and that folder removed. It has:
 #
 #   top, sacn                                the tree, and the built program: crates/sacn/out/sacn, or the path in SACN
+#   here                                     the folder in which it was started
 #   verdict NAME STATUS [WHY]                prints `ok SCRIPT: NAME`, or where the status isn't 0 `not ok SCRIPT: NAME: WHY`
 #   skips NAME WHY                           prints `skipped SCRIPT: NAME: WHY`
 #   passed, failed                           how many of both were well, and how many not
@@ -17,9 +18,10 @@
 #
 # Its Python finds e131.py: packets, recordings and ports.
 
+here=$PWD
 top=$(cd "$(dirname "$(readlink -f "${BASH_SOURCE[0]}")")/.." && pwd)
 sacn=${SACN:-$top/crates/sacn/out/sacn}
-case $sacn in /*) ;; *) sacn=$PWD/$sacn ;; esac
+case $sacn in /*) ;; *) sacn=$here/$sacn ;; esac
 # (what stands in front of the name of each look)
 label="$(basename "$0" .sh): "
 passed=0

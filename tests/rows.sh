@@ -2,7 +2,6 @@
 # Runs the rows of tests/rows, and rows that are wrong, each of which has to be told by file and line. Prints 'ok NAME' or 'not ok NAME: why' for each
 # run, as ./test counts them. The program is crates/rows/out/rows, or what ROWS names.
 set -u
-here=$PWD
 # shellcheck source=tests/lib.sh
 . "$(dirname "$(readlink -f "$0")")/lib.sh"
 rows=${ROWS:-$top/crates/rows/out/rows}
