@@ -38,7 +38,7 @@ def write(name, packets, text, lists=None):
     packets = sorted(packets, key=lambda it: it[0])
     recording = e131.Recording(name + ".pcap", 1700000000)
     for at, octets, address, *to in sorted(with_pages(packets) if lists is None else packets + lists, key=lambda it: it[0]):
-        recording.sent(at, address, octets, to=to[0] if to else group(octets), of=5568)
+        recording.sent(at, address, octets, to=to[0] if to else group(octets), from_port=5568)
     recording.close()
     open(name + ".text", "w", encoding="utf-8").write(text)
 def stream(source, moments, address=5, numbers=None, ends=3, **fields):

@@ -68,9 +68,9 @@ class Recording:
         octets_kept = octets[:kept]
         self.file.write(struct.pack("<IIII", self.start + moment // 1000, moment % 1000 * 1000, len(octets_kept), len(octets)) + octets_kept)
 
-    def sent(self, moment, host, payload, port=5568, kept=None, fragment=0, to=group(1), of=5000):
+    def sent(self, moment, host, payload, port=5568, kept=None, fragment=0, to=group(1), from_port=5000):
         """A datagram of this host from a port of its own, to an address and a port."""
-        udp = struct.pack(">HHHH", of, port, 8 + len(payload), 0) + payload
+        udp = struct.pack(">HHHH", from_port, port, 8 + len(payload), 0) + payload
         ip = struct.pack(">BBHHHBBH", 0x45, 0, 20 + len(udp), 0, fragment, 64, 17, 0) + bytes([10, 0, 0, host]) + to
         self.frame(moment, bytes(12) + b"\x08\0" + ip + udp, kept)
 

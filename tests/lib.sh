@@ -26,7 +26,7 @@ case $sacn in /*) ;; *) sacn=$here/$sacn ;; esac
 label="$(basename "$0" .sh): "
 passed=0
 failed=0
-export PYTHONPATH=$top/tests PYTHONDONTWRITEBYTECODE=1
+export PYTHONPATH=$top/tests${PYTHONPATH:+:$PYTHONPATH} PYTHONDONTWRITEBYTECODE=1
 
 claims=${TMPDIR:-/tmp}
 room=$(mktemp -d) || exit 1

@@ -100,7 +100,7 @@ def recording(sent):
     path = f"{ROOM}/network.pcap"
     written = e131.Recording(path, start=0)
     for moment, octets in sent:
-        written.sent(moment, 1, octets, of=5568)
+        written.sent(moment, 1, octets, from_port=5568)
     written.close()
     return path
 
