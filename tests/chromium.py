@@ -1,4 +1,4 @@
-"""What browser.py stands on: programs that it starts, a headless Chromium and what is seen in it, and packets.
+"""What page_browser.py and desk_page.py stand on: programs that it starts, a headless Chromium and what is seen in it, and packets.
 
 Chromium and its driver (Debian's chromium and chromium-driver) are spoken to by the WebDriver protocol, so no library is needed.
 """

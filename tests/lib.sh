@@ -9,6 +9,7 @@
 #   top, sacn                                the tree, and the built program: crates/sacn/out/sacn, or the path in SACN
 #   here                                     the folder in which it was started
 #   verdict NAME STATUS [WHY]                prints `ok SCRIPT: NAME`, or where the status isn't 0 `not ok SCRIPT: NAME: WHY`
+#                                            (a `$(..)` in NAME would leave its own status for a `$?` behind it: put it into a variable before)
 #   skips NAME WHY                           prints `skipped SCRIPT: NAME: WHY`
 #   passed, failed                           how many of both were well, and how many not
 #   need WORD..                              ends the script as skipped where one of these commands isn't there; `sacn` is the program

@@ -1,4 +1,4 @@
-"""What light.py, ola.py and tools/blocks.py stand on: programs, packets, sockets that note when something came, terminals that stand for interfaces, and namespaces."""
+"""What nothing_blocks.py, ola.py and tools/blocks.py stand on: programs, packets, sockets that note when something came, terminals that stand for interfaces, and namespaces."""
 import ctypes
 import fcntl
 import os
@@ -21,8 +21,8 @@ TOP = os.path.dirname(os.path.dirname(os.path.realpath(__file__)))
 SACN = os.environ.get("SACN", f"{TOP}/crates/sacn/out/sacn")
 ROOM = tempfile.mkdtemp()
 CID = e131.CID
-# The ports are those of a namespace of its own, or what light.sh found free.
-DESK, PORT, PAGE = "10.77.0.1", int(os.environ.get("LIGHT_UDP", 5568)), int(os.environ.get("LIGHT_PAGE", 8080))
+# The ports are those of a namespace of its own, or what nothing_blocks.sh found free.
+DESK, PORT, PAGE = "10.77.0.1", int(os.environ.get("STAGE_UDP", 5568)), int(os.environ.get("STAGE_PAGE", 8080))
 # Linux's numbers, of which Python has no names.
 SO_TIMESTAMPNS, SO_RCVBUFFORCE, CLONE_NEWNET, F_SETPIPE_SZ = 35, 33, 0x40000000, 1031
 LIBC = ctypes.CDLL(None, use_errno=True)

@@ -6,6 +6,7 @@ set -u
 # shellcheck source=tests/lib.sh
 . "$(dirname "$(readlink -f "$0")")/lib.sh"
 need sacn curl python3
+label="recording: "
 tcp=$(free_tcp_port)
 at=http://127.0.0.1:$tcp
 ola=$top/examples/ola.pcap

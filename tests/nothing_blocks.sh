@@ -1,6 +1,6 @@
 #!/usr/bin/env bash
 # Runs desks, gateways, a watch and its page beside what blocks or is gone, and looks whether that delays the light of another: hosts that are absent, outputs and interfaces
-# that nobody reads, a flood, programs that are stopped or killed. Each look (tests/light.py) is in a network namespace of its own, some beside each other.
+# that nobody reads, a flood, programs that are stopped or killed. Each look (tests/nothing_blocks.py) is in a network namespace of its own, some beside each other.
 # Prints a line 'ok NAME', 'not ok NAME' or 'skipped NAME: why' for each, and 'N passed, M failed' at the end; what was seen goes to standard error.
 # It takes the built program: crates/sacn/out/sacn, or the path in SACN; words name the looks that are wanted.
 set -u
@@ -28,17 +28,17 @@ for try in "unshare -n" "unshare -Urn"; do
   if $try ip link set lo up 2>/dev/null; then space=$try; break; fi
 done
 if [ -z "$space" ]; then
-  LIGHT_UDP=$(free_udp_port)
-  LIGHT_PAGE=$(free_tcp_port)
-  export LIGHT_UDP LIGHT_PAGE
+  STAGE_UDP=$(free_udp_port)
+  STAGE_PAGE=$(free_tcp_port)
+  export STAGE_UDP STAGE_PAGE
 fi
 
 look() { # NAME
   local status=0
   if [ -n "$space" ]; then
-    SPACE=1 timeout 90 $space python3 "$top/tests/light.py" "$1" 2>"$room/$1" || status=$?
+    SPACE=1 timeout 90 $space python3 "$top/tests/nothing_blocks.py" "$1" 2>"$room/$1" || status=$?
   else
-    timeout 90 python3 "$top/tests/light.py" "$1" 2>"$room/$1" || status=$?
+    timeout 90 python3 "$top/tests/nothing_blocks.py" "$1" 2>"$room/$1" || status=$?
   fi
   echo "$status" >"$room/$1.status"
 }
