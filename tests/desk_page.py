@@ -140,6 +140,7 @@ def wrong_keys(light):
     threads = [threading.Thread(target=lambda key=key: later.append(post("blackout", key=key))) for key in (None, "", "wrong", KEY + "x")]
     for thread in threads[:3]:
         thread.start()
+    # (by then their orders are there, and their answers wait)
     time.sleep(0.3)
     status, text, took = post("5 at 20")
     verdict("the right key waits for no wrong one", status == 200 and took < 2, f"{status} after {took:.2f} s: {text}")

@@ -108,8 +108,10 @@ def crowded():
         time.sleep(max(0, begin + (turn + 1) / 44 - time.monotonic()))
     took = time.monotonic() - begin
     viewers[0].shutdown(socket.SHUT_RDWR)
-    time.sleep(0.5)
-    told = document()["counts"]["datagrams"]
+    told, limit = document()["counts"]["datagrams"], time.monotonic() + 5
+    while told != sent and time.monotonic() < limit:
+        time.sleep(0.05)
+        told = document()["counts"]["datagrams"]
     verdict("32 viewers, of which one never reads, cost no datagram", told == sent, f"{told} of {sent} in {took:.1f} s")
     slow = [sum(counts) for counts in seen if not 60 <= sum(counts) <= 120]
     verdict("each that reads has some ten events a second", not slow, f"{slow}")

@@ -598,15 +598,16 @@ import subprocess, sys, time
 sacn, show, a, b = sys.argv[1:]
 hear = '''
 import socket, time
+import e131
 s = socket.socket(socket.AF_INET, socket.SOCK_DGRAM); s.bind(("10.77.0.2", 5568)); s.settimeout(0.2)
 print("ready", flush=True)
 last, gap, end = {}, 0, time.monotonic() + 7
 while time.monotonic() < end:
-    try: octets = s.recv(2048)
+    try: packet = e131.read(s.recv(2048))
     except TimeoutError: continue
-    if len(octets) != 638: continue
+    if not packet: continue
     now = time.monotonic()
-    gap = max(gap, now - last.get(octets[114], now)); last[octets[114]] = now
+    gap = max(gap, now - last.get(packet.universe, now)); last[packet.universe] = now
 print(len(last), gap)
 '''
 run = subprocess.Popen(["ip", "netns", "exec", b, sys.executable, "-c", hear], stdout=subprocess.PIPE, text=True)
