@@ -33,8 +33,7 @@ ready() { # FILE
 
 # Whether a look goes well in one of three tries: what it asks for needs processors that nothing else keeps for long.
 in_three_tries() { # NAME
-  local try
-  for try in 1 2 3; do
+  for _ in 1 2 3; do
     udp=$(free_udp_port)
     "$1" && return
   done
