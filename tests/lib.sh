@@ -4,7 +4,7 @@
 #   set -u
 #   . "$(dirname "$(readlink -f "$0")")/lib.sh"
 #
-# It is then in a folder of its own, `room`. Whatever ends it, what it started by `&` is ended, and that folder removed. It has:
+# It is then in a folder of its own, `room`. Whatever ends it, what it started is ended, and that folder removed. It has:
 #
 #   top, sacn                                the tree, and the built program: crates/sacn/out/sacn, or the path in SACN
 #   here                                     the folder in which it was started
@@ -35,8 +35,9 @@ cd "$room" || exit 1
 : >"$room/.claims"
 cleanup() {
   local claim
+  # (also what it waits for in front, where a signal ends it)
   # shellcheck disable=SC2046
-  kill $(jobs -p) 2>/dev/null
+  kill $(jobs -p) $(cat "/proc/$$/task/$$/children" 2>/dev/null) 2>/dev/null
   while read -r claim; do rmdir "$claim"; done <"$room/.claims"
   cd /
   rm -rf "$room"
