@@ -108,7 +108,7 @@ impl Scene for Board {
     }
 
     fn next_change(&self) -> u64 {
-        self.next_loss()
+        self.next_end()
     }
 
     fn board(&self) -> &Board {

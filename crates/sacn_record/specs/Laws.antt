@@ -20,7 +20,7 @@ AllFit (taken ∷ all) = Fits taken × AllFit all
 
 -- what a reader gives of it: its moment in whole milliseconds, and the datagram
 abbrev pub shown_of : Taken → Shown
-shown_of taken = record { moment = taken.moment / 1000; content = Ok taken.sent }
+shown_of taken = record { moment = Some (taken.moment / 1000); content = Ok taken.sent }
 
 -- all of them, in order, and then the end
 abbrev pub told_of : List Taken → Told
