@@ -15,13 +15,16 @@ mod piped;
 mod port;
 mod program;
 mod recent_deeds;
+mod record;
 mod recording;
 mod room;
 mod screen;
 mod shown;
 mod source_lines;
+mod tapes;
 mod timed;
 mod watch;
+mod wire;
 
 use sacn_commands::ending;
 use std::process::ExitCode;

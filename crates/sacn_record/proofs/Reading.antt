@@ -73,7 +73,7 @@ all_read (t ∷ all) (suc most) at m fit enough =
     ∙ ap (λ (r : Result (Piece × Place) FaultKind). told_by at r (pieces most)) read.1
     ∙ ap (λ (told : Told). with_frame (Some (shown_of t)) told) behind
 
-some_octets : (t : Taken) → 1 ≤ length (datagram_block t)
+pub some_octets : (t : Taken) → 1 ≤ length (datagram_block t)
 unfolding datagram_block block little32
 some_octets t = omega arith
 
