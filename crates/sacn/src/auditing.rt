@@ -1,7 +1,7 @@
 //! An audit of what is heard as it comes.
 use crate::explain::form_of;
 use sacn_audit::Audit;
-use sacn_findings::{push_objects, push_text, push_unread, push_unread_objects};
+use sacn_findings::{push_objects, push_text, push_unread_objects};
 use sacn_monitor::Endpoint;
 use sacn_packets::{Packet, Reading};
 use sacn_tell::Form;
@@ -46,10 +46,6 @@ pub fn findings_of(alloc: Global, audit: &Audit, form: Form) -> Result<String, A
         }
         Form::Text => {
             push_text(alloc, &mut text, audit)?;
-            if audit.sources().is_empty() {
-                text.push_str("no packets of streaming ACN\n")?;
-            }
-            push_unread(&mut text, audit)?;
         }
     }
     Ok(text)
@@ -74,6 +70,11 @@ pub fn hear(
 /// Where a datagram that is heard live was sent: that isn't known, and this is no group's address.
 const UNKNOWN: [u8; 4] = [0; 4];
 
+/// Audits what a datagram was read as that is heard live.
+pub fn hear_live(audit: &mut Audit, now: u64, sender: Endpoint, reading: &Reading<'_>) {
+    hear(audit, now, sender.address, UNKNOWN, reading);
+}
+
 impl<W: Watcher + Drop> Watcher for Auditing<W> {
     fn take(
         &mut self,
@@ -81,7 +82,7 @@ impl<W: Watcher + Drop> Watcher for Auditing<W> {
         sender: Endpoint,
         reading: &Reading<'_>,
     ) -> Result<(), WatchFault> {
-        hear(&mut self.audit, now, sender.address, UNKNOWN, reading);
+        hear_live(&mut self.audit, now, sender, reading);
         self.viewers.take(now, sender, reading)
     }
 

@@ -8,6 +8,7 @@ mod explain;
 mod frames;
 mod gateway;
 mod heard;
+mod judged;
 mod keys;
 mod manual;
 mod page;
