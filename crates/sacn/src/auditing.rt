@@ -1,6 +1,6 @@
 //! An audit of what is heard as it comes.
 use crate::explain::form_of;
-use sacn_audit::Audit;
+use sacn_audit::{Audit, Delivery};
 use sacn_findings::{push_objects, push_text, push_unread_objects};
 use sacn_monitor::Endpoint;
 use sacn_packets::{Packet, Reading};
@@ -60,7 +60,9 @@ pub fn hear(
     reading: &Reading<'_>,
 ) {
     match reading {
-        Ok(Packet::DataPacket(packet)) => audit.hear(now, sender, destination, packet),
+        Ok(Packet::DataPacket(packet)) => {
+            audit.hear(now, sender, Delivery::of(destination, packet), packet)
+        }
         Ok(Packet::PagePacket(page)) => audit.hear_page(now, sender, page),
         Ok(Packet::SyncPacket) => {}
         Err(fault) => audit.hear_refused(now, sender, *fault),
