@@ -136,6 +136,11 @@ write("counters", sum((stream(24, steady, universe=it, numbers=range(it, it + le
 # what can't be read: a printer at the port, and a source of priority 201, or of a vector of the drafts; and a priority of 200
 def with_octets(octets, at, put): return octets[:at] + put + octets[at + len(put):]
 def unread(at, put): return with_octets(packet(26, 0), at, put)
+# the options (octet 112) with a reserved bit beside what they have; and with Force_Synchronization, which is none
+def with_options(packets, bits): return [(moment, with_octets(octets, 112, bytes([octets[112] | bits])), address) for moment, octets, address in packets]
+write("bits", with_options(stream(40, steady), 0x10),
+      who(40) + ":\n  6.2.6 reserved bits of the options set on 1 (803 times, the first at 0.000 s, the latest at 20.035 s)\n")
+write("bit5", with_options(stream(41, steady), 0x20), who(41) + ": conforms\n")
 printer = [(500, b"hello", 100, bytes([10, 0, 0, 9])), (1500, b"hello, printer", 100, bytes([10, 0, 0, 9]))]
 printer_line = "10.0.0.100 sends what can't be read: no packets of streaming ACN (2 times, the first at 0.500 s, the latest at 1.500 s)\n"
 tester = [(1000, unread(108, b"\xc9"), 9), (2500, unread(18, b"\0\0\0\3"), 9), (4000, unread(108, b"\xc9"), 9)]
