@@ -183,6 +183,14 @@ def desk(source, address, other=None):
     return '"Desk" %02x%02x..%02x at 10.0.0.%d: conforms\n' % (source, source, source, address) + other
 write("twins", twins(20035), desk(29, 5, "1e1e..1e at 10.0.0.6") + desk(30, 6, "1d1d..1d at 10.0.0.5"))
 write("successor", twins(20036), desk(29, 5) + desk(30, 6))
+# frames that can't be read: one cut short, two fragments, and one of IPv6
+whole = framed(stream(42, steady))
+first = whole[0][1]
+fragment = with_octets(first, 20, b"\x20")
+frames = [(100, first, 60), (200, fragment, len(first)), (300, fragment, len(first)), (400, with_octets(first, 12, b"\x86\xdd"), len(first))]
+rows = [("cut short, as by a snap length", 1), ("a fragment of IP", 2), ("IPv6", 1)]
+write_frames("frames", whole + framed([(it, octets, 5) for it, octets, _ in listed(42, [1], 0, 10000, 20000)]) + frames,
+             who(42) + ": conforms\n\nframes that couldn't be read\n" + "".join("%-30s %d\n" % it for it in rows))
 write("nothing", [], "no packets of streaming ACN\n")
 # What is sent live: three packets of a name without an end, and one of priority 201.
 for place, octets in enumerate([packet(31, number, name=b"n" * 64) for number in range(3)] + [with_octets(packet(31, 3), 108, b"\xc9")]):
@@ -206,7 +214,7 @@ tells() {
     echo "ok audit: $name"
   fi
 }
-for name in conforms rate44 rate50 skips skips2 stays stays3 second silent change1 change2 change3 end2 ended2 name64 name63 nametext nametext8 two moves start group0 groups counter counters unread priority200 printer unlisted late late12 back lacks lacks10 lacksnone pages pageslack unheard unheard12 alone twins successor nothing; do
+for name in conforms rate44 rate50 skips skips2 stays stays3 second silent change1 change2 change3 end2 ended2 name64 name63 nametext nametext8 two moves start group0 groups counter counters bits bit5 unread priority200 printer frames unlisted late late12 back lacks lacks10 lacksnone pages pageslack unheard unheard12 alone twins successor nothing; do
   tells "$name" 0 "" $name.text $name.pcap
 done
 # What is broken is told up to where a recording is faulty; what is no recording has nothing.
@@ -227,11 +235,13 @@ assert [(it["event"], it["section"], it["universes"], it["first"], it["latest"],
 assert objects[0]["cid"] == "03" * 16 and objects[0]["name"] == "Source 3" and objects[0]["address"] == "10.0.0.5", objects
 P
 [ $? = 0 ] && echo "ok audit: objects" || echo "not ok audit: objects: $(head -c 300 out)"
-"$sacn" audit --json unread.pcap >out 2>err && python3 - <<'P'
+{ "$sacn" audit --json unread.pcap && "$sacn" audit --json frames.pcap; } >out 2>err && python3 - <<'P'
 import json
 objects = [json.loads(line) for line in open("out")]
 unread = [tuple(it.get(key) for key in ("address", "section", "first", "latest", "times")) for it in objects if it["event"] == "unread"]
 assert unread == [("10.0.0.100", None, 500, 1500, 2), ("10.0.0.9", "6.2.3", 1000, 4000, 2), ("10.0.0.9", "5.5", 2500, 2500, 1)], objects
+frames = {"ms": 20035, "event": "unread_frames", "cut": 1, "fragments": 2, "ipv6": 1, "wrong_ipv4": 0, "other_links": 0, "too_long": 0}
+assert [it for it in objects if it["event"] == "unread_frames"] == [frames] and objects[-1] == frames, objects
 P
 [ $? = 0 ] && echo "ok audit: objects of what can't be read" || echo "not ok audit: objects of what can't be read: $(head -c 300 out)"
 "$sacn" audit --json twins.pcap >out 2>err && "$sacn" audit --json late.pcap >>out 2>>err && "$sacn" audit --json unheard.pcap >>out 2>>err && python3 - <<'P'
