@@ -151,7 +151,7 @@ fi
 # documents FOLDER: what of the documents there leads nowhere: links, examples, commands of a clone
 documents() {
   local file folder target
-  for file in "$1"/README.md "$1"/CHANGELOG.md "$1"/docs/{RIG,FILES,PROTOCOL,THEOREMS}.md; do
+  for file in "$1"/README.md "$1"/CHANGELOG.md "$1"/docs/{RIG,FILES,PROTOCOL,AUDIT,THEOREMS}.md; do
     [ -s "$file" ] || echo "$file isn't there"
     folder=$(dirname "$file")
     grep -oE '\]\([^)]*\)' "$file" | sed -E 's/^\]\(//; s/\)$//; s/#.*//' | while IFS= read -r target; do

@@ -38,12 +38,12 @@ done
 packed() { gzip -9n >"$1"; chmod 644 "$1"; }
 
 # What is packed of the documents in docs/.
-documents="RIG FILES PROTOCOL THEOREMS"
+documents="RIG FILES PROTOCOL AUDIT THEOREMS"
 commands="gateway|desk|watch|record|explain|audit|check|decode|sim|console|node|groups|manual|completion|--help|<"
 
 # A document on standard input, without links to what isn't packed.
 linked() {
-  sed -E -e "s#\\]\\((((docs/)?(${documents// /|})\\.md|CHANGELOG\\.md|(docs/)?page[a-z-]*\\.png|https?:|\\#)[^)]*)\\)#]\x01\\1\x02#g" \
+  sed -E -e "s#\\]\\((((docs/)?(${documents// /|})\\.md|CHANGELOG\\.md|(docs/)?[a-z-]+\\.png|https?:|\\#)[^)]*)\\)#]\x01\\1\x02#g" \
     -e 's#!?\[([^]]*)\]\([^)]*\)#\1#g' -e 's#\x01#(#g; s#\x02#)#g'
 }
 
@@ -74,7 +74,7 @@ tree() {
   linked <"$top/CHANGELOG.md" >"$root/usr/share/doc/sacn/CHANGELOG.md"
   for it in $documents; do installed <"$top/docs/$it.md" >"$root/usr/share/doc/sacn/docs/$it.md"; done
   chmod 644 "$root"/usr/share/doc/sacn/{,docs/}*.md
-  install -m 644 "$top"/docs/page*.png "$root/usr/share/doc/sacn/docs/"
+  install -m 644 "$top"/docs/*.png "$root/usr/share/doc/sacn/docs/"
   news sacn | packed "$root/usr/share/doc/sacn/changelog.gz"
   copyright >"$root/usr/share/doc/sacn/copyright"
 }

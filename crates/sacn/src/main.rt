@@ -25,7 +25,6 @@ mod source_lines;
 mod tapes;
 mod timed;
 mod watch;
-mod wire;
 
 use sacn_commands::ending;
 use std::process::ExitCode;
