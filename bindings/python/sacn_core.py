@@ -28,7 +28,6 @@ hold the interpreter's lock, so that breaking this rule does no harm where the i
 from __future__ import annotations
 
 import ctypes
-import ctypes.util
 import operator
 import os
 import uuid
@@ -405,28 +404,19 @@ _loaded: Optional[_Library] = None
 
 
 def load(path: Union[str, "os.PathLike[str]", None] = None) -> None:
-    """Loads the library: of this path, else of the environment's SACN_LIBRARY, else by its usual names.
+    """Loads the library: of this path, else of the environment's SACN_LIBRARY, else the system's `libsacn.so`.
 
     Calls and handles from then on are that library's; handles that are there keep theirs. LibraryError where there is
     none, or it isn't the library of sacn.h.
     """
     global _loaded
-    wanted = os.fspath(path) if path is not None else os.environ.get("SACN_LIBRARY")
-    if wanted:
-        names: List[str] = [wanted]
-    else:
-        found = ctypes.util.find_library("sacn")
-        names = ["libsacn.so"] + ([found] if found else [])
-    faults = []
-    for name in names:
-        try:
-            _loaded = _Library(name)
-            return
-        except LibraryError as fault:
-            faults.append(str(fault))
-        except OSError as fault:
-            faults.append(f"{name}: {fault}")
-    raise LibraryError("; ".join(faults))
+    wanted = os.fspath(path) if path is not None else os.environ.get("SACN_LIBRARY") or "libsacn.so"
+    try:
+        _loaded = _Library(wanted)
+    except LibraryError:
+        raise
+    except OSError as fault:
+        raise LibraryError(f"the library isn't loaded: {fault}; SACN_LIBRARY may name it") from None
 
 
 def _library() -> _Library:
