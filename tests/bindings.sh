@@ -126,7 +126,7 @@ fi
 # lit FOLDER UNIVERSE PORT [APART]: a folder's receiver joins the universe's group, and its sender lights slot 1 for a second and ends its stream.
 # It says what isn't so. APART, where the network has nothing up yet.
 lit() {
-  local folder=$1 universe=$2 port=$3 receiver group on off
+  local folder=$1 universe=$2 port=$3 receiver group sent on off
   if [ -n "${4-}" ]; then ip link set lo up; fi
   "$folder/receive" "$universe" 60 "$port" 127.0.0.1 >"$folder/heard" 2>"$folder/said" &
   receiver=$!
@@ -135,7 +135,8 @@ lit() {
     if grep -q "$group" /proc/net/igmp; then break; fi
     sleep 0.05
   done
-  timeout 30 "$folder/send" "$universe" 1 "$port" 127.0.0.1 >"$folder/sent" 2>&1
+  timeout 8 "$folder/send" "$universe" 1 "$port" 127.0.0.1 >"$folder/sent" 2>&1
+  sent=$?
   # (start code, slot 1 and nothing else; and then dark, since it was told that the stream has ended, and not since it was lost)
   for ((it = 0; it < 200; it++)); do
     on=$(grep -m 1 -E '^1 [0-9]+ 00ff0{1022}$' "$folder/heard" | cut -d ' ' -f 2)
@@ -145,7 +146,9 @@ lit() {
   done
   kill "$receiver"
   wait "$receiver" 2>/dev/null
-  if [ -z "$on" ]; then
+  if [ "$sent" != 0 ]; then
+    echo "the sender ends with status $sent: $(head -n 1 "$folder/sent")"
+  elif [ -z "$on" ]; then
     echo "it isn't lit: $(head -qn 1 "$folder/said" "$folder/sent" | cut -c 1-200 | tr '\n' ' ')"
   elif [ -z "$off" ]; then
     echo "it stays lit"

@@ -9,6 +9,9 @@ import gc
 import os
 import pickle
 import struct
+import sys
+import threading
+import time
 import unittest
 import uuid
 
@@ -383,6 +386,26 @@ class Handles(Base):
             for copied in (copy.copy, copy.deepcopy, pickle.dumps):
                 self.assertRaises(TypeError, copied, handle)
             handle.close()
+
+    @unittest.skipUnless(getattr(sys, "_is_gil_enabled", lambda: True)(), "the interpreter has no lock")
+    def test_a_handle_that_is_freed_while_other_threads_use_it(self):
+        sources, told = Sources(), []
+
+        def use():
+            try:
+                while True:
+                    sources.merged(0)
+            except SacnError as error:
+                told.append(error.status)
+
+        threads = [threading.Thread(target=use) for _ in range(4)]
+        for thread in threads:
+            thread.start()
+        time.sleep(0.05)
+        sources.close()
+        for thread in threads:
+            thread.join()
+        self.assertEqual(told, [Status.NULL] * 4)
 
     def test_memory_is_given_back(self):
         def kilobytes():

@@ -24,7 +24,7 @@ int main(int count, char **words) {
             const sockaddr_in to{AF_INET, port, {htonl(0xefff0000u | due->universe())}, {}};
             sendto(out, due->octets.data(), due->count, 0, (const sockaddr *)&to, sizeof to);
         }
-        const std::uint64_t wakes = is_ending ? console.wakes() : std::min(console.wakes(), end);
+        const std::uint64_t wakes = std::min(console.wakes(), is_ending ? now + 25 : end);
         std::this_thread::sleep_until(began + std::chrono::milliseconds(wakes));
     }
 }

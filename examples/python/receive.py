@@ -2,14 +2,13 @@
 """Shows a universe that comes by multicast: prints 'PORT MILLISECONDS FRAME' for each frame that changed.
 
 usage: receive.py UNIVERSE [SECONDS [UDP-PORT [ADDRESS OF THE DEVICE TO JOIN ON]]]"""
-import select, socket, sys, time
+import socket, sys, time
 import sacn_core
 
 
 def main(universe, seconds="inf", udp_port="5568", address="0.0.0.0"):
     setup = f"version = 1\nudp_port = {udp_port}\n[[port]]\nnumber = 1\nuniverse = {universe}\n"
     with sacn_core.Node(setup) as node, socket.socket(socket.AF_INET, socket.SOCK_DGRAM) as hears:
-        hears.setsockopt(socket.SOL_SOCKET, socket.SO_REUSEADDR, 1)
         hears.bind(("", node.udp_port))
         joined = socket.inet_aton(sacn_core.multicast_group(int(universe))) + socket.inet_aton(address)
         hears.setsockopt(socket.IPPROTO_IP, socket.IP_ADD_MEMBERSHIP, joined)
@@ -18,13 +17,13 @@ def main(universe, seconds="inf", udp_port="5568", address="0.0.0.0"):
             if (frame := node.frame(now, 1)) != shown:
                 shown = frame
                 print(1, now, frame.hex(), flush=True)
-            wakes = min(now + 1000, node.wakes() or now + 1000)
-            waits = select.select([hears], [], [], (wakes - now) / 1000)[0]
-            now = int(1000 * (time.monotonic() - began))
+            hears.settimeout((min(now + 1000, node.wakes() or now + 1000) - now) / 1000)
             try:
-                node.take(now, hears.recv(2048)) if waits else node.tick(now)
-            except sacn_core.NotAPacket as fault:
-                print(fault, file=sys.stderr)
+                datagram = hears.recv(2048)
+                node.take(int(1000 * (time.monotonic() - began)), datagram)
+            except (socket.timeout, sacn_core.NotAPacket):
+                pass
+            now = int(1000 * (time.monotonic() - began))
 
 
 main(*sys.argv[1:])

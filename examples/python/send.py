@@ -23,7 +23,7 @@ def main(universe, seconds="5", udp_port="5568", address="0.0.0.0"):
                 is_ending = True
             while datagram := console.poll(now):
                 out.sendto(datagram.octets, (datagram.group, int(udp_port)))
-            wakes = console.wakes() if is_ending else min(console.wakes(), end)
+            wakes = min(console.wakes(), now + 25 if is_ending else end)
             time.sleep(max(0, wakes / 1000 - (time.monotonic() - began)))
 
 

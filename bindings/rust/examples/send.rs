@@ -22,7 +22,7 @@ fn main() -> Result<(), Box<dyn std::error::Error>> {
         while let Some(datagram) = console.poll(now, &mut room)? {
             out.send_to(datagram.octets, (datagram.group(), udp_port))?;
         }
-        let wakes = if is_ending { console.wakes()? } else { console.wakes()?.min(end) };
+        let wakes = console.wakes()?.min(if is_ending { now + 25 } else { end });
         std::thread::sleep(Duration::from_millis(wakes).saturating_sub(began.elapsed()));
     }
     Ok(())
