@@ -38,7 +38,7 @@ example() {
   local file=$room/$1/$2
   shift 2
   mkdir -p "${file%/*}"
-  printf '#!/bin/bash\nexec' >"$file"
+  printf '#!/usr/bin/env bash\nexec' >"$file"
   printf ' %q' "$@" >>"$file"
   printf ' "$@"\n' >>"$file"
   chmod 755 "$file"
@@ -46,7 +46,8 @@ example() {
 
 python() {
   if ! python3 -c 'import sys; sys.exit(sys.version_info < (3, 9))' 2>/dev/null; then skips "Python" "there is no python3 of 3.9 or later"; return; fi
-  python3 -B "$top/tests/bindings.py" "$top" 2>&1 || :
+  if ! python3 -B "$top/tests/bindings.py" "$top" >"$room/told" 2>&1 && ! grep -q '^not ok ' "$room/told"; then fails "declarations" "$(tail -n 1 "$room/told")"; fi
+  grep -E '^(ok|not ok) ' "$room/told"
   if [ ! -f "$prefix/lib/libsacn.so" ]; then skips "Python" "there is no shared object"; return; fi
   if SACN_LIBRARY=$prefix/lib/libsacn.so python3 -B "$top/bindings/python/test_sacn_core.py" >"$room/said" 2>&1; then
     ok "Python: $(sed -n 's/^Ran \([0-9]*\) tests.*/\1 tests/p' "$room/said")"
