@@ -129,14 +129,14 @@ fi
 lit() {
   local folder=$1 universe=$2 port=$3 receiver group sent on off
   if [ -n "${4-}" ]; then ip link set lo up; fi
-  "$folder/receive" "$universe" 60 "$port" 127.0.0.1 >"$folder/heard" 2>"$folder/said" &
+  "$folder/receive" "$universe" 120 "$port" 127.0.0.1 >"$folder/heard" 2>"$folder/said" &
   receiver=$!
   group=$(printf '%02X%02XFFEF' $((universe % 256)) $((universe / 256)))
   for ((it = 0; it < 400; it++)); do
     if grep -q "$group" /proc/net/igmp; then break; fi
     sleep 0.05
   done
-  timeout 8 "$folder/send" "$universe" 1 "$port" 127.0.0.1 >"$folder/sent" 2>&1
+  timeout 30 "$folder/send" "$universe" 1 "$port" 127.0.0.1 >"$folder/sent" 2>&1
   sent=$?
   # (start code, slot 1 and nothing else; and then dark, since it was told that the stream has ended, and not since it was lost)
   for ((it = 0; it < 200; it++)); do
@@ -145,7 +145,7 @@ lit() {
     if [ -n "$on" ] && [ -n "$off" ]; then break; fi
     sleep 0.05
   done
-  kill "$receiver"
+  kill "$receiver" 2>/dev/null
   wait "$receiver" 2>/dev/null
   if [ "$sent" != 0 ]; then
     echo "the sender ends with status $sent: $(head -n 1 "$folder/sent")"
