@@ -134,8 +134,7 @@ else
   setup 25971 >"$room/node25971.toml"
   if built receive "$top/examples/c/receive.c" -std=c99 -O2; then hears "receive.c hears a desk" 25971 "$room/receive" "$room/node25971.toml" 4; fi
   if command -v python3 >/dev/null && [ -f "$prefix/lib/libsacn.so" ]; then
-    setup 25972 >"$room/node25972.toml"
-    hears "receive.py hears a desk" 25972 python3 "$top/examples/python/receive.py" "$prefix/lib/libsacn.so" "$room/node25972.toml" 4
+    hears "receive.py hears a desk" 25972 env SACN_LIBRARY="$prefix/lib/libsacn.so" PYTHONPATH="$top/bindings/python" python3 "$top/examples/python/receive.py" 1 4 25972 127.0.0.1
   else
     echo "skipped library: receive.py: no python3, or no shared object"
   fi

@@ -126,20 +126,34 @@ done
 
 root=$room/libsacn-dev_${version}_amd64
 install -d "$root/DEBIAN" "$root/usr/include" "$root/usr/lib/x86_64-linux-gnu/pkgconfig" "$root/usr/share/doc/libsacn-dev/examples"
-install -m 644 "$top/include/sacn.h" "$root/usr/include/"
+install -m 644 "$top/include/sacn.h" "$top/bindings/cxx/sacn.hpp" "$root/usr/include/"
 install -m 644 "$release/x86_64-linux/libsacn.a" "$release/x86_64-linux/libsacn.so" "$root/usr/lib/x86_64-linux-gnu/"
 echo "activate-noawait ldconfig" >"$root/DEBIAN/triggers"
 printf 'Name: sacn\nDescription: Streaming ACN (ANSI E1.31-2018) over proved cores\nVersion: %s\nLibs: -lsacn\n' "$version" >"$root/usr/lib/x86_64-linux-gnu/pkgconfig/sacn.pc"
 install -m 644 "$top/docs/LIBRARY.md" "$root/usr/share/doc/libsacn-dev/"
-install -m 644 "$top"/examples/c/*.c "$root/usr/share/doc/libsacn-dev/examples/"
+install -m 644 "$top"/examples/c/*.c "$top"/examples/cxx/*.cpp "$root/usr/share/doc/libsacn-dev/examples/"
 news libsacn-dev | packed "$root/usr/share/doc/libsacn-dev/changelog.gz"
 copyright >"$root/usr/share/doc/libsacn-dev/copyright"
 install -d "$root/usr/share/lintian/overrides"
 install -m 644 "$top/packaging/libsacn-dev.lintian-overrides" "$root/usr/share/lintian/overrides/libsacn-dev"
 control amd64 libsacn-dev "libc6-dev | libc-dev" libdevel >"$root/DEBIAN/control" <<'TEXT'
-Description: streaming ACN for stage lighting: library for C
+Description: streaming ACN for stage lighting: library for C and C++
  The proved cores of the node, the console, the merge of sources, universe
- discovery and the monitor of streaming ACN (ANSI E1.31-2018), with a header,
+ discovery and the monitor of streaming ACN (ANSI E1.31-2018), with headers,
  an archive, a shared library and examples.
 TEXT
 debian "libsacn-dev_${version}_amd64.deb"
+
+root=$room/python3-sacn-core_${version}_all
+install -d "$root/DEBIAN" "$root/usr/lib/python3/dist-packages" "$root/usr/share/doc/python3-sacn-core/examples"
+install -m 644 "$top/bindings/python/sacn_core.py" "$root/usr/lib/python3/dist-packages/"
+install -m 644 "$top"/examples/python/*.py "$root/usr/share/doc/python3-sacn-core/examples/"
+news python3-sacn-core | packed "$root/usr/share/doc/python3-sacn-core/changelog.gz"
+copyright >"$root/usr/share/doc/python3-sacn-core/copyright"
+control all python3-sacn-core "libsacn-dev (= $version), python3 (>= 3.9)" python >"$root/DEBIAN/control" <<'TEXT'
+Description: streaming ACN for stage lighting: module for Python
+ One module over the shared library of libsacn-dev: the node, the console, the
+ merge of sources, universe discovery, the monitor and packets of streaming ACN
+ (ANSI E1.31-2018), typed, with exceptions and examples.
+TEXT
+debian "python3-sacn-core_${version}_all.deb"
