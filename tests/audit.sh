@@ -3,42 +3,28 @@
 # loopback: a desk of ours, which conforms, and a source that breaks two rules.
 # Prints 'ok NAME', 'not ok NAME: why' or 'skipped NAME: why' for each, as ./test counts them.
 set -u
-top=$(cd "$(dirname "$(readlink -f "$0")")/.." && pwd)
-sacn=${SACN:-$top/crates/sacn/out/sacn}
-if [ ! -x "$sacn" ]; then
-  echo "skipped audit: sacn isn't built"
-  exit 0
-fi
-room=$(mktemp -d)
-trap 'rm -rf "$room"' EXIT
-cd "$room" || exit 1
+# shellcheck source=tests/lib.sh
+. "$(dirname "$(readlink -f "$0")")/lib.sh"
+need sacn
+heard=$(free_udp_port)
+shown=$(free_udp_port)
 
 # A recording for each rule: NAME.pcap, and what is told of it: NAME.text. What is wanted stands here as the standard and the numbers of the packets have it.
-python3 - <<'P' || echo "not ok audit: the recordings are made"
-import struct
+python3 - <<'P' || verdict "the recordings are made" 1
+import e131
+def named(source, name): return b"Source %d" % source if name is None else name
 def packet(source, number, universe=1, slots=b"\xff", start=0, name=None, ends=False):
-    slots = bytes([start]) + slots
-    name = (b"Source %d" % source).ljust(64, b"\0") if name is None else name
-    dmp = struct.pack(">H", 0x7000 + 10 + len(slots)) + bytes([2, 0xa1, 0, 0, 0, 1]) + struct.pack(">H", len(slots)) + slots
-    framing = b"\0\0\0\2" + name + bytes([100, 0, 0, number % 256, 0x40 if ends else 0]) + struct.pack(">H", universe)
-    framing = struct.pack(">H", 0x7000 + 2 + len(framing) + len(dmp)) + framing + dmp
-    root = b"\0\0\0\4" + bytes([source] * 16)
-    return b"\0\x10\0\0ASC-E1.17\0\0\0" + struct.pack(">H", 0x7000 + 2 + len(root) + len(framing)) + root + framing
+    options = e131.TERMINATED if ends else 0
+    return e131.data(universe, number, slots, bytes([source] * 16), named(source, name), options=options, start=start)
 def page(source, universes, number=0, last=0, name=None):
     """A page of universe discovery (E1.31, 6.4 and 8)."""
-    name = (b"Source %d" % source).ljust(64, b"\0") if name is None else name
-    layer = b"\0\0\0\1" + bytes([number, last]) + b"".join(struct.pack(">H", it) for it in universes)
-    layer = struct.pack(">H", 0x7000 + 2 + len(layer)) + layer
-    framing = b"\0\0\0\2" + name + bytes(4)
-    framing = struct.pack(">H", 0x7000 + 2 + len(framing) + len(layer)) + framing + layer
-    root = b"\0\0\0\x08" + bytes([source] * 16)
-    return b"\0\x10\0\0ASC-E1.17\0\0\0" + struct.pack(">H", 0x7000 + 2 + len(root) + len(framing)) + root + framing
+    return e131.page(universes, number, last, bytes([source] * 16), named(source, name))
 def with_pages(packets):
     """Beside these data packets, sorted, a list of each source's universes at its first one and each 10 s from then on, with the name and the address of the packet before."""
     pages = []
     for source in sorted({octets[22] for _, octets, *_ in packets}):
         own = [it for it in packets if it[1][22] == source]
-        universes = sorted({struct.unpack(">H", octets[113:115])[0] for _, octets, *_ in own})
+        universes = sorted({int.from_bytes(octets[113:115], "big") for _, octets, *_ in own})
         for at in range(own[0][0], own[-1][0] + 1, 10000):
             _, before, address, *_ = [it for it in own if it[0] <= at][-1]
             pages.append((at, page(source, universes, name=before[44:108]), address))
@@ -46,25 +32,15 @@ def with_pages(packets):
 def group(octets):
     """The group of a data packet's universe, or of pages (9.3.1 and 9.3.2)."""
     return bytes([239, 255]) + (octets[113:115] if octets[21] == 4 else b"\xfa\xd6")
-def frame(octets, address, to, port=5568):
-    udp = struct.pack(">HHHH", 5568, port, 8 + len(octets), 0) + octets
-    head = struct.pack(">BBHHHBBH4s4s", 0x45, 0, 20 + len(udp), 0, 0, 64, 17, 0, bytes([10, 0, 0, address]), to)
-    return bytes(12) + b"\x08\0" + head + udp
-def write_frames(name, frames, text):
-    """Frames are (millisecond, octets, how many of these were recorded)."""
-    with open(name + ".pcap", "wb") as out:
-        out.write(struct.pack("<IHHiIII", 0xa1b2c3d4, 2, 4, 0, 0, 65535, 1))
-        for at, whole, kept in sorted(frames, key=lambda it: it[0]):
-            out.write(struct.pack("<IIII", 1700000000 + at // 1000, at % 1000 * 1000, kept, len(whole)) + whole[:kept])
-    open(name + ".text", "w", encoding="utf-8").write(text)
-def framed(packets):
-    frames = [(at, frame(octets, address, to[0] if to else group(octets))) for at, octets, address, *to in packets]
-    return [(at, whole, len(whole)) for at, whole in frames]
 def write(name, packets, text, lists=None):
     """Packets are (millisecond, octets, last number of the sender's address), and where it isn't their universe's group the address that they go to;
     with a list of universes each 10 s, or with these pages."""
     packets = sorted(packets, key=lambda it: it[0])
-    write_frames(name, framed(with_pages(packets) if lists is None else packets + lists), text)
+    recording = e131.Recording(name + ".pcap", 1700000000)
+    for at, octets, address, *to in sorted(with_pages(packets) if lists is None else packets + lists, key=lambda it: it[0]):
+        recording.sent(at, address, octets, to=to[0] if to else group(octets), from_port=5568)
+    recording.close()
+    open(name + ".text", "w", encoding="utf-8").write(text)
 def stream(source, moments, address=5, numbers=None, ends=3, **fields):
     """A stream whose numbers go up by one, and three packets that end it, 20 ms apart."""
     numbers = range(len(moments)) if numbers is None else numbers
@@ -184,13 +160,16 @@ def desk(source, address, other=None):
 write("twins", twins(20035), desk(29, 5, "1e1e..1e at 10.0.0.6") + desk(30, 6, "1d1d..1d at 10.0.0.5"))
 write("successor", twins(20036), desk(29, 5) + desk(30, 6))
 # frames that can't be read: one cut short, two fragments, and one of IPv6
-whole = framed(stream(42, steady))
+def framed(octets, address=5): return e131.carried(address, octets, to=group(octets), from_port=5568)
+whole = [(at, framed(octets), None) for at, octets, _ in stream(42, steady) + listed(42, [1], 0, 10000, 20000)]
 first = whole[0][1]
 fragment = with_octets(first, 20, b"\x20")
-frames = [(100, first, 60), (200, fragment, len(first)), (300, fragment, len(first)), (400, with_octets(first, 12, b"\x86\xdd"), len(first))]
+lost = [(100, first, 60), (200, fragment, None), (300, fragment, None), (400, with_octets(first, 12, b"\x86\xdd"), None)]
+recording = e131.Recording("frames.pcap", 1700000000)
+for at, octets, kept in sorted(whole + lost, key=lambda it: it[0]): recording.frame(at, octets, kept)
+recording.close()
 rows = [("cut short, as by a snap length", 1), ("a fragment of IP", 2), ("IPv6", 1)]
-write_frames("frames", whole + framed([(it, octets, 5) for it, octets, _ in listed(42, [1], 0, 10000, 20000)]) + frames,
-             who(42) + ": conforms\n\nframes that couldn't be read\n" + "".join("%-30s %d\n" % it for it in rows))
+open("frames.text", "w").write(who(42) + ": conforms\n\nframes that couldn't be read\n" + "".join("%-30s %d\n" % it for it in rows))
 write("nothing", [], "no packets of streaming ACN\n")
 # What is sent live: three packets of a name without an end, and one of priority 201.
 for place, octets in enumerate([packet(31, number, name=b"n" * 64) for number in range(3)] + [with_octets(packet(31, 3), 108, b"\xc9")]):
@@ -204,15 +183,8 @@ tells() {
   timeout 60 "$sacn" audit "$@" </dev/null >out 2>err || status=$?
   first=$(head -n 1 err)
   # shellcheck disable=SC2053
-  if [ "$status" != "$wanted" ]; then
-    echo "not ok audit: $name: status $status, '$first'"
-  elif ! [[ $first == $said ]]; then
-    echo "not ok audit: $name: '$first'"
-  elif ! cmp -s "$output" out; then
-    echo "not ok audit: $name: it prints something else: $(diff "$output" out | head -n 4 | cut -c 1-160 | tr '\n' '|')"
-  else
-    echo "ok audit: $name"
-  fi
+  [ "$status" = "$wanted" ] && [[ $first == $said ]] && cmp -s "$output" out
+  verdict "$name" $? "status $status, '$first', it prints something else: $(diff "$output" out | head -n 4 | cut -c 1-160)"
 }
 for name in conforms rate44 rate50 skips skips2 stays stays3 second silent change1 change2 change3 end2 ended2 name64 name63 nametext nametext8 two moves start group0 groups counter counters bits bit5 unread priority200 printer frames unlisted late late12 back lacks lacks10 lacksnone pages pageslack unheard unheard12 alone twins successor nothing; do
   tells "$name" 0 "" $name.text $name.pcap
@@ -226,7 +198,7 @@ tells "what is no recording" 3 "refused other octet 0 NotACapture" empty other
 tells "a file that isn't there" 4 "device read absent" empty absent
 tells "another port" 0 "" nothing.text conforms.pcap --port 5569
 cat silent.pcap | timeout 60 "$sacn" audit - >out 2>err && cmp -s out silent.text && [ ! -s err ]
-[ $? = 0 ] && echo "ok audit: standard input" || echo "not ok audit: standard input: $(head -c 200 err out)"
+verdict "standard input" $? "$(head -c 200 err out)"
 # Objects: one a line, each a JSON document, of the same rules.
 "$sacn" audit --json rate50.pcap >out 2>err && python3 - <<'P'
 import json
@@ -234,7 +206,7 @@ objects = [json.loads(line) for line in open("out")]
 assert [(it["event"], it["section"], it["universes"], it["first"], it["latest"], it["times"]) for it in objects] == [("breach", "6.6.1", [7, 8], 1880, 19880, 38)], objects
 assert objects[0]["cid"] == "03" * 16 and objects[0]["name"] == "Source 3" and objects[0]["address"] == "10.0.0.5", objects
 P
-[ $? = 0 ] && echo "ok audit: objects" || echo "not ok audit: objects: $(head -c 300 out)"
+verdict "objects" $? "$(head -c 300 out)"
 { "$sacn" audit --json unread.pcap && "$sacn" audit --json frames.pcap; } >out 2>err && python3 - <<'P'
 import json
 objects = [json.loads(line) for line in open("out")]
@@ -243,7 +215,7 @@ assert unread == [("10.0.0.100", None, 500, 1500, 2), ("10.0.0.9", "6.2.3", 1000
 frames = {"ms": 20035, "event": "unread_frames", "cut": 1, "fragments": 2, "ipv6": 1, "wrong_ipv4": 0, "other_links": 0, "too_long": 0}
 assert [it for it in objects if it["event"] == "unread_frames"] == [frames] and objects[-1] == frames, objects
 P
-[ $? = 0 ] && echo "ok audit: objects of what can't be read" || echo "not ok audit: objects of what can't be read: $(head -c 300 out)"
+verdict "objects of what can't be read" $? "$(head -c 300 out)"
 "$sacn" audit --json twins.pcap >out 2>err && "$sacn" audit --json late.pcap >>out 2>>err && "$sacn" audit --json unheard.pcap >>out 2>>err && python3 - <<'P'
 import json
 objects = [json.loads(line) for line in open("out")]
@@ -254,21 +226,20 @@ assert [(it["event"], it.get("section"), it.get("rule"), it.get("first"), it.get
     ("breach", "8", "no list of universes for 12 s", 12025, 25025, 2), ("conforms", None, None, None, None, None),
     ("seen", "8", "a list with a universe that wasn't heard", 20011, 20011, 1)], lists
 P
-[ $? = 0 ] && echo "ok audit: objects of names and lists" || echo "not ok audit: objects of names and lists: $(head -c 300 out)"
+verdict "objects of names and lists" $? "$(head -c 300 out)"
 
 # What is heard as it comes. A watch ends with its input.
-printf 'version = 1\nudp_port = 25865\n[[port]]\nnumber = 1\nuniverse = 1\n' >node.toml
-printf 'version = 1\ncid = "00010203-0405-0607-0809-0a0b0c0d0e0f"\nname = "Desk"\nuniverses = [1]\nsend_to = [25864]\n[[patch]]\nchannel = 1\nuniverse = 1\nslot = 1\n' >show.toml
+printf 'version = 1\nudp_port = %s\n[[port]]\nnumber = 1\nuniverse = 1\n' "$shown" >node.toml
+printf 'version = 1\ncid = "00010203-0405-0607-0809-0a0b0c0d0e0f"\nname = "Desk"\nuniverses = [1]\nsend_to = [%s]\n[[patch]]\nchannel = 1\nuniverse = 1\nslot = 1\n' "$heard" >show.toml
 send_live() { python3 -c 'import socket, sys; s = socket.socket(socket.AF_INET, socket.SOCK_DGRAM); [s.sendto(open("live%d.sacn" % it, "rb").read(), ("127.0.0.1", int(sys.argv[1]))) for it in range(4)]' "$1"; }
-told() { for _ in $(seq 200); do grep -q "$1" "$2" && return 0; sleep 0.05; done; return 1; }
 mkfifo held orders
 # hears_live WORD..: starts a watch that audits
 hears_live() {
   : >hears
-  "$sacn" watch --port 25864 --audit "$@" <held >live 2>hears &
+  "$sacn" watch --port "$heard" --audit "$@" <held >live 2>hears &
   watch=$!
   exec 4>held
-  told '^hears' hears
+  wait_for_line hears '^hears'
 }
 hears_live
 : >answers
@@ -276,16 +247,16 @@ hears_live
 desk=$!
 exec 3>orders
 echo "1 at full" >&3
-told '^ok' answers
+wait_for_line answers '^ok'
 exec 3>&-
 wait $desk
 exec 4>&-
 wait $watch
 status=$?
 [ $status = 0 ] && [ "$(head -n 1 live)" = '"Desk" 0001..0f at 127.0.0.1: conforms' ] && [ "$(wc -l <live)" = 2 ] && grep -q "^  can't be seen in so short a recording: .*; 8 a list that lacks a universe it sends$" live
-[ $? = 0 ] && echo "ok audit: a desk that a watch hears conforms" || echo "not ok audit: a desk that a watch hears conforms: status $status, $(head -c 300 live)"
+verdict "a desk that a watch hears conforms" $? "status $status, $(head -c 300 live)"
 hears_live --json
-send_live 25864
+send_live "$heard"
 # (a datagram that came is taken before the end of standard input)
 exec 4>&-
 wait $watch
@@ -295,15 +266,15 @@ objects = [json.loads(line) for line in open("live")]
 broken = [(it["event"], it.get("cid"), it.get("section"), it.get("rule"), it.get("universes"), it.get("times")) for it in objects if it["event"] in ("breach", "unread")]
 assert broken == [("breach", "1f" * 16, "6.2.2", "a name without an end", [1], 3), ("unread", None, "6.2.3", "the priority is above 200", None, 1)], objects
 P
-[ $? = 0 ] && echo "ok audit: objects of a watch" || echo "not ok audit: objects of a watch: $(head -c 300 live)"
+verdict "objects of a watch" $? "$(head -c 300 live)"
 : >hears
 "$sacn" gateway node.toml --audit --seconds 3 >frames 2>hears &
 gateway=$!
-told '^hears' hears
-send_live 25865
+wait_for_line hears '^hears'
+send_live "$shown"
 wait $gateway
 status=$?
 name=$(printf 'n%.0s' $(seq 64))
 [ $status = 0 ] && grep -q '^1 [0-9]* 00ff' frames && grep -qxF "\"$name\" 1f1f..1f at 127.0.0.1:" hears && grep -qE '^  6\.2\.2 a name without an end on 1 \(3 times, the first at [0-9.]+ s, the latest at [0-9.]+ s\)$' hears &&
   [[ $(tail -n 1 hears) =~ ^"127.0.0.1 sends what can't be read: 6.2.3 the priority is above 200 (once, at "[0-9.]+" s)"$ ]]
-[ $? = 0 ] && echo "ok audit: a gateway tells once its seconds are over" || echo "not ok audit: a gateway tells once its seconds are over: status $status, $(tail -n 4 hears)"
+verdict "a gateway tells once its seconds are over" $? "status $status, $(tail -n 4 hears)"

@@ -8,6 +8,8 @@ import re
 import subprocess
 import sys
 
+import e131
+
 sacn, examples = sys.argv[1:]
 SEED = 1
 EACH = 400
@@ -21,12 +23,12 @@ LINES = [
     "[[node]]", "[[port.range]]", "[[console.show.cue]]", "[[node.setup.port]]", "cue = []", "patch = 1", "port = []", "priority = 201", "number = 1",
     "send_to = [5568, 0]", "levels = [[1, 2], [3]]", "fade = 3600001", "up = 3600001", "slot = 512", "= 1", "]", "# text", "",
 ]
-SHOW = """version = 1
+SHOW = f"""version = 1
 cid = "10010203-0405-0607-0809-0a0b0c0d0e0f"
 name = "Desk"
 priority = 100
 universes = [3, 1]
-send_to = [25891]
+send_to = [{e131.free_udp_port()}]
 [[cue]]
 number = 1
 fade = 0
@@ -45,8 +47,8 @@ channel = 2
 universe = 3
 slot = 512
 """
-SETUP = """version = 1
-udp_port = 25892
+SETUP = f"""version = 1
+udp_port = {e131.free_udp_port()}
 [[port]]
 number = 1
 universe = 1
@@ -75,7 +77,7 @@ def read(name):
         return file.read()
 
 
-show2, setup2 = read("show.toml"), read("node.toml").replace("version = 2\n", "version = 2\nudp_port = 25893\n")
+show2, setup2 = read("show.toml"), read("node.toml").replace("version = 2\n", f"version = 2\nudp_port = {e131.free_udp_port()}\n")
 SOURCES = {
     "show": [SHOW, show2],
     "setup": [SETUP, setup2],

@@ -3,15 +3,9 @@
 # which the first fault told must be the one that the file's own command answers. Prints 'ok NAME', 'not ok NAME: why' or 'skipped NAME: why' for each
 # run, as ./test counts them.
 set -u
-top=$(cd "$(dirname "$(readlink -f "$0")")/.." && pwd)
-sacn=${SACN:-$top/crates/sacn/out/sacn}
-if [ ! -x "$sacn" ]; then
-  echo "skipped check: sacn isn't built"
-  exit 0
-fi
-room=$(mktemp -d)
-trap 'rm -rf "$room"' EXIT
-cd "$room" || exit 1
+# shellcheck source=tests/lib.sh
+. "$(dirname "$(readlink -f "$0")")/lib.sh"
+need sacn
 
 # tells NAME STATUS WORD..: a run of check ends so, and prints what stands in standard input (what the TOML reader says is left out)
 tells() {
@@ -20,13 +14,8 @@ tells() {
   cat >wanted
   timeout 20 "$sacn" check "$@" </dev/null >all 2>err || status=$?
   sed 's/: Toml: .*/: Toml: */' all >out
-  if [ "$status" != "$wanted" ]; then
-    echo "not ok check: $name: status $status, '$(head -n 1 err)'"
-  elif ! cmp -s wanted out; then
-    echo "not ok check: $name: it prints something else: $(diff wanted out | head -n 4 | cut -c 1-200 | tr '\n' '|')"
-  else
-    echo "ok check: $name"
-  fi
+  [ "$status" = "$wanted" ] && cmp -s wanted out
+  verdict "$name" $? "status $status, '$(head -n 1 err)', it prints something else: $(diff wanted out | head -n 4 | cut -c 1-200)"
 }
 
 cp "$top"/examples/*.toml "$top"/examples/*.txt .
@@ -391,7 +380,8 @@ show.toml: right: a show
 E
 printf 'show.toml: right: a show\n-: colour: 1: UnknownKey: the keys here are version, udp_port, port\n' >wanted
 printf 'version = 1\ncolour = 1\nport = []\n' | timeout 20 "$sacn" check show.toml - >out 2>err
-[ "${PIPESTATUS[1]}" = 3 ] && cmp -s wanted out && echo "ok check: standard input among files" || echo "not ok check: standard input among files: $(head -n 2 out | tr '\n' '|')"
+[ "${PIPESTATUS[1]}" = 3 ] && cmp -s wanted out
+verdict "standard input among files" $? "$(head -n 2 out)"
 tells "no file" 2 </dev/null
 tells "a kind that isn't one" 2 show.toml --as shows </dev/null
 cp show.toml $'odd\x1b[1m.toml'
@@ -413,7 +403,7 @@ tells "a hundred faults are told" 3 keys.toml <keys.wanted
 # The first fault of changed examples is that which the file's own command answers.
 if command -v python3 >/dev/null; then
   mkdir changed
-  (cd changed && python3 "$top/tests/check.py" "$sacn" "$top/examples") || echo "not ok check: changed examples: check.py failed"
+  (cd changed && python3 "$top/tests/check.py" "$sacn" "$top/examples") || verdict "changed examples" 1 "check.py failed"
 else
-  echo "skipped check: changed examples: no python3"
+  skips "changed examples" "no python3"
 fi

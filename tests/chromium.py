@@ -1,4 +1,4 @@
-"""What browser.py stands on: programs that it starts, a headless Chromium and what is seen in it, and packets.
+"""What page_browser.py and desk_page.py stand on: programs that it starts, a headless Chromium and what is seen in it, and packets.
 
 Chromium and its driver (Debian's chromium and chromium-driver) are spoken to by the WebDriver protocol, so no library is needed.
 """
@@ -9,7 +9,9 @@ import subprocess
 import time
 import urllib.request
 
-DRIVER = 25843
+import e131
+
+DRIVER = e131.free_tcp_port()
 started = []
 
 
@@ -94,7 +96,5 @@ def are_seen(what, count):
 
 
 def packet(universe, number, name=b"Crowd", options=0):
-    """A data packet of 512 slots (E1.31, 5, 6.2 and 7)."""
-    root = bytes.fromhex("001000004153432d45312e3137000000726e00000004") + bytes(range(16))
-    framing = bytes.fromhex("725800000002") + name.ljust(64, b"\0") + bytes([100, 0, 0, number % 256, options]) + universe.to_bytes(2, "big")
-    return root + framing + bytes.fromhex("720b02a1000000010201") + bytes([0]) + bytes([number % 256]) * 512
+    """A data packet of 512 slots, all at its number."""
+    return e131.data(universe, number, bytes([number % 256]) * 512, name=name, options=options)

@@ -2,16 +2,9 @@
 # Runs the built program's promised commands, one datagram on standard input, decode, sim, console and node, and compares status, standard output and
 # standard error with what is written here by hand. Prints 'ok NAME', 'not ok NAME: why' or 'skipped NAME: why' for each run, as ./test counts them.
 set -u
-top=$(cd "$(dirname "$(readlink -f "$0")")/.." && pwd)
-sacn=${SACN:-$top/crates/sacn/out/sacn}
-if [ ! -x "$sacn" ]; then
-  echo "skipped commands: sacn isn't built"
-  exit 0
-fi
-room=$(mktemp -d)
-holder=
-trap '[ -z "$holder" ] || kill "$holder" 2>/dev/null; rm -rf "$room"' EXIT
-cd "$room" || exit 1
+# shellcheck source=tests/lib.sh
+. "$(dirname "$(readlink -f "$0")")/lib.sh"
+need sacn
 
 # octets DIGITS..: the octets of hexadecimal digits, blanks anywhere between them
 octets() {
@@ -24,15 +17,8 @@ octets() {
 # said STATUS OUTPUT ERRORS NAME: the last run ended so; OUTPUT and ERRORS are texts
 said() {
   local status=$1 output=$2 errors=$3 name=$4
-  if [ "$ran" != "$status" ]; then
-    echo "not ok commands: $name: status $ran"
-  elif ! cmp -s <(printf %s "$output") out; then
-    echo "not ok commands: $name: it prints '$(head -c 200 out)'"
-  elif ! cmp -s <(printf %s "$errors") err; then
-    echo "not ok commands: $name: it says '$(head -c 200 err)'"
-  else
-    echo "ok commands: $name"
-  fi
+  [ "$ran" = "$status" ] && cmp -s <(printf %s "$output") out && cmp -s <(printf %s "$errors") err
+  verdict "$name" $? "status $ran, it prints '$(head -c 200 out)' and says '$(head -c 200 err)'"
 }
 
 # run INPUT [WORD..]: a run on this file; its outputs are in out and err, its status in ran
@@ -51,7 +37,8 @@ explains() {
   local name=$1
   shift
   run /dev/null "$@"
-  if [ "$ran" = 2 ] && [ ! -s out ] && [ -s err ]; then echo "ok commands: $name"; else echo "not ok commands: $name: status $ran"; fi
+  [ "$ran" = 2 ] && [ ! -s out ] && [ -s err ]
+  verdict "$name" $? "status $ran"
 }
 
 # slots COUNT DIGITS: so many slots at one level, as a frame prints them
@@ -299,8 +286,8 @@ if [ -c /dev/full ]; then
   said 3 "" "$(refusal schedule "step 0 NoConsole")"$'\n' "and not where none was"
 fi
 
-# ---- Consoles and nodes on 127.0.0.1, on ports of this run's own. Nobody listens where the console sends.
-port=$((20000 + $$ % 40000))
+# ---- Consoles and nodes on 127.0.0.1. Nobody listens where the console sends.
+port=$(free_udp_port)
 show="version = 1
 cid = \"$cid\"
 name = \"Desk\"
@@ -358,12 +345,11 @@ if [ -c /dev/full ]; then
 fi
 "$sacn" node setup --turns 1000000000 >held 2>/dev/null &
 holder=$!
-for _ in $(seq 100); do [ -s held ] && break; sleep 0.05; done
+wait_until test -s held
 run /dev/null node setup --turns 1
 said 4 "" "device socket"$'\n' "a socket that is taken"
 kill "$holder"
 wait "$holder" 2>/dev/null
-holder=
 explains "a node without its turns" node x
 explains "no turns" node x --turns 0
 explains "a turn too many" node x --turns 1000000001

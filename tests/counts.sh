@@ -2,16 +2,9 @@
 # The instructions of the built programs, counted anew where valgrind is: none may be more than 3 % above its line of bench/counts.txt. Then what bench/counts says of
 # faulty files and of counts beside their lines, and bench/run of checkouts that do other work. Prints 'ok NAME', 'not ok NAME: why' or 'skipped NAME: why' for each.
 set -u
-top=$(cd "$(dirname "$(readlink -f "$0")")/.." && pwd)
-if ! command -v python3 >/dev/null; then
-  echo "skipped counts: there is no python3"
-  exit 0
-fi
-room=$(mktemp -d)
-trap 'rm -rf "$room"' EXIT
-
-# verdict NAME STATUS [WHY]: says whether a look went well
-verdict() { if [ "$2" = 0 ]; then echo "ok counts: $1"; else echo "not ok counts: $1: ${3-}"; fi; }
+# shellcheck source=tests/lib.sh
+. "$(dirname "$(readlink -f "$0")")/lib.sh"
+need python3
 
 # The gate builds no archive for C, but leaves its build of the libraries below it (status 3: it isn't there).
 library=()

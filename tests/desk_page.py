@@ -18,14 +18,13 @@ import tempfile
 import threading
 import time
 from chromium import Browser, start, started
+import e131
 
 SACN = sys.argv[1]
 PICTURES = sys.argv[2] if len(sys.argv) > 2 else None
 ROOM = tempfile.mkdtemp()
-UDP, PAGE, KEY = 25849, 25850, "correct-Horse_9"
+UDP, PAGE, KEY = e131.free_udp_port(), e131.free_tcp_port(), "correct-Horse_9"
 AT = f"127.0.0.1:{PAGE}"
-# Where a data packet has the first of its slots (E1.31, 7.7).
-SLOTS_AT = 126
 # Cue 2 fades for a minute: while it does a packet is due each 25 ms. On a machine that is busy with other things one is this late at most, in seconds.
 LONGEST = 0.4
 SHOW = f"""version = 2
@@ -69,9 +68,9 @@ class Light:
 
     def listen(self):
         while True:
-            octets = self.socket.recv(2048)
-            if octets[18:22] == b"\0\0\0\4":
-                self.came.append((time.monotonic(), octets[SLOTS_AT:]))
+            packet = e131.read(self.socket.recv(2048))
+            if packet:
+                self.came.append((time.monotonic(), packet.slots))
 
     def gap(self, begin, end):
         """The longest time without a packet between two moments, in seconds."""
@@ -141,6 +140,7 @@ def wrong_keys(light):
     threads = [threading.Thread(target=lambda key=key: later.append(post("blackout", key=key))) for key in (None, "", "wrong", KEY + "x")]
     for thread in threads[:3]:
         thread.start()
+    # (by then their orders are there, and their answers wait)
     time.sleep(0.3)
     status, text, took = post("5 at 20")
     verdict("the right key waits for no wrong one", status == 200 and took < 2, f"{status} after {took:.2f} s: {text}")

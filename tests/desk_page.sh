@@ -2,27 +2,13 @@
 # The page that orders a desk, asked with curl and with bash alone, and driven in a headless Chromium where the machine has one: tests/desk_page.py tells what it
 # looks at. It takes the built program: crates/sacn/out/sacn, or the path in SACN. What stands behind it goes to tests/desk_page.py, as a folder for pictures.
 set -u
-top=$(cd "$(dirname "$(readlink -f "$0")")/.." && pwd)
-sacn=${SACN:-$top/crates/sacn/out/sacn}
-if [ ! -x "$sacn" ]; then
-  echo "skipped desk_page: sacn isn't built"
-  exit 0
-fi
-for tool in curl python3; do
-  if ! command -v "$tool" >/dev/null; then
-    echo "skipped desk_page: there is no $tool"
-    exit 0
-  fi
-done
-room=$(mktemp -d)
-trap 'rm -rf "$room"' EXIT
-cd "$room" || exit 1
-tcp=25847
+# shellcheck source=tests/lib.sh
+. "$(dirname "$(readlink -f "$0")")/lib.sh"
+need sacn curl python3
+udp=$(free_udp_port)
+tcp=$(free_tcp_port)
 at=http://127.0.0.1:$tcp
 CR=$'\r'
-
-# verdict NAME STATUS [WHY]: says whether a look went well
-verdict() { if [ "$2" = 0 ]; then echo "ok desk_page: $1"; else echo "not ok desk_page: $1: ${3-}"; fi; }
 
 # (the numbers of cues and levels are those of the show: cue 1 puts channel 1 at full and channel 2 at half, cue 2 puts channel 1 at 0 in two seconds)
 cat >show.toml <<T
@@ -30,7 +16,7 @@ version = 2
 cid = "00010203-0405-0607-0809-0a0b0c0d0e0f"
 name = "Desk"
 universes = [1, 2, 7]
-send_to = [25848]
+send_to = [$udp]
 [[cue]]
 number = 1
 up = 0
@@ -51,7 +37,7 @@ universe = 7
 slot = 512
 T
 
-# refused STATUS WANTED WORD..: a run ends so, and prints nothing
+# refused STATUS WANTED WORD..: a run ends so, and prints nothing; its name has the same number in place of the port of each run
 refused() {
   local wanted=$1 said=$2 status=0 first
   shift 2
@@ -59,43 +45,42 @@ refused() {
   first=$(head -n 1 err)
   # shellcheck disable=SC2053
   [ "$status" = "$wanted" ] && [[ $first == $said ]] && [ ! -s out ]
-  verdict "desk $*" $? "status $status, '$first'"
+  verdict "desk ${*//$tcp/25847}" $? "status $status, '$first'"
 }
-refused 2 "error: --page: without --key" show.toml --page $tcp
+refused 2 "error: --page: without --key" show.toml --page "$tcp"
 refused 2 "error: --key: without --page" show.toml --key abcd
-refused 2 "error: --key: Key" show.toml --page $tcp --key abc
-refused 2 "error: --key: Key" show.toml --page $tcp --key "$(printf 'a%.0s' $(seq 65))"
-refused 2 "error: --key: Key" show.toml --page $tcp --key "abc d"
-refused 2 "error: --key: Key" show.toml --page $tcp --key "abcä"
-refused 2 "error: --key: Key" show.toml --page $tcp --key ""
+refused 2 "error: --key: Key" show.toml --page "$tcp" --key abc
+refused 2 "error: --key: Key" show.toml --page "$tcp" --key "$(printf 'a%.0s' $(seq 65))"
+refused 2 "error: --key: Key" show.toml --page "$tcp" --key "abc d"
+refused 2 "error: --key: Key" show.toml --page "$tcp" --key "abcä"
+refused 2 "error: --key: Key" show.toml --page "$tcp" --key ""
 refused 2 "error: 0: Port" show.toml --page 0 --key abcd
 refused 2 "error: here:80: Address" show.toml --page here:80 --key abcd
-refused 2 "error: *" show.toml --page $tcp --key abcd --key abcd
+refused 2 "error: *" show.toml --page "$tcp" --key abcd --key abcd
 printf 'abc\n' >short.key
 printf 'abcd\nefgh\n' >lines.key
 printf 'ab\377d\n' >octets.key
 refused 2 "error: --key-file: without --page" show.toml --key-file short.key
-refused 2 "error: --key: beside --key-file" show.toml --page $tcp --key abcd --key-file short.key
-refused 3 "refused short.key Key" show.toml --page $tcp --key-file short.key
-refused 3 "refused lines.key Key" show.toml --page $tcp --key-file lines.key
-refused 3 "refused octets.key NotText" show.toml --page $tcp --key-file octets.key
-refused 2 "error: -: InputTaken" show.toml --page $tcp --key-file -
-refused 4 "device read absent.key" show.toml --page $tcp --key-file absent.key
-refused 4 "device socket 192.0.2.1:$tcp AddrNotAvailable" show.toml --page 192.0.2.1:$tcp --key abcd
+refused 2 "error: --key: beside --key-file" show.toml --page "$tcp" --key abcd --key-file short.key
+refused 3 "refused short.key Key" show.toml --page "$tcp" --key-file short.key
+refused 3 "refused lines.key Key" show.toml --page "$tcp" --key-file lines.key
+refused 3 "refused octets.key NotText" show.toml --page "$tcp" --key-file octets.key
+refused 2 "error: -: InputTaken" show.toml --page "$tcp" --key-file -
+refused 4 "device read absent.key" show.toml --page "$tcp" --key-file absent.key
+refused 4 "device socket 192.0.2.1:$tcp AddrNotAvailable" show.toml --page 192.0.2.1:"$tcp" --key abcd
 
 key=Open-Sesame_4
 printf '%s\r\n' "$key" >key
 mkfifo typed
-"$sacn" desk show.toml --page $tcp --key-file key <typed >out 2>err &
+"$sacn" desk show.toml --page "$tcp" --key-file key <typed >out 2>err &
 desk=$!
 exec {typed}>typed
-trap 'kill "$desk" 2>/dev/null; rm -rf "$room"' EXIT
-for _ in $(seq 100); do grep -q '^page' err && break; sleep 0.1; done
+wait_for_line err '^page'
 [ "$(sed -n 2p err)" = "page http://127.0.0.1:$tcp/" ]
 verdict "where it serves" $? "$(cat err)"
 ! grep -q "$key" err
 verdict "the key isn't said" $? "$(cat err)"
-refused 4 "device socket 127.0.0.1:$tcp AddrInUse" show.toml --page $tcp --key abcd
+refused 4 "device socket 127.0.0.1:$tcp AddrInUse" show.toml --page "$tcp" --key abcd
 
 # answers NAME STATUS WORD..: curl is answered so; the answer is in head and body
 answers() {
@@ -109,7 +94,7 @@ answers() {
 # orders NAME ANSWER LINE: the page's order is answered so, in each line
 orders() {
   local said
-  said=$(curl -s -m 20 -H "Origin: $at" -H "X-Key: $key" -d "$3" $at/order)
+  said=$(curl -s -m 20 -H "Origin: $at" -H "X-Key: $key" -d "$3" "$at"/order)
   # shellcheck disable=SC2053
   [[ $said == $2 ]]
   verdict "$1" $? "$said"
@@ -118,7 +103,7 @@ orders() {
 # state NAME PATTERN: what runs is told so
 state() {
   local told
-  told=$(curl -s -m 20 $at/state)
+  told=$(curl -s -m 20 "$at"/state)
   # shellcheck disable=SC2053
   [[ $told == $2 ]]
   verdict "$1" $? "$told"
@@ -137,7 +122,7 @@ sends() {
 own="Host: 127.0.0.1:$tcp\r\n"
 page="${own}Origin: $at\r\nX-Key: $key\r\n"
 
-answers "the page" 200 $at/
+answers "the page" 200 "$at"/
 grep -qi '<!doctype html>' body && grep -q "^Content-Type: text/html; charset=utf-8$CR" head
 verdict "the page is HTML" $? "$(head -n 3 body)"
 for field in "Cache-Control: no-store" "X-Content-Type-Options: nosniff" "Referrer-Policy: no-referrer" "Content-Length: $(wc -c <body)" \
@@ -150,7 +135,7 @@ verdict "the page asks no other server" $?
 ! grep -q "$key" body
 verdict "the page hasn't the key" $?
 state "what runs before an order" '{"cue":null,"next":1,"master":65535,"left":0,"universes":\[[[]1,2,"running"[]],[[]7,7,"running"[]][]]}'
-answers "the cues" 200 $at/cues
+answers "the cues" 200 "$at"/cues
 [ "$(cat body)" = '[{"number":1,"up":0,"down":0,"channels":2},{"number":20,"up":0,"down":2000,"channels":1}]' ]
 verdict "the cues are those of the show" $? "$(cat body)"
 
@@ -172,33 +157,32 @@ orders "a cue that isn't there" "refused NoCue: the show has no cue 9; cues list
 for line in quit "end all" "end 1"; do
   orders "no end by $line" "refused: the page doesn't end a desk" "$line"
 done
+# (in which an end would be seen)
 sleep 0.3
 state "nothing has ended" '*"universes":\[[[]1,2,"running"[]],[[]7,7,"running"[]][]]}'
 grep -qx 'page: 1 thru 2 at 50' out && grep -qx 'page: end all' out && grep -qx "refused: the page doesn't end a desk" out
 verdict "the output has the orders and their answers" $? "$(cat out)"
 echo status >&"$typed"
-for _ in $(seq 50); do grep -q '^cue 1 master 65535 sent ' out && break; sleep 0.1; done
-grep -q '^cue 1 master 65535 sent ' out
+wait_for_line out '^cue 1 master 65535 sent '
 verdict "orders are typed beside it" $? "$(tail -n 2 out)"
 # (lines of the page are counted apart)
 echo nonsense >&"$typed"
-for _ in $(seq 50); do grep -q '^line 2: "nonsense"' out && break; sleep 0.1; done
-grep -q '^line 2: "nonsense"' out
+wait_for_line out '^line 2: "nonsense"'
 verdict "the second line of standard input is told as that" $? "$(tail -n 2 out)"
 
 # What isn't an order, and what can't be read.
-answers "an order by GET" 405 -H "Origin: $at" -H "X-Key: $key" $at/order
+answers "an order by GET" 405 -H "Origin: $at" -H "X-Key: $key" "$at"/order
 grep -qxF "Allow: POST$CR" head
 verdict "an order by GET is told what is allowed" $? "$(cat head)"
-answers "an order by PUT" 405 -X PUT -H "Origin: $at" -H "X-Key: $key" -d go $at/order
-answers "a post to the page" 405 -d go $at/
-answers "a post to what runs" 405 -d go $at/state
-answers "a question for options" 405 -X OPTIONS $at/order
-answers "no such path" 404 $at/orders
+answers "an order by PUT" 405 -X PUT -H "Origin: $at" -H "X-Key: $key" -d go "$at"/order
+answers "a post to the page" 405 -d go "$at"/
+answers "a post to what runs" 405 -d go "$at"/state
+answers "a question for options" 405 -X OPTIONS "$at"/order
+answers "no such path" 404 "$at"/orders
 answers "an order with a query" 404 -H "Origin: $at" -H "X-Key: $key" -d go "$at/order?key=$key"
-answers "another host" 403 -H 'Host: rig.example' $at/
-answers "another host with the port" 403 -H "Host: rig.example:$tcp" $at/state
-answers "an order to another host" 403 -H 'Host: rig.example' -H "Origin: $at" -H "X-Key: $key" -d go $at/order
+answers "another host" 403 -H 'Host: rig.example' "$at"/
+answers "another host with the port" 403 -H "Host: rig.example:$tcp" "$at"/state
+answers "an order to another host" 403 -H 'Host: rig.example' -H "Origin: $at" -H "X-Key: $key" -d go "$at"/order
 # (a page may ask by each name, and each alone is the origin of its orders)
 named="Host: LocalHost:$tcp\r\nX-Key: $key\r\nContent-Length: 6\r\n"
 sends "an order from the page of another name" 403 "POST /order HTTP/1.1\r\n${named}Origin: $at\r\n\r\ngoto 1"
@@ -208,9 +192,9 @@ sends "an order from that name without a port" 403 "POST /order HTTP/1.1\r\n${na
 sends "an order from that name by HTTPS" 403 "POST /order HTTP/1.1\r\n${named}Origin: https://localhost:$tcp\r\n\r\ngoto 1"
 sends "two origins" 403 "POST /order HTTP/1.1\r\n${named}Origin: http://localhost:$tcp\r\nOrigin: $at\r\n\r\ngoto 1"
 sends "two hosts" 403 "POST /order HTTP/1.1\r\n${own}${page}Content-Length: 2\r\n\r\ngo"
-answers "this machine by name" 200 -H "Host: LocalHost:$tcp" $at/state
+answers "this machine by name" 200 -H "Host: LocalHost:$tcp" "$at"/state
 sends "no length" 411 "POST /order HTTP/1.1\r\n$page\r\n"
-answers "an order in chunks" 411 -H "Origin: $at" -H "X-Key: $key" -H 'Transfer-Encoding: chunked' -d go $at/order
+answers "an order in chunks" 411 -H "Origin: $at" -H "X-Key: $key" -H 'Transfer-Encoding: chunked' -d go "$at"/order
 sends "two lengths" 400 "POST /order HTTP/1.1\r\n${page}Content-Length: 2\r\nContent-Length: 2\r\n\r\ngo"
 sends "a length with a sign" 400 "POST /order HTTP/1.1\r\n${page}Content-Length: +2\r\n\r\ngo"
 sends "an order of no letters" 400 "POST /order HTTP/1.1\r\n${page}Content-Length: 0\r\n\r\n"
@@ -221,14 +205,14 @@ sends "the longest order" 200 "POST /order HTTP/1.1\r\n${page}Content-Length: 51
 sends "a longer one" 413 "POST /order HTTP/1.1\r\n${page}Content-Length: 513\r\n\r\n#$(printf 'a%.0s' $(seq 512))"
 sends "a far longer one" 413 "POST /order HTTP/1.1\r\n${page}Content-Length: 99999999999999999999999\r\n\r\n"
 head -c 100000 /dev/zero | tr '\0' a >long
-answers "100000 octets" 413 -H "Origin: $at" -H "X-Key: $key" -H 'Expect:' --data-binary @long $at/order
+answers "100000 octets" 413 -H "Origin: $at" -H "X-Key: $key" -H 'Expect:' --data-binary @long "$at"/order
 sends "a body beside a question" 400 "GET /state HTTP/1.1\r\n${own}Content-Length: 2\r\n\r\ngo"
 sends "a head of 5000 octets" 431 "GET / HTTP/1.1\r\n${own}X: $(head -c 5000 long)\r\n\r\n"
 sends "33 fields" 431 "GET / HTTP/1.1\r\n$own$(for number in $(seq 33); do printf 'X-%s: 1\\r\\n' "$number"; done)\r\n"
 sends "HTTP/2.0" 505 "GET / HTTP/2.0\r\n$own\r\n"
 sends "no words" 400 "\001\002\003\r\n\r\n"
 
-# An order that comes letter by letter is obeyed; one that is late is closed, and delays no other.
+# An order that comes letter by letter, with a pause behind each, is obeyed; one that is late is closed, and delays no other.
 exec {line}<>"/dev/tcp/127.0.0.1/$tcp"
 printf 'POST /order HTTP/1.1\r\n%bContent-Length: 6\r\n\r\n' "$page" >&"$line"
 for letter in g o t o ' ' 1; do printf '%s' "$letter" >&"$line"; sleep 0.1; done
@@ -253,12 +237,12 @@ for _ in $(seq 20); do
   printf 'GET / HTTP/1.1\r\n' >&"$line" 2>/dev/null
   slow+=("$line")
 done
-answers "the page beside 20 half heads" 200 -m 3 $at/
+answers "the page beside 20 half heads" 200 -m 3 "$at"/
 [[ $(timeout 3 cat <&"${slow[0]}" 2>cat.err) == "HTTP/1.1 503 "* ]] && [ ! -s cat.err ]
 verdict "the oldest half head is told that there is no room" $? "$(cat cat.err)"
 for line in "${slow[@]}"; do exec {line}>&-; done
 exec {typed}>&-
-for _ in $(seq 50); do kill -0 "$desk" 2>/dev/null || break; sleep 0.1; done
-! kill -0 "$desk" 2>/dev/null
+has_ended() { ! kill -0 "$desk" 2>/dev/null; }
+wait_until has_ended
 verdict "the end of its input ends a desk that has a page" $?
-exec python3 "$top/tests/desk_page.py" "$sacn" "$@"
+cd "$here" && python3 "$top/tests/desk_page.py" "$sacn" "$@"

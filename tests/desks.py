@@ -17,10 +17,10 @@ import termios
 import threading
 import time
 
+import e131
+
 TOP = os.path.dirname(os.path.dirname(os.path.abspath(__file__)))
 UNIVERSES = [1, 2, 3, 4, 7]
-# Octets of a data packet: its options with Stream_Terminated, its universe, its number (E1.31, 6.2.5 to 6.2.7).
-NUMBER_AT, OPTIONS_AT, UNIVERSE_AT, TERMINATED = 111, 112, 113, 0x40
 
 
 def show(name="Desk", patch=""):
@@ -44,11 +44,10 @@ class Host:
 
     def listen(self):
         while True:
-            octets = self.socket.recv(2048)
+            packet = e131.read(self.socket.recv(2048))
             with self.came:
-                if octets[18:22] == b"\0\0\0\4":
-                    universe = int.from_bytes(octets[UNIVERSE_AT : UNIVERSE_AT + 2], "big")
-                    self.packets.append((universe, octets[NUMBER_AT], bool(octets[OPTIONS_AT] & TERMINATED)))
+                if packet:
+                    self.packets.append((packet.universe, packet.number, bool(packet.options & e131.TERMINATED)))
                 else:
                     self.pages += 1
                 self.came.notify_all()

@@ -2,9 +2,7 @@
 # Runs desks on loopback: what they say at their start, which hosts get which universes, a desk that stands by, lists that are long, and a run of which no packet went out.
 # Prints a line 'ok NAME' or 'not ok NAME: why' for each. It takes the built program: crates/sacn/out/sacn, or the path in SACN.
 set -u
-top=$(cd "$(dirname "$(readlink -f "$0")")/.." && pwd)
-if ! command -v python3 >/dev/null; then
-  echo "skipped desks: there is no python3"
-  exit 0
-fi
-exec python3 "$top/tests/desks.py" "${SACN:-$top/crates/sacn/out/sacn}"
+# shellcheck source=tests/lib.sh
+. "$(dirname "$(readlink -f "$0")")/lib.sh"
+need python3
+python3 "$top/tests/desks.py" "$sacn"

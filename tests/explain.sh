@@ -3,20 +3,9 @@
 # and one of a desk beside a gateway, whose frames are compared line for line. Prints 'ok NAME', 'not ok NAME: why' or 'skipped NAME: why' for each
 # run, as ./test counts them.
 set -u
-top=$(cd "$(dirname "$(readlink -f "$0")")/.." && pwd)
-sacn=${SACN:-$top/crates/sacn/out/sacn}
-if [ ! -x "$sacn" ]; then
-  echo "skipped explain: sacn isn't built"
-  exit 0
-fi
-room=$(mktemp -d)
-started=()
-cleanup() {
-  for pid in "${started[@]:-}"; do [ -z "$pid" ] || kill "$pid" 2>/dev/null; done
-  rm -rf "$room"
-}
-trap cleanup EXIT
-cd "$room" || exit 1
+# shellcheck source=tests/lib.sh
+. "$(dirname "$(readlink -f "$0")")/lib.sh"
+need sacn
 
 # tells NAME STATUS WANTED-ERRORS WANTED-OUTPUT WORD..: a run of explain ends so, and prints this file
 tells() {
@@ -25,15 +14,10 @@ tells() {
   timeout 60 "$sacn" explain "$@" </dev/null >out 2>err || status=$?
   first=$(head -n 1 err)
   # shellcheck disable=SC2053
-  if [ "$status" != "$wanted" ]; then
-    echo "not ok explain: $name: status $status, '$first'"
-  elif ! [[ $first == $said ]]; then
-    echo "not ok explain: $name: '$first'"
-  elif ! cmp -s "$output" out; then
-    echo "not ok explain: $name: it prints something else: $(diff "$output" out | head -n 3 | cut -c 1-160 | tr '\n' '|')"
-  else
-    echo "ok explain: $name"
-  fi
+  # (a pipe can be read but once)
+  cat "$output" >wanted
+  [ "$status" = "$wanted" ] && [[ $first == $said ]] && cmp -s wanted out
+  verdict "$name" $? "status $status, '$first', it prints something else: $(diff wanted out | head -n 3 | cut -c 1-160)"
 }
 
 # first FILE: when a recording's first frame was taken, in milliseconds since 1970, as the octets of a pcap say (seconds and microseconds, the least octet first)
@@ -127,11 +111,8 @@ E
 tells "what QLC+ sent, as JSON" 0 "" qlc.json "$top/examples/qlcplus.pcap" --json
 printf '%s\n' '1 0 00000000' '1 35 00190c06' '1 35 0033190c' '1 49 004c2613' '1 73 00663319' '1 89 007f4020' '1 109 00994c26' '1 129 00b2592c' '1 149 00cc6633' '1 169 00e57339' '1 189 00ff8040' >qlc.frames
 timeout 60 "$sacn" explain "$top/examples/qlcplus.pcap" --setup "$top/examples/node.toml" </dev/null 2>err | grep -E '^[0-9]+ [0-9]+ [0-9a-f]{1026}$' | sed 's/^\([0-9]* [0-9]* [0-9a-f]\{8\}\).*/\1/' >out
-if cmp -s qlc.frames out; then
-  echo "ok explain: what a node shows of QLC+"
-else
-  echo "not ok explain: what a node shows of QLC+: $(diff qlc.frames out | head -n 4 | tr '\n' '|')"
-fi
+cmp -s qlc.frames out
+verdict "what a node shows of QLC+" $? "$(diff qlc.frames out | head -n 4)"
 
 # What QLC+ 4.12 sent in 23 seconds, 1150 packets of 188 octets in the file: it numbers from 1 to 255 and never sends 0, which is left out behind packets 255, 510,
 # 765 and 1020. That is told as a loss twice, and then once as what it is. In a second file packet 1020, which has number 255, is lost too.
@@ -183,7 +164,8 @@ told() {
   local name=$1 wanted=$2 said=$3 output=$4 status=0
   shift 4
   cat | timeout 60 "$sacn" explain "$@" >out 2>err || status=$?
-  [ "$status" = "$wanted" ] && [[ $(head -n 1 err) == $said ]] && cmp -s "$output" out && echo "ok explain: $name" || echo "not ok explain: $name: status $status, '$(head -n 1 err)'"
+  [ "$status" = "$wanted" ] && [[ $(head -n 1 err) == $said ]] && cmp -s "$output" out
+  verdict "$name" $? "status $status, '$(head -n 1 err)'"
 }
 told "a recording on standard input" 0 "" ola.text - <"$top/examples/ola.pcap"
 # (It is read once, so that what each source did isn't told before what happened; and so is a pipe that has a name.)
@@ -217,7 +199,8 @@ told "one that is none is named" 3 "refused - octet 0 NotACapture" empty - <plai
 told "one that is none, of each universe" 3 "refused - octet 0 NotACapture" empty - --each <plain
 "$sacn" explain "$top/examples/ola.pcap" --setup "$top/examples/node.toml" </dev/null >frames 2>/dev/null
 told "a setup on standard input" 0 "" frames "$top/examples/ola.pcap" --setup - <"$top/examples/node.toml"
-grep -qE '^ +0.000 s  port +1  at the start$' frames && echo "ok explain: and its frames are told" || echo "not ok explain: a setup's frames: $(head -n 1 frames)"
+grep -qE '^ +0.000 s  port +1  at the start$' frames
+verdict "and its frames are told" $? "$(head -n 1 frames)"
 tells "a file that is absent" 4 "device read absent" empty absent
 tells "a folder" 4 "device read $room" empty "$room"
 tells "a setup that is absent" 4 "device read absent" empty "$top/examples/ola.pcap" --setup absent
@@ -241,49 +224,20 @@ tells "a clock for a page" 2 "error: --page: beside --clock" empty x --page 8080
 tells "each universe of a page" 2 "error: --page: beside --each" empty x --page 8080 --each
 
 if ! command -v python3 >/dev/null; then
-  echo "skipped explain: a recording with each event: no python3"
+  skips "a recording with each event" "no python3"
   exit 0
 fi
 
 # Recordings written octet by octet (E1.31, 5 to 8; pcap of Ethernet). The moments in the lines below are those in the calls here.
 cat >recordings.py <<'P'
 import struct, sys
+from e131 import Recording, TERMINATED, page, synchronization
+import e131
 
-A, B, C = (bytes([letter]) * 16 for letter in (0xaa, 0xbb, 0xcc))
+A, B = bytes([0xaa]) * 16, bytes([0xbb]) * 16
 
-def root(vector, cid, rest):
-    return b"\0\x10\0\0ASC-E1.17\0\0\0" + struct.pack(">HI", 0x7000 | 22 + len(rest), vector) + cid + rest
-
-def data(cid, name, universe, number, slots=b"", priority=100, options=0, start=0):
-    dmp = struct.pack(">HBBHHHB", 0x7000 | 11 + len(slots), 2, 0xa1, 0, 1, 1 + len(slots), start) + slots
-    head = struct.pack(">I64sBHBBH", 2, name, priority, 0, number, options, universe)
-    return root(4, cid, struct.pack(">H", 0x7000 | 2 + len(head) + len(dmp)) + head + dmp)
-
-def page(cid, name, numbers, page=0, last=0):
-    layer = struct.pack(">IBB", 1, page, last) + b"".join(struct.pack(">H", number) for number in numbers)
-    layer = struct.pack(">H", 0x7000 | 2 + len(layer)) + layer
-    head = struct.pack(">I64sI", 2, name, 0)
-    return root(8, cid, struct.pack(">H", 0x7000 | 2 + len(head) + len(layer)) + head + layer)
-
-def sync():
-    return root(8, A, struct.pack(">HIBHH", 0x700b, 1, 0, 0, 0))
-
-def carried(host, payload, port=5568, fragment=0):
-    udp = struct.pack(">HHHH", 5000, port, 8 + len(payload), 0) + payload
-    ip = struct.pack(">BBHHHBBH", 0x45, 0, 20 + len(udp), 0, fragment, 64, 17, 0) + bytes([10, 0, 0, host, 239, 255, 0, 1])
-    return bytes(12) + b"\x08\0" + ip + udp
-
-class Recording:
-    def __init__(self, path):
-        self.file = open(path, "wb")
-        self.file.write(struct.pack("<IHHIIII", 0xa1b2c3d4, 2, 4, 0, 0, 65535, 1))
-
-    def frame(self, moment, octets, kept=None):
-        kept = len(octets) if kept is None else kept
-        self.file.write(struct.pack("<IIII", 1000 + moment // 1000, moment % 1000 * 1000, kept, len(octets)) + octets[:kept])
-
-    def sent(self, moment, host, payload, port=5568, kept=None, fragment=0):
-        self.frame(moment, carried(host, payload, port, fragment), kept)
+def data(cid, name, universe, number, slots=b"", **fields):
+    return e131.data(universe, number, slots, cid, name, **fields)
 
 def events(path):
     r = Recording(path)
@@ -300,10 +254,10 @@ def events(path):
     r.sent(800, 3, data(B, b"Spare", 1, 2, priority=120, options=0x40))
     r.sent(900, 3, data(B, b"Spare", 1, 3, b"\x40", priority=121))
     r.sent(950, 3, data(B, b"Spare", 2, 0, b"\1", options=0x80))
-    r.sent(1000, 3, page(B, b"Spare", [1, 3, 4, 5]))
-    r.sent(1100, 3, page(B, b"Spare", [1, 3, 4, 5]))
-    r.sent(1200, 3, page(B, b"Spare", [1, 7]))
-    r.sent(1300, 3, sync())
+    r.sent(1000, 3, page([1, 3, 4, 5], cid=B, name=b"Spare"))
+    r.sent(1100, 3, page([1, 3, 4, 5], cid=B, name=b"Spare"))
+    r.sent(1200, 3, page([1, 7], cid=B, name=b"Spare"))
+    r.sent(1300, 3, synchronization(A))
     r.sent(1400, 9, b"x")
     r.sent(1500, 9, b"y", port=53)
     r.frame(1499, bytes(12) + b"\x08\x06")
@@ -319,7 +273,7 @@ def many(path):
 def listings(path):
     r = Recording(path)
     for number in range(257):
-        r.sent(number, 1, page(number.to_bytes(16, "big"), b"", [1]))
+        r.sent(number, 1, page([1], cid=number.to_bytes(16, "big"), name=b""))
 
 def console(r, moment, host, cid, name, number, universes):
     for universe in universes:
@@ -405,7 +359,7 @@ def simple(octets):
 
 # Two frames without a moment, one of second 1000, one a tenth of a second later, and one more without.
 def unstamped(path):
-    frames = [carried(1, data(A, b"Main", 1, number, b"\1")) for number in range(5)]
+    frames = [e131.carried(1, data(A, b"Main", 1, number, b"\1")) for number in range(5)]
     with open(path, "wb") as file:
         file.write(section() + interface(1) + simple(frames[0]) + simple(frames[1]))
         file.write(enhanced(1000000000, frames[2]) + enhanced(1000100000, frames[3]) + simple(frames[4]))
@@ -530,11 +484,8 @@ timed 1000000 >events.json <<E
 {"row":"refused","fault":1,"name":"TooShort","count":1}
 E
 "$sacn" explain events.pcap --json </dev/null 2>err | grep -E '"(incident|rivals|no_rivals|lists|relists|list|refused)"[,}]' >out
-if cmp -s events.json out; then
-  echo "ok explain: the same as JSON"
-else
-  echo "not ok explain: the same as JSON: $(diff events.json out | head -n 3 | tr '\n' '|')"
-fi
+cmp -s events.json out
+verdict "the same as JSON" $? "$(diff events.json out | head -n 3)"
 
 # A console of 30 universes sends on all of them each second, and falls silent after its fifth turn, at 4 s: so it is lost at 6.5 s. That is one line, as its beginning is.
 cat >silent.lines <<'E'
@@ -546,22 +497,26 @@ begins() {
   local name=$1 wanted=$2
   shift 2
   "$sacn" explain "$@" </dev/null 2>err | sed '/^$/,$d' >out
-  cmp -s "$wanted" out && echo "ok explain: $name" || echo "not ok explain: $name: $(diff "$wanted" out | head -n 3 | tr '\n' '|')"
+  cmp -s "$wanted" out
+  verdict "$name" $? "$(diff "$wanted" out | head -n 3)"
 }
 begins "a console that falls silent" silent.lines silent.pcap
 begins "the same beside each universe" silent.lines silent.pcap --each
 begins "the same beside a node's frames" silent.lines silent.pcap --setup "$top/examples/node.toml"
 sed 's/1-30/3-5, 9/' silent.lines >some.lines
 begins "the same of some universes" some.lines silent.pcap --universe 3-5 --universe 9
-[ "$("$sacn" explain silent.pcap --each </dev/null | grep -c '  is lost: ')" = 30 ] && echo "ok explain: and each universe has its line" || echo "not ok explain: and each universe has its line"
+[ "$("$sacn" explain silent.pcap --each </dev/null | grep -c '  is lost: ')" = 30 ]
+verdict "and each universe has its line" $?
 # (Cut behind its second turn: a packet of one slot has 127 octets, its frame 42 more, its record 16 more, and the file's header 24. The console isn't lost by then.)
 at=$((24 + 60 * (16 + 42 + 127)))
 head -c $((at + 1)) silent.pcap >silent-cut.pcap
 sed 1q silent.lines >cut.lines
 begins "the same where it is cut" cut.lines silent-cut.pcap
-[ "$(cat err)" = "refused silent-cut.pcap octet $at CutShort" ] && echo "ok explain: and the fault is told once" || echo "not ok explain: and the fault is told once: $(head -n 2 err | tr '\n' '|')"
+[ "$(cat err)" = "refused silent-cut.pcap octet $at CutShort" ]
+verdict "and the fault is told once" $? "$(head -n 2 err)"
 begins "the same where it is cut, beside each universe" cut.lines silent-cut.pcap --each
-[ "$(cat err)" = "refused silent-cut.pcap octet $at CutShort" ] && echo "ok explain: and there the fault is told once" || echo "not ok explain: and there the fault is told once: $(head -n 2 err | tr '\n' '|')"
+[ "$(cat err)" = "refused silent-cut.pcap octet $at CutShort" ]
+verdict "and there the fault is told once" $? "$(head -n 2 err)"
 # Two consoles at one priority: the second one begins on four of the first one's eight universes, half a second after it.
 cat >pair.lines <<'E'
      0.000 s  "Main FOH" aaaa..aa appears on 1-8 at 10.0.0.5:5000, priority 100
@@ -578,7 +533,8 @@ happens() {
   local name=$1 wanted=$2
   shift 2
   "$sacn" explain --each "$@" </dev/null 2>err | grep -E '^ +[0-9.]+ s  universe ' >out
-  cmp -s "$wanted" out && echo "ok explain: $name" || echo "not ok explain: $name: $(diff "$wanted" out | head -n 3 | tr '\n' '|')"
+  cmp -s "$wanted" out
+  verdict "$name" $? "$(diff "$wanted" out | head -n 3)"
 }
 # A recording that begins with the three terminations of a stream, and has another one of a source that is lost: these begin nothing and end nothing.
 cat >strays.lines <<'E'
@@ -604,10 +560,12 @@ cat >previews.each <<E
      5.900 s  universe     1  one source alone sends at the top priority, 100
 E
 "$sacn" explain previews.pcap --each </dev/null 2>err | grep ' at the top priority, ' >out
-cmp -s previews.each out && echo "ok explain: rivals are those whose levels are held" || echo "not ok explain: rivals are those whose levels are held: $(diff previews.each out | head -n 3 | tr '\n' '|')"
+cmp -s previews.each out
+verdict "rivals are those whose levels are held" $? "$(diff previews.each out | head -n 3)"
 begins "terminations of streams that aren't there" strays.lines strays.pcap
 happens "the same of each universe" strays.each strays.pcap
-"$sacn" explain strays.pcap --json </dev/null 2>err | grep -q '"row":"source",.*"live":1,"preview":0,"terminated":4,' && echo "ok explain: and they are counted" || echo "not ok explain: and they are counted"
+"$sacn" explain strays.pcap --json </dev/null 2>err | grep -q '"row":"source",.*"live":1,"preview":0,"terminated":4,'
+verdict "and they are counted" $?
 # What couldn't be read stands before the tables, each reason in a row of its own, and in the row of all counts. What carries something else is counted in all alone.
 cat >unread.lines <<'E'
 
@@ -634,18 +592,12 @@ before_tables() {
     # shellcheck disable=SC2086
     "$sacn" explain $each "$file" </dev/null 2>err >all
     sed -n '/^universe state/q; p' all | sed -n '/^frames that/,$p' | { echo; cat; grep '^universe state' all; } >out
-    if cmp -s "$wanted" out && grep -qx "frames without a datagram      $total" all; then
-      echo "ok explain: $name${each:+, $each}"
-    else
-      echo "not ok explain: $name${each:+, $each}: $(diff "$wanted" out | head -n 3 | tr '\n' '|') $(grep '^frames without' all)"
-    fi
+    cmp -s "$wanted" out && grep -qx "frames without a datagram      $total" all
+    verdict "$name${each:+, $each}" $? "$(diff "$wanted" out | head -n 3) $(grep '^frames without' all)"
   done
   "$sacn" explain --json "$file" </dev/null 2>err | grep '"row":"counts"' >out
-  if grep -qF "\"other_frames\":$total,\"went_back\":0,$members,\"ms\":" out; then
-    echo "ok explain: $name, as JSON"
-  else
-    echo "not ok explain: $name, as JSON: $(cat out)"
-  fi
+  grep -qF "\"other_frames\":$total,\"went_back\":0,$members,\"ms\":" out
+  verdict "$name, as JSON" $? "$(cat out)"
 }
 before_tables "what couldn't be read" unread.lines 9 '"cut":3,"fragments":1,"ipv6":2,"wrong_ipv4":1,"other_links":0,"too_long":1' unread.pcap
 before_tables "frames of an unknown link" links.lines 3 '"cut":0,"fragments":0,"ipv6":0,"wrong_ipv4":0,"other_links":2,"too_long":0' links.pcap
@@ -659,7 +611,8 @@ timed 1000000 >unstamped.json <<E
 E
 tells "frames before the first moment" 0 "" unstamped.json unstamped.pcap --json
 # A frame that is earlier than the first one went back in time, too.
-"$sacn" explain back.pcap </dev/null 2>err | grep -qx 'frames with an earlier moment  1' && echo "ok explain: a frame that is earlier than the first" || echo "not ok explain: a frame that is earlier than the first: $("$sacn" explain back.pcap </dev/null 2>&1 | tail -n 1)"
+"$sacn" explain back.pcap </dev/null 2>err | grep -qx 'frames with an earlier moment  1'
+verdict "a frame that is earlier than the first" $? "$("$sacn" explain back.pcap </dev/null 2>&1 | tail -n 1)"
 
 # frame PORT MOMENT DIGITS: the line of a frame as a node prints it, the start code and slots of these digits, and 0 in the rest
 frame() { printf '%s %s 00%s%0*d\n' "$1" "$2" "$3" $((1024 - ${#3})) 0; }
@@ -689,18 +642,12 @@ printf 'version = 1\n[[port]]\nnumber = 1\nuniverse = 1\n[[port]]\nnumber = 2\nu
   frame 1 5500 ""
 } >frames.text
 "$sacn" explain events.pcap --setup node.toml </dev/null 2>err | grep -E '^[0-9]+ [0-9]+ [0-9a-f]{1026}$|  port ' >out
-if cmp -s frames.text out; then
-  echo "ok explain: the frames of a node, each with its cause"
-else
-  echo "not ok explain: the frames of a node: $(diff frames.text out | head -n 3 | cut -c 1-120 | tr '\n' '|')"
-fi
+cmp -s frames.text out
+verdict "the frames of a node, each with its cause" $? "$(diff frames.text out | head -n 3 | cut -c 1-120)"
 # (two sources are lost at one moment, one of them on a universe that no port shows)
 said=$("$sacn" explain elsewhere.pcap --setup node.toml </dev/null 2>err | grep ' port .* by the loss of ')
-if [ "$said" = "     2.500 s  port         1  by the loss of $A \"Main\"" ]; then
-  echo "ok explain: a loss elsewhere hides no source"
-else
-  echo "not ok explain: a loss elsewhere hides no source: $said"
-fi
+[ "$said" = "     2.500 s  port         1  by the loss of $A \"Main\"" ]
+verdict "a loss elsewhere hides no source" $? "$said"
 {
   echo "{\"ms\":0,\"event\":\"frame\",\"port\":1,\"cause\":\"start\",\"slots\":\"$(slots "")\"}"
   echo "{\"ms\":0,\"event\":\"frame\",\"port\":2,\"cause\":\"start\",\"slots\":\"$(slots "")\"}"
@@ -714,43 +661,34 @@ fi
   echo "{\"ms\":5500,\"event\":\"frame\",\"port\":1,\"cause\":\"lost\",\"cid\":\"$A\",\"name\":\"Main\",\"slots\":\"$(slots "")\"}"
 } | timed 1000000 >frames.json
 "$sacn" explain events.pcap --setup node.toml --json </dev/null 2>err | grep '"event":"frame"' >out
-if cmp -s frames.json out; then
-  echo "ok explain: the frames as JSON"
-else
-  echo "not ok explain: the frames as JSON: $(diff frames.json out | head -n 3 | cut -c 1-120 | tr '\n' '|')"
-fi
+cmp -s frames.json out
+verdict "the frames as JSON" $? "$(diff frames.json out | head -n 3 | cut -c 1-120)"
 
 # 1025 sources and 257 lists: the last of each finds no room.
 "$sacn" explain many.pcap --json </dev/null >out 2>err
-if [ "$(grep -c '"event":"appeared"' out)" = 1024 ] && [ "$(grep -c '"event":"untracked"' out)" = 2 ] && grep -q '"row":"counts","datagrams":1026,.*"untracked":2,' out; then
-  echo "ok explain: 1025 sources"
-else
-  echo "not ok explain: 1025 sources: $(tail -n 1 out)"
-fi
+[ "$(grep -c '"event":"appeared"' out)" = 1024 ] && [ "$(grep -c '"event":"untracked"' out)" = 2 ] && grep -q '"row":"counts","datagrams":1026,.*"untracked":2,' out
+verdict "1025 sources" $? "$(tail -n 1 out)"
 "$sacn" explain listings.pcap --json </dev/null >out 2>err
-if [ "$(grep -c '"event":"lists"' out)" = 256 ] && grep -q '"pages":257,"pages_untracked":1,' out; then
-  echo "ok explain: the lists of 257 sources"
-else
-  echo "not ok explain: the lists of 257 sources: $(tail -n 1 out)"
-fi
+[ "$(grep -c '"event":"lists"' out)" = 256 ] && grep -q '"pages":257,"pages_untracked":1,' out
+verdict "the lists of 257 sources" $? "$(tail -n 1 out)"
 
 # A desk beside a gateway: what a recording of them says of the gateway's frames is what the gateway printed, but for its clock.
 if ! command -v tcpdump >/dev/null; then
-  echo "skipped explain: a gateway's frames: no tcpdump"
+  skips "a gateway's frames" "no tcpdump"
   exit 0
 fi
-port=25821
+port=$(free_udp_port)
 # Whether a recording has begun.
 records() {
   : >tcpdump.err
   timeout 20 tcpdump -i lo -U -w rig.pcap "udp port $port" 2>tcpdump.err &
   recorder=$!
-  started+=("$recorder")
-  for _ in $(seq 50); do grep -q '^tcpdump: listening' tcpdump.err && break; sleep 0.1; done
+  begins_or_ends() { grep -q '^tcpdump: listening' tcpdump.err || ! kill -0 "$recorder" 2>/dev/null; }
+  wait_until begins_or_ends
   kill -0 "$recorder" 2>/dev/null && grep -q '^tcpdump: listening' tcpdump.err
 }
 if ! records; then
-  echo "skipped explain: a gateway's frames: $(head -n 1 tcpdump.err)"
+  skips "a gateway's frames" "$(head -n 1 tcpdump.err)"
   exit 0
 fi
 printf 'version = 1\nudp_port = %s\n[[port]]\nnumber = 1\nuniverse = 1\n[[port]]\nnumber = 7\nuniverse = 2\n' "$port" >rig.toml
@@ -785,8 +723,7 @@ is_told() {
   : >gateway.lines
   "$sacn" gateway rig.toml --seconds 5 >gateway.lines 2>gateway.err &
   gateway=$!
-  started+=("$gateway")
-  for _ in $(seq 50); do [ -s gateway.lines ] && break; sleep 0.1; done
+  wait_until test -s gateway.lines
   "$sacn" desk rig-show.toml --script rig-script.txt </dev/null >desk.lines 2>desk.err
   wait "$gateway"
   kill -INT "$recorder"
@@ -800,8 +737,4 @@ is_told() {
 }
 # (A gateway that gets no processor for the time between two changes shows both at once: that happens on a busy machine, and seldom thrice.)
 is_told || { records && is_told; } || { records && is_told; }
-if [ $? = 0 ]; then
-  echo "ok explain: a gateway's frames out of a recording, $count lines"
-else
-  echo "not ok explain: a gateway's frames: $count lines, $(wc -l <found) told"
-fi
+verdict "a gateway's frames out of a recording, $count lines" $? "$count lines, $(wc -l <found) told"

@@ -6,24 +6,21 @@ import re
 import pty
 import queue
 import socket
-import struct
 import subprocess
 import sys
 import tempfile
 import threading
 
-PORT = 25867
+import e131
+
+PORT = e131.free_udp_port()
 # (a line of digits without its moment)
 DARK_DIGITS = "1 " + "0" * 1026
 
 
 def packet(number, levels):
     """A data packet of universe 1 with these levels by slot; all 512 slots stand in it."""
-    slots = bytes([0]) + bytes(levels.get(slot, 0) for slot in range(1, 513))
-    dmp = struct.pack(">HBBHHH", 0x7000 | 10 + len(slots), 2, 0xA1, 0, 1, len(slots)) + slots
-    head = struct.pack(">I64sBHBBH", 2, b"frames", 100, 0, number, 0, 1)
-    framing = struct.pack(">H", 0x7000 | 2 + len(head) + len(dmp)) + head + dmp
-    return b"\0\x10\0\0ASC-E1.17\0\0\0" + struct.pack(">HI", 0x7000 | 22 + len(framing), 4) + bytes(range(16)) + framing
+    return e131.data(1, number, bytes(levels.get(slot, 0) for slot in range(1, 513)), name=b"frames")
 
 
 class Gateway:

@@ -2,9 +2,8 @@
 # The gate's way with must-fail edits, many to a check, over a small crate that the kit itself proves: what is refused for a goal of its own is, also where
 # it is a function's second edit, and what would only fall with a function that it calls isn't. Prints 'ok NAME' or 'not ok NAME: why' for each, as ./test counts them.
 set -u
-top=$(cd "$(dirname "$(readlink -f "$0")")/.." && pwd)
-room=$(mktemp -d)
-trap 'rm -rf "$room"' EXIT
+# shellcheck source=tests/lib.sh
+. "$(dirname "$(readlink -f "$0")")/lib.sh"
 crate=$room/crates/sums
 mkdir -p "$crate/src" "$crate/specs" "$crate/must-fail"
 cp "$top/HANDLES" "$room/"
@@ -90,15 +89,18 @@ edit after_three add "    next(next(n))" "    next(next(next(n)))" further-edits
 said=$(cd "$room" && python3 "$top/tools/gate.py" --anew 2>&1)
 status=$?
 count() {
-  if grep -qE "$2" <<<"$said"; then echo "ok gate: $1"; else echo "not ok gate: $1: $(tail -n 4 <<<"$said" | tr '\n' ';')"; fi
+  grep -qE "$2" <<<"$said"
+  verdict "$1" $? "$(tail -n 4 <<<"$said")"
 }
 # What the kit calls the functions of an impl of a trait whose own type is a path: by all its words.
 named=$(cd "$top/tools" && python3 -B -c 'import texts; print(*texts.impl_of(["impl From<io::Error> for Fault {", "    fn from(error: io::Error) -> Fault {"], 1, "    ")[1])')
-if [ "$named" = "FaultFrom FaultFromIoError" ]; then echo "ok gate: an impl is found by the kit's name"; else echo "not ok gate: an impl is found by the kit's name: $named"; fi
+[ "$named" = "FaultFrom FaultFromIoError" ]
+verdict "an impl is found by the kit's name" $? "$named"
 
 # A copy of a function begins with its attributes, and not with what documents it.
 first=$(cd "$top/tools" && python3 -B -c 'import texts; print(texts.first_attribute(["}", "/// [a]", "#[inline]", "#[tactic(auto)]", "fn f()"], 4))')
-if [ "$first" = 2 ]; then echo "ok gate: a copy has its function's attributes"; else echo "not ok gate: a copy has its function's attributes: from line $first"; fi
+[ "$first" = 2 ]
+verdict "a copy has its function's attributes" $? "from line $first"
 
 count "a sum that is wrong is refused for its own goal" '^rt: must-fail sums/adds_three\.edit: refused, as it must be: add::next: '
 count "and one more of that function in a copy of it" '^rt: must-fail sums/adds_two\.edit: refused, as it must be: add::next_edit[0-9]*: '

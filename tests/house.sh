@@ -2,10 +2,7 @@
 # What the documents and the list of crates say of this tree: links lead to what is there, files and steps that are named are there, crates.txt
 # rises, rules and public types' names stand once in the code, the README is short, and docs/DEFINITIONS.md is what tools/definitions.py makes of specs/. Prints 'ok NAME' or 'not ok NAME: why' for each, as ./test counts them. Of this tree it runs tools/definitions.py alone.
 set -u
-top=$(cd "$(dirname "$(readlink -f "$0")")/.." && pwd)
-cd "$top" || exit 1
-if ! command -v python3 >/dev/null; then
-  echo "skipped house: there is no python3"
-  exit 0
-fi
-exec python3 tests/house.py
+# shellcheck source=tests/lib.sh
+. "$(dirname "$(readlink -f "$0")")/lib.sh"
+need python3
+cd "$top" && python3 tests/house.py

@@ -18,17 +18,15 @@ import sys
 import termios
 import time
 
+import e131
+
 PORT = int(sys.argv[1])
 COLUMNS, ROWS = 80, 24
 RIGHT, LEFT, UP, DOWN = b"\x1b[C", b"\x1b[D", b"\x1b[A", b"\x1b[B"
 
 
-def data(cid, number, universe, slots, priority=100):
-    """A data packet of a source (E1.31, 4 to 7)."""
-    dmp = struct.pack(">HBBHHHB", 0x7000 | 11 + len(slots), 2, 0xa1, 0, 1, 1 + len(slots), 0) + slots
-    head = struct.pack(">I64sBHBBH", 2, b"Desk", priority, 0, number, 0, universe)
-    framing = struct.pack(">H", 0x7000 | 2 + len(head) + len(dmp)) + head + dmp
-    return b"\0\x10\0\0ASC-E1.17\0\0\0" + struct.pack(">HI", 0x7000 | 22 + len(framing), 4) + struct.pack(">QQ", 0, cid) + framing
+def data(cid, number, universe, slots):
+    return e131.data(universe, number, slots, struct.pack(">QQ", 0, cid))
 
 
 class Screen:

@@ -2,9 +2,8 @@
 # The launcher's ways to fail, over a small tree of no real crates and a kit that only pretends: each says what it met, and leaves nothing behind.
 # Prints 'ok NAME', 'not ok NAME: why' or 'skipped NAME: why' for each, as ./test counts them.
 set -u
-top=$(cd "$(dirname "$(readlink -f "$0")")/.." && pwd)
-room=$(mktemp -d)
-trap 'rm -rf "$room"' EXIT
+# shellcheck source=tests/lib.sh
+. "$(dirname "$(readlink -f "$0")")/lib.sh"
 tree=$room/tree
 mkdir -p "$tree/tools" "$room/bin" "$room/rooms"
 cp "$top/sacn" "$tree/"
@@ -62,8 +61,8 @@ prints() { grep -qF -- "$1" "$room/out"; }
 check() {
   local name=$1
   shift
-  if "$@"; then echo "ok launcher: $name"; else
-    echo "not ok launcher: $name: $* (status $status)"
+  if "$@"; then verdict "$name" 0; else
+    verdict "$name" 1 "$* (status $status)"
     sed 's/^/# /' "$room/err"
   fi
 }
@@ -75,7 +74,7 @@ no_kit() {
   status=$?
   refused "the kit's command rt isn't on the PATH"
 }
-if PATH=/usr/bin:/bin command -v rt >/dev/null; then echo "skipped launcher: no kit: a kit is in /usr/bin"; else check "no kit is named, with where it looked" no_kit; fi
+if PATH=/usr/bin:/bin command -v rt >/dev/null; then skips "no kit" "a kit is in /usr/bin"; else check "no kit is named, with where it looked" no_kit; fi
 
 another_kit() { KIT_SAYS="rattle-kit-99" launch prove; refused "wants $(head -n 1 "$KIT_FILE"), or $(tail -n 1 "$KIT_FILE")" && says "it is rattle-kit-99"; }
 check "another kit than the tree's is named, with where it stands" another_kit
@@ -131,7 +130,7 @@ released_once() { bare gateway x && prints "released gateway x" && [ ! -s "$room
 check "once on a machine, and each time where that can't be noted" released_once
 rm -f "$room/home"
 alone_on_a_terminal() { script -qec "$tree/sacn" /dev/null >"$room/out" 2>"$room/err" </dev/null; status=$?; prints "reads one datagram as hexadecimal digits, up to Ctrl-D" && bare && ! says "reads one datagram"; }
-if command -v script >/dev/null; then check "alone on a terminal it says what it reads" alone_on_a_terminal; else echo "skipped launcher: alone on a terminal: no script"; fi
+if command -v script >/dev/null; then check "alone on a terminal it says what it reads" alone_on_a_terminal; else skips "alone on a terminal" "no script"; fi
 released_version() { bare --version && prints "release 9.8.7" && prints "kit rattle-kit-9" && prints "proved and built elsewhere"; }
 check "the version tells that it is the released one" released_version
 proved_goes_first() { launch prove; launch node x; [ "$status" = 0 ] && prints "proved node x" && [ ! -s "$room/err" ] && launch --version && prints "proved and built on this machine"; }
@@ -234,7 +233,7 @@ interrupted() {
   anew
   : >"$KIT_LOG"
   (PATH=$room/bin:$usual KIT_SLEEPS=30 exec setsid "$tree/sacn" prove >"$room/out" 2>"$room/err" </dev/null) &
-  for _ in $(seq 1200); do grep -q low "$KIT_LOG" && break; sleep 0.05; done
+  wait_for_line "$KIT_LOG" low 60
   kill -INT -- "-$!"
   wait $!
   status=$?
@@ -250,7 +249,7 @@ two_at_once() {
   anew
   : >"$KIT_LOG"
   PATH=$room/bin:$usual KIT_SLEEPS=3 "$tree/sacn" prove >/dev/null 2>&1 </dev/null &
-  for _ in $(seq 1200); do grep -q low "$KIT_LOG" && break; sleep 0.05; done
+  wait_for_line "$KIT_LOG" low 60
   KIT_LOG=$KIT_LOG.own launch prove
   wait
   [ "$status" = 0 ] && says "another run proves this tree; waiting for it to end" && [ ! -s "$KIT_LOG.own" ] && [ -x "$tree/crates/sacn/out/sacn" ]
@@ -264,7 +263,7 @@ desk_ends_well() {
   : >"$room/out"
   (PATH=$room/bin:$usual exec setsid "$tree/sacn" desk show.toml >"$room/out" 2>"$room/err" < <(exec 2>/dev/null; echo go; sleep 30)) &
   local launcher=$!
-  for _ in $(seq 100); do grep -q "took go" "$room/out" && break; sleep 0.05; done
+  wait_for_line "$room/out" "took go"
   kill -TERM "$launcher"
   wait "$launcher"
   status=$?
@@ -279,7 +278,8 @@ chmod +x "$room/bin/rlwrap"
 desk_on_terminal() {
   local columns=${2-80}
   printf '#!/bin/sh\necho "typed at: $SACN_TYPED"\nread -r line\necho "ended all"\nexit 7\n' >"$tree/crates/sacn/out/sacn"
-  (sleep 1; printf '\004') | PATH=$room/bin:$usual TERM=$1 XDG_STATE_HOME=$room/state script -qec "stty rows 24 cols $columns; exec $tree/sacn desk show.toml" /dev/null >"$room/out" 2>"$room/err"
+  : >"$room/out"
+  (wait_for_line "$room/out" "typed at: "; printf '\004') | PATH=$room/bin:$usual TERM=$1 XDG_STATE_HOME=$room/state script -qec "stty rows 24 cols $columns; exec $tree/sacn desk show.toml" /dev/null >"$room/out" 2>"$room/err"
   status=$?
   [ "$status" = 7 ] && prints "typed at: terminal" && prints "ended all"
 }
@@ -294,7 +294,7 @@ if command -v script >/dev/null; then
   check "on a dumb terminal it runs alone" dumb_is_not_wrapped
   check "so it does on one that says no size" unsized_is_not_wrapped
   check "so it does where there is no rlwrap" without_rlwrap
-else echo "skipped launcher: a desk on a terminal: no script"; fi
+else skips "a desk on a terminal" "no script"; fi
 
 # Runs a desk with no input until TERM, which comes so many seconds after its start; the program that pretends tells whether its input ended before, and after how long.
 desk_without_input() {
@@ -305,7 +305,7 @@ desk_without_input() {
   printf '#!/usr/bin/env bash\ntrap "" INT\necho began\nread -r line\nif [ -e "%s" ]; then echo "ended when told"; else echo "ended early"; fi\n[ $SECONDS -ge 1 ] && echo "after a second"\nexit 7\n' "$room/told" >"$tree/crates/sacn/out/sacn"
   PATH=$room/bin:$usual setsid "$tree/sacn" desk show.toml "$@" >"$room/out" 2>"$room/err" </dev/null &
   local launcher=$!
-  for _ in $(seq 200); do grep -q began "$room/out" && break; sleep 0.05; done
+  wait_for_line "$room/out" began
   sleep "$pause"
   : >"$room/told"
   kill -TERM "$launcher" 2>/dev/null
@@ -321,6 +321,7 @@ no_input_is_its_end() { desk_without_input 1 && prints "ended early"; }
 check "a desk without a script and without input ends at once" no_input_is_its_end
 
 # The processes of a session.
+has_left() { [ -z "$(session "$1")" ]; }
 session() { sed -n "s/^\([0-9]*\) .*) [A-Y] [0-9]* [0-9]* $1 .*/\1/p" /proc/[0-9]*/stat 2>/dev/null; }
 # Kills the launcher of a program outright, which has its input from a file or else from a pipe that stays: within five seconds the program's
 # input ends, and nothing of the launcher's is left.
@@ -334,13 +335,13 @@ killed_outright() { # FILE-OR-NONE WORD..
   rm "$room/orders"
   PATH=$room/bin:$usual setsid "$tree/sacn" "$@" >"$room/out" 2>"$room/err" <"${input:-/proc/self/fd/$orders}" &
   launcher=$!
-  for _ in $(seq 200); do grep -q began "$room/out" && break; sleep 0.05; done
+  wait_for_line "$room/out" began
   : >"$room/told"
   kill -KILL "$launcher"
   wait "$launcher" 2>/dev/null
   status=$?
-  for _ in $(seq 50); do grep -q ended "$room/out" && break; sleep 0.1; done
-  for _ in $(seq 20); do [ -z "$(session "$launcher")" ] && break; sleep 0.1; done
+  wait_for_line "$room/out" ended 5
+  patience=2 wait_until has_left "$launcher"
   prints "ended all" && [ -z "$(session "$launcher")" ]
   verdict=$?
   exec {orders}<&-
@@ -366,7 +367,7 @@ if mount -t tmpfs -o size=64k none "$room/small" 2>/dev/null; then
   check "no room on the disk is said" full_disk
   umount "$room/small"
 else
-  echo "skipped launcher: no room on the disk: this machine lets no small disk be made"
+  skips "no room on the disk" "this machine lets no small disk be made"
 fi
 
 every_command_is_placed() {
@@ -379,4 +380,4 @@ every_command_is_placed() {
   [ -n "$words" ]
 }
 status=0
-if [ -x "$top/crates/sacn/out/sacn" ]; then check "each command of the program is known to light a stage or not to" every_command_is_placed; else echo "skipped launcher: each command is placed: the program isn't built"; fi
+if [ -x "$top/crates/sacn/out/sacn" ]; then check "each command of the program is known to light a stage or not to" every_command_is_placed; else skips "each command is placed" "the program isn't built"; fi

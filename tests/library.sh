@@ -3,21 +3,18 @@
 # under valgrind where it is there; the examples in C against the built program on loopback, and the one in Python through the shared object.
 # Prints 'ok NAME', 'not ok NAME: why' or 'skipped NAME: why' for each, as ./test counts them.
 set -u
-top=$(cd "$(dirname "$(readlink -f "$0")")/.." && pwd)
-sacn=${SACN:-$top/crates/sacn/out/sacn}
+# shellcheck source=tests/lib.sh
+. "$(dirname "$(readlink -f "$0")")/lib.sh"
 compiler=$(command -v "${CC:-cc}" || command -v gcc || command -v clang || true)
 if [ -z "$compiler" ]; then
   echo "skipped library: this machine has no C compiler"
   exit 0
 fi
-room=$(mktemp -d)
-running=()
-trap 'for it in "${running[@]}"; do kill "$it" 2>/dev/null; done; rm -rf "$room"' EXIT
 prefix=$room/prefix
 export PKG_CONFIG_PATH=$prefix/lib/pkgconfig
 
-ok() { echo "ok library: $1"; }
-fails() { echo "not ok library: $1: $2"; }
+ok() { verdict "$1" 0; }
+fails() { verdict "$1" 1 "$2"; }
 
 # The gate builds no archive, but leaves its build of the libraries below it: so after the gate one crate is proved once more, and nothing else.
 # Elsewhere the launcher proves what isn't proved yet.
@@ -39,7 +36,7 @@ flags=(-I"$prefix/include" -L"$prefix/lib")
 if command -v pkg-config >/dev/null; then
   if [ "$(pkg-config --cflags sacn | tr -d ' ')" = "-I$prefix/include" ]; then ok "pkg-config"; else fails "pkg-config" "$(pkg-config --cflags sacn 2>&1)"; fi
 else
-  echo "skipped library: pkg-config: it isn't there"
+  skips "pkg-config" "it isn't there"
 fi
 # (the archive, by name: the shared object stands beside it)
 library=$prefix/lib/libsacn.a
@@ -58,7 +55,7 @@ if built smoke "$top/tests/c/library.c" -std=c99 -Wpedantic -O2; then
   if command -v valgrind >/dev/null; then
     if valgrind -q --error-exitcode=99 --leak-check=full "$room/smoke" >"$room/said" 2>&1; then ok "under valgrind"; else fails "under valgrind" "$(head -n 1 "$room/said")"; fi
   else
-    echo "skipped library: under valgrind: it isn't there"
+    skips "under valgrind" "it isn't there"
   fi
 fi
 if "$compiler" -fsanitize=address,undefined -x c - -o "$room/try" <<<'int main(void) { return 0; }' 2>/dev/null && "$room/try"; then
@@ -66,7 +63,7 @@ if "$compiler" -fsanitize=address,undefined -x c - -o "$room/try" <<<'int main(v
     if "$room/sanitized" >"$room/said" 2>&1; then ok "with sanitizers"; else fails "with sanitizers" "$(head -n 1 "$room/said")"; fi
   fi
 else
-  echo "skipped library: with sanitizers: this compiler has none"
+  skips "with sanitizers" "this compiler has none"
 fi
 # Each request for memory is refused in turn; nothing may be lost then.
 if built memory "$top/tests/c/memory.c" -std=c99 -O2 -Wl,--wrap=malloc -Wl,--wrap=realloc; then
@@ -78,10 +75,10 @@ if command -v c++ >/dev/null; then
   printf '#include <sacn.h>\nint main() { struct sacn_node node = {}; return sacn_node_free(&node) == SACN_NULL ? 0 : 1; }\n' >"$room/plus.cpp"
   if c++ -Wall -Wextra -Werror "${flags[@]}" -o "$room/plus" "$room/plus.cpp" "$library" 2>"$room/said" && "$room/plus"; then ok "C++"; else fails "C++" "$(head -n 1 "$room/said")"; fi
 else
-  echo "skipped library: C++: there is no compiler"
+  skips "C++" "there is no compiler"
 fi
 
-# Against the program, each on a UDP port of its own.
+# Against the program.
 show() {
   cat <<TOML
 version = 2
@@ -103,50 +100,38 @@ TOML
 setup() { printf 'version = 1\nudp_port = %s\n[[port]]\nnumber = 1\nuniverse = 1\n' "$1"; }
 lit='^1 [0-9]+ 00ff00'
 
-# Waits until a UDP port of this machine is bound, at most thirty seconds.
-bound() {
-  local port tries
-  port=$(printf ':%04X ' "$1")
-  [ -r /proc/net/udp ] || { sleep 1; return; }
-  for ((tries = 0; tries < 300; tries++)); do
-    if grep -q "$port" /proc/net/udp; then return; fi
-    sleep 0.1
-  done
-}
+# bound PORT: waits until a UDP port of this machine is bound
+bound() { patience=30 wait_until grep -q "$(printf ':%04X ' "$1")" /proc/net/udp; }
 
 # hears NAME PORT COMMAND..: the command shows what a desk sends, which then ends its universe: lit, and dark
 hears() {
   local name=$1 port=$2
   shift 2
-  show "$port" >"$room/show$port.toml"
+  show "$port" >"$room/show.toml"
   "$@" >"$room/heard" 2>"$room/said" &
-  running=($!)
   bound "$port"
-  printf 'go\n' | { cat; sleep 1; } | timeout 10 "$sacn" desk "$room/show$port.toml" >/dev/null 2>&1
-  wait "${running[0]}"
-  running=()
+  printf 'go\n' | { cat; wait_for_line "$room/heard" "$lit" 5; } | timeout 10 "$sacn" desk "$room/show.toml" >/dev/null 2>&1
+  wait "$!"
   if grep -qE "$lit" "$room/heard" && tail -n 1 "$room/heard" | grep -qE '^1 [0-9]+ 0000'; then ok "$name"; else fails "$name" "$(head -n 1 "$room/said" "$room/heard" | tr '\n' ' ')"; fi
 }
 
 if [ ! -x "$sacn" ]; then
-  echo "skipped library: receive.c, send.c and receive.py beside the program: sacn isn't built"
+  skips "receive.c, send.c and receive.py beside the program" "sacn isn't built"
 else
-  setup 25971 >"$room/node25971.toml"
-  if built receive "$top/examples/c/receive.c" -std=c99 -O2; then hears "receive.c hears a desk" 25971 "$room/receive" "$room/node25971.toml" 4; fi
+  port=$(free_udp_port)
+  setup "$port" >"$room/node.toml"
+  if built receive "$top/examples/c/receive.c" -std=c99 -O2; then hears "receive.c hears a desk" "$port" "$room/receive" "$room/node.toml" 4; fi
   if command -v python3 >/dev/null && [ -f "$prefix/lib/libsacn.so" ]; then
-    hears "receive.py hears a desk" 25972 env SACN_LIBRARY="$prefix/lib/libsacn.so" PYTHONPATH="$top/bindings/python" python3 "$top/examples/python/receive.py" 1 4 25972 127.0.0.1
+    hears "receive.py hears a desk" "$port" env SACN_LIBRARY="$prefix/lib/libsacn.so" PYTHONPATH="$top/bindings/python" python3 "$top/examples/python/receive.py" 1 4 "$port" 127.0.0.1
   else
-    echo "skipped library: receive.py: no python3, or no shared object"
+    skips "receive.py" "no python3, or no shared object"
   fi
   if built send "$top/examples/c/send.c" -std=c99 -O2; then
-    setup 25973 >"$room/node25973.toml"
-    show 25973 >"$room/show25973.toml"
-    timeout 20 "$sacn" gateway "$room/node25973.toml" --listen 127.0.0.1 --seconds 5 >"$room/heard" 2>"$room/said" </dev/null &
-    running=($!)
-    bound 25973
-    "$room/send" "$room/show25973.toml" 25973 500 >"$room/sent"
-    wait "${running[0]}"
-    running=()
+    show "$port" >"$room/show.toml"
+    timeout 20 "$sacn" gateway "$room/node.toml" --listen 127.0.0.1 --seconds 5 >"$room/heard" 2>"$room/said" </dev/null &
+    bound "$port"
+    "$room/send" "$room/show.toml" "$port" 500 >"$room/sent"
+    wait "$!"
     if grep -qE "$lit" "$room/heard" && grep -q 'ended' "$room/said"; then ok "a gateway hears send.c: $(cat "$room/sent")"; else fails "a gateway hears send.c" "$(head -n 1 "$room/said")"; fi
   fi
 fi

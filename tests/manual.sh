@@ -2,22 +2,17 @@
 # The manual and the completions: each option that a command's help prints stands in all of them, and the tools that read them take them.
 # Prints 'ok NAME', 'not ok NAME: why' or 'skipped NAME: why' for each, as ./test counts them.
 set -u
-top=$(cd "$(dirname "$(readlink -f "$0")")/.." && pwd)
-sacn=${SACN:-$top/crates/sacn/out/sacn}
-if [ ! -x "$sacn" ]; then
-  echo "skipped manual: sacn isn't built"
-  exit 0
-fi
-room=$(mktemp -d)
-trap 'rm -rf "$room"' EXIT
-cd "$room" || exit 1
+# shellcheck source=tests/lib.sh
+. "$(dirname "$(readlink -f "$0")")/lib.sh"
+need sacn
 
 # makes FILE WORD..: standard output goes to the file; nothing else is said, and the status is 0
 makes() {
   local file=$1 status=0
   shift
   "$sacn" "$@" >"$file" 2>err || status=$?
-  if [ "$status" = 0 ] && [ -s "$file" ] && [ ! -s err ]; then echo "ok manual: $*"; else echo "not ok manual: $*: status $status, '$(head -c 200 err)'"; fi
+  [ "$status" = 0 ] && [ -s "$file" ] && [ ! -s err ]
+  verdict "$*" $? "status $status, '$(head -c 200 err)'"
 }
 makes page manual
 for shell in bash zsh fish; do makes $shell completion $shell; done
@@ -30,7 +25,7 @@ part() { awk -v start="$2" -v end="$3" '$0 == start {on = 1; next} on && index($
 
 # The commands are those that the program's own help lists, the options those of each command's help.
 commands=$("$sacn" --help | awk '/^Commands:/ {on = 1; next} on && NF == 0 {exit} on {print $1}')
-if [ -z "$commands" ]; then echo "not ok manual: help lists no command"; fi
+if [ -z "$commands" ]; then verdict "commands" 1 "help lists none"; fi
 for command in $commands; do
   missing=
   part plain ".SS $command" ".S" >of_page
@@ -57,11 +52,13 @@ for command in $commands; do
     grep -qxF -- "$option" <<<"$options" || missing+=" $option of help"
   done
   missing+=$(awk 'name != "" && ($0 == "" || index($0, ".") == 1) {printf " words on %s", name} {name = last == ".TP" ? $1 : ""; last = $0}' of_page)
-  if [ -z "$missing" ]; then echo "ok manual: $command and its options stand in all"; else echo "not ok manual: $command lacks$missing"; fi
+  [ -z "$missing" ]
+  verdict "$command and its options stand in all" $? "it lacks$missing"
 done
 
 usage=$("$sacn" --help | sed -n 's/^Usage: //p')
-if grep -qxF -- "$usage" plain; then echo "ok manual: how the program is called"; else echo "not ok manual: '$usage' isn't in the page"; fi
+grep -qxF -- "$usage" plain
+verdict "how the program is called" $? "'$usage' isn't in the page"
 
 # What reads them takes them.
 # takes NAME TOOL WORD..: the tool, where it is there, ends well and says nothing
@@ -69,11 +66,12 @@ takes() {
   local name=$1 status=0
   shift
   if ! command -v "$1" >/dev/null; then
-    echo "skipped manual: $name: no $1 here"
+    skips "$name" "no $1 here"
     return
   fi
   "$@" >said 2>&1 || status=$?
-  if [ "$status" = 0 ] && [ ! -s said ]; then echo "ok manual: $name"; else echo "not ok manual: $name: status $status, '$(head -c 200 said)'"; fi
+  [ "$status" = 0 ] && [ ! -s said ]
+  verdict "$name" $? "status $status, '$(head -c 200 said)'"
 }
 takes "groff takes the page" groff -man -Tutf8 -ww -z page
 takes "mandoc takes the page" mandoc -T lint -W warning page
@@ -88,7 +86,8 @@ offers() {
   local wanted=$1 found
   shift
   found=$(bash --norc -c '. ./bash; COMP_WORDS=("$@"); COMP_CWORD=$(($# - 1)); _sacn; printf "%s\n" "${COMPREPLY[@]}"' sacn "$@" 2>/dev/null | sort | tr '\n' ' ')
-  if [ "$found" = "$wanted" ]; then echo "ok manual: bash offers $* $wanted"; else echo "not ok manual: bash offers $*: '$found'"; fi
+  [ "$found" = "$wanted" ]
+  verdict "bash offers $* $wanted" $? "'$found'"
 }
 offers "gateway " sacn ga
 offers "setup.toml " sacn gateway set
@@ -98,4 +97,5 @@ offers "--standby --stay " sacn desk --s""t
 offers " " sacn gateway x --seconds ""
 
 # The version is told with the kits that the tree takes.
-if diff <("$sacn" --version | grep '^kit ') <(sed 's/^/kit /' "$top/tools/kit") >/dev/null; then echo "ok manual: the kit of --version"; else echo "not ok manual: the kit of --version"; fi
+diff <("$sacn" --version | grep '^kit ') <(sed 's/^/kit /' "$top/tools/kit") >said
+verdict "the kit of --version" $? "$(cat said)"

@@ -19,6 +19,7 @@ import uuid
 
 # (no folder of compiled files is left in the tree)
 sys.dont_write_bytecode = True
+import e131
 import stage
 from stage import DESK, finish, Heard, PORT, ROOM, SACN, second_space, start, tap, text_of, TOP, write
 
@@ -116,8 +117,9 @@ def first_packets(count):
     while any(len(it) < 2 for it in packets.values()):
         octets = sock.recv(2048)
         # (beside the data packets it lists its universes)
-        if octets[21] == 4:
-            packets[octets[113] << 8 | octets[114]].append(octets)
+        packet = e131.read(octets)
+        if packet:
+            packets[packet.universe].append(octets)
     run.kill()
     run.wait()
     return {universe: it[:2] for universe, it in packets.items()}
@@ -320,7 +322,7 @@ class Numbers(Heard):
     def run(self):
         while True:
             octets = self.sock.recv(2048)[self.skip:]
-            if octets[4:13] == b"ASC-E1.17" and octets[21] == 4:
+            if e131.read(octets):
                 now = time.monotonic()
                 self.greatest, self.latest = max(self.greatest, now - (self.latest or now)), now
                 self.numbers.append(octets[NUMBER])

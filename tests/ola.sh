@@ -4,22 +4,15 @@
 # Prints a line 'ok NAME', 'not ok NAME: what was seen' or 'skipped NAME: why' for each check, and 'N passed, M failed' at the end.
 # It takes the built program: crates/sacn/out/sacn, or the path in SACN; words name the looks that are wanted.
 set -u
-top=$(cd "$(dirname "$(readlink -f "$0")")/.." && pwd)
-export SACN=${SACN:-$top/crates/sacn/out/sacn}
+# shellcheck source=tests/lib.sh
+. "$(dirname "$(readlink -f "$0")")/lib.sh"
+export SACN=$sacn
 export SACN_JOIN=${SACN_JOIN:-$top/release/$(uname -m)-linux/sacn-join}
 looks=(olad_takes_a_desk_that_is_started_again olad_shows_what_a_desks_page_orders a_watch_hears_olad a_watch_hears_qlcplus)
 [ $# = 0 ] || looks=("$@")
 [ -x "$SACN" ] || { echo "not ok ola: the program is built: $SACN isn't there"; exit 1; }
-work=$(mktemp -d)
 # (OLA isn't run by root, and reads its folder in there)
-chmod 711 "$work"
-started=()
-cleanup() {
-  for pid in "${started[@]:-}"; do [ -n "$pid" ] && kill "$pid" 2>/dev/null; done
-  wait
-  rm -rf "$work"
-}
-trap cleanup EXIT
+chmod 711 "$room"
 trap 'exit 1' INT TERM HUP
 
 # Why a look can't be had here; nothing where it can.
@@ -36,23 +29,19 @@ why_not() { # LOOK
 
 for look in "${looks[@]}"; do
   why=$(why_not "$look")
-  if [ -n "$why" ]; then echo "skipped ola: $look: $why" >"$work/$look"; continue; fi
+  if [ -n "$why" ]; then skips "$look" "$why" >"$room/$look"; continue; fi
   # (its own end comes long before; the second limit is for what doesn't heed the first)
-  TMPDIR=$work SPACE=1 timeout -k 5 80 unshare -n python3 "$top/tests/ola.py" "$look" >"$work/$look" 2>"$work/$look.said" &
-  started+=($!)
-  echo $! >"$work/$look.pid"
+  TMPDIR=$room SPACE=1 timeout -k 5 80 unshare -n python3 "$top/tests/ola.py" "$look" >"$room/$look" 2>"$room/$look.said" &
+  echo $! >"$room/$look.pid"
 done
-passed=0
-failed=0
 for look in "${looks[@]}"; do
   status=0
-  if [ -f "$work/$look.pid" ]; then wait "$(<"$work/$look.pid")" || status=$?; fi
-  if [ "$status" = 77 ]; then echo "skipped ola: $look: no network namespaces can be joined here" >"$work/$look"; status=0; fi
-  if [ "$status" != 0 ]; then echo "not ok $look: it ended with status $status: $(tail -n 1 "$work/$look.said")" >>"$work/$look"; fi
-  cat "$work/$look"
-  passed=$((passed + $(grep -c '^ok ' "$work/$look")))
-  failed=$((failed + $(grep -c '^not ok ' "$work/$look")))
+  if [ -f "$room/$look.pid" ]; then wait "$(<"$room/$look.pid")" || status=$?; fi
+  if [ "$status" = 77 ]; then skips "$look" "no network namespaces can be joined here" >"$room/$look"; status=0; fi
+  if [ "$status" != 0 ]; then echo "not ok $look: it ended with status $status: $(tail -n 1 "$room/$look.said")" >>"$room/$look"; fi
+  cat "$room/$look"
+  passed=$((passed + $(grep -c '^ok ' "$room/$look")))
+  failed=$((failed + $(grep -c '^not ok ' "$room/$look")))
 done
-started=()
 echo "$passed passed, $failed failed"
 [ "$failed" -eq 0 ]

@@ -8,7 +8,7 @@ import tempfile
 import threading
 import time
 
-SLOTS_AT = 126
+import e131
 
 
 def show(port):
@@ -41,9 +41,10 @@ class Desk:
                 octets = self.listener.recv(2048)
             except OSError:
                 return
-            if octets[18:22] == b"\0\0\0\4" and octets[40:44] == b"\0\0\0\2":
+            packet = e131.read(octets)
+            if packet:
                 with self.came:
-                    self.frames.append(octets[SLOTS_AT:])
+                    self.frames.append(packet.slots)
                     self.came.notify_all()
 
     def type(self, line, answers=1):

@@ -2,41 +2,24 @@
 # The page of a watch and of a gateway, asked with curl and with bash alone: each refusal, the document, events beside a desk on loopback, a viewer that never reads,
 # and more viewers and universes than there is room for. Prints 'ok NAME', 'not ok NAME: why' or 'skipped NAME: why' for each, as ./test counts them.
 set -u
-top=$(cd "$(dirname "$(readlink -f "$0")")/.." && pwd)
-sacn=${SACN:-$top/crates/sacn/out/sacn}
-if [ ! -x "$sacn" ]; then
-  echo "skipped page: sacn isn't built"
-  exit 0
-fi
-if ! command -v curl >/dev/null; then
-  echo "skipped page: there is no curl"
-  exit 0
-fi
-room=$(mktemp -d)
-started=()
-cleanup() {
-  for pid in "${started[@]:-}"; do [ -z "$pid" ] || kill "$pid" 2>/dev/null; done
-  rm -rf "$room"
-}
-trap cleanup EXIT
-cd "$room" || exit 1
-udp=25845
-tcp=25846
+# shellcheck source=tests/lib.sh
+. "$(dirname "$(readlink -f "$0")")/lib.sh"
+need sacn curl
+udp=$(free_udp_port)
+tcp=$(free_tcp_port)
 at=http://127.0.0.1:$tcp
 CR=$'\r'
 
-# verdict NAME STATUS [WHY]: says whether a look went well
-verdict() { if [ "$2" = 0 ]; then echo "ok page: $1"; else echo "not ok page: $1: ${3-}"; fi; }
-
-# refused STATUS WANTED WORD..: a run ends so, and prints nothing
+# refused STATUS WANTED WORD..: a run ends so, and prints nothing; its name has the same numbers in place of the ports of each run
 refused() {
-  local wanted=$1 said=$2 status=0 first
+  local wanted=$1 said=$2 status=0 first name
   shift 2
+  name="watch ${*//$tcp/25846}"
   timeout 20 "$sacn" watch "$@" </dev/null >out 2>err || status=$?
   first=$(head -n 1 err)
   # shellcheck disable=SC2053
   [ "$status" = "$wanted" ] && [[ $first == $said ]] && [ ! -s out ]
-  verdict "watch $*" $? "status $status, '$first'"
+  verdict "${name//$udp/25845}" $? "status $status, '$first'"
 }
 
 refused 2 "error: 0: Port" --page 0
@@ -44,26 +27,25 @@ refused 2 "error: 65536: Port" --page 65536
 refused 2 "error: 127.0.0.1:0: Port" --page 127.0.0.1:0
 refused 2 "error: 127.0.0.1: Address" --page 127.0.0.1
 refused 2 "error: here:80: Address" --page here:80
-refused 2 "error: --page: beside --plain" --page $tcp --plain
-refused 2 "error: --page: beside --json" --page $tcp --json
+refused 2 "error: --page: beside --plain" --page "$tcp" --plain
+refused 2 "error: --page: beside --json" --page "$tcp" --json
 refused 2 "error: *" --page
-refused 4 "device socket 192.0.2.1:$tcp AddrNotAvailable" --page 192.0.2.1:$tcp --port $udp
+refused 4 "device socket 192.0.2.1:$tcp AddrNotAvailable" --page 192.0.2.1:"$tcp" --port "$udp"
 
 # serves WORD..: a watch whose page is served, until the script ends it
 serves() {
   # (before the start, so that the line of an earlier one isn't taken for this one's)
   : >watch.err
-  "$sacn" watch --listen 127.0.0.1 --port $udp --page "$@" </dev/null >watch.out 2>watch.err &
+  "$sacn" watch --listen 127.0.0.1 --port "$udp" --page "$@" </dev/null >watch.out 2>watch.err &
   watch=$!
-  started+=("$watch")
-  for _ in $(seq 100); do grep -q '^page' watch.err && return; sleep 0.1; done
-  echo "not ok page: it serves none: $(head -n 1 watch.err)"
+  wait_for_line watch.err '^page' && return
+  verdict "it serves one" 1 "$(head -n 1 watch.err)"
   exit 1
 }
-serves $tcp
+serves "$tcp"
 [ "$(tail -n 1 watch.err)" = "page http://127.0.0.1:$tcp/" ]
 verdict "where it serves" $? "$(cat watch.err)"
-refused 4 "device socket 127.0.0.1:$tcp AddrInUse" --page $tcp --port $udp
+refused 4 "device socket 127.0.0.1:$tcp AddrInUse" --page "$tcp" --port "$udp"
 
 # answers NAME STATUS WORD..: curl is answered so; the answer is in head and body
 answers() {
@@ -74,18 +56,21 @@ answers() {
   verdict "$name" $? "$status"
 }
 
-# comes NAME STATUS WORD..: curl is answered so, now or in the next ten seconds
+# comes NAME STATUS WORD..: curl is answered so, now or soon
 comes() {
-  local name=$1 wanted=$2 status=
-  shift 2
-  for _ in $(seq 100); do
-    status=$(curl -s -m 10 -o body -D head -w '%{http_code}' "$@")
-    [ "$status" = "$wanted" ] && break
-    sleep 0.1
-  done
-  [ "$status" = "$wanted" ]
-  verdict "$name" $? "$status"
+  local name=$1
+  shift
+  wait_until is_answered "$@"
+  verdict "$name" $? "$(head -n 1 head)"
 }
+is_answered() {
+  local wanted=$1
+  shift
+  [ "$(curl -s -m 10 -o body -D head -w '%{http_code}' "$@")" = "$wanted" ]
+}
+
+# has OCTETS [QUERY]: whether the document has these
+has() { curl -s -m 5 "$at/state${2-}" | grep -qF -- "$1"; }
 
 # sends NAME STATUS OCTETS: octets of a head as they stand are answered so
 sends() {
@@ -101,7 +86,7 @@ own="Host: 127.0.0.1:$tcp\r\n"
 long=$(head -c 5000 /dev/zero | tr '\0' a)
 fields=$(for number in $(seq 32); do printf 'X-%s: 1\\r\\n' "$number"; done)
 
-answers "the page" 200 $at/
+answers "the page" 200 "$at"/
 grep -qi '<!doctype html>' body && grep -q "^Content-Type: text/html; charset=utf-8$CR" head
 verdict "the page is HTML" $? "$(head -n 3 body)"
 for field in "Cache-Control: no-store" "X-Content-Type-Options: nosniff" "Referrer-Policy: no-referrer" \
@@ -113,28 +98,28 @@ done
 ! grep -qE '(src|href) *= *["'\'']?(https?:)?//' body
 verdict "the page asks no other server" $?
 answers "the page with a query" 200 "$at/?universe=7"
-answers "no such path" 404 $at/favicon.ico
-answers "a path above" 404 --path-as-is $at/../state
+answers "no such path" 404 "$at"/favicon.ico
+answers "a path above" 404 --path-as-is "$at"/../state
 answers "an audit with a query" 400 "$at/audit?universe=1"
-answers "an audit, asked for the first time" 200 $at/audit
+answers "an audit, asked for the first time" 200 "$at"/audit
 grep -q "^Content-Type: text/plain; charset=utf-8$CR" head && grep -q '^asked for the first time: ' body
 verdict "a first question is told that findings come" $? "$(cat head body)"
-answers "a post" 405 -d go=1 $at/
+answers "a post" 405 -d go=1 "$at"/
 grep -qxF "Allow: GET$CR" head
 verdict "a post is told what is allowed" $? "$(cat head)"
-answers "a put" 405 -X PUT $at/state
-answers "a deletion" 405 -X DELETE $at/events
-answers "a question for options" 405 -X OPTIONS $at/
+answers "a put" 405 -X PUT "$at"/state
+answers "a deletion" 405 -X DELETE "$at"/events
+answers "a question for options" 405 -X OPTIONS "$at"/
 sends "a head alone" 405 "HEAD / HTTP/1.1\r\n$own\r\n"
-answers "a body" 400 -X GET -d go=1 $at/
-answers "a body in chunks" 400 -X GET -H 'Transfer-Encoding: chunked' -d go=1 $at/
+answers "a body" 400 -X GET -d go=1 "$at"/
+answers "a body in chunks" 400 -X GET -H 'Transfer-Encoding: chunked' -d go=1 "$at"/
 sends "a body of no octets" 200 "GET / HTTP/1.1\r\n${own}Content-Length: 0\r\n\r\n"
-answers "another host" 403 -H 'Host: rig.example' $at/state
-answers "another host with the port" 403 -H "Host: rig.example:$tcp" $at/events
-answers "another port" 403 -H "Host: 127.0.0.1:1" $at/state
-answers "no port" 403 -H "Host: 127.0.0.1" $at/state
-answers "this machine by name" 200 -H "Host: LocalHost:$tcp" $at/state
-answers "no host" 403 -H 'Host:' $at/state
+answers "another host" 403 -H 'Host: rig.example' "$at"/state
+answers "another host with the port" 403 -H "Host: rig.example:$tcp" "$at"/events
+answers "another port" 403 -H "Host: 127.0.0.1:1" "$at"/state
+answers "no port" 403 -H "Host: 127.0.0.1" "$at"/state
+answers "this machine by name" 200 -H "Host: LocalHost:$tcp" "$at"/state
+answers "no host" 403 -H 'Host:' "$at"/state
 sends "no host in HTTP/1.0" 403 "GET /state HTTP/1.0\r\n\r\n"
 sends "two hosts" 403 "GET /state HTTP/1.1\r\n${own}Host: rig.example\r\n\r\n"
 sends "a host twice" 403 "GET /state HTTP/1.1\r\n$own$own\r\n"
@@ -157,14 +142,14 @@ answers "universe 63999" 200 "$at/state?universe=63999"
 start=$SECONDS
 exec {line}<>"/dev/tcp/127.0.0.1/$tcp"
 printf 'GET / HTTP/1.1\r\n' >&"$line"
-answers "the page beside a head that is late" 200 $at/
+answers "the page beside a head that is late" 200 "$at"/
 read -r -t 10 -u "$line" first
 status=$?
 exec {line}>&-
 [ "$status" = 1 ] && [ $((SECONDS - start)) -ge 4 ]
 verdict "a head that is late is closed" $? "status $status, $((SECONDS - start)) s"
 
-answers "the document before anything came" 200 $at/state
+answers "the document before anything came" 200 "$at"/state
 nothing='{"ms":0,"universe":null,"heard":[],"sources":[],"levels":"'$(printf '0%.0s' $(seq 1024))'","winners":"'$(printf '0%.0s' $(seq 2048))
 nothing+='","alarms":[],"counts":{"datagrams":0,"refused":0,"pages":0,"untracked":0}}'
 [ "$(sed 's/"ms":[0-9]*/"ms":0/' body)" = "$nothing" ]
@@ -195,18 +180,18 @@ channel = 1
 universe = 7
 slot = 3
 T
-serves 127.0.0.1:$tcp --universe 7
+serves 127.0.0.1:"$tcp" --universe 7
 curl -sN -m 9 "$at/events" >events &
 viewer=$!
 curl -sN -m 9 "$at/events?universe=1" >events.1 &
-for _ in $(seq 60); do [ -s events ] && [ -s events.1 ] && break; sleep 0.1; done
+both_begin() { [ -s events ] && [ -s events.1 ]; }
+wait_until both_begin
 printf '0 go\n2500 go\n3500 go\n' >script.txt
 timeout 30 "$sacn" desk show.toml --script script.txt </dev/null >/dev/null 2>desk.err &
 desk=$!
-started+=("$desk")
 dark=$(printf '0%.0s' $(seq 1018))
-for _ in $(seq 20); do curl -s -m 5 $at/state | grep -qF '"levels":"0000ff' && break; sleep 0.1; done
-answers "the document of a universe" 200 $at/state
+wait_until has '"levels":"0000ff'
+answers "the document of a universe" 200 "$at"/state
 none=$(printf '0%.0s' $(seq 2036))
 for part in '"universe":7,"heard":[1,7],' '"name":"\u003cb\u003e\u0022D\u00f6sk\u0022 \u0026 \ud83c\udfad\u005c"' \
   '"sources":[{"place":0,"universe":1,"cid":"000102030405060708090a0b0c0d0e0f",' '{"place":1,"universe":7,"cid":"000102030405060708090a0b0c0d0e0f",' \
@@ -223,7 +208,7 @@ answers "the document of another universe" 200 "$at/state?universe=1"
 grep -q '"universe":1,' body && grep -qF "\"levels\":\"$(printf '0%.0s' $(seq 1024))\"" body
 verdict "another universe is dark" $? "$(head -c 300 body)"
 wait "$desk"
-echo hello >/dev/udp/127.0.0.1/$udp
+echo hello >/dev/udp/127.0.0.1/"$udp"
 wait "$viewer"
 begin=$(sed -n 2p events)
 [ "$(head -n 1 events)" = "event: state" ] && [[ $begin == 'data: {"ms":'*'"universe":7,"heard":[],"sources":[],'* ]] && [ -z "$(sed -n 3p events)" ]
@@ -245,7 +230,7 @@ done
 grep -qF '"state":"ended"' events
 verdict "the source has ended" $?
 # (an answer is told behind the question before it, and anew after two seconds)
-for _ in $(seq 100); do curl -s -m 5 -o body $at/audit; grep -q "^127.0.0.1 sends what can't be read" body && break; sleep 0.1; done
+for _ in $(seq 100); do curl -s -m 5 -o body "$at"/audit; grep -q "^127.0.0.1 sends what can't be read" body && break; sleep 0.1; done
 grep -q ' 0001\.\.0f at 127\.0\.0\.1: conforms$' body && grep -q "^127.0.0.1 sends what can't be read: no packets of streaming ACN (once, at " body
 verdict "an audit tells of the desk, and of what is no packet" $? "$(cat body)"
 [[ $(sed -n 2p events.1) == *'"universe":1,'* ]] && ! grep '^event: change' -A 1 events.1 | grep -qF '"levels":"'
@@ -263,8 +248,8 @@ for _ in $(seq 32); do
 done
 [ "${#lines[@]}" = 32 ]
 verdict "32 viewers" $? "${#lines[@]}"
-answers "a 33rd viewer" 503 $at/events
-answers "a 33rd that asks for the page" 503 $at/
+answers "a 33rd viewer" 503 "$at"/events
+answers "a 33rd that asks for the page" 503 "$at"/
 # (a connection that is reset ends no script)
 trap '' PIPE
 # (many that ask at once are each told so, and closed as it should be: no connection is reset)
@@ -282,7 +267,7 @@ done
 [ "$count" = 60 ]
 verdict "60 viewers more are told that there is no room" $? "$count of 60, $(cat cat.err)"
 exec {lines[0]}>&-
-comes "the page once a viewer went" 200 $at/
+comes "the page once a viewer went" 200 "$at"/
 for line in "${lines[@]:1}"; do exec {line}>&-; done
 
 # 200 that send half a head delay no other, and the first of them is told that there was no room.
@@ -292,7 +277,7 @@ for _ in $(seq 200); do
   printf 'GET / HTTP/1.1\r\n' >&"$line" 2>/dev/null
   slow+=("$line")
 done
-answers "the page beside 200 half heads" 200 -m 3 $at/
+answers "the page beside 200 half heads" 200 -m 3 "$at"/
 [[ $(timeout 3 cat <&"${slow[0]}" 2>cat.err) == "HTTP/1.1 503 "* ]] && [ ! -s cat.err ]
 verdict "the oldest half head is told that there is no room" $? "$(cat cat.err)"
 for line in "${slow[@]}"; do exec {line}>&-; done
@@ -301,9 +286,9 @@ for line in "${slow[@]}"; do exec {line}>&-; done
 printf '0 go\n' >stay.txt
 timeout 60 "$sacn" desk show.toml --script stay.txt --stay </dev/null >/dev/null 2>desk.err &
 desk=$!
-started+=("$desk")
-for _ in $(seq 100); do curl -s -m 5 "$at/state?universe=7" | grep -qF '"state":"sending"' && break; sleep 0.1; done
+wait_until has '"state":"sending"' '?universe=7'
 kill -STOP "$watch"
+# (for so long it stands: longer than the 2.5 s after which a source is lost)
 sleep 4
 kill -CONT "$watch"
 answers "the document after a stop" 200 "$at/state?universe=7"
@@ -313,26 +298,26 @@ kill "$desk"
 wait "$desk"
 
 # A desk of two universes that died stays among the alarms, whatever comes behind it: forty datagrams that are refused push out one another.
-for _ in $(seq 50); do curl -s -m 5 "$at/state" | grep -qF '"kind":"lost"' && break; sleep 0.1; done
-for _ in $(seq 40); do echo hello >/dev/udp/127.0.0.1/$udp; done
-for _ in $(seq 50); do curl -s -m 5 "$at/state" | grep -qF '"alarms_left_out":' && break; sleep 0.1; done
+wait_until has '"kind":"lost"'
+for _ in $(seq 40); do echo hello >/dev/udp/127.0.0.1/"$udp"; done
+wait_until has '"alarms_left_out":'
 answers "the document behind a loss and forty refused datagrams" 200 "$at/state"
 [ "$(grep -o '"kind":"lost"' body | wc -l)" = 2 ] && [ "$(grep -o '"kind":' body | wc -l)" = 32 ] && grep -qE '\],"alarms_left_out":[0-9]+,' body
 verdict "a loss stays in sight" $? "$(grep -o '"alarms":.*' body)"
 
 # As many universes as are merged at once, and one more.
 lines=()
+# (the viewers that went just now may still have their places)
+is_let_in() {
+  exec {line}<>"/dev/tcp/127.0.0.1/$tcp"
+  ask "$line" "/events?universe=$1"
+  read -r -t 5 -u "$line" first
+  [[ $first == "HTTP/1.1 200 "* ]] && return
+  exec {line}>&-
+  return 1
+}
 for universe in $(seq 101 116); do
-  # (the viewers that went just now may still have their places)
-  for _ in $(seq 100); do
-    exec {line}<>"/dev/tcp/127.0.0.1/$tcp"
-    ask "$line" "/events?universe=$universe"
-    read -r -t 5 -u "$line" first
-    [[ $first == "HTTP/1.1 200 "* ]] && break
-    exec {line}>&-
-    sleep 0.1
-  done
-  [[ $first == "HTTP/1.1 200 "* ]] || break
+  wait_until is_let_in "$universe" || break
   lines+=("$line")
 done
 [ "${#lines[@]}" = 16 ]
@@ -352,17 +337,17 @@ for line in "${lines[@]:0:15}"; do exec {line}>&-; done
   for universe in $(seq 200); do printf '[[patch]]\nchannel = 1\nuniverse = %s\nslot = 1\n' "$universe"; done
 } >many.toml
 printf '0 go\n12000 go\n' >script.txt
-heard() { curl -s -m 5 $at/state | sed -n 's/.*"datagrams":\([0-9]*\).*/\1/p'; }
+heard() { curl -s -m 5 "$at"/state | sed -n 's/.*"datagrams":\([0-9]*\).*/\1/p'; }
 # What the system had no room for while the watch was kept from a processor: the last column of its socket's row.
-dropped() { awk -v port=":$(printf %04X $udp)" '$2 ~ port "$" { sum += $NF } END { print sum + 0 }' /proc/net/udp; }
+dropped() { awk -v port=":$(printf %04X "$udp")" '$2 ~ port "$" { sum += $NF } END { print sum + 0 }' /proc/net/udp; }
 before=$(heard)
 exec {deaf}<>"/dev/tcp/127.0.0.1/$tcp"
 ask "$deaf" /events
-curl -sN -m 16 $at/events >events &
+curl -sN -m 16 "$at"/events >events &
 viewer=$!
 timeout 30 "$sacn" desk many.toml --script script.txt </dev/null >desk.out 2>desk.err &
 desk=$!
-started+=("$desk")
+# (by the middle of the fade the viewer's connection is full; then they ask for two seconds)
 sleep 6
 count=0
 for _ in $(seq 10); do
@@ -375,8 +360,9 @@ wait "$desk"
 # (the copies that open the 200 streams come too, and aren't counted)
 sent=$(sed -n 's/^sent \([0-9]*\) failed 0.*/\1/p' desk.out)
 sent=$((${sent:--200} + 200))
-for _ in $(seq 50); do [ $(($(heard) - before + $(dropped))) = "$sent" ] && break; sleep 0.1; done
-answers "the document at the end" 200 $at/state
+all_are_heard() { [ $(($(heard) - before + $(dropped))) = "$sent" ]; }
+wait_until all_are_heard
+answers "the document at the end" 200 "$at"/state
 lost=$(dropped)
 [ $(($(heard) - before + lost)) = "$sent" ] && [ $((10 * lost)) -lt "$sent" ]
 verdict "each datagram was heard beside a viewer that never reads" $? "sent $sent, before $before, $(heard), dropped by the system $lost"
@@ -400,18 +386,17 @@ wait "$watch" 2>/dev/null
 printf 'version = 1\nudp_port = %s\n' "$udp" >node.toml
 for universe in $(seq 16); do printf '[[port]]\nnumber = %s\nuniverse = %s\n' "$universe" "$universe"; done >>node.toml
 : >gateway.err
-"$sacn" gateway node.toml --listen 127.0.0.1 --page $tcp </dev/null >gateway.out 2>gateway.err &
+"$sacn" gateway node.toml --listen 127.0.0.1 --page "$tcp" </dev/null >gateway.out 2>gateway.err &
 gateway=$!
-started+=("$gateway")
-for _ in $(seq 100); do grep -q '^page' gateway.err && break; sleep 0.1; done
+wait_for_line gateway.err '^page'
 [ "$(tail -n 1 gateway.err)" = "page http://127.0.0.1:$tcp/" ] && [ "$(head -n 1 gateway.err)" = "hears 127.0.0.1:$udp" ]
 verdict "where a gateway serves" $? "$(cat gateway.err)"
 status=0
-timeout 20 "$sacn" gateway node.toml --page $tcp </dev/null >out 2>err || status=$?
+timeout 20 "$sacn" gateway node.toml --page "$tcp" </dev/null >out 2>err || status=$?
 [ "$status" = 4 ] && [ "$(cat err)" = "device socket 127.0.0.1:$tcp AddrInUse"$'\n'"another program has that port; ss -lnptu names it" ] && [ ! -s out ]
 verdict "a gateway whose page's port is taken" $? "status $status, $(cat err)"
-answers "a gateway's page" 200 $at/
-answers "a gateway's document before anything came" 200 $at/state
+answers "a gateway's page" 200 "$at"/
+answers "a gateway's document before anything came" 200 "$at"/state
 [ "$(sed 's/"ms":[0-9]*/"ms":0/' body)" = "$nothing" ]
 verdict "nothing heard by a gateway" $? "$(cat body)"
 exec {deaf}<>"/dev/tcp/127.0.0.1/$tcp"
@@ -425,10 +410,10 @@ done
 printf '0 go\n' >script.txt
 timeout 30 "$sacn" desk many.toml --script script.txt --stay </dev/null >desk.out 2>desk.err &
 desk=$!
-started+=("$desk")
 # (the fade takes twelve seconds, and a port's frame has its start code before its slots)
 full="ff$(printf '0%.0s' $(seq 1022))"
-for _ in $(seq 300); do [ "$(grep -c " 00$full\$" gateway.out)" -ge 16 ] && break; sleep 0.1; done
+are_full() { [ "$(grep -c " 00$full\$" gateway.out)" -ge 16 ]; }
+patience=30 wait_until are_full
 [ "$(grep " 00$full\$" gateway.out | cut -d ' ' -f 1 | sort -n | uniq | paste -s -d ' ')" = "$(seq -s ' ' 16)" ]
 verdict "a gateway lights its ports beside viewers that don't read" $? "$(tail -n 3 gateway.out | cut -c 1-60)"
 answers "a gateway's document of one of its universes" 200 "$at/state?universe=16"

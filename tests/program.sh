@@ -2,32 +2,19 @@
 # Runs the built program on files of the greatest length and of one octet more, on words and files that are none, and on faulty texts where the
 # socket is taken. Prints 'ok NAME', 'not ok NAME: why' or 'skipped NAME: why' for each run, as ./test counts them.
 set -u
-top=$(cd "$(dirname "$(readlink -f "$0")")/.." && pwd)
-sacn=${SACN:-$top/crates/sacn/out/sacn}
+# shellcheck source=tests/lib.sh
+. "$(dirname "$(readlink -f "$0")")/lib.sh"
+need sacn
 examples=$top/examples
 MOST=1048576
-if [ ! -x "$sacn" ]; then
-  echo "skipped program: sacn isn't built"
-  exit 0
-fi
-room=$(mktemp -d)
-holder=
-trap '[ -z "$holder" ] || kill "$holder" 2>/dev/null; rm -rf "$room"' EXIT
 
 # ends NAME WANTED-STATUS WANTED-ERRORS WANTED-OUTPUT INPUT [WORD..]: a run ends so
 ends() {
   local name=$1 wanted=$2 said=$3 output=$4 input=$5 status=0
   shift 5
   "$sacn" "$@" <"$input" >"$room/out" 2>"$room/err" || status=$?
-  if [ "$status" != "$wanted" ]; then
-    echo "not ok program: $name: status $status"
-  elif [ "$(head -n 1 "$room/err")" != "$said" ]; then
-    echo "not ok program: $name: '$(head -n 1 "$room/err")'"
-  elif ! cmp -s "$output" "$room/out"; then
-    echo "not ok program: $name: it prints something else"
-  else
-    echo "ok program: $name"
-  fi
+  [ "$status" = "$wanted" ] && [ "$(head -n 1 "$room/err")" = "$said" ] && cmp -s "$output" "$room/out"
+  verdict "$name" $? "status $status, '$(head -n 1 "$room/err")', $(cmp "$output" "$room/out" 2>&1)"
 }
 
 # padded FILE OCTET: the file, and the octet again and again up to the greatest length; and the same with one more
@@ -74,7 +61,8 @@ ends "an address that is no text" 2 "error: a word of the command line is no tex
 
 # A show has at most eight ports to send to.
 for count in 8 9; do
-  ports=$(seq -s ', ' 25691 $((25690 + count)))
+  ports=
+  for _ in $(seq "$count"); do ports+=${ports:+, }$(free_udp_port); done
   sed "s/^universes.*/&\nsend_to = [$ports]/" "$examples/show.toml" >"$room/ports$count.toml"
 done
 echo "sent 1 failed 0 refused 0" >"$room/one"
@@ -82,37 +70,38 @@ ends "a show of eight ports to send to" 0 "" "$room/one" /dev/null console "$roo
 ends "a show of nine ports to send to" 3 "refused KeyValue" /dev/null /dev/null console "$room/ports9.toml" /dev/null --turns 1
 
 # A setup with a port of its own. What a node prints has the moment of its clock, so only the status and the refusal are looked at.
-port=$((20000 + $$ % 40000))
+port=$(free_udp_port)
 { printf 'udp_port = %s\n' "$port"; cat "$examples/node.toml"; } >"$room/node.toml"
 padded "$room/node.toml" $'\n'
 if "$sacn" node "$room/most" --turns 1 >"$room/out" 2>/dev/null && [ "$(cut -d ' ' -f 1 "$room/out")" = 1 ]; then
-  echo "ok program: a setup of $MOST octets"
+  verdict "a setup of $MOST octets" 0
   ends "a setup of one octet more" 3 "refused TooLarge" /dev/null /dev/null node "$room/over" --turns 1
 else
-  echo "not ok program: a setup of $MOST octets: '$(head -c 80 "$room/out")'"
+  verdict "a setup of $MOST octets" 1 "'$(head -c 80 "$room/out")'"
 fi
 
 # Where another node has taken the port, a faulty text is refused as it is elsewhere, and a good one meets the socket.
 "$sacn" node "$room/node.toml" --turns 1000000000 >"$room/held" 2>/dev/null &
 holder=$!
-for _ in $(seq 100); do [ -s "$room/held" ] && break; sleep 0.05; done
+wait_until test -s "$room/held"
 { printf 'udp_port = %s\nodd = 1\n' "$port"; cat "$examples/node.toml"; } >"$room/odd.toml"
 ends "a good setup meets a taken socket" 4 "device socket" /dev/null /dev/null node "$room/node.toml" --turns 1
 ends "a faulty setup is refused before the socket" 3 "refused UnknownKey" /dev/null /dev/null node "$room/odd.toml" --turns 1
 kill "$holder"
 wait "$holder" 2>/dev/null
-holder=
 
 # Every command runs in a stack of 1024 kB, of which the environment takes 200 here, while a desk sends and a browser asks.
 large=$(head -c 100000 /dev/zero | tr '\0' x)
-sed "1a udp_port = $((port + 1))" "$examples/node.toml" >"$room/node.toml"
-sed "1a send_to = [$((port + 1))]" "$examples/show.toml" >"$room/show.toml"
+port=$(free_udp_port)
+page=$(free_tcp_port)
+sed "1a udp_port = $port" "$examples/node.toml" >"$room/node.toml"
+sed "1a send_to = [$port]" "$examples/show.toml" >"$room/show.toml"
 # small INPUT WORD..: a run there ends well
 small() {
   local input=$1 status=0
   shift
   (ulimit -S -s 1024 && LARGE=$large LARGER=$large exec timeout 60 "$sacn" "$@") <"$input" >"$room/out" 2>"$room/err" || status=$?
-  if [ "$status" = 0 ]; then echo "ok program: a small stack: ${1:-no command}"; else echo "not ok program: a small stack: ${*:-no command}: status $status, $(head -n 1 "$room/err")"; fi
+  verdict "a small stack: ${1:-no command}" "$status" "$*: status $status, $(head -n 1 "$room/err")"
 }
 "$sacn" desk "$room/show.toml" --script "$examples/script.txt" --stay </dev/null >"$room/held" 2>&1 &
 holder=$!
@@ -123,22 +112,22 @@ small /dev/null console "$room/show.toml" "$examples/script.txt" --turns 1
 small /dev/null node "$room/node.toml" --turns 1
 small /dev/null gateway "$room/node.toml" --seconds 1
 small /dev/null desk "$room/show.toml" --script "$examples/script.txt"
-small /dev/null watch --port "$((port + 1))" --seconds 1
+small /dev/null watch --port "$port" --seconds 1
 # A browser asks once, as soon as it is answered.
-(for _ in $(seq 100); do { exec 3<>"/dev/tcp/127.0.0.1/$((port + 2))"; } 2>/dev/null && break; sleep 0.02; done
-  printf 'GET /state HTTP/1.1\r\nHost: 127.0.0.1:%s\r\n\r\n' "$((port + 2))" >&3 && head -c 15 <&3 >"$room/asked") &
-small /dev/null watch --port "$((port + 1))" --seconds 2 --page "$((port + 2))"
-if [ "$(cat "$room/asked")" = "HTTP/1.1 200 OK" ]; then echo "ok program: a small stack: a page is answered"; else echo "not ok program: a small stack: a page: $(cat "$room/asked")"; fi
+reaches_page() { { exec 3<>"/dev/tcp/127.0.0.1/$page"; } 2>/dev/null; }
+(wait_until reaches_page && printf 'GET /state HTTP/1.1\r\nHost: 127.0.0.1:%s\r\n\r\n' "$page" >&3 && head -c 15 <&3 >"$room/asked") &
+small /dev/null watch --port "$port" --seconds 2 --page "$page"
+[ "$(cat "$room/asked")" = "HTTP/1.1 200 OK" ]
+verdict "a small stack: a page is answered" $? "$(cat "$room/asked")"
 small /dev/null explain "$examples/ola.pcap"
 small /dev/null explain "$examples/ola.pcap" --setup "$room/node.toml" --json
-small /dev/null explain "$examples/ola.pcap" --page "$((port + 2))" --seconds 1
+small /dev/null explain "$examples/ola.pcap" --page "$page" --seconds 1
 small /dev/null check "$room/show.toml" "$room/node.toml" "$examples/world.toml"
 small /dev/null groups "$room/node.toml" --device lo
 small /dev/null manual
 small /dev/null completion bash
 kill "$holder"
 wait "$holder" 2>/dev/null
-holder=
 
 # A pipe that nobody reads any more ends what tells people something quietly, and the others as a device that fails.
 # unread STATUS ERRORS WORD..: a run into such a pipe
@@ -152,14 +141,14 @@ unread() {
     trap - PIPE
     exec timeout 60 "$sacn" "$@" >&"$gone" {gone}>&-
   ) </dev/null 2>"$room/err" || status=$?
-  [ "$status" = "$wanted" ] && [ "$(cat "$room/err")" = "$said" ] && echo "ok program: a pipe that nobody reads: $1" ||
-    echo "not ok program: a pipe that nobody reads: $*: status $status, $(head -n 1 "$room/err")"
+  [ "$status" = "$wanted" ] && [ "$(cat "$room/err")" = "$said" ]
+  verdict "a pipe that nobody reads: $1" $? "$*: status $status, $(head -n 1 "$room/err")"
 }
 unread 0 "" explain "$examples/ola.pcap"
 unread 0 "" explain "$examples/ola.pcap" --each
 unread 0 "" explain "$examples/ola.pcap" --json --setup "$examples/node.toml"
 unread 0 "" check "$examples/show.toml" "$examples/node.toml"
-unread 0 "hears 127.0.0.1:$((port + 1))" watch --listen 127.0.0.1 --port "$((port + 1))" --seconds 1
+unread 0 "hears 127.0.0.1:$port" watch --listen 127.0.0.1 --port "$port" --seconds 1
 unread 4 "device write" decode "$examples/levels.sacn"
 unread 4 "device write" manual
 unread 4 "device write" groups "$room/node.toml" --device lo

@@ -2,23 +2,19 @@
 # The release: that the program which the gate built is the released one, octet by octet; the one for aarch64 beside it, under qemu; the helper that joins
 # groups, in network namespaces; packages; and how long a new user waits for the first light. Prints 'ok NAME', 'not ok NAME: why' or 'skipped NAME: why' for each.
 set -u
-top=$(cd "$(dirname "$(readlink -f "$0")")/.." && pwd)
-built=${SACN:-$top/crates/sacn/out/sacn}
+# shellcheck source=tests/lib.sh
+. "$(dirname "$(readlink -f "$0")")/lib.sh"
+built=$sacn
 release=$top/release
-room=$(mktemp -d)
 running=()
-cleanup() {
-  for it in ${running[@]+"${running[@]}"}; do kill "$it" 2>/dev/null; done
+leave() {
+  cleanup
   for it in near far; do ip netns del "sacn-$it-$$" 2>/dev/null; done
-  rm -rf "$room"
 }
-trap cleanup EXIT
-ok() { echo "ok release: $1"; }
-fails() { echo "not ok release: $1: $2"; }
-skips() { echo "skipped release: $1: $2"; }
+trap leave EXIT
+ok() { verdict "$1" 0; }
+fails() { verdict "$1" 1 "$2"; }
 of_release() { [ ! -f "$release/RELEASE" ] || sed -n "s#^$1 ##p" "$release/RELEASE"; }
-# Waits until a file has a line like this: at most ten seconds.
-told() { for _ in $(seq 200); do grep -qE -- "$2" "$1" 2>/dev/null && return; sleep 0.05; done; return 1; }
 export PATH_WITHOUT_KIT=/usr/local/sbin:/usr/sbin:/usr/bin:/sbin:/bin
 
 is_current=
@@ -83,23 +79,25 @@ every_command_is_alike() {
 setup() { printf 'version = 1\nudp_port = %s\n[[port]]\nnumber = 1\nuniverse = 1\n' "$1"; }
 show() { printf 'version = 1\ncid = "00010203-0405-0607-0809-0a0b0c0d0e0f"\nname = "Desk"\nuniverses = [1]\nsend_to = [%s]\n[[cue]]\nnumber = 1\nfade = 0\nlevels = [[1, 65535]]\n[[patch]]\nchannel = 1\nuniverse = 1\nslot = 1\n' "$1"; }
 arm_lights() {
-  setup 25871 >"$room/node.toml" && show 25871 >"$room/show.toml"
+  local port
+  port=$(free_udp_port)
+  setup "$port" >"$room/node.toml" && show "$port" >"$room/show.toml"
   : >"$room/said"
   "${arm[@]}" "$release/aarch64-linux/sacn" gateway "$room/node.toml" --seconds 20 >"$room/lines" 2>"$room/said" &
   running+=($!)
-  told "$room/said" '^hears' || return 1
-  (echo go; told "$room/lines" '^1 [0-9]+ 00ff') | "${arm[@]}" "$release/aarch64-linux/sacn" desk "$room/show.toml" >"$room/answers" 2>&1
-  told "$room/lines" '^1 [0-9]+ 00ff' && told "$room/said" 'universe 1: ended$' && grep -q '^ok cue 1 ' "$room/answers"
+  wait_for_line "$room/said" '^hears' || return 1
+  (echo go; wait_for_line "$room/lines" '^1 [0-9]+ 00ff') | "${arm[@]}" "$release/aarch64-linux/sacn" desk "$room/show.toml" >"$room/answers" 2>&1
+  wait_for_line "$room/lines" '^1 [0-9]+ 00ff' && wait_for_line "$room/said" 'universe 1: ended$' && grep -q '^ok cue 1 ' "$room/answers"
 }
 arm_serves() {
+  local page
+  page=$(free_tcp_port)
   : >"$room/said"
-  "${arm[@]}" "$release/aarch64-linux/sacn" watch --port 25872 --page 25873 --seconds 20 </dev/zero >/dev/null 2>"$room/said" &
+  "${arm[@]}" "$release/aarch64-linux/sacn" watch --port "$(free_udp_port)" --page "$page" --seconds 20 </dev/zero >/dev/null 2>"$room/said" &
   running+=($!)
-  for _ in $(seq 100); do
-    exec 3<>/dev/tcp/127.0.0.1/25873 && break
-    sleep 0.1
-  done 2>/dev/null
-  printf 'GET / HTTP/1.1\r\nHost: 127.0.0.1:25873\r\nConnection: close\r\n\r\n' >&3
+  wait_for_line "$room/said" '^page' || return 1
+  exec 3<>"/dev/tcp/127.0.0.1/$page"
+  printf 'GET / HTTP/1.1\r\nHost: 127.0.0.1:%s\r\nConnection: close\r\n\r\n' "$page" >&3
   timeout 5 head -c 4000 <&3 >"$room/page"
   exec 3>&-
   grep -q '^HTTP/1.1 200' "$room/page"
@@ -118,6 +116,7 @@ seconds_until() { # FILE COMMAND..: how long until its first line, which is a fr
   # (the input of what is started ends with this script)
   PATH=$PATH_WITHOUT_KIT setsid "$@" >"$file" 2>"$room/said" </dev/null &
   running+=($!)
+  # (looked for each 10 ms, since it is measured)
   for _ in $(seq 1000); do [ -s "$file" ] && break; sleep 0.01; done
   end=$(date +%s%N)
   kill "${running[-1]}" 2>/dev/null
@@ -138,7 +137,7 @@ light() {
 if [ -z "$is_current" ]; then
   skips "first light" "no release of this tree"
 else
-  setup 25874 >"$room/node.toml"
+  setup "$(free_udp_port)" >"$room/node.toml"
   mkdir "$room/clone"
   (cd "$top" && cp -r sacn crates.txt HANDLES tools release examples docs "$room/clone/" && find crates -path '*/out' -prune -o -name '*.rt' -print0 | xargs -0 cp --parents -t "$room/clone")
   # (where nothing can be noted the launcher says each time which program runs)
@@ -219,78 +218,75 @@ else
     ip -n "$1" route add default via "10.99.0.$((3 - $2))" 2>/dev/null
   done
   printf '. "%s/tools/run.sh"\nsacn_join=%s\nrun "%s" "$@"\n' "$top" "$room/sacn-join" "$built" >"$room/run"
+  are_joined() { [ "$(joined)" = "$1" ]; }
   joined() { ip -n "$near" maddress show dev eth0 | grep -c 'inet *239\.255\.'; }
   printf 'version = 1\nudp_port = 5568\n[[port]]\nnumber = 1\nuniverse = 1\n[[port]]\nnumber = 2\nuniverse = 300\n' >"$room/node.toml"
   : >"$room/said"
   ip netns exec "$near" setpriv --reuid 65534 --regid 65534 --clear-groups bash "$room/run" gateway --join "$room/node.toml" --seconds 60 >"$room/lines" 2>"$room/said" </dev/null &
   running+=($!)
-  told "$room/said" '^hears' || fails "a gateway that joins" "$(head -n 1 "$room/said")"
+  wait_for_line "$room/said" '^hears' || fails "a gateway that joins" "$(head -n 1 "$room/said")"
   if [ "$(joined)" = 3 ]; then ok "nobody joins the groups of a setup, and the lists'"; else fails "the groups of a setup" "$(joined) are joined"; fi
   show 5568 >"$room/show.toml"
-  (echo go; told "$room/lines" '^1 [0-9]+ 00ff') | ip netns exec "$far" "$built" desk "$room/show.toml" --multicast --bind 10.99.0.2 >/dev/null 2>&1
-  if told "$room/lines" '^1 [0-9]+ 00ff' && told "$room/said" ' at 10.99.0.2, .*universe 1: came$'; then ok "a gateway that joined hears a desk's group"; else fails "a gateway that joined" "$(tail -n 1 "$room/said")"; fi
+  (echo go; wait_for_line "$room/lines" '^1 [0-9]+ 00ff') | ip netns exec "$far" "$built" desk "$room/show.toml" --multicast --bind 10.99.0.2 >/dev/null 2>&1
+  if wait_for_line "$room/lines" '^1 [0-9]+ 00ff' && wait_for_line "$room/said" ' at 10.99.0.2, .*universe 1: came$'; then ok "a gateway that joined hears a desk's group"; else fails "a gateway that joined" "$(tail -n 1 "$room/said")"; fi
   # (the one that holds the groups is the child of the other)
   pkill -n -f "$room/sacn-join"
-  if told "$room/said" '^sacn: what joined the groups on eth0 was ended'; then ok "the helper's end is told, and the gateway goes on"; else fails "the helper's end" "$(tail -n 1 "$room/said")"; fi
+  if wait_for_line "$room/said" '^sacn: what joined the groups on eth0 was ended'; then ok "the helper's end is told, and the gateway goes on"; else fails "the helper's end" "$(tail -n 1 "$room/said")"; fi
   kill "${running[-1]}"
   wait "${running[-1]}" 2>/dev/null
   unset 'running[-1]'
 
   ip netns exec "$near" setpriv --reuid 65534 --regid 65534 --clear-groups bash "$room/run" watch --join eth0 --plain --each --seconds 60 >"$room/told" 2>"$room/said" </dev/null &
   running+=($!)
-  told "$room/said" '^hears' || fails "a watch that joins" "$(head -n 1 "$room/said")"
+  wait_for_line "$room/said" '^hears' || fails "a watch that joins" "$(head -n 1 "$room/said")"
   printf 'version = 1\ncid = "00010203-0405-0607-0809-0a0b0c0d0e0f"\nname = "Desk"\nuniverses = [%s 900]\nsend_to = [5568]\n' "$(seq -s , 1 40 | sed 's/$/,/')" >"$room/wide.toml"
-  (told "$room/told" 'universe +900 .*appears') | ip netns exec "$far" "$built" desk "$room/wide.toml" --multicast --bind 10.99.0.2 >/dev/null 2>&1
+  (wait_for_line "$room/told" 'universe +900 .*appears') | ip netns exec "$far" "$built" desk "$room/wide.toml" --multicast --bind 10.99.0.2 >/dev/null 2>&1
   # (the first 128 are joined anyhow, and the group of the lists)
-  if told "$room/told" 'universe +900 .*appears' && [ "$(joined)" = 130 ]; then ok "a watch joins what is listed beside the first 128"; else fails "a watch that joins" "$(joined) groups are joined; $(tail -n 1 "$room/told")"; fi
+  if wait_for_line "$room/told" 'universe +900 .*appears' && [ "$(joined)" = 130 ]; then ok "a watch joins what is listed beside the first 128"; else fails "a watch that joins" "$(joined) groups are joined; $(tail -n 1 "$room/told")"; fi
   # What follows the standard's layout, to the group of a universe: a packet of a source that lists nothing, or a page of a list of so many universes.
   cat >"$room/sends.py" <<'P'
-import socket, struct, sys
+import socket, sys
+import e131
 kind, universe, count = sys.argv[1], int(sys.argv[2]), int(sys.argv[3])
+cid = bytes([7]) * 16
 out = socket.socket(socket.AF_INET, socket.SOCK_DGRAM)
 out.setsockopt(socket.IPPROTO_IP, socket.IP_MULTICAST_IF, socket.inet_aton("10.99.0.2"))
-def root(vector, layer):
-    return b"\0\x10\0\0ASC-E1.17\0\0\0" + struct.pack(">HI16s", 0x7000 | 22 + len(layer), vector, bytes([7]) * 16) + layer
 if kind == "packet":
-    dmp = struct.pack(">HBBHHHB", 0x7000 | 11 + 512, 2, 0xa1, 0, 1, 513, 0) + bytes(512)
-    layer = struct.pack(">I64sBHBBH", 2, b"Plain", 100, 0, 1, 0, universe) + dmp
-    out.sendto(root(4, struct.pack(">H", 0x7000 | 2 + len(layer)) + layer), (f"239.255.{universe // 256}.{universe % 256}", 5568))
+    out.sendto(e131.data(universe, 1, bytes(512), cid, b"Plain"), (socket.inet_ntoa(e131.group(universe)), 5568))
 else:
     lasts = (count + 511) // 512
     for page in range(lasts):
         numbers = range(universe + page * 512, min(universe + count, universe + page * 512 + 512))
-        body = struct.pack(">IBB", 1, page, lasts - 1) + b"".join(struct.pack(">H", it) for it in numbers)
-        layer = struct.pack(">I64sI", 2, b"Lister", 0) + struct.pack(">H", 0x7000 | 2 + len(body)) + body
-        out.sendto(root(8, struct.pack(">H", 0x7000 | 2 + len(layer)) + layer), ("239.255.250.214", 5568))
+        out.sendto(e131.page(numbers, page, lasts - 1, cid, b"Lister"), ("239.255.250.214", 5568))
 P
   if command -v python3 >/dev/null; then
     ip netns exec "$far" python3 "$room/sends.py" packet 7 1
-    if told "$room/told" 'universe +7 .*"Plain" +appears'; then ok "a watch hears a source that lists nothing"; else fails "a source that lists nothing" "$(tail -n 1 "$room/told")"; fi
+    if wait_for_line "$room/told" 'universe +7 .*"Plain" +appears'; then ok "a watch hears a source that lists nothing"; else fails "a source that lists nothing" "$(tail -n 1 "$room/told")"; fi
     ip netns exec "$far" python3 "$room/sends.py" list 2000 3000
-    if told "$room/said" '^sacn: sources list more than 1024 universes on eth0' && [ "$(joined)" = 1153 ] && [ "$(grep -c 'list more than' "$room/said")" = 1 ]; then ok "lists take no more than a bound, which is told once"; else fails "a list of 3000 universes" "$(joined) groups are joined; $(tail -n 1 "$room/said")"; fi
+    if wait_for_line "$room/said" '^sacn: sources list more than 1024 universes on eth0' && [ "$(joined)" = 1153 ] && [ "$(grep -c 'list more than' "$room/said")" = 1 ]; then ok "lists take no more than a bound, which is told once"; else fails "a list of 3000 universes" "$(joined) groups are joined; $(tail -n 1 "$room/said")"; fi
   else
     skips "a source that lists nothing" "python3 isn't there"
   fi
   kill "${running[-1]}"
   wait "${running[-1]}" 2>/dev/null
   unset 'running[-1]'
-  for _ in $(seq 100); do [ "$(joined)" = 0 ] && break; sleep 0.05; done
+  wait_until are_joined 0
   if [ "$(joined)" = 0 ]; then ok "the groups are left at its end"; else fails "the groups at its end" "$(joined) are still joined"; fi
   # A device that doesn't say that it takes multicast; and a group that the machine refuses for a while.
   ip -n "$near" link set eth0 multicast off
   ip netns exec "$near" bash "$room/run" watch --join eth0 --plain --each --seconds 60 >"$room/told" 2>"$room/said" </dev/null &
   running+=($!)
-  told "$room/said" '^hears' || fails "a watch on a device without multicast" "$(head -n 1 "$room/said")"
+  wait_for_line "$room/said" '^hears' || fails "a watch on a device without multicast" "$(head -n 1 "$room/said")"
   if command -v python3 >/dev/null; then
     ip netns exec "$far" python3 "$room/sends.py" packet 7 1
-    if told "$room/told" 'universe +7 .*"Plain" +appears'; then ok "a device without multicast is heard all the same"; else fails "a device without multicast" "$(tail -n 1 "$room/said")"; fi
+    if wait_for_line "$room/told" 'universe +7 .*"Plain" +appears'; then ok "a device without multicast is heard all the same"; else fails "a device without multicast" "$(tail -n 1 "$room/said")"; fi
     ip netns exec "$near" sysctl -qw net.ipv4.igmp_max_memberships=0
     for _ in 1 2 3; do ip netns exec "$far" python3 "$room/sends.py" list 2000 600; done
-    told "$room/said" "universe 2599 isn't joined on eth0: No buffer space available" || fails "groups that are refused" "$(tail -n 1 "$room/said")"
+    wait_for_line "$room/said" "universe 2599 isn't joined on eth0: No buffer space available" || fails "groups that are refused" "$(tail -n 1 "$room/said")"
     holds=$(for it in $(pgrep -f "$room/sacn-join"); do ls "/proc/$it/fd" | wc -l; done | sort -n | tail -n 1)
     ip netns exec "$near" sysctl -qw net.ipv4.igmp_max_memberships=20
     ip netns exec "$far" python3 "$room/sends.py" list 2000 600
-    for _ in $(seq 100); do [ "$(joined)" = 729 ] && break; sleep 0.05; done
+    wait_until are_joined 729
     if [ "$(joined)" = 729 ] && [ "$(grep -c "isn't joined" "$room/said")" = 600 ] && [ "$holds" -lt 20 ]; then ok "groups that are refused are told once, tried again, and take no descriptors"; else fails "groups that are refused" "$(joined) are joined, $holds descriptors; $(tail -n 1 "$room/said")"; fi
   fi
   kill "${running[-1]}"

@@ -3,28 +3,13 @@
 # Prints a line 'ok NAME', 'not ok NAME' or 'skipped NAME: why' for each, and 'N passed, M failed' at the end.
 # It takes the built program: crates/sacn/out/sacn, or the path in SACN.
 set -u
-top=$(cd "$(dirname "$(readlink -f "$0")")/.." && pwd)
-sacn=${SACN:-$top/crates/sacn/out/sacn}
-work=$(mktemp -d)
-passed=0
-failed=0
-started=()
-
-cleanup() {
-  for pid in "${started[@]:-}"; do [ -n "$pid" ] && kill "$pid" 2>/dev/null; done
-  rm -rf "$work"
-}
-trap cleanup EXIT
-
-verdict() { # NAME STATUS
-  if [ "$2" -eq 0 ]; then
-    echo "ok $1"
-    passed=$((passed + 1))
-  else
-    echo "not ok $1"
-    failed=$((failed + 1))
-  fi
-}
+# shellcheck source=tests/lib.sh
+. "$(dirname "$(readlink -f "$0")")/lib.sh"
+# (its looks stand by their names alone)
+label=
+work=$room
+# (each look has a port of its own, so that what one leaves behind is nothing to the next)
+udp=
 
 show() { # PORT UNIVERSES..
   local port=$1 list
@@ -41,15 +26,17 @@ setup() { # PORT UNIVERSE
   printf 'version = 1\nudp_port = %s\n[[port]]\nnumber = 1\nuniverse = %s\n' "$1" "$2"
 }
 
-# Waits until a gateway has written its first line, which it does after its first turn (what comes before that one ends shows in it): at most ten seconds.
+# Waits until a gateway has written its first line, which it does after its first turn (what comes before that one ends shows in it).
 ready() { # FILE
-  for _ in $(seq 100); do [ -s "$1" ] && return; sleep 0.1; done
+  wait_until test -s "$1"
 }
 
 # Whether a look goes well in one of three tries: what it asks for needs processors that nothing else keeps for long.
 in_three_tries() { # NAME
-  local try
-  for try in 1 2 3; do "$1" && return; done
+  for _ in 1 2 3; do
+    udp=$(free_udp_port)
+    "$1" && return
+  done
   return 1
 }
 
@@ -58,19 +45,19 @@ levels() { # FILE
   cut -d ' ' -f 3 "$1" | cut -c 3-4 | tr '\n' ' '
 }
 
-# Waits until a gateway has written that it is lit, at most twenty seconds.
-lit() {
-  for _ in $(seq 200); do [ "$(levels "$work/lines")" = "00 ff " ] && return; sleep 0.1; done
-}
+# Waits until a gateway has written that it is lit.
+is_lit() { [ "$(levels "$work/lines")" = "00 ff " ]; }
+lit() { wait_until is_lit; }
 
 a_desk_lights_a_gateway() {
-  setup 25801 1 >"$work/node.toml"
-  show 25801 1 >"$work/show.toml"
+  setup "$udp" 1 >"$work/node.toml"
+  show "$udp" 1 >"$work/show.toml"
   : >"$work/lines"
   "$sacn" gateway "$work/node.toml" --seconds 6 >"$work/lines" 2>"$work/said" &
   local pid=$!
   ready "$work/lines"
-  (echo go; lit; echo status; echo "goto 9"; echo jump; sleep 0.3) | "$sacn" desk "$work/show.toml" >"$work/answers" 2>"$work/desk" || return 1
+  : >"$work/answers"
+  (echo go; lit; echo status; echo "goto 9"; echo jump; wait_for_line "$work/answers" '^line 4: ') | "$sacn" desk "$work/show.toml" >"$work/answers" 2>"$work/desk" || return 1
   wait "$pid" || return 1
   [ "$(levels "$work/lines")" = "00 ff 00 " ] || return 1
   grep -q '^".*" 0001..0f at 127.0.0.1, priority [0-9]*, universe 1: came$' "$work/said" || return 1
@@ -83,21 +70,21 @@ a_desk_lights_a_gateway() {
 }
 
 a_script_ends_the_desk() {
-  show 25802 1 >"$work/show.toml"
+  show "$udp" 1 >"$work/show.toml"
   printf '0 go\n200 go\n' >"$work/script.txt"
   "$sacn" desk "$work/show.toml" --script "$work/script.txt" </dev/null >"$work/answers" || return 1
   grep -q '^sent [0-9]* failed 0 refused ' "$work/answers"
 }
 
 a_port_is_shared() {
-  setup 25803 1 >"$work/node.toml"
-  python3 - "$sacn" "$work/node.toml" <<'P'
+  setup "$udp" 1 >"$work/node.toml"
+  python3 - "$sacn" "$work/node.toml" "$udp" <<'P'
 import socket, subprocess, sys
 def shared():
     s = socket.socket(socket.AF_INET, socket.SOCK_DGRAM)
     s.setsockopt(socket.SOL_SOCKET, socket.SO_REUSEADDR, 1)
     s.setsockopt(socket.SOL_SOCKET, socket.SO_REUSEPORT, 1)
-    s.bind(("0.0.0.0", 25803))
+    s.bind(("0.0.0.0", int(sys.argv[3])))
     return s
 first = shared()
 after = subprocess.run([sys.argv[1], "gateway", sys.argv[2], "--beside", "--seconds", "1"], capture_output=True).returncode
@@ -112,19 +99,13 @@ P
 
 bursts_lose_nothing() {
   {
-    printf 'version = 1\nudp_port = 25804\n'
+    printf 'version = 1\nudp_port = %s\n' "$udp"
     for n in $(seq 1 16); do printf '[[port]]\nnumber = %s\nuniverse = %s\n' "$n" "$n"; done
   } >"$work/node.toml"
-  python3 - "$sacn" "$work/node.toml" "$work/lines" <<'P'
+  python3 - "$sacn" "$work/node.toml" "$work/lines" "$udp" <<'P'
 import socket, subprocess, sys, time
-def packet(universe, number, level):
-    slots = bytes([0, level]) + bytes(511)
-    dmp = (0x7000 + 10 + len(slots)).to_bytes(2, "big") + bytes([2, 0xa1, 0, 0, 0, 1]) + len(slots).to_bytes(2, "big") + slots
-    framing = b"\0\0\0\2" + b"burst".ljust(64, b"\0") + bytes([100, 0, 0, number, 0]) + universe.to_bytes(2, "big")
-    framing = (0x7000 + 2 + len(framing) + len(dmp)).to_bytes(2, "big") + framing + dmp
-    root = b"\0\0\0\4" + bytes(range(16))
-    root = (0x7000 + 2 + len(root) + len(framing)).to_bytes(2, "big") + root + framing
-    return b"\0\x10\0\0ASC-E1.17\0\0\0" + root
+import e131
+port = int(sys.argv[4])
 run = subprocess.Popen([sys.argv[1], "gateway", sys.argv[2], "--seconds", "4"], stdout=open(sys.argv[3], "w"), stderr=subprocess.PIPE)
 run.stderr.readline()
 if b"receive buffer" in run.stderr.readline():
@@ -136,10 +117,11 @@ bursts = 44 * 2
 start = time.time()
 for burst in range(bursts):
     for universe in range(1, 201):
-        out.sendto(packet(universe, burst % 256, 1 + burst), ("127.0.0.1", 25804))
+        out.sendto(e131.data(universe, burst, bytes([1 + burst]) + bytes(511), name=b"burst"), ("127.0.0.1", port))
     time.sleep(max(0, start + (burst + 1) / 44 - time.time()))
+# (so long it has to take what waits there, before its drops are counted)
 time.sleep(0.5)
-drops = [int(line.split()[-1]) for line in open("/proc/net/udp") if line.split()[1].endswith(":64CC")]
+drops = [int(line.split()[-1]) for line in open("/proc/net/udp") if line.split()[1].endswith(f":{port:04X}")]
 run.wait()
 latest = {}
 for line in open(sys.argv[3]):
@@ -151,13 +133,13 @@ P
 }
 
 a_stop_drops_the_backlog() {
-  setup 25805 1 >"$work/node.toml"
-  show 25805 1 >"$work/show.toml"
+  setup "$udp" 1 >"$work/node.toml"
+  show "$udp" 1 >"$work/show.toml"
   : >"$work/lines"
   "$sacn" gateway "$work/node.toml" --seconds 9 >"$work/lines" 2>"$work/said" &
   local pid=$!
-  started+=("$pid")
   ready "$work/lines"
+  # (the desk sends on for two seconds, in which the gateway is stopped, which it is for three more)
   (echo go; lit; sleep 2) | "$sacn" desk "$work/show.toml" >/dev/null &
   local desk=$!
   lit
@@ -171,15 +153,15 @@ a_stop_drops_the_backlog() {
 }
 
 a_lost_source_goes_dark() {
-  setup 25806 1 >"$work/node.toml"
-  python3 - "$sacn" "$work/node.toml" "$top/examples/levels.sacn" <<'P'
+  setup "$udp" 1 >"$work/node.toml"
+  python3 - "$sacn" "$work/node.toml" "$top/examples/levels.sacn" "$udp" <<'P'
 import socket, subprocess, sys, time
 run = subprocess.Popen([sys.argv[1], "gateway", sys.argv[2], "--seconds", "5"], stdout=subprocess.PIPE, stderr=subprocess.PIPE, text=True)
 # (Its first line, of the first turn, comes before anything is sent.)
 is_dark = run.stdout.readline().split()[2].strip("0") == ""
 out = socket.socket(socket.AF_INET, socket.SOCK_DGRAM)
 sent = time.monotonic()
-out.sendto(open(sys.argv[3], "rb").read(), ("127.0.0.1", 25806))
+out.sendto(open(sys.argv[3], "rb").read(), ("127.0.0.1", int(sys.argv[4])))
 lines = [(time.monotonic() - sent, line.split()[2]) for line in run.stdout]
 is_lit = [frame.strip("0") != "" for _, frame in lines]
 print("moments", [moment for moment, _ in lines], is_lit, file=sys.stderr)
@@ -189,8 +171,8 @@ P
 }
 
 an_interface_gets_frames() {
-  setup 25807 1 >"$work/node.toml"
-  show 25807 1 >"$work/show.toml"
+  setup "$udp" 1 >"$work/node.toml"
+  show "$udp" 1 >"$work/show.toml"
   python3 - "$sacn" "$work" <<'P'
 import os, pty, select, subprocess, sys, time, tty
 sacn, work = sys.argv[1], sys.argv[2]
@@ -225,6 +207,7 @@ lit = frames(read(master, lambda data: data[-513] == 255))
 assert lit and lit[-1] == 255, lit
 os.unlink(link)
 os.close(slave); os.close(master)
+# (for so long it is away)
 time.sleep(1.2)
 master, slave = terminal()
 again = frames(read(master, lambda data: True))
@@ -236,8 +219,8 @@ P
 }
 
 a_stuck_interface_costs_itself_alone() {
-  { setup 25813 1; printf '[[port]]\nnumber = 2\nuniverse = 1\n'; } >"$work/node.toml"
-  show 25813 1 >"$work/show.toml"
+  { setup "$udp" 1; printf '[[port]]\nnumber = 2\nuniverse = 1\n'; } >"$work/node.toml"
+  show "$udp" 1 >"$work/show.toml"
   python3 - "$sacn" "$work" <<'P'
 import os, pty, select, subprocess, sys, time, tty
 sacn, work = sys.argv[1], sys.argv[2]
@@ -291,24 +274,19 @@ P
 # A gateway whose outputs nobody reads, beside a source of which each packet is another level: its interface gets frames all the same. What
 # is read of it later is whole lines, one of which says how many are missing, and the newest frame.
 an_unread_output_holds_nothing_up() {
-  setup 25811 1 >"$work/node.toml"
-  python3 - "$sacn" "$work" <<'P'
+  setup "$udp" 1 >"$work/node.toml"
+  python3 - "$sacn" "$work" "$udp" <<'P'
 import os, socket, subprocess, sys, time
+import e131
 work = sys.argv[2]
 def packet(number, level, ends=False):
-    slots = bytes([0, level]) + bytes(511)
-    dmp = (0x7000 + 10 + len(slots)).to_bytes(2, "big") + bytes([2, 0xa1, 0, 0, 0, 1]) + len(slots).to_bytes(2, "big") + slots
-    framing = b"\0\0\0\2" + b"unread".ljust(64, b"\0") + bytes([100, 0, 0, number, 0x40 if ends else 0, 0, 1])
-    framing = (0x7000 + 2 + len(framing) + len(dmp)).to_bytes(2, "big") + framing + dmp
-    root = b"\0\0\0\4" + bytes(range(16))
-    root = (0x7000 + 2 + len(root) + len(framing)).to_bytes(2, "big") + root + framing
-    return b"\0\x10\0\0ASC-E1.17\0\0\0" + root
+    return e131.data(1, number, bytes([level]) + bytes(511), name=b"unread", options=e131.TERMINATED if ends else 0)
 open(work + "/device", "w").close()
 run = subprocess.Popen([sys.argv[1], "gateway", work + "/node.toml", "--widget", "1=" + work + "/device", "--seconds", "12"],
                        stdout=subprocess.PIPE, stderr=subprocess.PIPE)
 run.stderr.readline()
 out = socket.socket(socket.AF_INET, socket.SOCK_DGRAM)
-place = ("127.0.0.1", 25811)
+place = ("127.0.0.1", int(sys.argv[3]))
 def paced(count, gap):
     """The numbers below it, one in so many seconds by the clock, so that a late machine doesn't send beyond the gateway's end."""
     due = time.monotonic()
@@ -344,27 +322,21 @@ P
 # A gateway's account of sources has room for 1024. Behind 1120 that came and were lost it still tells of a new one; and of one that sends all the while it tells once that it came, and once that it is lost.
 sources_are_told_for_months() {
   {
-    printf 'version = 2\nudp_port = 25829\n'
+    printf 'version = 2\nudp_port = %s\n' "$udp"
     for universe in $(seq 16); do
       case $universe in 1 | 9) printf '[[port]]\nnumber = %d\n' "$universe" ;; esac
       printf '[[port.range]]\nuniverse = %d\nslot = 1\ncount = 1\nport_slot = %d\n' "$universe" "$universe"
     done
   } >"$work/node.toml"
-  python3 - "$sacn" "$work" <<'P'
+  python3 - "$sacn" "$work" "$udp" <<'P'
 import re, socket, subprocess, sys, time
+import e131
 work = sys.argv[2]
-def packet(cid, number, universe):
-    slots = bytes([0, 9])
-    dmp = (0x7000 + 10 + len(slots)).to_bytes(2, "big") + bytes([2, 0xa1, 0, 0, 0, 1]) + len(slots).to_bytes(2, "big") + slots
-    framing = b"\0\0\0\2" + b"months".ljust(64, b"\0") + bytes([100, 0, 0, number % 256, 0, 0, universe])
-    framing = (0x7000 + 2 + len(framing) + len(dmp)).to_bytes(2, "big") + framing + dmp
-    root = b"\0\0\0\4" + cid
-    root = (0x7000 + 2 + len(root) + len(framing)).to_bytes(2, "big") + root + framing
-    return b"\0\x10\0\0ASC-E1.17\0\0\0" + root
+def packet(cid, number, universe): return e131.data(universe, number, b"\x09", cid, b"months")
 steady, last = bytes([0xee] * 16), bytes([0xdd] * 16)
 run = subprocess.Popen([sys.argv[1], "gateway", work + "/node.toml", "--seconds", "90"], stdout=subprocess.DEVNULL, stderr=open(work + "/months", "w"))
 out = socket.socket(socket.AF_INET, socket.SOCK_DGRAM)
-def send(octets): out.sendto(octets, ("127.0.0.1", 25829))
+def send(octets): out.sendto(octets, ("127.0.0.1", int(sys.argv[3])))
 def told(pattern): return len(re.findall(pattern, open(work + "/months").read(), re.M))
 def counted(): return told(": (came|lost)$") + sum(int(count) for count in re.findall("^([0-9]+) source lines not written$", open(work + "/months").read(), re.M))
 number = 0
@@ -401,23 +373,19 @@ P
 # the gateway ends before its second is over.
 what_a_source_does_is_one_line() {
   {
-    printf 'version = 2\nudp_port = 25859\n[[port]]\nnumber = 1\n'
+    printf 'version = 2\nudp_port = %s\n[[port]]\nnumber = 1\n' "$udp"
     for universe in $(seq 8); do printf '[[port.range]]\nuniverse = %d\nslot = 1\ncount = 16\nport_slot = %d\n' "$universe" $((16 * universe - 15)); done
   } >"$work/node.toml"
-  python3 - "$sacn" "$work" <<'P'
+  python3 - "$sacn" "$work" "$udp" <<'P'
 import os, re, socket, subprocess, sys, time
+import e131
 work = sys.argv[2]
-def packet(cid, name, universe, slots, priority=100, ends=False):
-    slots = b"\0" + slots
-    dmp = (0x7000 + 10 + len(slots)).to_bytes(2, "big") + bytes([2, 0xa1, 0, 0, 0, 1]) + len(slots).to_bytes(2, "big") + slots
-    framing = b"\0\0\0\2" + name.ljust(64, b"\0") + bytes([priority, 0, 0, 1 if ends else 0, 0x40 if ends else 0, 0, universe])
-    framing = (0x7000 + 2 + len(framing) + len(dmp)).to_bytes(2, "big") + framing + dmp
-    root = b"\0\0\0\4" + cid
-    root = (0x7000 + 2 + len(root) + len(framing)).to_bytes(2, "big") + root + framing
-    return b"\0\x10\0\0ASC-E1.17\0\0\0" + root
+def packet(cid, name, universe, slots, priority=100, ends=False, number=None):
+    number = int(ends) if number is None else number
+    return e131.data(universe, number, slots, cid, name, priority, e131.TERMINATED if ends else 0)
 one, two = bytes([0xaa] * 16), bytes([0xbb] * 16)
 out = socket.socket(socket.AF_INET, socket.SOCK_DGRAM)
-def send(octets): out.sendto(octets, ("127.0.0.1", 25859))
+def send(octets): out.sendto(octets, ("127.0.0.1", int(sys.argv[3])))
 def begin(seconds, *more):
     said = open(work + "/said", "w")
     words = [sys.argv[1], "gateway", work + "/node.toml", "--frames", "digits", "--seconds", str(seconds), *more]
@@ -451,9 +419,7 @@ assert abs((millis(lines[0]) - millis(lit) + day // 2) % day - day // 2) <= 500,
 # one that comes, ends and comes within a second: each is told, in its order
 run = begin(30)
 for number, ends in enumerate((False, True, False)):
-    octets = bytearray(packet(one, b"one", 1, b"\xff", ends=ends))
-    octets[111] = number
-    send(octets)
+    send(packet(one, b"one", 1, b"\xff", ends=ends, number=number))
 until(lambda: told(": came$") == 2, "it came again")
 run.terminate(), run.wait()
 assert re.findall(": ([a-z]+)$", open(work + "/said").read(), re.M) == ["came", "ended", "came"], open(work + "/said").read()
@@ -474,32 +440,37 @@ P
 
 # A gateway and a watch that hear nothing say so once, after five seconds, and what was joined where the launcher says it; one that hears something doesn't.
 silence_is_said() {
-  setup 25815 1 >"$work/node.toml"
+  local port heard watched
+  port=$(free_udp_port)
+  heard=$(free_udp_port)
+  watched=$(free_udp_port)
+  setup "$port" 1 >"$work/node.toml"
   "$sacn" gateway "$work/node.toml" --seconds 7 >/dev/null 2>"$work/silent" &
   local silent=$!
-  "$sacn" watch --port 25817 --plain --seconds 7 </dev/zero >/dev/null 2>"$work/watch" &
+  "$sacn" watch --port "$watched" --plain --seconds 7 </dev/zero >/dev/null 2>"$work/watch" &
   local watch=$!
-  setup 25818 1 >"$work/joined.toml"
+  setup "$udp" 1 >"$work/joined.toml"
   SACN_JOINED="eth0 joined a group" "$sacn" gateway "$work/joined.toml" --seconds 7 >/dev/null 2>"$work/joined" &
   local joined=$!
-  setup 25816 1 >"$work/lit.toml"
+  setup "$heard" 1 >"$work/lit.toml"
   : >"$work/lines"
   "$sacn" gateway "$work/lit.toml" --seconds 7 >"$work/lines" 2>"$work/said" &
   local lit=$!
   ready "$work/lines"
-  python3 -c 'import socket, sys; socket.socket(socket.AF_INET, socket.SOCK_DGRAM).sendto(open(sys.argv[1], "rb").read(), ("127.0.0.1", 25816))' "$top/examples/levels.sacn"
+  python3 -c 'import socket, sys; socket.socket(socket.AF_INET, socket.SOCK_DGRAM).sendto(open(sys.argv[1], "rb").read(), ("127.0.0.1", int(sys.argv[2])))' "$top/examples/levels.sacn" "$heard"
   wait "$silent" "$watch" "$joined" "$lit"
-  grep -qx 'nothing heard for 5 s at 0\.0\.0\.0:25818; eth0 joined a group; is the console on this network, or does it send by unicast to another host?' "$work/joined" || return 1
-  [ "$(grep -c '^nothing heard for 5 s at 0\.0\.0\.0:25815; .*--join DEVICE$' "$work/silent")" = 1 ] &&
-    [ "$(grep -c '^nothing heard for 5 s at 0\.0\.0\.0:25817; ' "$work/watch")" = 1 ] && ! grep -q '^nothing heard' "$work/said"
+  grep -qx "nothing heard for 5 s at 0\.0\.0\.0:$udp; eth0 joined a group; is the console on this network, or does it send by unicast to another host?" "$work/joined" || return 1
+  [ "$(grep -c "^nothing heard for 5 s at 0\.0\.0\.0:$port; .*--join DEVICE\$" "$work/silent")" = 1 ] &&
+    [ "$(grep -c "^nothing heard for 5 s at 0\.0\.0\.0:$watched; " "$work/watch")" = 1 ] && ! grep -q '^nothing heard' "$work/said"
 }
 
 Ctrl_C_ends_each_universe() {
-  show 25808 1 2 >"$work/show.toml"
-  python3 - "$sacn" "$work/show.toml" <<'P'
+  show "$udp" 1 2 >"$work/show.toml"
+  python3 - "$sacn" "$work/show.toml" "$udp" <<'P'
 import socket, subprocess, sys, time
+import e131
 heard = socket.socket(socket.AF_INET, socket.SOCK_DGRAM)
-heard.bind(("127.0.0.1", 25808)); heard.settimeout(0.2)
+heard.bind(("127.0.0.1", int(sys.argv[3]))); heard.settimeout(0.2)
 run = subprocess.Popen([sys.argv[1], "desk", sys.argv[2]], stdin=subprocess.PIPE, stdout=subprocess.PIPE, text=True)
 # (It runs once it is heard.)
 end = time.time() + 20
@@ -513,19 +484,19 @@ ends = {}
 while True:
     is_over = run.poll() is not None
     try:
-        octets = heard.recv(2048)
+        packet = e131.read(heard.recv(2048))
     except socket.timeout:
         if is_over: break
         continue
-    if len(octets) == 638 and octets[112] & 0x40:
-        ends[octets[114]] = ends.get(octets[114], 0) + 1
+    if packet and len(packet.slots) == 512 and packet.options & e131.TERMINATED:
+        ends[packet.universe] = ends.get(packet.universe, 0) + 1
 sys.exit(0 if ends == {1: 3, 2: 3} and run.wait() == 0 else 1)
 P
 }
 
 bad_words_are_named() {
-  setup 25809 1 >"$work/node.toml"
-  show 25809 1 >"$work/show.toml"
+  setup "$udp" 1 >"$work/node.toml"
+  show "$udp" 1 >"$work/show.toml"
   "$sacn" gateway "$work/node.toml" --listen 300.1.1.1 2>"$work/said"
   [ $? -eq 2 ] && grep -q '300.1.1.1: Address' "$work/said" || return 1
   "$sacn" desk "$work/show.toml" --to 10.0.0.1:0 2>"$work/said" </dev/null
@@ -533,7 +504,7 @@ bad_words_are_named() {
   "$sacn" desk "$work/show.toml" --to 10.0.0.1:65536 2>"$work/said" </dev/null
   [ $? -eq 2 ] && grep -q '10.0.0.1:65536: Port' "$work/said" || return 1
   "$sacn" gateway "$work/node.toml" --listen 192.0.2.1 2>"$work/said"
-  [ $? -eq 4 ] && grep -q '^device socket 192.0.2.1:25809 AddrNotAvailable$' "$work/said" || return 1
+  [ $? -eq 4 ] && grep -q "^device socket 192.0.2.1:$udp AddrNotAvailable\$" "$work/said" || return 1
   "$sacn" gateway "$work/absent.toml" 2>"$work/said"
   [ $? -eq 4 ] && grep -q "^device read $work/absent.toml$" "$work/said" || return 1
   "$sacn" desk "$work/show.toml" >"$work/answers" <&- || return 1
@@ -545,8 +516,8 @@ bad_words_are_named() {
 }
 
 a_small_stack_is_enough() {
-  setup 25811 1 >"$work/node.toml"
-  show 25811 1 >"$work/show.toml"
+  setup "$udp" 1 >"$work/node.toml"
+  show "$udp" 1 >"$work/show.toml"
   { echo 'version = 1'; echo "x = $(printf '[%.0s' $(seq 80))$(printf ']%.0s' $(seq 80))"; } >"$work/nested.toml"
   (
     ulimit -s 256 || exit 1
@@ -558,13 +529,13 @@ a_small_stack_is_enough() {
     (echo go; lit) | "$sacn" desk "$work/show.toml" >"$work/answers" || exit 1
     wait $! || exit 1
     [ "$(levels "$work/lines")" = "00 ff 00 " ] || exit 1
-    "$sacn" watch --plain --port 25811 --seconds 1 </dev/null >"$work/lines" 2>"$work/said" || exit 1
+    "$sacn" watch --plain --port "$udp" --seconds 1 </dev/null >"$work/lines" 2>"$work/said" || exit 1
     "$sacn" explain "$top/examples/qlcplus.pcap" >"$work/lines" </dev/null
   )
 }
 
 groups_are_printed() {
-  setup 25810 258 >"$work/node.toml"
+  setup "$udp" 258 >"$work/node.toml"
   [ "$("$sacn" groups "$work/node.toml" --device eth0)" = "ip address add 239.255.1.2/32 dev eth0 autojoin
 ip address add 239.255.250.214/32 dev eth0 autojoin" ]
 }
@@ -583,6 +554,7 @@ multicast_between_namespaces() {
     ip netns exec "$b" "$sacn" gateway "$work/node.toml" --seconds 6 >"$work/lines" 2>"$work/said" &
     local pid=$!
     ready "$work/lines"
+    # (a desk goes on for a while)
     (echo go; lit; sleep 0.2) | ip netns exec "$a" "$sacn" desk "$work/show.toml" --multicast >/dev/null 2>"$work/desk"
     wait "$pid"
     [ "$(levels "$work/lines")" = "00 ff 00 " ] && grep -q ' at 10.77.0.1, .*: came$' "$work/said" && status=0
@@ -594,17 +566,18 @@ multicast_between_namespaces() {
 
 # The broadcast address refuses each datagram of a socket that didn't ask for it.
 a_host_that_refuses_stops_no_other() {
-  setup 25811 1 >"$work/node.toml"
-  show 25811 1 >"$work/show.toml"
+  setup "$udp" 1 >"$work/node.toml"
+  show "$udp" 1 >"$work/show.toml"
   : >"$work/said"
   "$sacn" gateway "$work/node.toml" --seconds 6 >"$work/lines" 2>"$work/said" &
   local pid=$!
   ready "$work/said"
-  (echo go; lit; sleep 0.2) | "$sacn" desk "$work/show.toml" --to 255.255.255.255:25811 --to 127.0.0.1:25811 >"$work/answers" 2>"$work/desk" || return 1
+  # (it goes on for a while)
+  (echo go; lit; sleep 0.2) | "$sacn" desk "$work/show.toml" --to "255.255.255.255:$udp" --to "127.0.0.1:$udp" >"$work/answers" 2>"$work/desk" || return 1
   wait "$pid" || return 1
   [ "$(levels "$work/lines")" = "00 ff 00 " ] || return 1
-  [ "$(sed -n 1p "$work/desk")" = 'desk "Desk" priority 100 universes 1 to 255.255.255.255:25811, 127.0.0.1:25811' ] || return 1
-  [ "$(sed -n 2p "$work/desk")" = "255.255.255.255:25811 doesn't take packets: 1 failed (PermissionDenied)" ] || return 1
+  [ "$(sed -n 1p "$work/desk")" = "desk \"Desk\" priority 100 universes 1 to 255.255.255.255:$udp, 127.0.0.1:$udp" ] || return 1
+  [ "$(sed -n 2p "$work/desk")" = "255.255.255.255:$udp doesn't take packets: 1 failed (PermissionDenied)" ] || return 1
   ! sed 1d "$work/desk" | grep -q 127.0.0.1 || return 1
   grep -q '^sent 0 failed [1-9][0-9]* refused ' "$work/answers"
 }
@@ -624,15 +597,16 @@ import subprocess, sys, time
 sacn, show, a, b = sys.argv[1:]
 hear = '''
 import socket, time
+import e131
 s = socket.socket(socket.AF_INET, socket.SOCK_DGRAM); s.bind(("10.77.0.2", 5568)); s.settimeout(0.2)
 print("ready", flush=True)
 last, gap, end = {}, 0, time.monotonic() + 7
 while time.monotonic() < end:
-    try: octets = s.recv(2048)
+    try: packet = e131.read(s.recv(2048))
     except TimeoutError: continue
-    if len(octets) != 638: continue
+    if not packet: continue
     now = time.monotonic()
-    gap = max(gap, now - last.get(octets[114], now)); last[octets[114]] = now
+    gap = max(gap, now - last.get(packet.universe, now)); last[packet.universe] = now
 print(len(last), gap)
 '''
 run = subprocess.Popen(["ip", "netns", "exec", b, sys.executable, "-c", hear], stdout=subprocess.PIPE, text=True)
@@ -656,6 +630,7 @@ P
 tests="a_desk_lights_a_gateway a_script_ends_the_desk a_port_is_shared a_stop_drops_the_backlog
   a_lost_source_goes_dark an_interface_gets_frames an_unread_output_holds_nothing_up a_stuck_interface_costs_itself_alone sources_are_told_for_months what_a_source_does_is_one_line silence_is_said Ctrl_C_ends_each_universe bad_words_are_named groups_are_printed a_small_stack_is_enough a_host_that_refuses_stops_no_other"
 for test in $tests; do
+  udp=$(free_udp_port)
   "$test"
   verdict "$test" $?
 done

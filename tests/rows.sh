@@ -2,31 +2,28 @@
 # Runs the rows of tests/rows, and rows that are wrong, each of which has to be told by file and line. Prints 'ok NAME' or 'not ok NAME: why' for each
 # run, as ./test counts them. The program is crates/rows/out/rows, or what ROWS names.
 set -u
-top=$(cd "$(dirname "$(readlink -f "$0")")/.." && pwd)
+# shellcheck source=tests/lib.sh
+. "$(dirname "$(readlink -f "$0")")/lib.sh"
 rows=${ROWS:-$top/crates/rows/out/rows}
+case $rows in /*) ;; *) rows=$here/$rows ;; esac
 if [ ! -x "$rows" ]; then
   echo "not ok rows: the program isn't built"
   exit 1
 fi
-failed=0
 
 # ends NAME STATUS WANTED: reads a file of rows, which ends with the status, and prints this and nothing else
 ends() {
   local status=0 said
   said=$(timeout 60 "$rows" "$1" 2>&1) || status=$?
-  if [ "$status" = "$2" ] && [ "$said" = "$3" ]; then
-    echo "ok rows: $4"
-  else
-    echo "not ok rows: $4: status $status, '$(head -c 300 <<<"$said")'"
-    failed=1
-  fi
+  [ "$status" = "$2" ] && [ "$said" = "$3" ]
+  verdict "$4" $? "status $status, '$(head -c 300 <<<"$said")'"
 }
 
 # told WHAT WANTED LINE..: a file of these lines is told so, and nothing else of it
 told() {
   local what=$1 wanted=$2
   shift 2
-  printf '%s\n' "$@" | ends bad.rows 1 "bad.rows:$wanted" "$what"
+  ends bad.rows 1 "bad.rows:$wanted" "$what" < <(printf '%s\n' "$@")
 }
 
 files=0
@@ -38,10 +35,7 @@ for file in "$top"/tests/rows/*.rows; do
   steps=$(grep -cvE '^(#|\||of |story |[[:space:]]*$)' "$file")
   ends "$name" 0 "$name: $steps steps of $stories stories" "$name: $steps steps of $stories stories" <"$file"
 done
-if [ "$files" = 0 ]; then
-  echo "not ok rows: there are no files"
-  failed=1
-fi
+if [ "$files" = 0 ]; then verdict "files" 1 "there are none"; fi
 
 long=$(printf 'x%.0s' $(seq 4001))
 told "a wrong answer" "3: wanted '2', came '0'" "of sources" "story one" "expire 5 = 2"
@@ -61,5 +55,5 @@ told "a long line" "4: the line has more than 4000 octets" "of sources" "story o
 told "two wrong lines" "3: wanted '1', came '0'"$'\n'"bad.rows:5: wanted '2', came '0'" "of sources" "story one" "renewals = 1" "renewals = 0" "renewals = 2"
 told "no step" "1: the file has no step" "of sources" "story one"
 ends bad.rows 1 "bad.rows:1: the file has no step" "nothing at all" </dev/null
-printf 'of sources\nstory one\nrenewals = \xff\n' | ends bad.rows 1 "bad.rows: the file isn't read as UTF-8 text" "octets that are no text"
-exit "$failed"
+ends bad.rows 1 "bad.rows: the file isn't read as UTF-8 text" "octets that are no text" < <(printf 'of sources\nstory one\nrenewals = \xff\n')
+[ "$failed" = 0 ]

@@ -1,7 +1,7 @@
 #!/usr/bin/env python3
-"""A gateway's screen on a terminal that takes nothing, of the launcher in the folder where this runs, at the port 25840.
+"""A gateway's screen on a terminal that takes nothing, of the launcher in the folder where this runs, at a port.
 
-usage: screens.py stuck | given_back     ends with a word of what isn't as it should be
+usage: screens.py PORT stuck | given_back     ends with a word of what isn't as it should be
 """
 import fcntl
 import os
@@ -15,15 +15,13 @@ import termios
 import time
 import tty
 
-PORT = 25840
+import e131
+
+PORT = int(sys.argv[1])
 
 
 def data(cid, number, universe, slots):
-    """A data packet of a source (E1.31, 4 to 7)."""
-    dmp = struct.pack(">HBBHHHB", 0x7000 | 11 + len(slots), 2, 0xa1, 0, 1, 1 + len(slots), 0) + slots
-    head = struct.pack(">I64sBHBBH", 2, b"A desk with a long name", 100, 0, number, 0, universe)
-    framing = struct.pack(">H", 0x7000 | 2 + len(head) + len(dmp)) + head + dmp
-    return b"\0\x10\0\0ASC-E1.17\0\0\0" + struct.pack(">HI", 0x7000 | 22 + len(framing), 4) + struct.pack(">QQ", 0, cid) + framing
+    return e131.data(universe, number, slots, struct.pack(">QQ", 0, cid), b"A desk with a long name")
 
 
 def hears():
@@ -147,4 +145,4 @@ def given_back():
 
 
 if __name__ == "__main__":
-    {"stuck": stuck, "given_back": given_back}[sys.argv[1]]()
+    {"stuck": stuck, "given_back": given_back}[sys.argv[2]]()

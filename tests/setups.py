@@ -6,8 +6,10 @@ import sys
 import tempfile
 import threading
 
+import e131
+
 # The UDP ports of the gateway of both setups, and of those of one alone.
-BOTH, FIRST_ALONE, SECOND_ALONE = 25861, 25862, 25863
+BOTH, FIRST_ALONE, SECOND_ALONE = (e131.free_udp_port() for _ in range(3))
 FIRST, SECOND = range(1, 17), range(17, 33)
 # How long a line is waited for at most, in seconds.
 PATIENCE = 60

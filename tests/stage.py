@@ -1,4 +1,4 @@
-"""What light.py, ola.py and tools/blocks.py stand on: programs, packets, sockets that note when something came, terminals that stand for interfaces, and namespaces."""
+"""What nothing_blocks.py, ola.py and tools/blocks.py stand on: programs, packets, sockets that note when something came, terminals that stand for interfaces, and namespaces."""
 import ctypes
 import fcntl
 import os
@@ -15,11 +15,14 @@ import threading
 import time
 import tty
 
+import e131
+
 TOP = os.path.dirname(os.path.dirname(os.path.realpath(__file__)))
 SACN = os.environ.get("SACN", f"{TOP}/crates/sacn/out/sacn")
 ROOM = tempfile.mkdtemp()
-CID = bytes.fromhex("000102030405060708090a0b0c0d0e0f")
-DESK, PORT = "10.77.0.1", 5568
+CID = e131.CID
+# The ports are those of a namespace of its own, or what nothing_blocks.sh found free.
+DESK, PORT, PAGE = "10.77.0.1", int(os.environ.get("STAGE_UDP", 5568)), int(os.environ.get("STAGE_PAGE", 8080))
 # Linux's numbers, of which Python has no names.
 SO_TIMESTAMPNS, SO_RCVBUFFORCE, CLONE_NEWNET, F_SETPIPE_SZ = 35, 33, 0x40000000, 1031
 LIBC = ctypes.CDLL(None, use_errno=True)
@@ -65,11 +68,7 @@ def show(universes):
 
 
 def packet(number, level, universe=1, options=0, cid=CID):
-    slots = bytes([0, level]) + bytes(511)
-    dmp = struct.pack(">HBBHHH", 0x7000 | 10 + len(slots), 2, 0xA1, 0, 1, len(slots)) + slots
-    head = struct.pack(">I64sBHBBH", 2, b"light", 100, 0, number % 256, options, universe)
-    framing = struct.pack(">H", 0x7000 | 2 + len(head) + len(dmp)) + head + dmp
-    return b"\0\x10\0\0ASC-E1.17\0\0\0" + struct.pack(">HI", 0x7000 | 22 + len(framing), 4) + cid + framing
+    return e131.data(universe, number, bytes([level]) + bytes(511), cid, b"light", options=options)
 
 
 class Heard(threading.Thread):
@@ -90,10 +89,10 @@ class Heard(threading.Thread):
     def run(self):
         while True:
             octets, notes, _, _ = self.sock.recvmsg(160 + self.skip, 64)
-            octets = octets[self.skip:]
-            if octets[4:13] == b"ASC-E1.17" and octets[21] == 4 and notes:
+            packet_heard = e131.read(octets[self.skip:])
+            if packet_heard and notes:
                 seconds, nanoseconds = struct.unpack("qq", notes[0][2])
-                self.came.setdefault(octets[113] << 8 | octets[114], []).append((seconds + nanoseconds / 1e9, octets[112]))
+                self.came.setdefault(packet_heard.universe, []).append((seconds + nanoseconds / 1e9, packet_heard.options))
 
     def gap(self, universes, begin, end):
         """The greatest time without a packet on one of the universes, between two moments."""

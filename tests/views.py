@@ -12,20 +12,21 @@ import json
 import os
 import shutil
 import socket
-import struct
 import subprocess
 import sys
 import tempfile
 import time
 import urllib.request
 
+import e131
+from e131 import PREVIEW, TERMINATED
+
 SACN = sys.argv[1]
 ROOM = tempfile.mkdtemp()
-LINES, LIVE, LIVE_PAGE, PAGE = 25881, 25882, 25883, 25884
-GATEWAY, GATEWAY_PAGE = 25885, 25886
+LINES, LIVE, GATEWAY = (e131.free_udp_port() for _ in range(3))
+PAGE, LIVE_PAGE, GATEWAY_PAGE = (e131.free_tcp_port() for _ in range(3))
 # The gateway's ports, each with a universe.
 PORTS = {1: 1, 2: 2}
-PREVIEW, TERMINATED = 0x80, 0x40
 # Its octets are a quote, a mark of HTML, a backslash, a letter of two octets and one of four.
 NAME = 'A "<b>\\é\N{GRINNING FACE}'
 CIDS = {letter: bytes([16 * digit + digit]) * 16 for digit, letter in enumerate("ABCDE", 10)}
@@ -36,11 +37,7 @@ END = 5000
 
 def packet(source, universe, number, levels, priority=100, options=0, start=0):
     """A data packet of E1.31."""
-    slots = bytes([start, *levels])
-    dmp = struct.pack(">HBBHHH", 0x7000 | 10 + len(slots), 2, 0xA1, 0, 1, len(slots)) + slots
-    head = struct.pack(">I64sBHBBH", 2, NAMES[source].encode(), priority, 0, number % 256, options, universe)
-    framing = struct.pack(">H", 0x7000 | 2 + len(head) + len(dmp)) + head + dmp
-    return b"\0\x10\0\0ASC-E1.17\0\0\0" + struct.pack(">HI", 0x7000 | 22 + len(framing), 4) + CIDS[source] + framing
+    return e131.data(universe, number, levels, CIDS[source], NAMES[source].encode(), priority, options, start)
 
 
 def network():
@@ -101,13 +98,10 @@ def verdict(name, is_so, seen=""):
 def recording(sent):
     """A file of the format pcap, whose frames are Ethernet's."""
     path = f"{ROOM}/network.pcap"
-    with open(path, "wb") as out:
-        out.write(struct.pack("<IHHIIII", 0xA1B2C3D4, 2, 4, 0, 0, 65535, 1))
-        for moment, octets in sent:
-            udp = struct.pack(">HHHH", 5568, 5568, 8 + len(octets), 0) + octets
-            internet = struct.pack(">BBHHHBBH4s4s", 0x45, 0, 20 + len(udp), 0, 0, 64, 17, 0, bytes([10, 0, 0, 1]), bytes([239, 255, 0, 1]))
-            frame = bytes(12) + b"\x08\0" + internet + udp
-            out.write(struct.pack("<IIII", moment // 1000, moment % 1000 * 1000, len(frame), len(frame)) + frame)
+    written = e131.Recording(path, start=0)
+    for moment, octets in sent:
+        written.sent(moment, 1, octets, from_port=5568)
+    written.close()
     return path
 
 

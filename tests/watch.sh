@@ -2,25 +2,18 @@
 # Watches loopback with the built program: a desk's lines as text and as JSON, bad words, a taken address, and the screen in a terminal made here.
 # Prints 'ok NAME', 'not ok NAME: why' or 'skipped NAME: why' for each, as ./test counts them.
 set -u
-top=$(cd "$(dirname "$(readlink -f "$0")")/.." && pwd)
-sacn=${SACN:-$top/crates/sacn/out/sacn}
-if [ ! -x "$sacn" ]; then
-  echo "skipped watch: sacn isn't built"
-  exit 0
-fi
-room=$(mktemp -d)
-started=()
+# shellcheck source=tests/lib.sh
+. "$(dirname "$(readlink -f "$0")")/lib.sh"
+need sacn
 pane() { tmux -L "sacn-$$" "$@" 2>/dev/null; }
-cleanup() {
-  pane kill-server
-  for pid in "${started[@]:-}"; do [ -z "$pid" ] || kill "$pid" 2>/dev/null; done
-  rm -rf "$room"
-}
-trap cleanup EXIT
-cd "$room" || exit 1
-
-# verdict NAME STATUS: says whether a run went well
-verdict() { if [ "$2" = 0 ]; then echo "ok watch: $1"; else echo "not ok watch: $1: ${3-}"; fi; }
+trap 'pane kill-server; cleanup' EXIT
+# (nothing is sent to the first and the last; a desk or a script sends to the others)
+quiet=$(free_udp_port)
+udp=$(free_udp_port)
+screen=$(free_udp_port)
+shown=$(free_udp_port)
+many=$(free_udp_port)
+unheard=$(free_udp_port)
 
 # ends NAME STATUS WANTED-ERRORS WORD..: a run of watch ends so
 ends() {
@@ -29,18 +22,13 @@ ends() {
   timeout 20 "$sacn" watch "$@" </dev/null >out 2>err || status=$?
   first=$(head -n 1 err)
   # shellcheck disable=SC2053
-  if [ "$status" != "$wanted" ]; then
-    echo "not ok watch: $name: status $status, '$first'"
-  elif ! [[ $first == $said ]]; then
-    echo "not ok watch: $name: '$first'"
-  else
-    echo "ok watch: $name"
-  fi
+  [ "$status" = "$wanted" ] && [[ $first == $said ]]
+  verdict "$name" $? "status $status, '$first'"
 }
 
-ends "a second of silence" 0 "hears 0.0.0.0:25830" --port 25830 --seconds 1
-ends "an address of the machine" 0 "hears 127.0.0.1:25830" --listen 127.0.0.1 --port 25830 --seconds 1 --json
-ends "an address of another machine" 4 "device socket 192.0.2.1:25830 *" --listen 192.0.2.1 --port 25830 --seconds 1
+ends "a second of silence" 0 "hears 0.0.0.0:$quiet" --port "$quiet" --seconds 1
+ends "an address of the machine" 0 "hears 127.0.0.1:$quiet" --listen 127.0.0.1 --port "$quiet" --seconds 1 --json
+ends "an address of another machine" 4 "device socket 192.0.2.1:$quiet *" --listen 192.0.2.1 --port "$quiet" --seconds 1
 ends "an address in words" 2 "error: here: Address" --listen here
 ends "port 0" 2 "error: 0: Port" --port 0
 ends "universe 0" 2 "error: 0: Universe" --universe 0
@@ -54,16 +42,16 @@ ends "each thing for a page" 2 "error: --page: beside --each" --page 8080 --each
 # (Input that ends while it runs ends it; one that had ended before doesn't.)
 status=0
 : >err
-{ for _ in $(seq 300); do grep -q '^hears' err && break; sleep 0.1; done; } | timeout 60 "$sacn" watch --port 25830 >out 2>err || status=$?
+wait_for_line err '^hears' 30 | timeout 60 "$sacn" watch --port "$quiet" >out 2>err || status=$?
 [ "$status" = 0 ] && grep -q '^datagrams to the port          0$' out
 verdict "the end of standard input" $? "status $status"
 
-cat >show.toml <<'T'
+cat >show.toml <<T
 version = 2
 cid = "00010203-0405-0607-0809-0a0b0c0d0e0f"
 name = "Desk"
 universes = [1, 2]
-send_to = [25831]
+send_to = [$udp]
 [[cue]]
 number = 1
 up = 0
@@ -81,23 +69,24 @@ C=000102030405060708090a0b0c0d0e0f
 tells() {
   local name=$1 form=$2 place=0 at line
   shift 2
-  # (before the start, so that the line of an earlier one isn't taken for this one's)
+  # (before the start, so that the lines of an earlier one aren't taken for this one's)
   : >err
+  : >out
   {
-    for _ in $(seq 300); do grep -q '^hears' err && break; sleep 0.1; done
+    wait_for_line err '^hears' 30
     "$sacn" desk show.toml --script script.txt </dev/null >desk.out 2>&1
-    sleep 1
-  } | timeout 60 "$sacn" watch --port 25831 $form >out 2>err
-  [ "${PIPESTATUS[1]}" = 0 ] || { echo "not ok watch: $name: it fails"; return; }
+    wait_for_line out 'ends its stream|"event":"ended"'
+  } | timeout 60 "$sacn" watch --port "$udp" $form >out 2>err
+  [ "${PIPESTATUS[1]}" = 0 ] || { verdict "$name" 1 "it fails"; return; }
   for line in "$@"; do
     at=$(tail -n "+$((place + 1))" out | grep -nE -m 1 "$line" | cut -d : -f 1)
     if [ -z "$at" ]; then
-      echo "not ok watch: $name: no $line after line $place"
+      verdict "$name" 1 "no $line after line $place"
       return
     fi
     place=$((place + at))
   done
-  echo "ok watch: $name"
+  verdict "$name" 0
 }
 tells "each thing of a desk" "--plain --each" "universe     1  $C \"Desk\"  appears at 127\.0\.0\.1:[0-9]+, priority 100$" \
   "universe     1  $C \"Desk\"  ends its stream$" "^universe state " "^       1 ended  .* $C \"Desk\" at 127" "^datagrams to the port  "
@@ -135,21 +124,21 @@ TZ=XST-5:30 tells "a desk, with the time of day" "--plain --clock" "^[0-9:]{8}\.
 TZ=XST-5:30 times '^([0-9:.]{12}) ' 86400000 && ! grep -qvE '^[0-9:]{8}\.[0-9]{3} ' out
 verdict "which is that of the time zone, on each line" $? "$(head -n 1 out)"
 tells "one universe" "--plain --universe 2" "$desk_line appears on 2 at" '^       2 ended '
-if grep -qE ' on 1|^       1 ' out; then echo "not ok watch: one universe alone"; else echo "ok watch: one universe alone"; fi
+! grep -qE ' on 1|^       1 ' out
+verdict "one universe alone" $?
 
 # stopped NAME FORM KILLED PATTERN: a watch that is stopped for five seconds beside a desk that goes on, or that is killed meanwhile
 stopped() {
   local form=$2 killed=$3 desk watch
   : >err
   : >out
-  "$sacn" watch --port 25831 --seconds 12 $form </dev/null >out 2>err &
+  "$sacn" watch --port "$udp" --seconds 12 $form </dev/null >out 2>err &
   watch=$!
-  started+=("$watch")
-  for _ in $(seq 300); do grep -q '^hears' err && break; sleep 0.1; done
+  wait_for_line err '^hears' 30
   "$sacn" desk show.toml --script stay.txt --stay </dev/null >desk.out 2>&1 &
   desk=$!
-  started+=("$desk")
-  for _ in $(seq 100); do grep -q appear out && break; sleep 0.1; done
+  wait_for_line out appear
+  # (a second in which its stream runs, and then the five for which it is stopped)
   sleep 1
   kill -STOP "$watch"
   if [ -n "$killed" ]; then kill -KILL "$desk"; fi
@@ -180,18 +169,17 @@ grep -qE '^ *[0-9]+\.[0-9]{3} s  not heard for [0-9]+\.[0-9]{3} s: this program 
 verdict "a stop in words" $? "$(grep -v universe out | head -n 3)"
 
 # What stops a service sends TERM and CONT at once: each of eight watches ends under the launcher.
-printf '. "%s/tools/run.sh"\nrun "%s" watch --plain --port 25845\n' "$top" "$sacn" >launcher
+printf '. "%s/tools/run.sh"\nrun "%s" watch --plain --port %s\n' "$top" "$sacn" "$quiet" >launcher
+has_ended() { ! kill -0 "$watch" 2>/dev/null; }
 left=0
 for _ in $(seq 8); do
   : >err
   bash launcher </dev/null >/dev/null 2>err &
   watch=$!
-  started+=("$watch")
-  for _ in $(seq 300); do grep -q '^hears' err && break; sleep 0.1; done
+  wait_for_line err '^hears' 30
   kill -TERM "$watch"
   kill -CONT "$watch" 2>/dev/null
-  for _ in $(seq 100); do kill -0 "$watch" 2>/dev/null || break; sleep 0.1; done
-  if kill -0 "$watch" 2>/dev/null; then left=$((left + 1)); kill -KILL "$watch"; fi
+  if ! wait_until has_ended; then left=$((left + 1)); kill -KILL "$watch"; fi
   wait "$watch" || left=$((left + 1))
 done
 verdict "TERM and CONT at once end it" "$left" "$left of 8 went on, or ended badly"
@@ -200,18 +188,16 @@ verdict "TERM and CONT at once end it" "$left" "$left of 8 went on, or ended bad
 : >err
 : >out
 mkfifo life
-"$sacn" watch --port 25831 --plain <life >out 2>err &
+"$sacn" watch --port "$udp" --plain <life >out 2>err &
 watch=$!
-started+=("$watch")
 exec 4>life
-for _ in $(seq 300); do grep -q '^hears' err && break; sleep 0.1; done
+wait_for_line err '^hears' 30
 "$sacn" desk show.toml --script stay.txt --stay </dev/null >desk.out 2>&1 &
 desk=$!
-started+=("$desk")
-for _ in $(seq 100); do grep -q ' appears on ' out && break; sleep 0.1; done
+wait_for_line out ' appears on '
 kill -KILL "$desk"
 wait "$desk" 2>/dev/null
-for _ in $(seq 100); do grep -q ' lost on ' out && break; sleep 0.1; done
+wait_for_line out ' lost on '
 grep -qE "$desk_line lost on 1-2" out && ! grep -q '^universe state' out
 verdict "a desk that is killed is told as lost on all its universes" $? "$(tail -n 1 out)"
 exec 4>&-
@@ -222,39 +208,37 @@ verdict "once" $? "$(grep ' lost on ' out | tail -n 1)"
 # A watch that joined groups and hears nothing says which, as lines and beside a page.
 join=$top/release/$(uname -m)-linux/sacn-join
 if [ -x "$join" ]; then
-  printf '. "%s/tools/run.sh"\nsacn_join=%s\nrun "%s" watch --port 25834 --beside --seconds 6 "$@"\n' "$top" "$join" "$sacn" >silent
-  bash silent --page 127.0.0.1:25836 --join lo </dev/null >/dev/null 2>first &
-  started+=("$!")
+  printf '. "%s/tools/run.sh"\nsacn_join=%s\nrun "%s" watch --port %s --beside --seconds 6 "$@"\n' "$top" "$join" "$sacn" "$quiet" >silent
+  bash silent --page "127.0.0.1:$(free_tcp_port)" --join lo </dev/null >/dev/null 2>first &
+  first=$!
   bash silent --plain --join lo </dev/null >/dev/null 2>lines &
-  started+=("$!")
-  bash silent --page 127.0.0.1:25837 --join lo --universe 600 --universe 1-512 </dev/null >/dev/null 2>named
-  wait "${started[-1]}" "${started[-2]}"
+  lines=$!
+  bash silent --page "127.0.0.1:$(free_tcp_port)" --join lo --universe 600 --universe 1-512 </dev/null >/dev/null 2>named
+  wait "$first" "$lines"
   advice="is the console on this network, or does it send by unicast to another host?"
-  grep -qxF "nothing heard for 5 s at 0.0.0.0:25834; lo joined the discovery group, universes 1 to 128 and those that sources list; --universe 1-512 joins others; $advice" first
+  grep -qxF "nothing heard for 5 s at 0.0.0.0:$quiet; lo joined the discovery group, universes 1 to 128 and those that sources list; --universe 1-512 joins others; $advice" first
   verdict "silence after --join" $? "$(tail -n 1 first)"
-  grep -qxF "nothing heard for 5 s at 0.0.0.0:25834; lo joined the discovery group, universes 1 to 128 and those that sources list; --universe 1-512 joins others; $advice" lines
+  grep -qxF "nothing heard for 5 s at 0.0.0.0:$quiet; lo joined the discovery group, universes 1 to 128 and those that sources list; --universe 1-512 joins others; $advice" lines
   verdict "silence after --join of a watch of lines" $? "$(tail -n 1 lines)"
-  grep -qxF "nothing heard for 5 s at 0.0.0.0:25834; lo joined the discovery group and universes 600, 1-512; --universe names others; $advice" named
+  grep -qxF "nothing heard for 5 s at 0.0.0.0:$quiet; lo joined the discovery group and universes 600, 1-512; --universe names others; $advice" named
   verdict "silence after --join of universes that are named" $? "$(tail -n 1 named)"
 else
-  echo "skipped watch: silence after --join: there is no sacn-join for this processor"
+  skips "silence after --join" "there is no sacn-join for this processor"
 fi
 
 if ! command -v python3 >/dev/null; then
-  echo "skipped watch: a terminal: no python3"
+  skips "a terminal" "no python3"
   exit 0
 fi
 # A terminal of so many columns and rows: hands a run of these words its end, sends packets to it, and writes what it drew.
 cat >terminal.py <<'P'
 import os, pty, select, signal, socket, struct, sys, time, fcntl, termios
+import e131
 
 path, port, stop, *words = sys.argv[1:]
 
 def data(cid, name, number, slots):
-    dmp = struct.pack(">HBBHHHB", 0x7000 | 11 + len(slots), 2, 0xa1, 0, 1, 1 + len(slots), 0) + slots
-    head = struct.pack(">I64sBHBBH", 2, name, 100, 0, number, 0, 1)
-    framing = struct.pack(">H", 0x7000 | 2 + len(head) + len(dmp)) + head + dmp
-    return b"\0\x10\0\0ASC-E1.17\0\0\0" + struct.pack(">HI", 0x7000 | 22 + len(framing), 4) + bytes([cid]) * 16 + framing
+    return e131.data(1, number, slots, bytes([cid]) * 16, name)
 
 pid, terminal = pty.fork()
 if pid == 0:
@@ -297,7 +281,7 @@ P
 draws() {
   local name=$1 columns=$2 rows=$3 status=0
   shift 3
-  env -u NO_COLOR COLUMNS="$columns" ROWS="$rows" "$@" timeout 20 python3 terminal.py drawn 25832 go "$sacn" watch --port 25832 --seconds 4 || status=$?
+  env -u NO_COLOR COLUMNS="$columns" ROWS="$rows" "$@" timeout 20 python3 terminal.py drawn "$screen" go "$sacn" watch --port "$screen" --seconds 4 || status=$?
   python3 - "$columns" "$rows" "$status" <<'P'
 import re, sys
 columns, rows, status = map(int, sys.argv[1:])
@@ -332,49 +316,49 @@ problem=$(draws plain 80 24 NO_COLOR=1 2>&1) && ! grep -q $'\x1b\[0;3[0-9]m' dra
 verdict "NO_COLOR" $? "$(tail -n 1 <<<"$problem")"
 
 # Ctrl-C under the launcher: the terminal is left as it was, and the status is 0.
-printf '. "%s/tools/run.sh"\nrun "%s" watch --port 25833\n' "$top" "$sacn" >launcher
+printf '. "%s/tools/run.sh"\nrun "%s" watch --port %s\n' "$top" "$sacn" "$screen" >launcher
 status=0
-problem=$(COLUMNS=80 ROWS=24 KEYS=typed timeout 20 python3 terminal.py drawn 25833 stop bash launcher 2>&1) || status=$?
+problem=$(COLUMNS=80 ROWS=24 KEYS=typed timeout 20 python3 terminal.py drawn "$screen" stop bash launcher 2>&1) || status=$?
 # (what stands below the last screen)
 below() { tr -d '\r' <drawn | awk -v end=$'\033[?1049l' '{ at = index($0, end) } seen { print } at && !seen { print substr($0, at + length(end)); seen = 1 }'; }
 [ "$status" = 0 ] && grep -q 'Aff' drawn && below | grep -q '^sacn watch ' && below | grep -qE '^A +1 ' && ! below | grep -q $'\x1b'
 verdict "Ctrl-C under the launcher" $? "status $status $(tail -n 1 <<<"$problem")"
 [ "$status" = 0 ] && ! grep -qE 'typed|\^C' drawn
 verdict "keys that are typed stay off the screen" $? "status $status $(tail -n 1 <<<"$problem")"
-printf '(. "%s/tools/run.sh"; run "%s" watch --port 25833 --seconds 4)\nread -r -t 0.5 left; echo "left <$left>"\n' "$top" "$sacn" >launcher
+printf '(. "%s/tools/run.sh"; run "%s" watch --port %s --seconds 4)\nread -r -t 0.5 left; echo "left <$left>"\n' "$top" "$sacn" "$screen" >launcher
 status=0
-problem=$(COLUMNS=80 ROWS=24 KEYS=$'rm me\nand me' timeout 20 python3 terminal.py drawn 25833 go bash launcher 2>&1) || status=$?
+problem=$(COLUMNS=80 ROWS=24 KEYS=$'rm me\nand me' timeout 20 python3 terminal.py drawn "$screen" go bash launcher 2>&1) || status=$?
 [ "$status" = 0 ] && ! grep -qE 'rm|and me' drawn && grep -q 'left <>' drawn
 verdict "what was typed unseen is read away" $? "status $status $(tail -n 1 <<<"$problem") $(tail -c 40 drawn)"
-printf '. "%s/tools/run.sh"\nrun "%s" watch --port 25833\n' "$top" "$sacn" >launcher
+printf '. "%s/tools/run.sh"\nrun "%s" watch --port %s\n' "$top" "$sacn" "$screen" >launcher
 status=0
-problem=$(COLUMNS=80 ROWS=24 KEYS=$'\x1c' timeout 20 python3 terminal.py drawn 25833 go bash launcher 2>&1) || status=$?
+problem=$(COLUMNS=80 ROWS=24 KEYS=$'\x1c' timeout 20 python3 terminal.py drawn "$screen" go bash launcher 2>&1) || status=$?
 [ "$status" = 0 ] && below | grep -q '^sacn watch ' && ! below | grep -q $'\x1b'
 verdict "Ctrl-\\ ends it, and gives the terminal back" $? "status $status $(tail -n 1 <<<"$problem")"
 
 # Keys steer the screen, each as it is pressed, and the terminal is given back at any end.
-printf '. "%s/tools/run.sh"\nrun "%s" watch --port 25844\n' "$top" "$sacn" >launcher
+printf '. "%s/tools/run.sh"\nrun "%s" watch --port %s\n' "$top" "$sacn" "$screen" >launcher
 for keys in steered typed changed "killed launcher" "killed program" "told 0"; do
   # shellcheck disable=SC2086
-  problem=$(timeout 60 python3 "$top/tests/keys.py" 25844 $keys 2>&1)
+  problem=$(timeout 60 python3 "$top/tests/keys.py" "$screen" $keys 2>&1)
   verdict "keys: $keys" $? "$(tail -n 1 <<<"$problem")"
 done
-printf 'version = 2\nudp_port = 25844\n[[port]]\nnumber = 1\n[[port.range]]\nuniverse = 1\nslot = 1\ncount = 512\nport_slot = 1\n' >keys.toml
+printf 'version = 2\nudp_port = %s\n[[port]]\nnumber = 1\n[[port.range]]\nuniverse = 1\nslot = 1\ncount = 512\nport_slot = 1\n' "$screen" >keys.toml
 printf '. "%s/tools/run.sh"\nrun "%s" gateway keys.toml --watch\n' "$top" "$sacn" >launcher
-problem=$(timeout 60 python3 "$top/tests/keys.py" 25844 gateway 2>&1)
+problem=$(timeout 60 python3 "$top/tests/keys.py" "$screen" gateway 2>&1)
 verdict "keys of a gateway's screen" $? "$(tail -n 1 <<<"$problem")"
-problem=$(timeout 120 python3 "$top/tests/keys.py" 25844 told -15 2>&1)
+problem=$(timeout 120 python3 "$top/tests/keys.py" "$screen" told -15 2>&1)
 verdict "keys of a gateway's screen: told -15" $? "$(tail -n 1 <<<"$problem")"
 # (a line at a time, where no launcher tells the terminal otherwise)
-printf 'exec "%s" watch --port 25844\n' "$sacn" >launcher
-problem=$(timeout 60 python3 "$top/tests/keys.py" 25844 lines 2>&1)
+printf 'exec "%s" watch --port %s\n' "$sacn" "$screen" >launcher
+problem=$(timeout 60 python3 "$top/tests/keys.py" "$screen" lines 2>&1)
 verdict "keys without the launcher" $? "$(tail -n 1 <<<"$problem")"
 
 # A gateway shows what it hears on its terminal, in place of its frames; what it says on standard error stands below, and on the terminal once the screen is left.
-printf 'version = 2\nudp_port = 25840\n[[port]]\nnumber = 1\n[[port.range]]\nuniverse = 1\nslot = 1\ncount = 512\nport_slot = 1\n' >node.toml
+printf 'version = 2\nudp_port = %s\n[[port]]\nnumber = 1\n[[port.range]]\nuniverse = 1\nslot = 1\ncount = 512\nport_slot = 1\n' "$shown" >node.toml
 printf '. "%s/tools/run.sh"\nrun "%s" gateway node.toml --watch "$@"\n' "$top" "$sacn" >launcher
 status=0
-problem=$(COLUMNS=80 ROWS=24 timeout 20 python3 terminal.py drawn 25840 go bash launcher --seconds 4 2>&1) || status=$?
+problem=$(COLUMNS=80 ROWS=24 timeout 20 python3 terminal.py drawn "$shown" go bash launcher --seconds 4 2>&1) || status=$?
 [ "$status" = 0 ] && grep -q 'Aff' drawn && below | grep -q '^sacn watch ' && below | grep -qE '^A +1 ' && ! below | grep -q $'\x1b' && ! grep -qE '^1 [0-9]+ 00' drawn
 verdict "a gateway's screen" $? "status $status $(tail -n 1 <<<"$problem")"
 # (as plain text: in no colour, and not bold; of a line that is longer than the row, its front)
@@ -385,27 +369,27 @@ verdict "what the gateway says is left on the terminal" $? "$(below | grep -c un
 # (256 octets of a line end inside of a letter: 9, 200, 2, 44, and the first of two. Nothing is sent to this one, so the line stays the newest.)
 letters() { printf 'é%.0s' $(seq "$1"); }
 status=0
-problem=$(COLUMNS=300 ROWS=24 timeout 20 python3 terminal.py drawn 25842 go bash launcher --widget "1=$(letters 100)/x$(letters 100)" --seconds 2 2>&1) || status=$?
+problem=$(COLUMNS=300 ROWS=24 timeout 20 python3 terminal.py drawn "$quiet" go bash launcher --widget "1=$(letters 100)/x$(letters 100)" --seconds 2 2>&1) || status=$?
 [ "$status" = 0 ] && LC_ALL=C grep -qE $'\x1b\\[[0-9]+;1H(\x1b\\[0m)?'"widget 1 $(letters 100)/x$(letters 22)"$'[ \x1b]' drawn
 verdict "a long line on it ends behind a letter" $? "status $status $(tail -n 1 <<<"$problem") $(grep -c widget drawn)"
 status=0
-problem=$(COLUMNS=80 ROWS=24 timeout 20 python3 terminal.py drawn 25840 stop bash launcher 2>&1) || status=$?
+problem=$(COLUMNS=80 ROWS=24 timeout 20 python3 terminal.py drawn "$shown" stop bash launcher 2>&1) || status=$?
 [ "$status" -ge 99 ] && grep -q 'Aff' drawn && grep -q $'\x1b\[?1049l' drawn
 verdict "Ctrl-C ends a gateway with a screen, and gives the terminal back" $? "status $status $(tail -n 1 <<<"$problem")"
 [ "$(below | grep -cE '^"[^"]*" [0-9a-f]{4}\.\.[0-9a-f]{2} at 127.0.0.1, priority [0-9]+, universe 1: came$')" = 2 ]
 verdict "what it had said is left on the terminal then, too" $? "$(below | grep -c universe)"
 status=0
 "$sacn" gateway node.toml --watch --seconds 1 </dev/null >out 2>err || status=$?
-[ "$status" = 0 ] && grep -qE '^1 0 0000' out && grep -q '^hears 0.0.0.0:25840$' err
+[ "$status" = 0 ] && grep -qE '^1 0 0000' out && grep -q "^hears 0.0.0.0:$shown\$" err
 verdict "a gateway's screen where there is no terminal: its frames" $? "status $status $(head -c 80 out)"
 ends_gateway() { local status=0; "$sacn" gateway node.toml "$@" </dev/null >out 2>err || status=$?; [ "$status" = 2 ] && grep -q '^error: ' err; }
-ends_gateway --watch --page 25841
+ends_gateway --watch --page 8080
 verdict "a screen and a page are refused together" $? "$(head -n 1 err)"
 # (Ctrl-S at the terminal: it takes nothing, and the light goes on; once it takes again it has the newest levels)
-problem=$(timeout 60 python3 "$top/tests/screens.py" stuck 2>&1)
+problem=$(timeout 60 python3 "$top/tests/screens.py" "$shown" stuck 2>&1)
 verdict "a stuck terminal holds no light up" $? "$(tail -n 1 <<<"$problem")"
 # (Ctrl-S while a gateway ends, whose rows are more than what waits has room for: the terminal is given back once it takes again, within two seconds)
-problem=$(timeout 60 python3 "$top/tests/screens.py" given_back 2>&1)
+problem=$(timeout 60 python3 "$top/tests/screens.py" "$shown" given_back 2>&1)
 verdict "a terminal that is stuck at the end is given back, and told what is lost" $? "$(tail -n 1 <<<"$problem")"
 
 # The launcher tells a watch the terminal's size, whatever it is.
@@ -415,36 +399,32 @@ printf 'unset LINES COLUMNS\n. "%s/tools/run.sh"\nrun "%s/told" watch\n' "$top" 
 for size in "80 24" "160 50" "20 5"; do
   read -r columns rows <<<"$size"
   status=0
-  problem=$(COLUMNS=$columns ROWS=$rows timeout 20 python3 terminal.py drawn 25833 go bash sized 2>&1) || status=$?
+  problem=$(COLUMNS=$columns ROWS=$rows timeout 20 python3 terminal.py drawn "$screen" go bash sized 2>&1) || status=$?
   [ "$status" = 0 ] && grep -q "^rows $rows columns $columns"$'\r$' drawn
   verdict "the launcher tells the size of a terminal of $columns by $rows" $? "status $status $(head -n 1 drawn) $(tail -n 1 <<<"$problem")"
 done
 
 # A terminal that is resized: the screen follows it, and all its rows stay behind.
 if ! command -v tmux >/dev/null; then
-  echo "skipped watch: a terminal that is resized: no tmux"
+  skips "a terminal that is resized" "no tmux"
   exit 0
 fi
-sed "s/^universes = .*/universes = [$(seq -s ', ' 40)]/; s/25831/25835/" show.toml >many.toml
-printf 'unset LINES COLUMNS\n. "%s/tools/run.sh"\n(run "%s" watch --port 25835)\necho "status $?"\nread -r\n' "$top" "$sacn" >resized
+sed "s/^universes = .*/universes = [$(seq -s ', ' 40)]/; s/$udp/$many/" show.toml >many.toml
+printf 'unset LINES COLUMNS\n. "%s/tools/run.sh"\n(run "%s" watch --port %s)\necho "status $?"\nread -r\n' "$top" "$sacn" "$many" >resized
 pane -f /dev/null new-session -d -s resized -x 160 -y 50 bash resized
-printf 'unset LINES COLUMNS\n. "%s/tools/run.sh"\nrun "%s" watch --port 25838\n' "$top" "$sacn" >unheard
+printf 'unset LINES COLUMNS\n. "%s/tools/run.sh"\nrun "%s" watch --port %s\n' "$top" "$sacn" "$unheard" >unheard
 pane new-session -d -s unheard -x 80 -y 24 bash unheard
 # (nothing can be written to the folder for files that pass, as on a disk that is full)
-printf 'unset LINES COLUMNS\nset -eu\nmount -t tmpfs -o size=4k none "%s/full"\nhead -c 4096 /dev/zero >"%s/full/all"\nexport TMPDIR="%s/full"\n. "%s/tools/run.sh"\n(run "%s" watch --port 25839) && status=0 || status=$?\nstty -a | grep -oE -e "-?echo\\b" | head -n 1\necho "status $status"\nread -r\n' \
-  "$room" "$room" "$room" "$top" "$sacn" >full.sh
+printf 'unset LINES COLUMNS\nset -eu\nmount -t tmpfs -o size=4k none "%s/full"\nhead -c 4096 /dev/zero >"%s/full/all"\nexport TMPDIR="%s/full"\n. "%s/tools/run.sh"\n(run "%s" watch --port %s) && status=0 || status=$?\nstty -a | grep -oE -e "-?echo\\b" | head -n 1\necho "status $status"\nread -r\n' \
+  "$room" "$room" "$room" "$top" "$sacn" "$quiet" >full.sh
 mkdir full
 if unshare -m true 2>/dev/null; then pane new-session -d -s full -x 80 -y 24 unshare -m bash full.sh; fi
 "$sacn" desk many.toml --script stay.txt --stay </dev/null >desk.out 2>&1 &
-started+=("$!")
-# shows ROWS ROW PATTERN [SESSION]: within ten seconds a screen of so many rows has such a row there
-shows() {
-  for _ in $(seq 100); do
-    pane capture-pane -p -t "${4-resized}" >shown
-    [ "$(wc -l <shown)" = "$1" ] && sed -n "$2p" shown | grep -qE -- "$3" && return 0
-    sleep 0.1
-  done
-  return 1
+# shows ROWS ROW PATTERN [SESSION]: soon a screen of so many rows has such a row there
+shows() { wait_until has_row "$@"; }
+has_row() {
+  pane capture-pane -p -t "${4-resized}" >shown
+  [ "$(wc -l <shown)" = "$1" ] && sed -n "$2p" shown | grep -qE -- "$3"
 }
 shows 50 43 '^A +[0-9]+ sending ' && shows 50 45 '^universe [0-9]+: slots above 0'
 verdict "a terminal of 160 by 50" $? "$(sed -n 43,45p shown)"
@@ -458,23 +438,22 @@ pane resize-window -t resized -x 160 -y 50
 shows 50 43 '^A +[0-9]+ sending ' && shows 50 45 '^universe [0-9]+: slots above 0'
 verdict "and back" $? "$(sed -n 43,45p shown)"
 pane send-keys -t resized C-c
-# stays PATTERN [SESSION]: within ten seconds such a line stands on the terminal, or above what is seen of it
-stays() {
-  for _ in $(seq 100); do pane capture-pane -p -t "${2-resized}" -S - >shown; grep -qE -- "$1" shown && return 0; sleep 0.1; done
-  return 1
+# stays PATTERN [SESSION]: soon such a line stands on the terminal, or above what is seen of it
+stays() { wait_until has_line "$@"; }
+has_line() {
+  pane capture-pane -p -t "${2-resized}" -S - >shown
+  grep -qE -- "$1" shown
 }
 stays '^status 0$' && stays '^sacn watch  sources on universes 40 ' && stays '^A +1 sending ' && stays '^A +40 sending '
 verdict "all its rows stay on the terminal" $? "$(tail -n 3 shown)"
-shows 24 4 '^nothing heard for 5 s at 0\.0\.0\.0:25838$' unheard && shows 24 5 '^groups are heard where a device joins them: --join DEVICE$' unheard
+shows 24 4 "^nothing heard for 5 s at 0\.0\.0\.0:$unheard\$" unheard && shows 24 5 '^groups are heard where a device joins them: --join DEVICE$' unheard
 verdict "a screen on which nothing is heard says so" $? "$(sed -n 4,5p shown)"
 # (a socket that shares nothing gets the port once no watch has it)
 pane kill-session -t unheard
-for _ in $(seq 50); do
-  python3 -c 'import socket; socket.socket(socket.AF_INET, socket.SOCK_DGRAM).bind(("0.0.0.0", 25838))' 2>/dev/null && break
-  sleep 0.1
-done
-! pgrep -f "watch --port 25838" >/dev/null
-verdict "a terminal that is closed ends its watch" $? "$(pgrep -af "watch --port 25838" | head -n 1)"
+is_free() { python3 -c 'import socket, sys; socket.socket(socket.AF_INET, socket.SOCK_DGRAM).bind(("0.0.0.0", int(sys.argv[1])))' "$unheard" 2>/dev/null; }
+wait_until is_free
+! pgrep -f "watch --port $unheard" >/dev/null
+verdict "a terminal that is closed ends its watch" $? "$(pgrep -af "watch --port $unheard" | head -n 1)"
 if pane has-session -t full; then
   shows 24 1 '^sacn watch ' full
   pane resize-window -t full -x 60 -y 20
@@ -483,5 +462,5 @@ if pane has-session -t full; then
   stays '^status 0$' full && stays '^sacn watch  sources on universes 0 ' full && stays '^echo$' full
   verdict "a size that can't be written is none, and ends nothing" $? "$(tail -n 3 shown)"
 else
-  echo "skipped watch: a size that can't be written: no namespaces of mounts can be made here"
+  skips "a size that can't be written" "no namespaces of mounts can be made here"
 fi

@@ -2,28 +2,21 @@
 # The words and files of the commands that run a rig, and how each faulty one is refused: status, and the first line on standard error, after which a
 # `*` stands for anything. Prints 'ok NAME', 'not ok NAME: why' or 'skipped NAME: why' for each run, as ./test counts them.
 set -u
-top=$(cd "$(dirname "$(readlink -f "$0")")/.." && pwd)
-sacn=${SACN:-$top/crates/sacn/out/sacn}
-if [ ! -x "$sacn" ]; then
-  echo "skipped words: sacn isn't built"
-  exit 0
-fi
-room=$(mktemp -d)
-trap 'rm -rf "$room"' EXIT
-cd "$room" || exit 1
+# shellcheck source=tests/lib.sh
+. "$(dirname "$(readlink -f "$0")")/lib.sh"
+need sacn
+port=$(free_udp_port)
 
 # refused STATUS WANTED WORD..: a run without input prints nothing, and ends so
 refused() {
-  local wanted=$1 said=$2 status=0 first
+  local wanted=$1 said=$2 status=0 first name
   shift 2
+  name=$(head -c 90 <<<"$*")
   timeout 20 "$sacn" "$@" <&- >out 2>err || status=$?
   first=$(head -n 1 err)
   # shellcheck disable=SC2053
-  if [ "$status" = "$wanted" ] && [[ $first == $said ]] && [ ! -s out ]; then
-    echo "ok words: $(head -c 90 <<<"$*")"
-  else
-    echo "not ok words: $*: status $status, '$first'"
-  fi
+  [ "$status" = "$wanted" ] && [[ $first == $said ]] && [ ! -s out ]
+  verdict "$name" $? "$* ends with status $status, '$first'"
 }
 
 # The words of a gateway: addresses, interfaces, seconds.
@@ -127,7 +120,8 @@ read_input() {
   local wanted=$1 said=$2 status=0
   shift 2
   timeout 20 "$sacn" "$@" >out 2>err || status=$?
-  if [ "$status" = "$wanted" ] && [ "$(head -n 1 err out | grep -cxF -- "$said")" = 1 ]; then echo "ok words: $* < FILE"; else echo "not ok words: $* < FILE: status $status, '$(head -n 1 err)'"; fi
+  [ "$status" = "$wanted" ] && [ "$(head -n 1 err out | grep -cxF -- "$said")" = 1 ]
+  verdict "$* < FILE" $? "status $status, '$(head -n 1 err)'"
 }
 read_input 3 "refused - Version" gateway - < <(printf 'version = 3\n')
 read_input 0 "ip address add 239.255.0.1/32 dev eth0 autojoin" groups - --device eth0 <"$top/examples/node.toml"
@@ -184,11 +178,8 @@ placed() {
   local wanted=$1
   shift
   timeout 20 "$sacn" "$@" <&- >out 2>err
-  if [ "$(sed 1d err)" = "$wanted" ]; then
-    echo "ok words: what is wrong is said: $*"
-  else
-    echo "not ok words: what is wrong: $*: $(sed 1d err | head -n 2)"
-  fi
+  [ "$(sed 1d err)" = "$wanted" ]
+  verdict "what is wrong is said: $*" $? "$(sed 1d err | head -n 2)"
 }
 printf 'version = 1\ncolour = 1\n' >faulty
 placed "faulty: colour: 1: UnknownKey: the keys here are version, udp_port, port" gateway faulty
@@ -201,12 +192,12 @@ printf '0 jump\n' >script
 placed "script: line 1: 0 jump: UnknownWord: MOMENT and go, goto CUE, set CHANNEL LEVEL, master LEVEL, end UNIVERSE or start UNIVERSE" desk show --script script
 
 # An address that isn't this machine's (192.0.2.0/24 is nobody's).
-printf 'version = 1\nudp_port = 25892\n' >setup
-refused 4 "device socket 192.0.2.1:25892 AddrNotAvailable" gateway setup --listen 192.0.2.1
+printf 'version = 1\nudp_port = %s\n' "$port" >setup
+refused 4 "device socket 192.0.2.1:$port AddrNotAvailable" gateway setup --listen 192.0.2.1
 
 # An interface for a port that the setup hasn't.
 refused 2 "error: 7=/dev/null: NoPort" gateway setup --widget 7=/dev/null
-printf 'version = 1\nudp_port = 25892\n[[port]]\nnumber = 1\nuniverse = 1\n' >ported
+printf 'version = 1\nudp_port = %s\n[[port]]\nnumber = 1\nuniverse = 1\n' "$port" >ported
 refused 2 "error: 2=/dev/zero: NoPort" gateway ported --widget 1=/dev/null --widget 2=/dev/zero
 refused 2 "error: 1=/dev/null: DeviceTaken" gateway ported --widget 1=/dev/null --widget 1=/dev/null
 
@@ -214,11 +205,8 @@ refused 2 "error: 1=/dev/null: DeviceTaken" gateway ported --widget 1=/dev/null 
 helps() {
   local status=0
   "$sacn" $1 --help >out 2>err || status=$?
-  if [ "$status" = 0 ] && grep -qF -- "$2" out && [ ! -s err ]; then
-    echo "ok words: help of ${1:-the program}: $2"
-  else
-    echo "not ok words: help of ${1:-the program}: no '$2' (status $status)"
-  fi
+  [ "$status" = 0 ] && grep -qF -- "$2" out && [ ! -s err ]
+  verdict "help of ${1:-the program}: $2" $? "it isn't there (status $status)"
 }
 for command in decode sim node console gateway desk groups; do helps "" "./sacn $command examples/"; done
 helps decode "Files of one datagram each"
@@ -239,15 +227,13 @@ help_is_kept() {
   local kept=$1 word
   shift
   for word in -h --help; do
-    if "$sacn" "$@" $word 2>err </dev/null | cmp -s - "$kept" && [ ! -s err ]; then
-      echo "ok words: $* $word, as it is kept"
-    else
-      echo "not ok words: $* $word is not what $kept has: tools/help.sh writes it anew"
-    fi
+    "$sacn" "$@" $word 2>err </dev/null | cmp -s - "$kept" && [ ! -s err ]
+    verdict "$* $word, as it is kept" $? "it is not what $kept has: tools/help.sh writes it anew"
   done
 }
 help_is_kept "$top/docs/help.txt"
 commands=$("$sacn" --help </dev/null | sed -n '/^Commands:/,/^$/s/^  \([a-z]*\) .*/\1/p')
 for command in $commands; do help_is_kept "$top/docs/help/$command.txt" "$command"; done
 kept=$(cd "$top/docs/help" && printf '%s\n' *.txt | sed 's/\.txt$//' | sort)
-if [ "$kept" = "$(sort <<<"$commands")" ]; then echo "ok words: help is kept of each command, and of no other"; else echo "not ok words: help is kept of $kept, and the commands are $commands"; fi
+[ "$kept" = "$(sort <<<"$commands")" ]
+verdict "help is kept of each command, and of no other" $? "of $kept, and the commands are $commands"

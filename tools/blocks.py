@@ -1,5 +1,5 @@
 #!/usr/bin/env python3
-"""Measures how late light is beside what blocks, or is gone. The gate doesn't run it; tests/light.sh says what must be so.
+"""Measures how late light is beside what blocks, or is gone. The gate doesn't run it; tests/nothing_blocks.sh says what must be so.
 
 usage: blocks.py [absent] [flood] [viewers] [unread]
 
@@ -22,7 +22,7 @@ import time
 TOP = os.path.dirname(os.path.dirname(os.path.realpath(__file__)))
 sys.path.insert(0, f"{TOP}/tests")
 sys.dont_write_bytecode = True
-import light
+import nothing_blocks
 import stage
 from stage import SACN, PORT
 
@@ -79,7 +79,7 @@ def flood():
     desk.order("go\n", "^ok")
     time.sleep(2)
     before = len(lines.lines)
-    floods = [stage.start([sys.executable, f"{TOP}/tests/light.py", "flooding", "150000"]) for _ in range(2)]
+    floods = [stage.start([sys.executable, f"{TOP}/tests/nothing_blocks.py", "flooding", "150000"]) for _ in range(2)]
     sent, begin = sent_so_far(), time.monotonic()
     time.sleep(20)
     sent, took = sent_so_far() - sent, time.monotonic() - begin
@@ -114,9 +114,9 @@ def send_many(seconds):
 
 
 def viewers(seconds=60):
-    light.page()
+    nothing_blocks.page()
     # (16 universes at most are merged at once)
-    lines = [light.asked(f"/events?universe={1 + n % 16}") for n in range(32)]
+    lines = [nothing_blocks.asked(f"/events?universe={1 + n % 16}") for n in range(32)]
     reader = os.fork()
     if reader == 0:
         while True:
@@ -131,7 +131,7 @@ def viewers(seconds=60):
     os.waitpid(reader, 0)
     heard = None
     for _ in range(100):
-        line, text = light.asked("/state"), b""
+        line, text = nothing_blocks.asked("/state"), b""
         line.settimeout(5)
         try:
             while octets := line.recv(1 << 20):
@@ -150,7 +150,7 @@ def viewers(seconds=60):
 
 def unread():
     works = stage.Interface("works")
-    stage.gateway(light.widgets([*light.stuck_interfaces(12), works]), ports=13)
+    stage.gateway(nothing_blocks.widgets([*nothing_blocks.stuck_interfaces(12), works]), ports=13)
     console = stage.Console()
     console.fade(80)
     delays = []

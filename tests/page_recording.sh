@@ -3,61 +3,42 @@
 # from the packets; refusals, a faulty recording, viewers at different moments, and a long recording. Prints 'ok NAME', 'not ok NAME: why' or
 # 'skipped NAME: why' for each, as ./test counts them.
 set -u
-top=$(cd "$(dirname "$(readlink -f "$0")")/.." && pwd)
-sacn=${SACN:-$top/crates/sacn/out/sacn}
-if [ ! -x "$sacn" ]; then
-  echo "skipped recording: sacn isn't built"
-  exit 0
-fi
-for tool in curl python3; do
-  if ! command -v "$tool" >/dev/null; then
-    echo "skipped recording: there is no $tool"
-    exit 0
-  fi
-done
-room=$(mktemp -d)
-started=()
-cleanup() {
-  for pid in "${started[@]:-}"; do [ -z "$pid" ] || kill "$pid" 2>/dev/null; done
-  rm -rf "$room"
-}
-trap cleanup EXIT
-cd "$room" || exit 1
-tcp=25851
+# shellcheck source=tests/lib.sh
+. "$(dirname "$(readlink -f "$0")")/lib.sh"
+need sacn curl python3
+label="recording: "
+tcp=$(free_tcp_port)
 at=http://127.0.0.1:$tcp
 ola=$top/examples/ola.pcap
 
-# verdict NAME STATUS [WHY]: says whether a look went well
-verdict() { if [ "$2" = 0 ]; then echo "ok recording: $1"; else echo "not ok recording: $1: ${3-}"; fi; }
-
-# refused STATUS WANTED WORD..: a run ends so, and prints nothing
+# refused STATUS WANTED WORD..: a run ends so, and prints nothing; its name has the same number in place of the port of each run
 refused() {
-  local wanted=$1 said=$2 status=0 first
+  local wanted=$1 said=$2 status=0 first name
   shift 2
+  name="explain $(head -c 60 <<<"${*//$tcp/25851}")"
   timeout 20 "$sacn" explain "$@" </dev/null >out 2>err || status=$?
   first=$(head -n 1 err)
   # shellcheck disable=SC2053
   [ "$status" = "$wanted" ] && [[ $first == $said ]] && [ ! -s out ]
-  verdict "explain $(head -c 60 <<<"$*")" $? "status $status, '$first'"
+  verdict "$name" $? "status $status, '$first'"
 }
-refused 4 "device read absent" absent --page $tcp
-refused 4 "device read $room" "$room" --page $tcp
-refused 4 "device socket 192.0.2.1:$tcp AddrNotAvailable" "$ola" --page 192.0.2.1:$tcp
+refused 4 "device read absent" absent --page "$tcp"
+refused 4 "device read $room" "$room" --page "$tcp"
+refused 4 "device socket 192.0.2.1:$tcp AddrNotAvailable" "$ola" --page 192.0.2.1:"$tcp"
 printf 'a text, and no recording at all' >plain
-refused 3 "refused plain octet 0 NotACapture" plain --page $tcp
+refused 3 "refused plain octet 0 NotACapture" plain --page "$tcp"
 mkfifo pipe
 cat "$ola" >pipe &
-refused 4 "device read pipe" pipe --page $tcp
+refused 4 "device read pipe" pipe --page "$tcp"
 
 # serves WORD..: a recording whose page is served, until the script ends it
 serves() {
   # (before the start, so that the line of an earlier one isn't taken for this one's)
   : >page.err
-  "$sacn" explain "$@" --page $tcp </dev/null >page.out 2>page.err &
+  "$sacn" explain "$@" --page "$tcp" </dev/null >page.out 2>page.err &
   page=$!
-  started+=("$page")
-  for _ in $(seq 300); do grep -q '^page' page.err && return; sleep 0.1; done
-  echo "not ok recording: it serves none: $(head -n 1 page.err)"
+  wait_for_line page.err '^page' 30 && return
+  verdict "it serves one" 1 "$(head -n 1 page.err)"
   exit 1
 }
 # ends: the program that serves is ended
@@ -94,7 +75,7 @@ zeros() { printf "%0$1d" 0; }
 serves "$ola"
 [ "$(cat page.err)" = "page http://127.0.0.1:$tcp/" ] && [ ! -s page.out ]
 verdict "where it serves" $? "$(cat page.err)"
-answers "the page" 200 $at/
+answers "the page" 200 "$at"/
 has "the page is that of a recording" '<html lang="en" data-shows="recording">' 'id="time" type="range"'
 [ "$(wc -c <body)" -lt 61440 ]
 verdict "the page is under 60 KB" $? "$(wc -c <body)"
@@ -121,11 +102,11 @@ for query in '' '?at=5970' '?at=5971' '?at=18446744073709551615'; do
 done
 answers "another universe" 200 "$at/state?universe=7&at=500"
 has "another universe is dark" '"universe":7,"heard":[1],' "\"levels\":\"$(zeros 1024)\""
-answers "the recording as a whole" 200 $at/recording
+answers "the recording as a whole" 200 "$at"/recording
 [ "$(cat body)" = '{"name":"ola.pcap","length":5970,"start":1795393742057,"fault":null}' ]
 verdict "what is known of it" $? "$(cat body)"
-answers "events of a recording" 404 $at/events
-answers "an audit of a recording" 404 $at/audit
+answers "events of a recording" 404 "$at"/events
+answers "an audit of a recording" 404 "$at"/audit
 for query in at= at=x at=-1 at=+1 at=1.5 at=18446744073709551616; do
   answers "the moment $query" 400 "$at/state?$query"
   has "$query is refused by name" 'at is a moment of a recording: milliseconds'
@@ -151,24 +132,12 @@ verdict "a faulty recording ends with its status" $? "$status"
 
 # Two sources and 20 universes, written octet by octet (E1.31, 5 to 8; pcap of Ethernet).
 cat >write.py <<'P'
-import struct, sys
+import sys
+from e131 import Recording
+import e131
 
-def data(cid, name, universe, number, slots=b"", priority=100, options=0):
-    dmp = struct.pack(">HBBHHHB", 0x7000 | 11 + len(slots), 2, 0xa1, 0, 1, 1 + len(slots), 0) + slots
-    head = struct.pack(">I64sBHBBH", 2, name, priority, 0, number % 256, options, universe)
-    rest = struct.pack(">H", 0x7000 | 2 + len(head) + len(dmp)) + head + dmp
-    return b"\0\x10\0\0ASC-E1.17\0\0\0" + struct.pack(">HI", 0x7000 | 22 + len(rest), 4) + cid + rest
-
-class Recording:
-    def __init__(self, path):
-        self.file = open(path, "wb")
-        self.file.write(struct.pack("<IHHIIII", 0xa1b2c3d4, 2, 4, 0, 0, 65535, 1))
-
-    def sent(self, moment, host, payload):
-        udp = struct.pack(">HHHH", 5000, 5568, 8 + len(payload), 0) + payload
-        ip = struct.pack(">BBHHHBBH", 0x45, 0, 20 + len(udp), 0, 0, 64, 17, 0) + bytes([10, 0, 0, host, 239, 255, 0, 1])
-        octets = bytes(12) + b"\x08\0" + ip + udp
-        self.file.write(struct.pack("<IIII", 1000 + moment // 1000, moment % 1000 * 1000, len(octets), len(octets)) + octets)
+def data(cid, name, universe, number, slots):
+    return e131.data(universe, number, slots, cid, name)
 
 A, B = bytes([0xaa]) * 16, bytes([0xbb]) * 16
 if sys.argv[1] == "two":
@@ -176,7 +145,7 @@ if sys.argv[1] == "two":
     r.sent(0, 1, data(A, b"<b>Main & more", 1, 0, b"\x10\x20"))
     for universe in range(101, 120):
         r.sent(100, 2, data(B, b"Spare", universe, 0, bytes([universe])))
-    r.sent(500, 2, data(B, b"Spare", 1, 0, b"\x30\x08", priority=100))
+    r.sent(500, 2, data(B, b"Spare", 1, 0, b"\x30\x08"))
     r.sent(400, 1, data(A, b"<b>Main & more", 1, 4, b"\x11\x20"))
     r.sent(10000, 1, data(A, b"<b>Main & more", 1, 5, b"\x12"))
 else:
@@ -240,7 +209,7 @@ for _ in $(seq 5); do
     curl -s -m 30 -o "state.$moment" "$at/state?at=$moment" &
     asked+=("$!")
   done
-  [ "$(curl -s -m 30 -o body -w '%{http_code}' $at/recording)" = 200 ] && count=$((count + 1))
+  [ "$(curl -s -m 30 -o body -w '%{http_code}' "$at"/recording)" = 200 ] && count=$((count + 1))
   wait "${asked[@]}"
 done
 [ "$count" = 5 ]
@@ -268,7 +237,7 @@ for number in range(60):
     if seen != wanted or (row["universe"], row["live"], row["last"], row["skipped"], row["late"]) != (universe, turn + 1, 25 * turn, 0, 0):
         sys.exit(f"look {number}, universe {universe} at {moment} ms: {seen[:2]}, {seen[2][:4]}, {seen[3:]}, {row}")
 P
-python3 moments.py $at 2>wrong
+python3 moments.py "$at" 2>wrong
 verdict "moments by chance, earlier and later ones" $? "$(tail -n 1 wrong)"
 memory=$(sed -n 's/^VmRSS:[^0-9]*\([0-9]*\).*/\1/p' "/proc/$page/status")
 [ "${memory:-0}" -gt 0 ] && [ "$memory" -lt 40000 ]
@@ -299,7 +268,8 @@ answers "the state beside 200 who don't ask" 200 -m 10 "$at/state"
 [[ $(timeout 5 cat <&"${lines[0]}" 2>cat.err) == "HTTP/1.1 503 "* ]]
 verdict "the one that waited longest is told" $? "$(cat cat.err)"
 for line in "${lines[@]}"; do exec {line}>&-; done
-for _ in $(seq 100); do [ "$(curl -s -m 10 -o body -w '%{http_code}' "$at/state?at=0")" = 200 ] && break; sleep 0.1; done
+is_answered() { [ "$(curl -s -m 10 -o body -w '%{http_code}' "$at/state?at=0")" = 200 ]; }
+wait_until is_answered
 answers "the state once they went" 200 "$at/state?at=0"
 has "200 packets at the start" '"counts":{"datagrams":200,'
 ends

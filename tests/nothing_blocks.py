@@ -1,5 +1,5 @@
 #!/usr/bin/env python3
-"""The looks of light.sh, one by its name: light.py NAME. What was seen goes to standard error.
+"""The looks of nothing_blocks.sh, one by its name: nothing_blocks.py NAME. What was seen goes to standard error.
 
 It ends with 0 where the look goes well, 1 where it doesn't, and 77 where it can't be had here. Where SPACE is set, it is in a network
 namespace of its own, which it changes as it needs. It takes the built program of SACN.
@@ -23,13 +23,13 @@ sys.dont_write_bytecode = True
 import stage
 
 # (main takes each look by its name)
-from light_absent import (  # noqa: F401
+from nothing_blocks_absent import (  # noqa: F401
     hosts_are_off_while_a_universe_rests, most_hosts_are_off_at_1024_universes, most_hosts_are_off_at_16_universes, most_hosts_are_off_at_170_universes,
     twenty_hosts_are_absent, two_hosts_are_absent,
 )
-from light_lives import another_life_lights_at_once, one_life_follows_another  # noqa: F401
+from nothing_blocks_lives import another_life_lights_at_once, one_life_follows_another  # noqa: F401
 from stage import (
-    Console, Desk, finish, first_level, gateway, Heard, Interface, Lines, narrow, packet, PORT, ROOM, SACN,
+    Console, Desk, finish, first_level, gateway, Heard, Interface, Lines, narrow, packet, PAGE, PORT, ROOM, SACN,
     said, sender, show, start, tell, text_of, TOP, udp, want, write,
 )
 
@@ -258,8 +258,8 @@ def a_stopped_watch():
 
 
 def asked(path, is_whole=True):
-    line = socket.create_connection(("127.0.0.1", 8080), timeout=10)
-    line.sendall(f"GET {path} HTTP/1.1\r\nHost: 127.0.0.1:8080\r\n".encode() + (b"\r\n" if is_whole else b""))
+    line = socket.create_connection(("127.0.0.1", PAGE), timeout=10)
+    line.sendall(f"GET {path} HTTP/1.1\r\nHost: 127.0.0.1:{PAGE}\r\n".encode() + (b"\r\n" if is_whole else b""))
     return line
 
 
@@ -273,7 +273,7 @@ def answer_of(line):
 
 
 def page():
-    start([SACN, "watch", "--listen", "127.0.0.1", "--port", str(PORT), "--page", "8080"], stdin=subprocess.PIPE, stdout=subprocess.DEVNULL, stderr=open(f"{ROOM}/said", "w", encoding="utf-8"))
+    start([SACN, "watch", "--listen", "127.0.0.1", "--port", str(PORT), "--page", str(PAGE)], stdin=subprocess.PIPE, stdout=subprocess.DEVNULL, stderr=open(f"{ROOM}/said", "w", encoding="utf-8"))
     said("said", "page http")
 
 

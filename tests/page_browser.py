@@ -2,7 +2,7 @@
 """Looks at the page of a watch: first with 32 viewers, one of which never reads, while 200 universes come at 44 packets a second; then in a headless Chromium,
 against a desk on loopback; then at 30 universes, of which two have alarms; then at the page of a recording, moved by its keys, its alarms and its button. Prints 'ok NAME', 'not ok NAME: why' or 'skipped NAME: why' for each look.
 
-usage: browser.py SACN [PICTURES]
+usage: page_browser.py SACN [PICTURES]
 
 SACN is the built program; where PICTURES names a folder, pictures of the page are put there.
 """
@@ -12,18 +12,18 @@ import os
 import shutil
 import signal
 import socket
-import struct
 import sys
 import tempfile
 import threading
 import time
 import urllib.request
 from chromium import Browser, are_seen, packet, start, started, verdict
+import e131
 
 SACN = sys.argv[1]
 PICTURES = sys.argv[2] if len(sys.argv) > 2 else None
 ROOM = tempfile.mkdtemp()
-UDP, PAGE = 25841, 25842
+UDP, PAGE = e131.free_udp_port(), e131.free_tcp_port()
 NAME = "<img src=x onerror=document.title='owned'>"
 SHOW = f"""version = 1
 cid = "00010203-0405-0607-0809-0a0b0c0d0e0f"
@@ -108,8 +108,10 @@ def crowded():
         time.sleep(max(0, begin + (turn + 1) / 44 - time.monotonic()))
     took = time.monotonic() - begin
     viewers[0].shutdown(socket.SHUT_RDWR)
-    time.sleep(0.5)
-    told = document()["counts"]["datagrams"]
+    told, limit = document()["counts"]["datagrams"], time.monotonic() + 5
+    while told != sent and time.monotonic() < limit:
+        time.sleep(0.05)
+        told = document()["counts"]["datagrams"]
     verdict("32 viewers, of which one never reads, cost no datagram", told == sent, f"{told} of {sent} in {took:.1f} s")
     slow = [sum(counts) for counts in seen if not 60 <= sum(counts) <= 120]
     verdict("each that reads has some ten events a second", not slow, f"{slow}")
@@ -318,18 +320,12 @@ def many(browser):
 
 def record(path):
     """A recording of 20 s (pcap of Ethernet): universe 1 twice a second, and universe 2 from 5 s to 12 s, where its stream ends."""
-    packets = []
+    recording = e131.Recording(path)
     for turn in range(41):
-        packets.append((turn * 500, packet(1, turn, NAME.encode())))
+        recording.sent(turn * 500, 1, packet(1, turn, NAME.encode()))
         if 10 <= turn <= 24:
-            packets.append((turn * 500, packet(2, turn, b"Spare", 0x40 if turn == 24 else 0)))
-    with open(path, "wb") as out:
-        out.write(struct.pack("<IHHIIII", 0xA1B2C3D4, 2, 4, 0, 0, 65535, 1))
-        for moment, payload in packets:
-            udp = struct.pack(">HHHH", 5000, 5568, 8 + len(payload), 0) + payload
-            address = struct.pack(">BBHHHBBH", 0x45, 0, 20 + len(udp), 0, 0, 64, 17, 0) + bytes([10, 0, 0, 1, 239, 255, 0, 1])
-            frame = bytes(12) + b"\x08\0" + address + udp
-            out.write(struct.pack("<IIII", 1000 + moment // 1000, moment % 1000 * 1000, len(frame), len(frame)) + frame)
+            recording.sent(turn * 500, 1, packet(2, turn, b"Spare", e131.TERMINATED if turn == 24 else 0))
+    recording.close()
 
 
 MOMENT = "document.getElementById('moment').textContent"

@@ -1,4 +1,4 @@
-"""Looks of light.py at a desk beside hosts that are off: what it says of them, and what hosts that are on get meanwhile."""
+"""Looks of nothing_blocks.py at a desk beside hosts that are off: what it says of them, and what hosts that are on get meanwhile."""
 import re
 import subprocess
 import time

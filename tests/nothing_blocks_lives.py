@@ -1,4 +1,4 @@
-"""Looks of light.py at a desk that is started again: when the light of its next life comes."""
+"""Looks of nothing_blocks.py at a desk that is started again: when the light of its next life comes."""
 import signal
 import socket
 import subprocess

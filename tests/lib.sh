@@ -1,0 +1,92 @@
+# shellcheck shell=bash
+# What the scripts of this folder share, each of which begins with:
+#
+#   set -u
+#   . "$(dirname "$(readlink -f "$0")")/lib.sh"
+#
+# It is then in a folder of its own, `room`. Whatever ends it, what it started is ended, and that folder removed. It has:
+#
+#   top, sacn                                the tree, and the built program: crates/sacn/out/sacn, or the path in SACN
+#   here                                     the folder in which it was started
+#   verdict NAME STATUS [WHY]                prints `ok SCRIPT: NAME`, or where the status isn't 0 `not ok SCRIPT: NAME: WHY`
+#                                            (a `$(..)` in NAME would leave its own status for a `$?` behind it: put it into a variable before)
+#   skips NAME WHY                           prints `skipped SCRIPT: NAME: WHY`
+#   passed, failed                           how many of both were well, and how many not
+#   need WORD..                              ends the script as skipped where one of these commands isn't there; `sacn` is the program
+#   wait_until COMMAND [WORD..]              runs this until it ends well, for `patience` seconds or 20; whether it did
+#   wait_for_line FILE PATTERN [SECONDS]     the same, until the file has such a line (of grep -E)
+#   free_udp_port, free_tcp_port             prints a port that nothing has, another one each time
+#
+# Its Python finds e131.py: packets, recordings and ports.
+
+here=$PWD
+top=$(cd "$(dirname "$(readlink -f "${BASH_SOURCE[0]}")")/.." && pwd)
+sacn=${SACN:-$top/crates/sacn/out/sacn}
+case $sacn in /*) ;; *) sacn=$here/$sacn ;; esac
+# (what stands in front of the name of each look)
+label="$(basename "$0" .sh): "
+passed=0
+failed=0
+export PYTHONPATH=$top/tests${PYTHONPATH:+:$PYTHONPATH} PYTHONDONTWRITEBYTECODE=1
+
+claims=${TMPDIR:-/tmp}
+room=$(mktemp -d) || exit 1
+cd "$room" || exit 1
+: >"$room/.claims"
+cleanup() {
+  local claim
+  # (also what it waits for in front, where a signal ends it)
+  # shellcheck disable=SC2046
+  kill $(jobs -p) $(cat "/proc/$$/task/$$/children" 2>/dev/null) 2>/dev/null
+  while read -r claim; do rmdir "$claim"; done <"$room/.claims"
+  cd /
+  rm -rf "$room"
+}
+trap cleanup EXIT
+
+verdict() {
+  if [ "$2" = 0 ]; then
+    echo "ok $label$1"
+    passed=$((passed + 1))
+  else
+    echo "not ok $label$1${3:+: ${3//$'\n'/ | }}"
+    failed=$((failed + 1))
+  fi
+}
+
+skips() { echo "skipped $label$1: $2"; }
+
+need() {
+  local word why
+  for word in "$@"; do
+    why="there is no $word"
+    case $word in sacn) word=$sacn why="sacn isn't built" ;; esac
+    command -v "$word" >/dev/null && continue
+    echo "skipped $(basename "$0" .sh): $why"
+    exit 0
+  done
+}
+
+wait_until() {
+  local end=$((SECONDS + ${patience:-20}))
+  until "$@"; do
+    [ "$SECONDS" -le "$end" ] || return 1
+    sleep 0.05
+  done
+}
+
+wait_for_line() { patience=${3:-20} wait_until grep -qsE -- "$2" "$1"; }
+
+# free_port TABLE: a port of which this table of the kernel's tells no socket, and to which no other script has a claim, which is a folder until it ends. It is
+# below those that the kernel gives to sockets by itself, so that none gets it before it is used.
+free_port() {
+  local port
+  while :; do
+    port=$((20000 + RANDOM % 12000))
+    if ! grep -qsi ":$(printf %04x "$port") " "/proc/net/$1" "/proc/net/${1}6" && mkdir "$claims/sacn-port-$port" 2>/dev/null; then break; fi
+  done
+  echo "$claims/sacn-port-$port" >>"$room/.claims"
+  echo "$port"
+}
+free_udp_port() { free_port udp; }
+free_tcp_port() { free_port tcp; }
