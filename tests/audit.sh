@@ -112,6 +112,11 @@ write("counters", sum((stream(24, steady, universe=it, numbers=range(it, it + le
 # what can't be read: a printer at the port, and a source of priority 201, or of a vector of the drafts; and a priority of 200
 def with_octets(octets, at, put): return octets[:at] + put + octets[at + len(put):]
 def unread(at, put): return with_octets(packet(26, 0), at, put)
+# the options (octet 112) with a reserved bit beside what they have; and with Force_Synchronization, which is none
+def with_options(packets, bits): return [(moment, with_octets(octets, 112, bytes([octets[112] | bits])), address) for moment, octets, address in packets]
+write("bits", with_options(stream(40, steady), 0x10),
+      who(40) + ":\n  6.2.6 reserved bits of the options set on 1 (803 times, the first at 0.000 s, the latest at 20.035 s)\n")
+write("bit5", with_options(stream(41, steady), 0x20), who(41) + ": conforms\n")
 printer = [(500, b"hello", 100, bytes([10, 0, 0, 9])), (1500, b"hello, printer", 100, bytes([10, 0, 0, 9]))]
 printer_line = "10.0.0.100 sends what can't be read: no packets of streaming ACN (2 times, the first at 0.500 s, the latest at 1.500 s)\n"
 tester = [(1000, unread(108, b"\xc9"), 9), (2500, unread(18, b"\0\0\0\3"), 9), (4000, unread(108, b"\xc9"), 9)]
@@ -119,9 +124,34 @@ write("unread", with_pages(stream(25, steady)) + printer + tester,
       who(25) + ": conforms\n" + printer_line +
       "10.0.0.9 sends what can't be read: 6.2.3 the priority is above 200 (2 times, the first at 1.000 s, the latest at 4.000 s)\n"
       "10.0.0.9 sends what can't be read: 5.5 the root vector is unknown (once, at 2.500 s)\n", [])
+write("sends201", with_pages(stream(25, steady)) + [(4000, unread(108, b"\xc9"), 5)],
+      who(25) + ": breaks no rule, but its address sends what can't be read\n10.0.0.5 sends what can't be read: 6.2.3 the priority is above 200 (once, at 4.000 s)\n", [])
+# universes 0 and 64000, and nothing else; and 1 and 63999
+write("outside", [(1000, unread(113, b"\0\0"), 9), (2000, unread(113, b"\xfa\0"), 9)],
+      "10.0.0.9 sends what can't be read: 6.2.7 the universe is out of range (2 times, the first at 0.000 s, the latest at 1.000 s)\n", [])
+write("inside", stream(26, steady, universe=1) + stream(26, steady, universe=63999), who(26) + ": conforms\n")
 write("priority200", [(moment, with_octets(octets, 108, b"\xc8"), address) for moment, octets, address in stream(26, steady)], who(26) + ": conforms\n")
 write("printer", [(0, b"hello", 100, bytes([10, 0, 0, 9]))],
       "no packets of streaming ACN\n10.0.0.100 sends what can't be read: no packets of streaming ACN (once, at 0.000 s)\n", [])
+# One that breaks nearly all rules: a name of 64 octets that are no UTF-8, a reserved bit, the group of universe 2; one number four times, a start code, fifty packets a second for three seconds,
+# a change that comes once, 1600 ms before a packet from another address, and an end of two packets.
+crooked = [(0, 0, {})] + [(it, 0, {}) for it in (1, 2, 3)] + [(10, 1, {"start": 0x17})] + [(20 * it, 1 + it, {}) for it in range(1, 150)]
+crooked += [(3000, 151, {"slots": b"\x80"}), (4600, 152, {"slots": b"\x80"})] + [(4600 + 20 * it, 152 + it, {"slots": b"\x80", "ends": True}) for it in (1, 2)]
+crooked = [(at, packet(32, number, name=b"\xe4" * 64, **fields), 6 if at == 4600 else 5) for at, number, fields in crooked]
+all_of_it = "on 1 (158 times, the first at 0.000 s, the latest at 4.640 s)\n"
+write("crooked", sent(with_options(crooked, 0x01), [239, 255, 0, 2]),
+      '"' + "\u00e4" * 64 + '" 2020..20 at 10.0.0.5:\n'
+      "  5.6 one CID at two addresses (2 times, the first at 4.600 s, the latest at 4.620 s)\n"
+      "  6.2.2 a name without an end " + all_of_it + "  6.2.2 a name that isn't UTF-8 " + all_of_it +
+      "  6.2.5 numbers that don't go up on 1 (once, at 0.003 s)\n"
+      "  6.2.6 ended by fewer than three packets on 1, and nothing came after them\n"
+      "  6.2.6 reserved bits of the options set " + all_of_it +
+      "  6.6.1 faster than 44 a second on 1 (2 times, the first at 1.880 s, the latest at 2.880 s)\n"
+      "  6.6.2 levels more than 1 s apart on 1 (once, at 4.600 s)\n"
+      "  6.6.2 changed levels sent fewer than three times on 1 (once, at 4.600 s)\n"
+      "  seen, no breach: 7.7 a start code other than 0 and 0xDD on 1 (once, at 0.010 s)\n"
+      "  9.3.1 sent to another multicast group than its universe's " + all_of_it +
+      "  can't be seen in so short a recording: 6.2.5 a number left out in each turn; 8 no list of universes for 12 s; 8 a list that lacks a universe it sends\n", [])
 # No list at all; one that is late twice, at the first packet more than 12 s after the list before; one that just isn't; and a source that comes back 3 s after its end with a list 13 s after the one before.
 write("unlisted", stream(21, steady), who(21) + ":\n  8 no list of universes for 12 s (once, at 12.025 s)\n", [])
 def listed(source, universes, *moments): return [(it, page(source, universes), 5) for it in moments]
@@ -154,7 +184,33 @@ def desk(source, address, other=None):
     return '"Desk" %02x%02x..%02x at 10.0.0.%d: conforms\n' % (source, source, source, address) + other
 write("twins", twins(20035), desk(29, 5, "1e1e..1e at 10.0.0.6") + desk(30, 6, "1d1d..1d at 10.0.0.5"))
 write("successor", twins(20036), desk(29, 5) + desk(30, 6))
+# frames that can't be read: one cut short, two fragments, and one of IPv6
+def framed(octets, address=5): return e131.carried(address, octets, to=group(octets), from_port=5568)
+whole = [(at, framed(octets), None) for at, octets, _ in stream(42, steady) + listed(42, [1], 0, 10000, 20000)]
+first = whole[0][1]
+fragment = with_octets(first, 20, b"\x20")
+lost = [(100, first, 60), (200, fragment, None), (300, fragment, None), (400, with_octets(first, 12, b"\x86\xdd"), None)]
+recording = e131.Recording("frames.pcap", 1700000000)
+for at, octets, kept in sorted(whole + lost, key=lambda it: it[0]): recording.frame(at, octets, kept)
+recording.close()
+rows = [("cut short, as by a snap length", 1), ("a fragment of IP", 2), ("IPv6", 1)]
+open("frames.text", "w").write(who(42) + ": conforms\n\nframes that couldn't be read\n" + "".join("%-30s %d\n" % it for it in rows))
 write("nothing", [], "no packets of streaming ACN\n")
+# a clock that is 5 s behind for half a second: what comes before the latest moment is at it
+recording = e131.Recording("clock.pcap", 1700000000)
+for at, octets, address, to in [(*it, group(it[1])) for it in sorted(with_pages(stream(33, steady)), key=lambda it: it[0])]:
+    recording.sent(at - 5000 if 10000 <= at < 10500 else at, address, octets, to=to, from_port=5568)
+recording.close()
+# five thousand sources, of a packet each
+recording = e131.Recording("crowd.pcap", 1700000000)
+for it in range(5000): recording.sent(0, 5, e131.data(1, 0, b"\xff", it.to_bytes(16, "big"), b"Source"))
+recording.close()
+# where the frames of a recording begin, of which the first octets are a header
+at, octets = 24, open("silent.pcap", "rb").read()
+with open("frames", "w") as frames:
+    while at < len(octets):
+        frames.write("%d\n" % at)
+        at += 16 + int.from_bytes(octets[at + 8:at + 12], "little")
 # What is sent live: three packets of a name without an end, and one of priority 201.
 for place, octets in enumerate([packet(31, number, name=b"n" * 64) for number in range(3)] + [with_octets(packet(31, 3), 108, b"\xc9")]):
     open("live%d.sacn" % place, "wb").write(octets)
@@ -170,16 +226,33 @@ tells() {
   [ "$status" = "$wanted" ] && [[ $first == $said ]] && cmp -s "$output" out
   verdict "$name" $? "status $status, '$first', it prints something else: $(diff "$output" out | head -n 4 | cut -c 1-160)"
 }
-for name in conforms rate44 rate50 skips skips2 stays stays3 second silent change1 change2 change3 end2 ended2 name64 name63 nametext nametext8 two moves start group0 groups counter counters unread priority200 printer unlisted late late12 back lacks lacks10 lacksnone pages pageslack unheard unheard12 alone twins successor nothing; do
+for name in conforms rate44 rate50 skips skips2 stays stays3 second silent change1 change2 change3 end2 ended2 name64 name63 nametext nametext8 two moves start group0 groups counter counters bits bit5 unread sends201 outside inside crooked priority200 printer frames unlisted late late12 back lacks lacks10 lacksnone pages pageslack unheard unheard12 alone twins successor nothing; do
   tells "$name" 0 "" $name.text $name.pcap
 done
 # What is broken is told up to where a recording is faulty; what is no recording has nothing.
 : >empty
 { cat rate50.pcap; printf 'cut'; } >cut.pcap
 tells "a recording that is cut" 3 "refused cut.pcap octet * CutShort" rate50.text cut.pcap
+# At the header of a frame, in its moment, and amid its octets: what came before is told, as of the recording that ends there.
+wrong=
+while read -r begins; do
+  head -c "$begins" silent.pcap >whole.pcap
+  timeout 20 "$sacn" audit whole.pcap >whole.text 2>/dev/null || wrong="$wrong $begins: status $?"
+  for more in 1 9 20 100; do
+    head -c $((begins + more)) silent.pcap >cut.pcap
+    timeout 20 "$sacn" audit cut.pcap >out 2>err
+    [ $? = 3 ] && grep -q "^refused cut.pcap octet $begins CutShort$" err && cmp -s out whole.text || wrong="$wrong $begins and $more: $(head -n 1 err)"
+  done
+done <frames
+[ "$(wc -l <frames)" = 28 ] && [ -z "$wrong" ]
+verdict "a recording that is cut anywhere" $? "$(wc -l <frames) frames,${wrong:0:200}"
 printf 'no recording, but some other text' >other
 tells "what is no recording" 3 "refused other octet 0 NotACapture" empty other
 tells "a file that isn't there" 4 "device read absent" empty absent
+"$sacn" audit clock.pcap >out 2>err && [ "$(head -n 1 out)" = '"Source 33" 2121..21 at 10.0.0.5: conforms' ] && [ ! -s err ]
+verdict "a clock that goes back accuses nobody" $? "$(head -n 2 out)"
+"$sacn" audit crowd.pcap >out 2>err && [ "$(tail -n 1 out)" = "3976 packets of further streams weren't looked at" ] && [ "$(grep -c '^"Source" ' out)" = 1024 ] && ! grep -q conforms out
+verdict "five thousand sources" $? "$(tail -n 1 out), $(grep -c '^"Source" ' out) sources"
 tells "another port" 0 "" nothing.text conforms.pcap --port 5569
 cat silent.pcap | timeout 60 "$sacn" audit - >out 2>err && cmp -s out silent.text && [ ! -s err ]
 verdict "standard input" $? "$(head -c 200 err out)"
@@ -191,11 +264,13 @@ assert [(it["event"], it["section"], it["universes"], it["first"], it["latest"],
 assert objects[0]["cid"] == "03" * 16 and objects[0]["name"] == "Source 3" and objects[0]["address"] == "10.0.0.5", objects
 P
 verdict "objects" $? "$(head -c 300 out)"
-"$sacn" audit --json unread.pcap >out 2>err && python3 - <<'P'
+{ "$sacn" audit --json unread.pcap && "$sacn" audit --json frames.pcap; } >out 2>err && python3 - <<'P'
 import json
 objects = [json.loads(line) for line in open("out")]
 unread = [tuple(it.get(key) for key in ("address", "section", "first", "latest", "times")) for it in objects if it["event"] == "unread"]
 assert unread == [("10.0.0.100", None, 500, 1500, 2), ("10.0.0.9", "6.2.3", 1000, 4000, 2), ("10.0.0.9", "5.5", 2500, 2500, 1)], objects
+frames = {"ms": 20035, "event": "unread_frames", "cut": 1, "fragments": 2, "ipv6": 1, "wrong_ipv4": 0, "other_links": 0, "too_long": 0}
+assert [it for it in objects if it["event"] == "unread_frames"] == [frames] and objects[-1] == frames, objects
 P
 verdict "objects of what can't be read" $? "$(head -c 300 out)"
 "$sacn" audit --json twins.pcap >out 2>err && "$sacn" audit --json late.pcap >>out 2>>err && "$sacn" audit --json unheard.pcap >>out 2>>err && python3 - <<'P'
@@ -209,6 +284,59 @@ assert [(it["event"], it.get("section"), it.get("rule"), it.get("first"), it.get
     ("seen", "8", "a list with a universe that wasn't heard", 20011, 20011, 1)], lists
 P
 verdict "objects of names and lists" $? "$(head -c 300 out)"
+
+# OLA's packets and QLC+'s, judged here as tshark reads them, by the rules of which the packets of a universe tell.
+cat >judge.py <<'P'
+import subprocess, sys
+fields = ["frame.time_epoch", "acn.dmx.seq_number", "acn.dmx.options", "acn.dmx.start_code2", "udp.payload"]
+words = ["tshark", "-o", "acn.dmx_enable:TRUE", "--enable-heuristic", "acn", "-r", sys.argv[1], "-T", "fields"]
+told = subprocess.run([*words, *(it for field in fields for it in ("-e", field))], capture_output=True, text=True, check=True).stdout
+rows = [line.split("\t") for line in told.splitlines()]
+def millis(epoch): return int(epoch.replace(".", "")) // 10**6
+class Packet:
+    def __init__(self, at, number, options, start, octets):
+        self.at, self.number, self.ends, self.start = millis(at) - millis(rows[0][0]), int(number), int(options, 0) & 0x40, int(start, 0)
+        self.levels = octets[2 * 126:]
+packets = [Packet(*row) for row in rows if row[1]]
+assert len(packets) > 5 and all(it.start == 0 for it in packets)
+pairs = list(zip(packets, packets[1:]))
+def follow(one, other): return other.number == (one.number + 1) % 256 and not one.ends
+# a number that three turns in a row leave out, while all else goes up by one
+left_out, turns = [], 0
+for one, other in pairs:
+    step = (other.number - one.number) % 256
+    if step == 2 and one.number == 255: turns += 1
+    elif step != 1: turns = 0
+    if step == 2 and turns >= 3: left_out.append(other.at)
+# more than 44 packets in each of two whole seconds in a row, told at the 45th of the second one
+seconds = {}
+for it in packets: seconds.setdefault((it.at - packets[0].at) // 1000, []).append(it.at)
+fast = [of[44] for second, of in seconds.items() if len(of) > 44 and len(seconds.get(second - 1, [])) > 44]
+apart = [other.at for one, other in pairs if follow(one, other) and other.at - one.at > 1000]
+# levels that came fewer than three times before a pause of more than half a second
+short, run = [], 1
+for one, other in pairs:
+    if follow(one, other) and other.at - one.at > 500 and run < 3: short.append(other.at)
+    run = run + 1 if follow(one, other) and one.levels == other.levels else 1
+def line(rule, moments):
+    if len(moments) == 1: print("  %s on 1 (once, at %.3f s)" % (rule, moments[0] / 1000))
+    elif moments: print("  %s on 1 (%d times, the first at %.3f s, the latest at %.3f s)" % (rule, len(moments), moments[0] / 1000, moments[-1] / 1000))
+line("6.2.5 a number left out in each turn", left_out)
+line("6.6.1 faster than 44 a second", fast)
+line("6.6.2 levels more than 1 s apart", apart)
+line("6.6.2 changed levels sent fewer than three times", short)
+P
+for it in "ola 2" "qlcplus-turns 2"; do
+  set -- $it
+  if ! command -v tshark >/dev/null; then
+    skips "$1.pcap as tshark reads it" "there is no tshark"
+    continue
+  fi
+  python3 judge.py "$top/examples/$1.pcap" >wanted 2>err
+  "$sacn" audit "$top/examples/$1.pcap" >out 2>>err
+  grep -E '^  6\.(2\.5|6\.[12]) ' out | diff wanted - >differ && [ "$(wc -l <wanted)" = "$2" ] && [ ! -s err ]
+  verdict "$1.pcap breaks what its packets break as tshark reads them" $? "$(head -n 3 differ err | cut -c 1-160)"
+done
 
 # What is heard as it comes. A watch ends with its input.
 printf 'version = 1\nudp_port = %s\n[[port]]\nnumber = 1\nuniverse = 1\n' "$shown" >node.toml
@@ -228,15 +356,37 @@ hears_live
 "$sacn" desk show.toml <orders >answers 2>desk &
 desk=$!
 exec 3>orders
+# (how long this machine let a process wait that only sleeps: a desk that isn't let run can't keep its second)
+python3 -c 'import sys, time
+most = 0
+while True:
+    before = time.monotonic()
+    time.sleep(0.05)
+    most = max(most, time.monotonic() - before - 0.05)
+    open("stood.new", "w").write("%d" % (1000 * most))
+    __import__("os").replace("stood.new", "stood")' 3>&- 4>&- &
+pulse=$!
+# Levels that rest, an end and a beginning, and the lists of 25 s, for as long as the rules want to be seen.
 echo "1 at full" >&3
 wait_for_line answers '^ok'
+sleep 12
+echo "end 1" >&3
+sleep 1
+echo "start 1" >&3
+sleep 12
 exec 3>&-
 wait $desk
 exec 4>&-
 wait $watch
 status=$?
-[ $status = 0 ] && [ "$(head -n 1 live)" = '"Desk" 0001..0f at 127.0.0.1: conforms' ] && [ "$(wc -l <live)" = 2 ] && grep -q "^  can't be seen in so short a recording: .*; 8 a list that lacks a universe it sends$" live
-verdict "a desk that a watch hears conforms" $? "status $status, $(head -c 300 live)"
+[ $status = 0 ] && [ "$(head -n 1 live)" = '"Desk" 0001..0f at 127.0.0.1: conforms' ] && [ "$(wc -l <live)" = 1 ]
+told=$?
+kill $pulse
+if [ $told != 0 ] && [ "$(cat stood)" -gt 50 ]; then
+  skips "a desk that a watch hears conforms" "this machine stood still for $(cat stood) ms"
+else
+  verdict "a desk that a watch hears conforms" $told "status $status, $(head -c 300 live)"
+fi
 hears_live --json
 send_live "$heard"
 # (a datagram that came is taken before the end of standard input)

@@ -55,6 +55,13 @@ def group(universe):
     return bytes([239, 255, universe >> 8, universe & 255])
 
 
+def carried(host, payload, port=5568, fragment=0, to=group(1), from_port=5000):
+    """A frame of Ethernet with a datagram of 10.0.0.x, from a port of its own to an address and a port."""
+    udp = struct.pack(">HHHH", from_port, port, 8 + len(payload), 0) + payload
+    ip = struct.pack(">BBHHHBBH", 0x45, 0, 20 + len(udp), 0, fragment, 64, 17, 0) + bytes([10, 0, 0, host]) + to
+    return bytes(12) + b"\x08\0" + ip + udp
+
+
 class Recording:
     """A recording (pcap of Ethernet) from 10.0.0.x; moments are milliseconds from its start, which is so many seconds after 1970."""
 
@@ -70,9 +77,7 @@ class Recording:
 
     def sent(self, moment, host, payload, port=5568, kept=None, fragment=0, to=group(1), from_port=5000):
         """A datagram of this host from a port of its own, to an address and a port."""
-        udp = struct.pack(">HHHH", from_port, port, 8 + len(payload), 0) + payload
-        ip = struct.pack(">BBHHHBBH", 0x45, 0, 20 + len(udp), 0, fragment, 64, 17, 0) + bytes([10, 0, 0, host]) + to
-        self.frame(moment, bytes(12) + b"\x08\0" + ip + udp, kept)
+        self.frame(moment, carried(host, payload, port, fragment, to, from_port), kept)
 
     def close(self):
         self.file.close()

@@ -353,6 +353,17 @@ def interface(link, options=b""):
 def enhanced(micros, octets, number=0):
     return block(6, struct.pack("<IIIII", number, micros >> 32, micros & 0xffffffff, len(octets), len(octets)) + octets)
 
+# A frame without a moment: the simple packet of a section's first interface.
+def simple(octets):
+    return block(3, struct.pack("<I", len(octets)) + octets)
+
+# Two frames without a moment, one of second 1000, one a tenth of a second later, and one more without.
+def unstamped(path):
+    frames = [e131.carried(1, data(A, b"Main", 1, number, b"\1")) for number in range(5)]
+    with open(path, "wb") as file:
+        file.write(section() + interface(1) + simple(frames[0]) + simple(frames[1]))
+        file.write(enhanced(1000000000, frames[2]) + enhanced(1000100000, frames[3]) + simple(frames[4]))
+
 # Two interfaces: one of a link that is none of those that are read (147, which is left to users), and one of Ethernet. Two frames of the first, one of ARP of the second.
 def links(path):
     with open(path, "wb") as file:
@@ -373,9 +384,9 @@ def elsewhere(path):
     r.sent(0, 2, data(B, b"Spare", 9, 0, b"\x40"))
     r.sent(3000, 9, b"z", port=53)
 
-{"events": events, "many": many, "listings": listings, "silent": silent, "pair": pair, "strays": strays, "previews": previews, "unread": unread, "links": links, "back": back, "elsewhere": elsewhere, "behind": behind}[sys.argv[1]](sys.argv[2])
+{"events": events, "many": many, "listings": listings, "silent": silent, "pair": pair, "strays": strays, "previews": previews, "unread": unread, "unstamped": unstamped, "links": links, "back": back, "elsewhere": elsewhere, "behind": behind}[sys.argv[1]](sys.argv[2])
 P
-for name in events many listings silent pair strays previews unread links back elsewhere behind; do python3 recordings.py "$name" "$name.pcap" || exit 1; done
+for name in events many listings silent pair strays previews unread unstamped links back elsewhere behind; do python3 recordings.py "$name" "$name.pcap" || exit 1; done
 
 A=aaaaaaaaaaaaaaaaaaaaaaaaaaaaaaaa
 B=bbbbbbbbbbbbbbbbbbbbbbbbbbbbbbbb
@@ -387,10 +398,10 @@ cat >events.incidents <<E
      0.600 s  "Main" aaaa..aa and "Spare" bbbb..bb both send on 1 at priority 120
      0.800 s  "Spare" bbbb..bb ends its stream on 1
      0.900 s  "Spare" bbbb..bb is back on 1 at 10.0.0.3:5000, priority 121
-     3.000 s  "Main" aaaa..aa lost on 1
+     3.000 s  "Main" aaaa..aa lost on 1, last at 10.0.0.2:5000, priority 120
      3.000 s  "Main" aaaa..aa is back on 1 at 10.0.0.2:5000, priority 120
-     3.400 s  "Spare" bbbb..bb lost on 1-2 (2 times, the latest at 3.450 s)
-     5.500 s  "Main" aaaa..aa lost on 1
+     3.400 s  "Spare" bbbb..bb lost on 1-2, last at 10.0.0.3:5000, priorities 100-121 (2 times, the latest at 3.450 s)
+     5.500 s  "Main" aaaa..aa lost on 1, last at 10.0.0.2:5000, priority 120
 E
 cat >events.each <<E
      0.000 s  universe     1  $A "Desk"  appears at 10.0.0.1:5000, priority 100
@@ -411,21 +422,21 @@ cat >events.each <<E
      1.000 s  $B "Spare"  lists universes 1, 3-5
      1.200 s  $B "Spare"  lists other universes than before: 1, 7
      1.400 s  from 10.0.0.9:5000  refused: the octets end too early
-     3.000 s  universe     1  $A "Main"  is lost: silent since 0.500 s
+     3.000 s  universe     1  $A "Main"  is lost: silent since 0.500 s, last at 10.0.0.2:5000, priority 120
      3.000 s  universe     1  $A "Main"  is back at 10.0.0.2:5000, priority 120
-     3.400 s  universe     1  $B "Spare"  is lost: silent since 0.900 s
-     3.450 s  universe     2  $B "Spare"  is lost: silent since 0.950 s
-     5.500 s  universe     1  $A "Main"  is lost: silent since 3.000 s
+     3.400 s  universe     1  $B "Spare"  is lost: silent since 0.900 s, last at 10.0.0.3:5000, priority 121
+     3.450 s  universe     2  $B "Spare"  is lost: silent since 0.950 s, last at 10.0.0.3:5000, priority 100
+     5.500 s  universe     1  $A "Main"  is lost: silent since 3.000 s, last at 10.0.0.2:5000, priority 120
 E
 cat >events.tables <<E
 
 universe state    priority      first       last     taken   preview     other   skipped      late  repeated   gap ms  source
-       1 lost          120      0.000      3.000         7         0         0         4         1         1     2500  $A "Main" at 10.0.0.2:5000
+       1 lost          120      0.000      3.000         7         0         0         3         1         1     2500  $A "Main" at 10.0.0.2:5000
        1 lost          121      0.600      0.900         4         0         0         0         0         0      100  $B "Spare" at 10.0.0.3:5000
        2 lost          100      0.950      0.950         1         1         0         0         0         0        0  $B "Spare" at 10.0.0.3:5000
 
 universe  sources  sending     taken   skipped discarded
-       1        2        0        11         4         2
+       1        2        0        11         3         2
        2        1        0         1         0         0
 
 lists of universes
@@ -449,7 +460,7 @@ cat events.incidents events.tables >events.text
 tells "a recording with each event" 0 "" events.text events.pcap
 tells "each of its universes" 0 "" events.whole events.pcap --each
 grep -vE '^ +1 ' events.tables >second.tables
-printf '%s\n' '     0.950 s  "Spare" bbbb..bb appears on 2 at 10.0.0.3:5000, priority 100' '     3.450 s  "Spare" bbbb..bb lost on 2' >second.incidents
+printf '%s\n' '     0.950 s  "Spare" bbbb..bb appears on 2 at 10.0.0.3:5000, priority 100' '     3.450 s  "Spare" bbbb..bb lost on 2, last at 10.0.0.3:5000, priority 100' >second.incidents
 tells "one of its universes" 0 "" <(cat second.incidents second.tables) events.pcap --universe 2
 tells "each thing on one of its universes" 0 "" <(cat second.incidents; echo; grep -v '  universe     1  ' events.each; cat second.tables) events.pcap --universe 2 --each
 
@@ -479,7 +490,7 @@ verdict "the same as JSON" $? "$(diff events.json out | head -n 3)"
 # A console of 30 universes sends on all of them each second, and falls silent after its fifth turn, at 4 s: so it is lost at 6.5 s. That is one line, as its beginning is.
 cat >silent.lines <<'E'
      0.000 s  "Main FOH" aaaa..aa appears on 1-30 at 10.0.0.5:5000, priority 100
-     6.500 s  "Main FOH" aaaa..aa lost on 1-30
+     6.500 s  "Main FOH" aaaa..aa lost on 1-30, last at 10.0.0.5:5000, priority 100
 E
 # begins NAME WANTED WORD..: a run of explain prints these lines before its first empty one
 begins() {
@@ -528,11 +539,11 @@ happens() {
 # A recording that begins with the three terminations of a stream, and has another one of a source that is lost: these begin nothing and end nothing.
 cat >strays.lines <<'E'
      0.100 s  "Desk" aaaa..aa appears on 1 at 10.0.0.5:5000, priority 100
-     2.600 s  "Desk" aaaa..aa lost on 1
+     2.600 s  "Desk" aaaa..aa lost on 1, last at 10.0.0.5:5000, priority 100
 E
 cat >strays.each <<E
      0.100 s  universe     1  $A "Desk"  appears at 10.0.0.5:5000, priority 100
-     2.600 s  universe     1  $A "Desk"  is lost: silent since 0.100 s
+     2.600 s  universe     1  $A "Desk"  is lost: silent since 0.100 s, last at 10.0.0.5:5000, priority 100
 E
 # A recording that begins with a termination, behind which levels come with an earlier number: the node holds nothing of the source then, so that they are taken.
 cat >behind.each <<E
@@ -540,11 +551,11 @@ cat >behind.each <<E
      0.020 s  universe     1  $A "Desk"  begins its numbers anew
 E
 happens "what a node takes isn't told as discarded" behind.each behind.pcap
-# Spare sends previews alone at 0.3 s, levels at 0.5 s, and then previews alone until 5.5 s, one of them at another priority: its levels are held from 0.5 s to 3 s, and
-# its next packet comes at 3.1 s. It sends levels again at 5.7 s, ends its stream at 5.9 s, and previews alone bring it back.
+# Spare sends previews alone at 0.3 s, levels at 0.5 s, and then previews alone until 5.5 s, one of them at another priority: its levels are held from 0.5 s until 3 s,
+# between two of its packets. It sends levels again at 5.7 s, ends its stream at 5.9 s, and previews alone bring it back.
 cat >previews.each <<E
      0.500 s  universe     1  2 sources send at the top priority, 100
-     3.100 s  universe     1  one source alone sends at the top priority, 100
+     3.000 s  universe     1  one source alone sends at the top priority, 100
      5.700 s  universe     1  2 sources send at the top priority, 100
      5.900 s  universe     1  one source alone sends at the top priority, 100
 E
@@ -590,6 +601,15 @@ before_tables() {
 }
 before_tables "what couldn't be read" unread.lines 9 '"cut":3,"fragments":1,"ipv6":2,"wrong_ipv4":1,"other_links":0,"too_long":1' unread.pcap
 before_tables "frames of an unknown link" links.lines 3 '"cut":0,"fragments":0,"ipv6":0,"wrong_ipv4":0,"other_links":2,"too_long":0' links.pcap
+# Frames before the first moment are at it: a recording begins there, and nothing is silent before.
+timed 1000000 >unstamped.json <<E
+{"ms":0,"event":"incident","act":"appeared","cid":"$A","name":"Main","universes":[1],"first":0,"latest":0,"times":1}
+{"ms":0,"event":"appeared","universe":1,"cid":"$A","name":"Main","address":"10.0.0.1","port":5000,"priority":100}
+{"row":"source","universe":1,"cid":"$A","name":"Main","address":"10.0.0.1","port":5000,"state":"sending","priority":100,"first":0,"last":100,"live":5,"preview":0,"terminated":0,"other":0,"skipped":0,"late":0,"repeated":0,"gap":100,"last_second":0}
+{"row":"universe","universe":1,"sources":1,"sending":1,"taken":5,"skipped":0,"discarded":0}
+{"row":"counts","datagrams":5,"refused":0,"pages":0,"pages_untracked":0,"synchronization":0,"untracked":0,"other_ports":0,"other_frames":0,"went_back":0,"cut":0,"fragments":0,"ipv6":0,"wrong_ipv4":0,"other_links":0,"too_long":0,"ms":100}
+E
+tells "frames before the first moment" 0 "" unstamped.json unstamped.pcap --json
 # A frame that is earlier than the first one went back in time, too.
 "$sacn" explain back.pcap </dev/null 2>err | grep -qx 'frames with an earlier moment  1'
 verdict "a frame that is earlier than the first" $? "$("$sacn" explain back.pcap </dev/null 2>&1 | tail -n 1)"

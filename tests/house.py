@@ -14,8 +14,8 @@ DOCUMENTS = ["README.md", "CHANGELOG.md", "tests/README.md", "tests/rows/README.
 
 # What stands once, or so often at most, in the code of the product's crates.
 MOST = {
-    # (by a desk that stands by, too: which stream a packet of its own ends; by what tells a recording's incidents; and by an audit)
-    "a datagram is read": (r"(?<!fn )(?<!proved_)\bread_packet\(", 12),
+    # (by a desk that stands by, too: which stream a packet of its own ends; by what tells a recording's incidents; by an audit; and by a recorder, which universe)
+    "a datagram is read": (r"(?<!fn )(?<!proved_)\bread_packet\(", 13),
     "a packet's kind is told": (r"\bfn kind_of\(packet\b", 1),
     # (by the network's loop of losses, where it has none, and by C)
     "a monitor's clock is moved": (r"\bmonitor\.tick\(", 3),
@@ -198,6 +198,22 @@ def long_readme():
             yield f"README.md line {number} has {len(line)} letters, more than {COLUMNS}"
 
 
+def stale_edits():
+    """Bad edits that can't be made: a text that is taken out doesn't stand once in its file, with the pairs of texts before it exchanged."""
+    for edit in sorted(glob.glob("crates/*/must-fail/*.edit") + glob.glob("crates/*/further-edits/*.edit")):
+        path, old, texts = "", "", {}
+        for line in text_of(edit).split("\n"):
+            if line.startswith("file: "):
+                path = os.path.join(edit.rpartition("/")[0], "..", line[6:].strip())
+            elif line.startswith("old: "):
+                old = line[5:]
+            elif line.startswith("new:"):
+                text = texts.get(path) or text_of(path)
+                if text.count(old) != 1:
+                    yield f"{edit}: '{old.strip()}' stands {text.count(old)} times"
+                texts[path] = text.replace(old, line[4:].removeprefix(" "))
+
+
 def stale_definitions():
     told = subprocess.run([sys.executable, "tools/definitions.py", "--check"], capture_output=True, text=True, check=False)
     if told.returncode:
@@ -220,6 +236,7 @@ LOOKS = {
     "a public type's name stands once": shared_names,
     "a crate is small, and its files are named for what they hold": large_crates,
     "a file of code is short": long_files,
+    "each bad edit can be made": stale_edits,
     "the README is short": long_readme,
     "the list of definitions is that of specs/": stale_definitions,
 }

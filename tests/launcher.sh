@@ -170,6 +170,17 @@ join_words() {
     joins '--lists 5568 [0-9]+ lo 239.255.250.214( 239.255.0.[0-9]+){128}' watch --join=lo && joins '--lists 5570 [0-9]+ lo 239.255.250.214( 239.255.0.[0-9]+){128}' watch --port 5570 --join lo --plain && prints "released watch --port 5570 --plain"
 }
 check "a watch joins the universes that are named, or the first and the lists" join_words
+join_recorded() {
+  joins '[0-9]+ lo 239.255.250.214 239.255.0.7' record night.pcapng --universe 7 --join lo && prints "released record night.pcapng --universe 7" &&
+    joins '--lists 5570 [0-9]+ lo 239.255.250.214( 239.255.0.[0-9]+){128}' record --port 5570 --join lo night.pcapng && prints "released record --port 5570 night.pcapng"
+}
+check "so does a recording" join_recorded
+split_is() { [ "$(. "$tree/tools/run.sh"; split_join "${@:2}"; echo "${words[*]}|$device")" = "$1" ]; }
+file_is_no_device() {
+  split_is "record night.pcapng|" record --join night.pcapng && split_is "record night.pcapng|eth9" record --join eth9 night.pcapng && split_is "record ./night|lo" record --join lo ./night &&
+    split_is "record night.pcapng|" record night.pcapng --join && split_is "watch|eth9.5" watch --join eth9.5
+}
+check "a recording that isn't there yet is no device" file_is_no_device
 # A program that says what was joined for it.
 printf '#!/usr/bin/env bash\necho "${SACN_JOINED-nothing was joined}"\n' >"$room/joined"
 chmod +x "$room/joined"
@@ -178,7 +189,8 @@ joined_is_told() {
   joined "lo joined the discovery group, universes 1 to 128 and those that sources list; --universe 1-512 joins others" watch --join lo &&
     joined "lo joined the discovery group and universe 7; --universe names others" watch --universe 7 --join lo &&
     joined "lo joined the discovery group and universes 255-257, 600; --universe names others" watch --universe 255-257 --join=lo --universe=600 &&
-    joined "lo joined the discovery group and the setup's universes" gateway x --join lo && joined "lo joined the discovery group and the setups' universes" gateway x --join lo --seconds 3 y && joined "nothing was joined" watch && joined "nothing was joined" gateway x
+    joined "lo joined the discovery group and the setup's universes" gateway x --join lo && joined "lo joined the discovery group and the setups' universes" gateway x --join lo --seconds 3 y && joined "nothing was joined" watch && joined "nothing was joined" gateway x && joined "nothing was joined" record x &&
+    joined "lo joined the discovery group and universe 7; --universe names others" record x --universe 7 --join lo
 }
 check "the program is told what was joined for it" joined_is_told
 # A program that says how much stack it has.
@@ -311,8 +323,8 @@ check "a desk without a script and without input ends at once" no_input_is_its_e
 # The processes of a session.
 has_left() { [ -z "$(session "$1")" ]; }
 session() { sed -n "s/^\([0-9]*\) .*) [A-Y] [0-9]* [0-9]* $1 .*/\1/p" /proc/[0-9]*/stat 2>/dev/null; }
-# Kills the launcher of a program outright, which has its input from a file or else from a pipe that stays: within five seconds the program's
-# input ends, and nothing of the launcher's is left.
+# Kills the launcher of a program outright, which has its input from a file or else from a pipe that stays: the program's input ends, and
+# nothing of the launcher's is left.
 killed_outright() { # FILE-OR-NONE WORD..
   local input=$1 launcher orders verdict
   shift
@@ -328,8 +340,8 @@ killed_outright() { # FILE-OR-NONE WORD..
   kill -KILL "$launcher"
   wait "$launcher" 2>/dev/null
   status=$?
-  wait_for_line "$room/out" ended 5
-  patience=2 wait_until has_left "$launcher"
+  wait_for_line "$room/out" ended
+  wait_until has_left "$launcher"
   prints "ended all" && [ -z "$(session "$launcher")" ]
   verdict=$?
   exec {orders}<&-
@@ -339,6 +351,7 @@ killed_outright() { # FILE-OR-NONE WORD..
 check "a desk whose launcher is killed comes to the end of its input, though another holds that" killed_outright "" desk show.toml
 check "so does a desk with a script and no input" killed_outright /dev/null desk show.toml --script s.txt --stay
 check "so does a watch" killed_outright "" watch
+check "so does a recording" killed_outright "" record night.pcapng
 
 full_disk() {
   anew

@@ -38,6 +38,14 @@ if command -v pkg-config >/dev/null; then
 else
   skips "pkg-config" "it isn't there"
 fi
+# What the shared object gives out is listed for Debian: a call that is gone or new is seen here.
+if ! command -v nm >/dev/null || [ ! -f "$prefix/lib/libsacn.so.1" ]; then
+  skips "what the shared object gives out" "no nm, or no shared object"
+else
+  nm -D --defined-only "$prefix/lib/libsacn.so.1" | awk '{ print $3 }' | sort >"$room/given"
+  sed -n 's/^ \([a-z_]*\)@Base .*/\1/p' "$top/packaging/libsacn1.symbols" | sort | diff - "$room/given" >"$room/said"
+  verdict "what the shared object gives out is packaging/libsacn1.symbols" $? "$(grep '^[<>]' "$room/said" | head -n 3)"
+fi
 # (the archive, by name: the shared object stands beside it)
 library=$prefix/lib/libsacn.a
 
@@ -122,7 +130,7 @@ else
   setup "$port" >"$room/node.toml"
   if built receive "$top/examples/c/receive.c" -std=c99 -O2; then hears "receive.c hears a desk" "$port" "$room/receive" "$room/node.toml" 4; fi
   if command -v python3 >/dev/null && [ -f "$prefix/lib/libsacn.so" ]; then
-    hears "receive.py hears a desk" "$port" python3 "$top/examples/python/receive.py" "$prefix/lib/libsacn.so" "$room/node.toml" 4
+    hears "receive.py hears a desk" "$port" env SACN_LIBRARY="$prefix/lib/libsacn.so" PYTHONPATH="$top/bindings/python" python3 "$top/examples/python/receive.py" 1 4 "$port" 127.0.0.1
   else
     skips "receive.py" "no python3, or no shared object"
   fi

@@ -100,6 +100,10 @@ verdict "the page asks no other server" $?
 answers "the page with a query" 200 "$at/?universe=7"
 answers "no such path" 404 "$at"/favicon.ico
 answers "a path above" 404 --path-as-is "$at"/../state
+answers "an audit with a query" 400 "$at/audit?universe=1"
+answers "an audit, asked for the first time" 200 "$at"/audit
+grep -q "^Content-Type: text/plain; charset=utf-8$CR" head && grep -q '^asked for the first time: ' body
+verdict "a first question is told that findings come" $? "$(cat head body)"
 answers "a post" 405 -d go=1 "$at"/
 grep -qxF "Allow: GET$CR" head
 verdict "a post is told what is allowed" $? "$(cat head)"
@@ -225,6 +229,10 @@ for alarm in '"kind":"ended","text":"universe 7: \u003cb\u003e\u0022D\u00f6sk\u0
 done
 grep -qF '"state":"ended"' events
 verdict "the source has ended" $?
+# (an answer is told behind the question before it, and anew after two seconds)
+for _ in $(seq 100); do curl -s -m 5 -o body "$at"/audit; grep -q "^127.0.0.1 sends what can't be read" body && break; sleep 0.1; done
+grep -q ' 0001\.\.0f at 127\.0\.0\.1: conforms$' body && grep -q "^127.0.0.1 sends what can't be read: no packets of streaming ACN (once, at " body
+verdict "an audit tells of the desk, and of what is no packet" $? "$(cat body)"
 [[ $(sed -n 2p events.1) == *'"universe":1,'* ]] && ! grep '^event: change' -A 1 events.1 | grep -qF '"levels":"'
 verdict "each viewer has its own universe" $? "$(grep -o '"levels":".\{8\}' events.1 | head -n 3)"
 
@@ -414,6 +422,9 @@ verdict "a gateway's page shows what it lights" $? "$(head -c 600 body)"
 answers "a gateway's document of another universe" 200 "$at/state?universe=200"
 grep -q '"universe":200,"heard":\[1,2,3,.*,199,200\]' body
 verdict "a gateway's page tells what no port shows" $? "$(head -c 600 body)"
+finds_many() { curl -s -m 5 -o body "$at"/audit && grep -q '^"Many" [0-9a-f]*\.\.[0-9a-f]* at 127\.0\.0\.1:' body; }
+wait_until finds_many
+verdict "a gateway's page tells what an audit finds" $? "$(head -c 300 body)"
 [ "$(grep -c '^".*" .* at 127\.0\.0\.1, .*: came$' gateway.err)" -ge 1 ] && ! grep -qE '^(page|discarded|refused)' <(tail -n +18 gateway.err | grep -v "^page http")
 verdict "a gateway says what it says without a page" $? "$(tail -n 5 gateway.err)"
 for line in "${slow[@]}"; do exec {line}>&-; done

@@ -198,6 +198,20 @@ def marked(browser, desk):
     verdict("the chosen universe's sources come first", before == "1" and None not in (took, back), f"{before} {took} {back}")
 
 
+def audited(browser):
+    """The part of the audit, once it is opened: what was found, anew while it stays open, and nothing asked for once it is closed."""
+    findings = "document.getElementById('findings').textContent"
+    verdict("nothing is asked of an audit whose part is closed", browser.js(f"return {findings}") == "")
+    browser.js("document.querySelector('#audit summary').click()")
+    took = browser.until(f"{findings}.includes('0001..0f at 127.0.0.1:')", 6)
+    verdict("the part of the audit tells of the desk", took is not None, browser.js(f"return {findings}")[:200])
+    asked = "return performance.getEntriesByType('resource').filter((it) => it.name.endsWith('/audit')).length"
+    before = browser.js(asked)
+    took = browser.until(f"({asked[7:]}) > {before}", 6)
+    verdict("it is told anew while its part is open", took is not None)
+    browser.js("document.querySelector('#audit summary').click()")
+
+
 def plain(browser):
     """A name with markup is text."""
     told = browser.js("return [document.querySelector('#sources td.name').textContent, document.images.length, document.title]")
@@ -442,6 +456,7 @@ def shown(browser, watch):
     if heard(browser, desk):
         followed(browser, desk)
         marked(browser, desk)
+        audited(browser)
         plain(browser)
         keyed(browser)
         sized(browser)

@@ -106,6 +106,7 @@ answers "the recording as a whole" 200 "$at"/recording
 [ "$(cat body)" = '{"name":"ola.pcap","length":5970,"start":1795393742057,"fault":null}' ]
 verdict "what is known of it" $? "$(cat body)"
 answers "events of a recording" 404 "$at"/events
+answers "an audit of a recording" 404 "$at"/audit
 for query in at= at=x at=-1 at=+1 at=1.5 at=18446744073709551616; do
   answers "the moment $query" 400 "$at/state?$query"
   has "$query is refused by name" 'at is a moment of a recording: milliseconds'

@@ -29,7 +29,7 @@ else
   is_current=1
   strip -s -o "$room/stripped" "$built" 2>/dev/null || : >"$room/stripped"
   if cmp "$room/stripped" "$release/x86_64-linux/sacn" >"$room/said" 2>&1; then ok "what the gate built is the released program, octet by octet"; else fails "the octets" "$(head -n 1 "$room/said")"; fi
-  for name in x86_64-linux/{sacn,sacn-join,libsacn.a,libsacn.so} aarch64-linux/{sacn,sacn-join}; do
+  for name in {x86_64,aarch64}-linux/{sacn,sacn-join,libsacn.a,libsacn.so.1}; do
     if [ "$(sha256sum <"$release/$name" | cut -d ' ' -f 1)" = "$(of_release "$name")" ]; then ok "$name is what RELEASE says"; else fails "$name" "it isn't what RELEASE says"; fi
   done
 fi
@@ -102,10 +102,44 @@ arm_serves() {
   exec 3>&-
   grep -q '^HTTP/1.1 200' "$room/page"
 }
+# The library for C: its calls by the archive, and the examples by the shared object.
+arm_built() { # NAME FILE LIBRARY
+  aarch64-linux-gnu-gcc -D_DEFAULT_SOURCE -std=c99 -O2 -Wall -Wextra -Werror -I"$top/include" -o "$room/$1" "$2" "$release/aarch64-linux/$3" 2>"$room/said"
+}
+arm_calls() { arm_built smoke-arm "$top/tests/c/library.c" libsacn.a && "${arm[@]}" "$room/smoke-arm" >"$room/said" 2>&1; }
+arm_hears() {
+  local port
+  port=$(free_udp_port)
+  setup "$port" >"$room/node.toml" && show "$port" >"$room/show.toml"
+  arm_built receive-arm "$top/examples/c/receive.c" libsacn.so.1 || return 1
+  "${arm[@]}" -E LD_LIBRARY_PATH="$release/aarch64-linux" "$room/receive-arm" "$room/node.toml" 20 >"$room/lines" 2>"$room/said" &
+  running+=($!)
+  wait_until grep -q "$(printf ':%04X ' "$port")" /proc/net/udp || return 1
+  (echo go; wait_for_line "$room/lines" '^1 [0-9]+ 00ff') | "$built" desk "$room/show.toml" >/dev/null 2>&1
+  wait_for_line "$room/lines" '^1 [0-9]+ 00ff' && wait_for_line "$room/lines" '^1 [0-9]+ 0000'
+}
+arm_sends() {
+  local port
+  port=$(free_udp_port)
+  setup "$port" >"$room/node.toml" && show "$port" >"$room/show.toml"
+  arm_built send-arm "$top/examples/c/send.c" libsacn.so.1 || return 1
+  "$built" gateway "$room/node.toml" --listen 127.0.0.1 --seconds 20 >"$room/lines" 2>"$room/told" </dev/null &
+  running+=($!)
+  wait_for_line "$room/told" '^hears' || return 1
+  timeout 20 "${arm[@]}" -E LD_LIBRARY_PATH="$release/aarch64-linux" "$room/send-arm" "$room/show.toml" "$port" 500 >"$room/said" 2>&1 &&
+    wait_for_line "$room/lines" '^1 [0-9]+ 00ff' && wait_for_line "$room/told" 'universe 1: ended$'
+}
 if [ -n "$has_arm" ]; then
   if (every_command_is_alike) >"$room/said"; then ok "aarch64's program ends as x86's in $(cat "$room/count") runs"; else fails "aarch64's program" "$(tail -n 1 "$room/said")"; fi
   if arm_lights; then ok "a gateway and a desk on aarch64"; else fails "a gateway and a desk on aarch64" "$(tail -n 1 "$room/said")"; fi
   if arm_serves; then ok "the page on aarch64"; else fails "the page on aarch64" "$(head -n 1 "$room/page")"; fi
+  if ! command -v aarch64-linux-gnu-gcc >/dev/null; then
+    skips "the library on aarch64" "there is no aarch64-linux-gnu-gcc"
+  else
+    if arm_calls; then ok "each call and each refusal of the library on aarch64"; else fails "the library on aarch64" "$(head -n 1 "$room/said")"; fi
+    if arm_hears; then ok "receive.c on aarch64 hears a desk"; else fails "receive.c on aarch64" "$(head -n 1 "$room/said")"; fi
+    if arm_sends; then ok "a gateway hears send.c on aarch64"; else fails "send.c on aarch64" "$(head -n 1 "$room/said")"; fi
+  fi
 fi
 
 # ---- The first light, as a new user has it: from a clone, without a kit, and from a package.
@@ -183,6 +217,23 @@ else
   if [ "$("$room/amd64/usr/bin/sacn" --version | sed -n 2p)" = "release $version" ]; then ok "a package's version"; else fails "a package's version" "$("$room/amd64/usr/bin/sacn" --version | sed -n 2p)"; fi
   problem=$(documents "$room/amd64/usr/share/doc/sacn")
   if [ -z "$problem" ]; then ok "a package's documents: links, commands and examples are there"; else fails "a package's documents" "$(head -n 1 <<<"$problem")"; fi
+  # What C and Python programs are built with, and what loads them, from the packages alone.
+  for it in "libsacn1_${version}_amd64" "libsacn-dev_${version}_amd64" "python3-sacn-core_${version}_all"; do dpkg-deb -x "$room/packages/$it.deb" "$room/library"; done
+  loaded=$room/library/usr/lib/x86_64-linux-gnu
+  if ! command -v cc >/dev/null; then
+    skips "a package's library" "there is no cc"
+  elif cc -D_DEFAULT_SOURCE -std=c99 -Wall -Wextra -Werror -I"$room/library/usr/include" -L"$loaded" -o "$room/smoke" "$top/tests/c/library.c" -lsacn 2>"$room/said" && LD_LIBRARY_PATH=$loaded "$room/smoke" >"$room/said" 2>&1; then
+    ok "a program in C, built and run by the packages of the library"
+  else
+    fails "a package's library" "$(head -n 1 "$room/said")"
+  fi
+  if ! command -v python3 >/dev/null; then
+    skips "a package's module for Python" "there is no python3"
+  elif (unset SACN_LIBRARY; LD_LIBRARY_PATH=$loaded PYTHONPATH=$room/library/usr/lib/python3/dist-packages python3 -B -c 'import sacn_core; sacn_core.load()') 2>"$room/said"; then
+    ok "a package's module for Python finds the library"
+  else
+    fails "a package's module for Python" "$(tail -n 1 "$room/said")"
+  fi
   if [ -n "$has_arm" ]; then
     if [ "$("${arm[@]}" "$room/arm64/usr/lib/sacn/sacn" decode "$top/examples/levels.sacn" | sed -n 2p)" = "cid 00010203-0405-0607-0809-0a0b0c0d0e0f" ]; then ok "the package for arm64"; else fails "the package for arm64" "it decodes otherwise"; fi
   fi

@@ -30,7 +30,7 @@ program=$release/$(uname -m)-linux/sacn
 moment=$(git -C "$top" log -1 --format=%ct 2>/dev/null || date +%s)
 export SOURCE_DATE_EPOCH=$moment
 
-for name in x86_64-linux/{sacn,sacn-join,libsacn.a,libsacn.so} aarch64-linux/{sacn,sacn-join}; do
+for name in {x86_64,aarch64}-linux/{sacn,sacn-join,libsacn.a,libsacn.so.1}; do
   sum=$(sha256sum <"$release/$name")
   if [ "${sum%% *}" != "$(of_release "$name")" ]; then say "$release/$name is not the released one: its SHA-256 is ${sum%% *}"; exit 4; fi
 done
@@ -39,7 +39,7 @@ packed() { gzip -9n >"$1"; chmod 644 "$1"; }
 
 # What is packed of the documents in docs/.
 documents="RIG FILES PROTOCOL AUDIT THEOREMS"
-commands="gateway|desk|watch|explain|audit|check|decode|sim|console|node|groups|manual|completion|--help|<"
+commands="gateway|desk|watch|record|explain|audit|check|decode|sim|console|node|groups|manual|completion|--help|<"
 
 # A document on standard input, without links to what isn't packed.
 linked() {
@@ -91,10 +91,11 @@ copyright() {
   printf '\nLicense: Apache-2.0\n On Debian systems the text of this licence stands in /usr/share/common-licenses/Apache-2.0.\n'
 }
 
-# control ARCHITECTURE PACKAGE DEPENDS SECTION: Debian's words on a package; then its description on standard input.
+# control ARCHITECTURE PACKAGE DEPENDS SECTION [MULTI-ARCH]: Debian's words on a package; then its description on standard input.
 control() {
   printf 'Package: %s\nVersion: %s\nArchitecture: %s\nMaintainer: Fetchserge maintainers <maintainers@users.noreply.fetchserge.example>\n' "$2" "$version" "$1"
   printf 'Depends: %s\nSection: %s\nPriority: optional\nInstalled-Size: %s\n' "$3" "$4" "$(du -sk "$root" | cut -f 1)"
+  if [ -n "${5-}" ]; then echo "Multi-Arch: $5"; fi
   cat
 }
 
@@ -124,22 +125,54 @@ TEXT
   debian "sacn_${version}_$architecture.deb"
 done
 
-root=$room/libsacn-dev_${version}_amd64
-install -d "$root/DEBIAN" "$root/usr/include" "$root/usr/lib/x86_64-linux-gnu/pkgconfig" "$root/usr/share/doc/libsacn-dev/examples"
-install -m 644 "$top/include/sacn.h" "$root/usr/include/"
-install -m 644 "$release/x86_64-linux/libsacn.a" "$release/x86_64-linux/libsacn.so" "$root/usr/lib/x86_64-linux-gnu/"
-echo "activate-noawait ldconfig" >"$root/DEBIAN/triggers"
-printf 'Name: sacn\nDescription: Streaming ACN (ANSI E1.31-2018) over proved cores\nVersion: %s\nLibs: -lsacn\n' "$version" >"$root/usr/lib/x86_64-linux-gnu/pkgconfig/sacn.pc"
-install -m 644 "$top/docs/LIBRARY.md" "$root/usr/share/doc/libsacn-dev/"
-install -m 644 "$top"/examples/c/*.c "$root/usr/share/doc/libsacn-dev/examples/"
-news libsacn-dev | packed "$root/usr/share/doc/libsacn-dev/changelog.gz"
-copyright >"$root/usr/share/doc/libsacn-dev/copyright"
-install -d "$root/usr/share/lintian/overrides"
-install -m 644 "$top/packaging/libsacn-dev.lintian-overrides" "$root/usr/share/lintian/overrides/libsacn-dev"
-control amd64 libsacn-dev "libc6-dev | libc-dev" libdevel >"$root/DEBIAN/control" <<'TEXT'
-Description: streaming ACN for stage lighting: library for C
+# The library for C, by processor: what programs load (libsacn1), and what they are built with (libsacn-dev).
+for pair in x86_64:amd64 aarch64:arm64; do
+  processor=${pair%:*} architecture=${pair#*:}
+  triple=$processor-linux-gnu from=$release/$processor-linux
+  root=$room/libsacn1_${version}_$architecture
+  install -d "$root/DEBIAN" "$root/usr/lib/$triple" "$root/usr/share/doc/libsacn1"
+  install -m 644 "$from/libsacn.so.1" "$root/usr/lib/$triple/"
+  install -m 644 "$top/packaging/libsacn1.symbols" "$root/DEBIAN/symbols"
+  echo "libsacn 1 libsacn1 (>= $(sed -n 's/.*@Base //p' "$top/packaging/libsacn1.symbols" | sort -V | tail -n 1))" >"$root/DEBIAN/shlibs"
+  echo "activate-noawait ldconfig" >"$root/DEBIAN/triggers"
+  news libsacn1 | packed "$root/usr/share/doc/libsacn1/changelog.gz"
+  copyright >"$root/usr/share/doc/libsacn1/copyright"
+  control "$architecture" libsacn1 "libc6 (>= 2.14)" libs same >"$root/DEBIAN/control" <<'TEXT'
+Description: streaming ACN for stage lighting: shared library
  The proved cores of the node, the console, the merge of sources, universe
- discovery and the monitor of streaming ACN (ANSI E1.31-2018), with a header,
- an archive, a shared library and examples.
+ discovery and the monitor of streaming ACN (ANSI E1.31-2018).
 TEXT
-debian "libsacn-dev_${version}_amd64.deb"
+  debian "libsacn1_${version}_$architecture.deb"
+
+  root=$room/libsacn-dev_${version}_$architecture
+  install -d "$root/DEBIAN" "$root/usr/include" "$root/usr/lib/$triple/pkgconfig" "$root/usr/share/doc/libsacn-dev/examples"
+  install -m 644 "$top/include/sacn.h" "$top/bindings/cxx/sacn.hpp" "$root/usr/include/"
+  install -m 644 "$from/libsacn.a" "$root/usr/lib/$triple/"
+  ln -s libsacn.so.1 "$root/usr/lib/$triple/libsacn.so"
+  printf 'Name: sacn\nDescription: Streaming ACN (ANSI E1.31-2018) over proved cores\nVersion: %s\nLibs: -lsacn\nLibs.private: -lc\n' "$version" >"$root/usr/lib/$triple/pkgconfig/sacn.pc"
+  install -m 644 "$top/docs/LIBRARY.md" "$root/usr/share/doc/libsacn-dev/"
+  install -m 644 "$top"/examples/c/*.c "$top"/examples/cxx/*.cpp "$root/usr/share/doc/libsacn-dev/examples/"
+  news libsacn-dev | packed "$root/usr/share/doc/libsacn-dev/changelog.gz"
+  copyright >"$root/usr/share/doc/libsacn-dev/copyright"
+  control "$architecture" libsacn-dev "libsacn1 (= $version), libc6-dev | libc-dev" libdevel same >"$root/DEBIAN/control" <<'TEXT'
+Description: streaming ACN for stage lighting: library for C and C++
+ The proved cores of the node, the console, the merge of sources, universe
+ discovery and the monitor of streaming ACN (ANSI E1.31-2018), with headers,
+ an archive and examples.
+TEXT
+  debian "libsacn-dev_${version}_$architecture.deb"
+done
+
+root=$room/python3-sacn-core_${version}_all
+install -d "$root/DEBIAN" "$root/usr/lib/python3/dist-packages" "$root/usr/share/doc/python3-sacn-core/examples"
+install -m 644 "$top/bindings/python/sacn_core.py" "$root/usr/lib/python3/dist-packages/"
+install -m 644 "$top"/examples/python/*.py "$root/usr/share/doc/python3-sacn-core/examples/"
+news python3-sacn-core | packed "$root/usr/share/doc/python3-sacn-core/changelog.gz"
+copyright >"$root/usr/share/doc/python3-sacn-core/copyright"
+control all python3-sacn-core "libsacn1 (>= $version), python3 (>= 3.9)" python >"$root/DEBIAN/control" <<'TEXT'
+Description: streaming ACN for stage lighting: module for Python
+ One module over the shared library of libsacn1: the node, the console, the
+ merge of sources, universe discovery, the monitor and packets of streaming ACN
+ (ANSI E1.31-2018), with annotated types, exceptions and examples.
+TEXT
+debian "python3-sacn-core_${version}_all.deb"

@@ -4,8 +4,9 @@
 usage: release.py VERSION
 
 The program for x86-64 is the one that the gate built, stripped. For aarch64 the program's own crate is checked once more for that processor, over the libraries that
-the gate has left, and linked by Debian's cross compiler with runtime/runtime.c in place of the kit's archives, which are x86's. Packages:
-gcc-aarch64-linux-gnu, libc6-dev-arm64-cross. `sacn-join`, the helper that joins groups, is C alone, and is built for both. Beside x86's program stands the library for C, as tools/library.sh installs it.
+the gate has left, and linked by Debian's cross compiler with runtime/heap.c and runtime/runtime.c in place of the kit's archives, which are x86's. Packages:
+gcc-aarch64-linux-gnu, libc6-dev-arm64-cross. `sacn-join`, the helper that joins groups, is C alone, and is built for both. Beside each program stands the library for C, as
+tools/library.sh installs it: that for aarch64 is made as the program is.
 
 Status 0: made; 1: not, and why.
 """
@@ -51,28 +52,33 @@ def strip(words, made, to):
     os.chmod(to, 0o755)
 
 
-def built_for_arm(room):
-    """The program's object file for aarch64, and the verdict of the check that made it."""
+def built_for_arm(name, made):
+    """Puts the object file of a program or the archive of a library for aarch64 at a place; the verdict of the check that made it."""
     rtlib = archive.kit_library()
     crates = rtlib.crates_below(TOP)
-    crate = next(it for it in crates if it.name == "sacn")
+    crate = next(it for it in crates if it.name == name)
     held = rtlib.lock(crates)
     lacking = [it.name for it in crate.below() if not archive.is_of_the_gate(it)]
     if lacking:
         raise Stopped(f"the gate has not left its build of {', '.join(lacking)}: run ./test")
     words = crate.words(["--jobs", "2"], keeps=False)
-    made = ["--toolchain", f"{archive.kit_folder()}/toolchain", "--backend", "llvm", "--target", TARGET, "-o", f"{room}/sacn"]
+    made_by = ["--toolchain", f"{archive.kit_folder()}/toolchain", "--backend", "llvm", "--target", TARGET, "-o", made]
     ran = subprocess.run(
-        [*rtlib.guarded(), rtlib.RATTLE, "build", *words, *made], cwd=crate.folder, stdin=subprocess.DEVNULL, stdout=subprocess.PIPE, stderr=subprocess.STDOUT, encoding="utf-8", check=False
+        [*rtlib.guarded(), rtlib.RATTLE, "build", *words, *made_by], cwd=crate.folder, stdin=subprocess.DEVNULL, stdout=subprocess.PIPE, stderr=subprocess.STDOUT, encoding="utf-8", check=False
     )
     for it in held:
         os.close(it)
     verdict = next((it for it in ran.stdout.split("\n") if it.startswith("logic=proved ")), "")
-    # (what is made is an object file: the kit links for x86 alone)
-    found = f"{room}/sacn"
-    if not verdict or not os.path.isfile(found):
-        raise Stopped(f"the program isn't proved and compiled for {TARGET}: {ran.stdout[-2000:]}")
-    return found, verdict
+    # (what is made of a program is an object file: the kit links for x86 alone)
+    if not verdict or not os.path.isfile(made):
+        raise Stopped(f"{name} isn't proved and compiled for {TARGET}: {ran.stdout[-2000:]}")
+    return verdict
+
+
+def put_library(prefix, strip_by, folder):
+    """Puts the library that tools/library.sh installed into a folder of the release."""
+    shutil.copy2(f"{prefix}/lib/libsacn.a", f"{folder}/libsacn.a")
+    subprocess.run([strip_by, "--strip-unneeded", "-o", f"{folder}/libsacn.so.1", f"{prefix}/lib/libsacn.so.1"], check=True)
 
 
 def make(version):
@@ -84,8 +90,8 @@ def make(version):
         for name in ("x86_64-linux", "aarch64-linux"):
             os.makedirs(f"{room}/release/{name}")
         strip(["strip"], BUILT, f"{room}/release/x86_64-linux/sacn")
-        made, verdict = built_for_arm(room)
-        subprocess.run([f"{CROSS}gcc", *C, "-o", f"{room}/arm", made, f"{TOP}/runtime/runtime.c"], check=True)
+        verdict = built_for_arm("sacn", f"{room}/sacn")
+        subprocess.run([f"{CROSS}gcc", *C, "-o", f"{room}/arm", f"{room}/sacn", f"{TOP}/runtime/heap.c", f"{TOP}/runtime/runtime.c"], check=True)
         strip([f"{CROSS}strip"], f"{room}/arm", f"{room}/release/aarch64-linux/sacn")
         for prefix, name in (("", "x86_64-linux"), (CROSS, "aarch64-linux")):
             subprocess.run([f"{prefix}gcc", *C, "-o", f"{room}/join", f"{TOP}/runtime/join.c"], check=True)
@@ -93,9 +99,11 @@ def make(version):
         if archive.build(archive.kit_folder(), "sacn_c"):
             raise Stopped("the library for C isn't proved and built")
         subprocess.run([f"{TOP}/tools/library.sh", f"{room}/prefix"], check=True)
-        shutil.copy2(f"{room}/prefix/lib/libsacn.a", f"{room}/release/x86_64-linux/libsacn.a")
-        subprocess.run(["strip", "--strip-unneeded", "-o", f"{room}/release/x86_64-linux/libsacn.so", f"{room}/prefix/lib/libsacn.so"], check=True)
-        lines = [f"version {version}", f"code {output('./sacn', '--code')}", f"kit {kit}", f"gate {gate}", f"aarch64 {verdict}"]
+        put_library(f"{room}/prefix", "strip", f"{room}/release/x86_64-linux")
+        library_verdict = built_for_arm("sacn_c", f"{room}/libsacn_c.a")
+        subprocess.run([f"{TOP}/tools/library.sh", f"{room}/prefix-arm", f"{room}/libsacn_c.a", CROSS], check=True)
+        put_library(f"{room}/prefix-arm", f"{CROSS}strip", f"{room}/release/aarch64-linux")
+        lines = [f"version {version}", f"code {output('./sacn', '--code')}", f"kit {kit}", f"gate {gate}", f"aarch64 {verdict}", f"aarch64-library {library_verdict}"]
         for folder in ("x86_64-linux", "aarch64-linux"):
             for name in sorted(os.listdir(f"{room}/release/{folder}")):
                 with open(f"{room}/release/{folder}/{name}", "rb") as it:

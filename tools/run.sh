@@ -135,7 +135,7 @@ feed() {
   # A pipe of which both ends are here.
   exec {life}<> <(:)
   exec {lives}<"/proc/self/fd/$life"
-  # (A desk is ordered by its input, and a screen steered by keys; else a watch only waits for the end of it, whatever stands there.)
+  # (A desk is ordered by its input, and a screen steered by keys; else a watch or a recording only waits for the end of it, whatever stands there.)
   if [ "$2" = desk ]; then
     exec {out}< <(feed_desk "$@")
   elif [ -n "$modes" ]; then
@@ -207,15 +207,16 @@ default_device() {
 }
 
 # Takes `--join`, `--join DEVICE` and `--join=DEVICE` out of a command's words: into `words` and `device`. The word behind it is its device where the machine has one of that
-# name, or where it is no option and no file.
+# name, or where it is no option and no file; the file that a recording makes isn't there yet, and is told by its dot or slash.
 split_join() {
+  local command=$1
   words=() device= has_join=
   while [ $# != 0 ]; do
     case $1 in
       --join=*) has_join=1 device=${1#--join=} ;;
       --join)
         has_join=1
-        if [ $# -gt 1 ] && { [ -e "/sys/class/net/$2" ] || { [ "${2#-}" = "$2" ] && [ ! -e "$2" ]; }; }; then device=$2; shift; fi
+        if [ $# -gt 1 ] && { [ -e "/sys/class/net/$2" ] || { [ "${2#-}" = "$2" ] && [ ! -e "$2" ] && { [ "$command" != record ] || [[ $2 != *[./]* ]]; }; }; }; then device=$2; shift; fi
         ;;
       *) words+=("$1") ;;
     esac
@@ -291,7 +292,7 @@ setups_among() {
   done
 }
 
-# So many universes, from 1 on, a watch joins that is told of none; and so many at most that are named.
+# So many universes, from 1 on, a watch or a recording joins that is told of none; and so many at most that are named.
 first_universes=128
 most_universes=1024
 
@@ -305,7 +306,7 @@ keep_input() {
   rm "$copy"
 }
 
-# Joins the groups that a gateway or a watch wants, for as long as this shell lives or what it becomes. What that is the program says where it hears nothing.
+# Joins the groups that a gateway, a watch or a recording wants, for as long as this shell lives or what it becomes. What that is the program says where it hears nothing.
 join_groups() {
   local program=$1 command=$2 groups=(239.255.250.214) lists=() setups=() port setup universe line joined
   shift 2
@@ -377,15 +378,16 @@ has_receiver() {
   return 1
 }
 
-# Ends a watch that joins where another receiver has its port, unless it is to hear beside it. (The program itself can't tell: what joins for it hears lists
+# Ends a watch or a recording that joins where another receiver has its port, unless it is to hear beside it. (The program itself can't tell: what joins for it hears lists
 # at that port.)
 keep_beside() {
-  local word port
+  local word port name="a watch" way="Start the gateway with --page PORT or --watch"
+  if [ "$1" = record ]; then name="a recording" way="Record on another machine, or by tcpdump, which takes nothing away"; fi
   for word in "$@"; do [ "$word" != --beside ] || return 0; done
   port=$(given --port "$@" | tail -n 1)
   [[ ${port:=5568} =~ ^[0-9]{1,5}$ ]] || return 0
   if has_receiver "$((10#$port))"; then
-    say "port $port has a receiver on this machine: of what is sent to this machine alone each stream goes to one receiver, so a watch would take it away. Start the gateway with --page PORT or --watch; or add --beside here, where all comes by multicast"
+    say "port $port has a receiver on this machine: of what is sent to this machine alone each stream goes to one receiver, so $name would take it away. $way; or add --beside here, where all comes by multicast"
     exit 4
   fi
   words+=(--beside)
@@ -572,9 +574,9 @@ run() {
       resolve_hosts "$@"
       set -- "${words[@]}"
       ;;
-    gateway | watch)
+    gateway | watch | record)
       split_join "$@"
-      if [ -n "$has_join" ] && [ "$1" = watch ]; then keep_beside "$@"; fi
+      if [ -n "$has_join" ] && [ "$1" != gateway ]; then keep_beside "$@"; fi
       set -- "${words[@]}"
       if [ -n "$has_join" ]; then join_groups "$program" "$@"; fi
       ;;
@@ -582,6 +584,7 @@ run() {
   case ${1-} in
     desk) tell_width; if edits_lines; then edit_lines "$program" "$@"; else feed "$program" "$@"; fi ;;
     watch) tell_size; feed "$program" "$@" ;;
+    record) feed "$program" "$@" ;;
     gateway) if draws "$@"; then tell_size; draw "$program" "$@"; else tell_width; exec "$program" "$@"; fi ;;
     explain) if serves "$@"; then feed "$program" "$@"; else exec "$program" "$@"; fi ;;
     *) exec "$program" "$@" ;;

@@ -1,55 +1,29 @@
 #!/usr/bin/env python3
-"""Shows a node's ports through the shared library: prints a line for each frame that changed, as 'PORT MILLISECONDS FRAME'.
+"""Shows a universe that comes by multicast: prints 'PORT MILLISECONDS FRAME' for each frame that changed.
 
-usage: receive.py LIBRARY SETUP SECONDS
-"""
-import ctypes
-import socket
-import sys
-import time
-
-FRAME_OCTETS = 513
+usage: receive.py UNIVERSE [SECONDS [UDP-PORT [ADDRESS OF THE DEVICE TO JOIN ON]]]"""
+import socket, sys, time
+import sacn_core
 
 
-class Node(ctypes.Structure):
-    _fields_ = [("behind", ctypes.c_void_p)]
+def main(universe, seconds="inf", udp_port="5568", address="0.0.0.0"):
+    setup = f"version = 1\nudp_port = {udp_port}\n[[port]]\nnumber = 1\nuniverse = {universe}\n"
+    with sacn_core.Node(setup) as node, socket.socket(socket.AF_INET, socket.SOCK_DGRAM) as hears:
+        hears.bind(("", node.udp_port))
+        joined = socket.inet_aton(sacn_core.multicast_group(int(universe))) + socket.inet_aton(address)
+        hears.setsockopt(socket.IPPROTO_IP, socket.IP_ADD_MEMBERSHIP, joined)
+        began, shown, now = time.monotonic(), None, 0
+        while now < 1000 * float(seconds):
+            if (frame := node.frame(now, 1)) != shown:
+                shown = frame
+                print(1, now, frame.hex(), flush=True)
+            hears.settimeout((min(now + 1000, node.wakes() or now + 1000) - now) / 1000)
+            try:
+                datagram = hears.recv(2048)
+                node.take(int(1000 * (time.monotonic() - began)), datagram)
+            except (socket.timeout, sacn_core.NotAPacket):
+                pass
+            now = int(1000 * (time.monotonic() - began))
 
 
-def main(library, setup, seconds):
-    sacn = ctypes.CDLL(library)
-    octets = ctypes.c_char_p
-    sacn.sacn_node_new.argtypes = [ctypes.POINTER(Node), octets, ctypes.c_size_t, ctypes.POINTER(ctypes.c_uint16)]
-    sacn.sacn_node_take.argtypes = [ctypes.POINTER(Node), ctypes.c_uint64, octets, ctypes.c_size_t, ctypes.POINTER(ctypes.c_uint8)]
-    sacn.sacn_node_frame.argtypes = [ctypes.POINTER(Node), ctypes.c_uint64, ctypes.c_uint8, ctypes.POINTER(ctypes.c_uint8)]
-    sacn.sacn_node_free.argtypes = [ctypes.POINTER(Node)]
-
-    with open(setup, "rb") as file:
-        text = file.read()
-    node, udp_port, taken = Node(), ctypes.c_uint16(), ctypes.c_uint8()
-    status = sacn.sacn_node_new(node, text, len(text), udp_port)
-    if status:
-        print("refused", status, file=sys.stderr)
-        return 3
-    hears = socket.socket(socket.AF_INET, socket.SOCK_DGRAM)
-    hears.setsockopt(socket.SOL_SOCKET, socket.SO_REUSEADDR, 1)
-    hears.bind(("127.0.0.1", udp_port.value))
-    hears.settimeout(0.05)
-    frame, shown, began = (ctypes.c_uint8 * FRAME_OCTETS)(), {}, time.monotonic()
-    while (moment := int(1000 * (time.monotonic() - began))) < 1000 * float(seconds):
-        try:
-            datagram = hears.recv(2048)
-            sacn.sacn_node_take(node, moment, datagram, len(datagram), taken)
-        except TimeoutError:
-            pass
-        for port in range(1, 256):
-            if sacn.sacn_node_frame(node, moment, port, frame) == 0 and shown.get(port, bytes(FRAME_OCTETS)) != bytes(frame):
-                shown[port] = bytes(frame)
-                print(port, moment, shown[port].hex(), flush=True)
-    sacn.sacn_node_free(node)
-    return 0
-
-
-if __name__ == "__main__":
-    if len(sys.argv) != 4:
-        sys.exit(__doc__)
-    sys.exit(main(*sys.argv[1:]))
+main(*sys.argv[1:])

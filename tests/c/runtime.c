@@ -1,5 +1,6 @@
-/* Tries each function of runtime/runtime.c against what is asked of it. Started as `runtime one "" three` with FIRST=value in the environment.
+/* Tries each function of runtime/heap.c and runtime/runtime.c against what is asked of it. Started as `runtime one "" three` with FIRST=value in the environment.
    It prints the line of the first that isn't so, and then ends with status 1. */
+#include "../../runtime/heap.c"
 #include "../../runtime/runtime.c"
 #include <fcntl.h>
 #include <stdio.h>

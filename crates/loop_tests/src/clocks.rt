@@ -223,3 +223,16 @@ fn a_recording_begins_with_its_first_frame(rt: HostRuntime) {
     let other = begins(rt.alloc(), b"no recording");
     assert!(rt; other.is_ok_and(|it| it == (None, true)));
 }
+
+/// A section of pcapng, the low octet first, an interface of Ethernet, a simple packet (3) of four octets, and an enhanced
+/// one (6) of none at tick 1,000,000,000 by the microsecond.
+const SIMPLE_FIRST: &[u8] =
+    b"\x0a\x0d\x0d\x0a\x1c\0\0\0\x4d\x3c\x2b\x1a\x01\0\0\0\xff\xff\xff\xff\xff\xff\xff\xff\x1c\0\0\0\x01\0\0\0\x14\0\0\0\x01\0\0\0\0\0\0\0\x14\0\0\0\x03\0\0\0\x14\0\0\0\x04\0\0\0none\x14\0\0\0\x06\0\0\0\x20\0\0\0\0\0\0\0\0\0\0\0\0\xca\x9a\x3b\0\0\0\0\0\0\0\0\x20\0\0\0";
+
+#[test]
+fn a_frame_without_a_moment_is_passed_over_where_the_first_is_looked_for(rt: HostRuntime) {
+    let whole = begins(rt.alloc(), SIMPLE_FIRST);
+    assert!(rt; whole.is_ok_and(|it| it == (Some(1_000_000), true)));
+    let cut = begins(rt.alloc(), &SIMPLE_FIRST[..68]);
+    assert!(rt; cut.is_ok_and(|it| it == (None, true)));
+}

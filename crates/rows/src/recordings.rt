@@ -93,7 +93,7 @@ impl Recordings {
         self.file.extend_from_slice(&len)
     }
 
-    /// Says each frame with its moment, and at last `end` or what is wrong with the file.
+    /// Says each frame with its moment, or `unstamped` where it has none, and at last `end` or what is wrong with the file.
     fn read(&mut self, step: &mut Step<'_>) {
         match Capture::open(self.alloc, self.file.as_slice()) {
             Ok(mut capture) => say_records(step, &mut capture),
@@ -123,7 +123,10 @@ fn say_records(step: &mut Step<'_>, capture: &mut Capture<&[u8]>) {
     for _ in 0..64 {
         match capture.next() {
             Ok(Some(record)) => {
-                step.say(&record.moment);
+                match record.moment {
+                    Some(moment) => step.say(&moment),
+                    None => step.say(&"unstamped"),
+                }
                 say_content(step, &record.content);
                 step.say(&";");
             }

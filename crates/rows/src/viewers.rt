@@ -123,6 +123,7 @@ fn say_reading(step: &mut Step<'_>, reading: RequestReading) {
             say_given(step, universe.map(u64::from));
         }
         RequestReading::Asked(Target::Recording) => step.say(&"recording"),
+        RequestReading::Asked(Target::Findings) => step.say(&"findings"),
         RequestReading::Refused(refusal) => step.say(&format_args!("refused {}", refusal.status())),
     }
 }

@@ -2,10 +2,10 @@
 use crate::auditing::{findings_of, hear};
 use crate::explain::{ROOM, form_of, say_capture_fault, say_unread};
 use sacn_audit::Audit;
-use sacn_capture::{Capture, CaptureFault};
+use sacn_capture::{Capture, CaptureFault, FrameCounts};
 use sacn_commands::ending::{Ending, of_write};
 use sacn_packets::read_packet;
-use sacn_tell::Timeline;
+use sacn_tell::{Form, Timeline, begin_object, has_unread, unread_members, unread_text};
 use sacn_words::STANDARD_INPUT;
 use std::alloc::{AllocError, Global};
 use std::fs;
@@ -26,6 +26,10 @@ pub struct AuditOf<'a> {
 #[derive(Drop)]
 struct Audited {
     audit: Audit,
+    /// Its frames, by what they were.
+    frames: FrameCounts,
+    /// The moment of the last frame, in milliseconds from the first.
+    length: u64,
     stopped: Option<CaptureFault>,
 }
 
@@ -60,8 +64,14 @@ fn audit_of<I: Read + Drop, E: Write>(
     };
     match Capture::open(alloc, reader) {
         Ok(mut capture) => {
-            let stopped = follow(&mut capture, &mut audit, asked.port);
-            Ok(Audited { audit, stopped })
+            let mut timeline = Timeline::begin();
+            let stopped = follow(&mut capture, &mut audit, &mut timeline, asked.port);
+            Ok(Audited {
+                audit,
+                frames: capture.counts(),
+                length: timeline.now,
+                stopped,
+            })
         }
         Err(fault) => Err(say_capture_fault(asked.capture, fault, err)),
     }
@@ -71,9 +81,9 @@ fn audit_of<I: Read + Drop, E: Write>(
 fn follow<I: BufRead + Drop>(
     capture: &mut Capture<I>,
     audit: &mut Audit,
+    timeline: &mut Timeline,
     port: u16,
 ) -> Option<CaptureFault> {
-    let mut timeline = Timeline::begin();
     // (no device holds so many frames)
     for _ in 0..u64::MAX {
         match capture.next() {
@@ -107,11 +117,30 @@ fn tell_audited<O: Write, E: Write>(
     out: &mut O,
     err: &mut E,
 ) -> Result<(), Ending> {
-    let text = findings_of(alloc, &audited.audit, form_of(asked.is_json))?;
+    let mut text = findings_of(alloc, &audited.audit, form_of(asked.is_json))?;
+    push_frames(&mut text, audited, form_of(asked.is_json))?;
     of_write(out.write_all(text.as_str().as_bytes()))?;
     of_write(out.flush())?;
     match audited.stopped {
         Some(fault) => Err(say_capture_fault(asked.capture, fault, err)),
         None => Ok(()),
+    }
+}
+
+// Which frames of the recording couldn't be read, where there are such.
+fn push_frames(text: &mut String, audited: &Audited, form: Form) -> Result<(), AllocError> {
+    if !has_unread(&audited.frames) {
+        return Ok(());
+    }
+    match form {
+        Form::Json => {
+            begin_object(text, audited.length, "unread_frames")?;
+            unread_members(text, &audited.frames)?;
+            text.push_str("}\n")
+        }
+        Form::Text => {
+            unread_text(text, &audited.frames)?;
+            text.push('\n')
+        }
     }
 }

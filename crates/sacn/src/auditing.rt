@@ -1,17 +1,75 @@
 //! An audit of what is heard as it comes.
 use crate::explain::form_of;
-use sacn_audit::Audit;
-use sacn_findings::{push_objects, push_text, push_unread, push_unread_objects};
+use sacn_audit::{Audit, Delivery};
+use sacn_findings::{push_objects, push_text, push_unread_objects};
 use sacn_monitor::Endpoint;
 use sacn_packets::{Packet, Reading};
 use sacn_tell::Form;
 use sacn_watch::{WatchFault, Watcher};
 use std::alloc::{AllocError, Global};
 
+/// So many pages of universe discovery at most are audited in `SPAN` milliseconds: each is looked at beside all streams, and who floods a
+/// port with pages is not to hold up what is heard. A thousand sources send a hundred pages a second (E1.31, 8).
+const MOST_PAGES: u32 = 10;
+
+const SPAN: u64 = 50;
+
+/// An audit of what is heard live.
+#[derive(Drop)]
+pub struct LiveAudit {
+    audit: Audit,
+    /// When the span began in which pages are counted, and how many came in it.
+    span: u64,
+    pages: u32,
+}
+
+impl LiveAudit {
+    /// Nothing was heard yet.
+    ///
+    /// Errors: a request for memory was refused.
+    pub fn new(alloc: Global) -> Result<Self, AllocError> {
+        Ok(LiveAudit {
+            audit: Audit::new(alloc)?,
+            span: 0,
+            pages: 0,
+        })
+    }
+
+    /// Audits what a datagram was read as.
+    pub fn hear(&mut self, now: u64, sender: Endpoint, reading: &Reading<'_>) {
+        if is_page(reading) && !self.has_room(now) {
+            return;
+        }
+        hear(&mut self.audit, now, sender.address, UNKNOWN, reading);
+    }
+
+    // Whether a page is audited that comes now.
+    fn has_room(&mut self, now: u64) -> bool {
+        if now.saturating_sub(self.span) >= SPAN {
+            self.span = now;
+            self.pages = 0;
+        }
+        self.pages = self.pages.saturating_add(1);
+        self.pages <= MOST_PAGES
+    }
+
+    /// What was found so far.
+    pub fn audit(&self) -> &Audit {
+        &self.audit
+    }
+}
+
+fn is_page(reading: &Reading<'_>) -> bool {
+    match reading {
+        Ok(Packet::PagePacket(_)) => true,
+        _ => false,
+    }
+}
+
 /// An audit of what is heard, and what else takes it.
 #[derive(Drop)]
 pub struct Auditing<W> {
-    audit: Audit,
+    audit: LiveAudit,
     viewers: W,
 }
 
@@ -21,7 +79,7 @@ impl<W: Watcher + Drop> Auditing<W> {
     /// Errors: a request for memory was refused.
     pub fn new(alloc: Global, viewers: W) -> Result<Self, AllocError> {
         Ok(Auditing {
-            audit: Audit::new(alloc)?,
+            audit: LiveAudit::new(alloc)?,
             viewers,
         })
     }
@@ -30,7 +88,7 @@ impl<W: Watcher + Drop> Auditing<W> {
     ///
     /// Errors: a request for memory was refused.
     pub fn findings(&self, alloc: Global, is_json: bool) -> Result<String, AllocError> {
-        findings_of(alloc, &self.audit, form_of(is_json))
+        findings_of(alloc, self.audit.audit(), form_of(is_json))
     }
 }
 
@@ -46,10 +104,6 @@ pub fn findings_of(alloc: Global, audit: &Audit, form: Form) -> Result<String, A
         }
         Form::Text => {
             push_text(alloc, &mut text, audit)?;
-            if audit.sources().is_empty() {
-                text.push_str("no packets of streaming ACN\n")?;
-            }
-            push_unread(&mut text, audit)?;
         }
     }
     Ok(text)
@@ -64,7 +118,9 @@ pub fn hear(
     reading: &Reading<'_>,
 ) {
     match reading {
-        Ok(Packet::DataPacket(packet)) => audit.hear(now, sender, destination, packet),
+        Ok(Packet::DataPacket(packet)) => {
+            audit.hear(now, sender, Delivery::of(destination, packet), packet)
+        }
         Ok(Packet::PagePacket(page)) => audit.hear_page(now, sender, page),
         Ok(Packet::SyncPacket) => {}
         Err(fault) => audit.hear_refused(now, sender, *fault),
@@ -81,7 +137,7 @@ impl<W: Watcher + Drop> Watcher for Auditing<W> {
         sender: Endpoint,
         reading: &Reading<'_>,
     ) -> Result<(), WatchFault> {
-        hear(&mut self.audit, now, sender.address, UNKNOWN, reading);
+        self.audit.hear(now, sender, reading);
         self.viewers.take(now, sender, reading)
     }
 

@@ -1,6 +1,7 @@
 //! A gateway, and a page or a screen of what it hears.
 use crate::auditing::{Auditing, Unviewed};
 use crate::frames::{Unprinted, lines_of, run_printing};
+use crate::judged::judged_of;
 use crate::keys::ScreenKeys;
 use crate::port::{Sharer, keep_alone};
 use crate::screen::{hands_keys, screen_of, size_file};
@@ -19,7 +20,7 @@ use sacn_machine::{
 use sacn_monitor::Endpoint;
 use sacn_node::NodeSetup;
 use sacn_packets::Reading;
-use sacn_page::{Board, MAX_ALARMS, Pages};
+use sacn_page::Pages;
 use sacn_watch::{Keyboard, Screen, Sizes, WatchFault, Watcher};
 use sacn_words::GatewayAsked;
 use std::alloc::{AllocError, Global};
@@ -158,8 +159,8 @@ fn run_shown<'a, R: AllocGlobal + Env + Net + Clock>(
     place: SocketAddrV4,
     (outputs, joined): (&TimedOutputs<'a, R>, Option<String>),
 ) -> Result<(), Ending> {
-    let board = Board::new(rt.alloc(), None, MAX_ALARMS)?;
-    let pages = Pages::bind(rt, rt.alloc(), place, board);
+    let judged = judged_of(rt.alloc(), None)?;
+    let pages = Pages::bind(rt, rt.alloc(), place, judged);
     let mut pages = of_socket(pages, place, &mut outputs.err())?;
     let mut receiver = own_receiver(rt, asked, setups, &mut outputs.err())?;
     receiver.tend(outputs.outputs, joined, outputs.front_in(SILENT_START));

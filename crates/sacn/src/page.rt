@@ -1,10 +1,11 @@
 //! A watch that browsers see.
+use crate::judged::{Judged, judged_of};
 use crate::watch::{Place, receiver_at, watch_end};
 use sacn_commands::ending::Ending;
 use sacn_commands::live::{joined_groups, of_socket, say_hearing};
 use sacn_commands::paging::say_page;
 use sacn_machine::{ClockFront, Lines, Outputs};
-use sacn_page::{Board, MAX_ALARMS, Pages};
+use sacn_page::Pages;
 use sacn_watch::{RunningListener, run_watch};
 use std::env::Env;
 use std::io::Write;
@@ -21,8 +22,8 @@ pub fn serve<R: AllocGlobal + Env + Net + Clock, E: Write>(
     until: u64,
     err: &mut E,
 ) -> Result<(), Ending> {
-    let board = Board::new(rt.alloc(), universe, MAX_ALARMS)?;
-    let mut pages = of_socket(Pages::bind(rt, rt.alloc(), page, board), page, err)?;
+    let judged = judged_of(rt.alloc(), universe)?;
+    let mut pages = of_socket(Pages::bind(rt, rt.alloc(), page, judged), page, err)?;
     let outputs = Outputs::new(rt.alloc(), Lines::Plain)?;
     let outputs = (&outputs, joined_groups(rt));
     hear(rt, place, page, &mut pages, until, outputs, err)
@@ -33,7 +34,7 @@ fn hear<'a, R: Net + Clock, E: Write>(
     rt: &'a R,
     place: Place,
     page: SocketAddrV4,
-    pages: &mut Pages<Board>,
+    pages: &mut Pages<Judged>,
     until: u64,
     (outputs, joined): (&'a Outputs, Option<String>),
     err: &mut E,

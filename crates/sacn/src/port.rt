@@ -7,6 +7,7 @@ use std::net::{Ipv4Addr, Net, SocketAddrV4, UdpSocket};
 #[derive(Clone, Copy)]
 pub enum Sharer {
     Watch,
+    Record,
     Gateway,
 }
 
@@ -23,6 +24,10 @@ pub fn keep_alone<R: Net, E: Write>(
     let port = address.port();
     let (name, way) = match sharer {
         Sharer::Watch => ("a watch", "Start the gateway with --page PORT or --watch"),
+        Sharer::Record => (
+            "a recording",
+            "Record on another machine, or by tcpdump, which takes nothing away",
+        ),
         Sharer::Gateway => (
             "this gateway",
             "End the other one, or hand all setups to one gateway",

@@ -2,7 +2,7 @@
 use crate::audit::{self, AuditOf};
 use crate::piped::Piped;
 use crate::room::ask_for_room;
-use crate::{check, explain, gateway, manual, watch};
+use crate::{check, explain, gateway, manual, record, watch};
 use sacn_commands::ending::{DONE, Ending, tell_ending, tell_words};
 use sacn_commands::network::{console_of_files, node_of_file};
 use sacn_commands::printing::{decode_files, decode_input, simulate};
@@ -75,6 +75,7 @@ fn run_beside<R: AllocGlobal + Files + Env + Net + Clock, I: Read + Drop, O: Wri
         Asked::Groups { file, device } => groups::groups(rt, (*file, *device), input, out, err),
         Asked::Manual(syntax) => manual::print(rt.alloc(), *syntax, out),
         Asked::Watch(asked) => watch::watch(rt, asked, out, err),
+        Asked::Record(asked) => record::record(rt, asked, err),
         Asked::Explain(asked) => {
             let mut out = Piped::new(out);
             let told = explain::tell(rt, asked, input, &mut out, err);
@@ -85,14 +86,12 @@ fn run_beside<R: AllocGlobal + Files + Env + Net + Clock, I: Read + Drop, O: Wri
             port,
             is_json,
         } => {
-            let mut out = Piped::new(out);
             let asked = AuditOf {
                 capture,
                 port: *port,
                 is_json: *is_json,
             };
-            let told = audit::tell(rt, asked, input, &mut out, err);
-            out.ending(told)
+            tell_audit(rt, asked, input, out, err)
         }
         Asked::Check(asked) => {
             let mut out = Piped::new(out);
@@ -100,4 +99,16 @@ fn run_beside<R: AllocGlobal + Files + Env + Net + Clock, I: Read + Drop, O: Wri
             out.ending(told)
         }
     }
+}
+
+fn tell_audit<R: AllocGlobal + Files, I: Read + Drop, O: Write, E: Write>(
+    rt: &R,
+    asked: AuditOf<'_>,
+    input: &mut I,
+    out: &mut O,
+    err: &mut E,
+) -> Result<(), Ending> {
+    let mut out = Piped::new(out);
+    let told = audit::tell(rt, asked, input, &mut out, err);
+    out.ending(told)
 }

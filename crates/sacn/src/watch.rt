@@ -30,10 +30,12 @@ pub fn watch_end<T>(told: Result<T, WatchFault>) -> Result<T, Ending> {
     }
 }
 
-/// Where a watch hears.
+/// Where a watch or a recorder hears.
 #[derive(Clone, Copy)]
 pub struct Place {
     pub address: SocketAddrV4,
+    /// What hears there.
+    pub sharer: Sharer,
     /// Whether it hears there also where another receiver does.
     pub is_beside: bool,
 }
@@ -48,6 +50,7 @@ pub fn watch<R: AllocGlobal + Files + Env + Net + Clock, O: Write, E: Write>(
     guard_standard_descriptors();
     let place = Place {
         address: SocketAddrV4::new(asked.listen, asked.port),
+        sharer: Sharer::Watch,
         is_beside: asked.is_beside,
     };
     let until = moment_of(asked.seconds);
@@ -186,14 +189,14 @@ fn tell_on<'a, R: AllocGlobal + Net + Clock, O: Write, L: Write>(
 }
 
 /// Hears at a place, for as long as standard input goes on. Where another receiver has the port, that is said, and ends the run, but
-/// where the watch was asked to hear beside it.
+/// where what hears was asked to hear beside it.
 pub fn receiver_at<'a, R: Net + Clock, E: Write>(
     rt: &'a R,
     place: Place,
     err: &mut E,
 ) -> Result<UdpReceiver<'a, R>, Ending> {
     if !place.is_beside {
-        keep_alone(rt, place.address, Sharer::Watch, err)?;
+        keep_alone(rt, place.address, place.sharer, err)?;
     }
     let bound = UdpReceiver::bind(rt, place.address, clock_of(rt)?);
     let mut receiver = of_socket(bound, place.address, err)?;

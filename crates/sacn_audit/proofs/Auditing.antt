@@ -2,11 +2,11 @@
 use Rattle.std.proofs.Common.{◌≡◌, ◌<◌, ◌≤◌, ℕ, ◌+◌, ◌-◌, Bool, true, false, not, ◌&&◌, ◌==◌, cond, List, [], ◌∷◌, min, max, nat_lt, refl, sym, ap, ◌∙◌, arith}
 use Rattle.std.proofs.lemmas.Bool.Decides.{nat_tests}
 use Rattle.sacn_audit.specs.declared.rule.Rule.{Rule}
-use Rattle.sacn_audit.specs.declared.rule.Rule.TheVariants.{TooFast, Silent, ShortChange, ShortEnd, NameNotEnded, NameNotText, NumberStays, NumberLeftOut, OtherGroup, OtherStart}
+use Rattle.sacn_audit.specs.declared.rule.Rule.TheVariants.{TooFast, Silent, ShortChange, ShortEnd, NameNotEnded, NameNotText, NumberStays, NumberLeftOut, ReservedBits, OtherGroup, OtherStart}
 use Rattle.sacn_audit.specs.declared.breach.Breaches.{Breaches}
 use Rattle.sacn_audit.specs.declared.audit.StreamAudit.{StreamAudit}
 use Rattle.sacn_audit.specs.Arrivals.{Arrival, ends, follows, in_turn, latest_levels, latest_moment, packets_in, passes_one, second_of}
-use Rattle.sacn_audit.specs.Rules.{breaks, goes_to_other_group, goes_too_fast, had_short_end, has_no_text, has_other_start, keeps_number, leaves_name_open, leaves_number_out, moments_where, had_short_change, was_silent}
+use Rattle.sacn_audit.specs.Rules.{breaks, goes_to_other_group, goes_too_fast, had_short_end, has_no_text, has_other_start, keeps_number, leaves_name_open, leaves_number_out, moments_where, had_short_change, sets_reserved_bits, was_silent}
 use Rattle.sacn_audit.specs.Breaches.{breach_by, breach_of, no_breach, noted_if}
 use Rattle.sacn_audit.specs.Audits.{after_at, after_packet, counted, first_audit, is_short, is_too_fast, judged, sight_of}
 use Rattle.sacn_audit.specs.Histories.{BreachesAreOfTheirPackets, ShortEndsAreOfTheirPackets, audit_by, audit_with}
@@ -25,6 +25,7 @@ breaches_of xs = record {
   name_not_text = breach_by (moments_where has_no_text xs);
   number_stays = breach_by (moments_where keeps_number xs);
   number_left_out = breach_by (moments_where leaves_number_out xs);
+  reserved_bits = breach_by (moments_where sets_reserved_bits xs);
   other_group = breach_by (moments_where goes_to_other_group xs);
   other_start = breach_by (moments_where has_other_start xs);
 }
@@ -33,7 +34,7 @@ breaches_of xs = record {
 abbrev audit_of : Arrival → List Arrival → StreamAudit
 audit_of x earlier = record {
   moment = x.moment;
-  latest = sight_of x.destination x.packet;
+  latest = sight_of x.delivery x.packet;
   content = x.packet.slots;
   levels = latest_levels (x ∷ earlier);
   pace = pace_of x earlier;
@@ -67,7 +68,7 @@ module _ (x y : Arrival) (earlier : List Arrival) where
   short_end : not x.packet.terminated && is_short (min (ends ys) 3) ≡ had_short_end (x ∷ ys)
   short_end = ap (λ (b : Bool). not x.packet.terminated && b) (short (ends ys))
 
-  judges : judged x.moment (sight_of x.destination x.packet) before ≡ breaches_of (x ∷ ys)
+  judges : judged x.moment (sight_of x.delivery x.packet) before ≡ breaches_of (x ∷ ys)
   judges =
       let too_fast = noted (is_too_fast (pace_of x ys)) (goes_too_fast (x ∷ ys)) (moments_where goes_too_fast ys) fast in
       let silent = noted (was_silent (x ∷ ys)) (was_silent (x ∷ ys)) (moments_where was_silent ys) refl in
@@ -76,6 +77,7 @@ module _ (x y : Arrival) (earlier : List Arrival) where
       let name = noted (leaves_name_open (x ∷ ys)) (leaves_name_open (x ∷ ys)) (moments_where leaves_name_open ys) refl in
       let text = noted (has_no_text (x ∷ ys)) (has_no_text (x ∷ ys)) (moments_where has_no_text ys) refl in
       let start = noted (has_other_start (x ∷ ys)) (has_other_start (x ∷ ys)) (moments_where has_other_start ys) refl in
+      let bits = noted (sets_reserved_bits (x ∷ ys)) (sets_reserved_bits (x ∷ ys)) (moments_where sets_reserved_bits ys) refl in
       let group = noted (goes_to_other_group (x ∷ ys)) (goes_to_other_group (x ∷ ys)) (moments_where goes_to_other_group ys) refl in
       let stay = noted ((habits_of x ys).same == 4) (keeps_number (x ∷ ys)) (moments_where keeps_number ys) (stays x ys) in
       let left = noted (passes_one y.packet x.packet && ((habits_of x ys).turns == 3)) (leaves_number_out (x ∷ ys)) (moments_where leaves_number_out ys) (leaves x y earlier) in
@@ -88,21 +90,22 @@ module _ (x y : Arrival) (earlier : List Arrival) where
         name_not_text = text i;
         number_stays = stay i;
         number_left_out = left i;
+        reserved_bits = bits i;
         other_group = group i;
         other_start = start i;
       }
 
-  heard : second_of y.moment ≤ second_of x.moment → ((before second : ℕ) → second_of y.moment + before < second → packets_in before second ys ≡ 0) → after_at x.moment x.destination x.packet (audit_of y earlier) ≡ audit_of x ys
+  heard : second_of y.moment ≤ second_of x.moment → ((before second : ℕ) → second_of y.moment + before < second → packets_in before second ys ≡ 0) → after_at x.moment x.delivery x.packet (audit_of y earlier) ≡ audit_of x ys
   heard ordered later =
       let pace = paced x y earlier ordered later in
       let habits = counted_more x y earlier in
       let ends = ends_more x ys in
       let copied = copies_more x y earlier in
-      let counts : counted x.moment (sight_of x.destination x.packet) (audit_of y earlier) ≡ before = λ i. record (audit_of y earlier) { pace = pace i; habits = habits i } in
-      let breaches = ap (judged x.moment (sight_of x.destination x.packet)) counts ∙ judges in
+      let counts : counted x.moment (sight_of x.delivery x.packet) (audit_of y earlier) ≡ before = λ i. record (audit_of y earlier) { pace = pace i; habits = habits i } in
+      let breaches = ap (judged x.moment (sight_of x.delivery x.packet)) counts ∙ judges in
       λ i. record {
         moment = x.moment;
-        latest = sight_of x.destination x.packet;
+        latest = sight_of x.delivery x.packet;
         content = x.packet.slots;
         levels = latest_levels (x ∷ ys);
         pace = pace i;
@@ -118,7 +121,7 @@ not_both : (b : Bool) → b && false ≡ false
 not_both true = refl
 not_both false = refl
 
-begins : (x : Arrival) → first_audit x.moment x.destination x.packet ≡ audit_of x []
+begins : (x : Arrival) → first_audit x.moment x.delivery x.packet ≡ audit_of x []
 begins x =
     let pace = first_paced x in
     let habits = first_counted x in
@@ -128,11 +131,12 @@ begins x =
     let name = noted_by (leaves_name_open (x ∷ [])) x.moment [] in
     let text = noted_by (has_no_text (x ∷ [])) x.moment [] in
     let start = noted_by (has_other_start (x ∷ [])) x.moment [] in
+    let bits = noted_by (sets_reserved_bits (x ∷ [])) x.moment [] in
     let group = noted_by (goes_to_other_group (x ∷ [])) x.moment [] in
     let stay = ap (λ (b : Bool). breach_by (cond b (x.moment ∷ []) [])) (sym (first_stays_not x)) in
     λ i. record {
       moment = x.moment;
-      latest = sight_of x.destination x.packet;
+      latest = sight_of x.delivery x.packet;
       content = x.packet.slots;
       levels = latest_levels (x ∷ []);
       pace = pace i;
@@ -148,6 +152,7 @@ begins x =
         name_not_text = text i;
         number_stays = stay i;
         number_left_out = no_breach;
+        reserved_bits = bits i;
         other_group = group i;
         other_start = start i;
       };
@@ -165,7 +170,7 @@ is_audit_of : (x : Arrival) (earlier : List Arrival) → audit_with x (audit_by 
 is_audit_of x [] = begins x ∙ ap (λ (t : ℕ). audit_of (record x { moment = t }) []) (itself x.moment)
 is_audit_of x (y ∷ earlier) =
     let ordered : second_of (latest_moment (y ∷ earlier)) ≤ second_of (latest_moment (x ∷ y ∷ earlier)) = in_order (latest_moment (y ∷ earlier)) (latest_moment (x ∷ y ∷ earlier)) (omega arith) in
-    ap (after_packet x.moment x.destination x.packet) (is_audit_of y earlier)
+    ap (after_packet x.moment x.delivery x.packet) (is_audit_of y earlier)
     ∙ heard (head_of x (y ∷ earlier)) (head_of y earlier) (in_turn earlier) ordered (none_later (y ∷ earlier))
 
 by_rule : (rule : Rule) (xs : List Arrival) → breach_of rule (breaches_of xs) ≡ breach_by (moments_where (breaks rule) xs)
@@ -177,6 +182,7 @@ by_rule NameNotEnded xs = refl
 by_rule NameNotText xs = refl
 by_rule NumberStays xs = refl
 by_rule NumberLeftOut xs = refl
+by_rule ReservedBits xs = refl
 by_rule OtherGroup xs = refl
 by_rule OtherStart xs = refl
 

@@ -6,6 +6,7 @@ use Rattle.std.proofs.lemmas.Bool.{eqb-true}
 use Rattle.std.proofs.lemmas.Slice.Eq.{bytes_eq-Decides}
 use Rattle.sacn_packets.specs.Data.{Data}
 use Rattle.sacn_packets.specs.Page.{Page}
+use Rattle.sacn_audit.specs.declared.delivery.Delivery.{Delivery}
 use Rattle.sacn_audit.specs.declared.audit.StreamAudit.{StreamAudit}
 use Rattle.sacn_audit.specs.declared.source.SourceAudit.{SourceAudit}
 use Rattle.sacn_audit.specs.declared.stream_register.AuditedStream.{AuditedStream}
@@ -46,21 +47,21 @@ module _ (universe : ℕ) (cid : List ℕ) where
       ∙ ap (λ (c : List ℕ). position (is_of universe c) ss) ((bytes_eq-Decides d.cid cid).0 parts.1)
       )
 
-  module _ (t : ℕ) (destination : List ℕ) (d : Data) (ss : List AuditedStream) (xs : List Arrival) (follows : Follows ss (audit_by xs)) where
+  module _ (t : ℕ) (delivery : Delivery) (d : Data) (ss : List AuditedStream) (xs : List Arrival) (follows : Follows ss (audit_by xs)) where
     abbrev a : Arrival
-    a = record { moment = t; destination = destination; packet = d }
+    a = record { moment = t; delivery = delivery; packet = d }
 
-    heard_by : (k : Bool) → is_on universe cid d ≡ k → Follows (streams_after t destination d ss) (audit_by (cond k (a ∷ []) [] ++ xs))
-    heard_by true e = tracks_own 1024 (λ (s : AuditedStream). s.audit) q (stream_after t destination d) (first_stream t destination d) (λ s. refl) ss (audit_by xs) (audit_with a) e (λ s. refl) refl (place_of d.universe d.cid ss) (looks d ss e) follows
-    heard_by false e = tracks_other 1024 (λ (s : AuditedStream). s.audit) q (stream_after t destination d) (first_stream t destination d) (λ s. refl) ss (audit_by xs) (is_of d.universe d.cid) (λ s h. like d s h ∙ e) e (place_of d.universe d.cid ss) refl follows
+    heard_by : (k : Bool) → is_on universe cid d ≡ k → Follows (streams_after t delivery d ss) (audit_by (cond k (a ∷ []) [] ++ xs))
+    heard_by true e = tracks_own 1024 (λ (s : AuditedStream). s.audit) q (stream_after t delivery d) (first_stream t delivery d) (λ s. refl) ss (audit_by xs) (audit_with a) e (λ s. refl) refl (place_of d.universe d.cid ss) (looks d ss e) follows
+    heard_by false e = tracks_other 1024 (λ (s : AuditedStream). s.audit) q (stream_after t delivery d) (first_stream t delivery d) (λ s. refl) ss (audit_by xs) (is_of d.universe d.cid) (λ s h. like d s h ∙ e) e (place_of d.universe d.cid ss) refl follows
 
-  followed : (t : ℕ) (address destination : List ℕ) (p : SourcePacket) (n : Network) (xs : List Arrival) → Follows n.streams (audit_by xs) → Follows (with_packet t address destination p n).streams (audit_by (arrival_of universe cid t destination p ++ xs))
-  followed t address destination (SentData d) n xs follows = heard_by t destination d n.streams xs follows (is_on universe cid d) refl
-  followed t address destination (SentPage p) n xs follows = follows
+  followed : (t : ℕ) (address : List ℕ) (delivery : Delivery) (p : SourcePacket) (n : Network) (xs : List Arrival) → Follows n.streams (audit_by xs) → Follows (with_packet t address delivery p n).streams (audit_by (arrival_of universe cid t delivery p ++ xs))
+  followed t address delivery (SentData d) n xs follows = heard_by t delivery d n.streams xs follows (is_on universe cid d) refl
+  followed t address delivery (SentPage p) n xs follows = follows
 
 pub audits_are_of_their_packets : AuditsAreOfTheirPackets
 audits_are_of_their_packets [] universe cid = inl refl
-audits_are_of_their_packets (x ∷ earlier) universe cid = followed universe cid x.moment x.address x.destination x.packet (after_all earlier) (arrivals universe cid earlier) (audits_are_of_their_packets earlier universe cid)
+audits_are_of_their_packets (x ∷ earlier) universe cid = followed universe cid x.moment x.address x.delivery x.packet (after_all earlier) (arrivals universe cid earlier) (audits_are_of_their_packets earlier universe cid)
 
 -- ---- a source
 
@@ -83,9 +84,9 @@ module _ (cid : List ℕ) where
     page_from p v true e = tracks_own 1024 by_itself (is_from cid) (source_after_page t address p v) (first_heard t address p.cid p.name) (λ s. refl) ss (source_by xs) (source_with_packet t address (SentPage p)) e (λ s. refl) refl (place_from p.cid ss) (looks_from p.cid ss e) keeps
     page_from p v false e = tracks_other 1024 by_itself (is_from cid) (source_after_page t address p v) (first_heard t address p.cid p.name) (λ s. refl) ss (source_by xs) (is_from p.cid) (λ s h. like_from p.cid s h ∙ e) e (place_from p.cid ss) refl keeps
 
-  kept_with : (t : ℕ) (address destination : List ℕ) (p : SourcePacket) (n : Network) (xs : List Heard) → Keeps n.sources (source_by xs) → Keeps (with_packet t address destination p n).sources (cond (bytes_eq (sender_of p) cid) (Some (source_with_packet t address p (source_by xs))) (source_by xs))
-  kept_with t address destination (SentData d) n xs keeps = packet_from t address n.sources xs keeps d (bytes_eq d.cid cid) refl
-  kept_with t address destination (SentPage p) n xs keeps = page_from t address n.sources xs keeps p (verdict_of t p n.untracked n.streams) (bytes_eq p.cid cid) refl
+  kept_with : (t : ℕ) (address : List ℕ) (delivery : Delivery) (p : SourcePacket) (n : Network) (xs : List Heard) → Keeps n.sources (source_by xs) → Keeps (with_packet t address delivery p n).sources (cond (bytes_eq (sender_of p) cid) (Some (source_with_packet t address p (source_by xs))) (source_by xs))
+  kept_with t address delivery (SentData d) n xs keeps = packet_from t address n.sources xs keeps d (bytes_eq d.cid cid) refl
+  kept_with t address delivery (SentPage p) n xs keeps = page_from t address n.sources xs keeps p (verdict_of t p n.untracked n.streams) (bytes_eq p.cid cid) refl
 
   joined : (x : Heard) (xs : List Heard) (k : Bool) → cond k (Some (source_with_packet x.moment x.address x.packet (source_by xs))) (source_by xs) ≡ source_by (cond k (x ∷ xs) xs)
   joined x xs true = refl
@@ -95,7 +96,7 @@ module _ (cid : List ℕ) where
   kept_from [] = inl refl
   kept_from (x ∷ earlier) =
       let xs = packets_from cid earlier in
-      subst (Keeps (after_all (x ∷ earlier)).sources) (joined x xs (bytes_eq (sender_of x.packet) cid)) (kept_with x.moment x.address x.destination x.packet (after_all earlier) xs (kept_from earlier))
+      subst (Keeps (after_all (x ∷ earlier)).sources) (joined x xs (bytes_eq (sender_of x.packet) cid)) (kept_with x.moment x.address x.delivery x.packet (after_all earlier) xs (kept_from earlier))
 
 pub sources_are_of_their_packets : SourcesAreOfTheirPackets
 sources_are_of_their_packets xs cid = kept_from cid xs

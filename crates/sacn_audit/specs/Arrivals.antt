@@ -3,11 +3,12 @@ use Rattle.std.specs.Prelude.{◌≤◌, ℕ, ◌+◌, ◌/◌, ◌%◌, max, Bo
 use Rattle.std.specs.List.{prefix_len}
 use Rattle.std.specs.Str.{bytes_eq}
 use Rattle.sacn_packets.specs.Data.{Data}
+use Rattle.sacn_audit.specs.declared.delivery.Delivery.{Delivery}
 
--- a packet, when it came, and to which IPv4 address it was sent
+-- a packet, when it came, and what came with it
 pub record Arrival : Type 0 where
   pub moment : ℕ
-  pub destination : List ℕ
+  pub delivery : Delivery
   pub packet : Data
 
 -- the moment in use after these: the greatest that was handed in

@@ -3,6 +3,7 @@ use Rattle.std.specs.Prelude.{ℕ, ◌+◌, ◌-◌, min, max, nat_lt, Bool, fal
 use Rattle.std.specs.List.{before_first, list_any}
 use Rattle.std.specs.Str.{bytes_eq, is_utf8}
 use Rattle.sacn_packets.specs.Data.{Data}
+use Rattle.sacn_audit.specs.declared.delivery.Delivery.{Delivery}
 use Rattle.sacn_audit.specs.declared.sight.Sight.{Sight}
 use Rattle.sacn_audit.specs.declared.pace.Pace.{Pace}
 use Rattle.sacn_audit.specs.declared.number_habits.NumberHabits.{NumberHabits}
@@ -10,18 +11,20 @@ use Rattle.sacn_audit.specs.declared.breach.Breaches.{Breaches}
 use Rattle.sacn_audit.specs.declared.audit.StreamAudit.{StreamAudit}
 use Rattle.sacn_audit.specs.Arrivals.{number_after, second_of}
 use Rattle.sacn_audit.specs.Groups.{is_other_group}
+use Rattle.sacn_audit.specs.Options.{has_reserved_bits}
 use Rattle.sacn_audit.specs.Rules.{is_late}
 use Rattle.sacn_audit.specs.Breaches.{no_breaches, noted_if}
 
--- of a packet that was sent to this address
-abbrev pub sight_of : List ℕ → Data → Sight
-sight_of destination d = record {
+-- of a packet, and of what came with it
+abbrev pub sight_of : Delivery → Data → Sight
+sight_of delivery d = record {
   number = d.number;
   terminated = d.terminated;
   start = d.start;
   is_name_ended = list_any (λ octet. octet == 0) d.name;
   is_name_text = is_utf8 (before_first (λ octet. octet == 0) d.name);
-  is_to_other_group = is_other_group destination d.universe;
+  is_to_other_group = is_other_group delivery.destination d.universe;
+  has_reserved_bits = has_reserved_bits delivery.options;
 }
 
 abbrev pub is_after : Sight → Sight → Bool
@@ -101,6 +104,7 @@ abbrev pub judged_alone : ℕ → Sight → Breaches → Breaches
 judged_alone t s b = record b {
   name_not_ended = noted_if (not s.is_name_ended) t b.name_not_ended;
   name_not_text = noted_if (not s.is_name_text) t b.name_not_text;
+  reserved_bits = noted_if s.has_reserved_bits t b.reserved_bits;
   other_group = noted_if s.is_to_other_group t b.other_group;
   other_start = noted_if (not (s.start == 0) && not (s.start == 221)) t b.other_start;
 }
@@ -118,17 +122,17 @@ judged t s a = record (judged_alone t s a.breaches) {
 
 -- ---- packets in turn
 
-abbrev pub first_audit : ℕ → List ℕ → Data → StreamAudit
-first_audit t destination d = record {
+abbrev pub first_audit : ℕ → Delivery → Data → StreamAudit
+first_audit t delivery d = record {
   moment = t;
-  latest = sight_of destination d;
+  latest = sight_of delivery d;
   content = d.slots;
   levels = if d.start == 0 then Some t else None;
   pace = first_pace t;
   habits = first_habits;
   ends = ends_after d.terminated 0;
   copies = 0;
-  breaches = judged_alone t (sight_of destination d) no_breaches;
+  breaches = judged_alone t (sight_of delivery d) no_breaches;
 }
 
 -- the moment of the latest levels, where nothing was lost since
@@ -139,18 +143,18 @@ levels_after t s a = if s.start == 0 then Some t else if is_continued s a then a
 abbrev pub counted : ℕ → Sight → StreamAudit → StreamAudit
 counted t s a = record a { pace = pace_after t a.pace; habits = habits_after a.latest.number s.number a.habits }
 
-abbrev pub after_at : ℕ → List ℕ → Data → StreamAudit → StreamAudit
-after_at t destination d a = record {
+abbrev pub after_at : ℕ → Delivery → Data → StreamAudit → StreamAudit
+after_at t delivery d a = record {
   moment = t;
-  latest = sight_of destination d;
+  latest = sight_of delivery d;
   content = d.slots;
-  levels = levels_after t (sight_of destination d) a;
+  levels = levels_after t (sight_of delivery d) a;
   pace = pace_after t a.pace;
   habits = habits_after a.latest.number d.number a.habits;
   ends = ends_after d.terminated a.ends;
-  copies = copies_after (carries_on a.latest (sight_of destination d)) (bytes_eq a.content d.slots) a.copies;
-  breaches = judged t (sight_of destination d) (counted t (sight_of destination d) a);
+  copies = copies_after (carries_on a.latest (sight_of delivery d)) (bytes_eq a.content d.slots) a.copies;
+  breaches = judged t (sight_of delivery d) (counted t (sight_of delivery d) a);
 }
 
-abbrev pub after_packet : ℕ → List ℕ → Data → StreamAudit → StreamAudit
-after_packet t destination d a = after_at (max t a.moment) destination d a
+abbrev pub after_packet : ℕ → Delivery → Data → StreamAudit → StreamAudit
+after_packet t delivery d a = after_at (max t a.moment) delivery d a

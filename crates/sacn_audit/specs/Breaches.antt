@@ -1,7 +1,7 @@
 -- How often a rule was broken, and when.
 use Rattle.std.specs.Prelude.{ℕ, ◌+◌, ◌-◌, ◌^◌, min, Bool, ◌==◌, List, [], ◌∷◌, length, if◌then◌else◌}
 use Rattle.sacn_audit.specs.declared.rule.Rule.{Rule}
-use Rattle.sacn_audit.specs.declared.rule.Rule.TheVariants.{TooFast, Silent, ShortChange, ShortEnd, NameNotEnded, NameNotText, NumberStays, NumberLeftOut, OtherGroup, OtherStart}
+use Rattle.sacn_audit.specs.declared.rule.Rule.TheVariants.{TooFast, Silent, ShortChange, ShortEnd, NameNotEnded, NameNotText, NumberStays, NumberLeftOut, ReservedBits, OtherGroup, OtherStart}
 use Rattle.sacn_audit.specs.declared.breach.Breach.{Breach}
 use Rattle.sacn_audit.specs.declared.breach.Breaches.{Breaches}
 
@@ -37,6 +37,7 @@ no_breaches = record {
   name_not_text = no_breach;
   number_stays = no_breach;
   number_left_out = no_breach;
+  reserved_bits = no_breach;
   other_group = no_breach;
   other_start = no_breach;
 }
@@ -50,5 +51,6 @@ breach_of NameNotEnded b = b.name_not_ended
 breach_of NameNotText b = b.name_not_text
 breach_of NumberStays b = b.number_stays
 breach_of NumberLeftOut b = b.number_left_out
+breach_of ReservedBits b = b.reserved_bits
 breach_of OtherGroup b = b.other_group
 breach_of OtherStart b = b.other_start

@@ -10,8 +10,8 @@ use Rattle.sacn_audit.specs.Audits.{after_packet, first_audit, is_short}
 
 -- what the contracts of the calls say: the first packet begins the audit, and each other one is heard
 abbrev pub audit_with : Arrival → Option StreamAudit → StreamAudit
-audit_with x None = first_audit x.moment x.destination x.packet
-audit_with x (Some a) = after_packet x.moment x.destination x.packet a
+audit_with x None = first_audit x.moment x.delivery x.packet
+audit_with x (Some a) = after_packet x.moment x.delivery x.packet a
 
 abbrev pub audit_by : List Arrival → Option StreamAudit
 audit_by [] = None

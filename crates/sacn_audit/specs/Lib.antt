@@ -1,5 +1,6 @@
 pub mod Arrivals
 pub mod Groups
+pub mod Options
 pub mod Rules
 pub mod Breaches
 pub mod Audits

@@ -7,6 +7,7 @@ use Rattle.sacn_packets.specs.Data.{Data}
 use Rattle.sacn_packets.specs.Page.{Page}
 use Rattle.sacn_sources.specs.declared.limits.TheConstants.{NETWORK_DATA_LOSS}
 use Rattle.sacn_audit.specs.declared.limits.TheConstants.{MAX_STREAMS}
+use Rattle.sacn_audit.specs.declared.delivery.Delivery.{Delivery}
 use Rattle.sacn_audit.specs.declared.audit.StreamAudit.{StreamAudit}
 use Rattle.sacn_audit.specs.declared.breach.Breach.{Breach}
 use Rattle.sacn_audit.specs.declared.page_verdict.PageVerdict.{PageVerdict}
@@ -27,21 +28,21 @@ abbrev pub sender_of : SourcePacket → List ℕ
 sender_of (SentData d) = d.cid
 sender_of (SentPage p) = p.cid
 
--- a packet, when it came, from which IPv4 address, and to which it was sent
+-- a packet, when it came, from which IPv4 address, and what came with it
 pub record Heard : Type 0 where
   pub moment : ℕ
   pub address : List ℕ
-  pub destination : List ℕ
+  pub delivery : Delivery
   pub packet : SourcePacket
 
 -- what the contracts of the calls say
-abbrev pub with_packet : ℕ → List ℕ → List ℕ → SourcePacket → Network → Network
-with_packet t address destination (SentData d) n = after_heard t address destination d n
-with_packet t address destination (SentPage p) n = after_page t address p n
+abbrev pub with_packet : ℕ → List ℕ → Delivery → SourcePacket → Network → Network
+with_packet t address delivery (SentData d) n = after_heard t address delivery d n
+with_packet t address delivery (SentPage p) n = after_page t address p n
 
 abbrev pub after_all : List Heard → Network
 after_all [] = nothing_heard
-after_all (x ∷ earlier) = with_packet x.moment x.address x.destination x.packet (after_all earlier)
+after_all (x ∷ earlier) = with_packet x.moment x.address x.delivery x.packet (after_all earlier)
 
 -- ---- a stream
 
@@ -49,16 +50,16 @@ abbrev pub is_on : ℕ → List ℕ → Data → Bool
 is_on universe cid d = (d.universe == universe) && bytes_eq d.cid cid
 
 -- a data packet of this source on this universe; no page is one
-abbrev pub arrival_of : ℕ → List ℕ → ℕ → List ℕ → SourcePacket → List Arrival
-arrival_of universe cid t destination (SentData d) =
-    if is_on universe cid d then record { moment = t; destination = destination; packet = d } ∷ [] else []
-arrival_of universe cid t destination (SentPage p) = []
+abbrev pub arrival_of : ℕ → List ℕ → ℕ → Delivery → SourcePacket → List Arrival
+arrival_of universe cid t delivery (SentData d) =
+    if is_on universe cid d then record { moment = t; delivery = delivery; packet = d } ∷ [] else []
+arrival_of universe cid t delivery (SentPage p) = []
 
 -- the data packets of this source on this universe
 abbrev pub arrivals : ℕ → List ℕ → List Heard → List Arrival
 arrivals universe cid [] = []
 arrivals universe cid (x ∷ earlier) =
-    arrival_of universe cid x.moment x.destination x.packet ++ arrivals universe cid earlier
+    arrival_of universe cid x.moment x.delivery x.packet ++ arrivals universe cid earlier
 
 -- its audit that is kept
 abbrev pub audit_in : ℕ → List ℕ → List AuditedStream → Option StreamAudit

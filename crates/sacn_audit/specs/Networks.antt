@@ -7,6 +7,7 @@ use Rattle.sacn_packets.specs.declared.root.fault.PacketFault.{PacketFault}
 use Rattle.sacn_packets.specs.Page.{Page}
 use Rattle.sacn_sources.specs.declared.limits.TheConstants.{NETWORK_DATA_LOSS}
 use Rattle.sacn_audit.specs.declared.page_verdict.PageVerdict.{PageVerdict}
+use Rattle.sacn_audit.specs.declared.delivery.Delivery.{Delivery}
 use Rattle.sacn_audit.specs.declared.source.SourceAudit.{SourceAudit}
 use Rattle.sacn_audit.specs.declared.refused.RefusedPackets.{RefusedPackets}
 use Rattle.sacn_audit.specs.declared.stream_register.AuditedStream.{AuditedStream}
@@ -29,21 +30,21 @@ AreDistinct ss = AllPairs (λ earlier later. is_of later.universe later.cid earl
 abbrev pub place_of : ℕ → List ℕ → List AuditedStream → Option ℕ
 place_of universe cid ss = position (is_of universe cid) ss
 
-abbrev pub first_stream : ℕ → List ℕ → Data → AuditedStream
-first_stream t destination d =
-    record { universe = d.universe; cid = d.cid; began = t; audit = first_audit t destination d }
+abbrev pub first_stream : ℕ → Delivery → Data → AuditedStream
+first_stream t delivery d =
+    record { universe = d.universe; cid = d.cid; began = t; audit = first_audit t delivery d }
 
 -- the source sends it since: it begins anew with a packet at t where it had ended, or was lost (E1.31, 6.7.1)
 abbrev pub sent_since : ℕ → AuditedStream → ℕ
 sent_since t s =
     if s.audit.latest.terminated || nat_lt NETWORK_DATA_LOSS (t - s.audit.moment) then max t s.audit.moment else s.began
 
-abbrev pub stream_after : ℕ → List ℕ → Data → AuditedStream → AuditedStream
-stream_after t destination d s = record s { began = sent_since t s; audit = after_packet t destination d s.audit }
+abbrev pub stream_after : ℕ → Delivery → Data → AuditedStream → AuditedStream
+stream_after t delivery d s = record s { began = sent_since t s; audit = after_packet t delivery d s.audit }
 
-abbrev pub streams_after : ℕ → List ℕ → Data → List AuditedStream → List AuditedStream
-streams_after t destination d ss =
-    heard_at (stream_after t destination d) (first_stream t destination d) ss (place_of d.universe d.cid ss)
+abbrev pub streams_after : ℕ → Delivery → Data → List AuditedStream → List AuditedStream
+streams_after t delivery d ss =
+    heard_at (stream_after t delivery d) (first_stream t delivery d) ss (place_of d.universe d.cid ss)
 
 -- ---- a source, over all its universes
 
@@ -129,9 +130,9 @@ is_tracked d ss = has_room ss (place_of d.universe d.cid ss)
 abbrev pub passed_over : Bool → ℕ → ℕ
 passed_over is_taken untracked = if is_taken then untracked else min (untracked + 1) (2 ^ 64 - 1)
 
-abbrev pub after_heard : ℕ → List ℕ → List ℕ → Data → Network → Network
-after_heard t address destination d n = record n {
-  streams = streams_after t destination d n.streams;
+abbrev pub after_heard : ℕ → List ℕ → Delivery → Data → Network → Network
+after_heard t address delivery d n = record n {
+  streams = streams_after t delivery d n.streams;
   sources = sources_after t address d n.sources;
   untracked = passed_over (is_tracked d n.streams && is_known d.cid n.sources) n.untracked;
 }

@@ -3,9 +3,10 @@ use Rattle.std.specs.Prelude.{ℕ, ◌-◌, nat_lt, Bool, false, not, ◌&&◌, 
 use Rattle.std.specs.List.{before_first, list_any}
 use Rattle.std.specs.Str.{is_utf8}
 use Rattle.sacn_audit.specs.declared.rule.Rule.{Rule}
-use Rattle.sacn_audit.specs.declared.rule.Rule.TheVariants.{TooFast, Silent, ShortChange, ShortEnd, NameNotEnded, NameNotText, NumberStays, NumberLeftOut, OtherGroup, OtherStart}
+use Rattle.sacn_audit.specs.declared.rule.Rule.TheVariants.{TooFast, Silent, ShortChange, ShortEnd, NameNotEnded, NameNotText, NumberStays, NumberLeftOut, ReservedBits, OtherGroup, OtherStart}
 use Rattle.sacn_audit.specs.Arrivals.{Arrival, changes, ends, follows, in_a_row, latest_levels, number_after, packets_in, passes_one, repeats, second_of, turns_without}
 use Rattle.sacn_audit.specs.Groups.{is_other_group}
+use Rattle.sacn_audit.specs.Options.{has_reserved_bits}
 
 -- the second before had more than 44 packets, and it is the 45th of its own
 abbrev pub goes_too_fast : List Arrival → Bool
@@ -64,10 +65,15 @@ leaves_number_out [] = false
 leaves_number_out (x ∷ []) = false
 leaves_number_out (x ∷ y ∷ earlier) = passes_one y.packet x.packet && nat_lt 2 (turns_without (number_after y.packet.number) (x ∷ y ∷ earlier))
 
+-- reserved bits of its options are set
+abbrev pub sets_reserved_bits : List Arrival → Bool
+sets_reserved_bits [] = false
+sets_reserved_bits (x ∷ earlier) = has_reserved_bits x.delivery.options
+
 -- it was sent to another multicast group than its universe's
 abbrev pub goes_to_other_group : List Arrival → Bool
 goes_to_other_group [] = false
-goes_to_other_group (x ∷ earlier) = is_other_group x.destination x.packet.universe
+goes_to_other_group (x ∷ earlier) = is_other_group x.delivery.destination x.packet.universe
 
 -- it has neither levels nor priorities of slots: a start code that is neither 0 nor 0xDD
 abbrev pub has_other_start : List Arrival → Bool
@@ -83,6 +89,7 @@ breaks NameNotEnded xs = leaves_name_open xs
 breaks NameNotText xs = has_no_text xs
 breaks NumberStays xs = keeps_number xs
 breaks NumberLeftOut xs = leaves_number_out xs
+breaks ReservedBits xs = sets_reserved_bits xs
 breaks OtherGroup xs = goes_to_other_group xs
 breaks OtherStart xs = has_other_start xs
 

@@ -7,6 +7,7 @@ ghost use Rattle.sacn_audit.specs.Rules.{is_late};
 
 use crate::breach::{Breach, Breaches};
 use crate::content::Content;
+use crate::delivery::Delivery;
 use crate::limits::{COPIES, COPIES_IN_A_ROW, LONGEST_GAP, LONGEST_REPEAT, TURNS};
 use crate::number_habits::{NumberHabits, passes_over};
 use crate::pace::Pace;
@@ -37,11 +38,11 @@ pub struct StreamAudit {
 }
 
 impl StreamAudit {
-    /// The audit of a stream whose first packet this is, with the IPv4 address that it was sent to.
-    pub fn begin(moment: u64, destination: [u8; 4], packet: &DataView<'_>) -> Self
-        ensures { result ≡ first_audit moment destination packet.now }
+    /// The audit of a stream whose first packet this is, with what came with it.
+    pub fn begin(moment: u64, delivery: Delivery, packet: &DataView<'_>) -> Self
+        ensures { result ≡ first_audit moment delivery packet.now }
     {
-        let sight = Sight::of(destination, packet);
+        let sight = Sight::of(delivery, packet);
         let mut breaches = Breaches::none();
         breaches.judge_alone(moment, sight);
         let levels = if sight.start == NULL_START_CODE {
@@ -62,12 +63,12 @@ impl StreamAudit {
         }
     }
 
-    /// One packet more, with the IPv4 address that it was sent to.
-    pub fn hear(&mut self, moment: u64, destination: [u8; 4], packet: &DataView<'_>)
-        ensures { self.new ≡ after_packet moment destination packet.now self.old }
+    /// One packet more, with what came with it.
+    pub fn hear(&mut self, moment: u64, delivery: Delivery, packet: &DataView<'_>)
+        ensures { self.new ≡ after_packet moment delivery packet.now self.old }
     {
         let moment = moment.max(self.moment);
-        let sight = Sight::of(destination, packet);
+        let sight = Sight::of(delivery, packet);
         let slots = packet.slots();
         let is_same = self.content.is_same(slots);
         self.count(moment, sight);

@@ -70,6 +70,8 @@ pub struct Breaches {
     pub number_stays: Breach,
     /// Of `Rule::NumberLeftOut`.
     pub number_left_out: Breach,
+    /// Of `Rule::ReservedBits`.
+    pub reserved_bits: Breach,
     /// Of `Rule::OtherGroup`.
     pub other_group: Breach,
     /// Of `Rule::OtherStart`.
@@ -90,6 +92,7 @@ impl Breaches {
             name_not_text: Breach::none(),
             number_stays: Breach::none(),
             number_left_out: Breach::none(),
+            reserved_bits: Breach::none(),
             other_group: Breach::none(),
             other_start: Breach::none(),
         }
@@ -101,6 +104,7 @@ impl Breaches {
     {
         self.name_not_ended.note_if(!sight.is_name_ended, moment);
         self.name_not_text.note_if(!sight.is_name_text, moment);
+        self.reserved_bits.note_if(sight.has_reserved_bits, moment);
         self.other_group.note_if(sight.is_to_other_group, moment);
         self.other_start.note_if(sight.has_other_start(), moment);
     }
@@ -118,6 +122,7 @@ impl Breaches {
             Rule::NameNotText => self.name_not_text,
             Rule::NumberStays => self.number_stays,
             Rule::NumberLeftOut => self.number_left_out,
+            Rule::ReservedBits => self.reserved_bits,
             Rule::OtherGroup => self.other_group,
             Rule::OtherStart => self.other_start,
         }

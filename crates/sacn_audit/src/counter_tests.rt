@@ -2,7 +2,7 @@
 
 ghost use Rattle.std.specs.Prelude.{◌≤◌};
 
-use crate::{Audit, Breach};
+use crate::{Audit, Breach, Delivery};
 use sacn_packets::{DataFields, Packet, read_packet, write_data};
 use std::alloc::{AllocError, Global};
 
@@ -27,7 +27,7 @@ fn send(audit: &mut Audit, moment: u64, universe: u16, number: u8)
     };
     write_data(&fields, &mut octets);
     if let Ok(Packet::DataPacket(packet)) = read_packet(&octets) {
-        audit.hear(moment, [10, 0, 0, 5], NODE, &packet);
+        audit.hear(moment, [10, 0, 0, 5], Delivery::of(NODE, &packet), &packet);
     }
 }
 

@@ -11,6 +11,7 @@
 mod audit;
 mod breach;
 mod content;
+mod delivery;
 mod groups;
 mod hints;
 pub mod laws;
@@ -31,6 +32,7 @@ mod stream_register;
 pub use audit::StreamAudit;
 pub use breach::{Breach, Breaches};
 pub use content::Content;
+pub use delivery::Delivery;
 pub use limits::{MAX_REFUSED, MAX_STREAMS};
 pub use network_audit::Audit;
 pub use number_habits::NumberHabits;

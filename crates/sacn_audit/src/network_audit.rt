@@ -3,6 +3,7 @@
 ghost use Rattle.std.specs.Prelude.{◌≡◌, IfOk};
 ghost use Rattle.sacn_audit.specs.Networks.{after_heard, after_page, after_refused, nothing_heard, passed_over};
 
+use crate::delivery::Delivery;
 use crate::page_verdict::PageVerdict;
 use crate::refused::{RefusedPackets, RefusedRegister};
 use crate::source::SourceAudit;
@@ -52,16 +53,10 @@ impl Audit {
 
     /// A packet that came at a moment, in milliseconds, from an IPv4 address, and that was sent to another one. Moments are handed in so that of one source none is before
     /// an earlier one; one that is counts as the latest of its stream, and of its source.
-    pub fn hear(
-        &mut self,
-        moment: u64,
-        address: [u8; 4],
-        destination: [u8; 4],
-        packet: &DataView<'_>,
-    )
-        ensures { self.new ≡ after_heard moment address destination packet.now self.old }
+    pub fn hear(&mut self, moment: u64, address: [u8; 4], delivery: Delivery, packet: &DataView<'_>)
+        ensures { self.new ≡ after_heard moment address delivery packet.now self.old }
     {
-        let is_tracked = self.streams.hear(moment, destination, packet);
+        let is_tracked = self.streams.hear(moment, delivery, packet);
         let is_known = self.sources.hear(moment, address, packet);
         self.untracked = passed_over(is_tracked & is_known, self.untracked);
     }

@@ -2,7 +2,7 @@
 
 ghost use Rattle.std.specs.Prelude.{◌≡◌, ◌≤◌};
 
-use crate::{Audit, Breach, Rule};
+use crate::{Audit, Breach, Delivery, Rule};
 use sacn_packets::{DataFields, Packet, read_packet, write_data};
 use std::alloc::{AllocError, Global};
 
@@ -41,7 +41,7 @@ fn send(audit: &mut Audit, moment: u64, address: [u8; 4], sent: Sent)
     };
     write_data(&fields, &mut octets);
     if let Ok(Packet::DataPacket(packet)) = read_packet(&octets) {
-        audit.hear(moment, address, NODE, &packet);
+        audit.hear(moment, address, Delivery::of(NODE, &packet), &packet);
     }
 }
 

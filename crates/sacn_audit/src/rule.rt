@@ -30,6 +30,8 @@ pub enum Rule {
     /// went from the number before it to the one after it, and all other packets of these turns go up by one. Broken at the third
     /// such step, and at each further one. What is lost on the way at the same number three turns in a row looks the same.
     NumberLeftOut,
+    /// A bit of the options below Force_Synchronization (bit 5), which are reserved and sent as 0 (6.2.6). Broken at each such packet.
+    ReservedBits,
     /// Sent to a multicast address (224.0.0.0/4) other than 239.255.HIGH.LOW, the group of its universe (9.3.1). Broken at each such
     /// packet. What is sent to one host, or to all of a network, breaks nothing.
     OtherGroup,

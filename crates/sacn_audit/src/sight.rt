@@ -5,6 +5,7 @@ ghost use Rattle.std.specs.List.{list_any};
 ghost use Rattle.std.specs.Str.{is_utf8};
 ghost use Rattle.sacn_audit.specs.Audits.{carries_on, sight_of, is_after};
 
+use crate::delivery::Delivery;
 use crate::groups::is_other_group;
 use crate::limits::PRIORITY_START_CODE;
 use crate::number_habits::number_after;
@@ -25,12 +26,14 @@ pub struct Sight {
     pub is_name_text: bool,
     /// Whether it was sent to another multicast group than that of its universe (E1.31, 9.3.1).
     pub is_to_other_group: bool,
+    /// Whether a reserved bit of its options is set (E1.31, 6.2.6).
+    pub has_reserved_bits: bool,
 }
 
 impl Sight {
-    /// What is seen of a packet that was sent to an IPv4 address.
-    pub fn of(destination: [u8; 4], packet: &DataView<'_>) -> Self
-        ensures { result ≡ sight_of destination packet.now }
+    /// What is seen of a packet and of what came with it.
+    pub fn of(delivery: Delivery, packet: &DataView<'_>) -> Self
+        ensures { result ≡ sight_of delivery packet.now }
     {
         Sight {
             number: packet.number(),
@@ -38,7 +41,8 @@ impl Sight {
             start: packet.start(),
             is_name_ended: has_nul(packet.name_field()),
             is_name_text: is_text(packet.name()),
-            is_to_other_group: is_other_group(&destination, packet.universe()),
+            is_to_other_group: is_other_group(&delivery.destination, packet.universe()),
+            has_reserved_bits: delivery.has_reserved_bits(),
         }
     }
 

@@ -6,6 +6,7 @@ ghost use Rattle.sacn_audit.specs.declared.limits.TheConstants.{MAX_STREAMS};
 ghost use Rattle.sacn_audit.specs.Networks.{sent_since, first_stream, is_of, is_tracked, place_of, stream_after, streams_after};
 
 use crate::audit::StreamAudit;
+use crate::delivery::Delivery;
 use crate::hints::{Hints, key_of};
 use crate::limits::MAX_STREAMS;
 use sacn_packets::DataView;
@@ -27,22 +28,22 @@ pub struct AuditedStream {
 }
 
 impl AuditedStream {
-    fn begin(moment: u64, destination: [u8; 4], packet: &DataView<'_>) -> Self
-        ensures { result ≡ first_stream moment destination packet.now }
+    fn begin(moment: u64, delivery: Delivery, packet: &DataView<'_>) -> Self
+        ensures { result ≡ first_stream moment delivery packet.now }
     {
         AuditedStream {
             universe: packet.universe(),
             cid: packet.cid(),
             began: moment,
-            audit: StreamAudit::begin(moment, destination, packet),
+            audit: StreamAudit::begin(moment, delivery, packet),
         }
     }
 
-    fn hear(&mut self, moment: u64, destination: [u8; 4], packet: &DataView<'_>)
-        ensures { self.new ≡ stream_after moment destination packet.now self.old }
+    fn hear(&mut self, moment: u64, delivery: Delivery, packet: &DataView<'_>)
+        ensures { self.new ≡ stream_after moment delivery packet.now self.old }
     {
         self.began = self.sent_since(moment);
-        self.audit.hear(moment, destination, packet);
+        self.audit.hear(moment, delivery, packet);
     }
 
     // Since when the source sends the stream, where a packet comes at a moment.
@@ -105,16 +106,16 @@ impl StreamRegister {
     }
 
     /// A packet: of a stream that is there, or of a further one, where there is room. Returns whether there was.
-    pub(crate) fn hear(&mut self, moment: u64, destination: [u8; 4], packet: &DataView<'_>) -> bool
+    pub(crate) fn hear(&mut self, moment: u64, delivery: Delivery, packet: &DataView<'_>) -> bool
         ensures tracked { result ≡ is_tracked packet.now self.old }
-        ensures streams { self.new ≡ streams_after moment destination packet.now self.old }
+        ensures streams { self.new ≡ streams_after moment delivery packet.now self.old }
     {
         match self.place_of(packet.universe(), &packet.cid()) {
             Some(at) => {
-                self.hear_at(at, moment, destination, packet);
+                self.hear_at(at, moment, delivery, packet);
                 true
             }
-            None => self.admit(moment, destination, packet),
+            None => self.admit(moment, delivery, packet),
         }
     }
 
@@ -130,25 +131,25 @@ impl StreamRegister {
     }
 
     // A packet of the stream at a place.
-    fn hear_at(&mut self, at: usize, moment: u64, destination: [u8; 4], packet: &DataView<'_>)
+    fn hear_at(&mut self, at: usize, moment: u64, delivery: Delivery, packet: &DataView<'_>)
         requires { at < length self.old }
-        ensures { (s : AuditedStream) → self.new ≡ slice_set self.old at (stream_after moment destination packet.now (slice_index_or self.old at s)) }
+        ensures { (s : AuditedStream) → self.new ≡ slice_set self.old at (stream_after moment delivery packet.now (slice_index_or self.old at s)) }
     {
-        self.streams[at].hear(moment, destination, packet);
+        self.streams[at].hear(moment, delivery, packet);
         self.hints
             .keep(key_of(packet.universe(), &packet.cid()), at);
     }
 
     // The first packet of a stream. Returns whether there was room for it.
-    fn admit(&mut self, moment: u64, destination: [u8; 4], packet: &DataView<'_>) -> bool
+    fn admit(&mut self, moment: u64, delivery: Delivery, packet: &DataView<'_>) -> bool
         requires { place_of packet.now.universe packet.now.cid self.old ≡ None }
         ensures tracked { result ≡ is_tracked packet.now self.old }
-        ensures streams { self.new ≡ streams_after moment destination packet.now self.old }
+        ensures streams { self.new ≡ streams_after moment delivery packet.now self.old }
     {
         if self.streams.len() >= MAX_STREAMS {
             return false;
         }
-        self.push(AuditedStream::begin(moment, destination, packet));
+        self.push(AuditedStream::begin(moment, delivery, packet));
         true
     }
 

@@ -2,7 +2,7 @@
 
 ghost use Rattle.std.specs.Prelude.{◌≤◌};
 
-use crate::{Breach, Rule, StreamAudit};
+use crate::{Breach, Delivery, Rule, StreamAudit};
 use sacn_packets::{DataFields, Packet, read_packet, write_data};
 
 /// A stream that is heard, and the number that its next packet has.
@@ -12,7 +12,12 @@ struct Stream {
     number: u8,
     name: [u8; 64],
     destination: [u8; 4],
+    /// What its options have beside Preview_Data and Stream_Terminated.
+    other_options: u8,
 }
+
+/// Where the options stand among the octets of a data packet (E1.31, table 4-1).
+const OPTIONS_AT: usize = 112;
 
 impl Stream {
     fn new() -> Self {
@@ -21,6 +26,7 @@ impl Stream {
             number: 250,
             name: [0; 64],
             destination: [239, 255, 0, 1],
+            other_options: 0,
         }
     }
 
@@ -53,13 +59,13 @@ impl Stream {
             slots: &[level],
         };
         write_data(&fields, &mut octets);
+        octets[OPTIONS_AT] |= self.other_options;
         self.number = self.number.wrapping_add(1);
         if let Ok(Packet::DataPacket(packet)) = read_packet(&octets) {
+            let delivery = Delivery::of(self.destination, &packet);
             match &mut self.audit {
-                Some(audit) => audit.hear(moment, self.destination, &packet),
-                None => {
-                    self.audit = Some(StreamAudit::begin(moment, self.destination, &packet));
-                }
+                Some(audit) => audit.hear(moment, delivery, &packet),
+                None => self.audit = Some(StreamAudit::begin(moment, delivery, &packet)),
             }
         }
     }
@@ -307,6 +313,21 @@ fn a_universe_has_one_group(rt: HostRuntime) {
         stream.send(20, 255);
     }
     assert!(rt; stream.breach_of(Rule::OtherGroup) == broken(3, 20, 20));
+}
+
+#[test]
+fn reserved_bits_are_sent_as_zero(rt: HostRuntime) {
+    let mut stream = Stream::new();
+    stream.send(0, 255);
+    // Force_Synchronization, a preview and an end, which have bits of their own
+    stream.other_options = 0b1110_0000;
+    stream.send(10, 255);
+    assert!(rt; stream.breach_of(Rule::ReservedBits) == Breach::none());
+    for bit in 0..5_u8 {
+        stream.other_options = 1 << bit;
+        stream.send(20, 255);
+    }
+    assert!(rt; stream.breach_of(Rule::ReservedBits) == broken(5, 20, 20));
 }
 
 #[test]

@@ -75,15 +75,15 @@ interface_take order size state =
     (less n (octets n) (octets_take n)))
     (says_take _)
 
-packet_take : (link : Option LinkType) (captured moment rest : ℕ) (order : ByteOrder) (size : ℕ) (state : State) → Takes 0 (packet_behind link captured moment rest order size state)
+packet_take : (link : Option LinkType) (captured : ℕ) (moment : Option ℕ) (rest : ℕ) (order : ByteOrder) (size : ℕ) (state : State) → Takes 0 (packet_behind link captured moment rest order size state)
 packet_take link captured moment rest order size state =
     then_take 0 (octets captured) _ (λ frame. then_take 0 (skipped rest order size) _ (λ _. gives_take {A = Piece} (framed link moment state frame)) (skipped_take rest order size)) (less captured (octets captured) (octets_take captured))
 
 enhanced_behind_take : (order : ByteOrder) (size : ℕ) (state : State) (head : EnhancedHead) → Takes 0 (enhanced_behind order size state head)
 enhanced_behind_take order size state head =
     then_take {A = Taken} {B = Piece} 0 (says (interface_at state head.interface))
-    (λ interface. packet_behind interface.link head.captured (shifted interface.shift (milliseconds head.ticks interface.units)) (size - 32 - head.captured) order size state)
-    (λ interface. packet_take interface.link head.captured (shifted interface.shift (milliseconds head.ticks interface.units)) (size - 32 - head.captured) order size state) (says_take (interface_at state head.interface))
+    (λ interface. packet_behind interface.link head.captured (Some (shifted interface.shift (milliseconds head.ticks interface.units))) (size - 32 - head.captured) order size state)
+    (λ interface. packet_take interface.link head.captured (Some (shifted interface.shift (milliseconds head.ticks interface.units))) (size - 32 - head.captured) order size state) (says_take (interface_at state head.interface))
 
 enhanced_take : (order : ByteOrder) (size : ℕ) (state : State) → Takes 0 (enhanced_piece order size state)
 enhanced_take order size state =
@@ -118,7 +118,7 @@ either_take true p q h g = h
 either_take false p q h g = g
 
 record_take : (header : PcapHeader) (state : State) (head : List ℕ) → Takes 0 (record_behind header state head)
-record_take header state head = then_take 0 (says _) _ (λ h. then_take 0 (octets h.captured) _ (λ frame. gives_take {A = Piece} (framed (Some header.link) h.moment state frame)) (less h.captured (octets h.captured) (octets_take h.captured))) (says_take _)
+record_take header state head = then_take 0 (says _) _ (λ h. then_take 0 (octets h.captured) _ (λ frame. gives_take {A = Piece} (framed (Some header.link) (Some h.moment) state frame)) (less h.captured (octets h.captured) (octets_take h.captured))) (says_take _)
 
 one : {A : Type 0} (n : ℕ) (p : Reading A) → 1 ≤ n → Takes n p → Takes 1 p
 one n p le h place = weaker _ _ (p place) (λ r t. omega (arith, t, le)) (h place)

@@ -25,7 +25,7 @@ consumes_kept (Some xs) None c bs k h = absurd k
 consumes_kept (Some xs) (Some ys) None bs k h = absurd h
 consumes_kept (Some xs) (Some ys) (Some zs) bs k h = sym k ∙ h
 
-pub record_kept : (header : PcapHeader) (frame : Frame) (moment : ℕ) (old mid new : Option (List ℕ)) (buffer : List ℕ)
+pub record_kept : (header : PcapHeader) (frame : Frame) (moment : Option ℕ) (old mid new : Option (List ℕ)) (buffer : List ℕ)
     → Keeps old mid → ReadsRecord header frame moment mid new buffer → ReadsRecord header frame moment old new buffer
 record_kept header frame moment old mid new buffer k r =
     record { head = r.head; between = r.between; head_read = consumes_kept old mid r.between r.head k r.head_read; frame_read = r.frame_read }

@@ -23,9 +23,10 @@ use Rattle.sacn_capture.specs.Pcap.{given, stamp_of, header_at, reading_record}
 use Rattle.sacn_capture.specs.Pcapng.{Taken, section_type, reading_block, reading_section, reading_interface, reading_enhanced, reading_simple}
 use Rattle.sacn_capture.specs.Files.{Place, Reading, octets, says, gives, ◌▷◌}
 
--- a frame: its moment, in milliseconds since 1970, and its datagram or why it is passed over
+-- a frame: its moment, in milliseconds since 1970, none where neither it nor a frame before it has one, and its datagram
+-- or why it is passed over
 pub record Shown : Type 0 where
-  pub moment : ℕ
+  pub moment : Option ℕ
   pub content : Result Sent Passed
 
 -- what a recording gives: its frames in order, and then its end, or what is wrong and where
@@ -33,11 +34,12 @@ pub record Told : Type 0 where
   pub frames : List Shown
   pub fault : Option CaptureFault
 
--- what went before says of what comes: how the file is written, the interfaces of the section, the moment of the last frame
+-- what went before says of what comes: how the file is written, the interfaces of the section, the moment of the last frame, none
+-- where no frame so far has one
 pub record State : Type 0 where
   pub format : Format
   pub interfaces : List Taken
-  pub moment : ℕ
+  pub moment : Option ℕ
 
 -- a piece of a file, a record or a block: its frame, where it has one, and what it says of what comes
 pub record Piece : Type 0 where
@@ -50,12 +52,12 @@ frame_content None frame = Err OtherLink
 frame_content (Some link) frame = if nat_le (length frame) 65535 then reading_datagram link frame else Err TooLong
 
 -- a piece with a frame
-abbrev pub framed : Option LinkType → ℕ → State → List ℕ → Piece
+abbrev pub framed : Option LinkType → Option ℕ → State → List ℕ → Piece
 framed link moment state frame = record { frame = Some (record { moment = moment; content = frame_content link frame }); next = record state { moment = moment } }
 
 -- a record of a pcap file: a head of 16 octets, and as many octets of a frame as it counts
 abbrev pub record_behind : PcapHeader → State → List ℕ → Reading Piece
-record_behind header state head = says (reading_record header.stamp head) ▷ λ h. octets h.captured ▷ λ frame. gives (framed (Some header.link) h.moment state frame)
+record_behind header state head = says (reading_record header.stamp head) ▷ λ h. octets h.captured ▷ λ frame. gives (framed (Some header.link) (Some h.moment) state frame)
 
 abbrev pub record_piece : PcapHeader → State → Reading Piece
 record_piece header state = octets 16 ▷ λ head. record_behind header state head
@@ -99,19 +101,20 @@ abbrev pub interface_at : State → ℕ → Result Taken FaultKind
 interface_at state index = given UnknownInterface (slice_get state.interfaces index)
 
 -- a packet's frame of so many octets, the rest of its block, and the block's end
-abbrev pub packet_behind : Option LinkType → ℕ → ℕ → ℕ → ByteOrder → ℕ → State → Reading Piece
+abbrev pub packet_behind : Option LinkType → ℕ → Option ℕ → ℕ → ByteOrder → ℕ → State → Reading Piece
 packet_behind link captured moment rest order size state = octets captured ▷ λ frame. skipped rest order size ▷ λ _. gives (framed link moment state frame)
 
 -- an enhanced packet: a head of 20 octets, which names an interface of the section, the frame, and options
 abbrev pub enhanced_behind : ByteOrder → ℕ → State → EnhancedHead → Reading Piece
 enhanced_behind order size state head =
     says (interface_at state head.interface)
-    ▷ λ interface. packet_behind interface.link head.captured (shifted interface.shift (milliseconds head.ticks interface.units)) (size - 32 - head.captured) order size state
+    ▷ λ interface. packet_behind interface.link head.captured (Some (shifted interface.shift (milliseconds head.ticks interface.units))) (size - 32 - head.captured) order size state
 
 abbrev pub enhanced_piece : ByteOrder → ℕ → State → Reading Piece
 enhanced_piece order size state = octets 20 ▷ λ head. says (reading_enhanced order size head) ▷ λ h. enhanced_behind order size state h
 
--- a simple packet: its length on the link, and the frame; it is of the section's first interface, and has the moment of the frame before
+-- a simple packet: its length on the link, and the frame; it is of the section's first interface, and has the moment of the frame
+-- before, so none where no frame before has one
 abbrev pub simple_behind : ByteOrder → ℕ → State → Taken → Reading Piece
 simple_behind order size state interface =
     octets 4
@@ -173,7 +176,7 @@ abbrev pub rest_of : State → Place → Told
 rest_of state place = pieces (length place.left) state place
 
 abbrev pub start_of : Format → State
-start_of format = record { format = format; interfaces = []; moment = 0 }
+start_of format = record { format = format; interfaces = []; moment = None }
 
 -- a file's first octets: without eight of them it is no recording
 abbrev pub first_octets : Reading (List ℕ)

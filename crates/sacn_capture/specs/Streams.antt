@@ -48,13 +48,15 @@ abbrev pub TakesFrame : Option LinkType → ℕ → Frame → Option (List ℕ) 
 TakesFrame link count frame old new buffer = (octets : List ℕ) × Consumes old new octets × (length octets ≡ count) × Holds link frame octets buffer
 
 -- a frame stands behind a record's head, as the head's layout says
-pub record ReadsFrame (header : PcapHeader) (head : List ℕ) (frame : Frame) (moment : ℕ) (old new : Option (List ℕ)) (buffer : List ℕ) : Type 0 where
+pub record ReadsFrame (header : PcapHeader) (head : List ℕ) (frame : Frame) (moment : Option ℕ) (old new : Option (List ℕ)) (buffer : List ℕ) : Type 0 where
+  pub at : ℕ
   pub count : ℕ
-  pub says : reading_record header.stamp head ≡ Ok (record { moment = moment; captured = count })
+  pub stamped : moment ≡ Some at
+  pub says : reading_record header.stamp head ≡ Ok (record { moment = at; captured = count })
   pub takes : TakesFrame (Some header.link) count frame old new buffer
 
 -- the reader gave a record: its head, and then as many octets as the head counts
-pub record ReadsRecord (header : PcapHeader) (frame : Frame) (moment : ℕ) (old new : Option (List ℕ)) (buffer : List ℕ) : Type 0 where
+pub record ReadsRecord (header : PcapHeader) (frame : Frame) (moment : Option ℕ) (old new : Option (List ℕ)) (buffer : List ℕ) : Type 0 where
   pub head : List ℕ
   pub between : Option (List ℕ)
   pub head_read : Consumes old between head
@@ -69,7 +71,7 @@ abbrev pub left_in : {R : Type 0} → (R → Option (List ℕ)) → Capture R �
 left_in remaining capture = remaining capture.pieces.input.reader
 
 -- a record stands at the front of what was left, its moment is that of its head, and this is what stands in its frame
-abbrev pub GivesRecord : PcapHeader → ℕ → Result Sent Passed → Option (List ℕ) → Type 0
+abbrev pub GivesRecord : PcapHeader → Option ℕ → Result Sent Passed → Option (List ℕ) → Type 0
 GivesRecord header moment content old =
     (new : Option (List ℕ)) × (frame : Frame) × (buffer : List ℕ) × ReadsRecord header frame moment old new buffer × (content ≡ content_in frame buffer)
 

@@ -117,7 +117,14 @@ impl<R: BufRead> Pieces<R> {
             milliseconds_of(head.ticks, interface.units),
         );
         let rest = size - 32 - head.captured;
-        self.packet_frame(interface.link, head.captured, moment, rest, order, size)
+        self.packet_frame(
+            interface.link,
+            head.captured,
+            Some(moment),
+            rest,
+            order,
+            size,
+        )
     }
 
     // The interface of a number in its section.
@@ -161,7 +168,7 @@ impl<R: BufRead> Pieces<R> {
         &mut self,
         link: Option<LinkType>,
         captured: u32,
-        moment: u64,
+        moment: Option<u64>,
         rest: u32,
         order: ByteOrder,
         size: u32,

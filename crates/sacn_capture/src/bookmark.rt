@@ -21,7 +21,7 @@ pub struct Bookmark {
     at: u64,
     format: Format,
     interfaces: Vec<Described>,
-    moment: u64,
+    moment: Option<u64>,
     mark: u64,
     counts: FrameCounts,
     stopped: Option<CaptureFault>,

@@ -31,8 +31,8 @@ pub struct Pieces<R> {
     /// What the section has described so far.
     pub interfaces: Vec<Described>,
     pub buffer: Buffer,
-    /// The moment of the last frame, 0 before the first.
-    pub moment: u64,
+    /// The moment of the last frame, none before the first that has one.
+    pub moment: Option<u64>,
 }
 
 impl<R: BufRead + Drop> Pieces<R> {
@@ -51,7 +51,7 @@ impl<R: BufRead + Drop> Pieces<R> {
             format,
             interfaces,
             buffer,
-            moment: 0,
+            moment: None,
         })
     }
 }
@@ -114,7 +114,7 @@ impl<R: BufRead> Pieces<R> {
     {
         let head = pcap_record_head(header.stamp, octets)?;
         let frame = self.take_frame(Some(header.link), head.captured)?;
-        self.moment = head.moment;
+        self.moment = Some(head.moment);
         Ok(Some(frame))
     }
 

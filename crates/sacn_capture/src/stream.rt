@@ -23,9 +23,9 @@ use std::io::BufRead;
 /// A frame of a recording.
 #[derive(Clone, Copy)]
 pub struct Record<'a> {
-    /// When it was taken, in milliseconds since 1970. A simple packet has no moment: it takes that of the frame before
-    /// it, 0 at first.
-    pub moment: u64,
+    /// When it was taken, in milliseconds since 1970. A simple packet of pcapng has no moment: it takes that of the frame
+    /// before it, and has none before the first that has one.
+    pub moment: Option<u64>,
     /// The datagram in it, or why it was passed over.
     pub content: Result<Datagram<'a>, Passed>,
 }

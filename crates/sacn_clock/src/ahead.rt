@@ -3,7 +3,7 @@ use sacn_capture::Capture;
 use std::alloc::Global;
 use std::io::{Read, Result};
 
-/// The most octets, about, in which the first frame of a recording is looked for.
+/// The most octets, about, in which the first moment of a recording is looked for.
 pub const MOST_AHEAD: usize = 4_194_304;
 
 /// The octets that are read at once.
@@ -30,8 +30,8 @@ impl<I: Read> Ahead<I> {
         }
     }
 
-    /// The moment of a recording's first frame, in milliseconds since 1970 (UTC), for which it is read ahead as far as need be; None
-    /// where it has no frame, or is no recording up to its first. It waits where its input does.
+    /// The moment of a recording's first frame that has one, in milliseconds since 1970 (UTC), for which it is read ahead as
+    /// far as need be; None where it has no such frame, or is no recording up to it. It waits where its input does.
     ///
     /// Errors: those of reading.
     pub fn first_moment(&mut self) -> Result<Option<u64>> {
@@ -61,13 +61,16 @@ impl<I: Read> Ahead<I> {
     }
 }
 
-// The moment of the first frame, where that stands whole in these octets.
+// The moment of the first frame that has one, where that stands whole in these octets.
 fn moment_in(alloc: Global, octets: &[u8]) -> Option<u64> {
     let mut capture = Capture::open(alloc, octets).ok()?;
-    match capture.next() {
-        Ok(Some(frame)) => Some(frame.moment),
-        _ => None,
+    for _ in 0..octets.len() {
+        let frame = capture.next().ok()??;
+        if frame.moment.is_some() {
+            return frame.moment;
+        }
     }
+    None
 }
 
 impl<I: Read> Read for Ahead<I> {

@@ -15,3 +15,4 @@ pub mod ShowLemmas
 pub mod Lawful
 pub mod PageCounting
 pub mod LeastDue
+pub mod Rhythm

@@ -6,6 +6,7 @@ pub mod Due
 pub mod Runs
 pub mod PageCounts
 pub mod Least
+pub mod Rhythm
 pub mod Wakes
 pub mod Shows
 pub mod ShowReading

@@ -2,6 +2,7 @@
 ghost use Rattle.sacn_console.specs.Runs.{PacketsAreNumbered, StepsAreTheList};
 ghost use Rattle.sacn_console.specs.PageCounts.{PagesAreCounted};
 ghost use Rattle.sacn_console.specs.Least.{LeastGoesFirst};
+ghost use Rattle.sacn_console.specs.Rhythm.{AnEndIsThreeTerminations, NoneWaitsTooLong, PacketsKeepTheirGap};
 ghost use Rattle.std.specs.Prelude.{◌≡◌};
 ghost use Rattle.sacn_console.specs.declared.limits.TheConstants.{CONSOLE_UNIVERSES, DEFAULT_PRIORITY, DISCOVERY_INTERVAL, KEEP_ALIVE, MIN_GAP, MAX_DESTINATIONS, MAX_DATAGRAM, NEWEST_SHOW, REPEATS, TERMINATIONS};
 
@@ -31,6 +32,23 @@ pub fn pages_are_counted()
 /// is that of the least-numbered due universe.
 pub fn least_goes_first()
     ensures { LeastGoesFirst }
+{}
+
+/// Over any list of commands and polls each packet on a universe comes 25 ms or more after the one before it.
+pub fn packets_keep_their_gap()
+    ensures { PacketsKeepTheirGap }
+{}
+
+/// Where a poll gives nothing, each universe that runs was sent less than 900 ms before, and each that ends
+/// less than 25 ms before: who polls until nothing is given lets no universe wait for its packet.
+pub fn none_waits_too_long()
+    ensures { NoneWaitsTooLong }
+{}
+
+/// Over any list of commands and polls a universe that was ended is sent three terminations at most (E1.31, 6.2.6),
+/// and nothing else until it is started again; of one that runs no packet is a termination.
+pub fn an_end_is_three_terminations()
+    ensures { AnEndIsThreeTerminations }
 {}
 
 /// What the numbers of a console and of its shows are, times in milliseconds.

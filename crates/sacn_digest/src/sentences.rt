@@ -8,7 +8,7 @@ use sacn_tell::{begin_line, push_decimal, push_ranges, push_seconds, push_sender
 use std::alloc::AllocError;
 
 /// Pushes what a source did on these universes, as a line for people: `"Main FOH" 0001..0f lost on 1-30`. `stream` is that of its
-/// first place among all streams; `presence` is what that sent when it came.
+/// first place among all streams; `presence` is what that sent then, or last before it was lost.
 ///
 /// Errors: a growth was refused.
 pub(crate) fn push_line(
@@ -22,25 +22,26 @@ pub(crate) fn push_line(
     begin_line(text, incident.first)?;
     push_source(text, stream)?;
     match &incident.act {
-        Act::Appears => push_presence(text, " appears on ", universes, presence)?,
-        Act::IsBack => push_presence(text, " is back on ", universes, presence)?,
-        Act::Ends => push_absence(text, " ends its stream on ", universes)?,
-        Act::IsLost => push_absence(text, " lost on ", universes)?,
+        Act::Appears => push_presence(text, [" appears on ", " at "], universes, presence)?,
+        Act::IsBack => push_presence(text, [" is back on ", " at "], universes, presence)?,
+        Act::Ends => push_end(text, universes)?,
+        Act::IsLost => push_presence(text, [" lost on ", ", last at "], universes, presence)?,
         Act::Meets(rival) => push_meeting(text, rival, universes, streams)?,
     }
     push_times(text, incident, universes)
 }
 
-// That it is there, from where, and at which priority.
+// What it sends there, or sent last: from where, and at which priority, behind words for where and from where.
 fn push_presence(
     text: &mut String,
-    words: &str,
+    words: [&str; 2],
     universes: &[u16],
     presence: Presence,
 ) -> Result<(), AllocError> {
-    text.push_str(words)?;
+    let [where_words, from_words] = words;
+    text.push_str(where_words)?;
     push_ranges(text, universes)?;
-    text.push_str(" at ")?;
+    text.push_str(from_words)?;
     push_sender(text, &presence.sender)?;
     if presence.lowest == presence.highest {
         text.push_str(", priority ")?;
@@ -52,9 +53,9 @@ fn push_presence(
     push_decimal(text, u64::from(presence.highest))
 }
 
-// That it isn't there any more.
-fn push_absence(text: &mut String, words: &str, universes: &[u16]) -> Result<(), AllocError> {
-    text.push_str(words)?;
+// That it says that it ends.
+fn push_end(text: &mut String, universes: &[u16]) -> Result<(), AllocError> {
+    text.push_str(" ends its stream on ")?;
     push_ranges(text, universes)
 }
 

@@ -102,8 +102,8 @@ fn what_a_console_does_is_one_line(rt: HostRuntime) {
         br#"     0.000 s  "M" 4d4d..4d appears on 1-3 at 10.0.0.5:5568, priority 100 (3 times, the latest at 0.020 s)
      1.200 s  "B" 4242..42 appears on 2-3 at 10.0.0.5:5568, priority 100
      1.200 s  "M" 4d4d..4d and "B" 4242..42 both send on 2-3 at priority 100
-     2.500 s  "M" 4d4d..4d lost on 1-3 (3 times, the latest at 2.520 s)
-     3.700 s  "B" 4242..42 lost on 2-3
+     2.500 s  "M" 4d4d..4d lost on 1-3, last at 10.0.0.5:5568, priority 100 (3 times, the latest at 2.520 s)
+     3.700 s  "B" 4242..42 lost on 2-3, last at 10.0.0.5:5568, priority 100
 
 "#;
     assert!(rt; tells(rt.alloc(), &ALL, wanted));
@@ -118,8 +118,8 @@ fn a_universe_has_its_own_moments(rt: HostRuntime) {
     let wanted = br#"     0.020 s  "M" 4d4d..4d appears on 3 at 10.0.0.5:5568, priority 100
      1.200 s  "B" 4242..42 appears on 3 at 10.0.0.5:5568, priority 100
      1.200 s  "M" 4d4d..4d and "B" 4242..42 both send on 3 at priority 100
-     2.520 s  "M" 4d4d..4d lost on 3
-     3.700 s  "B" 4242..42 lost on 3
+     2.520 s  "M" 4d4d..4d lost on 3, last at 10.0.0.5:5568, priority 100
+     3.700 s  "B" 4242..42 lost on 3, last at 10.0.0.5:5568, priority 100
 
 "#;
     assert!(rt; tells(rt.alloc(), &options, wanted));

@@ -17,7 +17,7 @@ mod unread;
 pub use findings::total_of;
 pub use namesakes::namesake_at;
 pub use objects::push_objects;
-pub use sentences::push_text;
+pub use sentences::{push_source_text, push_text, push_text_end};
 pub use unread::{push_unread, push_unread_objects};
 
 #[cfg(test)]

@@ -6,6 +6,7 @@ use crate::namesakes::{self, namesake_at};
 use crate::rule_rows::{ROWS, Row};
 use crate::sentences::{conforms, is_list_unseen, is_unseen};
 use crate::sources::push_address;
+use crate::unread::sends_unread;
 use sacn_audit::{Audit, AuditedStream, Breach, Rule, SourceAudit};
 use sacn_packets::up_to_nul;
 use sacn_tell::{
@@ -13,7 +14,8 @@ use sacn_tell::{
 };
 use std::alloc::{AllocError, Global};
 
-/// Pushes an object for each source and each rule that it broke, a line each; for a source that broke none one object `conforms`.
+/// Pushes an object for each source and each rule that it broke, a line each; for a source that broke none one object `conforms`, unless its
+/// address sends what can't be read.
 /// Where the audit had no room for some packets there is none of these, and an object `untracked` at the end.
 ///
 /// Errors: a growth was refused.
@@ -40,7 +42,7 @@ fn push_source_objects(
     is_whole: bool,
 ) -> Result<(), AllocError> {
     let streams = audit.streams();
-    if is_whole && conforms(streams, source) {
+    if is_whole && conforms(streams, source) && !sends_unread(audit, source) {
         begin(text, source.moment, "conforms", source)?;
         text.push_str("}\n")?;
     }

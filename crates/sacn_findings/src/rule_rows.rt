@@ -16,7 +16,7 @@ pub(crate) struct Row {
     pub(crate) least: u64,
 }
 
-pub(crate) const ROWS: [Row; 10] = [
+pub(crate) const ROWS: [Row; 11] = [
     Row {
         rule: Rule::NameNotEnded,
         section: "6.2.2",
@@ -49,6 +49,13 @@ pub(crate) const ROWS: [Row; 10] = [
         rule: Rule::ShortEnd,
         section: "6.2.6",
         words: "ended by fewer than three packets",
+        is_breach: true,
+        least: 0,
+    },
+    Row {
+        rule: Rule::ReservedBits,
+        section: "6.2.6",
+        words: "reserved bits of the options set",
         is_breach: true,
         least: 0,
     },

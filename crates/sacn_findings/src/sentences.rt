@@ -5,20 +5,46 @@ use crate::list_findings::{ListFinding, SECTION, list_findings};
 use crate::namesakes::{self, namesake_at};
 use crate::rule_rows::{ROWS, Row};
 use crate::sources::{heard_for, push_address, push_source};
+use crate::unread::{has_unread_packets, push_unread, sends_unread};
 use sacn_audit::{Audit, AuditedStream, Breach, Rule, SourceAudit};
 use sacn_tell::{push_decimal, push_ranges, push_seconds, push_short_cid};
 use std::alloc::{AllocError, Global};
 
-/// Pushes a block for each source, in the order in which they appeared: `"Main FOH" 0001..0f at 10.0.0.5: conforms`, or a line for each
-/// rule that it broke. What the audit had no room for is told at the end, and then no source is told as one that conforms.
+/// Pushes a block for each source, in the order in which they appeared, and what stands behind them.
 ///
 /// Errors: a growth was refused.
 pub fn push_text(alloc: Global, text: &mut String, audit: &Audit) -> Result<(), AllocError> {
-    let is_whole = audit.untracked() == 0;
     for source in audit.sources() {
-        push_block(alloc, text, audit, source, is_whole)?;
+        push_block(alloc, text, audit, source)?;
     }
-    push_untracked(text, audit.untracked())
+    push_text_end(text, audit)
+}
+
+/// Pushes the block of the source of a place, if there is one: `"Main FOH" 0001..0f at 10.0.0.5: conforms`, or a line for each rule that
+/// it broke. Where the audit had no room for a stream, no source is told as one that conforms.
+///
+/// Errors: a growth was refused.
+pub fn push_source_text(
+    alloc: Global,
+    text: &mut String,
+    audit: &Audit,
+    place: usize,
+) -> Result<(), AllocError> {
+    match audit.sources().get(place) {
+        Some(source) => push_block(alloc, text, audit, source),
+        None => Ok(()),
+    }
+}
+
+/// Pushes what stands behind the blocks of the sources: what the audit had no room for, that there is no source, and what couldn't be read.
+///
+/// Errors: a growth was refused.
+pub fn push_text_end(text: &mut String, audit: &Audit) -> Result<(), AllocError> {
+    push_untracked(text, audit.untracked())?;
+    if audit.sources().is_empty() && !has_unread_packets(audit) {
+        text.push_str("no packets of streaming ACN\n")?;
+    }
+    push_unread(text, audit)
 }
 
 fn push_block(
@@ -26,15 +52,10 @@ fn push_block(
     text: &mut String,
     audit: &Audit,
     source: &SourceAudit,
-    is_whole: bool,
 ) -> Result<(), AllocError> {
     let streams = audit.streams();
     push_source(text, source)?;
-    text.push_str(if is_whole && conforms(streams, source) {
-        ": conforms\n"
-    } else {
-        ":\n"
-    })?;
+    text.push_str(verdict_of(audit, source))?;
     push_two_senders(text, source)?;
     for row in &ROWS {
         push_finding(alloc, text, streams, source, row)?;
@@ -49,6 +70,17 @@ fn push_block(
         push_list_finding(text, finding)?;
     }
     push_unseen(text, streams, source)
+}
+
+// What stands behind a source: that it conforms, where no rule is told below it.
+fn verdict_of(audit: &Audit, source: &SourceAudit) -> &'static str {
+    if audit.untracked() != 0 || !conforms(audit.streams(), source) {
+        ":\n"
+    } else if sends_unread(audit, source) {
+        ": breaks no rule, but its address sends what can't be read\n"
+    } else {
+        ": conforms\n"
+    }
 }
 
 /// Whether a source breaks no rule, as far as was heard of it.

@@ -1,7 +1,7 @@
 //! Networks by hand, and what is printed of them.
 
 use crate::{push_objects, push_text};
-use sacn_audit::Audit;
+use sacn_audit::{Audit, Delivery};
 use sacn_packets::{DataFields, Packet, read_packet, write_data};
 use std::alloc::{AllocError, Global};
 
@@ -48,8 +48,12 @@ impl Heard {
         };
         write_data(&fields, &mut octets);
         if let Ok(Packet::DataPacket(packet)) = read_packet(&octets) {
-            self.audit
-                .hear(moment, self.address, self.destination, &packet);
+            self.audit.hear(
+                moment,
+                self.address,
+                Delivery::of(self.destination, &packet),
+                &packet,
+            );
         }
     }
 

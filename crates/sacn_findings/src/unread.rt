@@ -5,7 +5,7 @@ use crate::findings::joined;
 use crate::objects::push_moments;
 use crate::sentences::push_times;
 use crate::sources::push_address;
-use sacn_audit::{Audit, Breach, RefusedPackets};
+use sacn_audit::{Audit, Breach, RefusedPackets, SourceAudit};
 use sacn_tell::{begin_object, fault_words, push_decimal, push_key, push_number, push_word};
 use std::alloc::AllocError;
 
@@ -27,6 +27,20 @@ pub fn push_unread(text: &mut String, audit: &Audit) -> Result<(), AllocError> {
         }
     }
     push_untracked(text, audit.refused_untracked())
+}
+
+/// Whether packets of streaming ACN came that can't be read.
+pub(crate) fn has_unread_packets(audit: &Audit) -> bool {
+    audit
+        .refused()
+        .iter()
+        .any(|packets| !is_foreign(packets.fault))
+}
+
+/// Whether such packets came from the address of a source.
+pub(crate) fn sends_unread(audit: &Audit, source: &SourceAudit) -> bool {
+    audit.refused().iter().any(|packets| packets.address == source.address
+        && !is_foreign(packets.fault))
 }
 
 // A line for a fault.

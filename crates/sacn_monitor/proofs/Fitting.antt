@@ -7,7 +7,8 @@ use Rattle.sacn_monitor.specs.declared.account.Account.{Account}
 use Rattle.sacn_monitor.specs.declared.account.Endpoint.{Endpoint}
 use Rattle.sacn_monitor.specs.declared.stream.Stream.{Stream}
 use Rattle.sacn_monitor.specs.Kinds.{more}
-use Rattle.sacn_monitor.specs.Accounts.{fitted, name_of, IsFitted, first_account, after_taken, after_discarded, after_packet, is_discarded}
+use Rattle.sacn_monitor.specs.Accounts.{fitted, name_of, IsFitted, first_account, after_taken, after_discarded, after_late, after_packet, is_discarded, is_found}
+use Rattle.sacn_monitor.specs.Numberings.{ahead_of, digit}
 
 abbrev is_nul : ℕ → Bool
 is_nul octet = octet == 0
@@ -54,12 +55,21 @@ taken_fitted : (t : ℕ) (sender : Endpoint) (d : Data) (a : Account) → IsFitt
 unfolding after_taken
 taken_fitted t sender d a = fitted_again d
 
-discarded_fitted : (repeated : Bool) (a : Account) → IsFitted a.name → IsFitted (cond repeated (record a { repeats = more 1 a.repeats }) (record a { late = more 1 a.late })).name
-discarded_fitted true a known = known
-discarded_fitted false a known = known
+found_fitted : (found : Bool) (skipped missing : ℕ) (a : Account) → IsFitted a.name → IsFitted (cond found (record a { skipped = skipped; missing = missing }) a).name
+found_fitted true skipped missing a known = known
+found_fitted false skipped missing a known = known
+
+late_fitted : (arrived : ℕ) (a : Account) → IsFitted a.name → IsFitted (after_late arrived a).name
+late_fitted arrived a known =
+    let late : Account = record a { late = more 1 a.late } in
+    found_fitted (is_found arrived late) (late.skipped - 1) (late.missing - digit (ahead_of arrived late.sequence_number)) late known
+
+discarded_fitted : (repeated : Bool) (arrived : ℕ) (a : Account) → IsFitted a.name → IsFitted (cond repeated (record a { repeats = more 1 a.repeats }) (after_late arrived a)).name
+discarded_fitted true arrived a known = known
+discarded_fitted false arrived a known = late_fitted arrived a known
 
 heard_by : (discarded : Bool) (t : ℕ) (sender : Endpoint) (d : Data) (a : Account) → IsFitted a.name → IsFitted (cond discarded (after_discarded d.number a) (after_taken t sender d a)).name
-heard_by true t sender d a known = discarded_fitted (d.number == a.sequence_number) a known
+heard_by true t sender d a known = discarded_fitted (d.number == a.sequence_number) d.number a known
 heard_by false t sender d a known = taken_fitted t sender d a
 
 pub heard_fitted : (t : ℕ) (sender : Endpoint) (d : Data) (a : Account) → IsFitted a.name → IsFitted (after_packet t sender d a).name

@@ -1,5 +1,5 @@
 -- A packet that goes on as the one before it tells nothing.
-use Rattle.std.proofs.Common.{rules, ◌≡◌, ℕ, ◌-◌, Bool, true, false, not, ◌&&◌, ◌==◌, List, None, max, refl, sym, ap, ◌∙◌}
+use Rattle.std.proofs.Common.{rules, ◌≡◌, ℕ, ◌-◌, ◌*◌, ◌%◌, ◌^◌, Bool, true, false, not, ◌&&◌, ◌||◌, ◌==◌, ltb, cond, List, None, max, refl, sym, ap, ◌∙◌, arith}
 use Rattle.std.proofs.lemmas.Bool.{eqb-true}
 use Rattle.std.proofs.lemmas.Slice.Eq.{bytes_eq-Decides}
 use Rattle.std.specs.List.{before_first}
@@ -17,8 +17,8 @@ use Rattle.sacn_monitor.specs.declared.numbering.Numbering.{Numbering}
 use Rattle.sacn_monitor.specs.Holdings.{held_after, is_relit}
 use Rattle.sacn_monitor.specs.Kinds.{more, with_one_more}
 use Rattle.sacn_monitor.specs.Rates.{rate_after}
-use Rattle.sacn_monitor.specs.Numberings.{omission_in}
-use Rattle.sacn_monitor.specs.Accounts.{IsFitted, after_gone_on, after_taken, begins_anew, begins_life, changed, fitted, is_fresh, is_next, lost_at, name_of, numbering_at, quiet, same_sender, taken_event, taken_news}
+use Rattle.sacn_monitor.specs.Numberings.{ahead_of, further, goes_back, omission_in}
+use Rattle.sacn_monitor.specs.Accounts.{IsFitted, after_gone_on, after_taken, begins_anew, begins_apart, begins_life, changed, fitted, is_fresh, is_next, lost_at, missing_at, name_of, numbering_at, quiet, same_sender, taken_event, taken_news}
 
 both : (a b : Bool) → a && b ≡ true → (a ≡ true) × (b ≡ true)
 both true b e = (refl, e)
@@ -35,6 +35,23 @@ none_lost t arrived a next = search rules
 
 no_beginning : (t arrived : ℕ) (a : Account) → is_next t arrived a ≡ true → begins_anew t arrived a ≡ false
 no_beginning t arrived a next = search rules
+
+in_order : (t arrived : ℕ) (a : Account) → is_next t arrived a ≡ true → begins_apart t false arrived a || goes_back a.sequence_number arrived ≡ false
+in_order t arrived a next = search rules
+
+by_one : (t arrived : ℕ) (a : Account) → is_next t arrived a ≡ true → ahead_of a.sequence_number arrived ≡ 1
+by_one t arrived a next = search rules
+
+one_further : (word : ℕ) → further false 1 word ≡ word * 2 ^ 1 % 2 ^ 32
+one_further word = omega arith
+
+-- what is missing lies one number further behind
+moved_on : (t arrived : ℕ) (a : Account) → is_next t arrived a ≡ true → missing_at t false arrived a ≡ a.missing * 2 ^ 1 % 2 ^ 32
+moved_on t arrived a next =
+    ap (λ (b : Bool). cond b 0 (further (ltb 0 (lost_at t false arrived a)) (ahead_of a.sequence_number arrived) a.missing)) (in_order t arrived a next)
+    ∙ ap (λ (n : ℕ). further (ltb 0 n) (ahead_of a.sequence_number arrived) a.missing) (none_lost t arrived a next)
+    ∙ ap (λ (n : ℕ). further false n a.missing) (by_one t arrived a next)
+    ∙ one_further a.missing
 
 settled : (t arrived : ℕ) (a : Account) → is_next t arrived a ≡ true → numbering_at (begins_life t false a) arrived a ≡ a.numbering
 settled t arrived a next = search rules
@@ -84,6 +101,7 @@ account_by t sender d a goes live kept next priority from name =
     let numbers : numbering_at (begins_life t d.terminated a) d.number a ≡ a.numbering = ap (λ (b : Bool). numbering_at (begins_life t b a) d.number a) goes ∙ settled t d.number a next in
     let lost : lost_at t d.terminated d.number a ≡ 0 = ap (λ (b : Bool). lost_at t b d.number a) goes ∙ none_lost t d.number a next in
     let skipped = ap (λ (n : ℕ). more n a.skipped) lost in
+    let missing = ap (λ (b : Bool). missing_at t b d.number a) goes ∙ moved_on t d.number a next in
     λ i. record {
       sender = there i;
       name = field i;
@@ -96,6 +114,7 @@ account_by t sender d a goes live kept next priority from name =
       holding = holding i;
       numbering = numbers i;
       skipped = skipped i;
+      missing = missing i;
       late = a.late;
       repeats = a.repeats;
       greatest_gap = max a.greatest_gap (t - a.latest);

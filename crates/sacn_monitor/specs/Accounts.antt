@@ -1,5 +1,5 @@
 -- What is known of one source on one universe, and what a packet changes in it.
-use Rattle.std.specs.Prelude.{◌≡◌, ℕ, pos, ◌-◌, max, nat_lt, int_lt, Bool, true, false, not, nat_le, List, length, replicate, ◌&&◌, ◌||◌, ◌==◌, Option, Some, None, if◌then◌else◌}
+use Rattle.std.specs.Prelude.{◌≡◌, ℕ, pos, ◌-◌, ◌*◌, ◌%◌, ◌^◌, max, nat_lt, int_lt, Bool, true, false, not, nat_le, List, length, replicate, ◌&&◌, ◌||◌, ◌==◌, Option, Some, None, if◌then◌else◌}
 use Rattle.std.specs.Str.{bytes_eq}
 use Rattle.std.specs.List.{before_first}
 use Rattle.sacn_packets.specs.Naming.{padded}
@@ -21,7 +21,7 @@ use Rattle.sacn_monitor.specs.Rates.{first_rate, rate_after}
 use Rattle.sacn_monitor.specs.declared.numbering.Numbering.{Numbering}
 use Rattle.sacn_monitor.specs.declared.numbering.NumberNews.{NumberNews}
 use Rattle.sacn_monitor.specs.declared.numbering.TheConstants.{OPENING_STEP}
-use Rattle.sacn_monitor.specs.Numberings.{ahead_of, first_numbering, is_settled, lost_in, numbering_after, omission_in}
+use Rattle.sacn_monitor.specs.Numberings.{ahead_of, digit, first_numbering, further, goes_back, is_left_out, is_missing, is_settled, lost_in, numbering_after, omission_in}
 
 -- a name's octets, and NUL to the end of its field
 abbrev pub fitted : List ℕ → List ℕ
@@ -57,6 +57,12 @@ begins_apart t terminated arrived a = not (is_fresh t a) || ((a.ended && not ter
 abbrev pub lost_at : ℕ → Bool → ℕ → Account → ℕ
 lost_at t terminated arrived a = if begins_apart t terminated arrived a then 0 else lost_in a.sequence_number arrived a.numbering
 
+-- what is missing behind one that is taken at t: nothing where its number doesn't go on from the one before
+abbrev pub missing_at : ℕ → Bool → ℕ → Account → ℕ
+missing_at t terminated arrived a =
+    if begins_apart t terminated arrived a || goes_back a.sequence_number arrived then 0
+    else further (nat_lt 0 (lost_at t terminated arrived a)) (ahead_of a.sequence_number arrived) a.missing
+
 -- how the source numbers its packets, as far as one that is taken tells
 abbrev pub numbering_at : Bool → ℕ → Account → Numbering
 numbering_at begins arrived a = if begins then first_numbering else numbering_after a.sequence_number arrived a.numbering
@@ -83,8 +89,22 @@ renumbered t terminated arrived a = record a { numbering = numbering_at (begins_
 
 -- ---- a packet after others
 
+-- a number that was counted as lost, and comes late after all
+abbrev pub is_found : ℕ → Account → Bool
+is_found arrived a = is_missing (ahead_of arrived a.sequence_number) a.missing && not (is_left_out arrived a.numbering)
+
+-- it isn't lost
+abbrev pub after_found : ℕ → Account → Account
+after_found arrived a =
+    if is_found arrived a
+    then record a { skipped = a.skipped - 1; missing = a.missing - digit (ahead_of arrived a.sequence_number) }
+    else a
+
+abbrev pub after_late : ℕ → Account → Account
+after_late arrived a = after_found arrived (record a { late = more 1 a.late })
+
 abbrev pub after_discarded : ℕ → Account → Account
-after_discarded arrived a = if arrived == a.sequence_number then record a { repeats = more 1 a.repeats } else record a { late = more 1 a.late }
+after_discarded arrived a = if arrived == a.sequence_number then record a { repeats = more 1 a.repeats } else after_late arrived a
 
 unfoldable pub after_taken : ℕ → Endpoint → Data → Account → Account
 after_taken t sender d a = record {
@@ -99,6 +119,7 @@ after_taken t sender d a = record {
   holding = held_after t (kind_of d) d.priority a.holding;
   numbering = numbering_at (begins_life t d.terminated a) d.number a;
   skipped = more (lost_at t d.terminated d.number a) a.skipped;
+  missing = missing_at t d.terminated d.number a;
   late = a.late;
   repeats = a.repeats;
   greatest_gap = max a.greatest_gap (t - a.latest);
@@ -113,6 +134,7 @@ after_gone_on t arrived a = record a {
   kinds = with_one_more Live a.kinds;
   holding = Levels t a.priority;
   skipped = more 0 a.skipped;
+  missing = a.missing * 2 ^ 1 % 2 ^ 32;
   greatest_gap = max a.greatest_gap (t - a.latest);
   rate = rate_after t a.rate;
 }
@@ -133,6 +155,7 @@ first_account t sender d = record {
   holding = held_after t (kind_of d) d.priority Nothing;
   numbering = first_numbering;
   skipped = 0;
+  missing = 0;
   late = 0;
   repeats = 0;
   greatest_gap = 0;

@@ -14,6 +14,7 @@ use Rattle.sacn_monitor.specs.declared.news.Noted.{Noted}
 use Rattle.sacn_monitor.specs.declared.news.Noted.TheVariants.{Refused, Page, Sync, Untracked, Heard}
 use Rattle.sacn_monitor.specs.declared.limits.TheConstants.{MAX_STREAMS}
 use Rattle.sacn_monitor.specs.Kinds.{more}
+use Rattle.sacn_monitor.specs.Holdings.{light_end}
 use Rattle.sacn_monitor.specs.Accounts.{first_event, quiet, news_of}
 use Rattle.sacn_monitor.specs.Streams.{is_of, first_stream, stream_after, loss_of, falls_silent}
 use Rattle.sacn_monitor.specs.Tallies.{nothing_tallied, refused_more}
@@ -86,6 +87,11 @@ after_take now sender octets b = after_read sender (with_datagram now b) (readin
 abbrev pub next_loss : List Stream → ℕ
 next_loss [] = 2 ^ 64 - 1
 next_loss (s ∷ ss) = min (loss_of s) (next_loss ss)
+
+-- the first moment at which levels that are held at t are lost where no packet comes
+abbrev pub next_light_end : ℕ → List Stream → ℕ
+next_light_end t [] = 2 ^ 64 - 1
+next_light_end t (s ∷ ss) = min (light_end t s.account.holding) (next_light_end t ss)
 
 -- the place of the first stream that is lost, and of which that is still to be told
 abbrev pub silent_place : ℕ → List Stream → Option ℕ

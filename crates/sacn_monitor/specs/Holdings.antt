@@ -1,5 +1,5 @@
 -- What a node with room for it holds of a source on a universe, as the rows of its table say it.
-use Rattle.std.specs.Prelude.{ℕ, ◌-◌, nat_lt, Bool, true, false, not, ◌||◌, ◌==◌, Option, Some, None, if◌then◌else◌}
+use Rattle.std.specs.Prelude.{ℕ, ◌+◌, ◌-◌, ◌^◌, min, nat_lt, Bool, true, false, not, ◌||◌, ◌==◌, Option, Some, None, if◌then◌else◌}
 use Rattle.sacn_sources.specs.declared.limits.TheConstants.{NETWORK_DATA_LOSS}
 use Rattle.sacn_sources.specs.declared.kind.Kind.{Kind}
 use Rattle.sacn_sources.specs.declared.kind.Kind.TheVariants.{Termination, Preview, Live, Other}
@@ -35,6 +35,12 @@ abbrev pub light_at : ℕ → Holding → Option ℕ
 light_at t Nothing = None
 light_at t (Ended renewed) = None
 light_at t (Levels renewed priority) = if lasts t renewed then Some priority else None
+
+-- the moment at which levels that are held at t are lost where none follow; the last moment of all where none are held
+abbrev pub light_end : ℕ → Holding → ℕ
+light_end t Nothing = 2 ^ 64 - 1
+light_end t (Ended renewed) = 2 ^ 64 - 1
+light_end t (Levels renewed priority) = if lasts t renewed then min (renewed + NETWORK_DATA_LOSS) (2 ^ 64 - 1) else 2 ^ 64 - 1
 
 abbrev pub same_light : Option ℕ → Option ℕ → Bool
 same_light None None = true

@@ -1,7 +1,7 @@
 -- How a source numbers its packets: which numbers it loses, and which it leaves out by a rule of its own.
-use Rattle.std.specs.Prelude.{◌≡◌, ◌≢◌, ℕ, ◌<◌, ◌≤◌, ◌-◌, ◌+◌, ◌%◌, min, nat_le, nat_lt, Bool, true, false, not, ◌&&◌, ◌||◌, ◌==◌, Option, Some, None, if◌then◌else◌}
+use Rattle.std.specs.Prelude.{◌≡◌, ◌≢◌, ℕ, ◌<◌, ◌≤◌, ◌-◌, ◌+◌, ◌*◌, ◌/◌, ◌%◌, ◌^◌, min, nat_le, nat_lt, Bool, true, false, not, ◌&&◌, ◌||◌, ◌==◌, Option, Some, None, if◌then◌else◌}
 use Rattle.sacn_monitor.specs.declared.numbering.Numbering.{Numbering}
-use Rattle.sacn_monitor.specs.declared.numbering.TheConstants.{OMISSION_TURNS, OPENING_STEP}
+use Rattle.sacn_monitor.specs.declared.numbering.TheConstants.{LATE_NUMBERS, OMISSION_TURNS, OPENING_STEP}
 
 -- how far one number lies ahead of another, in turns of 256
 abbrev pub ahead_of : ℕ → ℕ → ℕ
@@ -63,6 +63,26 @@ lost_in held arrived n =
 -- the number that a source is known to leave out from a step on
 abbrev pub omission_in : Numbering → Numbering → Option ℕ
 omission_in before after = if nat_lt before.turns OMISSION_TURNS && (after.turns == OMISSION_TURNS) then Some after.left_out else None
+
+-- ---- what is missing behind the latest taken number, as the digits of a word of 32 bits
+
+-- a digit of that word: it is 1 where the number so far behind was counted as lost, and didn't come since
+abbrev pub digit : ℕ → ℕ
+digit behind = 2 ^ behind % 2 ^ 32
+
+-- the word so many numbers further, where those in between are lost or not
+abbrev pub further : Bool → ℕ → ℕ → ℕ
+further lost ahead word =
+    if nat_le 32 ahead then (if lost then 2 ^ 32 - 2 else 0)
+    else (word * 2 ^ ahead % 2 ^ 32 + (if lost then digit ahead - 2 else 0)) % 2 ^ 32
+
+-- a number is missing that lies less than twenty behind, as a packet out of sequence does (E1.31, 6.7.2)
+abbrev pub is_missing : ℕ → ℕ → Bool
+is_missing behind word = nat_lt behind LATE_NUMBERS && (word / 2 ^ behind % 2 == 1)
+
+-- the source is known to leave out this number
+abbrev pub is_left_out : ℕ → Numbering → Bool
+is_left_out number n = (n.turns == OMISSION_TURNS) && (n.left_out == number)
 
 -- ---- laws
 

@@ -4,12 +4,14 @@ ghost use Rattle.std.specs.Prelude.{◌≡◌, ◌≤◌, not, length, if◌then
 ghost use Rattle.std.specs.Str.{bytes_eq};
 ghost use Rattle.sacn_packets.specs.Naming.{padded};
 ghost use Rattle.sacn_monitor.specs.declared.news.StreamEvent.TheVariants.{Appeared, CameBack};
-ghost use Rattle.sacn_monitor.specs.Accounts.{same_sender, is_fresh, is_discarded, begins_apart, begins_life, lost_at, numbering_at, renumbered, number_news, begins_anew, changed, first_event, has_begun, is_away, taken_event, discarded_event, fitted, name_of, IsFitted, taken_news, news_of, after_packet, after_taken, after_discarded, first_account};
+ghost use Rattle.sacn_monitor.specs.Accounts.{same_sender, is_fresh, is_discarded, begins_apart, begins_life, lost_at, missing_at, after_found, numbering_at, renumbered, number_news, begins_anew, changed, first_event, has_begun, is_away, taken_event, discarded_event, fitted, name_of, IsFitted, taken_news, news_of, after_packet, after_taken, after_discarded, first_account};
 
 use crate::holding::{Holding, lasts};
 use crate::kinds::Kinds;
 use crate::news::{Change, News, StreamEvent};
-use crate::numbering::{NumberNews, Numbering, OPENING_STEP};
+use crate::numbering::{
+    NumberNews, Numbering, OPENING_STEP, digit, further, goes_back, is_missing,
+};
 use crate::rate::Rate;
 use sacn_packets::{DataView, put};
 use sacn_sources::{in_sequence, kind_of, signed_step};
@@ -49,8 +51,10 @@ pub struct Account {
     pub holding: Holding,
     /// How the source numbers its packets.
     pub numbering: Numbering,
-    /// The sequence numbers that taken packets skipped: packets lost on the way.
+    /// The sequence numbers that taken packets skipped, and that didn't come late: packets lost on the way.
     pub skipped: u64,
+    /// Which numbers behind the latest taken one were skipped and didn't come since: bit k is for the number k behind it.
+    pub missing: u32,
     /// Discarded packets, out of sequence.
     pub late: u64,
     /// Discarded packets that had the number of the latest taken one.
@@ -82,6 +86,7 @@ impl Account {
             holding: Holding::Nothing.after(moment, kind, packet.priority()),
             numbering: Numbering::first(),
             skipped: 0,
+            missing: 0,
             late: 0,
             repeats: 0,
             greatest_gap: 0,
@@ -182,6 +187,23 @@ impl Account {
         }
     }
 
+    // What is missing behind a taken packet.
+    fn missing_at(&self, moment: u64, terminated: bool, arrived: u8) -> u32
+        ensures { result ≡ missing_at moment terminated arrived self.now }
+    {
+        if self.begins_apart(moment, terminated, arrived)
+            || goes_back(self.sequence_number, arrived)
+        {
+            return 0;
+        }
+        let lost = self.lost(moment, terminated, arrived) > 0;
+        further(
+            lost,
+            arrived.wrapping_sub(self.sequence_number),
+            self.missing,
+        )
+    }
+
     // How the source numbers its packets, as far as a taken one tells.
     fn numbering_at(&self, begins: bool, arrived: u8) -> Numbering
         ensures { result ≡ numbering_at begins arrived self.now }
@@ -226,7 +248,19 @@ impl Account {
             StreamEvent::Repeated
         } else {
             self.late = self.late.saturating_add(1);
+            self.find(arrived);
             StreamEvent::OutOfSequence
+        }
+    }
+
+    // A packet that comes late: where its number was counted as lost, it isn't lost.
+    fn find(&mut self, arrived: u8)
+        ensures { self.new ≡ after_found arrived self.old }
+    {
+        let behind = self.sequence_number.wrapping_sub(arrived);
+        if is_missing(behind, self.missing) && !self.numbering.leaves_out(arrived) {
+            self.skipped = self.skipped.saturating_sub(1);
+            self.missing = self.missing.saturating_sub(digit(behind));
         }
     }
 
@@ -252,6 +286,7 @@ impl Account {
         ensures news { result ≡ taken_news moment sender packet.now self.old }
         ensures account { self.new ≡ after_taken moment sender packet.now self.old }
     {
+        let missing = self.missing_at(moment, packet.terminated(), packet.number());
         let number = self.note_number(moment, packet.terminated(), packet.number());
         let gap = moment.saturating_sub(self.latest);
         let kind = kind_of(packet);
@@ -274,6 +309,7 @@ impl Account {
         self.kinds.count(kind);
         self.holding = holding;
         self.skipped = self.skipped.saturating_add(u64::from(number.skipped));
+        self.missing = missing;
         self.greatest_gap = self.greatest_gap.max(gap);
         self.rate.count(moment);
         news

@@ -35,7 +35,8 @@ impl Account {
         (self.priority == packet.priority()) & (self.name == *packet.name_field())
     }
 
-    /// A packet that goes on so is taken: its levels are held anew, and none was skipped before it.
+    /// A packet that goes on so is taken: its levels are held anew, none was skipped before it, and what is missing lies
+    /// one number further behind.
     pub(crate) fn go_on(&mut self, moment: u64, arrived: u8)
         ensures { self.new ≡ after_gone_on moment arrived self.old }
     {
@@ -45,6 +46,7 @@ impl Account {
         self.kinds.count(Kind::Live);
         self.holding = Holding::Levels(moment, self.priority);
         self.skipped = self.skipped.saturating_add(0);
+        self.missing = self.missing << 1;
         self.greatest_gap = self.greatest_gap.max(gap);
         self.rate.count(moment);
     }

@@ -1,7 +1,7 @@
 //! What a node holds of a source on a universe.
 
 ghost use Rattle.std.specs.Prelude.{◌≡◌};
-ghost use Rattle.sacn_monitor.specs.Holdings.{begins_holding, held_after, is_held, is_relit, lasts, light_at, same_light};
+ghost use Rattle.sacn_monitor.specs.Holdings.{begins_holding, held_after, is_held, is_relit, lasts, light_at, light_end, same_light};
 
 use sacn_sources::{Kind, NETWORK_DATA_LOSS};
 
@@ -58,6 +58,18 @@ impl Holding {
         match self {
             Holding::Levels(renewed, priority) if lasts(moment, renewed) => Some(priority),
             _ => None,
+        }
+    }
+
+    /// The moment at which levels that are held at another one are lost where none follow; else `u64::MAX`.
+    pub(crate) fn light_end(self, moment: u64) -> u64
+        ensures { result ≡ light_end moment self }
+    {
+        match self {
+            Holding::Levels(renewed, _) if lasts(moment, renewed) => {
+                renewed.saturating_add(NETWORK_DATA_LOSS)
+            }
+            _ => u64::MAX,
         }
     }
 

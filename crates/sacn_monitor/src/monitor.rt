@@ -3,7 +3,7 @@
 ghost use Rattle.std.specs.Prelude.{◌≡◌, ◌<◌, ◌^◌, ◌-◌, IfOk, max, length, slice_get, slice_index_or, slice_set, slice_index};
 ghost use Rattle.sacn_monitor.specs.Accounts.{news_of};
 ghost use Rattle.sacn_monitor.specs.Streams.{stream_after};
-ghost use Rattle.sacn_monitor.specs.Books.{next_loss};
+ghost use Rattle.sacn_monitor.specs.Books.{next_light_end, next_loss};
 ghost use Rattle.sacn_monitor.specs.Rivals.{top_priority, rivals};
 
 use crate::account::{Endpoint, first_event};
@@ -11,7 +11,7 @@ use crate::limits::MAX_STREAMS;
 use crate::news::{News, Noted};
 use crate::register::Register;
 use crate::rivals::{rivals, top_priority};
-use crate::silence::next_loss;
+use crate::silence::{next_light_end, next_loss};
 use crate::stream::Stream;
 use crate::tally::Tally;
 use sacn_packets::{DataView, Packet, Reading, read_packet};
@@ -122,6 +122,14 @@ impl Monitor {
         ensures { result ≡ next_loss self.now.streams }
     {
         next_loss(self.streams.as_slice())
+    }
+
+    /// The first moment at which a light that is on at the greatest moment handed in goes out where no packet comes
+    /// (`Stream::light_end`); `u64::MAX` where none does.
+    pub fn next_light_end(&self) -> u64
+        ensures { result ≡ next_light_end self.now.moment self.now.streams }
+    {
+        next_light_end(self.streams.as_slice(), self.moment)
     }
 
     /// The streams in the order in which they appeared.

@@ -1,7 +1,7 @@
 //! How a source numbers its packets: by which steps, and which number it leaves out.
 
-ghost use Rattle.std.specs.Prelude.{◌≡◌};
-ghost use Rattle.sacn_monitor.specs.Numberings.{first_numbering, begins, goes_back, is_settled, lost_in, numbering_after, omission_in, passes_over, skipped_by, turns_after};
+ghost use Rattle.std.specs.Prelude.{◌≡◌, ◌<◌};
+ghost use Rattle.sacn_monitor.specs.Numberings.{digit, first_numbering, further, begins, goes_back, is_left_out, is_missing, is_settled, lost_in, numbering_after, omission_in, passes_over, skipped_by, turns_after};
 
 /// A source that has left out the same number so many turns in a row leaves it out by a rule of its own.
 pub(crate) const OMISSION_TURNS: u8 = 3;
@@ -9,6 +9,9 @@ pub(crate) const OMISSION_TURNS: u8 = 3;
 /// A sender may begin a stream with two copies of one packet whose numbers stand so far apart: whatever number a
 /// receiver holds of an earlier stream, one of them is in sequence (E1.31, 6.7.2).
 pub(crate) const OPENING_STEP: u8 = 20;
+
+/// A packet out of sequence lies less than so many numbers behind the latest taken one (E1.31, 6.7.2).
+pub(crate) const LATE_NUMBERS: u8 = 20;
 
 /// What is known of how a source numbers its packets on a universe.
 #[derive(Clone, Copy, PartialEq, Eq)]
@@ -111,6 +114,13 @@ impl Numbering {
         }
     }
 
+    /// Whether the source is known to leave out this number.
+    pub(crate) fn leaves_out(self, number: u8) -> bool
+        ensures { result ≡ is_left_out number self }
+    {
+        (self.turns == OMISSION_TURNS) & (self.left_out == number)
+    }
+
     // Whether a stream begins with this step.
     fn begins(self, held: u8, arrived: u8) -> bool
         ensures { result ≡ begins held arrived self }
@@ -119,8 +129,41 @@ impl Numbering {
     }
 }
 
-// Whether the second of two numbers seems to lie behind the first.
-fn goes_back(held: u8, arrived: u8) -> bool
+/// The digit of the number so far behind the latest taken one, in the word of what is missing.
+pub(crate) fn digit(behind: u8) -> u32
+    requires { behind < 32 }
+    ensures { result ≡ digit behind }
+{
+    1 << behind
+}
+
+/// The word of what is missing so many numbers further, where those in between are lost or not.
+pub(crate) fn further(lost: bool, ahead: u8, word: u32) -> u32
+    ensures { result ≡ further lost ahead word }
+{
+    if ahead >= 32 {
+        return if lost { u32::MAX - 1 } else { 0 };
+    }
+    let between = if lost {
+        digit(ahead).saturating_sub(2)
+    } else {
+        0
+    };
+    (word << ahead).wrapping_add(between)
+}
+
+/// Whether a number is missing so far behind the latest taken one.
+pub(crate) fn is_missing(behind: u8, word: u32) -> bool
+    ensures { result ≡ is_missing behind word }
+{
+    if behind >= LATE_NUMBERS {
+        return false;
+    }
+    (word >> behind) % 2 == 1
+}
+
+/// Whether the second of two numbers seems to lie behind the first.
+pub(crate) fn goes_back(held: u8, arrived: u8) -> bool
     ensures { result ≡ goes_back held arrived }
 {
     arrived.wrapping_sub(held) >= 128

@@ -1,7 +1,7 @@
-//! Losses that are still to be told.
+//! Losses that are still to be told, and lights that go out.
 
 ghost use Rattle.std.specs.Prelude.{◌≡◌};
-ghost use Rattle.sacn_monitor.specs.Books.{next_loss, silent_place};
+ghost use Rattle.sacn_monitor.specs.Books.{next_light_end, next_loss, silent_place};
 
 use crate::stream::Stream;
 
@@ -12,6 +12,17 @@ pub(crate) fn next_loss(streams: &[Stream]) -> u64
     let mut least = u64::MAX;
     for stream in streams {
         least = least.min(stream.loss());
+    }
+    least
+}
+
+/// The first moment at which the light of a stream goes out that is lit at another one.
+pub(crate) fn next_light_end(streams: &[Stream], moment: u64) -> u64
+    ensures { result ≡ next_light_end moment streams.now }
+{
+    let mut least = u64::MAX;
+    for stream in streams {
+        least = least.min(stream.light_end(moment));
     }
     least
 }

@@ -3,6 +3,7 @@
 ghost use Rattle.std.specs.Prelude.{◌≡◌, bytes_eq, drop, take};
 ghost use Rattle.std.specs.Int.{from_be_bytes, w64};
 ghost use Rattle.sacn_monitor.specs.Accounts.{IsFitted, news_of};
+ghost use Rattle.sacn_monitor.specs.Holdings.{light_end};
 ghost use Rattle.sacn_monitor.specs.Rivals.{lights, priority_at};
 ghost use Rattle.sacn_monitor.specs.Streams.{is_of, first_stream, stream_after, loss_of, falls_silent, state_of};
 
@@ -69,6 +70,14 @@ impl Stream {
             Some(priority) => priority,
             None => 0,
         }
+    }
+
+    /// The moment at which its light goes out where no levels follow (E1.31, 6.7.1), if it lights its universe at another one;
+    /// else `u64::MAX`.
+    pub fn light_end(&self, moment: u64) -> u64
+        ensures { result ≡ light_end moment self.now.account.holding }
+    {
+        self.account.holding.light_end(moment)
     }
 
     /// A stream whose first packet this is.

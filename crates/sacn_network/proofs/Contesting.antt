@@ -8,6 +8,7 @@ use Rattle.sacn_monitor.specs.declared.account.Endpoint.{Endpoint}
 use Rattle.sacn_monitor.specs.declared.news.News.{News}
 use Rattle.sacn_monitor.specs.declared.news.Noted.{Noted}
 use Rattle.sacn_monitor.specs.declared.news.Noted.TheVariants as noted
+use Rattle.sacn_monitor.specs.declared.stream.Stream.{Stream}
 use Rattle.sacn_monitor.specs.Histories.{Call, Take, Tick}
 use Rattle.sacn_network.specs.declared.ledger.Ledger.{Ledger}
 use Rattle.sacn_network.specs.declared.ledger.TheConstants.{MOST_STEPS}
@@ -18,6 +19,8 @@ use Rattle.sacn_network.specs.Sets.{has_bit, is_otherwise, marked}
 use Rattle.sacn_network.specs.Calls.{IsContestedAsTold, contested_by, contested_from, network_after, told_by}
 use Rattle.sacn_network.specs.Contests.{contest_in, contest_of, contest_told, is_contested, universe_of, with_contest, with_contest_in}
 use Rattle.sacn_network.specs.Losses.{after_end, after_loss, at_end, end_told, lost_place, loss_told, silence_told, silenced}
+use Rattle.sacn_network.specs.declared.light_ends.TheConstants.{MOST_LIGHTS}
+use Rattle.sacn_network.specs.LightEnds.{after_ends, after_light, after_outs, comes_by, ends_told, light_end_of, light_told, out_universe, outs_told}
 use Rattle.sacn_network.specs.Networks.{handed, note_of, ticked, tick_told}
 use Rattle.sacn_network.specs.Packets.{after_noted, news_told, noted_told, now_told, stirred, stirred_universe, tells_nothing}
 use Rattle.sacn_network.proofs.Bits.{as_before, has_none, marked_length, marks_one, none_length}
@@ -90,6 +93,34 @@ silence_follows (suc steps) t n =
       | false ↦ both n.contested m.contested m.contested (end_told t n) [] (end_follows t n) (still m.contested)
     ]
 
+-- ---- lights
+
+outs_follow : (before : ℕ) (ss : List Stream) (n : Ledger) → Follows n.contested (after_outs before ss n).contested (outs_told before ss n)
+unfolding after_outs outs_told
+outs_follow before [] n = still n.contested
+outs_follow before (s ∷ ss) n =
+    let o : Option ℕ = out_universe before n.monitor.moment (Some s) in
+    let m : Ledger = with_contest_in o n in
+    both n.contested m.contested (after_outs before ss m).contested (contest_in o n) (outs_told before ss m) (in_follows o n) (outs_follow before ss m)
+
+light_follows : (t : ℕ) (n : Ledger) → Follows n.contested (after_light t n).contested (light_told t n)
+unfolding after_light light_told
+light_follows t n =
+    let m : Ledger = silenced MOST_STEPS t n in
+    both n.contested m.contested (after_outs n.monitor.moment m.monitor.streams m).contested (silence_told MOST_STEPS t n) (outs_told n.monitor.moment m.monitor.streams m)
+    (silence_follows MOST_STEPS t n) (outs_follow n.monitor.moment m.monitor.streams m)
+
+ends_follow : (steps t : ℕ) (n : Ledger) → Follows n.contested (after_ends steps t n).contested (ends_told steps t n)
+unfolding after_ends ends_told
+ends_follow zero t n = silence_follows MOST_STEPS t n
+ends_follow (suc steps) t n =
+    let at : ℕ = light_end_of n.monitor in
+    let m : Ledger = after_light at n in
+    elim (comes_by t at) as (λ b. Follows n.contested (cond b (after_ends steps t m) (silenced MOST_STEPS t n)).contested (cond b (light_told at n ++ ends_told steps t m) (silence_told MOST_STEPS t n))) [
+      | true ↦ both n.contested m.contested (after_ends steps t m).contested (light_told at n) (ends_told steps t m) (light_follows at n) (ends_follow steps t m)
+      | false ↦ silence_follows MOST_STEPS t n
+    ]
+
 -- ---- a datagram
 
 stirred_follows : (o : Option ℕ) (n : Ledger) → Follows n.contested (stirred o n).contested (contest_in o n)
@@ -121,14 +152,14 @@ from_none : (calls : List Call) → Follows (network_after []).contested (networ
 from_none [] = still (network_after []).contested
 from_none (Tick now ∷ earlier) =
     let n : Ledger = network_after earlier in
-    both (network_after []).contested n.contested (ticked now n).contested (told_by earlier) (tick_told now n) (from_none earlier) (silence_follows MOST_STEPS (max n.monitor.moment now) n)
+    both (network_after []).contested n.contested (ticked now n).contested (told_by earlier) (tick_told now n) (from_none earlier) (ends_follow MOST_LIGHTS (max n.monitor.moment now) n)
 from_none (Take now sender octets ∷ earlier) =
     let n : Ledger = network_after earlier in
     let m : Ledger = ticked now n in
     let reading : Result Packet PacketFault = reading_packet octets in
     let x : Noted = note_of now sender reading m in
     let h : Ledger = handed now sender reading m in
-    let tick : Follows n.contested m.contested (tick_told now n) = silence_follows MOST_STEPS (max n.monitor.moment now) n in
+    let tick : Follows n.contested m.contested (tick_told now n) = ends_follow MOST_LIGHTS (max n.monitor.moment now) n in
     both (network_after []).contested n.contested (after_noted x h).contested (told_by earlier) (tick_told now n ++ noted_told sender x h) (from_none earlier)
     (both n.contested m.contested (after_noted x h).contested (tick_told now n) (noted_told sender x h) tick (noted_follows sender x h))
 

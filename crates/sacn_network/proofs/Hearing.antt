@@ -26,10 +26,12 @@ use Rattle.sacn_network.specs.Sets.{has_bit, marked}
 use Rattle.sacn_network.specs.Calls.{IsHeardWhereASourceIs, network_after}
 use Rattle.sacn_network.specs.Contests.{universe_of, with_contest, with_contest_in}
 use Rattle.sacn_network.specs.Losses.{after_end, after_loss, at_end, lost_place, next_end, silenced}
+use Rattle.sacn_network.specs.declared.light_ends.TheConstants.{MOST_LIGHTS}
+use Rattle.sacn_network.specs.LightEnds.{after_ends, after_light, after_outs, comes_by, light_end_of, out_universe}
 use Rattle.sacn_network.specs.Networks.{handed, note_of, ticked}
 use Rattle.sacn_network.specs.Packets.{after_noted, stirred, stirred_universe, stirs}
 use Rattle.sacn_network.proofs.Bits.{has_none, marked_length, marks_one, none_length}
-use Rattle.sacn_network.proofs.Ticks.{end_keeps}
+use Rattle.sacn_network.proofs.Ticks.{end_keeps, light_keeps}
 use Rattle.sacn_network.proofs.Waking.{last_there, noted_keeps, set_there}
 
 -- a stream is of a universe
@@ -143,6 +145,35 @@ silenced_agrees (suc steps) t n hears =
       | false ↦ end_agrees t n hears
     ]
 
+-- ---- lights
+
+outs_hear : (before : ℕ) (ss : List Stream) (n : Ledger) → (after_outs before ss n).heard ≡ n.heard
+unfolding after_outs
+outs_hear before [] n = refl
+outs_hear before (s ∷ ss) n =
+    let o : Option ℕ = out_universe before n.monitor.moment (Some s) in
+    outs_hear before ss (with_contest_in o n) ∙ contest_hears o n
+
+light_hears : (t : ℕ) (n : Ledger) → (after_light t n).heard ≡ (silenced MOST_STEPS t n).heard
+unfolding after_light
+light_hears t n = let m : Ledger = silenced MOST_STEPS t n in outs_hear n.monitor.moment m.monitor.streams m
+
+light_agrees : (t : ℕ) (n : Ledger) → Agrees n → Agrees (after_light t n)
+light_agrees t n hears =
+    let m : Ledger = silenced MOST_STEPS t n in
+    hears_as m.heard (after_light t n).heard m.monitor.streams (after_light t n).monitor.streams (light_hears t n) (ap (λ (b : Book). b.streams) (light_keeps t n)) (silenced_agrees MOST_STEPS t n hears)
+
+ends_agree : (steps t : ℕ) (n : Ledger) → Agrees n → Agrees (after_ends steps t n)
+unfolding after_ends
+ends_agree zero t n hears = silenced_agrees MOST_STEPS t n hears
+ends_agree (suc steps) t n hears =
+    let at : ℕ = light_end_of n.monitor in
+    let m : Ledger = after_light at n in
+    elim (comes_by t at) as (λ b. Agrees (cond b (after_ends steps t m) (silenced MOST_STEPS t n))) [
+      | true ↦ ends_agree steps t m (light_agrees at n hears)
+      | false ↦ silenced_agrees MOST_STEPS t n hears
+    ]
+
 -- ---- a packet
 
 abbrev heard_after : Option ℕ → List ℕ → List ℕ
@@ -220,14 +251,14 @@ read_hears sender b (Err fault) heard hears = hears
 
 agrees_after : (calls : List Call) → Agrees (network_after calls)
 agrees_after [] = record { long = none_length; bits = λ u low. has_none u }
-agrees_after (Tick now ∷ earlier) = silenced_agrees MOST_STEPS _ (network_after earlier) (agrees_after earlier)
+agrees_after (Tick now ∷ earlier) = ends_agree MOST_LIGHTS _ (network_after earlier) (agrees_after earlier)
 agrees_after (Take now sender octets ∷ earlier) =
     let m : Ledger = ticked now (network_after earlier) in
     let reading : Result Packet PacketFault = reading_packet octets in
     let x : Noted = note_of now sender reading m in
     let h : Ledger = handed now sender reading m in
     hears_as (noted_heard x h.monitor.streams m.heard) (after_noted x h).heard h.monitor.streams (after_noted x h).monitor.streams (noted_hears x h) (ap (λ (b : Book). b.streams) (noted_keeps x h))
-    (read_hears sender (with_datagram now m.monitor) reading m.heard (silenced_agrees MOST_STEPS _ (network_after earlier) (agrees_after earlier)))
+    (read_hears sender (with_datagram now m.monitor) reading m.heard (ends_agree MOST_LIGHTS _ (network_after earlier) (agrees_after earlier)))
 
 pub heard_where_a_source_is : IsHeardWhereASourceIs
 heard_where_a_source_is calls universe low = (agrees_after calls).bits universe low

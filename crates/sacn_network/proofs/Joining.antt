@@ -1,15 +1,21 @@
 -- Ticks join: what is told up to a moment, and then up to a later one, is what is told up to the later one at once.
-use Rattle.std.proofs.Common.{◌≡◌, ◌<◌, ◌≤◌, ◌+◌, ℕ, zero, suc, max, ltb, Bool, true, false, cond, is_some, List, [], ◌++◌, length, Option, None, Some, refl, sym, ap, ◌∙◌, append_assoc, arith, ltb-true}
-use Rattle.std.proofs.lemmas.Bool.{ltb-false}
+use Rattle.std.proofs.Common.{◌≡◌, ◌<◌, ◌≤◌, ◌+◌, ◌-◌, ◌^◌, ◌∷◌, ℕ, zero, suc, min, max, ltb, Bool, true, false, cond, is_some, List, [], ◌++◌, length, Option, None, Some, refl, sym, ap, ◌∙◌, append_assoc, arith, ltb-true}
+use Rattle.std.proofs.lemmas.Bool.{ltb-false, lt-ltb}
 use Rattle.sacn_monitor.specs.declared.limits.TheConstants.{MAX_STREAMS}
 use Rattle.sacn_monitor.specs.declared.stream.Stream.{Stream}
-use Rattle.sacn_monitor.specs.Books.{Book, next_loss, silent_place, told_at}
+use Rattle.sacn_monitor.specs.Holdings.{light_end}
+use Rattle.sacn_monitor.specs.Books.{Book, next_light_end, next_loss, silent_place, told_at}
 use Rattle.sacn_network.specs.declared.ledger.Ledger.{Ledger}
 use Rattle.sacn_network.specs.declared.ledger.TheConstants.{MOST_STEPS}
 use Rattle.sacn_network.specs.Losses.{after_end, after_loss, at_end, end_told, loss_told, lost_place, next_end, silence_told, silenced}
+use Rattle.sacn_network.specs.declared.light_ends.TheConstants.{MOST_LIGHTS}
+use Rattle.sacn_network.specs.Contests.{contest_in, with_contest_in}
+use Rattle.sacn_network.specs.LightEnds.{after_ends, after_light, after_outs, comes_by, ends_told, light_end_of, light_told, out_universe, outs_told}
 use Rattle.sacn_network.specs.Networks.{JoinsLater, tick_told, ticked}
 use Rattle.sacn_network.specs.Telling.{Told}
-use Rattle.sacn_network.proofs.Ticks.{end_keeps, ticked_by}
+use Rattle.sacn_network.proofs.Lights.{ends_one, ends_quiet, less_lit, lit, lit_most, next_after, next_same, not_yet, one_same, silenced_lights, silenced_lit, told_one_light, told_quiet}
+use Rattle.sacn_network.proofs.Ticks.{came, end_keeps, light_keeps, silenced_grows, ticked_by}
+use Rattle.sacn_network.proofs.Tracking.{light_is_silent}
 use Rattle.sacn_network.proofs.Waking.{none_lost, one_step_ledger, one_step_told}
 use Rattle.sacn_network.proofs.Whole.{told_less, untold, untold_most}
 
@@ -134,6 +140,197 @@ module _ (u t : ℕ) (by : u ≤ t) where
             )
       ] refl
 
+-- ---- silence alone
+
+silence_low : (k u : ℕ) (n : Ledger) → n.monitor.moment ≤ u → (silenced k u n).monitor.moment ≤ u
+unfolding silenced
+silence_low zero u n later = later
+silence_low (suc k) u n later =
+    let m : Ledger = after_end u n in
+    let low : m.monitor.moment ≤ u = let is = ap (λ (b : Book). b.moment) (end_keeps u n) in omega (arith, is, later) in
+    elim (is_some (lost_place u n)) as (λ more. (cond more (silenced k u m) m).monitor.moment ≤ u) [
+      | true ↦ silence_low k u m low
+      | false ↦ low
+    ]
+
+silences_join : (u t : ℕ) → u ≤ t → (n : Ledger) → n.monitor.moment ≤ u → length n.monitor.streams ≤ MAX_STREAMS
+    → (silenced MOST_STEPS t (silenced MOST_STEPS u n) ≡ silenced MOST_STEPS t n) × (silence_told MOST_STEPS u n ++ silence_told MOST_STEPS t (silenced MOST_STEPS u n) ≡ silence_told MOST_STEPS t n)
+silences_join u t by n later room =
+    let most = untold_most n.monitor.streams in
+    let few : untold n.monitor.streams < MOST_STEPS = omega (arith, most, room) in
+    joined u t by MOST_STEPS MOST_STEPS n later few few
+
+-- ---- lights
+
+abbrev pub lit_in : Ledger → ℕ
+lit_in n = lit n.monitor.moment n.monitor.streams
+
+-- a light that went out is one less to go out
+pub less_to_go : (t : ℕ) (n : Ledger) → length n.monitor.streams ≤ MAX_STREAMS → comes_by t (light_end_of n.monitor) ≡ true → lit_in (after_light (light_end_of n.monitor) n) + 1 ≤ lit_in n
+less_to_go t n room is =
+    let at : ℕ = light_end_of n.monitor in
+    let m : Ledger = after_light at n in
+    let early = came t at is in
+    let after = next_after n.monitor.moment n.monitor.streams in
+    let less : lit at n.monitor.streams + 1 ≤ lit_in n = less_lit n.monitor.moment at n.monitor.streams (omega (arith, after, early.1)) (omega arith) early.1 in
+    let moment = (light_is_silent t n is room).moment in
+    let streams : lit at m.monitor.streams ≡ lit at n.monitor.streams = ap (λ (b : Book). lit at b.streams) (light_keeps at n) ∙ silenced_lit MOST_STEPS at at n in
+    omega (arith, less, streams, ap (λ (x : ℕ). lit x m.monitor.streams) moment)
+
+-- more steps than there are lights do no more
+enough_ends : (t k j : ℕ) (n : Ledger) → length n.monitor.streams ≤ MAX_STREAMS → lit_in n ≤ k → lit_in n ≤ j → (after_ends k t n ≡ after_ends j t n) × (ends_told k t n ≡ ends_told j t n)
+enough_ends t zero zero n room few more = (refl, refl)
+enough_ends t zero (suc j) n room few more =
+    elim (comes_by t (light_end_of n.monitor)) as (λ b. comes_by t (light_end_of n.monitor) ≡ b → (after_ends zero t n ≡ after_ends (suc j) t n) × (ends_told zero t n ≡ ends_told (suc j) t n)) [
+      | true ↦ λ is. let less = less_to_go t n room is in absurd (omega (arith, less, few))
+      | false ↦ λ is. (ends_quiet zero t n is ∙ sym (ends_quiet (suc j) t n is), told_quiet zero t n is ∙ sym (told_quiet (suc j) t n is))
+    ] refl
+enough_ends t (suc k) zero n room few more =
+    elim (comes_by t (light_end_of n.monitor)) as (λ b. comes_by t (light_end_of n.monitor) ≡ b → (after_ends (suc k) t n ≡ after_ends zero t n) × (ends_told (suc k) t n ≡ ends_told zero t n)) [
+      | true ↦ λ is. let less = less_to_go t n room is in absurd (omega (arith, less, more))
+      | false ↦ λ is. (ends_quiet (suc k) t n is ∙ sym (ends_quiet zero t n is), told_quiet (suc k) t n is ∙ sym (told_quiet zero t n is))
+    ] refl
+enough_ends t (suc k) (suc j) n room few more =
+    let at : ℕ = light_end_of n.monitor in
+    let m : Ledger = after_light at n in
+    elim (comes_by t at) as (λ b. comes_by t at ≡ b → (after_ends (suc k) t n ≡ after_ends (suc j) t n) × (ends_told (suc k) t n ≡ ends_told (suc j) t n)) [
+      | true ↦ λ is.
+          let less = less_to_go t n room is in
+          let rest = enough_ends t k j m (light_is_silent t n is room).most (omega (arith, few, less)) (omega (arith, more, less)) in (
+            ends_one k t n is ∙ rest.0 ∙ sym (ends_one j t n is),
+            told_one_light k t n is ∙ ap (λ (os : List Told). light_told at n ++ os) rest.1 ∙ sym (told_one_light j t n is),
+          )
+      | false ↦ λ is. (ends_quiet (suc k) t n is ∙ sym (ends_quiet (suc j) t n is), told_quiet (suc k) t n is ∙ sym (told_quiet (suc j) t n is))
+    ] refl
+
+-- the same lights are out since either of two moments between which none went out
+module _ (a b : ℕ) (by : a ≤ b) where
+  same_universe : (t : ℕ) (s : Stream) → min (b + 1) (2 ^ 64 - 1) ≤ light_end a s.account.holding → out_universe b t (Some s) ≡ out_universe a t (Some s)
+  same_universe t s later = ap (λ (x : ℕ). cond (comes_by t x) (Some s.universe) None) (one_same a b s.account.holding by later)
+
+  same_outs : (ss : List Stream) (n : Ledger) → min (b + 1) (2 ^ 64 - 1) ≤ next_light_end a ss → (after_outs b ss n ≡ after_outs a ss n) × (outs_told b ss n ≡ outs_told a ss n)
+  unfolding after_outs outs_told
+  same_outs [] n later = (refl, refl)
+  same_outs (s ∷ ss) n later =
+      let same = same_universe n.monitor.moment s (omega (arith, later)) in
+      let rest = same_outs ss (with_contest_in (out_universe a n.monitor.moment (Some s)) n) (omega (arith, later)) in (
+        ap (λ (o : Option ℕ). after_outs b ss (with_contest_in o n)) same ∙ rest.0,
+        ap (λ (o : Option ℕ). contest_in o n ++ outs_told b ss (with_contest_in o n)) same ∙ ap (λ (os : List Told). contest_in (out_universe a n.monitor.moment (Some s)) n ++ os) rest.1,
+      )
+
+-- a clock that waits for the next light changes nothing
+module _ (u t : ℕ) (by : u ≤ t) (n : Ledger) (later : n.monitor.moment ≤ u) (room : length n.monitor.streams ≤ MAX_STREAMS) (none : comes_by u (light_end_of n.monitor) ≡ false) where
+  abbrev waiting : Ledger
+  waiting = silenced MOST_STEPS u n
+
+  same_light : light_end_of waiting.monitor ≡ light_end_of n.monitor
+  same_light =
+      let grows = silenced_grows MOST_STEPS u n in
+      let low = silence_low MOST_STEPS u n later in
+      let past = not_yet u (light_end_of n.monitor) none in
+      silenced_lights MOST_STEPS u waiting.monitor.moment n ∙ next_same n.monitor.moment waiting.monitor.moment n.monitor.streams grows (omega (arith, low, past))
+
+  waits_light : (at : ℕ) → u ≤ at → at ≡ light_end_of n.monitor → (after_light at waiting ≡ after_light at n) × (silence_told MOST_STEPS u n ++ light_told at waiting ≡ light_told at n)
+  unfolding after_light light_told
+  waits_light at on is =
+      let m : Ledger = silenced MOST_STEPS at n in
+      let join = silences_join u at on n later room in
+      let grows = silenced_grows MOST_STEPS u n in
+      let low = silence_low MOST_STEPS u n later in
+      let past = not_yet u (light_end_of n.monitor) none in
+      let lights = silenced_lights MOST_STEPS at n.monitor.moment n in
+      let outs = same_outs n.monitor.moment waiting.monitor.moment grows m.monitor.streams m (omega (arith, low, past, lights)) in (
+        ap (λ (l : Ledger). after_outs waiting.monitor.moment l.monitor.streams l) join.0 ∙ outs.0,
+        sym (append_assoc (silence_told MOST_STEPS u n) (silence_told MOST_STEPS at waiting) (outs_told waiting.monitor.moment (silenced MOST_STEPS at waiting).monitor.streams (silenced MOST_STEPS at waiting)))
+            ∙ ap (λ (os : List Told). os ++ outs_told waiting.monitor.moment (silenced MOST_STEPS at waiting).monitor.streams (silenced MOST_STEPS at waiting)) join.1
+            ∙ ap (λ (l : Ledger). silence_told MOST_STEPS at n ++ outs_told waiting.monitor.moment l.monitor.streams l) join.0
+            ∙ ap (λ (os : List Told). silence_told MOST_STEPS at n ++ os) outs.1,
+      )
+
+  waits_ends : (j : ℕ) → lit_in n ≤ j → (after_ends j t waiting ≡ after_ends j t n) × (silence_told MOST_STEPS u n ++ ends_told j t waiting ≡ ends_told j t n)
+  waits_ends zero few =
+      elim (comes_by t (light_end_of n.monitor)) as (λ b. comes_by t (light_end_of n.monitor) ≡ b → (after_ends zero t waiting ≡ after_ends zero t n) × (silence_told MOST_STEPS u n ++ ends_told zero t waiting ≡ ends_told zero t n)) [
+        | true ↦ λ is. let less = less_to_go t n room is in absurd (omega (arith, less, few))
+        | false ↦ λ is. quiet_wait zero is
+      ] refl
+    where
+      quiet_wait : (j : ℕ) → comes_by t (light_end_of n.monitor) ≡ false → (after_ends j t waiting ≡ after_ends j t n) × (silence_told MOST_STEPS u n ++ ends_told j t waiting ≡ ends_told j t n)
+      quiet_wait j is =
+          let still : comes_by t (light_end_of waiting.monitor) ≡ false = ap (comes_by t) same_light ∙ is in
+          let join = silences_join u t by n later room in (
+            ends_quiet j t waiting still ∙ join.0 ∙ sym (ends_quiet j t n is),
+            ap (λ (os : List Told). silence_told MOST_STEPS u n ++ os) (told_quiet j t waiting still) ∙ join.1 ∙ sym (told_quiet j t n is),
+          )
+  waits_ends (suc j) few =
+      elim (comes_by t (light_end_of n.monitor)) as (λ b. comes_by t (light_end_of n.monitor) ≡ b → (after_ends (suc j) t waiting ≡ after_ends (suc j) t n) × (silence_told MOST_STEPS u n ++ ends_told (suc j) t waiting ≡ ends_told (suc j) t n)) [
+        | true ↦ λ is.
+            let at : ℕ = light_end_of n.monitor in
+            let comes : comes_by t (light_end_of waiting.monitor) ≡ true = ap (comes_by t) same_light ∙ is in
+            let past = not_yet u at none in
+            let early = came t at is in
+            let light = waits_light at (omega (arith, past, early.1)) refl in (
+              ends_one j t waiting comes ∙ ap (λ (x : ℕ). after_ends j t (after_light x waiting)) same_light ∙ ap (after_ends j t) light.0 ∙ sym (ends_one j t n is),
+              ap (λ (os : List Told). silence_told MOST_STEPS u n ++ os) (told_one_light j t waiting comes ∙ ap (λ (x : ℕ). light_told x waiting ++ ends_told j t (after_light x waiting)) same_light)
+                  ∙ sym (append_assoc (silence_told MOST_STEPS u n) (light_told at waiting) (ends_told j t (after_light at waiting)))
+                  ∙ ap (λ (os : List Told). os ++ ends_told j t (after_light at waiting)) light.1
+                  ∙ ap (λ (l : Ledger). light_told at n ++ ends_told j t l) light.0
+                  ∙ sym (told_one_light j t n is),
+            )
+        | false ↦ λ is.
+            let still : comes_by t (light_end_of waiting.monitor) ≡ false = ap (comes_by t) same_light ∙ is in
+            let join = silences_join u t by n later room in (
+              ends_quiet (suc j) t waiting still ∙ join.0 ∙ sym (ends_quiet (suc j) t n is),
+              ap (λ (os : List Told). silence_told MOST_STEPS u n ++ os) (told_quiet (suc j) t waiting still) ∙ join.1 ∙ sym (told_quiet (suc j) t n is),
+            )
+      ] refl
+
+-- up to u, and then up to t
+module _ (u t : ℕ) (by : u ≤ t) where
+  abbrev Joined : ℕ → ℕ → Ledger → Type 0
+  Joined k j n = (after_ends j t (after_ends k u n) ≡ after_ends j t n) × (ends_told k u n ++ ends_told j t (after_ends k u n) ≡ ends_told j t n)
+
+  rests : (k j : ℕ) (n : Ledger) → n.monitor.moment ≤ u → length n.monitor.streams ≤ MAX_STREAMS → lit_in n ≤ j → comes_by u (light_end_of n.monitor) ≡ false → Joined k j n
+  rests k j n later room more is =
+      let wait = waits_ends u t by n later room is j more in
+      let stays = ends_quiet k u n is in (
+        ap (after_ends j t) stays ∙ wait.0,
+        ap (λ (l : Ledger). ends_told k u n ++ ends_told j t l) stays ∙ ap (λ (os : List Told). os ++ ends_told j t (silenced MOST_STEPS u n)) (told_quiet k u n is) ∙ wait.1,
+      )
+
+  joined_ends : (k j : ℕ) (n : Ledger) → n.monitor.moment ≤ u → length n.monitor.streams ≤ MAX_STREAMS → lit_in n ≤ k → lit_in n ≤ j → Joined k j n
+  joined_ends zero j n later room few more =
+      elim (comes_by u (light_end_of n.monitor)) as (λ b. comes_by u (light_end_of n.monitor) ≡ b → Joined zero j n) [
+        | true ↦ λ is. let less = less_to_go u n room is in absurd (omega (arith, less, few))
+        | false ↦ λ is. rests zero j n later room more is
+      ] refl
+  joined_ends (suc k) zero n later room few more =
+      elim (comes_by u (light_end_of n.monitor)) as (λ b. comes_by u (light_end_of n.monitor) ≡ b → Joined (suc k) zero n) [
+        | true ↦ λ is. let less = less_to_go u n room is in absurd (omega (arith, less, more))
+        | false ↦ λ is. rests (suc k) zero n later room more is
+      ] refl
+  joined_ends (suc k) (suc j) n later room few more =
+      elim (comes_by u (light_end_of n.monitor)) as (λ b. comes_by u (light_end_of n.monitor) ≡ b → Joined (suc k) (suc j) n) [
+        | true ↦ λ is.
+            let at : ℕ = light_end_of n.monitor in
+            let m : Ledger = after_light at n in
+            let early = came u at is in
+            let comes : comes_by t at ≡ true = lt-ltb at (min (t + 1) (2 ^ 64 - 1)) (omega (arith, early.0, early.1, by)) in
+            let less = less_to_go u n room is in
+            let silent = light_is_silent u n is room in
+            let moment = silent.moment in
+            let rest = joined_ends k (suc j) m (omega (arith, moment, early.0)) silent.most (omega (arith, few, less)) (omega (arith, more, less)) in
+            let steps = enough_ends t (suc j) j m silent.most (omega (arith, more, less)) (omega (arith, more, less)) in
+            let first : after_ends (suc k) u n ≡ after_ends k u m = ends_one k u n is in (
+              ap (after_ends (suc j) t) first ∙ rest.0 ∙ steps.0 ∙ sym (ends_one j t n comes),
+              ap (λ (l : Ledger). ends_told (suc k) u n ++ ends_told (suc j) t l) first
+                  ∙ ap (λ (os : List Told). os ++ ends_told (suc j) t (after_ends k u m)) (told_one_light k u n is)
+                  ∙ append_assoc (light_told at n) (ends_told k u m) (ends_told (suc j) t (after_ends k u m))
+                  ∙ ap (λ (os : List Told). light_told at n ++ os) (rest.1 ∙ steps.1)
+                  ∙ sym (told_one_light j t n comes),
+            )
+        | false ↦ λ is. rests (suc k) (suc j) n later room more is
+      ] refl
+
 -- ---- ticks of a network
 
 between : (now : ℕ) (n : Ledger) → (n.monitor.moment ≤ (ticked now n).monitor.moment) × ((ticked now n).monitor.moment ≤ max n.monitor.moment now)
@@ -142,11 +339,11 @@ between now n =
 
 pub joins : (now : ℕ) (n : Ledger) → length n.monitor.streams ≤ MAX_STREAMS → JoinsLater now n (ticked now n)
 joins now n room later by =
-    let most = untold_most n.monitor.streams in
-    let few : untold n.monitor.streams < MOST_STEPS = omega (arith, most, room) in
-    let both = joined (max n.monitor.moment now) (max n.monitor.moment later) (omega (arith, by)) MOST_STEPS MOST_STEPS n (omega arith) few few in
+    let most = lit_most n.monitor.moment n.monitor.streams in
+    let few : lit_in n ≤ MOST_LIGHTS = omega (arith, most, room) in
+    let both = joined_ends (max n.monitor.moment now) (max n.monitor.moment later) (omega (arith, by)) MOST_LIGHTS MOST_LIGHTS n (omega arith) room few few in
     let moments = between now n in
     let at : max (ticked now n).monitor.moment later ≡ max n.monitor.moment later = omega (arith, moments.0, moments.1, by) in (
-      ap (λ (x : ℕ). silenced MOST_STEPS x (ticked now n)) at ∙ both.0,
-      ap (λ (x : ℕ). tick_told now n ++ silence_told MOST_STEPS x (ticked now n)) at ∙ both.1,
+      ap (λ (x : ℕ). after_ends MOST_LIGHTS x (ticked now n)) at ∙ both.0,
+      ap (λ (x : ℕ). tick_told now n ++ ends_told MOST_LIGHTS x (ticked now n)) at ∙ both.1,
     )

@@ -2,6 +2,7 @@ mod Bits
 mod Listing
 mod Telling
 mod Silencing
+mod Lights
 pub mod Waking
 mod Whole
 pub mod Ticks
@@ -10,3 +11,6 @@ mod Hearing
 mod Contesting
 mod Timely
 mod Joining
+mod Ending
+mod Leaders
+mod Exact

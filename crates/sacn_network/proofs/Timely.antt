@@ -12,7 +12,8 @@ use Rattle.sacn_monitor.specs.declared.account.Account.{Account}
 use Rattle.sacn_monitor.specs.declared.account.Endpoint.{Endpoint}
 use Rattle.sacn_monitor.specs.declared.limits.TheConstants.{MAX_STREAMS}
 use Rattle.sacn_monitor.specs.declared.stream.Stream.{Stream}
-use Rattle.sacn_monitor.specs.Accounts.{after_discarded, after_taken, first_account, is_discarded}
+use Rattle.sacn_monitor.specs.Accounts.{after_discarded, after_late, after_taken, first_account, is_discarded, is_found}
+use Rattle.sacn_monitor.specs.Numberings.{ahead_of, digit}
 use Rattle.sacn_monitor.specs.Kinds.{more}
 use Rattle.sacn_monitor.specs.Streams.{falls_silent, first_stream, loss_of, stream_after}
 use Rattle.sacn_monitor.specs.Books.{Book, after_data, after_read, after_tick, changed, next_loss, place_of, silent_place, told_at, untracked, with_datagram, with_told}
@@ -24,11 +25,14 @@ use Rattle.sacn_network.specs.Telling.{Told}
 use Rattle.sacn_network.specs.declared.occurrence.What.TheVariants.{Contest, Heard, Lost, Refused, Untracked}
 use Rattle.sacn_network.specs.Sets.{has_bit, is_otherwise}
 use Rattle.sacn_network.specs.Calls.{AreMoments, AreTimely, IsTimely, LossesAreTimely, loss_at, network_after}
-use Rattle.sacn_network.specs.Contests.{contest_in, contest_of, contest_told, is_contested, universe_of}
-use Rattle.sacn_network.specs.Losses.{after_end, at_end, end_told, lost_place, loss_told, next_end, silence_told}
+use Rattle.sacn_network.specs.declared.light_ends.TheConstants.{MOST_LIGHTS}
+use Rattle.sacn_network.specs.Contests.{contest_in, contest_of, contest_told, is_contested, universe_of, with_contest_in}
+use Rattle.sacn_network.specs.LightEnds.{after_light, comes_by, ends_told, light_end_of, light_told, out_universe, outs_told}
+use Rattle.sacn_network.specs.Losses.{after_end, at_end, end_told, lost_place, loss_told, next_end, silence_told, silenced}
 use Rattle.sacn_network.specs.Networks.{handed, note_of, ticked}
-use Rattle.sacn_network.proofs.Ticks.{end_keeps}
-use Rattle.sacn_network.proofs.Tracking.{held_in_use, mid_silent, read_moment, stands_after}
+use Rattle.sacn_network.proofs.Lights.{next_after}
+use Rattle.sacn_network.proofs.Ticks.{came, end_keeps, light_keeps}
+use Rattle.sacn_network.proofs.Tracking.{held_in_use, light_is_silent, mid_silent, read_moment, stands_after}
 use Rattle.sacn_network.proofs.Waking.{noted_keeps}
 use Rattle.sacn_network.proofs.Whole.{none_before, silent_at, stands_there}
 
@@ -141,6 +145,56 @@ silence_timely (suc steps) t n soon by =
           )
     ] refl
 
+-- ---- lights
+
+outs_timely : (zs : List Stream) (before : ℕ) (ss : List Stream) (n : Ledger) → AreTimely zs (outs_told before ss n)
+unfolding outs_told
+outs_timely zs before [] n = tt
+outs_timely zs before (s ∷ ss) n =
+    let o : Option ℕ = out_universe before n.monitor.moment (Some s) in
+    timely_both zs (contest_in o n) (outs_told before ss (with_contest_in o n)) (contest_timely zs o n) (outs_timely zs before ss (with_contest_in o n))
+
+light_timely : (t : ℕ) (n : Ledger) → n.monitor.moment ≤ next_loss n.monitor.streams → n.monitor.moment ≤ t → AreTimely n.monitor.streams (light_told t n)
+unfolding light_told
+light_timely t n soon by =
+    let m : Ledger = silenced MOST_STEPS t n in
+    timely_both n.monitor.streams (silence_told MOST_STEPS t n) (outs_told n.monitor.moment m.monitor.streams m)
+    (silence_timely MOST_STEPS t n soon by) (outs_timely n.monitor.streams n.monitor.moment m.monitor.streams m)
+
+silenced_loss : (p steps t : ℕ) (n : Ledger) → loss_at p (silenced steps t n).monitor.streams ≡ loss_at p n.monitor.streams
+unfolding silenced
+silenced_loss p zero t n = refl
+silenced_loss p (suc steps) t n =
+    let m : Ledger = after_end t n in
+    let place : Option ℕ = silent_place (max n.monitor.moment (next_end t n)) n.monitor.streams in
+    let one : loss_at p m.monitor.streams ≡ loss_at p n.monitor.streams = ap (λ (b : Book). loss_at p b.streams) (end_keeps t n) ∙ loss_kept p place n.monitor.streams in
+    elim (is_some (lost_place t n)) as (λ more. loss_at p (cond more (silenced steps t m) m).monitor.streams ≡ loss_at p n.monitor.streams) [
+      | true ↦ silenced_loss p steps t m ∙ one
+      | false ↦ one
+    ]
+
+silent_next : (t : ℕ) (b : Book) → t ≤ 2 ^ 64 - 1 → b.moment ≡ t → silent_place t b.streams ≡ None → b.moment ≤ next_loss b.streams
+silent_next t b held at none = let before = none_before t b.streams none in omega (arith, before, held, at)
+
+ends_timely : (steps t : ℕ) (n : Ledger) → n.monitor.moment ≤ next_loss n.monitor.streams → n.monitor.moment ≤ t → length n.monitor.streams ≤ MAX_STREAMS → AreTimely n.monitor.streams (ends_told steps t n)
+unfolding ends_told
+ends_timely zero t n soon by room = silence_timely MOST_STEPS t n soon by
+ends_timely (suc steps) t n soon by room =
+    let at : ℕ = light_end_of n.monitor in
+    let m : Ledger = after_light at n in
+    elim (comes_by t at) as (λ b. comes_by t at ≡ b → AreTimely n.monitor.streams (cond b (light_told at n ++ ends_told steps t m) (silence_told MOST_STEPS t n))) [
+      | true ↦ λ is.
+          let early = came t at is in
+          let after = next_after n.monitor.moment n.monitor.streams in
+          let silent = light_is_silent t n is room in
+          let moment = silent.moment in
+          timely_both n.monitor.streams (light_told at n) (ends_told steps t m)
+          (light_timely at n soon (omega (arith, after, early.1)))
+          (timely_as n.monitor.streams m.monitor.streams (λ p. ap (λ (b : Book). loss_at p b.streams) (light_keeps at n) ∙ silenced_loss p MOST_STEPS at n) (ends_told steps t m)
+          (ends_timely steps t m (silent_next at m.monitor (omega (arith, early.1)) moment silent.none) (omega (arith, moment, early.0)) silent.most))
+      | false ↦ λ is. silence_timely MOST_STEPS t n soon by
+    ] refl
+
 -- ---- what is heard now is lost later
 
 abbrev with_account : Stream → Account → Stream
@@ -157,13 +211,18 @@ first_of : (a b : Bool) → a && b ≡ true → a ≡ true
 first_of true b e = refl
 first_of false b e = absurd cc
 
+found_soon : (t : ℕ) (found : Bool) (skipped missing : ℕ) (s : Stream) (a : Account) → t ≤ lost_by a.ended a.latest → t ≤ loss_of (with_account s (cond found (record a { skipped = skipped; missing = missing }) a))
+found_soon t true skipped missing s a still = still
+found_soon t false skipped missing s a still = still
+
 discarded_soon : (t : ℕ) (d : Data) (s : Stream) → t ≤ 2 ^ 64 - 1 → is_discarded t d s.account ≡ true → t ≤ loss_of (with_account s (after_discarded d.number s.account))
 discarded_soon t d s held is =
     let young = ltb-true (t - s.account.latest) NETWORK_DATA_LOSS (first_of _ _ is) in
     let still : t ≤ lost_by s.account.ended s.account.latest = lost_later t s.account.latest s.account.ended held young in
-    elim (d.number == s.account.sequence_number) as (λ b. t ≤ loss_of (with_account s (cond b (record s.account { repeats = more 1 s.account.repeats }) (record s.account { late = more 1 s.account.late })))) [
+    let late : Account = record s.account { late = more 1 s.account.late } in
+    elim (d.number == s.account.sequence_number) as (λ b. t ≤ loss_of (with_account s (cond b (record s.account { repeats = more 1 s.account.repeats }) (after_late d.number s.account)))) [
       | true ↦ still
-      | false ↦ still
+      | false ↦ found_soon t (is_found d.number late) (late.skipped - 1) (late.missing - digit (ahead_of d.number late.sequence_number)) s late still
     ]
 
 taken_soon : (t : ℕ) (sender : Endpoint) (d : Data) (s : Stream) → t ≤ 2 ^ 64 - 1 → t ≤ loss_of (with_account s (after_taken t sender d s.account))
@@ -215,7 +274,7 @@ abbrev IsSoon : Book → Type 0
 IsSoon b = b.moment ≤ next_loss b.streams
 
 silent_soon : (t : ℕ) (b : Book) → t ≤ 2 ^ 64 - 1 → b.moment ≡ t → silent_place t b.streams ≡ None → IsSoon b
-silent_soon t b held at none = let before = none_before t b.streams none in omega (arith, before, held, at)
+silent_soon t b held at none = silent_next t b held at none
 
 taken_soon_after : (now : ℕ) (sender : Endpoint) (r : Result Packet PacketFault) (b : Book) → now ≤ b.moment → b.moment ≤ 2 ^ 64 - 1 → IsSoon b → IsSoon (after_read sender (with_datagram now b) r)
 taken_soon_after now sender r b by held soon =
@@ -244,4 +303,4 @@ soon_after (Take now sender octets ∷ earlier) held =
 pub losses_are_timely : LossesAreTimely
 losses_are_timely calls now held =
     let n : Ledger = network_after calls in
-    silence_timely MOST_STEPS (max n.monitor.moment now) n (soon_after calls held.1) (omega arith)
+    ends_timely MOST_LIGHTS (max n.monitor.moment now) n (soon_after calls held.1) (omega arith) (stands_after calls held.1).most

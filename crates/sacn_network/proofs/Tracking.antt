@@ -1,5 +1,5 @@
 -- What a network keeps is what its monitor keeps: the accounts are those of the packets, and the clock is the greatest moment handed in.
-use Rattle.std.proofs.Common.{◌≡◌, ◌<◌, ◌≤◌, ◌+◌, ◌-◌, ◌^◌, inl, inr, ℕ, zero, suc, min, max, ltb, true, false, cond, is_some, List, [], ◌∷◌, ◌++◌, length, Option, None, Some, Result, Ok, Err, refl, sym, ap, subst, ◌∙◌, arith, ltb-true}
+use Rattle.std.proofs.Common.{◌≡◌, ◌<◌, ◌≤◌, ◌+◌, ◌-◌, ◌^◌, inl, inr, ℕ, zero, suc, min, max, ltb, Bool, true, false, ◌||◌, cond, is_some, List, [], ◌∷◌, ◌++◌, length, Option, None, Some, Result, Ok, Err, refl, sym, ap, subst, ◌∙◌, arith, ltb-true}
 use Rattle.std.proofs.lemmas.Bool.{ltb-false}
 use Rattle.std.proofs.lemmas.List.{length-append}
 use Rattle.sacn_packets.specs.declared.root.fault.PacketFault.{PacketFault}
@@ -19,9 +19,12 @@ use Rattle.sacn_network.specs.declared.ledger.Ledger.{Ledger}
 use Rattle.sacn_network.specs.declared.ledger.TheConstants.{MOST_STEPS}
 use Rattle.sacn_network.specs.Calls.{ATickLeavesNone, AccountsAreOfTheirPackets, AreMoments, UsesTheGreatestMoment, network_after}
 use Rattle.sacn_network.specs.Losses.{after_end, at_end, lost_place, next_end, silenced}
+use Rattle.sacn_network.specs.declared.light_ends.TheConstants.{MOST_LIGHTS}
+use Rattle.sacn_network.specs.LightEnds.{after_ends, after_light, comes_by, ends_lose, light_end_of}
 use Rattle.sacn_network.specs.Networks.{handed, note_of, ticked}
-use Rattle.sacn_network.proofs.Ticks.{end_keeps, ticked_by}
-use Rattle.sacn_network.proofs.Waking.{noted_keeps, one_step_ledger}
+use Rattle.sacn_network.proofs.Lights.{next_after}
+use Rattle.sacn_network.proofs.Ticks.{came, end_keeps, light_keeps, ticked_by}
+use Rattle.sacn_network.proofs.Waking.{none_lost, noted_keeps, one_step_ledger}
 use Rattle.sacn_network.proofs.Whole.{heard_length, none_before, told_length, told_less, untold, untold_most}
 
 -- ---- calls of a monitor that leave this book, and in which the same packets came at the same moments
@@ -79,6 +82,30 @@ module _ (t : ℕ) (held : t ≤ 2 ^ 64 - 1) where
 pub all_silent : (t : ℕ) (n : Ledger) → t ≤ 2 ^ 64 - 1 → n.monitor.moment ≤ t → length n.monitor.streams ≤ MAX_STREAMS → IsSilent t (silenced MOST_STEPS t n).monitor
 all_silent t n held later most = let few = untold_most n.monitor.streams in silent t held MOST_STEPS n later (omega (arith, few, most)) most
 
+-- at the moment at which a light goes out all that is lost by then was told
+pub light_is_silent : (t : ℕ) (n : Ledger) → comes_by t (light_end_of n.monitor) ≡ true → length n.monitor.streams ≤ MAX_STREAMS → IsSilent (light_end_of n.monitor) (after_light (light_end_of n.monitor) n).monitor
+light_is_silent t n is most =
+    let at : ℕ = light_end_of n.monitor in
+    let early = came t at is in
+    let later = next_after n.monitor.moment n.monitor.streams in
+    subst (IsSilent at) (sym (light_keeps at n)) (all_silent at n (omega (arith, early.1)) (omega (arith, early.1, later)) most)
+
+pub all_ended : (k t : ℕ) (n : Ledger) → t ≤ 2 ^ 64 - 1 → n.monitor.moment ≤ t → length n.monitor.streams ≤ MAX_STREAMS → IsSilent t (after_ends k t n).monitor
+unfolding after_ends
+all_ended zero t n held later most = all_silent t n held later most
+all_ended (suc k) t n held later most =
+    let at : ℕ = light_end_of n.monitor in
+    let m : Ledger = after_light at n in
+    elim (comes_by t at) as (λ b. comes_by t at ≡ b → IsSilent t (cond b (after_ends k t m) (silenced MOST_STEPS t n)).monitor) [
+      | true ↦ λ is.
+          let silent = light_is_silent t n is most in
+          let early = (came t at is).0 in
+          let moment = silent.moment in
+          let room = silent.most in
+          all_ended k t m held (omega (arith, early, moment)) room
+      | false ↦ λ is. all_silent t n held later most
+    ] refl
+
 -- a source is lost by a moment where the first step finds one
 some_lost : (t : ℕ) (ss : List Stream) → next_loss ss ≤ t → next_loss ss < 2 ^ 64 - 1 → is_some (silent_place t ss) ≡ true
 some_lost t ss by low =
@@ -97,6 +124,47 @@ lost_as now n held before =
           let less : l < t = ltb-true l t is in
           some_lost (max n.monitor.moment (next_end t n)) n.monitor.streams (omega (arith, less)) (omega (arith, less, held, before)) ∙ sym (some_lost t n.monitor.streams (omega (arith, less)) (omega (arith, less, held, before)))
       | false ↦ λ is. let most : t ≤ l = ltb-false l t is in ap (λ (k : ℕ). is_some (silent_place k n.monitor.streams)) (omega (arith, most))
+    ] refl
+
+lost_then : (t : ℕ) (n : Ledger) → t ≤ 2 ^ 64 - 1 → n.monitor.moment ≤ t → is_some (lost_place t n) ≡ is_some (silent_place t n.monitor.streams)
+lost_then t n held later =
+    let at : max n.monitor.moment t ≡ t = omega (arith, later) in
+    sym (ap (λ (k : ℕ). is_some (lost_place k n)) at) ∙ lost_as t n held (omega (arith, held, later)) ∙ ap (λ (k : ℕ). is_some (silent_place k n.monitor.streams)) at
+
+-- where none is lost before a light goes out, the streams are as they were
+none_changed : (at : ℕ) (n : Ledger) → max n.monitor.moment at < next_loss n.monitor.streams → (after_light at n).monitor.streams ≡ n.monitor.streams
+unfolding lost_place
+none_changed at n before =
+    let none : lost_place at n ≡ None = none_lost at n before in
+    ap (λ (b : Book). b.streams) (light_keeps at n) ∙ ap (λ (l : Ledger). l.monitor.streams) (one_step_ledger MAX_STREAMS at n none) ∙ ap (λ (o : Option ℕ). told_at o n.monitor.streams) none
+
+-- so many steps lose a source where one is lost by then
+pub lose_as : (k t : ℕ) (n : Ledger) → t ≤ 2 ^ 64 - 1 → n.monitor.moment ≤ t → length n.monitor.streams ≤ MAX_STREAMS → ends_lose k t n ≡ is_some (silent_place t n.monitor.streams)
+unfolding ends_lose
+lose_as zero t n held later most = lost_then t n held later
+lose_as (suc k) t n held later most =
+    let at : ℕ = light_end_of n.monitor in
+    let m : Ledger = after_light at n in
+    let ss : List Stream = n.monitor.streams in
+    elim (comes_by t at) as (λ b. comes_by t at ≡ b → cond b (is_some (lost_place at n) || ends_lose k t m) (is_some (lost_place t n)) ≡ is_some (silent_place t ss)) [
+      | true ↦ λ is.
+          let early = came t at is in
+          let after : n.monitor.moment ≤ at = let on = next_after n.monitor.moment ss in omega (arith, on, early.1) in
+          elim (ltb at (next_loss ss)) as (λ c. ltb at (next_loss ss) ≡ c → (is_some (lost_place at n) || ends_lose k t m) ≡ is_some (silent_place t ss)) [
+            | true ↦ λ is_before.
+                let before = ltb-true at (next_loss ss) is_before in
+                let lower : max n.monitor.moment at < next_loss ss = omega (arith, before, after) in
+                let silent = light_is_silent t n is most in
+                let moment = silent.moment in
+                let room = silent.most in
+                ap (λ (o : Option ℕ). is_some o || ends_lose k t m) (none_lost at n lower)
+                ∙ lose_as k t m held (omega (arith, early.0, moment)) room ∙ ap (λ (zs : List Stream). is_some (silent_place t zs)) (none_changed at n lower)
+            | false ↦ λ is_past.
+                let past = ltb-false at (next_loss ss) is_past in
+                ap (λ (x : Bool). x || ends_lose k t m) (lost_then at n (omega (arith, early.1)) after ∙ some_lost at ss past (omega (arith, past, early.1)))
+                ∙ sym (some_lost t ss (omega (arith, past, early.0)) (omega (arith, past, early.1)))
+          ] refl
+      | false ↦ λ is. lost_then t n held later
     ] refl
 
 -- ---- a datagram
@@ -176,7 +244,7 @@ silent_at t u b same is = subst (λ (k : ℕ). IsSilent k b) same is
 pub mid_silent : (earlier : List Call) (now : ℕ) (n : Ledger) → now ≤ 2 ^ 64 - 1 → moment_in_use earlier ≤ 2 ^ 64 - 1 → Stands earlier n.monitor → IsSilent (max (moment_in_use earlier) now) (ticked now n).monitor
 mid_silent earlier now n held before stands =
     let at = stands.moment in
-    silent_at (max n.monitor.moment now) (max (moment_in_use earlier) now) (ticked now n).monitor (omega (arith, at)) (all_silent (max n.monitor.moment now) n (omega (arith, at, held, before)) (omega arith) stands.most)
+    silent_at (max n.monitor.moment now) (max (moment_in_use earlier) now) (ticked now n).monitor (omega (arith, at)) (all_ended MOST_LIGHTS (max n.monitor.moment now) n (omega (arith, at, held, before)) (omega arith) stands.most)
 
 ticked_made : (earlier : List Call) (now : ℕ) (n : Ledger) → MadeBy earlier n.monitor → MadeBy earlier (ticked now n).monitor
 ticked_made earlier now n made = ticked_by (MadeBy earlier) now (λ m b by. made_later earlier m b) n made

@@ -13,6 +13,7 @@ use Rattle.sacn_network.specs.declared.occurrence.What.{What}
 use Rattle.sacn_network.specs.declared.occurrence.What.TheVariants.{Contest, Heard, Lost, Refused, Untracked}
 use Rattle.sacn_network.specs.Telling.{Told}
 use Rattle.sacn_network.specs.Sets.{has_bit}
+use Rattle.sacn_network.specs.Contests.{is_contested}
 use Rattle.sacn_network.specs.Networks.{new_network, take_told, taken, tick_told, ticked}
 
 abbrev pub step : Call → Ledger → Ledger
@@ -72,6 +73,11 @@ contested_by universe before (o ∷ os) = contested_by universe (contested_from 
 -- A universe is contested where that was told last of it. So what is told of it is each time something else than before.
 abbrev pub IsContestedAsTold : Type 0
 IsContestedAsTold = (calls : List Call) (universe : ℕ) → universe < 2 ^ 16 → has_bit (network_after calls).contested universe ≡ contested_by universe false (told_by calls)
+
+-- A universe is contested, as was told last, exactly where two sources or more are merged there: those whose levels a node holds by the clock, at the top priority of these. So what is told of it is told when it becomes so. The last
+-- moment of all never comes.
+abbrev pub IsContestedAsLit : Type 0
+IsContestedAsLit = (calls : List Call) (universe : ℕ) → AreMoments calls → universe < 2 ^ 16 → moment_in_use calls < 2 ^ 64 - 1 → has_bit (network_after calls).contested universe ≡ is_contested universe (network_after calls).monitor
 
 -- ---- when a loss is told
 

@@ -2,6 +2,7 @@ pub mod Sets
 pub mod Telling
 pub mod Contests
 pub mod Losses
+pub mod LightEnds
 pub mod Packets
 pub mod Networks
 pub mod Calls

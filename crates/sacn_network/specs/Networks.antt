@@ -6,10 +6,10 @@ use Rattle.sacn_monitor.specs.declared.account.Endpoint.{Endpoint}
 use Rattle.sacn_monitor.specs.declared.news.Noted.{Noted}
 use Rattle.sacn_monitor.specs.Books.{after_read, new_book, next_loss, noted_packet, with_datagram}
 use Rattle.sacn_network.specs.declared.ledger.Ledger.{Ledger}
-use Rattle.sacn_network.specs.declared.ledger.TheConstants.{MOST_STEPS}
+use Rattle.sacn_network.specs.declared.light_ends.TheConstants.{MOST_LIGHTS}
 use Rattle.sacn_network.specs.Telling.{Told}
 use Rattle.sacn_network.specs.Sets.{no_universes}
-use Rattle.sacn_network.specs.Losses.{silence_told, silenced}
+use Rattle.sacn_network.specs.LightEnds.{after_ends, ends_told, light_end_of}
 use Rattle.sacn_network.specs.Packets.{after_noted, noted_told}
 
 -- nothing was heard
@@ -19,10 +19,10 @@ new_network = record { monitor = new_book; contested = no_universes; heard = no_
 -- ---- the clock moves
 
 abbrev pub tick_told : ℕ → Ledger → List Told
-tick_told now n = silence_told MOST_STEPS (max n.monitor.moment now) n
+tick_told now n = ends_told MOST_LIGHTS (max n.monitor.moment now) n
 
 abbrev pub ticked : ℕ → Ledger → Ledger
-ticked now n = silenced MOST_STEPS (max n.monitor.moment now) n
+ticked now n = after_ends MOST_LIGHTS (max n.monitor.moment now) n
 
 -- no loss that comes by a moment is still to be told; the last moment of all never comes
 abbrev pub LeavesNone : ℕ → Ledger → Type 0

@@ -1,6 +1,6 @@
 //! Laws of the definitions: functions that do nothing, each of which has a law as its contract.
 
-ghost use Rattle.sacn_network.specs.Calls.{ATickLeavesNone, AccountsAreOfTheirPackets, IsContestedAsTold, IsHeardWhereASourceIs, LossesAreTimely, UsesTheGreatestMoment};
+ghost use Rattle.sacn_network.specs.Calls.{ATickLeavesNone, AccountsAreOfTheirPackets, IsContestedAsLit, IsContestedAsTold, IsHeardWhereASourceIs, LossesAreTimely, UsesTheGreatestMoment};
 ghost use Rattle.sacn_network.specs.Sets.{HasNone, MarksOneUniverse};
 
 /// After any calls the account of a source on a universe is the one that its packets there give, each at its moment and
@@ -32,6 +32,12 @@ pub fn is_heard_where_a_source_is()
 /// A universe is contested where that was told last of it: so its contest is told where it changes, and only there.
 pub fn is_contested_as_told()
     ensures { IsContestedAsTold }
+{}
+
+/// A universe is contested exactly where two sources or more are merged at the top priority by the clock, as a node holds them: so its
+/// contest is told when it begins, and when it ends, also where that is by silence of a source whose previews go on.
+pub fn is_contested_as_lit()
+    ensures { IsContestedAsLit }
 {}
 
 /// A universe that is put into a set is in it, one that is taken out isn't, and each other one is where it was.

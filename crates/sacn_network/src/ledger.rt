@@ -149,8 +149,8 @@ impl Ledger {
         }
     }
 
-    // Tells the contest of a universe, where there is one.
-    fn tell_contest_in<O: Observer>(&mut self, universe: Option<u16>, observer: &mut O)
+    /// Tells the contest of a universe, where there is one.
+    pub(crate) fn tell_contest_in<O: Observer>(&mut self, universe: Option<u16>, observer: &mut O)
         ensures told { AreTold O.Notes (contest_in universe self.old) observer.old observer.new }
         ensures ledger { self.new ≡ with_contest_in universe self.old }
     {

@@ -9,6 +9,7 @@
 
 pub mod laws;
 mod ledger;
+mod light_ends;
 mod lit_universe;
 mod network;
 mod observer;

@@ -1,7 +1,8 @@
 //! The one account of a network.
 
 ghost use Rattle.std.specs.Prelude.{◌≡◌, IfOk, is_some, max};
-ghost use Rattle.sacn_monitor.specs.Books.{next_loss, silent_place};
+ghost use Rattle.sacn_monitor.specs.Books.{silent_place};
+ghost use Rattle.sacn_network.specs.LightEnds.{first_end};
 ghost use Rattle.sacn_network.specs.Networks.{JoinsLater, LeavesNone, handed, new_network, note_of, take_told, taken, tick_told, ticked};
 ghost use Rattle.sacn_network.specs.Sets.{has_bit, universes_in};
 ghost use Rattle.sacn_network.specs.Telling.{AreTold};
@@ -21,21 +22,21 @@ use std::marker::Model;
 #[derive(Drop)]
 pub struct Network {
     ledger: Ledger,
-    /// No loss that is still to be told comes before this moment.
+    /// Nothing ends by itself before this moment.
     wake: u64,
 }
 
 impl Model for Network {
     ghost use Rattle.std.specs.Prelude.{◌≤◌, length};
     ghost use Rattle.sacn_monitor.specs.declared.limits.TheConstants.{MAX_STREAMS};
-    ghost use Rattle.sacn_monitor.specs.Books.{next_loss};
     ghost use Rattle.sacn_network.specs.declared.ledger.Ledger.{Ledger};
+    ghost use Rattle.sacn_network.specs.LightEnds.{first_end};
 
     ghost Value = { Ledger };
 
     ghost view = { λ n. n.ledger };
 
-    ghost invariant = { λ n. (n.wake ≤ next_loss n.ledger.monitor.streams)
+    ghost invariant = { λ n. (n.wake ≤ first_end n.ledger.monitor)
         × (length n.ledger.monitor.streams ≤ MAX_STREAMS) };
 }
 
@@ -66,9 +67,9 @@ impl Network {
         })
     }
 
-    /// Takes what a datagram was read as, after what had ended by silence, each thing at its own moment: first the losses, each
-    /// with the contest of its universe behind it where that has changed, then what the datagram tells, then the contest of its
-    /// universe. Returns what was noted of it. A page and a sync packet tell nothing here.
+    /// Takes what a datagram was read as, after what had ended by silence, each thing at its own moment: the losses, each
+    /// with the contest of its universe behind it where that has changed, and behind a moment's losses the contests of universes
+    /// on which a light went out; then what the datagram tells, then the contest of its universe. Returns what was noted of it. A page and a sync packet tell nothing here.
     pub fn take<O: Observer>(
         &mut self,
         now: u64,
@@ -105,16 +106,16 @@ impl Network {
             self.ledger.monitor.tick(until);
             return false;
         }
-        let is_lost = self.ledger.tell_silence(until, observer);
-        self.wake = self.ledger.monitor.next_loss();
+        let is_lost = self.ledger.tell_ends(until, observer);
+        self.wake = self.ledger.first_end();
         is_lost
     }
 
     /// The first moment at which something ends by itself, where no datagram comes; `u64::MAX` where nothing does.
     pub fn next_end(&self) -> u64
-        ensures { result ≡ next_loss self.now.monitor.streams }
+        ensures { result ≡ first_end self.now.monitor }
     {
-        self.ledger.monitor.next_loss()
+        self.ledger.first_end()
     }
 
     /// The accounts of the sources on universes.

@@ -2,10 +2,11 @@
 
 ghost use Rattle.std.specs.Prelude.{◌≡◌, slice_get};
 ghost use Rattle.sacn_network.specs.Contests.{universe_of};
+ghost use Rattle.sacn_network.specs.LightEnds.{comes_by, out_universe};
 ghost use Rattle.sacn_network.specs.Losses.{lost_from, soonest_loss};
 ghost use Rattle.sacn_network.specs.Packets.{stirred_universe, stirs, tells_nothing};
 
-use sacn_monitor::{News, Noted, Stream, StreamEvent};
+use sacn_monitor::{Monitor, News, Noted, Stream, StreamEvent};
 use sacn_sources::NETWORK_DATA_LOSS;
 
 /// Whether a packet tells nothing new.
@@ -52,6 +53,27 @@ pub(crate) fn universe_at(streams: &[Stream], place: usize) -> Option<u16>
         return None;
     };
     Some(stream.universe)
+}
+
+/// Whether a moment comes by another one. The last moment of all never comes.
+pub(crate) fn comes_by(until: u64, moment: u64) -> bool
+    ensures { result ≡ comes_by until moment }
+{
+    moment < until.saturating_add(1)
+}
+
+/// The universe of the stream at a place, if its light, which was on at a moment, is out by now.
+pub(crate) fn out_universe(monitor: &Monitor, place: usize, before: u64) -> Option<u16>
+    ensures { result ≡ out_universe before monitor.now.moment (slice_get monitor.now.streams place) }
+{
+    let Some(stream) = monitor.streams().get(place) else {
+        return None;
+    };
+    if comes_by(monitor.moment(), stream.light_end(before)) {
+        Some(stream.universe)
+    } else {
+        None
+    }
 }
 
 /// The stream of a packet, where a datagram was one, isn't lost before this moment.

@@ -2,9 +2,10 @@
 
 ghost use Rattle.std.specs.Prelude.{◌≡◌, ◌≤◌, ◌==◌, ℕ, List, IfOk, OnOk, find, is_some, max, option_copied};
 ghost use Rattle.sacn_packets.specs.PacketReading.{reading_packet};
-ghost use Rattle.sacn_monitor.specs.Books.{new_book, next_loss, silent_place};
+ghost use Rattle.sacn_monitor.specs.Books.{new_book, silent_place};
 ghost use Rattle.sacn_monitor.specs.Histories.{Call, moment_of};
 ghost use Rattle.sacn_tell.specs.Following.{IsTicked, IsTaken};
+ghost use Rattle.sacn_network.specs.LightEnds.{first_end};
 ghost use Rattle.sacn_network.specs.Networks.{take_told, taken, tick_told, ticked};
 ghost use Rattle.sacn_network.specs.Sets.{universes_in};
 ghost use Rattle.sacn_page.specs.declared.alarms.Trouble.TheVariants.{Stopped};
@@ -113,9 +114,9 @@ impl Board {
         self.alarms.add(now, Trouble::Stopped(millis));
     }
 
-    /// The moment of the next loss, where no packet comes; `u64::MAX` where there is none.
-    pub fn next_loss(&self) -> u64
-        ensures { result ≡ next_loss self.now.network.monitor.streams }
+    /// The first moment at which something ends by itself, where no packet comes; `u64::MAX` where nothing does.
+    pub fn next_end(&self) -> u64
+        ensures { result ≡ first_end self.now.network.monitor }
     {
         self.network.next_end()
     }

@@ -269,6 +269,10 @@ impl<T: Tape + Drop> Scene for Recording<T> {
         Some(&self.facts)
     }
 
+    fn findings(&mut self, _now: u64) -> Result<Option<String>, AllocError> {
+        Ok(None)
+    }
+
     fn seek(
         &mut self,
         universe: Option<u16>,

@@ -28,6 +28,8 @@ pub enum Target {
     Events(Option<u16>),
     /// What is known of a recording as a whole: `/recording`.
     Recording,
+    /// What was found about the senders of a network: `/audit`.
+    Findings,
 }
 
 /// Why a request isn't answered as it asks.
@@ -209,7 +211,8 @@ fn target_asked(target: &str) -> Result<Target, RequestRefusal> {
             _ => Err(RequestRefusal::Moment),
         },
         "/recording" if query.is_empty() => Ok(Target::Recording),
-        "/recording" => Err(RequestRefusal::Malformed),
+        "/audit" if query.is_empty() => Ok(Target::Findings),
+        "/recording" | "/audit" => Err(RequestRefusal::Malformed),
         _ => Err(RequestRefusal::Missing),
     }
 }

@@ -63,7 +63,7 @@ impl RequestRefusal {
             RequestRefusal::Body => "A request with a body isn't taken.",
             RequestRefusal::Foreign => "This isn't the name of this server.",
             RequestRefusal::Missing =>
-                "There is / and /state, and /events of a network or /recording.",
+                "There is / and /state, and of a network /events and /audit, of a recording /recording.",
             RequestRefusal::Method => "Nothing can be ordered here: only GET is taken.",
             RequestRefusal::TooLarge => "The head of the request is too large.",
             RequestRefusal::Busy => "There is no room for a further viewer or universe.",
@@ -209,6 +209,20 @@ pub fn answer<C: Connection + Drop, S: Scene + Drop>(
         Target::State(_, Some(_)) => refuse(alloc, viewer, RequestRefusal::Moment, now),
         Target::Events(named) => begin_events(alloc, scene, viewer, named, watched, now),
         Target::Recording => refuse(alloc, viewer, RequestRefusal::Missing, now),
+        Target::Findings => show_findings(alloc, scene, viewer, now),
+    }
+}
+
+// What was found about the senders, where somebody looks for that.
+fn show_findings<C: Connection + Drop, S: Scene + Drop>(
+    alloc: Global,
+    scene: &mut S,
+    viewer: &mut Viewer<C>,
+    now: u64,
+) -> Result<(), AllocError> {
+    match scene.findings(now)? {
+        Some(text) => give(alloc, viewer, MediaType::Text, text.as_str(), now),
+        None => refuse(alloc, viewer, RequestRefusal::Missing, now),
     }
 }
 
@@ -234,6 +248,7 @@ fn answer_of_recording<C: Connection + Drop, S: Scene + Drop>(
             Ok(())
         }
         Target::Events(_) => refuse(alloc, viewer, RequestRefusal::Missing, now),
+        Target::Findings => refuse(alloc, viewer, RequestRefusal::Missing, now),
         Target::Recording => {
             let mut body = String::new(alloc);
             if let Some(facts) = scene.facts() {

@@ -76,6 +76,12 @@ pub trait Scene {
     /// What is known of the recording as a whole, where it is one.
     fn facts(&self) -> Option<&Facts>;
 
+    /// What was found up to a moment about the senders of a network, as lines for people; None where nobody looks for that. However
+    /// often it is asked for, it holds nothing else up.
+    ///
+    /// Errors: OutOfMemory.
+    fn findings(&mut self, now: u64) -> Result<Option<String>, AllocError>;
+
     /// Moves a recording towards a moment, or to its end where none is named, in at most so many steps. Returns whether it is
     /// there; then the board is as at that moment, and the universe that is named, or chosen where none is, is merged.
     ///
@@ -108,7 +114,7 @@ impl Scene for Board {
     }
 
     fn next_change(&self) -> u64 {
-        self.next_loss()
+        self.next_end()
     }
 
     fn board(&self) -> &Board {
@@ -125,6 +131,10 @@ impl Scene for Board {
 
     fn facts(&self) -> Option<&Facts> {
         None
+    }
+
+    fn findings(&mut self, _now: u64) -> Result<Option<String>, AllocError> {
+        Ok(None)
     }
 
     fn seek(

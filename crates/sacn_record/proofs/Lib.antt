@@ -11,3 +11,5 @@ pub mod Heads
 pub mod Reading
 pub mod Opening
 pub mod Growing
+pub mod Taping
+pub mod Rounds

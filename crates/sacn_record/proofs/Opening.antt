@@ -94,7 +94,7 @@ opened s options rest small enough fours len =
     behind first_octets opening_behind (place 0 (first_of s ++ left)) (place a left) (first_of s) r eight (is_section s (place a left) ∙ ordered)
 
 -- the interface, whose octets are all known
-interface_read : (at : ℕ) (rest : List ℕ) → (next : ℕ) × (piece (start_of (Pcapng Little)) (place at (block 1 interface_body ++ rest)) ≡ Ok (record { frame = None; next = during 0 }, place next rest))
+interface_read : (at : ℕ) (rest : List ℕ) → (next : ℕ) × (piece (start_of (Pcapng Little)) (place at (block 1 interface_body ++ rest)) ≡ Ok (record { frame = None; next = during None }, place next rest))
 unfolding block interface_body option padding little32 little16
 interface_read at rest =
     let state = start_of (Pcapng Little) in
@@ -104,10 +104,10 @@ interface_read at rest =
     let a = up at 8 in
     let b = up a 20 in
     let c = up b 4 in
-    let r : Result (Piece × Place) FaultKind = Ok (record { frame = None; next = during 0 }, place c rest) in
+    let r : Result (Piece × Place) FaultKind = Ok (record { frame = None; next = during None }, place c rest) in
     let found : BlockHead = record { kind = Interface; length = 32 } in
     let last =
-    behind (closed Little 32) (λ (x : ℕ). gives {A = Piece} (record { frame = None; next = during 0 })) (place b (tail ++ rest)) (place c rest) 32 r (closed_read 32 b tail rest refl refl) refl in
+    behind (closed Little 32) (λ (x : ℕ). gives {A = Piece} (record { frame = None; next = during None })) (place b (tail ++ rest)) (place c rest) 32 r (closed_read 32 b tail rest refl refl) refl in
     let said = behind_said (reading_interface Little interface_body) (λ (x : pcapng.Taken). interface_end Little 32 state x) (place b (tail ++ rest)) the_interface r refl last in
     let body = behind (octets 20) (λ (x : List ℕ). interface_behind Little 32 state x) (place a after) (place b (tail ++ rest)) interface_body r (octets_front 20 a interface_body (tail ++ rest) refl) said in
     let sized = behind_said (interface_size 32 0) (λ (n : ℕ). described_by n Little 32 state) (place a after) 20 r refl body in
@@ -122,7 +122,7 @@ after_opening all at fit =
     let most = length (drop 1 (block 1 interface_body ++ blocks)) in
     let read = interface_read at blocks in
     let enough : length all ≤ most = omega (arith, few_blocks all) in
-    ap (λ (r : Result (Piece × Place) FaultKind). told_by at r (pieces most)) read.1 ∙ all_read all most read.0 0 fit enough
+    ap (λ (r : Result (Piece × Place) FaultKind). told_by at r (pieces most)) read.1 ∙ all_read all most read.0 None fit enough
 
 regroup : (k s m w o e i rest : List ℕ) → ((k ++ s ++ (m ++ w ++ o ++ e) ++ s) ++ i) ++ rest ≡ (k ++ s) ++ (m ++ ((w ++ o ++ e) ++ (s ++ (i ++ rest))))
 regroup k s m w o e i rest = simp append_assoc

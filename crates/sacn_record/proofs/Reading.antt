@@ -1,5 +1,5 @@
 -- A recording, read datagram by datagram.
-use Rattle.std.proofs.Common.{◌≡◌, ℕ, ◌+◌, ◌-◌, ◌/◌, ◌%◌, ◌^◌, ◌<◌, ◌≤◌, zero, suc, List, [], ◌∷◌, ◌++◌, length, map, None, Some, Result, Ok, refl, ap, ◌∙◌, length-append, append_assoc, arith}
+use Rattle.std.proofs.Common.{◌≡◌, ℕ, ◌+◌, ◌-◌, ◌/◌, ◌%◌, ◌^◌, ◌<◌, ◌≤◌, zero, suc, List, [], ◌∷◌, ◌++◌, length, map, Option, None, Some, Result, Ok, refl, ap, ◌∙◌, length-append, append_assoc, arith}
 use Rattle.std.specs.List.{flat_map}
 use Rattle.std.proofs.lemmas.List.{length-replicate}
 use Rattle.sacn_capture.specs.declared.faults.FaultKind.{FaultKind}
@@ -33,7 +33,7 @@ moment_again : (m : ℕ) → m < 2 ^ 64 → milliseconds m 1000000 ≡ m / 1000
 moment_again m small = omega arith
 
 -- a datagram's block with more behind it is a packet's piece
-pub datagram_read : (at m : ℕ) (t : Taken) (rest : List ℕ) → Fits t
+pub datagram_read : (at : ℕ) (m : Option ℕ) (t : Taken) (rest : List ℕ) → Fits t
     → (next : ℕ) × (piece (during m) (place at (datagram_block t ++ rest)) ≡ Ok (packet_found (t.moment / 1000) t.sent, place next rest))
 unfolding datagram_block block packet_body
 datagram_read at m t rest fits =
@@ -49,7 +49,7 @@ datagram_read at m t rest fits =
     let room : n + 32 ≤ s = omega arith in
     let left : length (padding n) ≡ s - 32 - n = padding_length n ∙ omega arith in
     let e =
-    piece_read at m s n t.moment (little32 6 ++ little32 s) (front_of t.moment n) p (padding n) (little32 s) rest t.sent (head_length s) (no_section s) (enhanced_head s small (omega arith) fours) (front_length t.moment n)
+    piece_read at s n t.moment m (little32 6 ++ little32 s) (front_of t.moment n) p (padding n) (little32 s) rest t.sent (head_length s) (no_section s) (enhanced_head s small (omega arith) fours) (front_length t.moment n)
     (front_again t.moment n s fits.moment (omega arith) room) refl left (tail_length s) (tail_again s small) (content_again t.sent fits.sender fits.destination fits.sender_port fits.destination_port few) in
     let ms = moment_again t.moment fits.moment in
     let end : ℕ = up (up (up (up (up at 8) 20) n) (s - 32 - n)) 4 in
@@ -61,19 +61,19 @@ unfolding datagram_block block little32
 not_ended t rest told = refl
 
 -- all that is left
-pub all_read : (all : List Taken) (most at m : ℕ) → AllFit all → length all ≤ most → pieces most (during m) (place at (flat_map datagram_block all)) ≡ record { frames = map shown_of all; fault = None }
+pub all_read : (all : List Taken) (most at : ℕ) (m : Option ℕ) → AllFit all → length all ≤ most → pieces most (during m) (place at (flat_map datagram_block all)) ≡ record { frames = map shown_of all; fault = None }
 all_read [] zero at m fit enough = refl
 all_read [] (suc most) at m fit enough = refl
 all_read (t ∷ all) zero at m fit enough = absurd (omega arith)
 all_read (t ∷ all) (suc most) at m fit enough =
     let rest = flat_map datagram_block all in
     let read = datagram_read at m t rest fit.0 in
-    let behind = all_read all most read.0 (t.moment / 1000) fit.1 (omega arith) in
+    let behind = all_read all most read.0 (Some (t.moment / 1000)) fit.1 (omega arith) in
     not_ended t rest (told_by at (piece (during m) (place at (datagram_block t ++ rest))) (pieces most))
     ∙ ap (λ (r : Result (Piece × Place) FaultKind). told_by at r (pieces most)) read.1
     ∙ ap (λ (told : Told). with_frame (Some (shown_of t)) told) behind
 
-some_octets : (t : Taken) → 1 ≤ length (datagram_block t)
+pub some_octets : (t : Taken) → 1 ≤ length (datagram_block t)
 unfolding datagram_block block little32
 some_octets t = omega arith
 

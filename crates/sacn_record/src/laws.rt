@@ -1,6 +1,6 @@
 //! Laws of the definitions alone.
 
-ghost use Rattle.sacn_record.specs.Laws.{CallsGiveWhatWasRecorded, WhatWasRecordedIsRead};
+ghost use Rattle.sacn_record.specs.Laws.{CallsGiveWhatWasRecorded, EachIsKeptOnce, FilesAreApart, FilesAreRecordings, FilesGiveWhatWasHeard, WhatWasRecordedIsRead};
 
 use sacn_capture::laws::calls_give_the_recording;
 
@@ -18,4 +18,28 @@ pub fn calls_give_what_was_recorded()
     ensures { CallsGiveWhatWasRecorded }
 {
     calls_give_the_recording();
+}
+
+/// What a recorder does with its files, as `run_record` promises it, leaves in each of them the recording of its datagrams.
+pub fn files_are_recordings()
+    ensures { FilesAreRecordings }
+{}
+
+/// These files together have each datagram that was heard and asked for once, in the order in which they were heard.
+pub fn each_is_kept_once()
+    ensures { EachIsKeptOnce }
+{}
+
+/// A file is begun where the one before it has had its time, and no sooner.
+pub fn files_are_apart()
+    ensures { FilesAreApart }
+{}
+
+/// Each file gives its datagrams again: whatever any number of calls of `Capture::next` give, of a reader whose octets are the file's.
+pub fn files_give_what_was_heard()
+    ensures { FilesGiveWhatWasHeard }
+{
+    calls_give_what_was_recorded();
+    files_are_recordings();
+    each_is_kept_once();
 }

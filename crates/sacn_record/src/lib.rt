@@ -5,14 +5,25 @@
 #![tactic(auto)]
 
 mod blocks;
+mod choice;
 mod heard;
 pub mod laws;
 mod packets;
+mod plan;
 mod put;
 mod recorder;
+mod session;
+mod tapes;
+mod totals;
+mod wire;
 
 pub use heard::{Heard, LONGEST_PAYLOAD, LONGEST_PROGRAM};
+pub use plan::RecordPlan;
 pub use recorder::{begin, record};
+pub use session::run_record;
+pub use tapes::Tapes;
+pub use totals::Totals;
+pub use wire::{Arrived, Caught, Wire};
 
 #[cfg(test)]
 mod tests;

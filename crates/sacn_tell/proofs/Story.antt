@@ -1,5 +1,5 @@
 -- What a recording tells, frame by frame: what was heard, and then what is still to come, is all.
-use Rattle.std.proofs.Common.{◌≡◌, inl, inr, ℕ, ◌==◌, Bool, cond, true, false, max, List, ◌∷◌, length, Option, None, Some, Result, Ok, Err, IfSome, refl, sym, ap, subst, ◌∙◌, arith}
+use Rattle.std.proofs.Common.{◌≡◌, ◌≤◌, inl, inr, ℕ, ◌==◌, Bool, cond, true, false, max, List, ◌∷◌, length, Option, None, Some, Result, Ok, Err, IfSome, refl, sym, ap, subst, ◌∙◌, arith}
 use Rattle.std.specs.Prelude.{option_map, ⊤}
 use Rattle.sacn_capture.specs.declared.frame_counts.FrameCounts.{FrameCounts}
 use Rattle.sacn_capture.specs.declared.faults.CaptureFault.{CaptureFault}
@@ -67,6 +67,11 @@ follows_on : (call : Call) (earlier : List Call) (old new : Book) → Follows ea
 follows_on (Take now sender octets) earlier old new follows hears = (old, follows, hears)
 follows_on (Tick now) earlier old new follows hears = (old, follows, hears)
 
+-- a clock never goes back
+never_back : (moment : Option ℕ) (clock : Timeline) → clock.now ≤ (at_moment moment clock).now
+never_back None clock = omega arith
+never_back (Some moment) clock = omega arith
+
 module _ (port : ℕ) (frame : Shown) (old new : Progress) (clock : new.timeline ≡ at_moment frame.moment old.timeline) (others : new.other_ports ≡ elsewhere port frame.content old.other_ports) where
   heard_on : (c d : FrameCounts) (calls : List Call) → d ≡ count_frame (passed_by frame.content) c
       → after_frame port frame (heard_by old c calls) ≡ heard_by new d (call_of port new.timeline.now frame.content ∷ calls)
@@ -79,12 +84,12 @@ module _ (port : ℕ) (frame : Shown) (old new : Progress) (clock : new.timeline
   now_on calls now =
       let later : new.timeline.now ≡ (at_moment frame.moment old.timeline).now = ap (λ (t : Timeline). t.now) clock in
       let moment : moment_of (call_of port new.timeline.now frame.content) ≡ new.timeline.now = call_moment port new.timeline.now frame.content in
-      omega (arith, later, moment, now)
+      omega (arith, later, never_back frame.moment old.timeline, moment, now)
 
   pub moment_on : (t m : ℕ) → t ≡ old.timeline.now → m ≡ max t new.timeline.now → m ≡ new.timeline.now
   moment_on t m before is =
       let later : new.timeline.now ≡ (at_moment frame.moment old.timeline).now = ap (λ (t : Timeline). t.now) clock in
-      omega (arith, later, before, is)
+      omega (arith, later, never_back frame.moment old.timeline, before, is)
 
   -- a frame more was heard
   pub frame_heard : (all before after : Option Told) (t : ℕ) (k0 k1 : Kept) → IsUpTo port all before old k0 → Gives (Ok (Some frame)) before after → t ≡ old.timeline.now

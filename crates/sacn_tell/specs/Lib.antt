@@ -19,6 +19,7 @@ pub mod Tellings
 pub mod Rows
 pub mod StreamRows
 pub mod Totals
+pub mod Twice
 pub mod Tables
 pub mod Shows
 pub mod LineWriting

@@ -47,10 +47,14 @@ abbrev pub skipped_line : Form → ℕ → Stream → ℕ → List ℕ
 skipped_line Text now s skipped = stream_front now s ++ skipped_words skipped
 skipped_line Json now s skipped = object_front now (codes "skipped") ++ (stream_members s ++ (number_member (codes "count") skipped ++ codes "}"))
 
--- it is lost (E1.31, 6.7.1)
+-- its last packet: when and from where it came, and its priority
+unfoldable pub last_members : Stream → List ℕ
+last_members s = number_member (codes "since") s.account.latest ++ (sender_members s.account.sender ++ number_member (codes "priority") s.account.priority)
+
+-- it is lost (E1.31, 6.7.1): what it sent last
 abbrev pub loss_line : Form → ℕ → Stream → List ℕ
 loss_line Text now s = stream_front now s ++ loss_words s
-loss_line Json now s = object_front now (codes "lost") ++ (stream_members s ++ (number_member (codes "since") s.account.latest ++ codes "}"))
+loss_line Json now s = object_front now (codes "lost") ++ (stream_members s ++ (last_members s ++ codes "}"))
 
 -- a datagram is no packet
 abbrev pub refused_line : Form → ℕ → Endpoint → PacketFault → List ℕ

@@ -54,8 +54,12 @@ unfoldable pub moved_words : Endpoint → List ℕ
 moved_words s = codes "now sends from " ++ sender_text s
 
 -- the moment of the last packet of a source that is lost (E1.31, 6.7.1)
-unfoldable pub loss_words : Stream → List ℕ
-loss_words s = codes "is lost: silent since " ++ (decimal (s.account.latest / 1000) ++ (codes "." ++ (zeros 3 (decimal (s.account.latest % 1000)) ++ codes " s")))
+unfoldable pub silence_words : Stream → List ℕ
+silence_words s = codes "is lost: silent since " ++ (decimal (s.account.latest / 1000) ++ (codes "." ++ (zeros 3 (decimal (s.account.latest % 1000)) ++ codes " s")))
+
+-- that, and from where that packet came and its priority
+abbrev pub loss_words : Stream → List ℕ
+loss_words s = silence_words s ++ presence_words (codes ", last") s
 
 -- milliseconds as seconds: a point and three places
 unfoldable pub seconds_text : ℕ → List ℕ

@@ -17,7 +17,7 @@ use Rattle.sacn_tell.specs.declared.report.Report.{Report}
 use Rattle.sacn_tell.specs.Following.{IsTaken, IsTicked}
 use Rattle.sacn_tell.specs.KeptLists.{Listed, listed_by}
 
--- milliseconds from the first frame, which is this one where there was none before
+-- milliseconds from the first frame with a moment, which is this one where there was none before
 abbrev pub since_first : ℕ → Timeline → ℕ
 since_first moment clock = moment - unwrap_or clock.first moment
 
@@ -25,13 +25,18 @@ since_first moment clock = moment - unwrap_or clock.first moment
 abbrev pub is_earlier : ℕ → Timeline → Bool
 is_earlier moment clock = nat_lt moment (unwrap_or clock.first moment) || nat_lt (since_first moment clock) clock.now
 
--- the clock at a frame's moment: it never goes back, and a frame with an earlier moment is at the greatest so far
-abbrev pub at_moment : ℕ → Timeline → Timeline
-at_moment moment clock = record {
+-- the clock at a moment: it never goes back, and a frame with an earlier moment is at the greatest so far
+abbrev pub at_stamp : ℕ → Timeline → Timeline
+at_stamp moment clock = record {
   first = Some (unwrap_or clock.first moment);
   now = max clock.now (since_first moment clock);
   went_back = if is_earlier moment clock then more 1 clock.went_back else clock.went_back;
 }
+
+-- the clock at a frame: one without a moment, as no frame before it has one, is where the clock stands, at the origin
+abbrev pub at_moment : Option ℕ → Timeline → Timeline
+at_moment None clock = clock
+at_moment (Some moment) clock = at_stamp moment clock
 
 abbrev pub sender_of : Sent → Endpoint
 sender_of d = record { address = d.sender; port = d.sender_port }

@@ -19,6 +19,7 @@ use Rattle.sacn_tell.specs.StreamRows.{stream_row}
 use Rattle.sacn_tell.specs.Tellings.{with_line_end, where_so}
 use Rattle.sacn_tell.specs.Totals.{counts_row, has_unread, unread_text}
 use Rattle.sacn_tell.specs.Choice.{is_wanted}
+use Rattle.sacn_tell.specs.Twice.{twice_told}
 
 -- a table's head, for people
 abbrev pub head_told : Form → List ℕ → List ℕ
@@ -92,8 +93,9 @@ abbrev pub unread_told : Form → FrameCounts → List ℕ
 unread_told Text frames = unread_rows frames
 unread_told Json frames = []
 
--- all of them, behind what couldn't be read
+-- all of them, behind what couldn't be read and what came twice
 abbrev pub tables_told : Form → List ℕ → List Stream → List Listing → Report → List ℕ
 tables_told form wanted streams listings report =
-    unread_told form report.frames ++ (streams_told form wanted report.length streams ++ (universes_told form wanted report.length streams
-    ++ (lists_told form streams listings ++ (refusals_told form report.tally ++ with_line_end (counts_row form report)))))
+    unread_told form report.frames ++ (twice_told form wanted streams ++ (streams_told form wanted report.length streams
+    ++ (universes_told form wanted report.length streams ++ (lists_told form streams listings
+    ++ (refusals_told form report.tally ++ with_line_end (counts_row form report))))))

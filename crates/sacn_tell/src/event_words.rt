@@ -1,7 +1,7 @@
 //! Things that happen, in words for people.
 
 ghost use Rattle.std.specs.Prelude.{◌≡◌, ◌++◌, OnOk, string_bytes};
-ghost use Rattle.sacn_tell.specs.Sentences.{line_front, source_text, universe_text, stream_front, presence_words, event_words, moved_words, loss_words, priority_words, omission_words, skipped_words, refusal_words, refused_words, untracked_words, seconds_text, stop_words, stopped_words, short_cid, named_sender, named_source_words, priorities_words, universes_words};
+ghost use Rattle.sacn_tell.specs.Sentences.{line_front, source_text, universe_text, stream_front, presence_words, event_words, moved_words, loss_words, silence_words, priority_words, omission_words, skipped_words, refusal_words, refused_words, untracked_words, seconds_text, stop_words, stopped_words, short_cid, named_sender, named_source_words, priorities_words, universes_words};
 
 use crate::numbers::push_ranges;
 use crate::places::written_universe;
@@ -91,10 +91,18 @@ pub fn push_moved(text: &mut String, sender: &Endpoint) -> Result<(), AllocError
     push_sender(text, sender)
 }
 
-/// The first moment of silence.
-#[tactic(auto, unfolding(crate::specs::Sentences::loss_words), using(crate::proofs::Padding::zeros_is))]
+/// The first moment of silence, and what its last packet before that said: where it came from, and its priority.
 pub fn push_loss(text: &mut String, stream: &Stream) -> Result<(), AllocError>
     ensures { OnOk result (string_bytes text.new ≡ string_bytes text.old ++ loss_words stream.now) }
+{
+    push_silence(text, stream)?;
+    push_presence(text, ", last", stream)
+}
+
+#[tactic(auto, unfolding(crate::specs::Sentences::silence_words), using(crate::proofs::Padding::zeros_is))]
+fn push_silence(text: &mut String, stream: &Stream) -> Result<(), AllocError>
+    ensures { OnOk result
+        (string_bytes text.new ≡ string_bytes text.old ++ silence_words stream.now) }
 {
     let latest = stream.account.latest;
     let seconds = latest / 1000;

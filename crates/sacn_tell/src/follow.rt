@@ -10,7 +10,7 @@ ghost use Rattle.sacn_network.specs.Networks.{new_network};
 ghost use Rattle.sacn_tell.specs.Faults.{IsFaultOf, IsOfTelling};
 ghost use Rattle.sacn_tell.specs.Following.{IsTaken};
 ghost use Rattle.sacn_tell.specs.KeptLists.{after_reading, listed_in, listed_with, none_listed};
-ghost use Rattle.sacn_tell.specs.Story.{Hears, IsAccountOf, IsHeard, at_moment, progress_at_start, call_of, elsewhere, no_clock, sender_of};
+ghost use Rattle.sacn_tell.specs.Story.{Hears, IsAccountOf, IsHeard, at_moment, at_stamp, progress_at_start, call_of, elsewhere, no_clock, sender_of};
 
 use crate::fault::ExplainFault;
 use crate::follower::Follower;
@@ -25,9 +25,9 @@ use std::io::{BufRead, Write};
 /// The clock of a recording, moved frame by frame.
 #[derive(Clone, Copy)]
 pub struct Timeline {
-    /// The moment of the first frame, in milliseconds since 1970.
+    /// The recording's origin: the moment of the first frame that has one, in milliseconds since 1970.
     pub first: Option<u64>,
-    /// The latest moment, in milliseconds from the first.
+    /// The latest moment, in milliseconds from the origin.
     pub now: u64,
     /// The frames with an earlier moment than one before. They are taken at the latest moment so far.
     pub went_back: u64,
@@ -218,9 +218,18 @@ impl Timeline {
         }
     }
 
-    /// Moves to the moment of a frame, in milliseconds since 1970.
-    pub fn advance(&mut self, moment: u64)
+    /// Moves to the moment of a frame, in milliseconds since 1970. One without a moment is where the clock stands.
+    pub fn advance(&mut self, moment: Option<u64>)
         ensures { self.new ≡ at_moment moment self.old }
+    {
+        if let Some(moment) = moment {
+            self.move_to(moment);
+        }
+    }
+
+    // Moves to a moment.
+    fn move_to(&mut self, moment: u64)
+        ensures { self.new ≡ at_stamp moment self.old }
     {
         let first = self.first.unwrap_or(moment);
         self.first = Some(first);

@@ -2,7 +2,7 @@
 
 ghost use Rattle.std.specs.Prelude.{◌≡◌, ◌≤◌, ℕ, List, IfErr, IfNone, IfOk, IfSome, OnErr, OnOk, is_some, max, true};
 ghost use Rattle.sacn_packets.specs.PacketReading.{reading_packet};
-ghost use Rattle.sacn_monitor.specs.Books.{next_loss};
+ghost use Rattle.sacn_network.specs.LightEnds.{first_end};
 ghost use Rattle.sacn_network.specs.Networks.{new_network};
 ghost use Rattle.sacn_tell.specs.Causes.{cause_among};
 ghost use Rattle.sacn_tell.specs.Datagrams.{TellsTurn};
@@ -170,9 +170,10 @@ impl<'a, O: Write> Follower<'a, O> {
         Ok(())
     }
 
-    /// The first moment at which a source is lost whose loss wasn't told, where no datagram comes; `u64::MAX` where none is.
-    pub fn next_loss(&self) -> u64
-        ensures { result ≡ next_loss self.now.network.monitor.streams }
+    /// The first moment at which something ends by itself that wasn't told, where no datagram comes: a source is lost, or its
+    /// light goes out. `u64::MAX` where nothing does.
+    pub fn next_end(&self) -> u64
+        ensures { result ≡ first_end self.now.network.monitor }
     {
         self.network.next_end()
     }

@@ -42,6 +42,6 @@ pub use listings::{Listings, MAX_LISTINGS};
 pub use numbers::{push_numbers, push_ranges};
 pub use options::{Form, Options};
 pub use refusals::fault_words;
-pub use report::{Report, total};
+pub use report::{Report, has_unread, total, unread_members, unread_text};
 pub use spelling::{push_cid, push_decimal, push_digits, push_long_digits, push_name, push_sender};
 pub use stream_rows::{push_counts, push_state_members};

@@ -2,7 +2,7 @@
 
 ghost use Rattle.std.specs.Prelude.{◌≡◌, ◌++◌, OnOk, string_bytes};
 ghost use Rattle.sacn_tell.specs.Sentences.{event_key};
-ghost use Rattle.sacn_tell.specs.PacketLines.{event_line, moved_line, renamed_line, priority_line, anew_line, omission_line, skipped_line, loss_line, refused_line, untracked_line};
+ghost use Rattle.sacn_tell.specs.PacketLines.{event_line, moved_line, renamed_line, priority_line, anew_line, omission_line, skipped_line, last_members, loss_line, refused_line, untracked_line};
 
 use crate::options::Form;
 use crate::refusals::fault_name;
@@ -192,7 +192,7 @@ pub fn skipped_line(
     }
 }
 
-/// A source that is lost (E1.31, 6.7.1).
+/// A source that is lost (E1.31, 6.7.1), and what it sent last.
 pub fn loss_line(text: &mut String, form: Form, now: u64, stream: &Stream) -> Result<(), AllocError>
     ensures { OnOk result
         (string_bytes text.new ≡ string_bytes text.old ++ loss_line form now stream.now) }
@@ -205,10 +205,21 @@ pub fn loss_line(text: &mut String, form: Form, now: u64, stream: &Stream) -> Re
         Form::Json => {
             json::begin(text, now, "lost")?;
             json::push_stream(text, stream)?;
-            json::push_number(text, "since", stream.account.latest)?;
+            push_last_members(text, stream)?;
             text.push('}')
         }
     }
+}
+
+// When a source's last packet came and from where, and its priority.
+#[tactic(auto, unfolding(crate::specs::PacketLines::last_members))]
+fn push_last_members(text: &mut String, stream: &Stream) -> Result<(), AllocError>
+    ensures { OnOk result
+        (string_bytes text.new ≡ string_bytes text.old ++ last_members stream.now) }
+{
+    json::push_number(text, "since", stream.account.latest)?;
+    json::push_sender_members(text, &stream.account.sender)?;
+    json::push_number(text, "priority", u64::from(stream.account.priority))
 }
 
 /// A datagram that is no packet.

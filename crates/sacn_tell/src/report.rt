@@ -165,7 +165,7 @@ fn push_frames_members(text: &mut String, report: &Report) -> Result<(), AllocEr
     json::push_number(text, "other_ports", report.other_ports)?;
     json::push_number(text, "other_frames", passed_in(report))?;
     json::push_number(text, "went_back", report.went_back)?;
-    push_unread(text, &report.frames)?;
+    unread_members(text, &report.frames)?;
     json::push_number(text, "ms", report.length)
 }
 
@@ -218,8 +218,8 @@ fn push_reason_row(text: &mut String, reason: Passed, count: u64) -> Result<(), 
     push_named(text, reason_words(reason), count)
 }
 
-// How many frames couldn't be read for each reason.
-fn push_unread(text: &mut String, frames: &FrameCounts) -> Result<(), AllocError>
+/// How many frames couldn't be read for each reason, as members of an object: also where there are none.
+pub fn unread_members(text: &mut String, frames: &FrameCounts) -> Result<(), AllocError>
     ensures { OnOk result
         (string_bytes text.new ≡ string_bytes text.old ++ unread_members frames.now) }
 {

@@ -13,7 +13,7 @@ use crate::listings::{Listing, Listings};
 use crate::options::{Form, Options};
 use crate::report::{Report, counts_row, has_unread, unread_text};
 use crate::stream_rows::stream_row;
-use crate::table_rows::{Lists, UniverseCounts, list_row, refused_row, universe_row};
+use crate::table_rows::{Lists, UniverseCounts, list_row, refused_row, tell_twice, universe_row};
 use crate::teller::Teller;
 use sacn_capture::FrameCounts;
 use sacn_monitor::{Monitor, Stream, Tally};
@@ -52,7 +52,7 @@ const FAULTS: [PacketFault; 18] = [
     PacketFault::TooManyUniverses,
 ];
 
-/// Writes what of a recording couldn't be read, the rows of the sources, of the universes, of the lists and refusals, and of all counts.
+/// Writes what of a recording couldn't be read, how many packets came twice, the rows of the sources, of the universes, of the lists and refusals, and of all counts.
 pub fn tell<O: Write>(
     teller: &mut Teller<'_, O>,
     options: &Options<'_>,
@@ -86,6 +86,7 @@ fn tell_tables<O: Write>(
         options.now.universes.now streams.now listings.now report.now)) }
 {
     tell_unread(teller, &report.frames)?;
+    tell_twice(teller, options, streams)?;
     tell_streams(teller, options, streams, report.length)?;
     tell_universes(teller, options, streams, report.length)?;
     tell_listings(alloc, teller, streams, listings)?;

@@ -24,7 +24,7 @@ enum Trouble {
 }
 
 /// The rows of alarms: how many datagrams were refused, and each source with what is wrong with it and the universes on which that is so, in the order
-/// in which they appeared.
+/// in which they appeared; behind one that is lost for how long it is silent on the first of these.
 pub(crate) fn push_alarms(alloc: Global, page: &mut Page, view: &View) -> Result<(), AllocError>
     ensures size { page.new.size ≡ page.old.size }
     ensures fits { FitsOn page.old.size page.old.rows.items
@@ -32,13 +32,14 @@ pub(crate) fn push_alarms(alloc: Global, page: &mut Page, view: &View) -> Result
 {
     push_refusals(alloc, page, view)?;
     let streams = view.monitor().streams();
+    let moment = view.monitor().moment();
     let troubles = troubles_of(alloc, view.monitor())?;
     let mut count = 0_usize;
     for place in 0..streams.len() {
         if is_first(streams, troubles.as_slice(), place) {
             count = count.saturating_add(1);
             if count <= MAX_ALARMS {
-                push_alarm(alloc, page, streams, troubles.as_slice(), place)?;
+                push_alarm(alloc, page, streams, troubles.as_slice(), place, moment)?;
             }
         }
     }
@@ -141,6 +142,7 @@ fn push_alarm(
     streams: &[Stream],
     troubles: &[Option<Trouble>],
     place: usize,
+    moment: u64,
 ) -> Result<(), AllocError>
     ensures size { page.new.size ≡ page.old.size }
     ensures fits { FitsOn page.old.size page.old.rows.items
@@ -154,6 +156,7 @@ fn push_alarm(
     push_universes(&mut text, universes.as_slice())?;
     push_trouble(&mut text, trouble)?;
     push_name(&mut text, &stream.account)?;
+    push_silence(&mut text, trouble, stream, moment)?;
     page.push_text(alloc, text.as_str(), Ink::Alarm)
 }
 
@@ -180,6 +183,22 @@ fn push_universes(text: &mut String, universes: &[u16]) -> Result<(), AllocError
         _ => "! universes ",
     })?;
     push_ranges(text, universes)
+}
+
+// For how long a lost source is silent, in whole seconds.
+fn push_silence(
+    text: &mut String,
+    trouble: Trouble,
+    stream: &Stream,
+    moment: u64,
+) -> Result<(), AllocError> {
+    match trouble {
+        Trouble::Lost => {
+            let seconds = moment.saturating_sub(stream.account.latest) / 1000;
+            write!(text, " silent for {seconds} s")
+        }
+        Trouble::Contested { .. } => Ok(()),
+    }
 }
 
 fn push_trouble(text: &mut String, trouble: Trouble) -> Result<(), AllocError> {

@@ -1,7 +1,7 @@
 //! A line for each thing that happens.
 
 ghost use Rattle.std.specs.Prelude.{◌≡◌};
-ghost use Rattle.sacn_monitor.specs.Books.{next_loss};
+ghost use Rattle.sacn_network.specs.LightEnds.{first_end};
 
 use crate::fault::WatchFault;
 use crate::watch::Watcher;
@@ -38,9 +38,9 @@ impl<'a, O: Write> Watcher for Follower<'a, O> {
     }
 
     fn wakes(&self) -> u64
-        ensures { result ≡ next_loss self.now.network.monitor.streams }
+        ensures { result ≡ first_end self.now.network.monitor }
     {
-        self.next_loss()
+        self.next_end()
     }
 
     fn end(&mut self, now: u64) -> Result<(), WatchFault> {

@@ -1,5 +1,6 @@
 //! What the words of a command line ask for.
 use crate::manual::Syntax;
+use crate::recorded::RecordAsked;
 use crate::spelled::FrameForm;
 use sacn_check::FileKind;
 use sacn_desk::Destination;
@@ -48,6 +49,7 @@ pub enum Asked<'a> {
         is_json: bool,
     },
     Watch(WatchAsked),
+    Record(RecordAsked<'a>),
     Check(CheckAsked<'a>),
     /// A text that is made from the table of commands.
     Manual(Syntax),

@@ -5,6 +5,7 @@ use crate::asked::{
 };
 use crate::manual::{Syntax, shell_of};
 use crate::reading::{Fault, Words, refusal};
+use crate::recorded::record_asked;
 use crate::spelled::{frame_form, host, kind, page, port, sender};
 use crate::tree::matches;
 use clap::{ArgMatches, Error};
@@ -204,6 +205,7 @@ fn asked_of<'a>(command: &str, words: &mut Words<'_, 'a>) -> Asked<'a> {
             is_json: words.is_given("json"),
         },
         "watch" => watch(words),
+        "record" => Asked::Record(record_asked(words)),
         "check" => Asked::Check(CheckAsked {
             kind: words.value("as", kind),
             files: words.paths("FILE"),

@@ -7,6 +7,7 @@ mod commands;
 pub mod manual;
 mod program;
 mod reading;
+mod recorded;
 mod recordings;
 mod spelled;
 mod table;
@@ -18,6 +19,7 @@ pub use asked::{
 };
 pub use commands::parse;
 pub use manual::Syntax;
-pub use program::manual_text;
+pub use program::{RECORDER, manual_text};
 pub use reading::STANDARD_INPUT;
+pub use recorded::RecordAsked;
 pub use spelled::{FrameForm, is_key};

@@ -9,6 +9,9 @@ pub const VERSION: &str = "1, streaming ACN by ANSI E1.31-2018
 kit rattle-kit-13b logic dac8208d650f15bf
 kit rattle-kit-13f logic dac8208d650f15bf";
 
+/// What a recording says of the program that made it: the version's first line.
+pub const RECORDER: &str = "sacn 1, streaming ACN by ANSI E1.31-2018";
+
 /// The day of the manual's latest change.
 const DATE: &str = "2026-11-30";
 
@@ -33,10 +36,11 @@ pub const NOTES: &str = "Examples, in a clone of the repository:
   ./sacn explain examples/ola.pcap
   ./sacn audit examples/ola.pcap
   ./sacn watch --seconds 60
+  ./sacn record night.pcapng --seconds 60
   ./sacn check examples/show.toml
 
 A file that is named - is standard input; ./- is a file of that name. A desk has its orders
-there, and explain --page its end: these read no file from it.
+there, explain --page and record their end: these read no file from it.
 
 docs/FILES.md tells what stands in the files, and what is printed.
 

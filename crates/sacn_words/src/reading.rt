@@ -117,13 +117,18 @@ impl<'m, 'a> Words<'m, 'a> {
         u8::try_from(self.number(name)).unwrap_or(0)
     }
 
-    /// How many seconds a run takes, where that is said.
-    pub fn seconds(&mut self) -> Option<u64> {
-        if self.is_given("seconds") {
-            Some(self.number("seconds"))
+    /// A number that may be given.
+    pub fn given_number(&mut self, name: &'static str) -> Option<u64> {
+        if self.is_given(name) {
+            Some(self.number(name))
         } else {
             None
         }
+    }
+
+    /// How many seconds a run takes, where that is said.
+    pub fn seconds(&mut self) -> Option<u64> {
+        self.given_number("seconds")
     }
 
     /// What the word of an option spells, where it is given.

@@ -1,8 +1,9 @@
-//! The commands that read recordings, in the table of commands.
+//! The commands that read recordings, and the one that makes them, in the table of commands.
 use crate::arguments::{
-    CAPTURE, CLOCK, EACH, HELP, HELP_LETTER, JSON, OPTION, PAGE, SECONDS, SETUP_HELP,
+    BESIDE, CAPTURE, CLOCK, EACH, HELP, HELP_LETTER, JOIN, JSON, LISTEN, OPERAND, OPTION, PAGE,
+    SECONDS, SETUP_HELP,
 };
-use crate::manual::{Argument, Subcommand};
+use crate::manual::{Argument, ArgumentKind, Subcommand};
 
 pub const EXPLAIN: Subcommand<'static> = Subcommand {
     name: "explain",
@@ -58,6 +59,46 @@ pub const AUDIT: Subcommand<'static> = Subcommand {
             ..OPTION
         },
         JSON,
+        HELP_LETTER,
+        HELP,
+    ],
+};
+
+pub const RECORD: Subcommand<'static> = Subcommand {
+    name: "record",
+    about: "Hears a network until it is stopped, and writes each datagram with its moment into a recording, of the format pcapng, for explain, audit and Wireshark",
+    usage: "sacn record [OPTIONS] <FILE>",
+    arguments: &[
+        Argument {
+            name: "FILE",
+            help: "The recording, a new file: one that is there is never written over",
+            value: Some("FILE"),
+            ..OPERAND
+        },
+        LISTEN,
+        JOIN,
+        Argument {
+            name: "port",
+            help: "The UDP port that it hears at; else 5568",
+            value: Some("P"),
+            ..OPTION
+        },
+        Argument {
+            name: "universe",
+            help: "A universe, or several as 1-512, whose data packets are recorded, beside all that is no data packet; else all",
+            value: Some("U"),
+            is_repeated: true,
+            ..OPTION
+        },
+        SECONDS,
+        Argument {
+            name: "ring",
+            help: "Keeps the last minutes alone, 1 to 10080 (a week), in two files that take turns: so many at least",
+            kind: ArgumentKind::Number(1, 10_080),
+            value: Some("MINUTES"),
+            ..OPTION
+        },
+        BESIDE,
         HELP_LETTER,
         HELP,
     ],

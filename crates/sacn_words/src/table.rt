@@ -5,7 +5,7 @@ use crate::arguments::{
     SETUP, SHOW, TURNS, WATCH_AUDIT, WATCH_CLOCK, WATCH_EACH,
 };
 use crate::manual::{Argument, ArgumentKind, SHELL_WORDS, SHELLS, Subcommand};
-use crate::recordings::{AUDIT, EXPLAIN};
+use crate::recordings::{AUDIT, EXPLAIN, RECORD};
 use std::alloc::{AllocError, Global};
 
 const DECODE: Subcommand<'static> = Subcommand {
@@ -325,6 +325,10 @@ fn watch() -> Subcommand<'static> {
     WATCH
 }
 
+fn record() -> Subcommand<'static> {
+    RECORD
+}
+
 fn check() -> Subcommand<'static> {
     CHECK
 }
@@ -350,6 +354,7 @@ pub fn commands(alloc: Global) -> Result<Vec<Subcommand<'static>>, AllocError> {
         explain(),
         audit(),
         watch(),
+        record(),
         check(),
         manual(),
         completion(),

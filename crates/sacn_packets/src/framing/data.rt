@@ -99,6 +99,15 @@ impl<'a> DataView<'a> {
         is_terminated(self.octets[OPTIONS_AT])
     }
 
+    /// The octet of options as it came (6.2.6): bits 7 and 6 as `preview` and `terminated` tell, bit 5 is Force_Synchronization, and the
+    /// others are reserved, and sent as 0.
+    pub fn options(&self) -> u8
+        ensures preview { is_set result 7 ≡ self.now.preview }
+        ensures terminated { is_set result 6 ≡ self.now.terminated }
+    {
+        self.octets[OPTIONS_AT]
+    }
+
     /// The universe (6.2.7), 1 to 63999.
     pub fn universe(&self) -> u16
         ensures universe { result ≡ self.now.universe }

@@ -56,5 +56,11 @@ pub const BODY: &str = r##"</head>
       </table>
     </div>
   </section>
+  <section id="audit-part" aria-label="Audit">
+    <details id="audit">
+      <summary>Rules of the standard that sources break</summary>
+      <pre id="findings" class="scroll" tabindex="0" aria-label="What an audit found"></pre>
+    </details>
+  </section>
 </main>
 "##;

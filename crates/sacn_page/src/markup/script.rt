@@ -354,6 +354,18 @@ function itemOf(list, line) {
   return item;
 }
 
+// What an audit found, asked for while its part is open: the program tells it anew behind each question.
+let questions = 0;
+async function showFindings() {
+  clearTimeout(questions);
+  if (!part('audit').open) return;
+  const isFirst = part('findings').textContent === '';
+  const answer = await fetch('/audit').then((it) => it.text()).catch(() => 'The program gave no answer. Trying again.');
+  put(part('findings'), answer);
+  questions = setTimeout(showFindings, isFirst ? 300 : 2000);
+}
+part('audit').addEventListener('toggle', showFindings);
+
 // Levels that may have changed since aren't shown as if they stood: the whole page goes grey, and a banner says why.
 function showConnection() {
   const silent = performance.now() - heardAt > SILENCE;

@@ -1,4 +1,4 @@
-use Rattle.std.proofs.Common.{ℕ, ◌-◌, ◌∙◌, ap, sym, subst}
+use Rattle.std.proofs.Common.{ℕ, Some, ◌-◌, ◌∙◌, ap, sym, subst}
 use Rattle.sacn_capture.specs.Clocks.{milliseconds, shifted}
 use Rattle.sacn_capture.specs.Pcapng.{interface_of}
 use Rattle.std.proofs.lemmas.Result.{err_from_is_err_and}
@@ -17,9 +17,9 @@ returns g c =
     let head = c.args.head in
     let rest = c.args.size - 32 - head.captured in
     said (interface_at (state_of old) head.interface)
-    (λ interface. packet_behind interface.link head.captured (shifted interface.shift (milliseconds head.ticks interface.units)) rest c.args.order c.args.size (state_of old)) (file_place remaining old) (file_place remaining new)
+    (λ interface. packet_behind interface.link head.captured (Some (shifted interface.shift (milliseconds head.ticks interface.units))) rest c.args.order c.args.size (state_of old)) (file_place remaining old) (file_place remaining new)
     (interface_of c.in_ok-interface.interface) (map_ok (λ found. gives_piece found new) c.packet_frame.result) (sym c.in_ok-interface.ensures)
-    (subst (λ (moment : ℕ). Does (packet_behind c.in_ok-interface.interface.link head.captured moment rest c.args.order c.args.size (state_of old)) (file_place remaining old) (file_place remaining new) (map_ok (λ found. gives_piece found new) c.packet_frame.result))
+    (subst (λ (moment : ℕ). Does (packet_behind c.in_ok-interface.interface.link head.captured (Some moment) rest c.args.order c.args.size (state_of old)) (file_place remaining old) (file_place remaining new) (map_ok (λ found. gives_piece found new) c.packet_frame.result))
     (c.shifted-moment.ensures ∙ ap (shifted c.in_ok-interface.interface.shift) c.milliseconds_of.ensures) c.packet_frame.ensures)
 
 pub returns-in_err-interface : goal.returns-in_err-interface
@@ -29,5 +29,5 @@ returns-in_err-interface g c =
     let head = c.args.head in
     let p = err_from_is_err_and c.from_residual.result c.from_residual.ensures.1 in
     rw (p.1, p.2) (refused (interface_at (state_of old) head.interface)
-    (λ interface. packet_behind interface.link head.captured (shifted interface.shift (milliseconds head.ticks interface.units)) (c.args.size - 32 - head.captured) c.args.order c.args.size (state_of old)) (file_place remaining old)
+    (λ interface. packet_behind interface.link head.captured (Some (shifted interface.shift (milliseconds head.ticks interface.units))) (c.args.size - 32 - head.captured) c.args.order c.args.size (state_of old)) (file_place remaining old)
     (file_place remaining old) c.in_err-interface.field-0.0 (sym c.in_err-interface.ensures))

@@ -1,4 +1,4 @@
-use Rattle.std.proofs.Common.{rules, ℕ, Ok, Some, refl, sym, subst, ap, ◌∙◌}
+use Rattle.std.proofs.Common.{rules, ℕ, Option, Ok, Some, refl, sym, subst, ap, ◌∙◌}
 use Rattle.std.proofs.lemmas.Result.{err_from_is_err_and}
 use Rattle.sacn_capture.specs.declared.pieces.Pieces.{Pieces}
 use Rattle.sacn_capture.specs.Counting.{count_frame, passed_by}
@@ -43,7 +43,7 @@ returns-in-Some g c =
           new,
           frame,
           read.pieces.buffer.octets.items,
-          subst (λ (m : ℕ). ReadsRecord header frame m old new read.pieces.buffer.octets.items) (sym moment) (rw c.in-Some.is at (c.in_ok-frame.ensures.given header is)),
+          subst (λ (m : Option ℕ). ReadsRecord header frame m old new read.pieces.buffer.octets.items) (sym moment) (rw c.in-Some.is at (c.in_ok-frame.ensures.given header is)),
           content,
         );
         rests = tt;

@@ -1,6 +1,7 @@
 use Rattle.std.proofs.Common.{◌<◌, ◌∙◌, length, max, ap, arith, subst, sym}
-use Rattle.sacn_monitor.specs.Books.{Book, next_loss, with_datagram}
+use Rattle.sacn_monitor.specs.Books.{Book, with_datagram}
 use Rattle.sacn_network.specs.declared.ledger.Ledger.{Ledger}
+use Rattle.sacn_network.specs.LightEnds.{first_end}
 use Rattle.sacn_network.specs.Networks.{LeavesNone, handed, note_of, tick_told, ticked}
 use Rattle.sacn_network.specs.Packets.{noted_told}
 use Rattle.sacn_network.proofs.Telling.{told_both}
@@ -12,7 +13,7 @@ pub invariant_of-self : goal.invariant_of-self
 invariant_of-self g c =
     let is = c.tell_noted.ensures.ledger in
     let kept = noted_keeps c.hand-noted.result c.self.inside.ledger in (
-      omega (arith, c.self.invariant.0, ap (λ (n : Ledger). next_loss n.monitor.streams) is, ap (λ (b : Book). next_loss b.streams) kept),
+      omega (arith, c.self.invariant.0, ap (λ (n : Ledger). first_end n.monitor) is, ap first_end kept),
       omega (arith, c.self.invariant.1, ap (λ (n : Ledger). length n.monitor.streams) is, ap (λ (b : Book). length b.streams) kept),
     )
 
