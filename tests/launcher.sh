@@ -329,6 +329,8 @@ killed_outright() { # FILE-OR-NONE WORD..
   local input=$1 launcher orders verdict
   shift
   rm -f "$room/told"
+  # (what ran before said that it began, too)
+  : >"$room/out"
   printf '#!/usr/bin/env bash\ntrap "" INT\necho began\nwhile read -r line; do echo "took $line"; done\nif [ -e "%s" ]; then echo "ended all"; else echo "ended early"; fi\n' "$room/told" >"$tree/crates/sacn/out/sacn"
   mkfifo "$room/orders"
   exec {orders}<>"$room/orders"

@@ -53,7 +53,8 @@ pub struct Begun {
     pub next: usize,
 }
 
-fn has_passed(wait: u64, moment: u64, last: Option<u64>) -> bool
+/// Whether so many milliseconds have passed at a moment since the latest packet, or there was none.
+pub fn has_passed(wait: u64, moment: u64, last: Option<u64>) -> bool
     ensures { result ≡ has_passed wait moment last }
 {
     match last {
@@ -62,8 +63,8 @@ fn has_passed(wait: u64, moment: u64, last: Option<u64>) -> bool
     }
 }
 
-// The first moment at which so many milliseconds have passed.
-fn when_passed(wait: u64, last: Option<u64>) -> u64
+/// The first moment at which so many milliseconds have passed since the latest packet; 0 where there was none.
+pub fn when_passed(wait: u64, last: Option<u64>) -> u64
     ensures { result ≡ when_passed wait last }
 {
     match last {
@@ -72,8 +73,9 @@ fn when_passed(wait: u64, last: Option<u64>) -> u64
     }
 }
 
+/// Whether two frames have the same slots.
 #[tactic(auto, unfolding(crate::specs::Lines::same))]
-fn same(a: &[u8; SLOTS], b: &[u8; SLOTS]) -> bool
+pub fn same(a: &[u8; SLOTS], b: &[u8; SLOTS]) -> bool
     ensures { result ≡ same a.now b.now }
 {
     a == b
@@ -98,7 +100,8 @@ fn rests(patch: &FlatPatch, player: &PlayerAt<'_>, universe: u16) -> bool
     patch.rests(universe, player)
 }
 
-fn asks(state: &State, moment: u64, last: Option<u64>, slots: &[u8; SLOTS]) -> bool
+/// Whether a universe in this state asks for a packet of these slots at a moment, where the least gap has passed.
+pub fn asks(state: &State, moment: u64, last: Option<u64>, slots: &[u8; SLOTS]) -> bool
     ensures { result ≡ asks moment last slots.now state.now }
 {
     match state {
@@ -184,7 +187,7 @@ impl UniverseLine {
     }
 
     /// When it has to be looked at again, right after its packet.
-    pub(crate) fn wake_sent(&self, is_still: bool) -> u64
+    pub fn wake_sent(&self, is_still: bool) -> u64
         ensures { result ≡ wake_sent is_still self.now.last self.now.state }
     {
         match &self.state {
@@ -201,7 +204,8 @@ impl UniverseLine {
         }
     }
 
-    pub(crate) fn is_stopped(&self) -> bool
+    /// Whether nothing is sent on it.
+    pub fn is_stopped(&self) -> bool
         ensures { result ≡ is_stopped self.now.state }
     {
         match self.state {
@@ -210,7 +214,8 @@ impl UniverseLine {
         }
     }
 
-    pub(crate) fn is_ending(&self) -> bool
+    /// Whether it owes terminations.
+    pub fn is_ending(&self) -> bool
         ensures { result ≡ is_ending self.now.state }
     {
         match self.state {
@@ -221,7 +226,7 @@ impl UniverseLine {
 
     /// Its packet with these slots was sent.
     #[tactic(auto, unfolding(crate::specs::Lines::line_sent))]
-    pub(crate) fn note_packet(&mut self, moment: u64, slots: &[u8; SLOTS])
+    pub fn note_packet(&mut self, moment: u64, slots: &[u8; SLOTS])
         ensures { self.new ≡ line_sent moment slots.now self.old }
     {
         note_sent(&mut self.state, slots);
@@ -272,7 +277,7 @@ fn first_run(slots: &[u8; SLOTS]) -> State
 }
 
 /// Whether a universe in this state can be ended.
-pub(crate) fn can_end(state: &State) -> Result<(), ConsoleFault>
+pub fn can_end(state: &State) -> Result<(), ConsoleFault>
     ensures { result ≡ end_answer state.now }
 {
     match state {
@@ -283,7 +288,7 @@ pub(crate) fn can_end(state: &State) -> Result<(), ConsoleFault>
 }
 
 /// Whether a universe in this state can be started.
-pub(crate) fn can_start(state: &State) -> Result<(), ConsoleFault>
+pub fn can_start(state: &State) -> Result<(), ConsoleFault>
     ensures { result ≡ start_answer state.now }
 {
     match state {

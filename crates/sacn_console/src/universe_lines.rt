@@ -65,7 +65,7 @@ pub(crate) fn first_due(
 }
 
 /// Where a universe stands.
-pub(crate) fn place_of(lines: &[UniverseLine], universe: u16) -> Option<usize>
+pub fn place_of(lines: &[UniverseLine], universe: u16) -> Option<usize>
     ensures { MatchOption result (find (is_of universe) lines.now ≡ None)
         (λ i. (i < length lines.now) × ((d : KeptLine) → (find (is_of universe) lines.now ≡ Some
         (slice_index_or lines.now i d)) × ((slice_index_or lines.now i d).universe ≡ universe))) }
@@ -81,7 +81,7 @@ pub(crate) fn place_of(lines: &[UniverseLine], universe: u16) -> Option<usize>
 
 #[tactic(auto, using(crate::proofs::Searches::standing_past, crate::proofs::Searches::standing_more, crate::proofs::Searches::standing_all))]
 /// Notes the universes that are not stopped.
-pub(crate) fn list_standing(lines: &[UniverseLine], listed: &mut ArrayVec<u16, CONSOLE_UNIVERSES>)
+pub fn list_standing(lines: &[UniverseLine], listed: &mut ArrayVec<u16, CONSOLE_UNIVERSES>)
     requires { length lines.now ≤ CONSOLE_UNIVERSES }
     ensures { listed.new.items ≡ standing lines.now }
 {
@@ -96,7 +96,7 @@ pub(crate) fn list_standing(lines: &[UniverseLine], listed: &mut ArrayVec<u16, C
 }
 
 /// The universes as a life begins.
-pub(crate) fn first_lines(
+pub fn first_lines(
     alloc: Global,
     universes: &[u16],
     first: u8,

@@ -30,7 +30,7 @@ impl Wakes {
     ghost use Rattle.sacn_console.specs.Wakes.{Waking, IsLeast, awake, last_moment, passed_over};
 
     /// Every universe has to be looked at.
-    pub(crate) fn new(alloc: Global, universes: &[u16]) -> Result<Self, AllocError>
+    pub fn new(alloc: Global, universes: &[u16]) -> Result<Self, AllocError>
         ensures { IfOk result
             (λ w. w ≡ record { each = map awake universes.now; least = 0; from = 0 }) }
     {
@@ -43,7 +43,7 @@ impl Wakes {
     }
 
     /// Every universe has to be looked at again.
-    pub(crate) fn clear(&mut self)
+    pub fn clear(&mut self)
         ensures { self.new
             ≡ record { each = replicate (length self.old.each) 0; least = 0; from = 0 } }
     {
@@ -53,7 +53,7 @@ impl Wakes {
     }
 
     /// The wake of the universe at this place.
-    pub(crate) fn at(&self, place: usize) -> u64
+    pub fn at(&self, place: usize) -> u64
         requires { place < length self.now.each }
         ensures { result ≡ slice_index_or self.now.each place 0 }
     {
@@ -61,7 +61,7 @@ impl Wakes {
     }
 
     /// Gives the universe at this place a wake.
-    pub(crate) fn put(&mut self, place: usize, wake: u64)
+    pub fn put(&mut self, place: usize, wake: u64)
         requires { place < length self.old.each }
         ensures { self.new ≡ record {
           each = slice_set self.old.each place wake;
@@ -74,28 +74,28 @@ impl Wakes {
     }
 
     /// No wake is earlier.
-    pub(crate) fn least(&self) -> u64
+    pub fn least(&self) -> u64
         ensures { IsLeast self.now.each result }
     {
         self.least
     }
 
     /// No universe before this place is due at the clock's moment.
-    pub(crate) fn from(&self) -> usize
+    pub fn from(&self) -> usize
         ensures { result ≡ self.now.from }
     {
         self.from
     }
 
     /// No universe before this place is due at the clock's moment.
-    pub(crate) fn start_at(&mut self, place: usize)
+    pub fn start_at(&mut self, place: usize)
         ensures { self.new ≡ record { each = self.old.each; least = self.old.least; from = place } }
     {
         self.from = place;
     }
 
     /// The universe at this place isn't due at the clock's moment.
-    pub(crate) fn pass(&mut self, place: usize)
+    pub fn pass(&mut self, place: usize)
         requires { place < usize.MAX }
         ensures { self.new ≡ record {
           each = self.old.each;
@@ -109,7 +109,7 @@ impl Wakes {
     }
 
     /// Notes the earliest wake.
-    pub(crate) fn note_least(&mut self)
+    pub fn note_least(&mut self)
         ensures each { self.new.each ≡ self.old.each }
         ensures from { self.new.from ≡ self.old.from }
     {
@@ -117,7 +117,7 @@ impl Wakes {
     }
 
     /// The earliest wake, or the last moment that a clock can show.
-    pub(crate) fn first(&self) -> u64
+    pub fn first(&self) -> u64
         ensures least { IsLeast self.now.each result }
         ensures attained { result < last_moment
             → (i : ℕ) × (i < length self.now.each) × (slice_index_or self.now.each i 0 ≡ result) }
