@@ -53,6 +53,10 @@ write("conforms", stream(1, steady), who(1) + ": conforms\n")
 # 44 a second, and one more: 50 packets in each of twenty seconds, whose 45th comes 880 ms behind its begin; the first second has none before it
 edge = [1000 * second + 1000 * count // 44 for second in range(20) for count in range(44)]
 write("rate44", stream(2, edge), who(2) + ": conforms\n")
+# 45 in each second are told at the 45th of each one behind such a one; where every other second has 45, nowhere
+write("rate45", stream(43, [1000 * second + 20 * count for second in range(20) for count in range(45)]),
+      who(43) + ":\n  6.6.1 faster than 44 a second on 1 (19 times, the first at 1.880 s, the latest at 19.880 s)\n")
+write("rate45once", stream(44, [1000 * second + 20 * count for second in range(20) for count in range(44 + second % 2)]), who(44) + ": conforms\n")
 fast = list(range(0, 20000, 20))
 write("rate50", stream(3, fast, universe=7) + stream(3, fast, universe=8),
       who(3) + ":\n  6.6.1 faster than 44 a second on 7-8 (38 times, the first at 1.880 s, the latest at 19.880 s)\n")
@@ -62,6 +66,10 @@ long = list(range(0, 26000, 25))
 write("skips", stream(4, long, numbers=without_0(len(long))),
       who(4) + ":\n  6.2.5 a number left out in each turn on 1 (2 times, the first at 19.125 s, the latest at 25.500 s)\n")
 write("skips2", stream(5, steady[:764], numbers=without_0(764)), who(5) + ": conforms\n")
+# two turns without 0, one that has it, one that lacks 100, and again two without 0: no number is left out in three turns
+turn = list(range(1, 256))
+lost = turn * 3 + [0] + turn[:99] + turn[100:] + turn * 2
+write("skips1", stream(45, list(range(0, 25 * len(lost), 25)), numbers=lost), who(45) + ": conforms\n")
 stays = [0, 1, 2, 2, 2, 2] + list(range(3, 3 + len(steady) - 6))
 write("stays", stream(6, steady, numbers=stays), who(6) + ":\n  6.2.5 numbers that don't go up on 1 (once, at 0.125 s)\n")
 stays = [0, 1, 2, 2, 2] + list(range(3, 3 + len(steady) - 5))
@@ -69,6 +77,19 @@ write("stays3", stream(7, steady, numbers=stays), who(7) + ": conforms\n")
 second = [1000 * it for it in range(20)]
 write("second", stream(8, second), who(8) + ": conforms\n")
 write("silent", stream(9, second + [20001, 21000]), who(9) + ":\n  6.6.2 levels more than 1 s apart on 1 (once, at 20.001 s)\n")
+# A packet is lost before a pause of 2.5 s, and an end comes before one of 10 s: neither is silence. Priorities for slots don't keep the levels alive.
+pauses = stream(46, [0, 1000, 2000], ends=0) + stream(46, [4500, 5500], numbers=[4, 5]) + stream(46, [15000 + it for it in second], numbers=range(9, 29))
+def listed(source, universes, *moments): return [(it, page(source, universes), 5) for it in moments]
+write("silent2", pauses, who(46) + ": conforms\n", listed(46, [1], 0, 15010, 25010))
+levels = [(it, {}) for it in second + [20000, 21001]] + [(it + 500, {"start": 0xdd}) for it in second + [20000]]
+levels = [(at, packet(47, number, **fields), 5) for number, (at, fields) in enumerate(sorted(levels, key=lambda it: it[0]))]
+write("silentdd", levels + [(21021 + 20 * it, packet(47, len(levels) + it, ends=True), 5) for it in range(3)],
+      who(47) + ":\n  6.6.2 levels more than 1 s apart on 1 (once, at 21.001 s)\n")
+# The recording begins with the latest repeats of a change; other levels have priorities for slots between them, in the same numbers; and an end comes before a beginning.
+rests = [(0, {}), (900, {}), (1800, {}), (1825, {"start": 0xdd}), (1850, {"slots": b"\x07"}), (1875, {"start": 0xdd}), (2750, {"slots": b"\x07"})]
+rests += [(2770 + 20 * it, {"slots": b"\x07", "ends": True}) for it in range(3)]
+rests = [(at, packet(48, number, **fields), 5) for number, (at, fields) in enumerate(rests)]
+write("change0", rests + stream(48, [3600 + it for it in steady], numbers=range(10, 10 + len(steady))), who(48) + ": conforms\n")
 # other levels from packet 400 on, 10.000 s, and 501 ms without a packet behind the first, the second or the third that has them
 def changed(source, copies):
     moments = [it if it < 10000 + 25 * copies else it + 476 for it in steady]
@@ -89,21 +110,25 @@ write("name64", stream(14, steady[:1], name=b"n" * 64),
 write("name63", stream(15, steady, name=b"n" * 63 + b"\0"), '"' + "n" * 63 + '" 0f0f..0f at 10.0.0.5: conforms\n')
 write("nametext", stream(16, steady, name=b"K\xe4se".ljust(64, b"\0")),
       '"K\u00e4se" 1010..10 at 10.0.0.5:\n  6.2.2 a name that isn\'t UTF-8 on 1 (803 times, the first at 0.000 s, the latest at 20.035 s)\n')
-write("nametext8", stream(17, steady, name="K\u00e4se".encode().ljust(64, b"\0")), '"K\u00e4se" 1111..11 at 10.0.0.5: conforms\n')
+write("nametext8", stream(17, steady, name="K\u00e4se".encode() + b"\0\xe4".ljust(59, b"\0")), '"K\u00e4se" 1111..11 at 10.0.0.5: conforms\n')
 # every second packet comes from another address; and one that moves, 2501 ms after its latest packet
 two = [(moment, octets, 5 + number % 2) for number, (moment, octets, _) in enumerate(stream(18, steady))]
 write("two", two, who(18) + ":\n  5.6 one CID at two addresses (802 times, the first at 0.025 s, the latest at 20.035 s)\n")
 moves = stream(19, steady) + stream(19, [it + 22536 for it in steady], address=6, numbers=range(803, 803 + len(steady)))
 write("moves", moves, who(19, 6) + ": conforms\n")
+still = stream(19, steady) + stream(19, [it + 22535 for it in steady], address=6, numbers=range(803, 803 + len(steady)))
+write("moves2500", still, who(19, 6) + ":\n  5.6 one CID at two addresses (once, at 22.535 s)\n")
 text = [(10, packet(20, 1, start=0x17), 5), (20, packet(20, 2, start=0xdd), 5)]
 write("start", [(0, packet(20, 0), 5)] + text + stream(20, [it + 30 for it in steady], numbers=range(3, 3 + len(steady))),
       who(20) + ": conforms\n  seen, no breach: 7.7 a start code other than 0 and 0xDD on 1 (once, at 0.010 s)\n")
-# universe 1 by the group of universe 0; and universe 257 by its own, to one host, and to all of a network
+# universe 1 by the groups of universes 0 and 257 and by one of no universe; and universe 257 by its own, to hosts, and to all of a network
 def sent(packets, to): return [(moment, octets, address, bytes(to)) for moment, octets, address in packets]
-write("group0", sent(stream(21, steady), [239, 255, 0, 0]),
+strays = stream(21, steady)
+write("group0", sent(strays[:200], [239, 255, 0, 0]) + sent(strays[200:400], [239, 255, 1, 1]) + sent(strays[400:], [224, 0, 0, 1]),
       who(21) + ":\n  9.3.1 sent to another multicast group than its universe's on 1 (803 times, the first at 0.000 s, the latest at 20.035 s)\n")
 hosts = stream(22, steady, universe=257)
-write("groups", sent(hosts[:200], [239, 255, 1, 1]) + sent(hosts[200:400], [10, 0, 0, 9]) + sent(hosts[400:], [10, 255, 255, 255]), who(22) + ": conforms\n")
+write("groups", sent(hosts[:200], [239, 255, 1, 1]) + sent(hosts[200:300], [10, 0, 0, 9]) + sent(hosts[300:400], [223, 255, 0, 1]) +
+      sent(hosts[400:500], [240, 255, 0, 1]) + sent(hosts[500:600], [255, 255, 255, 255]) + sent(hosts[600:], [10, 255, 255, 255]), who(22) + ": conforms\n")
 # universes 1 and 2 in turn by one counter: of the packets that follow one of the other universe and count on, packet 8 is the eighth
 turns = [(25 * it, packet(23, it, universe=1 + it % 2), 5) for it in range(800)] + [(20000 + 20 * it, packet(23, 800 + it, universe=1 + it % 2, ends=True), 5) for it in range(6)]
 write("counter", turns, who(23) + ":\n  6.2.5 one counter for several universes (798 times, the first at 0.200 s, the latest at 20.100 s)\n")
@@ -112,9 +137,9 @@ write("counters", sum((stream(24, steady, universe=it, numbers=range(it, it + le
 # what can't be read: a printer at the port, and a source of priority 201, or of a vector of the drafts; and a priority of 200
 def with_octets(octets, at, put): return octets[:at] + put + octets[at + len(put):]
 def unread(at, put): return with_octets(packet(26, 0), at, put)
-# the options (octet 112) with a reserved bit beside what they have; and with Force_Synchronization, which is none
-def with_options(packets, bits): return [(moment, with_octets(octets, 112, bytes([octets[112] | bits])), address) for moment, octets, address in packets]
-write("bits", with_options(stream(40, steady), 0x10),
+# the options (octet 112) with a reserved bit beside what they have, each in turn; and with Force_Synchronization, which is none
+def with_options(packets, *bits): return [(moment, with_octets(octets, 112, bytes([octets[112] | bits[it % len(bits)]])), address) for it, (moment, octets, address) in enumerate(packets)]
+write("bits", with_options(stream(40, steady), 0x01, 0x02, 0x04, 0x08, 0x10),
       who(40) + ":\n  6.2.6 reserved bits of the options set on 1 (803 times, the first at 0.000 s, the latest at 20.035 s)\n")
 write("bit5", with_options(stream(41, steady), 0x20), who(41) + ": conforms\n")
 printer = [(500, b"hello", 100, bytes([10, 0, 0, 9])), (1500, b"hello, printer", 100, bytes([10, 0, 0, 9]))]
@@ -124,6 +149,11 @@ write("unread", with_pages(stream(25, steady)) + printer + tester,
       who(25) + ": conforms\n" + printer_line +
       "10.0.0.9 sends what can't be read: 6.2.3 the priority is above 200 (2 times, the first at 1.000 s, the latest at 4.000 s)\n"
       "10.0.0.9 sends what can't be read: 5.5 the root vector is unknown (once, at 2.500 s)\n", [])
+# two faults of each of 129 senders: what is kept has room for 256
+pairs = [(10 * host + 5 * fault - 10, unread(*((108, b"\xc9"), (113, b"\0\0"))[fault]), host) for host in range(1, 130) for fault in (0, 1)]
+faults = ("6.2.3 the priority is above 200", "6.2.7 the universe is out of range")
+write("pairs", pairs, "".join("10.0.0.%d sends what can't be read: %s (once, at %.3f s)\n" % (host, faults[at // 5 % 2], at / 1000) for at, _, host in pairs[:256]) +
+      "2 further packets that can't be read weren't told apart\n", [])
 write("sends201", with_pages(stream(25, steady)) + [(4000, unread(108, b"\xc9"), 5)],
       who(25) + ": breaks no rule, but its address sends what can't be read\n10.0.0.5 sends what can't be read: 6.2.3 the priority is above 200 (once, at 4.000 s)\n", [])
 # universes 0 and 64000, and nothing else; and 1 and 63999
@@ -154,7 +184,6 @@ write("crooked", sent(with_options(crooked, 0x01), [239, 255, 0, 2]),
       "  can't be seen in so short a recording: 6.2.5 a number left out in each turn; 8 no list of universes for 12 s; 8 a list that lacks a universe it sends\n", [])
 # No list at all; one that is late twice, at the first packet more than 12 s after the list before; one that just isn't; and a source that comes back 3 s after its end with a list 13 s after the one before.
 write("unlisted", stream(21, steady), who(21) + ":\n  8 no list of universes for 12 s (once, at 12.025 s)\n", [])
-def listed(source, universes, *moments): return [(it, page(source, universes), 5) for it in moments]
 minute = list(range(0, 30000, 25))
 write("late", stream(22, minute), who(22) + ":\n  8 no list of universes for 12 s (2 times, the first at 12.025 s, the latest at 25.025 s)\n", listed(22, [1], 0, 13010, 26000))
 write("late12", stream(23, minute), who(23) + ": conforms\n", listed(23, [1], 0, 12010, 24015))
@@ -226,7 +255,7 @@ tells() {
   [ "$status" = "$wanted" ] && [[ $first == $said ]] && cmp -s "$output" out
   verdict "$name" $? "status $status, '$first', it prints something else: $(diff "$output" out | head -n 4 | cut -c 1-160)"
 }
-for name in conforms rate44 rate50 skips skips2 stays stays3 second silent change1 change2 change3 end2 ended2 name64 name63 nametext nametext8 two moves start group0 groups counter counters bits bit5 unread sends201 outside inside crooked priority200 printer frames unlisted late late12 back lacks lacks10 lacksnone pages pageslack unheard unheard12 alone twins successor nothing; do
+for name in conforms rate44 rate45 rate45once rate50 skips skips1 skips2 stays stays3 second silent silent2 silentdd change0 change1 change2 change3 end2 ended2 name64 name63 nametext nametext8 two moves moves2500 start group0 groups counter counters bits bit5 unread pairs sends201 outside inside crooked priority200 printer frames unlisted late late12 back lacks lacks10 lacksnone pages pageslack unheard unheard12 alone twins successor nothing; do
   tells "$name" 0 "" $name.text $name.pcap
 done
 # What is broken is told up to where a recording is faulty; what is no recording has nothing.
@@ -273,6 +302,16 @@ frames = {"ms": 20035, "event": "unread_frames", "cut": 1, "fragments": 2, "ipv6
 assert [it for it in objects if it["event"] == "unread_frames"] == [frames] and objects[-1] == frames, objects
 P
 verdict "objects of what can't be read" $? "$(head -c 300 out)"
+{ "$sacn" audit --json name64.pcap && "$sacn" audit --json counter.pcap && "$sacn" audit --json conforms.pcap; } >out 2>err && python3 - <<'P'
+import json
+objects = [json.loads(line) for line in open("out")]
+told = [(it["ms"], it["event"], it.get("section"), it.get("rule"), it.get("universes"), it.get("first"), it.get("latest"), it.get("times")) for it in objects]
+unseen = [("6.2.5", "numbers that don't go up"), ("6.2.5", "a number left out in each turn"), ("6.6.1", "faster than 44 a second"), ("6.6.2", "levels more than 1 s apart"),
+          ("6.6.2", "changed levels sent fewer than three times"), ("8", "no list of universes for 12 s"), ("8", "a list that lacks a universe it sends")]
+assert told == [(60, "breach", "6.2.2", "a name without an end", [1], 0, 60, 4)] + [(60, "unseen", *it, None, None, None, None) for it in unseen] + [
+    (20100, "breach", "6.2.5", "one counter for several universes", None, 200, 20100, 798), (20035, "conforms", *[None] * 6)], told
+P
+verdict "objects of what can't be seen, of one counter and of what conforms" $? "$(head -c 300 out)"
 "$sacn" audit --json twins.pcap >out 2>err && "$sacn" audit --json late.pcap >>out 2>>err && "$sacn" audit --json unheard.pcap >>out 2>>err && python3 - <<'P'
 import json
 objects = [json.loads(line) for line in open("out")]

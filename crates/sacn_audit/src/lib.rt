@@ -45,12 +45,3 @@ pub use sight::Sight;
 pub use source::SourceAudit;
 pub use source_numbers::SourceNumbers;
 pub use stream_register::AuditedStream;
-
-#[cfg(test)]
-mod counter_tests;
-#[cfg(test)]
-mod network_tests;
-#[cfg(test)]
-mod refused_tests;
-#[cfg(test)]
-mod tests;

@@ -10,7 +10,7 @@ mod script;
 mod sender;
 mod show;
 mod universe_lines;
-mod waking;
+pub mod waking;
 
 pub use command::{Command, ConsoleFault};
 pub use console::{ConsoleCore, DueDatagram};
@@ -23,4 +23,3 @@ pub use script::{command_of, read_script};
 pub use sender::Sender;
 pub use show::{PatchRow, Show, ShowFault, read_show, show_of};
 pub use universe_lines::{first_lines, list_standing, place_of};
-pub use waking::Wakes;

@@ -19,8 +19,3 @@ pub use namesakes::namesake_at;
 pub use objects::push_objects;
 pub use sentences::{push_source_text, push_text, push_text_end};
 pub use unread::{push_unread, push_unread_objects};
-
-#[cfg(test)]
-mod tests;
-#[cfg(test)]
-mod unread_tests;
