@@ -136,6 +136,71 @@ tells "a number that QLC+ leaves out" 0 "" left-out.json "$top/examples/qlcplus-
 { cat turns.json; printf '%s\n' "{\"ms\":20402,\"event\":\"skipped\",$stream,\"count\":1}"; sums 1149 3; } | timed "$turns" >lost.json
 tells "a loss beside it" 0 "" lost.json lost.pcap --json
 
+# What a console does on its universes at one time is one line, one of a universe alone where that is asked for, and one object. M is on universes 1 to 3, 10 ms one behind the
+# other, and B beside it on two; a datagram that is no packet comes last. In another recording three are left once one of a higher priority has ended, and one has priorities of
+# its own on two universes.
+python3 - <<'P' || verdict "recordings of consoles that meet" 1
+import e131
+def made(name, *packets):
+    recording = e131.Recording(name)
+    for at, letter, universe, priority, *number in packets:
+        octets = e131.data(universe, *number or [0], b"\xff", letter * 16, letter, priority, e131.TERMINATED if number else 0) if letter else bytes(638)
+        recording.sent(at, 5, octets, from_port=5568)
+    recording.close()
+met = [(10 * it, b"M", 1 + it, 100) for it in range(3)] + [(1200, b"B", it, 100) for it in (2, 3)]
+made("met.pcap", *met, (9000, b"", 0, 0))
+three = [(at, letter, it, 150 if letter == b"X" else 100) for at, letter in enumerate((b"X", b"M", b"B", b"C")) for it in (7, 8, 10)]
+three += [(6, b"X", it, 150, 1) for it in (7, 8, 10)]
+made("three.pcap", *three, (7, b"P", 20, 100), (7, b"P", 21, 150))
+P
+# what_is_done FILE WORD..: how explain begins, up to its tables
+what_is_done() { timeout 60 "$sacn" explain "$@" 2>err </dev/null | sed '/^$/q' >out; }
+cat >wanted <<'E'
+     0.000 s  "M" 4d4d..4d appears on 1-3 at 10.0.0.5:5568, priority 100 (3 times, the latest at 0.020 s)
+     1.200 s  "B" 4242..42 appears on 2-3 at 10.0.0.5:5568, priority 100
+     1.200 s  "M" 4d4d..4d and "B" 4242..42 both send on 2-3 at priority 100
+     2.500 s  "M" 4d4d..4d lost on 1-3, last at 10.0.0.5:5568, priority 100 (3 times, the latest at 2.520 s)
+     3.700 s  "B" 4242..42 lost on 2-3, last at 10.0.0.5:5568, priority 100
+
+E
+what_is_done met.pcap && cmp -s wanted out
+verdict "what a console does is one line" $? "$(diff wanted out | head -n 3)"
+head -c 24 met.pcap >header.pcap
+what_is_done header.pcap && [ "$(wc -c <out)" = 1 ] && [ ! -s err ]
+verdict "of a recording without a frame nothing is told" $? "$(head -n 3 out err)"
+cat >wanted <<'E'
+     0.020 s  "M" 4d4d..4d appears on 3 at 10.0.0.5:5568, priority 100
+     1.200 s  "B" 4242..42 appears on 3 at 10.0.0.5:5568, priority 100
+     1.200 s  "M" 4d4d..4d and "B" 4242..42 both send on 3 at priority 100
+     2.520 s  "M" 4d4d..4d lost on 3, last at 10.0.0.5:5568, priority 100
+     3.700 s  "B" 4242..42 lost on 3, last at 10.0.0.5:5568, priority 100
+
+E
+what_is_done met.pcap --universe 3 && cmp -s wanted out
+verdict "a universe has its own moments" $? "$(diff wanted out | head -n 3)"
+cat >wanted <<'E'
+     0.000 s  "X" 5858..58 appears on 7-8, 10 at 10.0.0.5:5568, priority 150
+     0.001 s  "M" 4d4d..4d appears on 7-8, 10 at 10.0.0.5:5568, priority 100
+     0.002 s  "B" 4242..42 appears on 7-8, 10 at 10.0.0.5:5568, priority 100
+     0.003 s  "C" 4343..43 appears on 7-8, 10 at 10.0.0.5:5568, priority 100
+     0.006 s  "X" 5858..58 ends its stream on 7-8, 10
+     0.006 s  "M" 4d4d..4d, "B" 4242..42 and 1 more send on 7-8, 10 at priority 100
+     0.007 s  "P" 5050..50 appears on 20-21 at 10.0.0.5:5568, priorities 100-150
+
+E
+what_is_done three.pcap && cmp -s wanted out
+verdict "a third console is counted, and priorities are told as they range" $? "$(diff wanted out | head -n 3)"
+cat >wanted <<'E'
+{"ms":0,"event":"incident","act":"appeared","cid":"4d4d4d4d4d4d4d4d4d4d4d4d4d4d4d4d","name":"M","universes":[1,2,3],"first":0,"latest":20,"times":3}
+{"ms":1200,"event":"incident","act":"appeared","cid":"42424242424242424242424242424242","name":"B","universes":[2,3],"first":1200,"latest":1200,"times":2}
+{"ms":1200,"event":"incident","act":"rivals","cid":"4d4d4d4d4d4d4d4d4d4d4d4d4d4d4d4d","name":"M","universes":[2,3],"first":1200,"latest":1200,"times":2,"rival":"42424242424242424242424242424242","rival_name":"B","priority":100,"sources":2}
+{"ms":2500,"event":"incident","act":"lost","cid":"4d4d4d4d4d4d4d4d4d4d4d4d4d4d4d4d","name":"M","universes":[1,2,3],"first":2500,"latest":2520,"times":3}
+{"ms":3700,"event":"incident","act":"lost","cid":"42424242424242424242424242424242","name":"B","universes":[2,3],"first":3700,"latest":3700,"times":2}
+E
+timeout 60 "$sacn" explain met.pcap --json 2>err </dev/null | grep '"event":"incident"' | sed 's/,"time":"[^"]*"//' >out
+cmp -s wanted out
+verdict "what a console does is one object" $? "$(diff wanted out | head -n 3 | cut -c 1-160)"
+
 # Faulty recordings: what was told before the fault stays, and the tables follow.
 head -c 1311 "$top/examples/ola.pcap" >cut.pcap
 {

@@ -19,6 +19,3 @@ pub use digest::{Parts, tell_digest};
 pub use live::LiveDigest;
 pub use presences::Presences;
 pub use source_lines::push_source_line;
-
-#[cfg(test)]
-mod tests;
