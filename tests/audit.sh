@@ -414,23 +414,24 @@ sleep 1
 echo "start 1" >&3
 sleep 12
 exec 3>&-
-wait $desk
+wait_for_end $desk
 exec 4>&-
-wait $watch
+wait_for_end $watch
 status=$?
 [ $status = 0 ] && [ "$(head -n 1 live)" = '"Desk" 0001..0f at 127.0.0.1: conforms' ] && [ "$(wc -l <live)" = 1 ]
 told=$?
 kill $pulse
-if [ $told != 0 ] && [ "$(cat stood)" -gt 50 ]; then
+if [ $told != 0 ] && [ "$(cat stood)" -gt 20 ]; then
   skips "a desk that a watch hears conforms" "this machine stood still for $(cat stood) ms"
 else
   verdict "a desk that a watch hears conforms" $told "status $status, $(head -c 300 live)"
 fi
 hears_live --json
 send_live "$heard"
-# (a datagram that came is taken before the end of standard input)
+# (what was read before the end of standard input is told)
+wait_until is_taken "$heard"
 exec 4>&-
-wait $watch
+wait_for_end $watch
 python3 - <<'P'
 import json
 objects = [json.loads(line) for line in open("live")]
@@ -439,7 +440,7 @@ assert broken == [("breach", "1f" * 16, "6.2.2", "a name without an end", [1], 3
 P
 verdict "objects of a watch" $? "$(head -c 300 live)"
 : >hears
-"$sacn" gateway node.toml --audit --seconds 3 >frames 2>hears &
+"$sacn" gateway node.toml --audit --seconds 8 >frames 2>hears &
 gateway=$!
 wait_for_line hears '^hears'
 send_live "$shown"

@@ -13,7 +13,7 @@ page=$(free_tcp_port)
 
 printf 'version = 1\nudp_port = %s\n[[port]]\nnumber = 1\nuniverse = 1\n' "$port" >node.toml
 printf 'version = 1\ncid = "00010203-0405-0607-0809-0a0b0c0d0e0f"\nname = "Desk"\nuniverses = [1]\nsend_to = [%s]\n[[patch]]\nchannel = 1\nuniverse = 1\nslot = 1\n' "$port" >show.toml
-"$sacn" gateway node.toml --seconds 60 >frames 2>said &
+"$sacn" gateway node.toml --seconds 600 >frames 2>said &
 wait_for_line said '^hears'
 mkfifo orders
 "$sacn" desk show.toml <orders >answers 2>desk &

@@ -139,7 +139,7 @@ lit() {
   timeout 30 "$folder/send" "$universe" 1 "$port" 127.0.0.1 >"$folder/sent" 2>&1
   sent=$?
   # (start code, slot 1 and nothing else; and then dark, since it was told that the stream has ended, and not since it was lost)
-  patience=10 wait_until is_through "$folder/heard"
+  wait_until is_through "$folder/heard"
   kill "$receiver" 2>/dev/null
   wait "$receiver" 2>/dev/null
   if [ "$sent" != 0 ]; then
@@ -148,7 +148,7 @@ lit() {
     echo "it isn't lit: $(head -qn 1 "$folder/said" "$folder/sent" | cut -c 1-200 | tr '\n' ' ')"
   elif [ -z "$off" ]; then
     echo "it stays lit"
-  elif [ $((off - on)) -ge 2500 ]; then
+  elif [ $((off - on)) -ge 3000 ]; then
     echo "it is dark after $((off - on)) ms"
   fi
 }

@@ -31,7 +31,7 @@ class Browser:
     def __init__(self, pictures, *arguments):
         self.pictures = pictures
         start("chromedriver", f"--port={DRIVER}")
-        for _ in range(100):
+        for _ in range(600):
             try:
                 self.call("GET", "/status")
                 break
@@ -44,7 +44,7 @@ class Browser:
     def call(self, method, path, body=None):
         data = None if body is None else json.dumps(body).encode()
         request = urllib.request.Request(f"http://127.0.0.1:{DRIVER}{path}", data, {"Content-Type": "application/json"}, method=method)
-        with urllib.request.urlopen(request, timeout=60) as answer:
+        with urllib.request.urlopen(request, timeout=120) as answer:
             return json.loads(answer.read())["value"]
 
     def ask(self, method, path, body=None):

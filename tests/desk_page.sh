@@ -10,7 +10,7 @@ tcp=$(free_tcp_port)
 at=http://127.0.0.1:$tcp
 CR=$'\r'
 
-# (the numbers of cues and levels are those of the show: cue 1 puts channel 1 at full and channel 2 at half, cue 2 puts channel 1 at 0 in two seconds)
+# (the numbers of cues and levels are those of the show: cue 1 puts channel 1 at full and channel 2 at half, cue 20 puts channel 1 at 0 in twenty seconds)
 cat >show.toml <<T
 version = 2
 cid = "00010203-0405-0607-0809-0a0b0c0d0e0f"
@@ -25,7 +25,7 @@ levels = [[1, 65535], [2, 32768]]
 [[cue]]
 number = 20
 up = 0
-down = 2000
+down = 20000
 levels = [[1, 0]]
 [[patch]]
 channel = 1
@@ -136,21 +136,21 @@ verdict "the page asks no other server" $?
 verdict "the page hasn't the key" $?
 state "what runs before an order" '{"cue":null,"next":1,"master":65535,"left":0,"universes":\[[[]1,2,"running"[]],[[]7,7,"running"[]][]]}'
 answers "the cues" 200 "$at"/cues
-[ "$(cat body)" = '[{"number":1,"up":0,"down":0,"channels":2},{"number":20,"up":0,"down":2000,"channels":1}]' ]
+[ "$(cat body)" = '[{"number":1,"up":0,"down":0,"channels":2},{"number":20,"up":0,"down":20000,"channels":1}]' ]
 verdict "the cues are those of the show" $? "$(cat body)"
 
 # Orders are read as typed ones are, and said on the output too.
 orders "go" "ok cue 1 up 0 s down 0 s" go
 state "the cue that runs" '{"cue":1,"next":20,"master":65535,"left":0,*'
 orders "a level" "ok 1 thru 2 at 50 %" "1 thru 2 at 50"
-orders "go on" "ok cue 20 up 0 s down 2 s" go
-state "a fade that runs" '{"cue":20,"next":null,"master":65535,"left":1???,*'
+orders "go on" "ok cue 20 up 0 s down 20 s" go
+state "a fade that runs" '{"cue":20,"next":null,"master":65535,"left":1????,*'
 orders "back" "ok cue 1 up 0 s down 0 s" back
 orders "blackout" "ok master at 0 %" blackout
 state "a blackout" '{"cue":1,"next":20,"master":0,*'
 orders "restore" "ok master at 100 %" restore
 orders "an end of line" "ok cue 1 up 0 s down 0 s" $'goto 1\r\n'
-orders "a list" $'cue 1 up 0 s down 0 s channels 2 current\ncue 20 up 0 s down 2 s channels 1\nok' cues
+orders "a list" $'cue 1 up 0 s down 0 s channels 2 current\ncue 20 up 0 s down 20 s channels 1\nok' cues
 # (the ninth line of the page)
 orders "no order" 'line 9: "blakout" isn*t an order; the nearest is blackout; help lists them' blakout
 orders "a cue that isn't there" "refused NoCue: the show has no cue 9; cues lists them" "goto 9"
@@ -160,6 +160,7 @@ done
 # (in which an end would be seen)
 sleep 0.3
 state "nothing has ended" '*"universes":\[[[]1,2,"running"[]],[[]7,7,"running"[]][]]}'
+wait_for_line out "^refused: the page doesn't end a desk\$"
 grep -qx 'page: 1 thru 2 at 50' out && grep -qx 'page: end all' out && grep -qx "refused: the page doesn't end a desk" out
 verdict "the output has the orders and their answers" $? "$(cat out)"
 echo status >&"$typed"
@@ -216,7 +217,7 @@ sends "no words" 400 "\001\002\003\r\n\r\n"
 exec {line}<>"/dev/tcp/127.0.0.1/$tcp"
 printf 'POST /order HTTP/1.1\r\n%bContent-Length: 6\r\n\r\n' "$page" >&"$line"
 for letter in g o t o ' ' 1; do printf '%s' "$letter" >&"$line"; sleep 0.1; done
-read -r -t 10 -u "$line" first
+read -r -t 30 -u "$line" first
 exec {line}>&-
 [[ $first == "HTTP/1.1 200 "* ]]
 verdict "an order letter by letter" $? "$first"
@@ -224,7 +225,7 @@ start=$SECONDS
 exec {line}<>"/dev/tcp/127.0.0.1/$tcp"
 printf 'POST /order HTTP/1.1\r\n%bContent-Length: 6\r\n\r\ngo' "$page" >&"$line"
 orders "an order beside a late one" "ok cue 1 up 0 s down 0 s" "goto 1"
-read -r -t 10 -u "$line" first
+read -r -t 30 -u "$line" first
 status=$?
 exec {line}>&-
 [ "$status" = 1 ] && [ $((SECONDS - start)) -ge 4 ]
@@ -238,7 +239,7 @@ for _ in $(seq 20); do
   slow+=("$line")
 done
 answers "the page beside 20 half heads" 200 -m 3 "$at"/
-[[ $(timeout 3 cat <&"${slow[0]}" 2>cat.err) == "HTTP/1.1 503 "* ]] && [ ! -s cat.err ]
+[[ $(timeout 20 cat <&"${slow[0]}" 2>cat.err) == "HTTP/1.1 503 "* ]] && [ ! -s cat.err ]
 verdict "the oldest half head is told that there is no room" $? "$(cat cat.err)"
 for line in "${slow[@]}"; do exec {line}>&-; done
 exec {typed}>&-

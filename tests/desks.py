@@ -366,7 +366,7 @@ def a_prompt_tells_what_runs(sacn):
         terminal.type(typed + "\n")
         if not terminal.shows("^" + wanted):
             yield f"{typed!r} was answered {terminal.text!r}"
-    if not terminal.shows("^" + prompt("cue 2"), 10):
+    if not terminal.shows("^" + prompt("cue 2"), 20):
         yield f"behind the fade came {terminal.text!r}"
     status, text = terminal.end()
     if status or not re.fullmatch(line("sent [0-9]+ failed 0 refused 0"), text):
@@ -392,7 +392,7 @@ def no_prompt_where_it_is_not_wanted(sacn):
 
 def ten_thousand_lines_have_no_prompt(sacn):
     desk = Desk(sacn, "--to", f"127.0.0.1:{Host().port}")
-    out, _ = desk.run.communicate("1 at 50\n" * 10000, 60)
+    out, _ = desk.run.communicate("1 at 50\n" * 10000, 180)
     *answers, last = out.splitlines()
     lost = sum(int(it.split()[0]) for it in answers if it.endswith(" lines not written"))
     if answers.count("ok 1 at 50 %") + lost != 10000 or not last.startswith("sent ") or "\x1b" in out:
@@ -465,7 +465,7 @@ def rlwrap_gives_arrows_and_a_history(sacn):
                 yield f"{keys!r} was answered {terminal.text!r}"
         # (half of an order is there still behind what comes unasked)
         terminal.type("stat")
-        if not terminal.shows("(?s)cue 2> .*stat", 10):
+        if not terminal.shows("(?s)cue 2> .*stat", 20):
             yield f"behind the fade came {terminal.text!r}"
         terminal.type("us\r")
         if not terminal.shows("cue 2 master 65535 sent"):

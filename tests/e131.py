@@ -88,13 +88,17 @@ def free_port(kind):
     while True:
         port = random.randrange(20000, 32000)
         claim = f"{tempfile.gettempdir()}/sacn-port-{port}"
+        # (the claim comes first: a port that another one claimed isn't bound here, not even for a moment)
+        try:
+            os.mkdir(claim)
+        except OSError:
+            continue
+        atexit.register(os.rmdir, claim)
         with socket.socket(socket.AF_INET, kind) as it:
             try:
                 it.bind(("", port))
-                os.mkdir(claim)
             except OSError:
                 continue
-        atexit.register(os.rmdir, claim)
         return port
 
 

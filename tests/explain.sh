@@ -746,7 +746,7 @@ port=$(free_udp_port)
 # Whether a recording has begun.
 records() {
   : >tcpdump.err
-  timeout 20 tcpdump -i lo -U -w rig.pcap "udp port $port" 2>tcpdump.err &
+  timeout 60 tcpdump -i lo -U -w rig.pcap "udp port $port" 2>tcpdump.err &
   recorder=$!
   begins_or_ends() { grep -q '^tcpdump: listening' tcpdump.err || ! kill -0 "$recorder" 2>/dev/null; }
   wait_until begins_or_ends
@@ -786,7 +786,7 @@ T
 is_told() {
   local gateway
   : >gateway.lines
-  "$sacn" gateway rig.toml --seconds 5 >gateway.lines 2>gateway.err &
+  "$sacn" gateway rig.toml --seconds 8 >gateway.lines 2>gateway.err &
   gateway=$!
   wait_until test -s gateway.lines
   "$sacn" desk rig-show.toml --script rig-script.txt </dev/null >desk.lines 2>desk.err

@@ -37,7 +37,7 @@ class Gateway:
             space["TZ"] = zone
         here, there = pty.openpty() if terminal else os.pipe()
         self.run = subprocess.Popen(
-            [sacn, "gateway", self.file.name, *words, "--seconds", "60"], stdin=subprocess.DEVNULL, stdout=there, stderr=subprocess.PIPE, text=True, env=space
+            [sacn, "gateway", self.file.name, *words, "--seconds", "300"], stdin=subprocess.DEVNULL, stdout=there, stderr=subprocess.PIPE, text=True, env=space
         )
         os.close(there)
         self.lines = queue.Queue()
@@ -60,9 +60,9 @@ class Gateway:
                 self.lines.put(line.rstrip(b"\r").decode())
 
     def line(self):
-        """The next line, within ten seconds."""
+        """The next line, within thirty seconds."""
         try:
-            return self.lines.get(timeout=10)
+            return self.lines.get(timeout=30)
         except queue.Empty:
             return "nothing"
 
@@ -150,7 +150,7 @@ def lines_have_the_time_of_day(sacn):
                 if re.sub("^([0-9]+) [0-9]+ ", "\\1 ", line[13:]) != wanted:
                     yield f"{levels} is shown as {line[:90]!r}"
             ago = [moment_of(line, 5.5) for line in said]
-            if not all(it is not None and it < 30 for it in ago):
+            if not all(it is not None and it < 120 for it in ago):
                 yield f"{form}: {ago} s ago, {said[0][:60]!r}"
         finally:
             gateway.end()
@@ -160,13 +160,13 @@ def none_prints_no_frame(sacn):
     with tempfile.NamedTemporaryFile("w", suffix=".toml") as file:
         file.write(f"version = 1\nudp_port = {PORT}\n[[port]]\nnumber = 1\nuniverse = 1\n")
         file.flush()
-        run = subprocess.run([sacn, "gateway", file.name, "--frames", "none", "--seconds", "1"], stdin=subprocess.DEVNULL, capture_output=True, text=True, timeout=20)
+        run = subprocess.run([sacn, "gateway", file.name, "--frames", "none", "--seconds", "1"], stdin=subprocess.DEVNULL, capture_output=True, text=True, timeout=60)
     if run.returncode or run.stdout:
         yield f"status {run.returncode}, {run.stdout[:40]!r}"
 
 
 def refused(sacn, *words):
-    run = subprocess.run([sacn, "gateway", "x.toml", *words], capture_output=True, text=True, timeout=20)
+    run = subprocess.run([sacn, "gateway", "x.toml", *words], capture_output=True, text=True, timeout=60)
     if run.returncode != 2 or run.stdout:
         yield f"{words}: status {run.returncode}, {run.stdout[:40]!r}"
 

@@ -72,7 +72,7 @@ class Screen:
     def shows(self, pattern):
         return any(re.search(pattern, row) for row in self.rows.values())
 
-    def wait(self, is_there, what, seconds=10):
+    def wait(self, is_there, what, seconds=30):
         end = time.time() + seconds
         while not is_there():
             if time.time() > end or self.has_ended:
@@ -89,7 +89,7 @@ class Screen:
 
     def ends(self):
         """The status of the run, once it ended by itself."""
-        end = time.time() + 10
+        end = time.time() + 30
         while not self.has_ended and time.time() < end:
             self.look()
         if not self.has_ended:
@@ -201,7 +201,7 @@ def gateway():
 
 def killed(what):
     """The launcher or the program is killed outright: the terminal has its modes again."""
-    screen = Screen("bash", "-c", "bash launcher; echo over; sleep 30")
+    screen = Screen("bash", "-c", "bash launcher; echo over; sleep 60")
     screen.waits_for("^sacn watch ")
     if termios.tcgetattr(screen.terminal)[3] & (termios.ICANON | termios.ECHO):
         sys.exit("keys aren't read one by one")
@@ -209,7 +209,7 @@ def killed(what):
     of_launcher = subprocess.run(["ps", "--ppid", launcher, "-o", "pid=,args="], capture_output=True, text=True, check=True).stdout
     program = re.search(rf"^ *(\d+) .*sacn.* --port {PORT}", of_launcher, re.M)
     os.kill(int(launcher) if what == "launcher" else int(program[1]), signal.SIGKILL)
-    end = time.time() + 10
+    end = time.time() + 30
     while time.time() < end and not (b"over" in screen.octets and screen.is_given_back()):
         screen.look()
     if not screen.is_given_back():

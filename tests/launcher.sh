@@ -235,7 +235,7 @@ interrupted() {
   (PATH=$room/bin:$usual KIT_SLEEPS=30 exec setsid "$tree/sacn" prove >"$room/out" 2>"$room/err" </dev/null) &
   wait_for_line "$KIT_LOG" low 60
   kill -INT -- "-$!"
-  wait $!
+  wait_for_end $!
   status=$?
   [ "$status" = 130 ] && says "interrupted; what was proved is kept"
 }
@@ -265,7 +265,7 @@ desk_ends_well() {
   local launcher=$!
   wait_for_line "$room/out" "took go"
   kill -TERM "$launcher"
-  wait "$launcher"
+  wait_for_end "$launcher"
   status=$?
   [ "$status" = 7 ] && prints "took go" && prints "ended all"
 }
@@ -296,8 +296,9 @@ if command -v script >/dev/null; then
   check "so it does where there is no rlwrap" without_rlwrap
 else skips "a desk on a terminal" "no script"; fi
 
-# Runs a desk with no input until TERM, which comes so many seconds after its start; the program that pretends tells whether its input ended before, and after how long.
-desk_without_input() {
+# Runs a desk with no input until TERM, which comes so many seconds after its start, or once its input has ended; the program that pretends tells whether its input ended
+# before, and after how long.
+desk_without_input() { # SECONDS-OR-END WORD..
   local pause=$1
   shift
   rm -f "$room/told"
@@ -306,10 +307,10 @@ desk_without_input() {
   PATH=$room/bin:$usual setsid "$tree/sacn" desk show.toml "$@" >"$room/out" 2>"$room/err" </dev/null &
   local launcher=$!
   wait_for_line "$room/out" began
-  sleep "$pause"
+  if [ "$pause" = end ]; then wait_for_line "$room/out" ended; else sleep "$pause"; fi
   : >"$room/told"
   kill -TERM "$launcher" 2>/dev/null
-  wait "$launcher"
+  wait_for_end "$launcher"
   status=$?
   [ "$status" = 7 ]
 }
@@ -317,7 +318,7 @@ script_needs_no_input() { desk_without_input 1 --script s.txt --stay && prints "
 check "a desk with a script and no input goes on until it is told to end" script_needs_no_input
 early_end_counts() { desk_without_input 0 --script s.txt && prints "ended when told" && prints "after a second"; }
 check "what ends a desk in its first second isn't lost" early_end_counts
-no_input_is_its_end() { desk_without_input 1 && prints "ended early"; }
+no_input_is_its_end() { desk_without_input end && prints "ended early"; }
 check "a desk without a script and without input ends at once" no_input_is_its_end
 
 # The processes of a session.

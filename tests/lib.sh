@@ -13,8 +13,10 @@
 #   skips NAME WHY                           prints `skipped SCRIPT: NAME: WHY`
 #   passed, failed                           how many of both were well, and how many not
 #   need WORD..                              ends the script as skipped where one of these commands isn't there; `sacn` is the program
-#   wait_until COMMAND [WORD..]              runs this until it ends well, for `patience` seconds or 20; whether it did
+#   wait_until COMMAND [WORD..]              runs this until it ends well, for `patience` seconds or 40; whether it did
 #   wait_for_line FILE PATTERN [SECONDS]     the same, until the file has such a line (of grep -E)
+#   wait_for_end PID                         waits for a process of this shell's, which is killed outright where it goes on for a minute; its status
+#   is_taken PORT                            whether no datagram waits at a UDP port: what was sent there is read (of this machine's network, or this namespace's)
 #   free_udp_port, free_tcp_port             prints a port that nothing has, another one each time
 #
 # Its Python finds e131.py: packets, recordings and ports.
@@ -68,14 +70,22 @@ need() {
 }
 
 wait_until() {
-  local end=$((SECONDS + ${patience:-20}))
+  local end=$((SECONDS + ${patience:-40}))
   until "$@"; do
     [ "$SECONDS" -le "$end" ] || return 1
     sleep 0.05
   done
 }
 
-wait_for_line() { patience=${3:-20} wait_until grep -qsE -- "$2" "$1"; }
+wait_for_line() { patience=${3:-40} wait_until grep -qsE -- "$2" "$1"; }
+
+is_gone() { ! kill -0 "$1" 2>/dev/null; }
+wait_for_end() {
+  patience=${patience:-60} wait_until is_gone "$1" || kill -KILL "$1" 2>/dev/null
+  wait "$1" 2>/dev/null
+}
+
+is_taken() { awk -v port=":$(printf %04X "$1")" '$2 ~ port "$" && $5 !~ /:0+$/ { waits = 1 } END { exit waits }' /proc/net/udp; }
 
 # free_port TABLE: a port of which this table of the kernel's tells no socket, and to which no other script has a claim, which is a folder until it ends. It is
 # below those that the kernel gives to sockets by itself, so that none gets it before it is used.

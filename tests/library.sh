@@ -118,7 +118,7 @@ hears() {
   show "$port" >"$room/show.toml"
   "$@" >"$room/heard" 2>"$room/said" &
   bound "$port"
-  printf 'go\n' | { cat; wait_for_line "$room/heard" "$lit" 5; } | timeout 10 "$sacn" desk "$room/show.toml" >/dev/null 2>&1
+  printf 'go\n' | { cat; wait_for_line "$room/heard" "$lit"; } | timeout 60 "$sacn" desk "$room/show.toml" >/dev/null 2>&1
   wait "$!"
   if grep -qE "$lit" "$room/heard" && tail -n 1 "$room/heard" | grep -qE '^1 [0-9]+ 0000'; then ok "$name"; else fails "$name" "$(head -n 1 "$room/said" "$room/heard" | tr '\n' ' ')"; fi
 }
@@ -128,15 +128,15 @@ if [ ! -x "$sacn" ]; then
 else
   port=$(free_udp_port)
   setup "$port" >"$room/node.toml"
-  if built receive "$top/examples/c/receive.c" -std=c99 -O2; then hears "receive.c hears a desk" "$port" "$room/receive" "$room/node.toml" 4; fi
+  if built receive "$top/examples/c/receive.c" -std=c99 -O2; then hears "receive.c hears a desk" "$port" "$room/receive" "$room/node.toml" 8; fi
   if command -v python3 >/dev/null && [ -f "$prefix/lib/libsacn.so" ]; then
-    hears "receive.py hears a desk" "$port" env SACN_LIBRARY="$prefix/lib/libsacn.so" PYTHONPATH="$top/bindings/python" python3 "$top/examples/python/receive.py" 1 4 "$port" 127.0.0.1
+    hears "receive.py hears a desk" "$port" env SACN_LIBRARY="$prefix/lib/libsacn.so" PYTHONPATH="$top/bindings/python" python3 "$top/examples/python/receive.py" 1 8 "$port" 127.0.0.1
   else
     skips "receive.py" "no python3, or no shared object"
   fi
   if built send "$top/examples/c/send.c" -std=c99 -O2; then
     show "$port" >"$room/show.toml"
-    timeout 20 "$sacn" gateway "$room/node.toml" --listen 127.0.0.1 --seconds 5 >"$room/heard" 2>"$room/said" </dev/null &
+    timeout 60 "$sacn" gateway "$room/node.toml" --listen 127.0.0.1 --seconds 8 >"$room/heard" 2>"$room/said" </dev/null &
     bound "$port"
     "$room/send" "$room/show.toml" "$port" 500 >"$room/sent"
     wait "$!"

@@ -13,6 +13,9 @@ fi
 "$compiler" -O2 -shared -fPIC -o "$room/refuse.so" "$top/tests/c/refuse.c" || { verdict "refuse.c" 1 "it doesn't compile"; exit 0; }
 MOST=20000
 
+# at_0 NAME FILE: what a node prints has the moment of its clock, which may have gone on by its first turn
+at_0() { if [ "$1" = "sacn node" ]; then sed -i -E 's/^1 [0-9]{1,5} /1 0 /' "$2"; fi; }
+
 # each_refused NAME WANTED-STATUS WANTED-ERRORS INPUT PROGRAM [WORD..]
 each_refused() {
   local name=$1 wanted=$2 said=$3 input=$4 at status refused=0 whole=0
@@ -22,11 +25,13 @@ each_refused() {
     return
   fi
   "$@" <"$input" >"$room/all" 2>/dev/null || { verdict "$name" 1 "it fails with ample memory"; return; }
+  at_0 "$name" "$room/all"
   for at in $(seq "$MOST"); do
     rm -f "$room/told"
     status=0
     REFUSE_AT=$at REFUSE_TOLD=$room/told LD_PRELOAD=$room/refuse.so "$@" <"$input" >"$room/out" 2>"$room/err" || status=$?
     [ -s "$room/told" ] || break
+    at_0 "$name" "$room/out"
     if [ "$status" = 0 ] && cmp -s "$room/out" "$room/all"; then
       whole=$((whole + 1))
     elif [ "$status" = "$wanted" ] && [ "$(cat "$room/err")" = "$said" ] && [ "$(head -c "$(stat -c %s "$room/out")" "$room/all" | cmp - "$room/out" 2>&1)" = "" ]; then
@@ -62,7 +67,7 @@ in_small_spaces() {
   for size in $(seq 3000 50 6400); do
     status=0
     # shellcheck disable=SC2016
-    timeout 10 bash -c 'ulimit -v "$1" && shift && exec "$@"' small "$size" "$@" </dev/null >/dev/null 2>"$room/err" || status=$?
+    timeout 60 bash -c 'ulimit -v "$1" && shift && exec "$@"' small "$size" "$@" </dev/null >/dev/null 2>"$room/err" || status=$?
     case $status in
       0) whole=$((whole + 1)) ;;
       127) ;;

@@ -36,9 +36,9 @@ fi
 look() { # NAME
   local status=0
   if [ -n "$space" ]; then
-    SPACE=1 timeout 90 $space python3 "$top/tests/nothing_blocks.py" "$1" 2>"$room/$1" || status=$?
+    SPACE=1 timeout 180 $space python3 "$top/tests/nothing_blocks.py" "$1" 2>"$room/$1" || status=$?
   else
-    timeout 90 python3 "$top/tests/nothing_blocks.py" "$1" 2>"$room/$1" || status=$?
+    timeout 180 python3 "$top/tests/nothing_blocks.py" "$1" 2>"$room/$1" || status=$?
   fi
   echo "$status" >"$room/$1.status"
 }

@@ -48,8 +48,8 @@ def numbers_of_an_earlier_life(numbers):
 def another_life_lights_at_once():
     """A desk is started again while a node still holds a number of its earlier life: at each of 256 numbers all universes are lit with the first order."""
     took = [numbers_of_an_earlier_life(range(first, first + 16)) for first in range(0, 256, 16)]
-    late = [16 * place for place, it in enumerate(took) if it is None or it > 0.5]
-    want(not late, f"{len(took)} times 16 numbers, lit after {max((it for it in took if it is not None), default=0):.2f} s at most (under 0.5); late: {late}")
+    late = [16 * place for place, it in enumerate(took) if it is None or it > 0.8]
+    want(not late, f"{len(took)} times 16 numbers, lit after {max((it for it in took if it is not None), default=0):.2f} s at most (under 0.8); late: {late}")
 
 
 def life(level):
@@ -74,7 +74,7 @@ def one_life_follows_another():
 
     def ends(desk, how):
         how()
-        desk.run.wait(timeout=10)
+        desk.run.wait(timeout=30)
 
     def stops(desk):
         desk.run.send_signal(signal.SIGSTOP)
@@ -91,8 +91,9 @@ def one_life_follows_another():
         "was lost": is_lost,
     }
     desk, took = lit(10)
-    want(took is not None and took < 0.5, f"the first life is lit after {took} s (under 0.5)")
+    # (a packet that isn't taken is followed by one 900 ms later at the soonest)
+    want(took is not None and took < 0.8, f"the first life is lit after {took} s (under 0.8)")
     for level, (how, end) in enumerate(ways.items(), 11):
         end(desk)
         desk, took = lit(level)
-        want(took is not None and took < 0.5, f"behind one that {how}: lit {took} s after the answer to its first order (under 0.5)")
+        want(took is not None and took < 0.8, f"behind one that {how}: lit {took} s after the answer to its first order (under 0.8)")

@@ -75,9 +75,9 @@ class Ola:
         words = ["setpriv", f"--reuid={USER}", f"--regid={USER}", "--clear-groups", "olad", "--config-dir", folder, "--no-register-with-dns-sd", "--log-level", "1"]
         said = open(f"{ROOM}/olad.said", "w", encoding="utf-8")
         self.run = start(words, stdin=subprocess.DEVNULL, stdout=said, stderr=said, env={**os.environ, "HOME": folder})
-        self.line = http.client.HTTPConnection("127.0.0.1", 9090, timeout=5)
+        self.line = http.client.HTTPConnection("127.0.0.1", 9090, timeout=20)
         last = [*inputs, *outputs][-1]
-        if not wait(lambda: self.levels(last) is not None, 15):
+        if not wait(lambda: self.levels(last) is not None, 40):
             raise RuntimeError(f"olad isn't ready: {text_of('olad.said')[-300:]}")
 
     def asked(self, method, path, body=None):
@@ -107,7 +107,7 @@ def first_packets(count):
     sock = socket.socket(socket.AF_INET, socket.SOCK_DGRAM)
     sock.setsockopt(socket.SOL_SOCKET, stage.SO_RCVBUFFORCE, 8388608)
     sock.bind(("127.0.0.1", 0))
-    sock.settimeout(10)
+    sock.settimeout(30)
     universes = list(range(1, count + 1))
     text = f'version = 1\ncid = "{uuid.UUID(bytes=stage.CID)}"\nname = "Desk"\nuniverses = {universes}\nsend_to = [{PORT}]\n[[cue]]\nnumber = 1\nfade = 0\nlevels = [[1, 65535]]\n'
     show = write("again.toml", text + "".join(f"[[patch]]\nchannel = 1\nuniverse = {universe}\nslot = 1\n" for universe in universes))
@@ -146,8 +146,8 @@ class Lives:
         self.marks += 1
         level = 1 + self.marks % 255
         self.send(stage.packet(self.marks, level, self.MARK, cid=b"the last of them"))
-        if not wait(lambda: self.ola.shows(self.MARK) == level, 5):
-            raise RuntimeError("olad doesn't take a packet in 5 s")
+        if not wait(lambda: self.ola.shows(self.MARK) == level, 20):
+            raise RuntimeError("olad doesn't take a packet in 20 s")
 
     def end(self, universe):
         """Ends whatever life is held: of two numbers that lie 20 apart one is taken."""
@@ -221,20 +221,20 @@ def olad_shows_what_a_desks_page_orders():
     is_served = stage.said("page.said", "page http")
 
     def order(text, **other):
-        line = http.client.HTTPConnection(place, timeout=10)
+        line = http.client.HTTPConnection(place, timeout=30)
         line.request("POST", "/order", text, {"Origin": f"http://{place}", "X-Key": key, **other})
         answer = line.getresponse()
         return answer.status, answer.read().decode().strip()
 
-    seen = [(order("1 at full"), wait(lambda: ola.shows(1) == 255, 5)), (order("1 at 50"), wait(lambda: ola.shows(1) == 127, 5)), (order("blackout"), wait(lambda: ola.shows(1) == 0, 5))]
+    seen = [(order("1 at full"), wait(lambda: ola.shows(1) == 255, 20)), (order("1 at 50"), wait(lambda: ola.shows(1) == 127, 20)), (order("blackout"), wait(lambda: ola.shows(1) == 0, 20))]
     wanted = [((200, "ok 1 at 100 %"), True), ((200, "ok 1 at 50 %"), True), ((200, "ok master at 0 %"), True)]
     check("olad shows what a desk's page orders", is_served and seen == wanted, f"{seen}; {text_of('page.said')}")
     refused = [order("restore", **{"Origin": "http://10.77.0.2:8571"})[0], order("restore", **{"X-Key": "Stage"})[0]]
     is_dark = not wait(lambda: ola.shows(1) != 0, 1.5)
     check("another page and another key light nothing at olad", refused == [403, 403] and is_dark, f"{refused}, {ola.shows(1)}")
-    is_back = order("restore")[0] == 200 and wait(lambda: ola.shows(1) == 127, 5)
+    is_back = order("restore")[0] == 200 and wait(lambda: ola.shows(1) == 127, 20)
     desk.stdin.close()
-    desk.wait(timeout=10)
+    desk.wait(timeout=30)
     check("olad shows the levels of before once the page restores them", is_back, f"{ola.shows(1)}")
 
 
@@ -249,12 +249,12 @@ class Watch:
         if not stage.said("said", "hears"):
             raise RuntimeError(f"the watch doesn't begin: {text_of('said')}")
 
-    def tells(self, pattern, seconds=10):
+    def tells(self, pattern, seconds=20):
         return stage.said("lines", pattern, seconds)
 
     def end(self):
         self.run.terminate()
-        self.run.wait(timeout=10)
+        self.run.wait(timeout=30)
 
     def events(self):
         """The lines of sources: the universe, the source, and what is told of it."""
@@ -275,7 +275,7 @@ def a_watch_hears_olad():
         before = {universe: len(heard.came.get(universe, [])) for universe in (1, 128, 129)}
         for universe in (129, 128, 1):
             ola.set(universe, levels)
-        return wait(lambda: all(len(heard.came.get(it, [])) > count for it, count in before.items()), 10)
+        return wait(lambda: all(len(heard.came.get(it, [])) > count for it, count in before.items()), 20)
 
     watch = Watch(inside)
     come = sends([255, 128])
@@ -355,7 +355,7 @@ def a_watch_hears_qlcplus():
     watch = Watch(inside)
     run = qlcplus(heard)
     if heard.numbers:
-        is_heard = watch.tells("appears", 5)
+        is_heard = watch.tells("appears")
         first = watch.events()[:1]
         check(name, is_heard and first[0][0] == 1 and first[0][2].startswith("Q Light Controller Plus") and
               re.fullmatch(rf"appears at {re.escape(DESK)}:[0-9]+, priority 100", first[0][3]), f"told: {first}")
@@ -365,7 +365,7 @@ def a_watch_hears_qlcplus():
         print(f"skipped {name}: it sent nothing in 25 s: {text_of('qlcplus.said')[-100:]}".replace("\n", " | "))
     run.kill()
     run.wait()
-    watch.tells("is lost", 5 if heard.numbers else 0)
+    watch.tells("is lost", 20 if heard.numbers else 0)
     watch.end()
     tells_numbers(heard, [what for _, _, _, what in watch.events()[1:]])
 

@@ -31,7 +31,7 @@ for look in "${looks[@]}"; do
   why=$(why_not "$look")
   if [ -n "$why" ]; then skips "$look" "$why" >"$room/$look"; continue; fi
   # (its own end comes long before; the second limit is for what doesn't heed the first)
-  TMPDIR=$room SPACE=1 timeout -k 5 80 unshare -n python3 "$top/tests/ola.py" "$look" >"$room/$look" 2>"$room/$look.said" &
+  TMPDIR=$room SPACE=1 timeout -k 5 240 unshare -n python3 "$top/tests/ola.py" "$look" >"$room/$look" 2>"$room/$look.said" &
   echo $! >"$room/$look.pid"
 done
 for look in "${looks[@]}"; do

@@ -26,7 +26,6 @@ class Desk:
     def __init__(self, sacn):
         self.listener = socket.socket(socket.AF_INET, socket.SOCK_DGRAM)
         self.listener.bind(("127.0.0.1", 0))
-        self.listener.settimeout(10)
         self.file = tempfile.NamedTemporaryFile("w", suffix=".toml")
         self.file.write(show(self.listener.getsockname()[1]))
         self.file.flush()
@@ -53,9 +52,9 @@ class Desk:
         return [self.run.stdout.readline().rstrip("\n") for _ in range(answers)]
 
     def shows(self, wanted):
-        """Whether a frame comes, within ten seconds, that has these slots."""
+        """Whether a frame comes, within thirty seconds, that has these slots."""
         with self.came:
-            return self.came.wait_for(lambda: any(all(frame[slot - 1] == level for slot, level in wanted.items()) for frame in self.frames), 10)
+            return self.came.wait_for(lambda: any(all(frame[slot - 1] == level for slot, level in wanted.items()) for frame in self.frames), 30)
 
     def forget(self):
         with self.came:
@@ -63,7 +62,7 @@ class Desk:
 
     def end(self):
         self.run.stdin.close()
-        self.run.wait(10)
+        self.run.wait(60)
         self.listener.close()
         self.file.close()
 

@@ -51,7 +51,7 @@ refused 4 "device socket 127.0.0.1:$tcp AddrInUse" --page "$tcp" --port "$udp"
 answers() {
   local name=$1 wanted=$2 status
   shift 2
-  status=$(curl -s -m 10 -o body -D head -w '%{http_code}' "$@")
+  status=$(curl -s -m 30 -o body -D head -w '%{http_code}' "$@")
   [ "$status" = "$wanted" ]
   verdict "$name" $? "$status"
 }
@@ -77,7 +77,7 @@ sends() {
   local first=
   exec {line}<>"/dev/tcp/127.0.0.1/$tcp"
   printf '%b' "$3" >&"$line"
-  read -r -t 10 -u "$line" first
+  read -r -t 30 -u "$line" first
   exec {line}>&-
   [[ $first == "HTTP/1.1 $2 "* ]]
   verdict "$1" $? "$first"
@@ -143,7 +143,7 @@ start=$SECONDS
 exec {line}<>"/dev/tcp/127.0.0.1/$tcp"
 printf 'GET / HTTP/1.1\r\n' >&"$line"
 answers "the page beside a head that is late" 200 "$at"/
-read -r -t 10 -u "$line" first
+read -r -t 30 -u "$line" first
 status=$?
 exec {line}>&-
 [ "$status" = 1 ] && [ $((SECONDS - start)) -ge 4 ]
@@ -152,7 +152,9 @@ verdict "a head that is late is closed" $? "status $status, $((SECONDS - start))
 answers "the document before anything came" 200 "$at"/state
 nothing='{"ms":0,"universe":null,"heard":[],"sources":[],"levels":"'$(printf '0%.0s' $(seq 1024))'","winners":"'$(printf '0%.0s' $(seq 2048))
 nothing+='","alarms":[],"counts":{"datagrams":0,"refused":0,"pages":0,"untracked":0}}'
-[ "$(sed 's/"ms":[0-9]*/"ms":0/' body)" = "$nothing" ]
+# The answer without its moment, and without what tells that this machine let the program stand for a second.
+still() { sed 's/"ms":[0-9]*/"ms":0/g; s/{"ms":0,"kind":"stopped"[^}]*},\{0,1\}//g' body; }
+[ "$(still)" = "$nothing" ]
 verdict "nothing heard" $? "$(cat body)"
 # (its port is free for the next one once it has ended)
 kill "$watch"
@@ -181,14 +183,18 @@ universe = 7
 slot = 3
 T
 serves 127.0.0.1:"$tcp" --universe 7
-curl -sN -m 9 "$at/events" >events &
+seen=$SECONDS
+curl -sN -m 90 "$at/events" >events &
 viewer=$!
-curl -sN -m 9 "$at/events?universe=1" >events.1 &
+curl -sN -m 90 "$at/events?universe=1" >events.1 &
+other=$!
 both_begin() { [ -s events ] && [ -s events.1 ]; }
 wait_until both_begin
-printf '0 go\n2500 go\n3500 go\n' >script.txt
-timeout 30 "$sacn" desk show.toml --script script.txt </dev/null >/dev/null 2>desk.err &
+mkfifo orders
+timeout 120 "$sacn" desk show.toml <orders >/dev/null 2>desk.err &
 desk=$!
+exec {typed}>orders
+echo go >&"$typed"
 dark=$(printf '0%.0s' $(seq 1018))
 wait_until has '"levels":"0000ff'
 answers "the document of a universe" 200 "$at"/state
@@ -198,7 +204,7 @@ for part in '"universe":7,"heard":[1,7],' '"name":"\u003cb\u003e\u0022D\u00f6sk\
   '"address":"127.0.0.1","port":' '"state":"sending","priority":100,"first":' \
   '"preview":0,"terminated":0,"other":0,"skipped":0,"late":0,"repeated":0,"gap":' \
   "\"levels\":\"0000ff$dark\"" "\"winners\":\"000000000002$none\"" '"alarms":[]' '"refused":0,"pages":' '"untracked":0}}'; do
-  grep -qF -- "$part" body
+  grep -qF -- "$part" <(still)
   verdict "the document has ${part:0:60}" $? "$(head -c 600 body)"
 done
 LC_ALL=C grep -q '[^ -~]' body
@@ -207,16 +213,24 @@ verdict "the document is plain ASCII" $?
 answers "the document of another universe" 200 "$at/state?universe=1"
 grep -q '"universe":1,' body && grep -qF "\"levels\":\"$(printf '0%.0s' $(seq 1024))\"" body
 verdict "another universe is dark" $? "$(head -c 300 body)"
-wait "$desk"
+echo go >&"$typed"
+wait_for_line events '"levels":"000080'
+exec {typed}>&-
+wait_for_end "$desk"
 echo hello >/dev/udp/127.0.0.1/"$udp"
-wait "$viewer"
+wait_for_line events '"kind":"refused","text":'
+wait_for_line events '"kind":"ended","text":"universe 7: '
+# (so that what came once more would be there, too)
+sleep 2
+kill "$viewer" "$other"
+wait "$viewer" "$other" 2>/dev/null
 begin=$(sed -n 2p events)
 [ "$(head -n 1 events)" = "event: state" ] && [[ $begin == 'data: {"ms":'*'"universe":7,"heard":[],"sources":[],'* ]] && [ -z "$(sed -n 3p events)" ]
 verdict "events begin with the document" $? "$(head -n 3 events)"
 [ "$(grep -c '^event: state$' events)" = 1 ] && [ "$(grep '^event' events | sort -u | wc -l)" = 2 ]
 verdict "changes follow it" $? "$(grep '^event' events | sort | uniq -c)"
 count=$(grep -c '^event: change$' events)
-[ "$count" -ge 3 ] && [ "$count" -le 90 ]
+[ "$count" -ge 3 ] && [ "$count" -le $((10 * (SECONDS - seen + 1))) ]
 verdict "at most ten changes a second" $? "$count"
 [ "$(grep -c '"heard"' events)" -le 3 ] && [ "$(grep -c '"levels"' events)" -le 5 ] && ! grep -q '"sources":\[\]' <(tail -n +4 events)
 verdict "changes hold what changed alone" $? "$(cut -c 1-200 events | head -n 20)"
@@ -230,8 +244,14 @@ done
 grep -qF '"state":"ended"' events
 verdict "the source has ended" $?
 # (an answer is told behind the question before it, and anew after two seconds)
-for _ in $(seq 100); do curl -s -m 5 -o body "$at"/audit; grep -q "^127.0.0.1 sends what can't be read" body && break; sleep 0.1; done
-grep -q ' 0001\.\.0f at 127\.0\.0\.1: conforms$' body && grep -q "^127.0.0.1 sends what can't be read: no packets of streaming ACN (once, at " body
+finds_refused() { curl -s -m 5 -o body "$at"/audit && grep -q "^127.0.0.1 sends what can't be read" body; }
+wait_until finds_refused
+# (a desk or a watch that isn't let run for a tenth of a second breaks the times of 6.6.2, which tests/audit.sh looks at, and nothing else)
+finds_desk() {
+  awk '/ 0001\.\.0f at 127\.0\.0\.1: conforms$/ { is_well = 1 } / 0001\.\.0f at 127\.0\.0\.1:$/ { is_own = 1; next } /^[^ ]/ { is_own = 0 }
+    is_own && /^  6\.6\.2 / { is_well = 1; next } is_own && !/^  can.t be seen / { is_bad = 1 } END { exit !(is_well && !is_bad) }' body
+}
+finds_desk && grep -q "^127.0.0.1 sends what can't be read: no packets of streaming ACN (once, at " body
 verdict "an audit tells of the desk, and of what is no packet" $? "$(cat body)"
 [[ $(sed -n 2p events.1) == *'"universe":1,'* ]] && ! grep '^event: change' -A 1 events.1 | grep -qF '"levels":"'
 verdict "each viewer has its own universe" $? "$(grep -o '"levels":".\{8\}' events.1 | head -n 3)"
@@ -242,7 +262,7 @@ lines=()
 for _ in $(seq 32); do
   exec {line}<>"/dev/tcp/127.0.0.1/$tcp"
   ask "$line" /events
-  read -r -t 5 -u "$line" first
+  read -r -t 20 -u "$line" first
   [[ $first == "HTTP/1.1 200 "* ]] || break
   lines+=("$line")
 done
@@ -261,7 +281,7 @@ for _ in $(seq 60); do
 done
 count=0
 for line in "${more[@]}"; do
-  [[ $(timeout 10 cat <&"$line" 2>cat.err) == "HTTP/1.1 503 "* ]] && [ ! -s cat.err ] && count=$((count + 1))
+  [[ $(timeout 20 cat <&"$line" 2>cat.err) == "HTTP/1.1 503 "* ]] && [ ! -s cat.err ] && count=$((count + 1))
   exec {line}>&-
 done
 [ "$count" = 60 ]
@@ -278,13 +298,13 @@ for _ in $(seq 200); do
   slow+=("$line")
 done
 answers "the page beside 200 half heads" 200 -m 3 "$at"/
-[[ $(timeout 3 cat <&"${slow[0]}" 2>cat.err) == "HTTP/1.1 503 "* ]] && [ ! -s cat.err ]
+[[ $(timeout 20 cat <&"${slow[0]}" 2>cat.err) == "HTTP/1.1 503 "* ]] && [ ! -s cat.err ]
 verdict "the oldest half head is told that there is no room" $? "$(cat cat.err)"
 for line in "${slow[@]}"; do exec {line}>&-; done
 
 # A watch that was stopped says so, and loses no source by it.
 printf '0 go\n' >stay.txt
-timeout 60 "$sacn" desk show.toml --script stay.txt --stay </dev/null >/dev/null 2>desk.err &
+timeout 180 "$sacn" desk show.toml --script stay.txt --stay </dev/null >/dev/null 2>desk.err &
 desk=$!
 wait_until has '"state":"sending"' '?universe=7'
 kill -STOP "$watch"
@@ -311,7 +331,7 @@ lines=()
 is_let_in() {
   exec {line}<>"/dev/tcp/127.0.0.1/$tcp"
   ask "$line" "/events?universe=$1"
-  read -r -t 5 -u "$line" first
+  read -r -t 20 -u "$line" first
   [[ $first == "HTTP/1.1 200 "* ]] && return
   exec {line}>&-
   return 1
@@ -345,7 +365,7 @@ exec {deaf}<>"/dev/tcp/127.0.0.1/$tcp"
 ask "$deaf" /events
 curl -sN -m 16 "$at"/events >events &
 viewer=$!
-timeout 30 "$sacn" desk many.toml --script script.txt </dev/null >desk.out 2>desk.err &
+timeout 120 "$sacn" desk many.toml --script script.txt </dev/null >desk.out 2>desk.err &
 desk=$!
 # (by the middle of the fade the viewer's connection is full; then they ask for two seconds)
 sleep 6
@@ -367,7 +387,12 @@ lost=$(dropped)
 [ $(($(heard) - before + lost)) = "$sent" ] && [ $((10 * lost)) -lt "$sent" ]
 verdict "each datagram was heard beside a viewer that never reads" $? "sent $sent, before $before, $(heard), dropped by the system $lost"
 wait "$viewer"
-timeout 3 cat <&"$deaf" >deaf
+timeout 60 cat <&"$deaf" >deaf &
+reader=$!
+wait_for_line deaf '"state":"ended"'
+sleep 1
+kill "$reader"
+wait "$reader" 2>/dev/null
 count=$(grep -c '^event: change$' deaf)
 [ "$count" -ge 1 ] && [ "$count" -lt "$(grep -c '^event: change$' events)" ]
 verdict "a viewer that never reads is given fewer events" $? "$count of $(grep -c '^event: change$' events)"
@@ -397,7 +422,7 @@ timeout 20 "$sacn" gateway node.toml --page "$tcp" </dev/null >out 2>err || stat
 verdict "a gateway whose page's port is taken" $? "status $status, $(cat err)"
 answers "a gateway's page" 200 "$at"/
 answers "a gateway's document before anything came" 200 "$at"/state
-[ "$(sed 's/"ms":[0-9]*/"ms":0/' body)" = "$nothing" ]
+[ "$(still)" = "$nothing" ]
 verdict "nothing heard by a gateway" $? "$(cat body)"
 exec {deaf}<>"/dev/tcp/127.0.0.1/$tcp"
 ask "$deaf" /events
@@ -408,12 +433,12 @@ for _ in $(seq 100); do
   slow+=("$line")
 done
 printf '0 go\n' >script.txt
-timeout 30 "$sacn" desk many.toml --script script.txt --stay </dev/null >desk.out 2>desk.err &
+timeout 180 "$sacn" desk many.toml --script script.txt --stay </dev/null >desk.out 2>desk.err &
 desk=$!
 # (the fade takes twelve seconds, and a port's frame has its start code before its slots)
 full="ff$(printf '0%.0s' $(seq 1022))"
 are_full() { [ "$(grep -c " 00$full\$" gateway.out)" -ge 16 ]; }
-patience=30 wait_until are_full
+patience=90 wait_until are_full
 [ "$(grep " 00$full\$" gateway.out | cut -d ' ' -f 1 | sort -n | uniq | paste -s -d ' ')" = "$(seq -s ' ' 16)" ]
 verdict "a gateway lights its ports beside viewers that don't read" $? "$(tail -n 3 gateway.out | cut -c 1-60)"
 answers "a gateway's document of one of its universes" 200 "$at/state?universe=16"

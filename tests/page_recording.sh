@@ -120,7 +120,7 @@ ends
 
 # A recording that is cut in its last frame: what stands before is served, and the fault is told.
 head -c 1311 "$ola" >cut.pcap
-serves cut.pcap --seconds 5
+serves cut.pcap --seconds 10
 [ "$(head -n 1 page.err)" = "refused cut.pcap octet 1137 CutShort" ]
 verdict "the fault is on standard error" $? "$(cat page.err)"
 answers "the end of a faulty recording" 200 "$at/state"
@@ -265,7 +265,7 @@ for _ in $(seq 200); do
   lines+=("$line")
 done
 answers "the state beside 200 who don't ask" 200 -m 10 "$at/state"
-[[ $(timeout 5 cat <&"${lines[0]}" 2>cat.err) == "HTTP/1.1 503 "* ]]
+[[ $(timeout 20 cat <&"${lines[0]}" 2>cat.err) == "HTTP/1.1 503 "* ]]
 verdict "the one that waited longest is told" $? "$(cat cat.err)"
 for line in "${lines[@]}"; do exec {line}>&-; done
 is_answered() { [ "$(curl -s -m 10 -o body -w '%{http_code}' "$at/state?at=0")" = 200 ]; }

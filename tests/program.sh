@@ -113,10 +113,12 @@ small /dev/null node "$room/node.toml" --turns 1
 small /dev/null gateway "$room/node.toml" --seconds 1
 small /dev/null desk "$room/show.toml" --script "$examples/script.txt"
 small /dev/null watch --port "$port" --seconds 1
-# A browser asks once, as soon as it is answered.
+# A browser asks once, as soon as it is answered; it is waited for, since it may be at work still when the watch has ended.
 reaches_page() { { exec 3<>"/dev/tcp/127.0.0.1/$page"; } 2>/dev/null; }
 (wait_until reaches_page && printf 'GET /state HTTP/1.1\r\nHost: 127.0.0.1:%s\r\n\r\n' "$page" >&3 && head -c 15 <&3 >"$room/asked") &
-small /dev/null watch --port "$port" --seconds 2 --page "$page"
+browser=$!
+small /dev/null watch --port "$port" --seconds 5 --page "$page"
+wait "$browser"
 [ "$(cat "$room/asked")" = "HTTP/1.1 200 OK" ]
 verdict "a small stack: a page is answered" $? "$(cat "$room/asked")"
 small /dev/null explain "$examples/ola.pcap"

@@ -42,7 +42,7 @@ is_ended() { ! kill -0 "$recorder" 2>/dev/null; }
 ends() {
   exec 4>&-
   status=0
-  wait "$recorder" || status=$?
+  wait_for_end "$recorder" || status=$?
 }
 # waits_for N FILE: until a file has so many octets
 waits_for() { wait_until is_of "$@"; }
@@ -79,7 +79,6 @@ refused "an address of another machine" 4 "device socket 192.0.2.1:$port AddrNot
 verdict "that begins no file" $?
 
 # Two rings of a minute, which turn while the rest is looked at; the file of one is moved away before.
-minutes=$SECONDS
 mkfifo turning
 for it in ring away; do
   free_udp_port >"$it.port"
@@ -91,6 +90,8 @@ for it in ring away; do
   python3 sender.py "$(<"$it.port")" one >sent
   waits_for 808 "$it.pcapng"
 done
+# (both have begun by now)
+minutes=$SECONDS
 mv away.pcapng kept.pcapng
 
 before=$(date +%s.%N)
@@ -210,13 +211,15 @@ P
   waits_for 880 ended.pcapng
   kill -$signal "$launcher"
   status=0
-  wait "$launcher" || status=$?
+  wait_for_end "$launcher" || status=$?
   [ "$status" = 0 ] && grep -qxE 'recorded 2 datagrams, 880 octets, in [0-9]+\.[0-9]{3} s' err && [ "$(stat -c %s ended.pcapng)" = 880 ]
   verdict "$signal under the launcher ends it well" $? "status $status, $(paste -s -d ' ' err)"
 done
 
 rm -f night-older.pcapng
 begins night.pcapng --ring 5
+# (it tells them behind the line that it hears)
+wait_for_line err '^keeps '
 [ "$(sed -n 2p err)" = "keeps the last 5 minutes in night.pcapng, and up to 5 before these in night-older.pcapng" ]
 verdict "a ring tells its two files" $? "$(sed -n 2p err)"
 python3 sender.py "$port" one >sent

@@ -65,11 +65,12 @@ alike() { # NAME INPUT WORD..
 }
 every_command_is_alike() {
   local count=0 it
+  # (a console of more turns sends what has become due by its clock; in three it sends what is due at once)
   cd "$top/examples" || return 1
   alike "a datagram" desk.hex && alike "no datagram" /dev/null || return 1
   for it in "decode levels.sacn universes.sacn" "sim world.toml schedule.txt" "explain ola.pcap" "explain ola.pcap --each" "explain qlcplus.pcap --json" "explain ola.pcap --setup node.toml" "explain qlcplus.pcap --setup node.toml --json" \
     "explain show.toml" "check show.toml node.toml world.toml script.txt schedule.txt" "check desk.hex" "groups node.toml --device eth0" "groups show.toml --device eth0" "manual" "completion bash" "completion zsh" \
-    "completion fish" "--help" "gateway --help" "decode nothere" "jump" "console show.toml script.txt --turns 50" "node show.toml --turns 1"; do
+    "completion fish" "--help" "gateway --help" "decode nothere" "jump" "console show.toml script.txt --turns 3" "node show.toml --turns 1"; do
     # shellcheck disable=SC2086
     alike "$it" /dev/null $it || return 1
     count=$((count + 1))
@@ -98,7 +99,7 @@ arm_serves() {
   wait_for_line "$room/said" '^page' || return 1
   exec 3<>"/dev/tcp/127.0.0.1/$page"
   printf 'GET / HTTP/1.1\r\nHost: 127.0.0.1:%s\r\nConnection: close\r\n\r\n' "$page" >&3
-  timeout 5 head -c 4000 <&3 >"$room/page"
+  timeout 20 head -c 4000 <&3 >"$room/page"
   exec 3>&-
   grep -q '^HTTP/1.1 200' "$room/page"
 }
@@ -146,6 +147,8 @@ fi
 seconds_until() { # FILE COMMAND..: how long until its first line, which is a frame
   local file=$1 start end
   shift
+  # (before the start, so that what an earlier one wrote isn't taken for this one's)
+  : >"$file"
   start=$(date +%s%N)
   # (the input of what is started ends with this script)
   PATH=$PATH_WITHOUT_KIT setsid "$@" >"$file" 2>"$room/said" </dev/null &
@@ -287,6 +290,8 @@ else
   wait "${running[-1]}" 2>/dev/null
   unset 'running[-1]'
 
+  : >"$room/told"
+  : >"$room/said"
   ip netns exec "$near" setpriv --reuid 65534 --regid 65534 --clear-groups bash "$room/run" watch --join eth0 --plain --each --seconds 60 >"$room/told" 2>"$room/said" </dev/null &
   running+=($!)
   wait_for_line "$room/said" '^hears' || fails "a watch that joins" "$(head -n 1 "$room/said")"
@@ -325,6 +330,8 @@ P
   if [ "$(joined)" = 0 ]; then ok "the groups are left at its end"; else fails "the groups at its end" "$(joined) are still joined"; fi
   # A device that doesn't say that it takes multicast; and a group that the machine refuses for a while.
   ip -n "$near" link set eth0 multicast off
+  : >"$room/told"
+  : >"$room/said"
   ip netns exec "$near" bash "$room/run" watch --join eth0 --plain --each --seconds 60 >"$room/told" 2>"$room/said" </dev/null &
   running+=($!)
   wait_for_line "$room/said" '^hears' || fails "a watch on a device without multicast" "$(head -n 1 "$room/said")"

@@ -53,7 +53,7 @@ a_desk_lights_a_gateway() {
   setup "$udp" 1 >"$work/node.toml"
   show "$udp" 1 >"$work/show.toml"
   : >"$work/lines"
-  "$sacn" gateway "$work/node.toml" --seconds 6 >"$work/lines" 2>"$work/said" &
+  "$sacn" gateway "$work/node.toml" --seconds 10 >"$work/lines" 2>"$work/said" &
   local pid=$!
   ready "$work/lines"
   : >"$work/answers"
@@ -106,7 +106,7 @@ bursts_lose_nothing() {
 import socket, subprocess, sys, time
 import e131
 port = int(sys.argv[4])
-run = subprocess.Popen([sys.argv[1], "gateway", sys.argv[2], "--seconds", "4"], stdout=open(sys.argv[3], "w"), stderr=subprocess.PIPE)
+run = subprocess.Popen([sys.argv[1], "gateway", sys.argv[2], "--seconds", "8"], stdout=open(sys.argv[3], "w"), stderr=subprocess.PIPE)
 run.stderr.readline()
 if b"receive buffer" in run.stderr.readline():
     open(sys.argv[3] + ".small", "w").close()
@@ -136,7 +136,7 @@ a_stop_drops_the_backlog() {
   setup "$udp" 1 >"$work/node.toml"
   show "$udp" 1 >"$work/show.toml"
   : >"$work/lines"
-  "$sacn" gateway "$work/node.toml" --seconds 9 >"$work/lines" 2>"$work/said" &
+  "$sacn" gateway "$work/node.toml" --seconds 12 >"$work/lines" 2>"$work/said" &
   local pid=$!
   ready "$work/lines"
   # (the desk sends on for two seconds, in which the gateway is stopped, which it is for three more)
@@ -156,7 +156,7 @@ a_lost_source_goes_dark() {
   setup "$udp" 1 >"$work/node.toml"
   python3 - "$sacn" "$work/node.toml" "$top/examples/levels.sacn" "$udp" <<'P'
 import socket, subprocess, sys, time
-run = subprocess.Popen([sys.argv[1], "gateway", sys.argv[2], "--seconds", "5"], stdout=subprocess.PIPE, stderr=subprocess.PIPE, text=True)
+run = subprocess.Popen([sys.argv[1], "gateway", sys.argv[2], "--seconds", "8"], stdout=subprocess.PIPE, stderr=subprocess.PIPE, text=True)
 # (Its first line, of the first turn, comes before anything is sent.)
 is_dark = run.stdout.readline().split()[2].strip("0") == ""
 out = socket.socket(socket.AF_INET, socket.SOCK_DGRAM)
@@ -197,7 +197,7 @@ def frames(data):
     assert all(f[:4] == b"\x7e\x06\x01\x02" and f[-1] == 0xe7 for f in found), data[:20]
     return [f[5] for f in found]
 master, slave = terminal()
-run = subprocess.Popen([sacn, "gateway", work + "/node.toml", "--widget", "1=" + link, "--seconds", "9"], stdout=subprocess.PIPE, stderr=subprocess.PIPE, text=True)
+run = subprocess.Popen([sacn, "gateway", work + "/node.toml", "--widget", "1=" + link, "--seconds", "12"], stdout=subprocess.PIPE, stderr=subprocess.PIPE, text=True)
 run.stderr.readline()
 dark = frames(read(master, lambda data: len(data) >= 3 * 518))
 assert len(dark) >= 3 and set(dark) == {0}, dark
@@ -251,7 +251,7 @@ for is_raw in (True, False):
         while True: written += os.write(full, b"x" * 64)
     except BlockingIOError: pass
     before = os.read(stuck, 300)
-    words = ["--widget", "1=" + os.ttyname(full), "--widget", "2=" + os.ttyname(beside), "--seconds", "12"]
+    words = ["--widget", "1=" + os.ttyname(full), "--widget", "2=" + os.ttyname(beside), "--seconds", "15"]
     run = subprocess.Popen([sacn, "gateway", work + "/node.toml"] + words, stdout=subprocess.DEVNULL, stderr=subprocess.PIPE, text=True)
     run.stderr.readline()
     dark = frames(read(works, lambda data: len(data) >= 3 * 518))
@@ -282,7 +282,7 @@ work = sys.argv[2]
 def packet(number, level, ends=False):
     return e131.data(1, number, bytes([level]) + bytes(511), name=b"unread", options=e131.TERMINATED if ends else 0)
 open(work + "/device", "w").close()
-run = subprocess.Popen([sys.argv[1], "gateway", work + "/node.toml", "--widget", "1=" + work + "/device", "--seconds", "12"],
+run = subprocess.Popen([sys.argv[1], "gateway", work + "/node.toml", "--widget", "1=" + work + "/device", "--seconds", "16"],
                        stdout=subprocess.PIPE, stderr=subprocess.PIPE)
 run.stderr.readline()
 out = socket.socket(socket.AF_INET, socket.SOCK_DGRAM)
@@ -334,7 +334,7 @@ import e131
 work = sys.argv[2]
 def packet(cid, number, universe): return e131.data(universe, number, b"\x09", cid, b"months")
 steady, last = bytes([0xee] * 16), bytes([0xdd] * 16)
-run = subprocess.Popen([sys.argv[1], "gateway", work + "/node.toml", "--seconds", "90"], stdout=subprocess.DEVNULL, stderr=open(work + "/months", "w"))
+run = subprocess.Popen([sys.argv[1], "gateway", work + "/node.toml", "--seconds", "600"], stdout=subprocess.DEVNULL, stderr=open(work + "/months", "w"))
 out = socket.socket(socket.AF_INET, socket.SOCK_DGRAM)
 def send(octets): out.sendto(octets, ("127.0.0.1", int(sys.argv[3])))
 def told(pattern): return len(re.findall(pattern, open(work + "/months").read(), re.M))
@@ -445,19 +445,19 @@ silence_is_said() {
   heard=$(free_udp_port)
   watched=$(free_udp_port)
   setup "$port" 1 >"$work/node.toml"
-  "$sacn" gateway "$work/node.toml" --seconds 7 >/dev/null 2>"$work/silent" &
+  "$sacn" gateway "$work/node.toml" --seconds 10 >/dev/null 2>"$work/silent" &
   local silent=$!
-  "$sacn" watch --port "$watched" --plain --seconds 7 </dev/zero >/dev/null 2>"$work/watch" &
+  "$sacn" watch --port "$watched" --plain --seconds 10 </dev/zero >/dev/null 2>"$work/watch" &
   local watch=$!
   setup "$udp" 1 >"$work/joined.toml"
-  SACN_JOINED="eth0 joined a group" "$sacn" gateway "$work/joined.toml" --seconds 7 >/dev/null 2>"$work/joined" &
+  SACN_JOINED="eth0 joined a group" "$sacn" gateway "$work/joined.toml" --seconds 10 >/dev/null 2>"$work/joined" &
   local joined=$!
   setup "$heard" 1 >"$work/lit.toml"
   : >"$work/lines"
-  "$sacn" gateway "$work/lit.toml" --seconds 7 >"$work/lines" 2>"$work/said" &
+  "$sacn" gateway "$work/lit.toml" --seconds 10 >"$work/lines" 2>"$work/said" &
   local lit=$!
   ready "$work/lines"
-  python3 -c 'import socket, sys; socket.socket(socket.AF_INET, socket.SOCK_DGRAM).sendto(open(sys.argv[1], "rb").read(), ("127.0.0.1", int(sys.argv[2])))' "$top/examples/levels.sacn" "$heard"
+  cat "$top/examples/levels.sacn" >"/dev/udp/127.0.0.1/$heard"
   wait "$silent" "$watch" "$joined" "$lit"
   grep -qx "nothing heard for 5 s at 0\.0\.0\.0:$udp; eth0 joined a group; is the console on this network, or does it send by unicast to another host?" "$work/joined" || return 1
   [ "$(grep -c "^nothing heard for 5 s at 0\.0\.0\.0:$port; .*--join DEVICE\$" "$work/silent")" = 1 ] &&
@@ -524,7 +524,7 @@ a_small_stack_is_enough() {
     "$sacn" gateway "$work/nested.toml" 2>"$work/said"
     [ $? -eq 3 ] || exit 1
     : >"$work/lines"
-    "$sacn" gateway "$work/node.toml" --seconds 4 >"$work/lines" 2>"$work/said" &
+    "$sacn" gateway "$work/node.toml" --seconds 10 >"$work/lines" 2>"$work/said" &
     ready "$work/lines"
     (echo go; lit) | "$sacn" desk "$work/show.toml" >"$work/answers" || exit 1
     wait $! || exit 1
@@ -551,7 +551,7 @@ multicast_between_namespaces() {
     ip -n "$a" route add 239.255.0.0/16 dev va &&
     "$sacn" groups "$work/node.toml" --device vb | while read -r line; do ip -n "$b" ${line#ip }; done && {
     : >"$work/lines"
-    ip netns exec "$b" "$sacn" gateway "$work/node.toml" --seconds 6 >"$work/lines" 2>"$work/said" &
+    ip netns exec "$b" "$sacn" gateway "$work/node.toml" --seconds 10 >"$work/lines" 2>"$work/said" &
     local pid=$!
     ready "$work/lines"
     # (a desk goes on for a while)
@@ -568,10 +568,10 @@ multicast_between_namespaces() {
 a_host_that_refuses_stops_no_other() {
   setup "$udp" 1 >"$work/node.toml"
   show "$udp" 1 >"$work/show.toml"
-  : >"$work/said"
-  "$sacn" gateway "$work/node.toml" --seconds 6 >"$work/lines" 2>"$work/said" &
+  : >"$work/lines"
+  "$sacn" gateway "$work/node.toml" --seconds 10 >"$work/lines" 2>"$work/said" &
   local pid=$!
-  ready "$work/said"
+  ready "$work/lines"
   # (it goes on for a while)
   (echo go; lit; sleep 0.2) | "$sacn" desk "$work/show.toml" --to "255.255.255.255:$udp" --to "127.0.0.1:$udp" >"$work/answers" 2>"$work/desk" || return 1
   wait "$pid" || return 1

@@ -30,7 +30,7 @@ def hears():
 
 
 def wait(is_there, what):
-    end = time.time() + 15
+    end = time.time() + 30
     while not is_there():
         if time.time() > end:
             sys.exit(f"no {what}")
@@ -57,13 +57,13 @@ def stuck():
     """The terminal takes nothing for a while: the light goes on, and then it has the newest levels."""
     widget, slave = pty.openpty()
     tty.setraw(slave)
-    pid, terminal = begin("--widget", "1=" + os.ttyname(slave), "--seconds", "12")
+    pid, terminal = begin("--widget", "1=" + os.ttyname(slave), "--seconds", "90")
     out = socket.socket(socket.AF_INET, socket.SOCK_DGRAM)
     number, shown, lit = 0, b"", b""
 
     def send_until(level, is_there, what):
         nonlocal number, shown, lit
-        end = time.time() + 5
+        end = time.time() + 20
         while not is_there():
             if time.time() > end:
                 sys.exit(f"no {what}")
@@ -79,7 +79,7 @@ def stuck():
 
     send_until(1, lambda: b"A01" in shown and is_lit(1), "screen")
     os.write(terminal, b"\x13")
-    time.sleep(0.3)
+    time.sleep(1)
     shown += octets_of(terminal)
     before = len(shown)
     # (forty drawings' worth of new levels and counts)
@@ -97,7 +97,7 @@ def stuck():
 
 def given_back():
     """The terminal takes nothing while the gateway ends: it is given back, and told what is lost."""
-    pid, terminal = begin("--seconds", "6")
+    pid, terminal = begin("--seconds", "12")
     shown = b""
 
     def look(seconds=0.05):
@@ -118,17 +118,17 @@ def given_back():
         out.sendto(data(place, 0, 1 + place % 900, b"\1"), ("127.0.0.1", PORT))
         if place % 25 == 24:
             look(0.01)
-    end = time.time() + 3
+    end = time.time() + 9
     while b"sources on universes 1000 " not in shown:
         if time.time() > end:
             sys.exit("not all sources are there")
         look()
     os.write(terminal, b"\x13")
-    time.sleep(0.1)
-    look(0)
+    # (until it has taken nothing for a while)
+    look(1)
     wait(lambda: not hears(), "end")
     before = len(shown)
-    time.sleep(0.7)
+    time.sleep(0.5)
     look(0)
     if len(shown) > before:
         sys.exit("the terminal isn't stuck")

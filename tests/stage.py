@@ -214,11 +214,11 @@ class Console:
             # (the pause keeps two changes from being one)
             time.sleep(0.06)
             self.send(level)
-            delays.append(is_shown(level, 1.5))
+            delays.append(is_shown(level, 4))
             if delays[-1] is None:
                 break
         late = None in delays
-        want(not late and max(delays) < 1, f"{name}: {len(delays)} changes, " + ("one isn't shown in 1.5 s" if late else f"the latest after {max(delays):.3f} s"))
+        want(not late and max(delays) < 1, f"{name}: {len(delays)} changes, " + ("one isn't shown in 4 s" if late else f"the latest after {max(delays):.3f} s"))
 
 
 class Interface(threading.Thread):
@@ -290,7 +290,7 @@ def second_space():
         finish(77)
     other = start(["unshare", "-n", "sleep", "1000"])
     mine = os.readlink("/proc/self/ns/net")
-    for _ in range(100):
+    for _ in range(400):
         if os.readlink(f"/proc/{other.pid}/ns/net") != mine:
             break
         time.sleep(0.05)

@@ -131,6 +131,17 @@ def hears(port):
         time.sleep(0.05)
 
 
+def takes(ports):
+    """Waits until no datagram waits at any of these UDP ports: what was sent there is read."""
+    limit, wanted = time.monotonic() + 20, tuple(f":{port:04X}" for port in ports)
+    while time.monotonic() < limit:
+        with open("/proc/net/udp", encoding="utf-8") as table:
+            rows = [line.split() for line in table]
+        if not any(row[1].endswith(wanted) and int(row[4].partition(":")[2], 16) for row in rows[1:]):
+            return
+        time.sleep(0.01)
+
+
 def state(port, universe, at=None):
     query = f"universe={universe}" + ("" if at is None else f"&at={at}")
     with urllib.request.urlopen(f"http://127.0.0.1:{port}/state?{query}", timeout=20) as answer:
@@ -244,6 +255,8 @@ def hear(sent):
             latest = max(latest, time.monotonic() - begin - moment / 1000)
             for port in (LINES, LIVE, GATEWAY):
                 sender.sendto(octets, ("127.0.0.1", port))
+        # (a page is answered in the turn in which it asks, behind what was read by then)
+        takes((LINES, LIVE, GATEWAY))
         live, lit = ({universe: state(port, universe) for universe in LIT[END]} for port in (LIVE_PAGE, GATEWAY_PAGE))
         runs[0].stdin.close()
         runs[0].wait(20)
