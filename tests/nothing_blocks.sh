@@ -51,6 +51,12 @@ for group in "${looks[@]}"; do
   done
   wait
   for name in $group; do
+    # (what fails beside others is tried once more alone, and then a third time: it needs processors that nothing else keeps for long)
+    for _ in 2 3; do
+      case $(<"$room/$name.status") in 0 | 77) break ;; esac
+      sed "s/^/# $name, tried again:/" "$room/$name" >&2
+      look "$name"
+    done
     sed "s/^/# $name:/" "$room/$name" >&2
     status=$(<"$room/$name.status")
     if [ "$status" = 77 ]; then skips "$name" "no network namespaces can be made here"; else verdict "$name" "$status"; fi

@@ -412,10 +412,10 @@ assert [line[13:] for line in lines] == wanted, lines
 def millis(line):
     hours, minutes, seconds = line[:12].split(":")
     return (int(hours) * 60 + int(minutes)) * 60000 + round(float(seconds) * 1000)
-# (the frame is written in the turn of the packet that came first, and the line a second later)
+# (the frame is written in the turn of the packet that came first, and the line a second later; a machine that is busy may take its time over a turn)
 lit = next(line for line in open(work + "/lines") if line.split()[3][2:4] == "ff")
 day = 86400000
-assert abs((millis(lines[0]) - millis(lit) + day // 2) % day - day // 2) <= 500, (lines[0], lit[:40])
+assert abs((millis(lines[0]) - millis(lit) + day // 2) % day - day // 2) <= 900, (lines[0], lit[:40])
 # one that comes, ends and comes within a second: each is told, in its order
 run = begin(30)
 for number, ends in enumerate((False, True, False)):

@@ -96,7 +96,10 @@ class Heard(threading.Thread):
 
     def gap(self, universes, begin, end):
         """The greatest time without a packet on one of the universes, between two moments."""
-        greatest = 0
+        # (what came by then is taken once something that came later is)
+        limit, greatest = time.time() + 1, 0
+        while time.time() < limit and not any(came[-1][0] > end for came in list(self.came.values())):
+            time.sleep(0.01)
         for universe in universes:
             moments = [begin] + [moment for moment, _ in self.came.get(universe, []) if begin < moment < end] + [end]
             greatest = max(greatest, max(b - a for a, b in zip(moments, moments[1:])))

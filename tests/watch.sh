@@ -164,13 +164,14 @@ verdict "a stop is told" $? "status $status, for ${longest:-nothing}"
 grep -q '"event":"appeared"' out && ! grep -qE '"event":"(lost|came_back)"' out
 verdict "no source is lost by a stop" $? "$(grep -E '"event":"(lost|came_back)"' out | head -n 2)"
 stopped gone --json killed
-# (a machine that is busy may let it stand for a second now and then: the stop is the one of four seconds or more)
+# (a machine that is busy may let it stand for a second now and then: the stop is the one of four seconds or more; and a packet that came between the stop and the desk's end
+# is taken when the watch goes on, a moment behind the stop)
 read -r at order < <(awk '
   match($0, /^{"ms":[0-9]+/) { ms = substr($0, 7, RLENGTH - 6) }
   /"event":"stopped","for":([4-9]|[1-9][0-9])[0-9][0-9][0-9]}/ { if (!stop) { stop = ms; first = NR } }
   /"event":"lost","universe":1,/ { if (!lost) { lost = ms; last = NR } }
   END { print (stop && lost) ? lost - stop : "none", (first < last) ? "after" : "before" }' out)
-[ "$status" = 0 ] && [ "$order" = after ] && [ "$at" != none ] && [ "$at" -ge 1000 ] && [ "$at" -le 2500 ]
+[ "$status" = 0 ] && [ "$order" = after ] && [ "$at" != none ] && [ "$at" -ge 1000 ] && [ "$at" -le 2600 ]
 verdict "a source that goes meanwhile is lost after 2500 ms of running time" $? "status $status, ${order:-} the stop, $at ms"
 stopped go --plain ""
 grep -qE '^ *[0-9]+\.[0-9]{3} s  not heard for ([4-9]|[1-9][0-9])\.[0-9]{3} s: this program was stopped$' out
