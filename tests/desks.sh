@@ -5,4 +5,5 @@ set -u
 # shellcheck source=tests/lib.sh
 . "$(dirname "$(readlink -f "$0")")/lib.sh"
 need python3
-python3 "$top/tests/desks.py" "$sacn"
+# (what waits for an answer that never comes ends as a failure)
+timeout -k 5 900 python3 "$top/tests/desks.py" "$sacn"

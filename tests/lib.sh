@@ -14,7 +14,7 @@
 #   passed, failed                           how many of both were well, and how many not
 #   need WORD..                              ends the script as skipped where one of these commands isn't there; `sacn` is the program
 #   wait_until COMMAND [WORD..]              runs this until it ends well, for `patience` seconds or 40; whether it did
-#   wait_for_line FILE PATTERN [SECONDS]     the same, until the file has such a line (of grep -E)
+#   wait_for_line FILE PATTERN [SECONDS]     the same, until the file has such a line (of grep -E) as a whole
 #   wait_for_end PID                         waits for a process of this shell's, which is killed outright where it goes on for a minute; its status
 #   is_taken PORT                            whether no datagram waits at a UDP port: what was sent there is read (of this machine's network, or this namespace's)
 #   free_udp_port, free_tcp_port             prints a port that nothing has, another one each time
@@ -77,7 +77,9 @@ wait_until() {
   done
 }
 
-wait_for_line() { patience=${3:-40} wait_until grep -qsE -- "$2" "$1"; }
+# (the program writes what it says at its start in pieces: a line without its end may not be all of it)
+has_whole_line() { grep -qsE -- "$2" "$1" && { [ -z "$(tail -c 1 "$1")" ] || sed '$d' "$1" | grep -qE -- "$2"; }; }
+wait_for_line() { patience=${3:-40} wait_until has_whole_line "$1" "$2"; }
 
 is_gone() { ! kill -0 "$1" 2>/dev/null; }
 wait_for_end() {

@@ -37,7 +37,7 @@ begins() {
   exec 4>held
   wait_until begun_or_ended
 }
-begun_or_ended() { grep -q '^hears' err || is_ended; }
+begun_or_ended() { has_whole_line err '^hears' || is_ended; }
 is_ended() { ! kill -0 "$recorder" 2>/dev/null; }
 ends() {
   exec 4>&-

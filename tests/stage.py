@@ -148,11 +148,12 @@ class Lines(threading.Thread):
 
 
 def said(name, pattern, seconds=20):
-    """Waits until a file has such a text; whether it came."""
+    """Waits until a file has such a text in its whole lines; whether it came."""
     limit = time.time() + seconds
     while time.time() < limit:
         with open(f"{ROOM}/{name}", encoding="utf-8", errors="replace") as text:
-            if re.search(pattern, text.read()):
+            # (the program writes what it says at its start in pieces)
+            if re.search(pattern, text.read().rpartition("\n")[0], re.M):
                 return True
         time.sleep(0.05)
     return False
