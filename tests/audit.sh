@@ -396,14 +396,7 @@ hears_live
 desk=$!
 exec 3>orders
 # (how long this machine let a process wait that only sleeps: a desk that isn't let run can't keep its second)
-python3 -c 'import sys, time
-most = 0
-while True:
-    before = time.monotonic()
-    time.sleep(0.05)
-    most = max(most, time.monotonic() - before - 0.05)
-    open("stood.new", "w").write("%d" % (1000 * most))
-    __import__("os").replace("stood.new", "stood")' 3>&- 4>&- &
+python3 "$top/tests/pulse.py" stood 3>&- 4>&- &
 pulse=$!
 # Levels that rest, an end and a beginning, and the lists of 25 s, for as long as the rules want to be seen.
 echo "1 at full" >&3

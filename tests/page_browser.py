@@ -102,6 +102,7 @@ def crowded():
             watch.kill()
             watch.wait()
             return
+    start(sys.executable, f"{os.path.dirname(os.path.realpath(__file__))}/pulse.py", f"{ROOM}/stood")
     seen, opened = [[] for _ in range(31)], time.monotonic()
     viewers = [viewing() for _ in range(32)]
     for viewer, counts in zip(viewers, seen):
@@ -118,16 +119,20 @@ def crowded():
     while told + dropped() != sent and time.monotonic() < limit:
         time.sleep(0.05)
         told = document()["counts"]["datagrams"]
-    # (on a machine that is busy the watch gets no processor for a burst or two, for which its socket has no room)
+    # (a machine that is busy may keep the watch from its processors for longer than its socket has room)
     lost = dropped()
-    verdict("32 viewers, of which one never reads, cost no datagram", told + lost == sent and 10 * lost < sent, f"{told} of {sent} in {took:.1f} s, dropped by the machine {lost}")
+    with open(f"{ROOM}/stood", encoding="utf-8") as it:
+        stood = int(it.read())
+    is_well = told + lost == sent and (lost == 0 or stood > 20 and 10 * lost < sent)
+    verdict("32 viewers, of which one never reads, cost no datagram", is_well, f"{told} of {sent} in {took:.1f} s, dropped {lost}; the machine stood still for {stood} ms")
     most = 12 * (time.monotonic() - opened)
     slow = [sum(counts) for counts in seen if not 60 <= sum(counts) <= most]
     verdict("each that reads has some ten events a second", not slow, f"{slow}")
     for viewer in viewers:
         viewer.close()
-    watch.kill()
-    watch.wait()
+    for process in (watch, started[-1]):
+        process.kill()
+        process.wait()
 
 
 def answered():
