@@ -39,10 +39,10 @@ ends "a clock for objects, which have their time" 2 "error: --json: beside --clo
 ends "a clock for a page" 2 "error: --page: beside --clock" --page 8080 --clock
 ends "each thing for objects, which tell it" 2 "error: --json: beside --each" --json --each
 ends "each thing for a page" 2 "error: --page: beside --each" --page 8080 --each
-# (Input that ends while it runs ends it; one that had ended before doesn't. It looks for that once it has said that it hears: the second is for that look.)
+# (Input that ends while it runs ends it; one that had ended before doesn't, for which it looks before it says that it hears.)
 status=0
 : >err
-{ wait_for_line err '^hears' 30; sleep 1; } | timeout 60 "$sacn" watch --port "$quiet" >out 2>err || status=$?
+wait_for_line err '^hears' 30 | timeout 60 "$sacn" watch --port "$quiet" >out 2>err || status=$?
 [ "$status" = 0 ] && grep -q '^datagrams to the port          0$' out
 verdict "the end of standard input" $? "status $status"
 
@@ -186,8 +186,6 @@ for _ in $(seq 8); do
   bash launcher </dev/null >/dev/null 2>err &
   watch=$!
   wait_for_line err '^hears' 30
-  # (an input that has ended before it looks for that ends nothing, which it does once it has said that it hears)
-  sleep 0.5
   kill -TERM "$watch"
   kill -CONT "$watch" 2>/dev/null
   if ! wait_until has_ended; then left=$((left + 1)); kill -KILL "$watch"; fi
