@@ -1,5 +1,6 @@
 """Looks of nothing_blocks.py at a desk beside hosts that are off: what it says of them, and what hosts that are on get meanwhile."""
 import re
+import socket
 import subprocess
 import time
 
@@ -90,6 +91,21 @@ class Rig:
         time.sleep(seconds)
         return (datagrams_at(self.other) - before) / (time.monotonic() - begin) / self.universes
 
+    def share(self, host):
+        """Which part of the packets at hosts that are on comes to this one, of four thousand."""
+        wanted, counts, limit = socket.inet_aton(host), [0, 0], time.monotonic() + 20
+        with tap(self.other, "vb") as sock:
+            sock.settimeout(1)
+            while sum(counts) < 4000 and time.monotonic() < limit:
+                try:
+                    octets = sock.recv(64)
+                except TimeoutError:
+                    continue
+                # (behind 14 octets of Ethernet: UDP, and the address that it goes to)
+                if octets[23] == socket.IPPROTO_UDP:
+                    counts[octets[30:34] == wanted] += 1
+        return counts[1] / max(1, sum(counts))
+
     def switch(self, host, is_on):
         subprocess.run([*self.inside, "ip", "address", "add" if is_on else "del", f"{host}/24", "dev", "vb"], check=True)
 
@@ -120,9 +136,9 @@ def most_hosts_are_off(universes):
     rig.switch(rig.hosts[5], True)
     took = rig.said.until(lambda line: line == f"{rig.hosts[5]} answers now\n", 20)
     want(took is not None and took < 8, f"a host that is switched on is told after {took} s (under 8)")
-    # (in one of three tries, since a busy machine may have less for this time than for that before)
-    both = next((it for it in (rig.rate(4) for _ in range(2)) if it > 1.3 * rate), None) or rig.rate(4)
-    want(both > 1.3 * rate, f"{both:.1f} packets a second at both (over {1.3 * rate:.1f})")
+    # (how many there are in all a busy machine limits, but not which part of them comes to whom)
+    both, share = rig.rate(4), rig.share(rig.hosts[5])
+    want(both > least and 0.3 < share < 0.7, f"{both:.1f} packets a second at both (over {least}), of which that one has {100 * share:.0f} % (30 to 70)")
     rig.wants_lines(2)
     return rig
 
