@@ -219,7 +219,8 @@ def a_flood():
     lines = Lines(os.fdopen(run.stdout.fileno(), encoding="utf-8", closefd=False))
     desk = Desk([SACN, "desk", show(1)], stderr=subprocess.DEVNULL, text=True)
     desk.order("go\n", "^ok")
-    floods = [start([sys.executable, __file__, "flooding"]) for _ in range(5)]
+    # (they leave the processors to the gateway and the desk, as a flood from other machines does)
+    floods = [start(["nice", "-n", "5", sys.executable, __file__, "flooding"]) for _ in range(5)]
     # (longer than anything may wait)
     time.sleep(3)
     delays = []
@@ -234,8 +235,7 @@ def a_flood():
     for flood in floods:
         flood.kill()
     late = None in delays
-    # (five floods at full speed take all processors, so the gateway may get none for a while)
-    want(not late and max(delays) < 2, f"{len(delays)} changes, " + ("one isn't shown in 4 s" if late else f"the latest shown after {max(delays):.2f} s (under 2)"))
+    want(not late and max(delays) < 1, f"{len(delays)} changes, " + ("one isn't shown in 4 s" if late else f"the latest shown after {max(delays):.2f} s (under 1)"))
     tell("   it says:", sorted(set(re.findall("^(?:refused|discarded|dropped) [A-Za-z]+", text_of("said"), re.M))))
 
 
