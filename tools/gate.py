@@ -118,18 +118,44 @@ class TogetherAtOnce:
 SHARE_OF_NEED = 0.6
 
 
-# A check keeps to its end the jobs that it begins with, which are few where much else is under way. So crates on which nearly the longest chain of lines hangs, such as the one for recordings,
-# were each alone for minutes in the end: these get as many jobs as half of the processors, from their beginning on.
+# The processor seconds that the proof of a crate takes, and that of its tests: a file that is written anew now and then from what the gate says at its end.
+SECONDS = "bench/crates.txt"
+# A crate that it lacks is taken for so many seconds a line.
+SECONDS_A_LINE = 0.15
+
+# A check keeps to its end the jobs that it begins with, which are few where much else is under way. So crates on which nearly the longest chain hangs were each alone for minutes in
+# the end: these get as many jobs as half of the processors, from their beginning on.
 NEARLY = 0.8
 
 
+def seconds_of():
+    """What SECONDS says, by crate: of its proof and of its tests."""
+    known = {}
+    with open(SECONDS, encoding="utf-8") as rows:
+        for row in rows:
+            name, *numbers = row.partition("#")[0].split()[:3] or [""]
+            if name:
+                known[name] = [*map(int, numbers), 0][:2]
+    return known
+
+
 def hurry(rt):
-    """Has the crates of the longest chains checked by more than one job."""
-    crates_of, ci, hurried = rt.crates_of, rt.Crate.ci, set()
+    """Has the kit begin first what the longest chain of work waits for, by measured seconds in place of lines, and the crates of the longest chains checked by more than one job."""
+    crates_of, ci, in_lanes, hurried, known = rt.crates_of, rt.Crate.ci, rt.in_lanes, set(), seconds_of()
+
+    def work_of(crate, lines, place=0):
+        return known[crate][place] if crate in known else lines * SECONDS_A_LINE
+
+    def by_seconds(tasks):
+        places = {"proof": 0, "tests": 1}
+        return in_lanes({
+            key: (waits, work_of(key[0], lines, places[key[1]]) if len(key) == 2 and key[1] in places and lines else lines * SECONDS_A_LINE, needs, call)
+            for key, (waits, lines, needs, call) in tasks.items()
+        })
 
     def chains_of(crates):
-        """For each crate the lines of the longest chain through it."""
-        own = {it.name: it.count(rb"\n") for it in crates}
+        """For each crate the seconds of the longest chain through it."""
+        own = {it.name: work_of(it.name, it.count(rb"\n")) for it in crates}
         under, over = {}, {}
         for it in crates:
             under[it.name] = own[it.name] + max((under[dep.name] for dep in it.deps), default=0)
@@ -149,7 +175,7 @@ def hurry(rt):
             flags = ["--jobs", str(max(jobs, int(flags[1]))), *flags[2:]]
         return ci(crate, flags, tests)
 
-    rt.crates_of, rt.Crate.ci = with_chains, with_jobs
+    rt.crates_of, rt.Crate.ci, rt.in_lanes = with_chains, with_jobs, by_seconds
 
 
 class Spent:

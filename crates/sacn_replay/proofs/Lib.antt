@@ -1,0 +1,5 @@
+pub mod Rounding
+pub mod Dues
+pub mod Turns
+pub mod Rewriting
+pub mod Apart

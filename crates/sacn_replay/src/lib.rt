@@ -1,0 +1,30 @@
+//! When the datagrams of a recording are due where it is played back: the pure core of a player.
+//!
+//! A [`Playhead`] says which moment of the recording is played at which moment of the machine's clock. [`ReplayCore`] asks it of record
+//! after record, in the order of the file, and answers whether the record is due, too late, or to be waited for. That what is handed
+//! over is exactly what is due stands in [`laws`].
+#![tactic(auto)]
+
+mod counts;
+mod fault;
+mod head;
+pub mod laws;
+mod plan;
+mod replay;
+mod speed;
+mod step;
+mod universes;
+mod word;
+
+pub use counts::ReplayCounts;
+pub use fault::ReplayFault;
+pub use head::Playhead;
+pub use plan::ReplayPlan;
+pub use replay::{ReplayCore, SHORTEST_TURN};
+pub use speed::{MAX_SPEED, Speed, UNIT_SPEED};
+pub use step::Step;
+pub use universes::{MAX_MAPPED, Mapping, UniverseMap};
+pub use word::speed_of;
+
+#[cfg(test)]
+mod tests;

@@ -1,0 +1,13 @@
+mod Levels
+mod Searches
+mod RowLemmas
+mod Changes
+mod Places
+mod Orders
+mod Cores
+mod Lawful
+mod Waking
+mod Octets
+mod Ascending
+mod Steps
+mod Lists
