@@ -129,8 +129,10 @@ NEARLY = 0.8
 
 
 def seconds_of():
-    """What SECONDS says, by crate: of its proof and of its tests."""
+    """What SECONDS says, by crate: of its proof and of its tests; nothing where there is no such file."""
     known = {}
+    if not os.path.exists(SECONDS):
+        return known
     with open(SECONDS, encoding="utf-8") as rows:
         for row in rows:
             name, *numbers = row.partition("#")[0].split()[:3] or [""]
