@@ -119,7 +119,7 @@ SHARE_OF_NEED = 0.6
 
 
 # The processor seconds that the proof of a crate takes, and that of its tests: a file that is written anew now and then from what the gate says at its end.
-SECONDS = "bench/crates.txt"
+SECONDS = "bench/seconds.txt"
 # A crate that it lacks is taken for so many seconds a line.
 SECONDS_A_LINE = 0.15
 
