@@ -125,7 +125,7 @@ SECONDS_A_LINE = 0.15
 
 # A check keeps to its end the jobs that it begins with, which are few where much else is under way. So crates on which nearly the longest chain hangs were each alone for minutes in
 # the end: these get as many jobs as half of the processors, from their beginning on.
-NEARLY = 0.8
+NEARLY = 0.7
 
 
 def seconds_of():
