@@ -198,6 +198,13 @@ def long_readme():
             yield f"README.md line {number} has {len(line)} letters, more than {COLUMNS}"
 
 
+def more_lists():
+    """The kit takes each file of this name for a list of crates, wherever it stands."""
+    for path in glob.glob("**/crates.txt", recursive=True):
+        if path != "crates.txt" and "/out/" not in path:
+            yield path
+
+
 def stale_edits():
     """Bad edits that can't be made: a text that is taken out doesn't stand once in its file, with the pairs of texts before it exchanged."""
     for edit in sorted(glob.glob("crates/*/must-fail/*.edit") + glob.glob("crates/*/further-edits/*.edit")):
@@ -231,6 +238,7 @@ LOOKS = {
     "files that documents name are there": lacking_files,
     "each crate names only crates above it, and is told": sinking_crates,
     "what crates.txt names is used": idle_crates,
+    "no other file is named crates.txt": more_lists,
     "each step of the three ways is there": lost_steps,
     "one rule stands once": repeated_rules,
     "a public type's name stands once": shared_names,
