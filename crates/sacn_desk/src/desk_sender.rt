@@ -1,5 +1,5 @@
 //! A link over sockets to any hosts, or to the groups of universes.
-ghost use Rattle.std.specs.Prelude.{◌≡◌, ◌==◌, List, [], ◌∷◌, Some, if◌then◌else◌};
+ghost use Rattle.std.specs.Prelude.{◌≡◌, ◌==◌, List, [], ◌∷◌, None, Some, if◌then◌else◌};
 ghost use Rattle.sacn_edge.specs.Additions.{Extends};
 ghost use Rattle.sacn_machine.specs.Sendings.{Sending, sending};
 ghost use Rattle.sacn_desk.specs.Groups.{group_told};
@@ -216,6 +216,51 @@ impl<S: Sockets, C: Clock, E: Write + Drop> DeskSender<S, C, E> {
             &self.destinations,
             now,
             datagram,
+        )
+    }
+}
+
+// Datagrams of others, which a desk passes on as they are.
+impl<S: Sockets, C: Clock, E: Write + Drop> DeskSender<S, C, E> {
+    ghost use Rattle.sacn_desk.specs.DeskSenders.{sockets_of, destinations_of};
+
+    /// Sends octets, whatever they are, once to each host, in their order, also after one that failed. Returns how many failed.
+    pub fn send_to_hosts(&mut self, octets: &[u8]) -> usize
+        ensures sent { (ss : List Sending)
+            × Extends (S.told (sockets_of self.old)) (S.told (sockets_of self.new)) ss
+            × (receivers ss ≡ hosts_of None (destinations_of self.old).hosts.items)
+            × AllCarry octets.now ss × (result ≡ failures ss) }
+        ensures destinations { destinations_of self.new ≡ destinations_of self.old }
+    {
+        let now = self.clock.now();
+        let hosts = self.destinations.hosts.as_slice();
+        send_each(
+            &mut self.sockets,
+            &mut self.notices,
+            hosts,
+            None,
+            now,
+            octets,
+        )
+    }
+
+    /// Sends octets, whatever they are, once to the group of a universe, 1 to 63999, where groups are sent to. Returns whether no send failed.
+    pub fn send_to_group(&mut self, octets: &[u8], universe: u16) -> bool
+        ensures sent { (ss : List Sending)
+            × Extends (S.told (sockets_of self.old)) (S.told (sockets_of self.new)) ss
+            × AreGroups (destinations_of self.old).is_multicast (Some (group_told (Some universe)))
+            (receivers ss)
+            × AllCarry octets.now ss × (result ≡ (failures ss == 0)) }
+        ensures destinations { destinations_of self.new ≡ destinations_of self.old }
+    {
+        let now = self.clock.now();
+        send_group(
+            &mut self.sockets,
+            &mut self.notices,
+            &self.destinations,
+            Some(universe),
+            now,
+            octets,
         )
     }
 }
