@@ -6,19 +6,25 @@ use sacn_words::DeskAsked;
 use std::io::Write;
 use std::net::{Ipv4Addr, SocketAddrV4};
 
+/// The hosts that words name.
+pub fn named_hosts<R: AllocGlobal>(rt: &R, to: &[Destination]) -> Result<Vec<Destination>, Ending> {
+    let mut hosts = Vec::new(rt.alloc());
+    for host in to {
+        hosts.push(Destination {
+            address: host.address,
+            universes: host.universes.as_slice().to_vec(rt.alloc())?,
+        })?;
+    }
+    Ok(hosts)
+}
+
 // The hosts that a desk's words name, else the show's ports on this machine unless groups are sent to.
 fn hosts_of<R: AllocGlobal>(
     rt: &R,
     asked: &DeskAsked<'_>,
     show: &Show,
 ) -> Result<Vec<Destination>, Ending> {
-    let mut hosts = Vec::new(rt.alloc());
-    for host in asked.to.as_slice() {
-        hosts.push(Destination {
-            address: host.address,
-            universes: host.universes.as_slice().to_vec(rt.alloc())?,
-        })?;
-    }
+    let mut hosts = named_hosts(rt, asked.to.as_slice())?;
     if hosts.is_empty() && !asked.is_multicast {
         for port in show.send_to() {
             hosts.push(Destination {
@@ -80,6 +86,19 @@ pub fn say_unsent<R: AllocGlobal, E: Write>(
     Ok(())
 }
 
+/// Refuses a group that is named as a host beside the groups of universes, and says so.
+pub fn refuse_group<E: Write>(host: &Destination, err: &mut E) -> Result<(), Ending> {
+    if !is_group(host) {
+        return Ok(());
+    }
+    let [a, b, c, d] = host.address.ip().octets();
+    let _ = writeln!(
+        err,
+        "error: --to {a}.{b}.{c}.{d}: with --multicast each universe goes to its group already"
+    );
+    Err(Ending::Said(BAD_WORDS))
+}
+
 /// Where a desk sends. A host that is to get universes that the show hasn't is refused, and that is said.
 pub fn destinations_of<R: AllocGlobal, E: Write>(
     rt: &R,
@@ -93,13 +112,8 @@ pub fn destinations_of<R: AllocGlobal, E: Write>(
             say_absent(host, range, err);
             return Err(Ending::Said(BAD_WORDS));
         }
-        if asked.is_multicast && is_group(host) {
-            let [a, b, c, d] = host.address.ip().octets();
-            let _ = writeln!(
-                err,
-                "error: --to {a}.{b}.{c}.{d}: with --multicast each universe goes to its group already"
-            );
-            return Err(Ending::Said(BAD_WORDS));
+        if asked.is_multicast {
+            refuse_group(host, err)?;
         }
     }
     Ok(Destinations {

@@ -246,7 +246,7 @@ fn play<'a, R: AllocGlobal + Env + Net + Clock>(
     let sent = send_show(rt, asked, plan, destinations, &mut core, outputs, served)?;
     let mut out = output_with(outputs, plan.prompt);
     tell(&sent.report, &mut out)?;
-    tell_unsent(&sent, &mut outputs.err())
+    tell_unsent(sent.has_sent, sent.report.failed, &mut outputs.err())
 }
 
 // What a desk sent.
@@ -257,9 +257,9 @@ struct Sent {
     has_sent: bool,
 }
 
-// A desk of which no packet went out has failed, and that is said.
-fn tell_unsent<E: Write>(sent: &Sent, err: &mut E) -> Result<(), Ending> {
-    if sent.has_sent || sent.report.failed == 0 {
+/// What sent packets, of which some failed and none went out, has failed, and that is said.
+pub fn tell_unsent<E: Write>(has_sent: bool, failed: u64, err: &mut E) -> Result<(), Ending> {
+    if has_sent || failed == 0 {
         return Ok(());
     }
     let _ = writeln!(

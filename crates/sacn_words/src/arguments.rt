@@ -44,6 +44,37 @@ pub const FIRST: Argument<'static> = Argument {
     ..OPTION
 };
 
+/// Where a desk sends, or a player of recordings.
+pub const TO: Argument<'static> = Argument {
+    name: "to",
+    help: "A host that it sends to, at most 64, by its name or address; with universes before it, as 1-4,7=HOST, these alone go there; else the show's ports on 127.0.0.1",
+    value: Some("[UNIVERSES=]HOST[:PORT]"),
+    is_repeated: true,
+    ..OPTION
+};
+
+pub const MULTICAST: Argument<'static> = Argument {
+    name: "multicast",
+    help: "Sends each universe to its group, beside the hosts of --to",
+    ..FLAG
+};
+
+pub const TTL: Argument<'static> = Argument {
+    name: "ttl",
+    help: "The time to live of a group's packets, 1 to 255: with 1 no router passes them on",
+    kind: ArgumentKind::Octet(1, 255),
+    value: Some("N"),
+    default: Some("1"),
+    ..OPTION
+};
+
+pub const BIND: Argument<'static> = Argument {
+    name: "bind",
+    help: "The address that it sends from",
+    value: Some("ADDRESS"),
+    ..OPTION
+};
+
 pub const LISTEN: Argument<'static> = Argument {
     name: "listen",
     help: "The address that it hears at; else all",

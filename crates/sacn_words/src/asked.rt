@@ -1,6 +1,7 @@
 //! What the words of a command line ask for.
 use crate::manual::Syntax;
 use crate::recorded::RecordAsked;
+use crate::replayed::ReplayAsked;
 use crate::spelled::FrameForm;
 use sacn_check::FileKind;
 use sacn_desk::Destination;
@@ -50,6 +51,7 @@ pub enum Asked<'a> {
     },
     Watch(WatchAsked),
     Record(RecordAsked<'a>),
+    Replay(ReplayAsked<'a>),
     Check(CheckAsked<'a>),
     /// A text that is made from the table of commands.
     Manual(Syntax),

@@ -6,6 +6,7 @@ use crate::asked::{
 use crate::manual::{Syntax, shell_of};
 use crate::reading::{Fault, Words, refusal};
 use crate::recorded::record_asked;
+use crate::replayed::replay_asked;
 use crate::spelled::{frame_form, host, kind, page, port, sender};
 use crate::tree::matches;
 use clap::{ArgMatches, Error};
@@ -62,8 +63,8 @@ fn is_group(host: &Destination) -> bool {
     first & 0xf0 == 0xe0
 }
 
-// The hosts that a desk sends to.
-fn destinations<'a>(words: &mut Words<'_, 'a>) -> Vec<Destination> {
+/// The hosts that are sent to.
+pub fn destinations<'a>(words: &mut Words<'_, 'a>) -> Vec<Destination> {
     let hosts = words.destinations();
     if words.count("to") > MAX_HOSTS {
         words.refuse(Fault::TooManyDestinations);
@@ -71,8 +72,8 @@ fn destinations<'a>(words: &mut Words<'_, 'a>) -> Vec<Destination> {
     hosts
 }
 
-// The time to live of what is sent to groups; one that nothing sent would have is refused.
-fn time_to_live<'a>(words: &mut Words<'_, 'a>, to: &[Destination]) -> u8 {
+/// The time to live of what is sent to groups; one that nothing sent would have is refused.
+pub fn time_to_live<'a>(words: &mut Words<'_, 'a>, to: &[Destination]) -> u8 {
     let ttl = words.octet("ttl");
     if ttl != 1 && !to.iter().any(is_group) {
         words.without("ttl", "multicast");
@@ -206,6 +207,7 @@ fn asked_of<'a>(command: &str, words: &mut Words<'_, 'a>) -> Asked<'a> {
         },
         "watch" => watch(words),
         "record" => Asked::Record(record_asked(words)),
+        "replay" => Asked::Replay(replay_asked(words)),
         "check" => Asked::Check(CheckAsked {
             kind: words.value("as", kind),
             files: words.paths("FILE"),

@@ -37,10 +37,11 @@ pub const NOTES: &str = "Examples, in a clone of the repository:
   ./sacn audit examples/ola.pcap
   ./sacn watch --seconds 60
   ./sacn record night.pcapng --seconds 60
+  ./sacn replay night.pcapng --speed 2
   ./sacn check examples/show.toml
 
-A file that is named - is standard input; ./- is a file of that name. A desk has its orders
-there, explain --page and record their end: these read no file from it.
+A file that is named - is standard input; ./- is a file of that name. A desk and a replay have
+their orders there, explain --page and record their end: these read no file from it.
 
 docs/FILES.md tells what stands in the files, and what is printed.
 

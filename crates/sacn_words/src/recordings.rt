@@ -1,7 +1,7 @@
-//! The commands that read recordings, and the one that makes them, in the table of commands.
+//! The commands that make recordings, tell them and play them, in the table of commands.
 use crate::arguments::{
-    BESIDE, CAPTURE, CLOCK, EACH, HELP, HELP_LETTER, JOIN, JSON, LISTEN, OPERAND, OPTION, PAGE,
-    SECONDS, SETUP_HELP,
+    BESIDE, BIND, CAPTURE, CLOCK, EACH, FLAG, HELP, HELP_LETTER, JOIN, JSON, LISTEN, MULTICAST,
+    OPERAND, OPTION, PAGE, SECONDS, SETUP_HELP, TO, TTL,
 };
 use crate::manual::{Argument, ArgumentKind, Subcommand};
 
@@ -99,6 +99,63 @@ pub const RECORD: Subcommand<'static> = Subcommand {
             ..OPTION
         },
         BESIDE,
+        HELP_LETTER,
+        HELP,
+    ],
+};
+
+pub const REPLAY: Subcommand<'static> = Subcommand {
+    name: "replay",
+    about: "Plays a recording: sends its datagrams as they were recorded, octet by octet, each at its moment, until the recording or standard input ends. Typed while it plays: pause, go, at SECONDS or HH:MM:SS, speed X, status, help, quit",
+    usage: "sacn replay [OPTIONS] <CAPTURE>",
+    arguments: &[
+        CAPTURE,
+        Argument {
+            help: "A host that it sends to, at most 64, by its name or address; with universes before it, as 1-4,7=HOST, these alone go there, by the numbers under which they are sent; else 127.0.0.1, unless --multicast is given",
+            ..TO
+        },
+        Argument {
+            help: "Sends each universe to its group, beside the hosts of --to; what is no packet goes to these alone",
+            ..MULTICAST
+        },
+        TTL,
+        BIND,
+        Argument {
+            name: "port",
+            help: "The UDP port of the datagrams that are played, else 5568",
+            value: Some("P"),
+            ..OPTION
+        },
+        Argument {
+            name: "universe",
+            help: "Sends universe A under the number B, at most 64; no two under one",
+            value: Some("A=B"),
+            is_repeated: true,
+            ..OPTION
+        },
+        Argument {
+            name: "from",
+            help: "Begins so many seconds behind the first datagram, as 90 or 12.5",
+            value: Some("S"),
+            ..OPTION
+        },
+        Argument {
+            name: "until",
+            help: "Ends so many seconds behind the first datagram",
+            value: Some("S"),
+            ..OPTION
+        },
+        Argument {
+            name: "speed",
+            help: "How fast it plays, 0.001 to 1000, as 2 or 0.5; else 1",
+            value: Some("X"),
+            ..OPTION
+        },
+        Argument {
+            name: "loop",
+            help: "Begins again at its end, a second after the beginning at the earliest",
+            ..FLAG
+        },
         HELP_LETTER,
         HELP,
     ],

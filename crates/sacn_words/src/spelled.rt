@@ -99,6 +99,14 @@ pub fn universes(word: &str) -> Result<(u16, u16), WordFault> {
     }
 }
 
+/// A universe, an equals sign and the number under which it goes out.
+pub fn mapping(word: &str) -> Result<(u16, u16), WordFault> {
+    let Some((from, to)) = word.split_once('=') else {
+        return Err(WordFault::Universe);
+    };
+    Ok((universe(from)?, universe(to)?))
+}
+
 /// A port's number, an equals sign and a path.
 pub fn widget<'a>(word: &'a str) -> Result<(u8, &'a str), WordFault> {
     let Some((port, path)) = word.split_once('=') else {

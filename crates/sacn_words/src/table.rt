@@ -1,11 +1,11 @@
 //! The table of the commands and their arguments. Help, manual and completions are made from it.
 use crate::arguments::{
-    BESIDE, CLOCK, DESK_PAGE, DESK_SCRIPT_HELP, FIRST, FLAG, FRAMES, GATEWAY_AUDIT, HELP,
-    HELP_LETTER, JOIN, JSON, KEY, KEY_FILE, LISTEN, OPERAND, OPTION, PAGE, SCRIPT_HELP, SECONDS,
-    SETUP, SHOW, TURNS, WATCH_AUDIT, WATCH_CLOCK, WATCH_EACH,
+    BESIDE, BIND, CLOCK, DESK_PAGE, DESK_SCRIPT_HELP, FIRST, FLAG, FRAMES, GATEWAY_AUDIT, HELP,
+    HELP_LETTER, JOIN, JSON, KEY, KEY_FILE, LISTEN, MULTICAST, OPERAND, OPTION, PAGE, SCRIPT_HELP,
+    SECONDS, SETUP, SHOW, TO, TTL, TURNS, WATCH_AUDIT, WATCH_CLOCK, WATCH_EACH,
 };
 use crate::manual::{Argument, ArgumentKind, SHELL_WORDS, SHELLS, Subcommand};
-use crate::recordings::{AUDIT, EXPLAIN, RECORD};
+use crate::recordings::{AUDIT, EXPLAIN, RECORD, REPLAY};
 use std::alloc::{AllocError, Global};
 
 const DECODE: Subcommand<'static> = Subcommand {
@@ -124,32 +124,10 @@ const DESK: Subcommand<'static> = Subcommand {
     usage: "sacn desk [OPTIONS] <SHOW>",
     arguments: &[
         SHOW,
-        Argument {
-            name: "to",
-            help: "A host that it sends to, at most 64, by its name or address; with universes before it, as 1-4,7=HOST, these alone go there; else the show's ports on 127.0.0.1",
-            value: Some("[UNIVERSES=]HOST[:PORT]"),
-            is_repeated: true,
-            ..OPTION
-        },
-        Argument {
-            name: "multicast",
-            help: "Sends each universe to its group, beside the hosts of --to",
-            ..FLAG
-        },
-        Argument {
-            name: "ttl",
-            help: "The time to live of a group's packets, 1 to 255: with 1 no router passes them on",
-            kind: ArgumentKind::Octet(1, 255),
-            value: Some("N"),
-            default: Some("1"),
-            ..OPTION
-        },
-        Argument {
-            name: "bind",
-            help: "The address that it sends from",
-            value: Some("ADDRESS"),
-            ..OPTION
-        },
+        TO,
+        MULTICAST,
+        TTL,
+        BIND,
         Argument {
             name: "script",
             help: DESK_SCRIPT_HELP,
@@ -329,6 +307,10 @@ fn record() -> Subcommand<'static> {
     RECORD
 }
 
+fn replay() -> Subcommand<'static> {
+    REPLAY
+}
+
 fn check() -> Subcommand<'static> {
     CHECK
 }
@@ -355,6 +337,7 @@ pub fn commands(alloc: Global) -> Result<Vec<Subcommand<'static>>, AllocError> {
         audit(),
         watch(),
         record(),
+        replay(),
         check(),
         manual(),
         completion(),
