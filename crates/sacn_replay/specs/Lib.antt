@@ -4,4 +4,7 @@ pub mod Heads
 pub mod Moments
 pub mod Steps
 pub mod Playing
+pub mod Reels
+pub mod Talks
+pub mod Runs
 pub mod Maps

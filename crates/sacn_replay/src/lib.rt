@@ -9,20 +9,26 @@ mod counts;
 mod fault;
 mod head;
 pub mod laws;
+mod orders;
 mod plan;
 mod replay;
+mod run;
 mod speed;
 mod step;
+mod tape;
 mod universes;
 mod word;
 
 pub use counts::ReplayCounts;
 pub use fault::ReplayFault;
 pub use head::Playhead;
+pub use orders::{PlayOrder, PlayOrders};
 pub use plan::ReplayPlan;
 pub use replay::{ReplayCore, SHORTEST_TURN};
+pub use run::{MAX_STEPS, run_replay};
 pub use speed::{MAX_SPEED, Speed, UNIT_SPEED};
 pub use step::Step;
+pub use tape::Tape;
 pub use universes::{MAX_MAPPED, Mapping, UniverseMap};
 pub use word::speed_of;
 

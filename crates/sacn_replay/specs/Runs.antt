@@ -1,0 +1,121 @@
+-- A playback, round by round. Lists of rounds have the latest first.
+use Rattle.std.specs.Prelude.{◌≡◌, ◌≤◌, ◌<◌, ℕ, zero, suc, ◌+◌, ⊤, Bool, true, false, List, [], ◌∷◌, ◌++◌, length, Option, None, Some, if◌then◌else◌}
+use Rattle.sacn_replay.specs.declared.orders.PlayOrder.{PlayOrder}
+use Rattle.sacn_replay.specs.declared.orders.PlayOrder.TheVariants.{Pause, Go, SetSpeed, Seek}
+use Rattle.sacn_replay.specs.declared.replay.ReplayCore.{ReplayCore}
+use Rattle.sacn_replay.specs.declared.run.Next.{Next}
+use Rattle.sacn_replay.specs.declared.run.Next.TheVariants.{Round as RoundNext, Wait as WaitNext, Nothing}
+use Rattle.sacn_replay.specs.declared.run.TheConstants.{MAX_STEPS}
+use Rattle.sacn_replay.specs.declared.step.Step.{Step}
+use Rattle.sacn_replay.specs.declared.step.Step.TheVariants.{Wait, Send, Skip, Pass, Again, End, Rest}
+use Rattle.sacn_replay.specs.Heads.{last_moment}
+use Rattle.sacn_replay.specs.Steps.{next_step, after_step, at_reading, after_pause, after_go, after_speed, after_seek}
+use Rattle.sacn_replay.specs.Reels.{Reel, next_moment, next_octets, passed, rewound}
+use Rattle.sacn_replay.specs.Talks.{Talk, Waited, Asked, Looked, EndAsked}
+
+-- a player's core, and the records before it
+pub record Player : Type 0 where
+  pub core : ReplayCore
+  pub reel : Reel
+
+-- ---- one step
+
+-- what is to be done with the next record at a reading
+abbrev pub step_at : ℕ → Player → Step
+step_at now p = next_step (next_moment p.reel.left) (at_reading now p.core)
+
+-- the record behind it is next, or the first one, or the same
+abbrev pub wound : Step → Reel → Reel
+wound Send reel = passed reel
+wound Skip reel = passed reel
+wound Pass reel = passed reel
+wound Again reel = rewound reel
+wound (Wait until) reel = reel
+wound End reel = reel
+wound Rest reel = reel
+
+-- the player after a step
+abbrev pub stepped : ℕ → Player → Player
+stepped now p = record {
+  core = after_step (step_at now p) (next_moment p.reel.left) (at_reading now p.core);
+  reel = wound (step_at now p) p.reel;
+}
+
+-- what a step hands to the link, of the octets of the next record
+abbrev pub handed_by : Step → List ℕ → List (List ℕ)
+handed_by Send octets = octets ∷ []
+handed_by Skip octets = []
+handed_by Pass octets = []
+handed_by Again octets = []
+handed_by (Wait until) octets = []
+handed_by End octets = []
+handed_by Rest octets = []
+
+abbrev pub sent_at : ℕ → Player → List (List ℕ)
+sent_at now p = handed_by (step_at now p) (next_octets p.reel.left)
+
+-- whether another step is made at the same reading
+abbrev pub goes_on : Step → Bool
+goes_on Send = true
+goes_on Skip = true
+goes_on Pass = true
+goes_on Again = true
+goes_on (Wait until) = false
+goes_on End = false
+goes_on Rest = false
+
+-- ---- the steps of a round
+
+-- the player after so many steps at a reading
+abbrev pub played : ℕ → ℕ → Player → Player
+played now zero p = p
+played now (suc n) p = stepped now (played now n p)
+
+-- what they hand over
+abbrev pub sends : ℕ → ℕ → Player → List (List ℕ)
+sends now zero p = []
+sends now (suc n) p = sends now n p ++ sent_at now (played now n p)
+
+-- another step is made after each of them
+abbrev pub AllGoOn : ℕ → ℕ → Player → Type 0
+AllGoOn now zero p = ⊤
+AllGoOn now (suc n) p = (goes_on (step_at now (played now n p)) ≡ true) × AllGoOn now n p
+
+-- the last of them is the first after which the player waits; None where they are the most of a round
+abbrev pub Comes : ℕ → ℕ → Player → Option Step → Type 0
+Comes now n p None = (n ≡ MAX_STEPS) × AllGoOn now n p
+Comes now zero p (Some step) = ⊥
+Comes now (suc n) p (Some step) = (n < MAX_STEPS) × (step ≡ step_at now (played now n p)) × (goes_on step ≡ false) × AllGoOn now n p
+
+-- ---- a round
+
+-- its reading, its steps and what they came to, its order, and whether no order will come any more
+pub record Round : Type 0 where
+  pub now : ℕ
+  pub steps : ℕ
+  pub came_to : Option Step
+  pub order : Option PlayOrder
+  pub ends : Bool
+
+abbrev pub ordered_core : ℕ → Option PlayOrder → ReplayCore → ReplayCore
+ordered_core now None c = c
+ordered_core now (Some Pause) c = after_pause (at_reading now c)
+ordered_core now (Some Go) c = after_go (at_reading now c)
+ordered_core now (Some (SetSpeed speed)) c = after_speed speed (at_reading now c)
+ordered_core now (Some (Seek moment)) c = after_seek moment (at_reading now c)
+
+-- an order is asked for where the player waits
+abbrev pub asked_for : ℕ → Option Step → Option PlayOrder → List Talk
+asked_for now None order = []
+asked_for now (Some step) order = Asked now order ∷ []
+
+abbrev pub IsOrder : Option Step → Option PlayOrder → Type 0
+IsOrder None order = order ≡ None
+IsOrder (Some step) order = ⊤
+
+-- what comes after it: where no order came, the wait, or the end
+abbrev pub next_of : Option Step → Option PlayOrder → Next
+next_of (Some (Wait until)) None = WaitNext until
+next_of (Some Rest) None = WaitNext last_moment
+next_of (Some End) None = Nothing
+next_of came_to order = RoundNext
