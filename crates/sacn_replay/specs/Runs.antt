@@ -1,22 +1,27 @@
 -- A playback, round by round. Lists of rounds have the latest first.
-use Rattle.std.specs.Prelude.{◌≡◌, ◌≤◌, ◌<◌, ℕ, zero, suc, ◌+◌, ⊤, Bool, true, false, List, [], ◌∷◌, ◌++◌, length, Option, None, Some, if◌then◌else◌}
+use Rattle.std.specs.Prelude.{◌≡◌, ◌≤◌, ◌<◌, ℕ, zero, suc, ◌+◌, ⊤, Bool, true, false, List, [], ◌∷◌, ◌++◌, length, Option, None, Some, is_some, if◌then◌else◌}
 use Rattle.sacn_replay.specs.declared.orders.PlayOrder.{PlayOrder}
 use Rattle.sacn_replay.specs.declared.orders.PlayOrder.TheVariants.{Pause, Go, SetSpeed, Seek}
+use Rattle.sacn_replay.specs.declared.plan.ReplayPlan.{ReplayPlan}
 use Rattle.sacn_replay.specs.declared.replay.ReplayCore.{ReplayCore}
 use Rattle.sacn_replay.specs.declared.run.Next.{Next}
-use Rattle.sacn_replay.specs.declared.run.Next.TheVariants.{Round as RoundNext, Wait as WaitNext, Nothing}
+use Rattle.sacn_replay.specs.declared.run.Next.TheVariants.{Round as NextRound, Wait as NextWait, Nothing}
 use Rattle.sacn_replay.specs.declared.run.TheConstants.{MAX_STEPS}
 use Rattle.sacn_replay.specs.declared.step.Step.{Step}
 use Rattle.sacn_replay.specs.declared.step.Step.TheVariants.{Wait, Send, Skip, Pass, Again, End, Rest}
 use Rattle.sacn_replay.specs.Heads.{last_moment}
-use Rattle.sacn_replay.specs.Steps.{next_step, after_step, at_reading, after_pause, after_go, after_speed, after_seek}
+use Rattle.sacn_replay.specs.Steps.{begun_core, next_step, after_step, at_reading, after_pause, after_go, after_speed, after_seek}
 use Rattle.sacn_replay.specs.Reels.{Reel, next_moment, next_octets, passed, rewound}
 use Rattle.sacn_replay.specs.Talks.{Talk, Waited, Asked, Looked, EndAsked}
 
--- a player's core, and the records before it
+-- a player's core, and the records of its tape
 pub record Player : Type 0 where
   pub core : ReplayCore
   pub reel : Reel
+
+-- a core is the player's, and a tape that tells it has its records
+abbrev pub Holds : Option Reel → ReplayCore → Player → Type 0
+Holds told c p = (told ≡ Some p.reel) × (c ≡ p.core)
 
 -- ---- one step
 
@@ -97,6 +102,16 @@ pub record Round : Type 0 where
   pub order : Option PlayOrder
   pub ends : Bool
 
+-- an order is asked for where the player waits
+abbrev pub IsOrder : Option Step → Option PlayOrder → Type 0
+IsOrder None order = order ≡ None
+IsOrder (Some step) order = ⊤
+
+abbrev pub asked_for : ℕ → Option Step → Option PlayOrder → List Talk
+asked_for now None order = []
+asked_for now (Some step) order = Asked now order ∷ []
+
+-- it holds from the reading at which it is taken
 abbrev pub ordered_core : ℕ → Option PlayOrder → ReplayCore → ReplayCore
 ordered_core now None c = c
 ordered_core now (Some Pause) c = after_pause (at_reading now c)
@@ -104,18 +119,74 @@ ordered_core now (Some Go) c = after_go (at_reading now c)
 ordered_core now (Some (SetSpeed speed)) c = after_speed speed (at_reading now c)
 ordered_core now (Some (Seek moment)) c = after_seek moment (at_reading now c)
 
--- an order is asked for where the player waits
-abbrev pub asked_for : ℕ → Option Step → Option PlayOrder → List Talk
-asked_for now None order = []
-asked_for now (Some step) order = Asked now order ∷ []
+-- what comes after a round: where there was no order, the wait, or the end
+abbrev pub next_of : Option Step → Bool → Next
+next_of came_to true = NextRound
+next_of None false = NextRound
+next_of (Some (Wait until)) false = NextWait until
+next_of (Some Rest) false = NextWait last_moment
+next_of (Some End) false = Nothing
+next_of (Some Send) false = NextRound
+next_of (Some Skip) false = NextRound
+next_of (Some Pass) false = NextRound
+next_of (Some Again) false = NextRound
 
-abbrev pub IsOrder : Option Step → Option PlayOrder → Type 0
-IsOrder None order = order ≡ None
-IsOrder (Some step) order = ⊤
+-- a wait only where orders may come
+abbrev pub closing : Next → Bool → List Talk
+closing Nothing ends = []
+closing NextRound ends = EndAsked ends ∷ []
+closing (NextWait until) ends = EndAsked ends ∷ (if ends then [] else Waited until ∷ [])
 
--- what comes after it: where no order came, the wait, or the end
-abbrev pub next_of : Option Step → Option PlayOrder → Next
-next_of (Some (Wait until)) None = WaitNext until
-next_of (Some Rest) None = WaitNext last_moment
-next_of (Some End) None = Nothing
-next_of came_to order = RoundNext
+abbrev pub is_over : Next → Bool → Bool
+is_over Nothing ends = true
+is_over NextRound ends = ends
+is_over (NextWait until) ends = ends
+
+abbrev pub IsRound : Round → Player → Type 0
+IsRound r p = Comes r.now r.steps p r.came_to × IsOrder r.came_to r.order
+
+abbrev pub after_round : Round → Player → Player
+after_round r p = let q : Player = played r.now r.steps p in record { core = ordered_core r.now r.order q.core; reel = q.reel }
+
+abbrev pub is_last : Round → Bool
+is_last r = is_over (next_of r.came_to (is_some r.order)) r.ends
+
+abbrev pub round_talk : Round → Player → List Talk
+round_talk r p =
+    asked_for r.now r.came_to r.order ++ Looked (after_round r p).core ∷ closing (next_of r.came_to (is_some r.order)) r.ends
+
+-- ---- a run
+
+abbrev pub begun_player : ℕ → ReplayPlan → Reel → Player
+begun_player start plan reel = record { core = begun_core start plan; reel = reel }
+
+abbrev pub after_rounds : Player → List Round → Player
+after_rounds first [] = first
+after_rounds first (r ∷ rs) = after_round r (after_rounds first rs)
+
+abbrev pub AreRounds : Player → List Round → Type 0
+AreRounds first [] = ⊤
+AreRounds first (r ∷ rs) = IsRound r (after_rounds first rs) × AreRounds first rs
+
+-- what the link is handed
+abbrev pub run_sends : Player → List Round → List (List ℕ)
+run_sends first [] = []
+run_sends first (r ∷ rs) = run_sends first rs ++ sends r.now r.steps (after_rounds first rs)
+
+abbrev pub run_talk : Player → List Round → List Talk
+run_talk first [] = []
+run_talk first (r ∷ rs) = run_talk first rs ++ round_talk r (after_rounds first rs)
+
+-- the readings, in their order
+abbrev pub readings : List Round → List ℕ
+readings [] = []
+readings (r ∷ rs) = readings rs ++ r.now ∷ []
+
+abbrev pub NoneIsLast : List Round → Type 0
+NoneIsLast [] = ⊤
+NoneIsLast (r ∷ rs) = (is_last r ≡ false) × NoneIsLast rs
+
+-- a run ends with its last round, or when so many were made
+abbrev pub IsRun : ℕ → List Round → Type 0
+IsRun rounds [] = rounds ≡ 0
+IsRun rounds (r ∷ earlier) = NoneIsLast earlier × (length (r ∷ earlier) ≤ rounds) × (is_last r ≡ false → length (r ∷ earlier) ≡ rounds)

@@ -1,13 +1,12 @@
 //! The loop of a player.
 
-ghost use Rattle.std.specs.Prelude.{◌≡◌, ◌+◌, ◌≤◌, ◌∷◌, [], ℕ, List, Option, Some};
+ghost use Rattle.std.specs.Prelude.{◌≡◌, ◌∷◌, [], ℕ, Bool, List, Option, Some, is_some};
 ghost use Rattle.sacn_edge.specs.Additions.{Extends};
-ghost use Rattle.sacn_edge.specs.Hearings.{Hands};
 ghost use Rattle.sacn_edge.specs.ConsoleSends.{Handed, datagrams};
+ghost use Rattle.sacn_edge.specs.Hearings.{Hands};
+ghost use Rattle.sacn_replay.specs.declared.orders.PlayOrder.{PlayOrder as Order};
 ghost use Rattle.sacn_replay.specs.Reels.{Reel};
-ghost use Rattle.sacn_replay.specs.Steps.{begun_core};
-ghost use Rattle.sacn_replay.specs.Talks.{Asked};
-ghost use Rattle.sacn_replay.specs.Runs.{Player, goes_on};
+ghost use Rattle.sacn_replay.specs.Runs.{Player, Round, Holds, Comes, IsOrder, IsRound, IsRun, AreRounds, after_round, after_rounds, asked_for, begun_player, closing, goes_on, is_last, is_over, next_of, ordered_core, played, readings, round_talk, run_sends, run_talk, sends, sent_at, step_at, stepped};
 
 use crate::counts::ReplayCounts;
 use crate::orders::{PlayOrder, PlayOrders};
@@ -43,15 +42,46 @@ pub fn run_replay<T: Tape, L: Link, C: Clock, O: PlayOrders>(
     orders: &mut O,
     plan: &ReplayPlan,
     rounds: u64,
-) -> ReplayCounts {
+) -> ReplayCounts
+    ensures { (reel : Reel) → T.told tape.old ≡ Some reel
+        → (start : ℕ) × (rs : List Round) × (handed : Handed)
+        × IsRun rounds rs × AreRounds (begun_player start plan.now reel) rs
+        × Extends (C.readings clock.old) (C.readings clock.new) (start ∷ readings rs)
+        × Extends (O.told orders.old) (O.told orders.new)
+        (run_talk (begun_player start plan.now reel) rs)
+        × Hands (L.told link.old) (L.told link.new) handed
+        × (datagrams handed ≡ run_sends (begun_player start plan.now reel) rs)
+        × (T.told tape.new ≡ Some (after_rounds (begun_player start plan.now reel) rs).reel)
+        × (result ≡ (after_rounds (begun_player start plan.now reel) rs).core.counts) }
+{
     let mut core = ReplayCore::new(clock.now(), plan);
+    run_rounds(tape, link, clock, orders, &mut core, rounds);
+    core.counts()
+}
+
+/// Makes rounds until the last, or so many.
+fn run_rounds<T: Tape, L: Link, C: Clock, O: PlayOrders>(
+    tape: &mut T,
+    link: &mut L,
+    clock: &mut C,
+    orders: &mut O,
+    core: &mut ReplayCore,
+    rounds: u64,
+)
+    ensures { (p : Player) → Holds (T.told tape.old) core.old p
+        → (rs : List Round) × (handed : Handed) × IsRun rounds rs × AreRounds p rs
+        × Extends (C.readings clock.old) (C.readings clock.new) (readings rs)
+        × Extends (O.told orders.old) (O.told orders.new) (run_talk p rs)
+        × Hands (L.told link.old) (L.told link.new) handed
+        × (datagrams handed ≡ run_sends p rs)
+        × Holds (T.told tape.new) core.new (after_rounds p rs) }
+{
     for _round in 0..rounds {
-        let is_over = play_round(tape, link, clock, orders, &mut core);
-        if is_over {
-            return core.counts();
+        let is_last = play_round(tape, link, clock, orders, core);
+        if is_last {
+            return;
         }
     }
-    core.counts()
 }
 
 /// Makes a round. Returns whether it was the last.
@@ -61,7 +91,15 @@ fn play_round<T: Tape, L: Link, C: Clock, O: PlayOrders>(
     clock: &mut C,
     orders: &mut O,
     core: &mut ReplayCore,
-) -> bool {
+) -> bool
+    ensures { (p : Player) → Holds (T.told tape.old) core.old p
+        → (r : Round) × (handed : Handed) × IsRound r p
+        × Extends (C.readings clock.old) (C.readings clock.new) (r.now ∷ [])
+        × Extends (O.told orders.old) (O.told orders.new) (round_talk r p)
+        × Hands (L.told link.old) (L.told link.new) handed
+        × (datagrams handed ≡ sends r.now r.steps p)
+        × Holds (T.told tape.new) core.new (after_round r p) × (result ≡ is_last r) }
+{
     let now = clock.now();
     let came_to = play_due(tape, link, core, now);
     let is_ordered = take_order(orders, core, now, came_to);
@@ -75,7 +113,13 @@ fn play_due<T: Tape, L: Link>(
     link: &mut L,
     core: &mut ReplayCore,
     now: u64,
-) -> Option<Step> {
+) -> Option<Step>
+    ensures { (p : Player) → Holds (T.told tape.old) core.old p
+        → (n : ℕ) × (handed : Handed) × Comes now n p result
+        × Hands (L.told link.old) (L.told link.new) handed
+        × (datagrams handed ≡ sends now n p)
+        × Holds (T.told tape.new) core.new (played now n p) }
+{
     for _count in 0..MAX_STEPS {
         let step = make_step(tape, link, core, now);
         if !goes_on(step) {
@@ -91,7 +135,12 @@ fn make_step<T: Tape, L: Link>(
     link: &mut L,
     core: &mut ReplayCore,
     now: u64,
-) -> Step {
+) -> Step
+    ensures { (p : Player) → Holds (T.told tape.old) core.old p
+        → (handed : Handed) × Hands (L.told link.old) (L.told link.new) handed
+        × (datagrams handed ≡ sent_at now p) × (result ≡ step_at now p)
+        × Holds (T.told tape.new) core.new (stepped now p) }
+{
     let moment = tape.moment();
     let step = core.next(now, moment);
     match step {
@@ -107,7 +156,9 @@ fn make_step<T: Tape, L: Link>(
 }
 
 /// Whether another step is made at the same reading.
-fn goes_on(step: Step) -> bool {
+fn goes_on(step: Step) -> bool
+    ensures { result ≡ goes_on step }
+{
     match step {
         Step::Send | Step::Skip | Step::Pass | Step::Again => true,
         Step::Wait(_) | Step::End | Step::Rest => false,
@@ -120,7 +171,11 @@ fn take_order<O: PlayOrders>(
     core: &mut ReplayCore,
     now: u64,
     came_to: Option<Step>,
-) -> bool {
+) -> bool
+    ensures { (order : Option Order) × IsOrder came_to order
+        × Extends (O.told orders.old) (O.told orders.new) (asked_for now came_to order)
+        × (core.new ≡ ordered_core now order core.old) × (result ≡ is_some order) }
+{
     if came_to.is_none() {
         return false;
     }
@@ -134,7 +189,9 @@ fn take_order<O: PlayOrders>(
 }
 
 /// Does what is ordered, at a reading.
-fn give(core: &mut ReplayCore, now: u64, order: PlayOrder) {
+fn give(core: &mut ReplayCore, now: u64, order: PlayOrder)
+    ensures { core.new ≡ ordered_core now (Some order) core.old }
+{
     match order {
         PlayOrder::Pause => core.pause(now),
         PlayOrder::Go => core.go(now),
@@ -144,7 +201,9 @@ fn give(core: &mut ReplayCore, now: u64, order: PlayOrder) {
 }
 
 /// What comes after a round: after an order, and after the most steps, the next one at once.
-fn next_of(came_to: Option<Step>, is_ordered: bool) -> Next {
+fn next_of(came_to: Option<Step>, is_ordered: bool) -> Next
+    ensures { result ≡ next_of came_to is_ordered }
+{
     if is_ordered {
         return Next::Round;
     }
@@ -157,7 +216,10 @@ fn next_of(came_to: Option<Step>, is_ordered: bool) -> Next {
 }
 
 /// Ends a round, and waits where the player has to. Returns whether it was the last.
-fn close<O: PlayOrders>(orders: &mut O, next: Next) -> bool {
+fn close<O: PlayOrders>(orders: &mut O, next: Next) -> bool
+    ensures { (ends : Bool) × Extends (O.told orders.old) (O.told orders.new)
+        (closing next ends) × (result ≡ is_over next ends) }
+{
     if let Next::Nothing = next {
         return true;
     }
