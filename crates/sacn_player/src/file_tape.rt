@@ -2,6 +2,7 @@
 use sacn_capture::{Capture, CaptureFault, FaultKind, Record};
 use sacn_replay::{Tape, UniverseMap};
 use std::alloc::{AllocError, Global};
+use std::fs::OpenFile;
 use std::io::{self, BufReader, ErrorKind, Seek, SeekFrom};
 use std::rt::Files;
 

@@ -3,7 +3,8 @@ use sacn_desk::{Destination, Destinations, write_range};
 use sacn_replay::{ReplayCore, ReplayCounts, Speed, UNIT_SPEED};
 use std::io::{self, Write};
 
-pub(crate) const HELP: &[u8] = b"pause | go | at SECONDS | at HH:MM:SS | speed X | status | help | quit
+pub(crate) const HELP: &[u8] =
+    b"pause | go | at SECONDS | at HH:MM:SS | speed X | status | help | quit
 SECONDS are behind the first datagram, as 90 or 12.5; HH:MM:SS is a time of day of the recording; X is 0.001 to 1000
 ";
 
