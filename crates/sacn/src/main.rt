@@ -18,6 +18,7 @@ mod program;
 mod recent_deeds;
 mod record;
 mod recording;
+mod replay;
 mod room;
 mod screen;
 mod shown;

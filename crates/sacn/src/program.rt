@@ -2,7 +2,7 @@
 use crate::audit::{self, AuditOf};
 use crate::piped::Piped;
 use crate::room::ask_for_room;
-use crate::{check, explain, gateway, manual, record, watch};
+use crate::{check, explain, gateway, manual, record, replay, watch};
 use sacn_commands::ending::{DONE, Ending, tell_ending, tell_words};
 use sacn_commands::network::{console_of_files, node_of_file};
 use sacn_commands::printing::{decode_files, decode_input, simulate};
@@ -76,6 +76,7 @@ fn run_beside<R: AllocGlobal + Files + Env + Net + Clock, I: Read + Drop, O: Wri
         Asked::Manual(syntax) => manual::print(rt.alloc(), *syntax, out),
         Asked::Watch(asked) => watch::watch(rt, asked, out, err),
         Asked::Record(asked) => record::record(rt, asked, err),
+        Asked::Replay(asked) => replay::replay(rt, asked),
         Asked::Explain(asked) => {
             let mut out = Piped::new(out);
             let told = explain::tell(rt, asked, input, &mut out, err);
