@@ -3,3 +3,4 @@ pub mod Dues
 pub mod Turns
 pub mod Rewriting
 pub mod Apart
+pub mod Rounds

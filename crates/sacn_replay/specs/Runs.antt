@@ -59,15 +59,15 @@ handed_by Rest octets = []
 abbrev pub sent_at : ℕ → Player → List (List ℕ)
 sent_at now p = handed_by (step_at now p) (next_octets p.reel.left)
 
--- whether another step is made at the same reading
-abbrev pub goes_on : Step → Bool
-goes_on Send = true
-goes_on Skip = true
-goes_on Pass = true
-goes_on Again = true
-goes_on (Wait until) = false
-goes_on End = false
-goes_on Rest = false
+-- whether no other step is made at the same reading
+abbrev pub has_to_wait : Step → Bool
+has_to_wait (Wait until) = true
+has_to_wait End = true
+has_to_wait Rest = true
+has_to_wait Send = false
+has_to_wait Skip = false
+has_to_wait Pass = false
+has_to_wait Again = false
 
 -- ---- the steps of a round
 
@@ -84,13 +84,13 @@ sends now (suc n) p = sends now n p ++ sent_at now (played now n p)
 -- another step is made after each of them
 abbrev pub AllGoOn : ℕ → ℕ → Player → Type 0
 AllGoOn now zero p = ⊤
-AllGoOn now (suc n) p = (goes_on (step_at now (played now n p)) ≡ true) × AllGoOn now n p
+AllGoOn now (suc n) p = (has_to_wait (step_at now (played now n p)) ≡ false) × AllGoOn now n p
 
 -- the last of them is the first after which the player waits; None where they are the most of a round
 abbrev pub Comes : ℕ → ℕ → Player → Option Step → Type 0
 Comes now n p None = (n ≡ MAX_STEPS) × AllGoOn now n p
 Comes now zero p (Some step) = ⊥
-Comes now (suc n) p (Some step) = (n < MAX_STEPS) × (step ≡ step_at now (played now n p)) × (goes_on step ≡ false) × AllGoOn now n p
+Comes now (suc n) p (Some step) = (n < MAX_STEPS) × (step ≡ step_at now (played now n p)) × (has_to_wait step ≡ true) × AllGoOn now n p
 
 -- ---- a round
 

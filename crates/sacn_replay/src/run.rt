@@ -6,7 +6,7 @@ ghost use Rattle.sacn_edge.specs.ConsoleSends.{Handed, datagrams};
 ghost use Rattle.sacn_edge.specs.Hearings.{Hands};
 ghost use Rattle.sacn_replay.specs.declared.orders.PlayOrder.{PlayOrder as Order};
 ghost use Rattle.sacn_replay.specs.Reels.{Reel};
-ghost use Rattle.sacn_replay.specs.Runs.{Player, Round, Holds, Comes, IsOrder, IsRound, IsRun, AreRounds, after_round, after_rounds, asked_for, begun_player, closing, goes_on, is_last, is_over, next_of, ordered_core, played, readings, round_talk, run_sends, run_talk, sends, sent_at, step_at, stepped};
+ghost use Rattle.sacn_replay.specs.Runs.{Player, Round, Holds, Comes, IsOrder, IsRound, IsRun, AreRounds, after_round, after_rounds, asked_for, begun_player, closing, has_to_wait, is_last, is_over, next_of, ordered_core, played, readings, round_talk, run_sends, run_talk, sends, sent_at, step_at, stepped};
 
 use crate::counts::ReplayCounts;
 use crate::orders::{PlayOrder, PlayOrders};
@@ -122,7 +122,7 @@ fn play_due<T: Tape, L: Link>(
 {
     for _count in 0..MAX_STEPS {
         let step = make_step(tape, link, core, now);
-        if !goes_on(step) {
+        if has_to_wait(step) {
             return Some(step);
         }
     }
@@ -155,13 +155,13 @@ fn make_step<T: Tape, L: Link>(
     step
 }
 
-/// Whether another step is made at the same reading.
-fn goes_on(step: Step) -> bool
-    ensures { result ≡ goes_on step }
+/// Whether no other step is made at the same reading.
+fn has_to_wait(step: Step) -> bool
+    ensures { result ≡ has_to_wait step }
 {
     match step {
-        Step::Send | Step::Skip | Step::Pass | Step::Again => true,
-        Step::Wait(_) | Step::End | Step::Rest => false,
+        Step::Wait(_) | Step::End | Step::Rest => true,
+        Step::Send | Step::Skip | Step::Pass | Step::Again => false,
     }
 }
 

@@ -1,0 +1,51 @@
+use Rattle.std.proofs.Common.{◌≡◌, ◌+◌, ◌∷◌, ◌++◌, [], refl, sym, ◌∙◌, true≢false, arith}
+use Rattle.sacn_edge.proofs.NodeLemmas.{Extends-append}
+use Rattle.sacn_edge.proofs.ConsoleLemmas.{Hands-append, Hands-nil}
+use Rattle.sacn_replay.specs.Runs.{after_rounds, readings, round_talk, run_sends, run_talk, sends}
+use Rattle.sacn_replay.proofs.Rounds.{Extends-none, run_made, sends_both}
+use Rattle.sacn_replay.proofs.run.run_rounds.Goals as goal
+
+pub loop-round-init : goal.loop-round-init
+loop-round-init g c = λ p holds. ([], [], refl, tt, tt, Extends-none _, Extends-none _, Hands-nil _, refl, holds)
+
+pub returns-then-is_last : goal.returns-then-is_last
+returns-then-is_last g c = λ p holds.
+    let run = c.loop-round.invariant p holds in
+    let rs = run.0 in
+    let q = after_rounds p rs in
+    let t = c.play_round-is_last.ensures q run.9 in
+    let r = t.0 in (
+      r ∷ rs,
+      run.1 ++ t.1,
+      (run.3, omega (arith, run.2, c.loop-round-test.true, c.loop-round.auto._round-end), λ goes_on. absurd (true≢false (sym c.if-is_last.true ∙ t.8 ∙ goes_on))),
+      (t.2, run.4),
+      Extends-append _ _ _ (readings rs) (r.now ∷ []) run.5 t.3,
+      Extends-append _ _ _ (run_talk p rs) (round_talk r q) run.6 t.4,
+      Hands-append _ _ _ run.1 t.1 run.7 t.5,
+      sends_both run.1 t.1 (run_sends p rs) (sends r.now r.steps q) run.8 t.6,
+      t.7,
+    )
+
+pub loop-round-preserved : goal.loop-round-preserved
+loop-round-preserved g c = λ p holds.
+    let run = c.loop-round.invariant p holds in
+    let rs = run.0 in
+    let q = after_rounds p rs in
+    let t = c.play_round-is_last.ensures q run.9 in
+    let r = t.0 in (
+      r ∷ rs,
+      run.1 ++ t.1,
+      omega (arith, run.2),
+      (sym t.8 ∙ c.if-is_last.false, run.3),
+      (t.2, run.4),
+      Extends-append _ _ _ (readings rs) (r.now ∷ []) run.5 t.3,
+      Extends-append _ _ _ (run_talk p rs) (round_talk r q) run.6 t.4,
+      Hands-append _ _ _ run.1 t.1 run.7 t.5,
+      sends_both run.1 t.1 (run_sends p rs) (sends r.now r.steps q) run.8 t.6,
+      t.7,
+    )
+
+pub returns : goal.returns
+returns g c = λ p holds.
+    let run = c.loop-round.invariant p holds in
+    (run.0, run.1, run_made _ _ run.3 (omega (arith, run.2, c.loop-round-test.false, c.loop-round.auto._round-end)), run.4, run.5, run.6, run.7, run.8, run.9)
