@@ -4,3 +4,4 @@ pub mod Turns
 pub mod Rewriting
 pub mod Apart
 pub mod Rounds
+pub mod Tapes

@@ -1,6 +1,5 @@
 -- One step after another, and one round after another, of a player.
-use Rattle.std.proofs.Common.{◌≡◌, ℕ, suc, ◌+◌, ◌<◌, Bool, true, false, List, [], ◌∷◌, ◌++◌, length, Option, None, Some, is_some, IfSome, inl, inr, refl, sym, ap, subst, ◌∙◌, append-nil, arith}
-use Rattle.std.specs.Prelude.{◌⊎◌}
+use Rattle.std.proofs.Common.{◌≡◌, ℕ, suc, ◌+◌, ◌<◌, Bool, true, false, List, [], ◌∷◌, ◌++◌, length, Option, None, Some, is_some, IfSome, refl, sym, ap, subst, ◌∙◌, append-nil, arith}
 use Rattle.std.specs.Option.{option_map}
 use Rattle.std.proofs.lemmas.List.{map-append}
 use Rattle.sacn_edge.specs.Additions.{Extends}
@@ -10,9 +9,8 @@ use Rattle.sacn_replay.specs.declared.orders.PlayOrder.{PlayOrder}
 use Rattle.sacn_replay.specs.declared.replay.ReplayCore.{ReplayCore}
 use Rattle.sacn_replay.specs.declared.run.Next.{Next}
 use Rattle.sacn_replay.specs.declared.step.Step.{Step}
-use Rattle.sacn_replay.specs.declared.step.Step.TheVariants.{Wait, Skip, Pass, End, Rest}
 use Rattle.sacn_replay.specs.Steps.{next_step, after_step, at_reading}
-use Rattle.sacn_replay.specs.Reels.{Reel, next_moment, next_octets, passed}
+use Rattle.sacn_replay.specs.Reels.{Reel, next_moment, next_octets}
 use Rattle.sacn_replay.specs.Talks.{Talk, Looked}
 use Rattle.sacn_replay.specs.Runs.{Player, Round, Holds, Comes, AllGoOn, IsRun, NoneIsLast, after_round, asked_for, closing, handed_by, has_to_wait, is_over, next_of, ordered_core, played, round_talk, sends, sent_at, step_at, stepped, wound}
 
@@ -33,44 +31,14 @@ module _ (now : ℕ) (told mid : Option Reel) (core : ReplayCore) (p : Player) (
   pub core_is : (new : ReplayCore) → new ≡ after_step step moment (at_reading now core) → new ≡ (stepped now p).core
   core_is new took = took ∙ (λ i. after_step (step_is i) (moment_is i) (at_reading now (holds.1 i)))
 
-  pub reel_is : (new : Option Reel) (f : Reel → Reel) → new ≡ option_map f mid → f p.reel ≡ wound step p.reel → new ≡ Some (wound (step_at now p) p.reel)
-  reel_is new f moved winds =
-      moved
-      ∙ ap (option_map f) (same ∙ holds.0)
-      ∙ ap (λ (reel : Reel). let r : Option Reel = Some reel in r) (winds ∙ ap (λ (s : Step). wound s p.reel) step_is)
+  pub reel_is : (new : Option Reel) → new ≡ option_map (wound step) mid → new ≡ Some (wound (step_at now p) p.reel)
+  reel_is new winds =
+      winds ∙ ap (option_map (wound step)) (same ∙ holds.0) ∙ ap (λ (s : Step). let r : Option Reel = Some (wound s p.reel) in r) step_is
 
-  -- the tape is as it was
-  pub reel_stays : p.reel ≡ wound step p.reel → mid ≡ Some (wound (step_at now p) p.reel)
-  reel_stays winds =
-      same ∙ holds.0 ∙ ap (λ (reel : Reel). let r : Option Reel = Some reel in r) (winds ∙ ap (λ (s : Step). wound s p.reel) step_is)
-
-  pub none_sent : [] ≡ handed_by step (next_octets p.reel.left) → [] ≡ sent_at now p
-  none_sent none = none ∙ ap (λ (s : Step). handed_by s (next_octets p.reel.left)) step_is
-
-  pub one_sent : (octets : List ℕ) → IfSome mid (λ (reel : Reel). octets ≡ next_octets reel.left) → next_octets p.reel.left ∷ [] ≡ handed_by step (next_octets p.reel.left) → octets ∷ [] ≡ sent_at now p
-  one_sent octets shown sends_it =
-      let theirs : octets ≡ next_octets p.reel.left = subst (λ (t : Option Reel). IfSome t (λ (reel : Reel). octets ≡ next_octets reel.left)) (same ∙ holds.0) shown in
-      ap (λ (o : List ℕ). o ∷ []) theirs ∙ sends_it ∙ ap (λ (s : Step). handed_by s (next_octets p.reel.left)) step_is
-
--- ---- what the steps of one branch come to
-
-pub skips_send : (step : Step) (octets : List ℕ) → (step ≡ Skip) ⊎ (step ≡ Pass) → [] ≡ handed_by step octets
-skips_send step octets (inl is) = ap (λ (s : Step). handed_by s octets) (sym is)
-skips_send step octets (inr is) = ap (λ (s : Step). handed_by s octets) (sym is)
-
-pub skips_wind : (step : Step) (reel : Reel) → (step ≡ Skip) ⊎ (step ≡ Pass) → passed reel ≡ wound step reel
-skips_wind step reel (inl is) = ap (λ (s : Step). wound s reel) (sym is)
-skips_wind step reel (inr is) = ap (λ (s : Step). wound s reel) (sym is)
-
-pub waits_send : (step : Step) (octets : List ℕ) → ((until : ℕ) × (step ≡ Wait until)) ⊎ ((step ≡ End) ⊎ (step ≡ Rest)) → [] ≡ handed_by step octets
-waits_send step octets (inl is) = ap (λ (s : Step). handed_by s octets) (sym is.1)
-waits_send step octets (inr (inl is)) = ap (λ (s : Step). handed_by s octets) (sym is)
-waits_send step octets (inr (inr is)) = ap (λ (s : Step). handed_by s octets) (sym is)
-
-pub waits_wind : (step : Step) (reel : Reel) → ((until : ℕ) × (step ≡ Wait until)) ⊎ ((step ≡ End) ⊎ (step ≡ Rest)) → reel ≡ wound step reel
-waits_wind step reel (inl is) = ap (λ (s : Step). wound s reel) (sym is.1)
-waits_wind step reel (inr (inl is)) = ap (λ (s : Step). wound s reel) (sym is)
-waits_wind step reel (inr (inr is)) = ap (λ (s : Step). wound s reel) (sym is)
+  pub sent_is : (hs : Handed) → IfSome mid (λ (reel : Reel). datagrams hs ≡ handed_by step (next_octets reel.left)) → datagrams hs ≡ sent_at now p
+  sent_is hs sends =
+      let theirs : datagrams hs ≡ handed_by step (next_octets p.reel.left) = subst (λ (t : Option Reel). IfSome t (λ (reel : Reel). datagrams hs ≡ handed_by step (next_octets reel.left))) (same ∙ holds.0) sends in
+      theirs ∙ ap (λ (s : Step). handed_by s (next_octets p.reel.left)) step_is
 
 -- ---- the steps of a round
 

@@ -7,4 +7,5 @@ pub mod Playing
 pub mod Reels
 pub mod Talks
 pub mod Runs
+pub mod MemoryTapes
 pub mod Maps

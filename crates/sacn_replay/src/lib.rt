@@ -9,6 +9,7 @@ mod counts;
 mod fault;
 mod head;
 pub mod laws;
+pub mod memory;
 mod orders;
 mod plan;
 mod replay;
@@ -31,6 +32,3 @@ pub use step::Step;
 pub use tape::Tape;
 pub use universes::{MAX_MAPPED, Mapping, UniverseMap};
 pub use word::speed_of;
-
-#[cfg(test)]
-mod tests;

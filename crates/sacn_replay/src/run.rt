@@ -1,12 +1,13 @@
 //! The loop of a player.
 
-ghost use Rattle.std.specs.Prelude.{◌≡◌, ◌∷◌, [], ℕ, Bool, List, Option, Some, is_some};
+ghost use Rattle.std.specs.Prelude.{◌≡◌, ◌∷◌, [], ℕ, Bool, List, IfSome, Option, Some, is_some};
+ghost use Rattle.std.specs.Option.{option_map};
 ghost use Rattle.sacn_edge.specs.Additions.{Extends};
 ghost use Rattle.sacn_edge.specs.ConsoleSends.{Handed, datagrams};
 ghost use Rattle.sacn_edge.specs.Hearings.{Hands};
 ghost use Rattle.sacn_replay.specs.declared.orders.PlayOrder.{PlayOrder as Order};
-ghost use Rattle.sacn_replay.specs.Reels.{Reel};
-ghost use Rattle.sacn_replay.specs.Runs.{Player, Round, Holds, Comes, IsOrder, IsRound, IsRun, AreRounds, after_round, after_rounds, asked_for, begun_player, closing, has_to_wait, is_last, is_over, next_of, ordered_core, played, readings, round_talk, run_sends, run_talk, sends, sent_at, step_at, stepped};
+ghost use Rattle.sacn_replay.specs.Reels.{Reel, next_octets};
+ghost use Rattle.sacn_replay.specs.Runs.{Player, Round, Holds, Comes, IsOrder, IsRound, IsRun, AreRounds, after_round, after_rounds, asked_for, begun_player, closing, handed_by, has_to_wait, is_last, is_over, next_of, ordered_core, played, readings, round_talk, run_sends, run_talk, sends, sent_at, step_at, stepped, wound};
 
 use crate::counts::ReplayCounts;
 use crate::orders::{PlayOrder, PlayOrders};
@@ -130,12 +131,7 @@ fn play_due<T: Tape, L: Link>(
 }
 
 /// Does with the next record what is to be done with it at a reading.
-fn make_step<T: Tape, L: Link>(
-    tape: &mut T,
-    link: &mut L,
-    core: &mut ReplayCore,
-    now: u64,
-) -> Step
+fn make_step<T: Tape, L: Link>(tape: &mut T, link: &mut L, core: &mut ReplayCore, now: u64) -> Step
     ensures { (p : Player) → Holds (T.told tape.old) core.old p
         → (handed : Handed) × Hands (L.told link.old) (L.told link.new) handed
         × (datagrams handed ≡ sent_at now p) × (result ≡ step_at now p)
@@ -143,16 +139,34 @@ fn make_step<T: Tape, L: Link>(
 {
     let moment = tape.moment();
     let step = core.next(now, moment);
+    hand_over(tape, link, step);
+    wind(tape, step);
+    step
+}
+
+/// Hands over the datagram of the next record, where a step sends it.
+fn hand_over<T: Tape, L: Link>(tape: &T, link: &mut L, step: Step)
+    ensures { (handed : Handed) × Hands (L.told link.old) (L.told link.new) handed
+        × IfSome (T.told tape.now)
+        (λ reel. datagrams handed ≡ handed_by step (next_octets reel.left)) }
+{
     match step {
         Step::Send => {
             link.send(tape.octets());
-            tape.pass();
         }
-        Step::Skip | Step::Pass => tape.pass(),
+        Step::Skip | Step::Pass | Step::Again | Step::Wait(_) | Step::End | Step::Rest => {}
+    }
+}
+
+/// Winds the tape to the record that is next after a step.
+fn wind<T: Tape>(tape: &mut T, step: Step)
+    ensures { T.told tape.new ≡ option_map (wound step) (T.told tape.old) }
+{
+    match step {
+        Step::Send | Step::Skip | Step::Pass => tape.pass(),
         Step::Again => tape.rewind(),
         Step::Wait(_) | Step::End | Step::Rest => {}
     }
-    step
 }
 
 /// Whether no other step is made at the same reading.
