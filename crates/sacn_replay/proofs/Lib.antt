@@ -5,3 +5,4 @@ pub mod Rewriting
 pub mod Apart
 pub mod Rounds
 pub mod Tapes
+pub mod Handing

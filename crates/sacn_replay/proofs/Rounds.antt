@@ -1,5 +1,5 @@
 -- One step after another, and one round after another, of a player.
-use Rattle.std.proofs.Common.{◌≡◌, ℕ, suc, ◌+◌, ◌<◌, Bool, true, false, List, [], ◌∷◌, ◌++◌, length, Option, None, Some, is_some, IfSome, refl, sym, ap, subst, ◌∙◌, append-nil, arith}
+use Rattle.std.proofs.Common.{◌≡◌, ℕ, suc, ◌+◌, ◌<◌, Bool, true, false, List, [], ◌∷◌, ◌++◌, length, Option, None, Some, is_some, IfSome, sym, ap, subst, ◌∙◌, append-nil, arith}
 use Rattle.std.specs.Option.{option_map}
 use Rattle.std.proofs.lemmas.List.{map-append}
 use Rattle.sacn_edge.specs.Additions.{Extends}
@@ -12,7 +12,7 @@ use Rattle.sacn_replay.specs.declared.step.Step.{Step}
 use Rattle.sacn_replay.specs.Steps.{next_step, after_step, at_reading}
 use Rattle.sacn_replay.specs.Reels.{Reel, next_moment, next_octets}
 use Rattle.sacn_replay.specs.Talks.{Talk, Looked}
-use Rattle.sacn_replay.specs.Runs.{Player, Round, Holds, Comes, AllGoOn, IsRun, NoneIsLast, after_round, asked_for, closing, handed_by, has_to_wait, is_over, next_of, ordered_core, played, round_talk, sends, sent_at, step_at, stepped, wound}
+use Rattle.sacn_replay.specs.Runs.{Player, Round, Holds, Comes, AllGoOn, IsRun, NoneIsLast, after_round, asked_for, closing, octets_sent, has_to_wait, is_over, next_of, ordered_core, played, round_talk, sends, sent_at, step_taken, stepped, wound}
 
 pub Extends-none : {X : Type 0} (a : Option (List X)) → Extends a a []
 Extends-none None = tt
@@ -25,20 +25,20 @@ module _ (now : ℕ) (told mid : Option Reel) (core : ReplayCore) (p : Player) (
   moment_is : moment ≡ next_moment p.reel.left
   moment_is = subst (λ (t : Option Reel). IfSome t (λ (reel : Reel). moment ≡ next_moment reel.left)) holds.0 next
 
-  pub step_is : step ≡ step_at now p
+  pub step_is : step ≡ step_taken now p
   step_is = is ∙ (λ i. next_step (moment_is i) (at_reading now (holds.1 i)))
 
   pub core_is : (new : ReplayCore) → new ≡ after_step step moment (at_reading now core) → new ≡ (stepped now p).core
   core_is new took = took ∙ (λ i. after_step (step_is i) (moment_is i) (at_reading now (holds.1 i)))
 
-  pub reel_is : (new : Option Reel) → new ≡ option_map (wound step) mid → new ≡ Some (wound (step_at now p) p.reel)
+  pub reel_is : (new : Option Reel) → new ≡ option_map (wound step) mid → new ≡ Some (wound (step_taken now p) p.reel)
   reel_is new winds =
       winds ∙ ap (option_map (wound step)) (same ∙ holds.0) ∙ ap (λ (s : Step). let r : Option Reel = Some (wound s p.reel) in r) step_is
 
-  pub sent_is : (hs : Handed) → IfSome mid (λ (reel : Reel). datagrams hs ≡ handed_by step (next_octets reel.left)) → datagrams hs ≡ sent_at now p
+  pub sent_is : (hs : Handed) → IfSome mid (λ (reel : Reel). datagrams hs ≡ octets_sent step (next_octets reel.left)) → datagrams hs ≡ sent_at now p
   sent_is hs sends =
-      let theirs : datagrams hs ≡ handed_by step (next_octets p.reel.left) = subst (λ (t : Option Reel). IfSome t (λ (reel : Reel). datagrams hs ≡ handed_by step (next_octets reel.left))) (same ∙ holds.0) sends in
-      theirs ∙ ap (λ (s : Step). handed_by s (next_octets p.reel.left)) step_is
+      let theirs : datagrams hs ≡ octets_sent step (next_octets p.reel.left) = subst (λ (t : Option Reel). IfSome t (λ (reel : Reel). datagrams hs ≡ octets_sent step (next_octets reel.left))) (same ∙ holds.0) sends in
+      theirs ∙ ap (λ (s : Step). octets_sent s (next_octets p.reel.left)) step_is
 
 -- ---- the steps of a round
 
@@ -57,10 +57,10 @@ module _ (now n : ℕ) (p : Player) where
   sends_more hs ms sofar more =
       sends_both hs ms (sends now n p) (sent_at now (played now n p)) sofar more ∙ ap (λ (m : ℕ). sends now m p) one_more
 
-  pub on_more : (step : Step) → step ≡ step_at now (played now n p) → has_to_wait step ≡ false → AllGoOn now n p → AllGoOn now (n + 1) p
+  pub on_more : (step : Step) → step ≡ step_taken now (played now n p) → has_to_wait step ≡ false → AllGoOn now n p → AllGoOn now (n + 1) p
   on_more step is goes sofar = subst (λ (m : ℕ). AllGoOn now m p) one_more (ap has_to_wait (sym is) ∙ goes, sofar)
 
-  pub comes : (step : Step) → step ≡ step_at now (played now n p) → has_to_wait step ≡ true → n < 4096 → AllGoOn now n p → Comes now (n + 1) p (Some step)
+  pub comes : (step : Step) → step ≡ step_taken now (played now n p) → has_to_wait step ≡ true → n < 4096 → AllGoOn now n p → Comes now (n + 1) p (Some step)
   comes step is waits below sofar = subst (λ (m : ℕ). Comes now m p (Some step)) one_more (below, is, waits, sofar)
 
 -- ---- a round

@@ -7,5 +7,6 @@ pub mod Playing
 pub mod Reels
 pub mod Talks
 pub mod Runs
+pub mod Turns
 pub mod MemoryTapes
 pub mod Maps

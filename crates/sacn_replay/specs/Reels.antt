@@ -20,5 +20,5 @@ abbrev pub passed : Reel → Reel
 passed reel = record reel { left = drop 1 reel.left }
 
 -- the first record is next
-abbrev pub rewound : Reel → Reel
-rewound reel = record reel { left = reel.whole }
+abbrev pub at_first : Reel → Reel
+at_first reel = record reel { left = reel.whole }

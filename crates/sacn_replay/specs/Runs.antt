@@ -11,7 +11,7 @@ use Rattle.sacn_replay.specs.declared.step.Step.{Step}
 use Rattle.sacn_replay.specs.declared.step.Step.TheVariants.{Wait, Send, Skip, Pass, Again, End, Rest}
 use Rattle.sacn_replay.specs.Heads.{last_moment}
 use Rattle.sacn_replay.specs.Steps.{begun_core, next_step, after_step, at_reading, after_pause, after_go, after_speed, after_seek}
-use Rattle.sacn_replay.specs.Reels.{Reel, next_moment, next_octets, passed, rewound}
+use Rattle.sacn_replay.specs.Reels.{Reel, next_moment, next_octets, passed, at_first}
 use Rattle.sacn_replay.specs.Talks.{Talk, Waited, Asked, Looked, EndAsked}
 
 -- a player's core, and the records of its tape
@@ -25,16 +25,16 @@ Holds told c p = (told ≡ Some p.reel) × (c ≡ p.core)
 
 -- ---- one step
 
--- what is to be done with the next record at a reading
-abbrev pub step_at : ℕ → Player → Step
-step_at now p = next_step (next_moment p.reel.left) (at_reading now p.core)
+-- what is done with the next record at a reading
+abbrev pub step_taken : ℕ → Player → Step
+step_taken now p = next_step (next_moment p.reel.left) (at_reading now p.core)
 
 -- the record behind it is next, or the first one, or the same
 abbrev pub wound : Step → Reel → Reel
 wound Send reel = passed reel
 wound Skip reel = passed reel
 wound Pass reel = passed reel
-wound Again reel = rewound reel
+wound Again reel = at_first reel
 wound (Wait until) reel = reel
 wound End reel = reel
 wound Rest reel = reel
@@ -42,22 +42,22 @@ wound Rest reel = reel
 -- the player after a step
 abbrev pub stepped : ℕ → Player → Player
 stepped now p = record {
-  core = after_step (step_at now p) (next_moment p.reel.left) (at_reading now p.core);
-  reel = wound (step_at now p) p.reel;
+  core = after_step (step_taken now p) (next_moment p.reel.left) (at_reading now p.core);
+  reel = wound (step_taken now p) p.reel;
 }
 
 -- what a step hands to the link, of the octets of the next record
-abbrev pub handed_by : Step → List ℕ → List (List ℕ)
-handed_by Send octets = octets ∷ []
-handed_by Skip octets = []
-handed_by Pass octets = []
-handed_by Again octets = []
-handed_by (Wait until) octets = []
-handed_by End octets = []
-handed_by Rest octets = []
+abbrev pub octets_sent : Step → List ℕ → List (List ℕ)
+octets_sent Send octets = octets ∷ []
+octets_sent Skip octets = []
+octets_sent Pass octets = []
+octets_sent Again octets = []
+octets_sent (Wait until) octets = []
+octets_sent End octets = []
+octets_sent Rest octets = []
 
 abbrev pub sent_at : ℕ → Player → List (List ℕ)
-sent_at now p = handed_by (step_at now p) (next_octets p.reel.left)
+sent_at now p = octets_sent (step_taken now p) (next_octets p.reel.left)
 
 -- whether no other step is made at the same reading
 abbrev pub has_to_wait : Step → Bool
@@ -84,13 +84,13 @@ sends now (suc n) p = sends now n p ++ sent_at now (played now n p)
 -- another step is made after each of them
 abbrev pub AllGoOn : ℕ → ℕ → Player → Type 0
 AllGoOn now zero p = ⊤
-AllGoOn now (suc n) p = (has_to_wait (step_at now (played now n p)) ≡ false) × AllGoOn now n p
+AllGoOn now (suc n) p = (has_to_wait (step_taken now (played now n p)) ≡ false) × AllGoOn now n p
 
 -- the last of them is the first after which the player waits; None where they are the most of a round
 abbrev pub Comes : ℕ → ℕ → Player → Option Step → Type 0
 Comes now n p None = (n ≡ MAX_STEPS) × AllGoOn now n p
 Comes now zero p (Some step) = ⊥
-Comes now (suc n) p (Some step) = (n < MAX_STEPS) × (step ≡ step_at now (played now n p)) × (has_to_wait step ≡ true) × AllGoOn now n p
+Comes now (suc n) p (Some step) = (n < MAX_STEPS) × (step ≡ step_taken now (played now n p)) × (has_to_wait step ≡ true) × AllGoOn now n p
 
 -- ---- a round
 

@@ -3,6 +3,7 @@
 ghost use Rattle.sacn_replay.specs.Maps.{NumbersAreApart, RewritingChangesTheUniverse};
 ghost use Rattle.sacn_replay.specs.Moments.{DueWhenPlayed, OrdersKeepTheMoment};
 ghost use Rattle.sacn_replay.specs.Playing.{WhatIsDueGoesOut};
+ghost use Rattle.sacn_replay.specs.Turns.{RunsHandOverWhatIsDue};
 
 /// What goes out is exactly what is due. From any player on, over any records that are left and any readings of the clock and orders:
 /// each record whose place lies within what is played goes out once, at the first reading at which it is due, unless that comes more
@@ -11,6 +12,12 @@ ghost use Rattle.sacn_replay.specs.Playing.{WhatIsDueGoesOut};
 /// A seek and `Again` begin a turn anew, with the whole file, and the law speaks of that one too.
 pub fn what_is_due_goes_out()
     ensures { WhatIsDueGoesOut }
+{}
+
+/// What `run_replay` hands to its link is what is due: over any rounds of one turn, each of which ended with a step that waits, its
+/// link is handed the datagrams of the records that are due by the rounds' readings and orders, each once, in the order of the file.
+pub fn runs_hand_over_what_is_due()
+    ensures { RunsHandOverWhatIsDue }
 {}
 
 /// No moment is early, and none is late: a record is due at a reading of the clock exactly where its moment is played by then.

@@ -1,6 +1,6 @@
 //! Where the orders of a player come from.
 
-ghost use Rattle.std.specs.Prelude.{◌≡◌, List, [], ◌∷◌, None, Option};
+ghost use Rattle.std.specs.Prelude.{List, [], ◌∷◌, None, Option};
 ghost use Rattle.sacn_edge.specs.Additions.{Extends};
 ghost use Rattle.sacn_replay.specs.Talks.{Talk, Waited, Asked, Looked, EndAsked};
 

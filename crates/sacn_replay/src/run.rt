@@ -7,7 +7,7 @@ ghost use Rattle.sacn_edge.specs.ConsoleSends.{Handed, datagrams};
 ghost use Rattle.sacn_edge.specs.Hearings.{Hands};
 ghost use Rattle.sacn_replay.specs.declared.orders.PlayOrder.{PlayOrder as Order};
 ghost use Rattle.sacn_replay.specs.Reels.{Reel, next_octets};
-ghost use Rattle.sacn_replay.specs.Runs.{Player, Round, Holds, Comes, IsOrder, IsRound, IsRun, AreRounds, after_round, after_rounds, asked_for, begun_player, closing, handed_by, has_to_wait, is_last, is_over, next_of, ordered_core, played, readings, round_talk, run_sends, run_talk, sends, sent_at, step_at, stepped, wound};
+ghost use Rattle.sacn_replay.specs.Runs.{Player, Round, Holds, Comes, IsOrder, IsRound, IsRun, AreRounds, after_round, after_rounds, asked_for, begun_player, closing, octets_sent, has_to_wait, is_last, is_over, next_of, ordered_core, played, readings, round_talk, run_sends, run_talk, sends, sent_at, step_taken, stepped, wound};
 
 use crate::counts::ReplayCounts;
 use crate::orders::{PlayOrder, PlayOrders};
@@ -134,7 +134,7 @@ fn play_due<T: Tape, L: Link>(
 fn make_step<T: Tape, L: Link>(tape: &mut T, link: &mut L, core: &mut ReplayCore, now: u64) -> Step
     ensures { (p : Player) → Holds (T.told tape.old) core.old p
         → (handed : Handed) × Hands (L.told link.old) (L.told link.new) handed
-        × (datagrams handed ≡ sent_at now p) × (result ≡ step_at now p)
+        × (datagrams handed ≡ sent_at now p) × (result ≡ step_taken now p)
         × Holds (T.told tape.new) core.new (stepped now p) }
 {
     let moment = tape.moment();
@@ -148,7 +148,7 @@ fn make_step<T: Tape, L: Link>(tape: &mut T, link: &mut L, core: &mut ReplayCore
 fn hand_over<T: Tape, L: Link>(tape: &T, link: &mut L, step: Step)
     ensures { (handed : Handed) × Hands (L.told link.old) (L.told link.new) handed
         × IfSome (T.told tape.now)
-        (λ reel. datagrams handed ≡ handed_by step (next_octets reel.left)) }
+        (λ reel. datagrams handed ≡ octets_sent step (next_octets reel.left)) }
 {
     match step {
         Step::Send => {

@@ -2,7 +2,7 @@
 
 ghost use Rattle.std.specs.Prelude.{◌≡◌, None, Option, IfSome};
 ghost use Rattle.std.specs.Option.{option_map};
-ghost use Rattle.sacn_replay.specs.Reels.{Reel, next_moment, next_octets, passed, rewound};
+ghost use Rattle.sacn_replay.specs.Reels.{Reel, next_moment, next_octets, passed, at_first};
 
 /// A recording that is read record by record.
 pub trait Tape {
@@ -25,5 +25,5 @@ pub trait Tape {
 
     /// The first record is next.
     fn rewind(&mut self)
-        ensures told { told self.new ≡ option_map rewound (told self.old) };
+        ensures told { told self.new ≡ option_map at_first (told self.old) };
 }

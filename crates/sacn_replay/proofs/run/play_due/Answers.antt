@@ -1,4 +1,4 @@
-use Rattle.std.proofs.Common.{◌≡◌, ◌+◌, ◌++◌, [], refl, sym, ◌∙◌, arith}
+use Rattle.std.proofs.Common.{◌+◌, ◌++◌, [], refl, sym, ◌∙◌, arith}
 use Rattle.sacn_edge.proofs.ConsoleLemmas.{Hands-append, Hands-nil}
 use Rattle.sacn_replay.specs.Runs.{played}
 use Rattle.sacn_replay.proofs.Rounds.{comes, holds_more, on_more, sends_more}

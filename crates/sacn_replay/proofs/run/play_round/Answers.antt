@@ -1,4 +1,3 @@
-use Rattle.std.proofs.Common.{◌≡◌}
 use Rattle.sacn_replay.specs.Runs.{Round, played}
 use Rattle.sacn_replay.proofs.Rounds.{ordered_more, over_is, talk_round}
 use Rattle.sacn_replay.proofs.run.play_round.Goals as goal

@@ -1,4 +1,4 @@
-use Rattle.std.proofs.Common.{◌≡◌, ◌+◌, ◌∷◌, ◌++◌, [], refl, sym, ◌∙◌, true≢false, arith}
+use Rattle.std.proofs.Common.{◌+◌, ◌∷◌, ◌++◌, [], refl, sym, ◌∙◌, true≢false, arith}
 use Rattle.sacn_edge.proofs.NodeLemmas.{Extends-append}
 use Rattle.sacn_edge.proofs.ConsoleLemmas.{Hands-append, Hands-nil}
 use Rattle.sacn_replay.specs.Runs.{after_rounds, readings, round_talk, run_sends, run_talk, sends}

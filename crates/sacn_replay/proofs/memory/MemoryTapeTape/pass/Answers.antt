@@ -1,4 +1,4 @@
-use Rattle.std.proofs.Common.{◌≡◌, ◌≤◌, Option, Some, ap, arith}
+use Rattle.std.proofs.Common.{Option, Some, ap, arith}
 use Rattle.sacn_replay.specs.Reels.{Reel}
 use Rattle.sacn_replay.proofs.Tapes.{passes, stays}
 use Rattle.sacn_replay.proofs.memory.MemoryTapeTape.pass.Goals as goal
