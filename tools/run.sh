@@ -3,12 +3,16 @@
 
 say() { echo "sacn: $*" >&2; }
 
-# Whether standard input is of use: a desk with a script, as one that a service starts, may have none.
+# Whether standard input is of use: a desk with a script, or a recording that is played, as one that a service starts, may have none.
 is_ordered() {
   local word
   [ /proc/self/fd/0 -ef /dev/null ] || return 0
+  if [ "$2" = replay ]; then return 1; fi
   for word in "$@"; do case $word in --script | --script=*) return 1 ;; esac; done
 }
+
+# Whether the word is that of a command which is ordered by its input.
+takes_orders() { [ "$1" = desk ] || [ "$1" = replay ]; }
 
 # Gives a desk its input until the launcher lets go of its end of a pipe, or is gone: an end of input in a desk's first second is none, so that
 # it comes after that second. A line on the pipe says that the desk has ended by itself.
@@ -135,8 +139,8 @@ feed() {
   # A pipe of which both ends are here.
   exec {life}<> <(:)
   exec {lives}<"/proc/self/fd/$life"
-  # (A desk is ordered by its input, and a screen steered by keys; else a watch or a recording only waits for the end of it, whatever stands there.)
-  if [ "$2" = desk ]; then
+  # (A desk or a replay is ordered by its input, and a screen steered by keys; else a watch or a recording only waits for the end of it, whatever stands there.)
+  if takes_orders "$2"; then
     exec {out}< <(feed_desk "$@")
   elif [ -n "$modes" ]; then
     export SACN_KEYS=yes
@@ -243,7 +247,7 @@ resolve_host() {
   resolved=$before$address$port
 }
 
-# Puts a desk's words into `words`, with addresses in place of the names of hosts.
+# Puts the words of a desk or a replay into `words`, with addresses in place of the names of hosts.
 resolve_hosts() {
   local resolved
   words=()
@@ -570,7 +574,7 @@ run() {
   unset SACN_JOINED SACN_TYPED SACN_KEYS
   if [ $# = 0 ] && [ -t 0 ]; then say "reads one datagram as hexadecimal digits, up to Ctrl-D; \`sacn --help\` lists the commands"; fi
   case ${1-} in
-    desk)
+    desk | replay)
       resolve_hosts "$@"
       set -- "${words[@]}"
       ;;
@@ -584,7 +588,7 @@ run() {
   case ${1-} in
     desk) tell_width; if edits_lines; then edit_lines "$program" "$@"; else feed "$program" "$@"; fi ;;
     watch) tell_size; feed "$program" "$@" ;;
-    record) feed "$program" "$@" ;;
+    record | replay) feed "$program" "$@" ;;
     gateway) if draws "$@"; then tell_size; draw "$program" "$@"; else tell_width; exec "$program" "$@"; fi ;;
     explain) if serves "$@"; then feed "$program" "$@"; else exec "$program" "$@"; fi ;;
     *) exec "$program" "$@" ;;

@@ -1,0 +1,108 @@
+"""Recordings for replay.sh, and what hears them. All values are E1.31's and the recording's own.
+
+replay.py make              writes the recordings, and what of them is to be heard: a line of digits for each datagram, in files of that name
+replay.py hear FILE WORD..  notes each datagram in a line of a file: the milliseconds of the machine's clock, the port, and its octets. A word is a port of 127.0.0.1, or
+                            GROUP:PORT; it prints `hears` once it does.
+"""
+
+import selectors
+import socket
+import sys
+import time
+
+import e131
+
+LEVELS = [(0, 1, 5), (100, 2, 9), (600, 1, 6), (1000, 1, 7)]
+PAGE = e131.page([1, 2])
+SYNCHRONIZATION = e131.synchronization(address=7)
+JUNK = b"no packet"
+
+
+def level(universe, value):
+    return e131.data(universe, value, [value] * 512)
+
+
+def evening(path, start=1000):
+    """A second with each kind of datagram, and one to another port. Returns what is played, each with its moment."""
+    played = [(moment, level(universe, value)) for moment, universe, value in LEVELS] + [(200, PAGE), (300, SYNCHRONIZATION), (400, JUNK)]
+    played.sort(key=lambda it: it[0])
+    recording = e131.Recording(path, start)
+    for moment, octets in played:
+        recording.sent(moment, 3, octets)
+        if moment == 400:
+            recording.sent(500, 3, level(1, 99), port=5569)
+    recording.close()
+    return played
+
+
+def write_lines(path, lines):
+    with open(path, "w", encoding="ascii") as text:
+        text.writelines(f"{line}\n" for line in lines)
+
+
+def make():
+    played = evening("evening.pcap")
+    write_lines("evening", [octets.hex() for _, octets in played])
+    write_lines("moments", [moment for moment, _ in played])
+    write_lines("one", [octets.hex() for _, octets in played if octets not in (level(2, 9),)])
+    # (universe 1 under the number 7: another packet of the same levels)
+    moved = {level(1, value): e131.data(7, value, [value] * 512) for _, universe, value in LEVELS if universe == 1}
+    write_lines("moved", [moved.get(octets, octets).hex() for _, octets in played])
+    write_lines("between", [octets.hex() for moment, octets in played if 200 <= moment <= 600])
+    write_lines("other", [level(1, 99).hex()])
+    # Ten minutes, ten packets a second: slots 1 and 2 tell which one it is. It begins at 20:13 in UTC.
+    recording = e131.Recording("long.pcap", 20 * 3600 + 13 * 60)
+    for place in range(6000):
+        recording.sent(100 * place, 3, e131.data(1, place, [place >> 8, place & 255]))
+    recording.close()
+    # Two packets with fifty minutes between them.
+    recording = e131.Recording("far.pcap")
+    recording.sent(0, 3, level(1, 1))
+    recording.sent(3_000_000, 3, level(1, 2))
+    recording.close()
+    write_lines("far", [level(1, value).hex() for value in (1, 2)])
+    e131.Recording("empty.pcap").close()
+    # Frames of one port, a fifth of a second apart, for a node: two sources, the second at a higher priority, which ends.
+    recording = e131.Recording("rig.pcap")
+    other = bytes(range(16, 32))
+    for place in range(6):
+        recording.sent(200 * place, 3, e131.data(1, place, [10 + place] * 3))
+    for place in range(3):
+        recording.sent(1300 + 200 * place, 4, e131.data(1, place, [200, 0, place], cid=other, name=b"Other", priority=150))
+    for place in range(3, 6):
+        recording.sent(1900 + 30 * (place - 3), 4, e131.data(1, place, [0, 0, 0], cid=other, name=b"Other", priority=150, options=e131.TERMINATED))
+    for place in range(6, 9):
+        recording.sent(2100 + 200 * (place - 6), 3, e131.data(1, place, [20 + place] * 3))
+    recording.close()
+
+
+def socket_of(word):
+    group, _, port = word.rpartition(":")
+    heard = socket.socket(socket.AF_INET, socket.SOCK_DGRAM)
+    heard.setsockopt(socket.SOL_SOCKET, socket.SO_RCVBUF, 1 << 22)
+    if group:
+        heard.setsockopt(socket.SOL_SOCKET, socket.SO_REUSEADDR, 1)
+        heard.bind((group, int(port)))
+        heard.setsockopt(socket.IPPROTO_IP, socket.IP_ADD_MEMBERSHIP, socket.inet_aton(group) + socket.inet_aton("127.0.0.1"))
+    else:
+        heard.bind(("127.0.0.1", int(port)))
+    return heard
+
+
+def hear(path, words):
+    looked = selectors.DefaultSelector()
+    for word in words:
+        looked.register(socket_of(word), selectors.EVENT_READ, word)
+    with open(path, "w", encoding="ascii") as text:
+        print("hears", flush=True)
+        while True:
+            for key, _ in looked.select():
+                octets = key.fileobj.recv(4096)
+                text.write(f"{time.monotonic_ns() // 1_000_000} {key.data} {octets.hex()}\n")
+                text.flush()
+
+
+if sys.argv[1] == "make":
+    make()
+else:
+    hear(sys.argv[2], sys.argv[3:])
