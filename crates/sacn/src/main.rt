@@ -19,7 +19,6 @@ mod recent_deeds;
 mod record;
 mod recording;
 mod replay;
-mod room;
 mod screen;
 mod shown;
 mod source_lines;

@@ -1,17 +1,20 @@
 //! The program, over any words, input and outputs.
 use crate::audit::{self, AuditOf};
 use crate::piped::Piped;
-use crate::room::ask_for_room;
 use crate::{check, explain, gateway, manual, record, replay, watch};
 use sacn_commands::ending::{DONE, Ending, tell_ending, tell_words};
 use sacn_commands::network::{console_of_files, node_of_file};
 use sacn_commands::printing::{decode_files, decode_input, simulate};
 use sacn_commands::{groups, live};
 use sacn_words::{Asked, parse};
+use std::alloc::{AllocError, Global};
 use std::env::Env;
 use std::io::{Read, Write};
 use std::net::Net;
 use std::rt::{Clock, Files};
+
+/// What a run takes at its beginning, memory and stack together, in octets: less than so many.
+const BEGINNING: usize = 1 << 20;
 
 /// Runs the program on its words, of which the first is its name, and returns the exit status: 0, 2
 /// for bad words, 3 for input that is refused, 4 for a device that fails.
@@ -33,6 +36,20 @@ pub fn run_program<
         Ok(()) => DONE,
         Err(ending) => tell_ending(ending, &mut err),
     }
+}
+
+// Asks for as much as a beginning takes, and gives it back. Where the machine hasn't that much, this is told before the stack,
+// which can't be asked, grows into what isn't there.
+fn ask_for_room(alloc: Global) -> Result<(), AllocError> {
+    let mut room: Vec<u8> = Vec::with_capacity(alloc, BEGINNING)?;
+    touch(&mut room)
+}
+
+// Out of line, so that the room is really asked for.
+#[inline(never)]
+fn touch(room: &mut Vec<u8>) -> Result<(), AllocError> {
+    room.push(0)?;
+    Ok(())
 }
 
 // Does what is asked for. What prints packets and looks owns the output, and promises what it then has.

@@ -1,6 +1,6 @@
 //! A recording in a file.
 use sacn_capture::{Capture, CaptureFault, FaultKind, Record};
-use sacn_replay::{Tape, UniverseMap};
+use sacn_replay::{RecordReader, UniverseMap};
 use std::alloc::{AllocError, Global};
 use std::fs::OpenFile;
 use std::io::{self, BufReader, ErrorKind, Seek, SeekFrom};
@@ -162,7 +162,7 @@ impl<R: Files> FileTape<R> {
     }
 }
 
-impl<R: Files> Tape for FileTape<R> {
+impl<R: Files> RecordReader for FileTape<R> {
     fn moment(&mut self) -> Option<u64> {
         if !self.is_read {
             self.read();

@@ -24,7 +24,7 @@ pub enum LineFault {
 
 /// A moment of a recording.
 #[derive(Clone, Copy)]
-pub enum Place {
+pub enum PlayMoment {
     /// So many milliseconds behind its first datagram.
     Behind(u64),
     /// So many milliseconds behind midnight, by the time of day.
@@ -37,19 +37,19 @@ pub enum PlayLine {
     Nothing,
     Pause,
     Go,
-    At(Place),
+    At(PlayMoment),
     Speed(Speed),
     Status,
     Help,
     Quit,
 }
 
-fn place_of(word: &str) -> Result<Place, LineFault> {
+fn place_of(word: &str) -> Result<PlayMoment, LineFault> {
     if let Some(millis) = day_millis(word) {
-        return Ok(Place::Day(millis));
+        return Ok(PlayMoment::Day(millis));
     }
     match millis_in(word) {
-        Some(millis) => Ok(Place::Behind(millis)),
+        Some(millis) => Ok(PlayMoment::Behind(millis)),
         None => Err(LineFault::Moment),
     }
 }

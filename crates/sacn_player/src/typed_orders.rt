@@ -1,6 +1,6 @@
 //! Orders that are typed or piped on standard input while a recording plays.
 use crate::moments::behind;
-use crate::order_line::{LineFault, Place, PlayLine, line_said};
+use crate::order_line::{LineFault, PlayLine, PlayMoment, line_said};
 use crate::said::{Answer, HELP, write_answer};
 use sacn_edge::Clock;
 use sacn_machine::sys::{NO_DESCRIPTOR, STDIN, wait_readable};
@@ -123,11 +123,11 @@ impl<'a, R: MachineClock, O: Write> TypedOrders<'a, R, O> {
     }
 
     // Where a place lies, in milliseconds behind the first datagram; a time of day comes within a day of that one's.
-    fn moment_of(&mut self, place: Place) -> Option<u64> {
+    fn moment_of(&mut self, place: PlayMoment) -> Option<u64> {
         match (place, self.first) {
-            (Place::Behind(millis), _) => Some(millis),
-            (Place::Day(millis), Some(first)) => Some(behind(first, millis)),
-            (Place::Day(_), None) => {
+            (PlayMoment::Behind(millis), _) => Some(millis),
+            (PlayMoment::Day(millis), Some(first)) => Some(behind(first, millis)),
+            (PlayMoment::Day(_), None) => {
                 let written = writeln!(
                     self.out,
                     "line {}: this recording has no time of day",

@@ -3,7 +3,7 @@
 ghost use Rattle.std.specs.Prelude.{◌≡◌, Some};
 ghost use Rattle.sacn_replay.specs.MemoryTapes.{reel_of, tape_told};
 
-use crate::tape::Tape;
+use crate::record_reader::RecordReader;
 
 /// A record of a recording.
 #[derive(Drop)]
@@ -30,7 +30,7 @@ impl MemoryTape {
     }
 }
 
-impl Tape for MemoryTape {
+impl RecordReader for MemoryTape {
     ghost use Rattle.sacn_replay.specs.MemoryTapes.{tape_told};
 
     ghost told = { tape_told };

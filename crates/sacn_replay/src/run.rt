@@ -12,9 +12,9 @@ ghost use Rattle.sacn_replay.specs.Runs.{Player, Round, Holds, Comes, IsOrder, I
 use crate::counts::ReplayCounts;
 use crate::orders::{PlayOrder, PlayOrders};
 use crate::plan::ReplayPlan;
+use crate::record_reader::RecordReader;
 use crate::replay::ReplayCore;
 use crate::step::Step;
-use crate::tape::Tape;
 use sacn_edge::{Clock, Link};
 
 /// The most steps of a round. What is due behind them waits for the next one, so that an order is heard in between.
@@ -36,7 +36,7 @@ enum Next {
 /// A round reads the clock once and does with record after record what is due at that reading, until one has to wait or 4096 steps
 /// were made. Only where one has to wait it takes an order, which holds from that reading on. It waits after it where there was none,
 /// and ends at the recording's end. What a link answers to a datagram changes nothing. The result counts what was done.
-pub fn run_replay<T: Tape, L: Link, C: Clock, O: PlayOrders>(
+pub fn run_replay<T: RecordReader, L: Link, C: Clock, O: PlayOrders>(
     tape: &mut T,
     link: &mut L,
     clock: &mut C,
@@ -61,7 +61,7 @@ pub fn run_replay<T: Tape, L: Link, C: Clock, O: PlayOrders>(
 }
 
 /// Makes rounds until the last, or so many.
-fn run_rounds<T: Tape, L: Link, C: Clock, O: PlayOrders>(
+fn run_rounds<T: RecordReader, L: Link, C: Clock, O: PlayOrders>(
     tape: &mut T,
     link: &mut L,
     clock: &mut C,
@@ -86,7 +86,7 @@ fn run_rounds<T: Tape, L: Link, C: Clock, O: PlayOrders>(
 }
 
 /// Makes a round. Returns whether it was the last.
-fn play_round<T: Tape, L: Link, C: Clock, O: PlayOrders>(
+fn play_round<T: RecordReader, L: Link, C: Clock, O: PlayOrders>(
     tape: &mut T,
     link: &mut L,
     clock: &mut C,
@@ -109,7 +109,7 @@ fn play_round<T: Tape, L: Link, C: Clock, O: PlayOrders>(
 }
 
 /// Does what is due at a reading, until something has to wait. Returns what it has to wait for; None where it made the most steps.
-fn play_due<T: Tape, L: Link>(
+fn play_due<T: RecordReader, L: Link>(
     tape: &mut T,
     link: &mut L,
     core: &mut ReplayCore,
@@ -131,7 +131,12 @@ fn play_due<T: Tape, L: Link>(
 }
 
 /// Does with the next record what is to be done with it at a reading.
-fn make_step<T: Tape, L: Link>(tape: &mut T, link: &mut L, core: &mut ReplayCore, now: u64) -> Step
+fn make_step<T: RecordReader, L: Link>(
+    tape: &mut T,
+    link: &mut L,
+    core: &mut ReplayCore,
+    now: u64,
+) -> Step
     ensures { (p : Player) → Holds (T.told tape.old) core.old p
         → (handed : Handed) × Hands (L.told link.old) (L.told link.new) handed
         × (datagrams handed ≡ sent_at now p) × (result ≡ step_taken now p)
@@ -145,7 +150,7 @@ fn make_step<T: Tape, L: Link>(tape: &mut T, link: &mut L, core: &mut ReplayCore
 }
 
 /// Hands over the datagram of the next record, where a step sends it.
-fn hand_over<T: Tape, L: Link>(tape: &T, link: &mut L, step: Step)
+fn hand_over<T: RecordReader, L: Link>(tape: &T, link: &mut L, step: Step)
     ensures { (handed : Handed) × Hands (L.told link.old) (L.told link.new) handed
         × IfSome (T.told tape.now)
         (λ reel. datagrams handed ≡ octets_sent step (next_octets reel.left)) }
@@ -159,7 +164,7 @@ fn hand_over<T: Tape, L: Link>(tape: &T, link: &mut L, step: Step)
 }
 
 /// Winds the tape to the record that is next after a step.
-fn wind<T: Tape>(tape: &mut T, step: Step)
+fn wind<T: RecordReader>(tape: &mut T, step: Step)
     ensures { T.told tape.new ≡ option_map (wound step) (T.told tape.old) }
 {
     match step {

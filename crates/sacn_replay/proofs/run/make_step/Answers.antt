@@ -9,8 +9,8 @@ returns g c =
     let s = c.next-step in
     let step : Step = s.result in
     let core = c.args.core.now in
-    let told = g.T.Tape.told c.args.tape.now in
-    let mid = g.T.Tape.told m.new.self in
+    let told = g.T.RecordReader.told c.args.tape.now in
+    let mid = g.T.RecordReader.told m.new.self in
     let h = c.hand_over.ensures in
     λ p holds. (
       h.0,

@@ -8,7 +8,7 @@ use Rattle.sacn_replay.proofs.run.run_rounds.Given as goal
 -- the rounds so far
 abbrev pub invariant-loop-round : goal.invariant-loop-round
 invariant-loop-round g l =
-    (p : Player) → Holds (g.T.Tape.told l.fn.tape) l.fn.core p
+    (p : Player) → Holds (g.T.RecordReader.told l.fn.tape) l.fn.core p
     → (rs : List Round) × (handed : Handed)
     × (length rs ≡ l._round)
     × NoneIsLast rs
@@ -17,4 +17,4 @@ invariant-loop-round g l =
     × Extends (g.O.PlayOrders.told l.fn.orders) (g.O.PlayOrders.told l.orders) (run_talk p rs)
     × Hands (g.L.Link.told l.fn.link) (g.L.Link.told l.link) handed
     × (datagrams handed ≡ run_sends p rs)
-    × Holds (g.T.Tape.told l.tape) l.core (after_rounds p rs)
+    × Holds (g.T.RecordReader.told l.tape) l.core (after_rounds p rs)

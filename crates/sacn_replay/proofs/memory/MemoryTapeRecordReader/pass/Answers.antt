@@ -1,7 +1,7 @@
 use Rattle.std.proofs.Common.{Option, Some, ap, arith}
 use Rattle.sacn_replay.specs.Reels.{Reel}
 use Rattle.sacn_replay.proofs.Tapes.{passes, stays}
-use Rattle.sacn_replay.proofs.memory.MemoryTapeTape.pass.Goals as goal
+use Rattle.sacn_replay.proofs.memory.MemoryTapeRecordReader.pass.Goals as goal
 
 pub returns-then-self-len : goal.returns-then-self-len
 returns-then-self-len c =

@@ -5,7 +5,7 @@ ghost use Rattle.std.specs.Option.{option_map};
 ghost use Rattle.sacn_replay.specs.Reels.{Reel, next_moment, next_octets, passed, at_first};
 
 /// A recording that is read record by record.
-pub trait Tape {
+pub trait RecordReader {
     /// What it holds, and what of it is left, where it tells that. A file of the machine tells nothing.
     ghost told: { Self → Option Reel } = { λ _. None };
 
