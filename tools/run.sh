@@ -14,6 +14,19 @@ is_ordered() {
 # Whether the word is that of a command which is ordered by its input.
 takes_orders() { [ "$1" = desk ] || [ "$1" = replay ]; }
 
+# Copies the orders of a command. A replay's input that ends at once and had none isn't ended, so that a signal ends it later.
+copy_orders() {
+  local first
+  if [ "$1" = replay ]; then
+    if IFS= read -r -N 1 first <&"$in"; then
+      printf %s "$first"
+    elif [ $((SECONDS - since)) -le 1 ]; then
+      exec sleep infinity
+    fi
+  fi
+  exec cat <&"$in"
+}
+
 # Gives a desk its input until the launcher lets go of its end of a pipe, or is gone: an end of input in a desk's first second is none, so that
 # it comes after that second. A line on the pipe says that the desk has ended by itself.
 feed_desk() {
@@ -21,7 +34,7 @@ feed_desk() {
   trap '' INT TERM HUP QUIT
   exec {life}>&-
   if is_ordered "$@"; then
-    cat <&"$in" &
+    copy_orders "$2" &
     copy=$!
     exec >&-
   fi
