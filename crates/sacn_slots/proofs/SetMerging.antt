@@ -43,15 +43,15 @@ module _ {X Y : Type 0} (h : X → Option Y) where
 
   from_filter_map : (xs : List X) (y : Y) → Contains (filter_map h xs) y → (x : X) × Contains xs x × (h x ≡ Some y)
   from_filter_map [] y (k, within, at) = absurd (omega arith)
-  from_filter_map (z ∷ xs) y there = by (h z) refl there
+  from_filter_map (z ∷ xs) y there = by (λ l. from_filter_map xs y l) (h z) refl there
     where
       later : (x : X) × Contains xs x × (h x ≡ Some y) → (x : X) × Contains (z ∷ xs) x × (h x ≡ Some y)
       later (x, (k, within, at), is) = (x, (suc k, omega arith, at), is)
 
-      by : (o : Option Y) → h z ≡ o → Contains (cons_option o (filter_map h xs)) y → (x : X) × Contains (z ∷ xs) x × (h x ≡ Some y)
-      by None is there = later (from_filter_map xs y there)
-      by (Some w) is (zero, within, at) = (z, (0, omega arith, refl), is ∙ ap Some at)
-      by (Some w) is (suc k, within, at) = later (from_filter_map xs y (k, omega arith, at))
+      by : (Contains (filter_map h xs) y → (x : X) × Contains xs x × (h x ≡ Some y)) → (o : Option Y) → h z ≡ o → Contains (cons_option o (filter_map h xs)) y → (x : X) × Contains (z ∷ xs) x × (h x ≡ Some y)
+      by rest None is there = later (rest there)
+      by rest (Some w) is (zero, within, at) = (z, (0, omega arith, refl), is ∙ ap Some at)
+      by rest (Some w) is (suc k, within, at) = later (rest (k, omega arith, at))
 
 part_along : (xs ys : List Member) → SameMembers xs ys → (slot : ℕ) (shown : Shown) → Contains (taking_part slot xs) shown → Contains (taking_part slot ys) shown
 part_along xs ys same slot shown there =
@@ -110,7 +110,7 @@ all_take_part slot [] = refl
 all_take_part slot (m ∷ members) = ap (λ l. m ∷ l) (all_take_part slot members)
 
 pub merges_by_packet : MergesByPacket
-unfolding (merge, merge_by_slot)
+unfolding merge merge_by_slot
 merges_by_packet = record {
   levels = λ members. ap (λ f. map f (range_with_len 0 512)) (λ i k. merged_level (all_take_part k members i) k);
   priorities = λ members slot. ap top_priority (all_take_part slot members);

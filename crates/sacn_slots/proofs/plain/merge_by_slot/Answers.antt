@@ -3,7 +3,7 @@ use Rattle.std.proofs.lemmas.List.FromFn.{fill_by_all}
 use Rattle.sacn_sources.specs.Merge.{merged_level}
 use Rattle.sacn_slots.specs.SlotMerge.{taking_part, merge_by_slot}
 use Rattle.sacn_slots.specs.SlotLayers.{member_of}
-use Rattle.sacn_slots.proofs.merge.merge_by_slot.Goals as goal
+use Rattle.sacn_slots.proofs.plain.merge_by_slot.Goals as goal
 
 pub returns : goal.returns
 unfolding merge_by_slot

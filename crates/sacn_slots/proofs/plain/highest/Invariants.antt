@@ -2,7 +2,7 @@ use Rattle.std.proofs.Common.{◌≡◌, map, take}
 use Rattle.sacn_sources.specs.Merge.{highest_at}
 use Rattle.sacn_slots.specs.SlotMerge.{taking_part}
 use Rattle.sacn_slots.specs.SlotLayers.{member_of}
-use Rattle.sacn_slots.proofs.merge.highest.Given as goal
+use Rattle.sacn_slots.proofs.plain.highest.Given as goal
 
 -- the highest level of the layers so far
 abbrev pub invariant-loop-layer : goal.invariant-loop-layer

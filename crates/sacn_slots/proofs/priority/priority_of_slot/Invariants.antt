@@ -1,7 +1,7 @@
 use Rattle.std.proofs.Common.{◌≡◌, map, take}
 use Rattle.sacn_slots.specs.SlotMerge.{priority_of_slot}
 use Rattle.sacn_slots.specs.SlotLayers.{member_of}
-use Rattle.sacn_slots.proofs.merge.priority_of_slot.Given as goal
+use Rattle.sacn_slots.proofs.priority.priority_of_slot.Given as goal
 
 -- the greatest priority of the layers so far
 abbrev pub invariant-loop-layer : goal.invariant-loop-layer
