@@ -1,5 +1,5 @@
 -- What one source more changes in a slot.
-use Rattle.std.proofs.Common.{◌≡◌, ℕ, zero, suc, ◌+◌, ◌<◌, ◌≤◌, ◌==◌, ◌||◌, max, nat_lt, Bool, true, false, cond, List, [], ◌∷◌, ◌++◌, map, filter, filter_map, fold, take, length, get_or, Option, Some, None, refl, sym, ap, subst, ◌∙◌, arith, inl, inr, append-nil, ne_eqb, eq-eqb}
+use Rattle.std.proofs.Common.{◌≡◌, ℕ, ◌+◌, ◌<◌, ◌==◌, max, Bool, false, cond, List, [], ◌∷◌, ◌++◌, map, filter, fold, take, length, get_or, Option, Some, None, refl, sym, ap, ◌∙◌, arith, inl, inr, append-nil, ne_eqb, eq-eqb}
 use Rattle.std.specs.List.{cons_option}
 use Rattle.std.proofs.lemmas.Bool.{cases_lt}
 use Rattle.std.proofs.lemmas.Bool.Decides.{nat_tests}
@@ -8,8 +8,8 @@ use Rattle.std.proofs.lemmas.List.Elements.{filter_map-append, filter-append}
 use Rattle.std.proofs.lemmas.List.Sums.{fold-append}
 use Rattle.sacn_sources.specs.Merge.{Shown, level, top_priority, highest_at, merged_level}
 use Rattle.sacn_sources.specs.HeldViews.{priority_shown}
-use Rattle.sacn_slots.specs.SlotMerge.{Member, priority_at, shown_at, taking_part, priority_of_slot}
-use Rattle.sacn_slots.specs.Following.{level_shown, level_followed, counted, level_counted}
+use Rattle.sacn_slots.specs.SlotMerge.{Member, shown_at, taking_part, priority_of_slot}
+use Rattle.sacn_slots.specs.Following.{level_shown, level_followed}
 use Rattle.sacn_slots.specs.declared.layer.SlotLayer.{SlotLayer}
 use Rattle.sacn_slots.specs.SlotLayers.{member_of}
 use Rattle.sacn_slots.proofs.SetMerging.{top_above}

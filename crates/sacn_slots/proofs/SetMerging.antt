@@ -1,5 +1,5 @@
 -- The merge by slot, by that of the sources that take part in each slot.
-use Rattle.std.proofs.Common.{◌≡◌, ℕ, zero, suc, ◌+◌, ◌<◌, ◌≤◌, ◌⊎◌, ◌↔◌, ◌||◌, ◌==◌, nat_lt, max, Bool, true, false, cond, List, [], ◌∷◌, map, filter_map, fold, length, get_or, All, Any, Contains, Option, Some, None, option_map, refl, sym, ap, subst, ◌∙◌, arith, inl, inr}
+use Rattle.std.proofs.Common.{◌≡◌, ℕ, zero, suc, ◌<◌, ◌≤◌, ◌↔◌, ◌||◌, ◌==◌, nat_lt, max, cond, List, [], ◌∷◌, map, filter_map, fold, length, get_or, All, Contains, Option, Some, None, refl, sym, ap, subst, ◌∙◌, arith, inl, inr}
 use Rattle.std.specs.List.{range_with_len, cons_option}
 use Rattle.std.proofs.lemmas.Bool.{cases_lt}
 use Rattle.std.proofs.lemmas.Bool.Decides.{nat_tests}
@@ -8,8 +8,8 @@ use Rattle.std.proofs.lemmas.List.FromFn.{fill_by_all, get_or-map-range_with_len
 use Rattle.std.proofs.lemmas.List.Elements.{All-nil, All-cons, All-head, All-tail, All-contains, Contains-get_or}
 use Rattle.sacn_sources.specs.Merge.{Shown, level, top_priority, merged_level, merge, IsMergedLevel, MergesTheSet, MergesByRelation}
 use Rattle.sacn_sources.specs.Merge as sources
-use Rattle.sacn_slots.specs.SlotMerge.{Member, priority_at, shown_at, taking_part, merge_by_slot, priority_of_slot}
-use Rattle.sacn_slots.specs.SlotLaws.{SameMembers, MergesTheSetBySlot, by_packet, MergesByPacket, IsPriorityAt, PrioritiesByRelation, MergesBySlotByRelation, MergesNoneToZero}
+use Rattle.sacn_slots.specs.SlotMerge.{Member, shown_at, taking_part, merge_by_slot}
+use Rattle.sacn_slots.specs.SlotLaws.{SameMembers, MergesTheSetBySlot, by_packet, MergesByPacket, PrioritiesByRelation, MergesBySlotByRelation, MergesNoneToZero}
 
 -- ---- each slot is that of a merge
 

@@ -1,12 +1,12 @@
 -- Lanes that are chosen by a comparison, loaded from slots, and stored over them.
-use Rattle.std.proofs.Common.{◌≡◌, ℕ, zero, suc, ◌+◌, ◌-◌, ◌*◌, ◌≤◌, ◌<◌, ◌^◌, ◌==◌, max, nat_lt, Bool, false, cond, ltb, eqb, replicate, List, [], ◌∷◌, length, take, drop, get_or, map, refl, ap, ◌∙◌, arith, w8, append-nil, length-take, length-drop, inl, inr}
+use Rattle.std.proofs.Common.{◌≡◌, ℕ, zero, suc, ◌+◌, ◌-◌, ◌≤◌, ◌<◌, ◌^◌, ◌==◌, max, Bool, false, cond, ltb, eqb, replicate, List, [], ◌∷◌, length, take, drop, get_or, map, ap, ◌∙◌, arith, w8, append-nil, inl, inr}
 use lib.Lanes.{zip2, sel_l, chunk, put_chunk, top}
 use borrow.Rule.Slice.PartMut.{put_mid, mid_of}
 use mir.Val.{hbits, bits}
 use Rattle.std.proofs.lemmas.Bool.{cases_lt}
 use Rattle.std.proofs.lemmas.Bool.Decides.{nat_tests}
 use Rattle.std.proofs.lemmas.List.{take_all, drop_all, get_or-take, get_or-drop}
-use Rattle.std.proofs.lemmas.Simd.{tops_compared, length-zip2, length-sel_l, get_or-sel_l, get_or-zip2, length-chunk, get_or-chunk, get_or-put_chunk_below, get_or-put_chunk_at, get_or-put_chunk_above, length-replicate, get_or-replicate}
+use Rattle.std.proofs.lemmas.Simd.{tops_compared, length-zip2, length-sel_l, get_or-sel_l, get_or-zip2, get_or-chunk, get_or-put_chunk_below, get_or-put_chunk_at, get_or-put_chunk_above, length-replicate, get_or-replicate}
 use Rattle.sacn_slots.specs.Following.{level_followed, counted}
 
 -- ---- lanes chosen

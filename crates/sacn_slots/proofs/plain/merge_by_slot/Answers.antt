@@ -1,4 +1,4 @@
-use Rattle.std.proofs.Common.{◌≡◌, map, arith}
+use Rattle.std.proofs.Common.{map, arith}
 use Rattle.std.proofs.lemmas.List.FromFn.{fill_by_all}
 use Rattle.sacn_sources.specs.Merge.{merged_level}
 use Rattle.sacn_slots.specs.SlotMerge.{taking_part, merge_by_slot}
