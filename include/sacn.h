@@ -1,6 +1,6 @@
 /*
  * Streaming ACN (ANSI E1.31-2018) for C and C++: packets, a node, the sources of one universe, a collector of
- * universe discovery, a console and a monitor, over cores whose contracts are proved.
+ * universe discovery, a console, a source and a monitor, over cores whose contracts are proved.
  *
  * A node, in short (examples/c/receive.c has it with its socket):
  *
@@ -11,9 +11,19 @@
  *     sacn_node_wakes(&node, &moment);                               how long to wait for the next datagram
  *     sacn_node_free(&node);
  *
- * Handles. A `struct sacn_node`, `sacn_sources`, `sacn_collector`, `sacn_console` or `sacn_monitor` is memory of the caller's: set it to
- * zero, make it by `.._new`, end it by `.._free`. What is `behind` it is the library's: don't look, don't write. A handle is never copied: two
- * copies of one handle are one handle that is ended twice, and the second one's next call reads memory that was given back.
+ * A sender of levels, in short (examples/c/levels.c has it with its socket):
+ *
+ *     struct sacn_source_handle source = {0};
+ *     if (sacn_source_new(&source, cid, name, length, 100, 1, 0)) ..  a CID, a name, a priority, room for one universe
+ *     sacn_source_add(&source, 7);
+ *     sacn_source_levels(&source, 7, slots, count);                  whenever there are others
+ *     while (!sacn_source_poll(&source, now, datagram, &length, &universe) && length) ..
+ *     sacn_source_wakes(&source, &moment);                           how long to wait for the next poll
+ *     sacn_source_free(&source);
+ *
+ * Handles. A `struct sacn_node`, `sacn_sources`, `sacn_collector`, `sacn_console`, `sacn_source_handle` or `sacn_monitor` is memory of the caller's:
+ * set it to zero, make it by `.._new`, end it by `.._free`. What is `behind` it is the library's: don't look, don't write. A handle is never copied:
+ * two copies of one handle are one handle that is ended twice, and the second one's next call reads memory that was given back.
  *
  * Threads. A handle is used by one thread at a time, in any call, also in those that only ask. Two handles have nothing in common: each may have
  * a thread of its own. Calls without a handle may be made by any number of threads.
@@ -59,7 +69,9 @@ enum sacn_status {
     /* A handle that is to be made is one already. */
     SACN_NOT_EMPTY = 1005,
     /* A request for memory was refused, where the call has no fault of its own for that. */
-    SACN_OUT_OF_MEMORY = 1006
+    SACN_OUT_OF_MEMORY = 1006,
+    /* A name isn't UTF-8, has a NUL, or is longer than 63 octets (E1.31, 6.2.2). */
+    SACN_NAME = 1007
 };
 
 /* Why octets are no packet: the first check that fails, in the order of the layers (E1.31, 5 to 8). */
@@ -120,6 +132,27 @@ enum sacn_console_fault {
     SACN_CONSOLE_STOPPED = 6
 };
 
+/* Why a source isn't made, or refuses a call. It is then as it was. */
+enum sacn_source_fault {
+    SACN_SOURCE_OUT_OF_MEMORY = 1,
+    /* The universe isn't 1 to 63999. */
+    SACN_SOURCE_BAD_UNIVERSE = 2,
+    /* The universe was never added. */
+    SACN_SOURCE_NO_UNIVERSE = 3,
+    /* The universe runs, and can't be added. */
+    SACN_SOURCE_RUNNING = 4,
+    /* The universe's three terminations aren't all given yet: it can be neither added nor ended. */
+    SACN_SOURCE_ENDING = 5,
+    /* The universe is stopped, and can't be ended. */
+    SACN_SOURCE_STOPPED = 6,
+    /* There is no room for one more universe. */
+    SACN_SOURCE_FULL = 7,
+    /* There are more than 512 levels. */
+    SACN_SOURCE_TOO_MANY = 8,
+    /* The priority is above 200. */
+    SACN_SOURCE_BAD_PRIORITY = 9
+};
+
 /* ---- packets ---- */
 
 enum sacn_packet_kind {
@@ -134,7 +167,7 @@ enum sacn_packet_kind {
 #define SACN_SLOTS 512
 /* The start code, and then the slots. */
 #define SACN_FRAME_OCTETS 513
-/* The octets of the longest data packet, and of the longest packet that a console gives. */
+/* The octets of the longest data packet, and of the longest packet that a console or a source gives. */
 #define SACN_DATA_OCTETS 638
 #define SACN_MAX_DATAGRAM 1144
 #define SACN_UDP_PORT 5568
@@ -407,6 +440,56 @@ int sacn_console_universe(struct sacn_console *console, size_t place, struct sac
 
 /* The number of the cue that was gone to last. Status: SACN_RANGE before the first. */
 int sacn_console_cue(struct sacn_console *console, uint16_t *number);
+
+/* ---- a source of levels, where the caller has its own cues ---- */
+
+/* The most universes of a source. */
+#define SACN_SOURCE_UNIVERSES 1024
+
+/* A source: it is handed the levels of its universes whenever they change, and gives the datagrams that are due. The first packet on a universe,
+   and each one with other levels or another priority, is repeated three times, at least 25 ms apart; then one is sent each 900 ms (E1.31, 6.6.2).
+   The numbers of a universe's packets rise by one (6.2.5). Each 10 s pages list its universes, but for those that are stopped (8). */
+struct sacn_source_handle {
+    void *behind;
+};
+
+/* Makes a source that has no universe yet. The handle must be empty. `cid` is its component identifier (5.6), and its name `length` octets of UTF-8
+   without a NUL, at most 63 (6.2.2). `priority`, 0 to 200, is that of each universe that is added (6.2.3). All memory is taken here: for `room`
+   universes, or for SACN_SOURCE_UNIVERSES where that is more. The first packet on each universe has the number `first`. Status: SACN_NAME, then
+   SACN_SOURCE_BAD_PRIORITY, then SACN_SOURCE_OUT_OF_MEMORY. */
+int sacn_source_new(struct sacn_source_handle *source, const uint8_t cid[16], const char *name, size_t length, uint8_t priority, size_t room,
+                    uint8_t first);
+
+/* Gives back all memory of a source, which is then empty. Status: SACN_NULL where it is already. Before that end all universes, and poll as
+   sacn_source_wakes says until 75 ms later, when all terminations are given: else nodes show its last levels until they count it as lost. */
+int sacn_source_free(struct sacn_source_handle *source);
+
+/* Begins a universe, 1 to 63999 (6.2.7). A new one has levels of 0 and the source's priority; one that is stopped begins again: its numbers go on,
+   and its levels and its priority stay. Status: SACN_SOURCE_BAD_UNIVERSE; SACN_SOURCE_RUNNING or SACN_SOURCE_ENDING where it is there and isn't
+   stopped; SACN_SOURCE_FULL where it isn't there, and there is no room. */
+int sacn_source_add(struct sacn_source_handle *source, uint16_t universe);
+
+/* Gives a universe other levels: these, 0 to 512 of them, on its slots from 1 on, and 0 on all others. A universe that is stopped shows them where
+   it begins again. Status: SACN_SOURCE_NO_UNIVERSE, then SACN_SOURCE_TOO_MANY. */
+int sacn_source_levels(struct sacn_source_handle *source, uint16_t universe, const uint8_t *slots, size_t count);
+
+/* Gives a universe another priority, 0 to 200 (6.2.3). Status: SACN_SOURCE_NO_UNIVERSE, then SACN_SOURCE_BAD_PRIORITY. */
+int sacn_source_priority(struct sacn_source_handle *source, uint16_t universe, uint8_t priority);
+
+/* Ends a universe: three terminated packets, at least 25 ms apart, and then it is stopped (6.2.6). Status: SACN_SOURCE_NO_UNIVERSE;
+   SACN_SOURCE_ENDING or SACN_SOURCE_STOPPED where it doesn't run. */
+int sacn_source_end(struct sacn_source_handle *source, uint16_t universe);
+
+/* Ends each universe that runs. */
+int sacn_source_end_all(struct sacn_source_handle *source);
+
+/* Gives the datagram that is due, if one is: its octets at the front of `out`, their number in `count`, and in `universe` that of a data packet,
+   which goes to its group (sacn_multicast_group), and 0 with a page, which goes to that of SACN_DISCOVERY_UNIVERSE. Both numbers are 0 where none is
+   due. Poll until none is: the due universe of the least number is first, and pages are last. */
+int sacn_source_poll(struct sacn_source_handle *source, uint64_t now, uint8_t out[SACN_MAX_DATAGRAM], size_t *count, uint16_t *universe);
+
+/* The first moment at which something is due as long as no other call comes, and no earlier poll gives anything; 0 where something is due now. */
+int sacn_source_wakes(struct sacn_source_handle *source, uint64_t *moment);
 
 /* ---- monitor ---- */
 

@@ -330,6 +330,66 @@ static void console(void) {
     CHECK(sacn_console_new(&console, "\xff", 1, 0) == SACN_SHOW_TOML && sacn_console_new(&console, "version = 3", 11, 0) == SACN_SHOW_VERSION);
 }
 
+static void source(void) {
+    struct sacn_source_handle source = {0}, empty = {0};
+    struct sacn_console console = {0};
+    struct sacn_packet packet;
+    uint8_t out[SACN_MAX_DATAGRAM], frame[SACN_FRAME_OCTETS], levels[513] = {255, 128}, cid[16] = {9, 8, 7};
+    uint64_t wakes = 77;
+    uint16_t universe = 77;
+    size_t count = 77;
+    CHECK(sacn_source_new(&source, cid, "Desk", 4, 120, 2, 255) == SACN_DONE);
+    CHECK(sacn_source_new(&source, cid, "Desk", 4, 120, 2, 255) == SACN_NOT_EMPTY);
+    CHECK(sacn_source_add(&source, 0) == SACN_SOURCE_BAD_UNIVERSE && sacn_source_add(&source, 64000) == SACN_SOURCE_BAD_UNIVERSE);
+    CHECK(sacn_source_add(&source, 7) == SACN_DONE && sacn_source_add(&source, 7) == SACN_SOURCE_RUNNING);
+    CHECK(sacn_source_levels(&source, 7, levels, 2) == SACN_DONE && sacn_source_levels(&source, 8, levels, 2) == SACN_SOURCE_NO_UNIVERSE);
+    CHECK(sacn_source_levels(&source, 7, levels, 513) == SACN_SOURCE_TOO_MANY && sacn_source_levels(&source, 7, levels, SIZE_MAX) == SACN_LENGTH);
+    CHECK(sacn_source_wakes(&source, &wakes) == SACN_DONE && wakes == 0);
+    CHECK(sacn_source_poll(&source, 0, out, &count, &universe) == SACN_DONE && count == 638 && universe == 7);
+    CHECK(sacn_read_packet(out, count, &packet, frame) == SACN_DONE && packet.number == 255 && packet.universe == 7 && packet.priority == 120);
+    CHECK(!memcmp(packet.cid, cid, 16) && !strcmp((char *)packet.name, "Desk") && frame[1] == 255 && frame[2] == 128 && frame[3] == 0);
+    CHECK(sacn_source_poll(&source, 0, out, &count, &universe) == SACN_DONE && count == 122 && universe == 0);
+    CHECK(sacn_source_poll(&source, 0, out, &count, &universe) == SACN_DONE && count == 0 && universe == 0);
+    CHECK(sacn_source_wakes(&source, &wakes) == SACN_DONE && wakes == 25);
+    CHECK(sacn_source_add(&source, 9) == SACN_DONE && sacn_source_add(&source, 8) == SACN_SOURCE_FULL);
+    CHECK(sacn_source_priority(&source, 9, 200) == SACN_DONE && sacn_source_priority(&source, 9, 201) == SACN_SOURCE_BAD_PRIORITY);
+    CHECK(sacn_source_priority(&source, 8, 1) == SACN_SOURCE_NO_UNIVERSE && sacn_source_end(&source, 8) == SACN_SOURCE_NO_UNIVERSE);
+    CHECK(sacn_source_poll(&source, 0, out, &count, &universe) == SACN_DONE && count == 638 && universe == 9 && out[108] == 200 && out[111] == 255);
+    CHECK(sacn_source_levels(&source, 9, NULL, 0) == SACN_DONE && sacn_source_levels(&source, 9, NULL, 1) == SACN_NULL);
+    CHECK(sacn_source_end(&source, 7) == SACN_DONE && sacn_source_end(&source, 7) == SACN_SOURCE_ENDING && sacn_source_end_all(&source) == SACN_DONE);
+    CHECK(sacn_source_add(&source, 9) == SACN_SOURCE_ENDING);
+    /* (three terminations of each, 25 ms apart) */
+    for (uint64_t moment = 25; moment <= 75; moment += 25) {
+        CHECK(sacn_source_poll(&source, moment, out, &count, &universe) == SACN_DONE && universe == 7 && out[112] == 0x40);
+        CHECK(sacn_source_poll(&source, moment, out, &count, &universe) == SACN_DONE && universe == 9 && out[112] == 0x40);
+    }
+    CHECK(sacn_source_poll(&source, 100, out, &count, &universe) == SACN_DONE && count == 0);
+    CHECK(sacn_source_wakes(&source, &wakes) == SACN_DONE && wakes == 10000 && sacn_source_end(&source, 9) == SACN_SOURCE_STOPPED);
+    CHECK(sacn_source_add(&empty, 7) == SACN_NULL && sacn_source_add(NULL, 7) == SACN_NULL && sacn_source_levels(&empty, 7, levels, 1) == SACN_NULL);
+    CHECK(sacn_source_priority(&empty, 7, 1) == SACN_NULL && sacn_source_end(&empty, 7) == SACN_NULL && sacn_source_end_all(&empty) == SACN_NULL);
+    CHECK(sacn_source_poll(&empty, 0, out, &count, &universe) == SACN_NULL && sacn_source_poll(&source, 0, NULL, &count, &universe) == SACN_NULL);
+    CHECK(sacn_source_poll(&source, 0, out, NULL, &universe) == SACN_NULL && sacn_source_poll(&source, 0, out, &count, NULL) == SACN_NULL);
+    CHECK(sacn_source_wakes(&empty, &wakes) == SACN_NULL && sacn_source_wakes(&source, NULL) == SACN_NULL);
+    console.behind = source.behind;
+    CHECK(sacn_console_command(&console, 0, SACN_GO, 0, 0) == SACN_WRONG_HANDLE);
+    CHECK(sacn_source_free(&source) == SACN_DONE && sacn_source_free(&source) == SACN_NULL && sacn_source_free(NULL) == SACN_NULL);
+    CHECK(sacn_console_new(&console, show, strlen(show), 0) == SACN_NOT_EMPTY);
+    console.behind = NULL;
+    CHECK(sacn_console_new(&console, show, strlen(show), 0) == SACN_DONE);
+    source.behind = console.behind;
+    CHECK(sacn_source_add(&source, 7) == SACN_WRONG_HANDLE && sacn_source_levels(&source, 7, levels, 1) == SACN_WRONG_HANDLE);
+    CHECK(sacn_source_priority(&source, 7, 1) == SACN_WRONG_HANDLE && sacn_source_end(&source, 7) == SACN_WRONG_HANDLE);
+    CHECK(sacn_source_end_all(&source) == SACN_WRONG_HANDLE && sacn_source_wakes(&source, &wakes) == SACN_WRONG_HANDLE);
+    CHECK(sacn_source_poll(&source, 0, out, &count, &universe) == SACN_WRONG_HANDLE && sacn_console_free(&console) == SACN_DONE);
+    source.behind = NULL;
+    CHECK(sacn_source_new(&source, NULL, "Desk", 4, 100, 1, 0) == SACN_NULL && sacn_source_new(&source, cid, NULL, 4, 100, 1, 0) == SACN_NULL);
+    CHECK(sacn_source_new(NULL, cid, "Desk", 4, 100, 1, 0) == SACN_NULL && sacn_source_new(&source, cid, "Desk", SIZE_MAX, 100, 1, 0) == SACN_LENGTH);
+    CHECK(sacn_source_new(&source, cid, "\xff", 1, 201, 1, 0) == SACN_NAME && sacn_source_new(&source, cid, "a\0b", 3, 100, 1, 0) == SACN_NAME);
+    memset(frame, 'x', 64);
+    CHECK(sacn_source_new(&source, cid, (char *)frame, 64, 100, 1, 0) == SACN_NAME && sacn_source_new(&source, cid, "", 0, 201, 1, 0) == SACN_SOURCE_BAD_PRIORITY);
+    CHECK(!source.behind && sacn_source_new(&source, cid, NULL, 0, 200, SIZE_MAX, 0) == SACN_DONE && sacn_source_free(&source) == SACN_DONE);
+}
+
 static void monitor(void) {
     struct sacn_monitor monitor = {0}, empty = {0};
     struct sacn_collector collector = {0};
@@ -405,6 +465,7 @@ int main(void) {
     sources();
     collector();
     console();
+    source();
     monitor();
     return failed > 100 ? 100 : failed;
 }

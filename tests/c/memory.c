@@ -23,6 +23,7 @@ static struct sacn_node node;
 static struct sacn_sources sources;
 static struct sacn_collector collector;
 static struct sacn_console console;
+static struct sacn_source_handle source;
 static struct sacn_monitor monitor;
 static struct sacn_packet packet;
 static uint8_t page[SACN_MAX_DATAGRAM];
@@ -33,6 +34,7 @@ static int make_node(void) { return sacn_node_new(&node, setup, strlen(setup), &
 static int make_sources(void) { return sacn_sources_new(&sources); }
 static int make_collector(void) { return sacn_collector_new(&collector); }
 static int make_console(void) { return sacn_console_new(&console, show, strlen(show), 0); }
+static int make_source(void) { return sacn_source_new(&source, packet.cid, "Desk", 4, 100, 1024, 0); }
 static int make_monitor(void) { return sacn_monitor_new(&monitor); }
 static int collect(void) { return sacn_collector_take(&collector, 0, page, length); }
 static int list(void) { return sacn_collector_list(&collector, 0, packet.cid, got, 3, &count); }
@@ -63,6 +65,7 @@ int main(void) {
     refuse_each("sources_new", make_sources, 1, &sources.behind);
     refuse_each("collector_new", make_collector, SACN_OUT_OF_MEMORY, &collector.behind);
     refuse_each("console_new", make_console, SACN_SHOW_OUT_OF_MEMORY, &console.behind);
+    refuse_each("source_new", make_source, SACN_SOURCE_OUT_OF_MEMORY, &source.behind);
     refuse_each("monitor_new", make_monitor, SACN_OUT_OF_MEMORY, &monitor.behind);
     refuse_each("collector_take", collect, SACN_OUT_OF_MEMORY, NULL);
     refuse_each("collector_list", list, SACN_OUT_OF_MEMORY, NULL);
@@ -71,6 +74,7 @@ int main(void) {
     sacn_sources_free(&sources);
     sacn_collector_free(&collector);
     sacn_console_free(&console);
+    sacn_source_free(&source);
     sacn_monitor_free(&monitor);
     return failed;
 }

@@ -34,6 +34,14 @@ uint32_t sacn_proved_console_poll(void **handle, uint64_t now, uint8_t *out, siz
 uint32_t sacn_proved_console_wakes(void **handle, uint64_t *moment);
 uint32_t sacn_proved_console_universe(void **handle, size_t place, struct sacn_universe *universe);
 uint32_t sacn_proved_console_cue(void **handle, uint16_t *number);
+uint32_t sacn_proved_source_new(void **handle, const uint8_t *cid, const uint8_t *name, size_t length, uint8_t priority, size_t room, uint8_t first);
+uint32_t sacn_proved_source_add(void **handle, uint16_t universe);
+uint32_t sacn_proved_source_levels(void **handle, uint16_t universe, const uint8_t *slots, size_t count);
+uint32_t sacn_proved_source_priority(void **handle, uint16_t universe, uint8_t priority);
+uint32_t sacn_proved_source_end(void **handle, uint16_t universe);
+uint32_t sacn_proved_source_end_all(void **handle);
+uint32_t sacn_proved_source_poll(void **handle, uint64_t now, uint8_t *out, size_t *count, uint16_t *universe);
+uint32_t sacn_proved_source_wakes(void **handle, uint64_t *moment);
 uint32_t sacn_proved_monitor_new(void **handle);
 uint32_t sacn_proved_monitor_take(void **handle, uint64_t now, const struct sacn_sender *sender, const uint8_t *octets, size_t count,
                                   struct sacn_news *news);
@@ -254,6 +262,56 @@ int sacn_console_universe(struct sacn_console *console, size_t place, struct sac
 int sacn_console_cue(struct sacn_console *console, uint16_t *number) {
     if (!console || !console->behind || !number) return SACN_NULL;
     return (int)sacn_proved_console_cue(&console->behind, number);
+}
+
+int sacn_source_new(struct sacn_source_handle *source, const uint8_t cid[16], const char *name, size_t length, uint8_t priority, size_t room,
+                    uint8_t first) {
+    if (!source || !cid || is_bad(name, length)) return SACN_NULL;
+    if (is_long(length)) return SACN_LENGTH;
+    if (source->behind) return SACN_NOT_EMPTY;
+    return (int)sacn_proved_source_new(&source->behind, cid, start(name), length, priority, room, first);
+}
+
+int sacn_source_free(struct sacn_source_handle *source) {
+    if (!source || !source->behind) return SACN_NULL;
+    sacn_proved_free(&source->behind);
+    return SACN_DONE;
+}
+
+int sacn_source_add(struct sacn_source_handle *source, uint16_t universe) {
+    if (!source || !source->behind) return SACN_NULL;
+    return (int)sacn_proved_source_add(&source->behind, universe);
+}
+
+int sacn_source_levels(struct sacn_source_handle *source, uint16_t universe, const uint8_t *slots, size_t count) {
+    if (!source || !source->behind || !is_slice(&slots, count)) return SACN_NULL;
+    if (is_long(count)) return SACN_LENGTH;
+    return (int)sacn_proved_source_levels(&source->behind, universe, slots, count);
+}
+
+int sacn_source_priority(struct sacn_source_handle *source, uint16_t universe, uint8_t priority) {
+    if (!source || !source->behind) return SACN_NULL;
+    return (int)sacn_proved_source_priority(&source->behind, universe, priority);
+}
+
+int sacn_source_end(struct sacn_source_handle *source, uint16_t universe) {
+    if (!source || !source->behind) return SACN_NULL;
+    return (int)sacn_proved_source_end(&source->behind, universe);
+}
+
+int sacn_source_end_all(struct sacn_source_handle *source) {
+    if (!source || !source->behind) return SACN_NULL;
+    return (int)sacn_proved_source_end_all(&source->behind);
+}
+
+int sacn_source_poll(struct sacn_source_handle *source, uint64_t now, uint8_t out[SACN_MAX_DATAGRAM], size_t *count, uint16_t *universe) {
+    if (!source || !source->behind || !out || !count || !universe) return SACN_NULL;
+    return (int)sacn_proved_source_poll(&source->behind, now, out, count, universe);
+}
+
+int sacn_source_wakes(struct sacn_source_handle *source, uint64_t *moment) {
+    if (!source || !source->behind || !moment) return SACN_NULL;
+    return (int)sacn_proved_source_wakes(&source->behind, moment);
 }
 
 int sacn_monitor_new(struct sacn_monitor *monitor) {

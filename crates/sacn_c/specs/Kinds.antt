@@ -6,6 +6,7 @@ use Rattle.sacn_console.specs.Core as console
 use Rattle.sacn_sources.specs.LatestMerge as sources
 use Rattle.sacn_discovery.specs.Collection as discovery
 use Rattle.sacn_monitor.specs.Books as monitor
+use Rattle.sacn_source.specs.Source as source
 
 module _ {X : Type 0} (other : X) where
   abbrev pub of_node : (node.Node → X) → Held → X
@@ -14,6 +15,7 @@ module _ {X : Type 0} (other : X) where
   of_node f (held.Sources k) = other
   of_node f (held.Collector s) = other
   of_node f (held.Monitor b) = other
+  of_node f (held.Source s) = other
 
   abbrev pub of_console : (console.Core → X) → Held → X
   of_console f (held.Node n) = other
@@ -21,6 +23,7 @@ module _ {X : Type 0} (other : X) where
   of_console f (held.Sources k) = other
   of_console f (held.Collector s) = other
   of_console f (held.Monitor b) = other
+  of_console f (held.Source s) = other
 
   abbrev pub of_sources : (sources.Kept → X) → Held → X
   of_sources f (held.Node n) = other
@@ -28,6 +31,7 @@ module _ {X : Type 0} (other : X) where
   of_sources f (held.Sources k) = f k
   of_sources f (held.Collector s) = other
   of_sources f (held.Monitor b) = other
+  of_sources f (held.Source s) = other
 
   abbrev pub of_collector : (discovery.State → X) → Held → X
   of_collector f (held.Node n) = other
@@ -35,6 +39,7 @@ module _ {X : Type 0} (other : X) where
   of_collector f (held.Sources k) = other
   of_collector f (held.Collector s) = f s
   of_collector f (held.Monitor b) = other
+  of_collector f (held.Source s) = other
 
   abbrev pub of_monitor : (monitor.Book → X) → Held → X
   of_monitor f (held.Node n) = other
@@ -42,3 +47,12 @@ module _ {X : Type 0} (other : X) where
   of_monitor f (held.Sources k) = other
   of_monitor f (held.Collector s) = other
   of_monitor f (held.Monitor b) = f b
+  of_monitor f (held.Source s) = other
+
+  abbrev pub of_source : (source.Source → X) → Held → X
+  of_source f (held.Node n) = other
+  of_source f (held.Console c) = other
+  of_source f (held.Sources k) = other
+  of_source f (held.Collector s) = other
+  of_source f (held.Monitor b) = other
+  of_source f (held.Source s) = f s

@@ -10,3 +10,4 @@ pub mod Packets
 pub mod Pages
 pub mod Rooms
 pub mod Sending
+pub mod Sourcing

@@ -3,6 +3,7 @@ use sacn_console::ConsoleCore;
 use sacn_discovery::Collector;
 use sacn_monitor::Monitor;
 use sacn_node::NodeCore;
+use sacn_source::SourceCore;
 use sacn_sources::SourceTable;
 
 /// What a handle stands for.
@@ -18,4 +19,6 @@ pub enum Held {
     Collector(Collector),
     /// What is heard on a network.
     Monitor(Monitor),
+    /// A source that a program hands levels.
+    Source(SourceCore),
 }

@@ -16,6 +16,7 @@ mod pages;
 mod reading;
 mod release;
 mod rooms;
+mod source;
 mod sources;
 mod state;
 mod status;

@@ -14,3 +14,6 @@ pub const RANGE: u32 = 1004;
 
 /// A request for memory was refused.
 pub const OUT_OF_MEMORY: u32 = 1006;
+
+/// A name isn't UTF-8, has a NUL, or is longer than 63 octets.
+pub const NAME: u32 = 1007;
