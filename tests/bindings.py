@@ -20,7 +20,8 @@ STRUCTS = {
 }
 ENUMS = {
     "sacn_status": "Status", "sacn_packet_fault": "PacketFault", "sacn_setup_fault": "SetupFault", "sacn_show_fault": "ShowFault",
-    "sacn_console_fault": "ConsoleFault", "sacn_sources_fault": "SourcesFault", "sacn_taken": "Taken", "sacn_command": "Command",
+    "sacn_console_fault": "ConsoleFault", "sacn_source_fault": "SourceFault", "sacn_sources_fault": "SourcesFault", "sacn_taken": "Taken",
+    "sacn_command": "Command",
     "sacn_universe_state": "UniverseState", "sacn_noted": "Noted", "sacn_event": "Event", "sacn_stream_state": "StreamState",
 }
 # The numbers that an exception stands for.

@@ -43,7 +43,7 @@ using Cid = std::array<std::uint8_t, 16>;
 /* ---- errors ---- */
 
 /** Which enum of sacn.h a status is of: numbers up to 18 mean something else in each. */
-enum class Family { status, packet, setup, show, console, sources };
+enum class Family { status, packet, setup, show, console, source, sources };
 
 namespace detail {
 
@@ -62,6 +62,7 @@ inline constexpr Told statuses[] = {
     SACN_TOLD(status, SACN_RANGE, "An argument is out of range, or there is nothing of this number."),
     SACN_TOLD(status, SACN_NOT_EMPTY, "The handle that is to be made is one already."),
     SACN_TOLD(status, SACN_OUT_OF_MEMORY, "A request for memory was refused."),
+    SACN_TOLD(status, SACN_NAME, "The name isn't UTF-8, has a NUL, or is longer than 63 octets."),
     SACN_TOLD(packet, SACN_PACKET_TOO_SHORT, "The octets end before the packet does."),
     SACN_TOLD(packet, SACN_PACKET_PREAMBLE, "The preamble size isn't 0x0010."),
     SACN_TOLD(packet, SACN_PACKET_POSTAMBLE, "The post-amble size isn't 0."),
@@ -106,6 +107,15 @@ inline constexpr Told statuses[] = {
     SACN_TOLD(console, SACN_CONSOLE_ENDING, "The universe is ending."),
     SACN_TOLD(console, SACN_CONSOLE_RUNNING, "The universe runs already."),
     SACN_TOLD(console, SACN_CONSOLE_STOPPED, "The universe is stopped already."),
+    SACN_TOLD(source, SACN_SOURCE_OUT_OF_MEMORY, "A request for memory was refused while the source was made."),
+    SACN_TOLD(source, SACN_SOURCE_BAD_UNIVERSE, "The source's universe isn't 1 to 63999."),
+    SACN_TOLD(source, SACN_SOURCE_NO_UNIVERSE, "The source has no such universe."),
+    SACN_TOLD(source, SACN_SOURCE_RUNNING, "The source's universe runs already."),
+    SACN_TOLD(source, SACN_SOURCE_ENDING, "The source's universe is ending."),
+    SACN_TOLD(source, SACN_SOURCE_STOPPED, "The source's universe is stopped already."),
+    SACN_TOLD(source, SACN_SOURCE_FULL, "The source has no room for one more universe."),
+    SACN_TOLD(source, SACN_SOURCE_TOO_MANY, "There are more than 512 levels."),
+    SACN_TOLD(source, SACN_SOURCE_BAD_PRIORITY, "The source's priority is above 200."),
     SACN_TOLD(sources, SACN_SOURCES_OUT_OF_MEMORY, "A request for memory was refused while the table was made."),
 };
 #undef SACN_TOLD
@@ -469,6 +479,65 @@ class Console : public Handle<sacn_console, sacn_console_free> {
     void command(std::uint64_t now, sacn_command command, std::uint16_t number, std::uint16_t level) {
         const auto told = static_cast<std::uint8_t>(command);
         detail::check(sacn_console_command(raw(), now, told, number, level), Family::console);
+    }
+};
+
+/** A datagram that a source gives. */
+struct SourceDatagram {
+    std::array<std::uint8_t, SACN_MAX_DATAGRAM> octets;
+    std::size_t count;
+    /** The universe to whose group it goes: a data packet's own, and SACN_DISCOVERY_UNIVERSE of a page. */
+    std::uint16_t universe;
+};
+
+/** A source: it is handed the levels of its universes whenever they change, and gives the datagrams that are due. Before
+    its end its universes are ended, and it is polled for 75 ms more: else nodes show its last levels until they count it
+    as lost. */
+class Source : public Handle<sacn_source_handle, sacn_source_free> {
+  public:
+    /** Of a name of at most 63 octets of UTF-8 without a NUL, with the priority of each universe that is added, and room
+        for so many. The first packet on each has the number `first`. Throws SACN_NAME, or Family::source. */
+    Source(const Cid &cid, std::string_view name, std::uint8_t priority = 100, std::size_t room = SACN_SOURCE_UNIVERSES,
+           std::uint8_t first = 0) {
+        const int status = sacn_source_new(raw(), cid.data(), name.data(), name.size(), priority, room, first);
+        detail::check(status, Family::source);
+    }
+
+    /** Begins a universe, 1 to 63999: a new one with levels of 0, one that is stopped with those that it had. Throws
+        SACN_SOURCE_BAD_UNIVERSE, _RUNNING, _ENDING or _FULL. */
+    void add(std::uint16_t universe) { detail::check(sacn_source_add(raw(), universe), Family::source); }
+
+    /** Gives a universe other levels: these on its slots from 1 on, and 0 on all others. Throws SACN_SOURCE_NO_UNIVERSE
+        or _TOO_MANY. */
+    void levels(std::uint16_t universe, const std::uint8_t *slots, std::size_t count) {
+        detail::check(sacn_source_levels(raw(), universe, slots, count), Family::source);
+    }
+
+    /** Gives a universe another priority, 0 to 200 (E1.31, 6.2.3). Throws SACN_SOURCE_NO_UNIVERSE or _BAD_PRIORITY. */
+    void priority(std::uint16_t universe, std::uint8_t priority) {
+        detail::check(sacn_source_priority(raw(), universe, priority), Family::source);
+    }
+
+    /** Ends a universe, by three terminations (E1.31, 6.2.6). Throws SACN_SOURCE_NO_UNIVERSE, _ENDING or _STOPPED. */
+    void end(std::uint16_t universe) { detail::check(sacn_source_end(raw(), universe), Family::source); }
+
+    /** Ends each universe that runs. */
+    void end_all() { detail::check(sacn_source_end_all(raw())); }
+
+    /** The datagram that is due; nothing where none is. Poll until none is. */
+    std::optional<SourceDatagram> poll(std::uint64_t now) {
+        SourceDatagram due{};
+        detail::check(sacn_source_poll(raw(), now, due.octets.data(), &due.count, &due.universe));
+        if (due.count == 0) return std::nullopt;
+        if (due.universe == 0) due.universe = SACN_DISCOVERY_UNIVERSE;
+        return due;
+    }
+
+    /** The first moment at which something is due as long as no other call comes. */
+    std::uint64_t wakes() {
+        std::uint64_t moment = 0;
+        detail::check(sacn_source_wakes(raw(), &moment));
+        return moment;
     }
 };
 

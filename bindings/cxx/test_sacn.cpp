@@ -264,6 +264,44 @@ void console() {
     CHECK(throws(sacn::Family::show, SACN_SHOW_MISSING_KEY, [] { sacn::Console("version = 2"); }));
 }
 
+void source() {
+    sacn::Source source(cid, "Desk", 120, 1, 255);
+    source.add(7);
+    const Octets two_levels{255, 128};
+    source.levels(7, two_levels.data(), two_levels.size());
+    std::optional<sacn::SourceDatagram> due = source.poll(0);
+    CHECK(due && begins(due->octets, due->count, data(cid, 255, whole(padded({255, 128})), 120, 0, 7)));
+    CHECK(due && due->universe == 7);
+    due = source.poll(0);
+    CHECK(due && begins(due->octets, due->count, page(cid, {7})) && due->universe == 64214);
+    /* (a packet is sent three times more, 25 ms apart, and then each 900 ms) */
+    CHECK(!source.poll(0) && source.wakes() == 25);
+    std::vector<std::array<std::uint64_t, 3>> told;
+    for (std::uint64_t moment = 1; moment < 2000; moment++) {
+        while ((due = source.poll(moment))) told.push_back({moment, due->octets[111], due->octets[112]});
+    }
+    CHECK(told == std::vector<std::array<std::uint64_t, 3>>{{25, 0, 0}, {50, 1, 0}, {75, 2, 0}, {975, 3, 0}, {1875, 4, 0}});
+    source.priority(7, 200);
+    due = source.poll(2000);
+    CHECK(due && begins(due->octets, due->count, data(cid, 5, whole(padded({255, 128})), 200, 0, 7)));
+    source.end(7);
+    told.clear();
+    for (std::uint64_t moment = 2000; moment < 4000; moment++) {
+        while ((due = source.poll(moment))) told.push_back({moment, due->octets[111], due->octets[112]});
+    }
+    CHECK(told == std::vector<std::array<std::uint64_t, 3>>{{2025, 6, 0x40}, {2050, 7, 0x40}, {2075, 8, 0x40}});
+    CHECK(throws(sacn::Family::source, SACN_SOURCE_STOPPED, [&] { source.end(7); }));
+    CHECK(throws(sacn::Family::source, SACN_SOURCE_FULL, [&] { source.add(8); }));
+    CHECK(throws(sacn::Family::source, SACN_SOURCE_BAD_UNIVERSE, [&] { source.add(0); }));
+    CHECK(throws(sacn::Family::source, SACN_SOURCE_NO_UNIVERSE, [&] { source.levels(8, none, 0); }));
+    CHECK(throws(sacn::Family::source, SACN_SOURCE_BAD_PRIORITY, [&] { source.priority(7, 201); }));
+    source.add(7);
+    source.end_all();
+    CHECK(throws(sacn::Family::source, SACN_SOURCE_ENDING, [&] { source.add(7); }));
+    CHECK(refuses(SACN_NAME, [] { sacn::Source(cid, std::string(64, 'x')); }));
+    CHECK(throws(sacn::Family::source, SACN_SOURCE_BAD_PRIORITY, [] { sacn::Source(cid, "Desk", 201); }));
+}
+
 void monitor() {
     const sacn_sender first{{10, 0, 0, 1}, 5568}, second{{10, 0, 0, 1}, 6000};
     sacn::Monitor monitor;
@@ -310,6 +348,7 @@ void handles() {
         sacn::Console console(show), moved(std::move(console));
         sacn::Collector collector;
         sacn::Sources sources;
+        sacn::Source source(cid, "Desk", 100, 1);
     }
     CHECK(monitor.count() == 0);
 }
@@ -333,6 +372,7 @@ int main() {
     node();
     collector();
     console();
+    source();
     monitor();
     handles();
     errors();

@@ -6,8 +6,8 @@
 
 A `Node` merges what sources send and shows the frames of its ports; `Sources` is the merge of one universe alone, for
 who has the rest of a receiver; a `Collector` gathers the lists of universe discovery; a `Console` plays a show and
-gives the datagrams that are due; a `Monitor` keeps an account of each source on each universe. Packets are read and
-written by functions. No call opens a socket, waits or reads a clock.
+gives the datagrams that are due; a `Source` does so of levels that it is handed; a `Monitor` keeps an account of each
+source on each universe. Packets are read and written by functions. No call opens a socket, waits or reads a clock.
 
 Library. `load` takes a path; without it the environment's SACN_LIBRARY is taken, and else `libsacn.so.1` where the system
 looks for libraries. A call that finds none loaded loads it so.
@@ -38,13 +38,14 @@ from typing import Any, Dict, Iterable, List, Optional, Sequence, Tuple, Type, T
 
 __all__ = [
     "load", "LibraryError", "SacnError", "NotAPacket",
-    "Status", "PacketFault", "SetupFault", "ShowFault", "ConsoleFault", "SourcesFault",
+    "Status", "PacketFault", "SetupFault", "ShowFault", "ConsoleFault", "SourceFault", "SourcesFault",
     "Taken", "Command", "UniverseState", "Noted", "Event", "StreamState",
     "SLOTS", "FRAME_OCTETS", "DATA_OCTETS", "MAX_DATAGRAM", "UDP_PORT", "DISCOVERY_UNIVERSE", "PAGE_UNIVERSES",
-    "MAX_SOURCES", "MAX_PORTS", "MAX_UNIVERSES", "DATA_LOSS", "LIST_LOSS", "MAX_STREAMS",
+    "MAX_SOURCES", "MAX_PORTS", "MAX_UNIVERSES", "SOURCE_UNIVERSES", "DATA_LOSS", "LIST_LOSS", "MAX_STREAMS",
     "DataPacket", "PagePacket", "SyncPacket", "Packet", "read_packet", "write_data", "packet_name",
     "read_universes", "write_page", "in_sequence", "multicast_group",
-    "HeldSource", "Node", "Sources", "Collector", "Datagram", "ConsoleUniverse", "Console", "News", "Stream", "Monitor",
+    "HeldSource", "Node", "Sources", "Collector", "Datagram", "ConsoleUniverse", "Console", "Source", "News", "Stream",
+    "Monitor",
 ]
 
 Octets = Union[bytes, bytearray, memoryview]
@@ -54,7 +55,7 @@ Cid = Union[uuid.UUID, Octets]
 SLOTS = 512
 #: The start code, and then the slots.
 FRAME_OCTETS = 513
-#: The octets of the longest data packet, and of the longest packet that a console gives.
+#: The octets of the longest data packet, and of the longest packet that a console or a source gives.
 DATA_OCTETS = 638
 MAX_DATAGRAM = 1144
 UDP_PORT = 5568
@@ -66,6 +67,8 @@ PAGE_UNIVERSES = 512
 MAX_SOURCES = 16
 MAX_PORTS = 16
 MAX_UNIVERSES = 16
+#: The most universes of a source.
+SOURCE_UNIVERSES = 1024
 #: A source that sent nothing for so many milliseconds is lost (6.7.1); a list whose latest page is so old is forgotten.
 DATA_LOSS = 2500
 LIST_LOSS = 25000
@@ -75,6 +78,7 @@ MAX_STREAMS = 1024
 _NAME_OCTETS = 64
 _CID_OCTETS = 16
 _LAST_MOMENT = 2**64 - 1
+_MAX_SIZE = ctypes.c_size_t(-1).value
 
 
 # ---- statuses ----
@@ -101,6 +105,7 @@ class Status(_Fault):
     RANGE = 1004, "An argument is out of range, or there is nothing of this number."
     NOT_EMPTY = 1005, "The handle that is to be made is one already."
     OUT_OF_MEMORY = 1006, "A request for memory was refused."
+    NAME = 1007, "The name isn't UTF-8, has a NUL, or is longer than 63 octets."
 
 
 class PacketFault(_Fault):
@@ -165,6 +170,20 @@ class ConsoleFault(_Fault):
     STOPPED = 6, "The universe is stopped already."
 
 
+class SourceFault(_Fault):
+    """Why a source isn't made, or refuses a call; it is then as it was (enum sacn_source_fault)."""
+
+    OUT_OF_MEMORY = 1, "A request for memory was refused while the source was made."
+    BAD_UNIVERSE = 2, "The source's universe isn't 1 to 63999."
+    NO_UNIVERSE = 3, "The source has no such universe."
+    RUNNING = 4, "The source's universe runs already."
+    ENDING = 5, "The source's universe is ending."
+    STOPPED = 6, "The source's universe is stopped already."
+    FULL = 7, "The source has no room for one more universe."
+    TOO_MANY = 8, "There are more than 512 levels."
+    BAD_PRIORITY = 9, "The source's priority is above 200."
+
+
 class SourcesFault(_Fault):
     """Why no table of sources is made (enum sacn_sources_fault)."""
 
@@ -177,6 +196,7 @@ _PREFIXES: Dict[Type[_Fault], str] = {
     SetupFault: "SACN_SETUP_",
     ShowFault: "SACN_SHOW_",
     ConsoleFault: "SACN_CONSOLE_",
+    SourceFault: "SACN_SOURCE_",
     SourcesFault: "SACN_SOURCES_",
 }
 
@@ -372,6 +392,15 @@ _CALLS: Dict[str, Tuple[Any, ...]] = {
     "console_wakes": (_made, _to(_u64)),
     "console_universe": (_made, _size, _to(_Universe)),
     "console_cue": (_made, _to(_u16)),
+    "source_new": (_made, ctypes.c_char_p, *_in, _u8, _size, _u8),
+    "source_free": (_made,),
+    "source_add": (_made, _u16),
+    "source_levels": (_made, _u16, *_in),
+    "source_priority": (_made, _u16, _u8),
+    "source_end": (_made, _u16),
+    "source_end_all": (_made,),
+    "source_poll": (_made, _u64, _to(_u8), _to(_size), _to(_u16)),
+    "source_wakes": (_made, _to(_u64)),
     "monitor_new": (_made,),
     "monitor_free": (_made,),
     "monitor_take": (_made, _u64, _to(_Sender), *_in, _to(_News)),
@@ -838,7 +867,7 @@ class ConsoleUniverse:
 
 @dataclass(frozen=True)
 class Datagram:
-    """A datagram that a console gives."""
+    """A datagram that a console or a source gives."""
 
     octets: bytes
     #: The universe to whose group it goes: a data packet's own, and DISCOVERY_UNIVERSE of a page.
@@ -924,6 +953,69 @@ class Console(_Handle):
         """The number of the cue that was gone to last; None before the first."""
         number = _u16()
         return number.value if self._found("cue", number) else None
+
+
+class Source(_Handle):
+    """A source: it is handed the levels of its universes whenever they change, and gives the datagrams that are due.
+
+    `name` has at most 63 octets of UTF-8, and no NUL (E1.31, 6.2.2). `priority`, 0 to 200, is that of each universe that
+    is added. There is room for `room` universes, at most SOURCE_UNIVERSES. The first packet on each has the number
+    `first`, 0 to 255. SacnError with Status.NAME or a SourceFault where it isn't made. Before a source is freed its
+    universes are ended, and it is polled for 75 ms more: else nodes show its last levels until they count it as lost.
+    """
+
+    _kind = "source"
+
+    def __init__(
+        self, cid: Cid, name: Text, priority: int = 100, room: int = SOURCE_UNIVERSES, first: int = 0
+    ) -> None:
+        octets, text = _cid(cid), _text(name, "name")
+        numbers = (_number(priority, "priority", 255), _number(room, "room", _MAX_SIZE), _number(first, "first", 255))
+        super().__init__(octets, text, len(text), *numbers, family=SourceFault)
+
+    def _order(self, name: str, universe: int, *arguments: Any) -> None:
+        _check(self._status(name, _number(universe, "universe", 65535), *arguments), SourceFault)
+
+    def add(self, universe: int) -> None:
+        """Begins a universe, 1 to 63999: a new one with levels of 0, one that is stopped with those that it had.
+
+        SourceFault.BAD_UNIVERSE, RUNNING, ENDING or FULL.
+        """
+        self._order("add", universe)
+
+    def levels(self, universe: int, slots: Octets) -> None:
+        """Gives a universe other levels: these on its slots from 1 on, and 0 on all others.
+
+        SourceFault.NO_UNIVERSE, or TOO_MANY where there are more than 512.
+        """
+        octets = _octets(slots, "slots")
+        self._order("levels", universe, octets, len(octets))
+
+    def priority(self, universe: int, priority: int) -> None:
+        """Gives a universe another priority, 0 to 200 (E1.31, 6.2.3). SourceFault.NO_UNIVERSE or BAD_PRIORITY."""
+        self._order("priority", universe, _number(priority, "priority", 255))
+
+    def end(self, universe: int) -> None:
+        """Ends a universe, by three terminations (E1.31, 6.2.6). SourceFault.NO_UNIVERSE, ENDING or STOPPED."""
+        self._order("end", universe)
+
+    def end_all(self) -> None:
+        """Ends each universe that runs."""
+        _check(self._status("end_all"))
+
+    def poll(self, now: int) -> Optional[Datagram]:
+        """The datagram that is due, None where none is. Poll until none is."""
+        out, count, universe = _Datagram(), _size(), _u16()
+        _check(self._status("poll", _moment(now), out, count, universe))
+        if not count.value:
+            return None
+        return Datagram(ctypes.string_at(out, count.value), universe.value or DISCOVERY_UNIVERSE)
+
+    def wakes(self) -> int:
+        """The first moment at which something is due as long as no other call comes."""
+        moment = _u64()
+        _check(self._status("wakes", moment))
+        return moment.value
 
 
 class Noted(IntEnum):
@@ -1066,7 +1158,7 @@ class Monitor(_Handle):
         SacnError with Status.RANGE where there is none.
         """
         told = _Stream()
-        _check(self._status("account", _number(place, "place", ctypes.c_size_t(-1).value), told))
+        _check(self._status("account", _number(place, "place", _MAX_SIZE), told))
         return Stream(
             told.universe, _cid_of(told), _name_of(told), str(IPv4Address(bytes(told.address))), told.port,
             told.priority, told.number, StreamState(told.state), told.first, told.latest, told.live, told.previews,

@@ -18,7 +18,8 @@ import uuid
 import sacn_core
 from sacn_core import (
     Collector, Command, Console, ConsoleFault, DataPacket, Event, Monitor, Node, NotAPacket, Noted, PacketFault,
-    PagePacket, SacnError, SetupFault, ShowFault, Sources, Status, StreamState, SyncPacket, Taken, UniverseState,
+    PagePacket, SacnError, SetupFault, ShowFault, Source, SourceFault, Sources, Status, StreamState, SyncPacket, Taken,
+    UniverseState,
 )
 
 CID = uuid.UUID("00010203-0405-0607-0809-0a0b0c0d0e0f")
@@ -322,6 +323,68 @@ class Playing(Base):
         self.assertRaises(ValueError, Console, SHOW, 256)
 
 
+class Sending(Base):
+    def test_levels_and_three_terminations(self):
+        with Source(CID, "Desk", 120, room=1, first=255) as source:
+            source.add(7)
+            source.levels(7, bytearray((255, 128)))
+            first, second = source.poll(0), source.poll(0)
+            self.assertEqual(first.octets, data(CID, 255, padded(255, 128), 120, universe=7))
+            self.assertEqual((first.universe, first.group), (7, "239.255.0.7"))
+            self.assertEqual(second.octets, page(CID, (7,)))
+            self.assertEqual((second.universe, second.group), (64214, "239.255.250.214"))
+            self.assertIsNone(source.poll(0))
+            # (a packet is sent three times more, 25 ms apart, and then each 900 ms)
+            told = []
+            for moment in range(1, 2000):
+                while (it := source.poll(moment)) is not None:
+                    told.append((moment, it.octets[111]))
+            self.assertEqual(told, [(25, 0), (50, 1), (75, 2), (975, 3), (1875, 4)])
+            self.assertEqual(source.wakes(), 2775)
+            source.priority(7, 200)
+            self.assertEqual(source.poll(2000).octets, data(CID, 5, padded(255, 128), 200, universe=7))
+            source.end(7)
+            ends = []
+            for moment in range(2000, 4000):
+                while (it := source.poll(moment)) is not None:
+                    ends.append((moment, it.octets[111], it.octets[112]))
+            self.assertEqual(ends, [(2025, 6, 0x40), (2050, 7, 0x40), (2075, 8, 0x40)])
+            self.assertEqual(source.wakes(), 10000)
+            source.add(7)
+            self.assertEqual(source.poll(4000).octets, data(CID, 9, padded(255, 128), 200, universe=7))
+
+    def test_refusals(self):
+        with Source(OTHER.bytes, "x" * 63, room=2) as source:
+            self.refused(SourceFault.BAD_UNIVERSE, source.add, 0)
+            self.refused(SourceFault.BAD_UNIVERSE, source.add, 64000)
+            self.refused(SourceFault.NO_UNIVERSE, source.levels, 1, b"")
+            self.refused(SourceFault.NO_UNIVERSE, source.priority, 1, 201)
+            self.refused(SourceFault.NO_UNIVERSE, source.end, 1)
+            source.add(2)
+            self.refused(SourceFault.RUNNING, source.add, 2)
+            source.add(1)
+            self.refused(SourceFault.FULL, source.add, 3)
+            source.levels(1, bytes(512))
+            self.refused(SourceFault.TOO_MANY, source.levels, 1, bytes(513))
+            self.refused(SourceFault.BAD_PRIORITY, source.priority, 1, 201)
+            source.end_all()
+            self.refused(SourceFault.ENDING, source.add, 2)
+            self.refused(SourceFault.ENDING, source.end, 1)
+            # (the lesser number is first)
+            self.assertEqual([source.poll(it).universe for it in (0, 0, 25, 25, 50, 50)], [1, 2, 1, 2, 1, 2])
+            self.refused(SourceFault.STOPPED, source.end, 1)
+            self.assertRaises(ValueError, source.add, 65536)
+            self.assertRaises(TypeError, source.levels, 1, (1, 2))
+            self.assertRaises(ValueError, source.poll, -1)
+        for name in ("x" * 64, "a\0b", b"\xff"):
+            self.refused(Status.NAME, Source, CID, name)
+        self.refused(Status.NAME, Source, CID, b"\xff", 201)
+        self.refused(SourceFault.BAD_PRIORITY, Source, CID, "Desk", 201)
+        self.assertRaises(ValueError, Source, bytes(15), "Desk")
+        self.assertRaises(ValueError, Source, CID, "Desk", 256)
+        self.assertRaises(ValueError, Source, CID, "Desk", room=-1)
+
+
 class Monitoring(Base):
     def test_an_account(self):
         first, second = ("10.0.0.1", 5568), ("10.0.0.1", 6000)
@@ -353,10 +416,10 @@ class Monitoring(Base):
 
 class Handles(Base):
     def made(self):
-        return [Node(SETUP), Sources(), Collector(), Console(SHOW), Monitor()]
+        return [Node(SETUP), Sources(), Collector(), Console(SHOW), Monitor(), Source(CID, "Desk")]
 
     def test_a_freed_handle_is_refused(self):
-        node, sources, collector, console, monitor = handles = self.made()
+        node, sources, collector, console, monitor, source = handles = self.made()
         for handle in handles:
             self.assertFalse(handle.closed)
             with handle as it:
@@ -370,7 +433,9 @@ class Handles(Base):
             (collector.take, (0, LEVELS)), (collector.list, (0, CID)), (collector.tick, (0,)), (console.go, (0,)),
             (console.poll, (0,)), (console.wakes, ()), (console.universes, ()), (console.cue, ()),
             (monitor.take, (0, LEVELS, ("10.0.0.1", 1))), (monitor.tick, (0,)), (monitor.wakes, ()),
-            (monitor.count, ()), (monitor.account, (0,)), (monitor.rivals, (1,)),
+            (monitor.count, ()), (monitor.account, (0,)), (monitor.rivals, (1,)), (source.add, (1,)),
+            (source.levels, (1, b"")), (source.priority, (1, 1)), (source.end, (1,)), (source.end_all, ()),
+            (source.poll, (0,)), (source.wakes, ()),
         ):
             error = self.refused(Status.NULL, call, *arguments)
             self.assertEqual((error.name, int(error.status)), ("SACN_NULL", 1001))
@@ -453,10 +518,12 @@ class Loading(Base):
     def test_each_fault_has_one_sentence_of_its_own(self):
         faults = [
             it
-            for family in (Status, PacketFault, SetupFault, ShowFault, ConsoleFault, sacn_core.SourcesFault)
+            for family in (
+                Status, PacketFault, SetupFault, ShowFault, ConsoleFault, SourceFault, sacn_core.SourcesFault
+            )
             for it in family
         ]
-        self.assertEqual(len(faults), 6 + 18 + 10 + 8 + 6 + 1)
+        self.assertEqual(len(faults), 7 + 18 + 10 + 8 + 6 + 9 + 1)
         self.assertEqual(len({it.meaning for it in faults}), len(faults))
         self.assertTrue(all(it.meaning.endswith(".") and it.meaning.count(". ") == 0 for it in faults))
 

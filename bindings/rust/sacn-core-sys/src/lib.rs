@@ -17,6 +17,7 @@ pub const SACN_WRONG_HANDLE: c_int = 1003;
 pub const SACN_RANGE: c_int = 1004;
 pub const SACN_NOT_EMPTY: c_int = 1005;
 pub const SACN_OUT_OF_MEMORY: c_int = 1006;
+pub const SACN_NAME: c_int = 1007;
 
 // enum sacn_packet_fault
 pub const SACN_PACKET_TOO_SHORT: c_int = 1;
@@ -67,6 +68,17 @@ pub const SACN_CONSOLE_NO_UNIVERSE: c_int = 3;
 pub const SACN_CONSOLE_ENDING: c_int = 4;
 pub const SACN_CONSOLE_RUNNING: c_int = 5;
 pub const SACN_CONSOLE_STOPPED: c_int = 6;
+
+// enum sacn_source_fault
+pub const SACN_SOURCE_OUT_OF_MEMORY: c_int = 1;
+pub const SACN_SOURCE_BAD_UNIVERSE: c_int = 2;
+pub const SACN_SOURCE_NO_UNIVERSE: c_int = 3;
+pub const SACN_SOURCE_RUNNING: c_int = 4;
+pub const SACN_SOURCE_ENDING: c_int = 5;
+pub const SACN_SOURCE_STOPPED: c_int = 6;
+pub const SACN_SOURCE_FULL: c_int = 7;
+pub const SACN_SOURCE_TOO_MANY: c_int = 8;
+pub const SACN_SOURCE_BAD_PRIORITY: c_int = 9;
 
 // enum sacn_sources_fault
 pub const SACN_SOURCES_OUT_OF_MEMORY: c_int = 1;
@@ -139,6 +151,7 @@ pub const SACN_MAX_UNIVERSES: usize = 16;
 pub const SACN_DATA_LOSS: u64 = 2500;
 pub const SACN_LIST_LOSS: u64 = 25000;
 pub const SACN_TEXT_OCTETS: usize = 65;
+pub const SACN_SOURCE_UNIVERSES: usize = 1024;
 pub const SACN_MAX_STREAMS: usize = 1024;
 
 // ---- structs ----
@@ -206,6 +219,13 @@ pub struct sacn_universe {
     pub state: u8,
     pub number: u8,
     pub unused: [u8; 4],
+}
+
+/// A handle: zero where it is empty. It is never copied.
+#[repr(C)]
+#[derive(Debug)]
+pub struct sacn_source_handle {
+    pub behind: *mut c_void,
 }
 
 #[repr(C)]
@@ -339,6 +359,29 @@ extern "C" {
     pub fn sacn_console_wakes(console: *mut sacn_console, moment: *mut u64) -> c_int;
     pub fn sacn_console_universe(console: *mut sacn_console, place: usize, universe: *mut sacn_universe) -> c_int;
     pub fn sacn_console_cue(console: *mut sacn_console, number: *mut u16) -> c_int;
+    pub fn sacn_source_new(
+        source: *mut sacn_source_handle,
+        cid: *const u8,
+        name: *const c_char,
+        length: usize,
+        priority: u8,
+        room: usize,
+        first: u8,
+    ) -> c_int;
+    pub fn sacn_source_free(source: *mut sacn_source_handle) -> c_int;
+    pub fn sacn_source_add(source: *mut sacn_source_handle, universe: u16) -> c_int;
+    pub fn sacn_source_levels(source: *mut sacn_source_handle, universe: u16, slots: *const u8, count: usize) -> c_int;
+    pub fn sacn_source_priority(source: *mut sacn_source_handle, universe: u16, priority: u8) -> c_int;
+    pub fn sacn_source_end(source: *mut sacn_source_handle, universe: u16) -> c_int;
+    pub fn sacn_source_end_all(source: *mut sacn_source_handle) -> c_int;
+    pub fn sacn_source_poll(
+        source: *mut sacn_source_handle,
+        now: u64,
+        out: *mut u8,
+        count: *mut usize,
+        universe: *mut u16,
+    ) -> c_int;
+    pub fn sacn_source_wakes(source: *mut sacn_source_handle, moment: *mut u64) -> c_int;
     pub fn sacn_monitor_new(monitor: *mut sacn_monitor) -> c_int;
     pub fn sacn_monitor_free(monitor: *mut sacn_monitor) -> c_int;
     pub fn sacn_monitor_take(

@@ -67,7 +67,7 @@ pub struct ConsoleUniverse {
     pub latest: Option<u64>,
 }
 
-/// A datagram that a console gives.
+/// A datagram that a console or a source gives.
 #[derive(Clone, Copy, Debug, PartialEq, Eq)]
 pub struct Datagram<'a> {
     /// Its octets.

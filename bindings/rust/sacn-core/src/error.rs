@@ -51,6 +51,7 @@ faults! {
         Range = SACN_RANGE: "An argument is out of range, or there is nothing of this number.",
         NotEmpty = SACN_NOT_EMPTY: "The handle that is to be made is one already.",
         OutOfMemory = SACN_OUT_OF_MEMORY: "A request for memory was refused.",
+        Name = SACN_NAME: "The name isn't UTF-8, has a NUL, or is longer than 63 octets.",
     }
 }
 
@@ -123,6 +124,21 @@ faults! {
 }
 
 faults! {
+    /// Why a source isn't made, or refuses a call; it is then as it was (`enum sacn_source_fault`).
+    SourceFault {
+        OutOfMemory = SACN_SOURCE_OUT_OF_MEMORY: "A request for memory was refused while the source was made.",
+        BadUniverse = SACN_SOURCE_BAD_UNIVERSE: "The source's universe isn't 1 to 63999.",
+        NoUniverse = SACN_SOURCE_NO_UNIVERSE: "The source has no such universe.",
+        Running = SACN_SOURCE_RUNNING: "The source's universe runs already.",
+        Ending = SACN_SOURCE_ENDING: "The source's universe is ending.",
+        Stopped = SACN_SOURCE_STOPPED: "The source's universe is stopped already.",
+        Full = SACN_SOURCE_FULL: "The source has no room for one more universe.",
+        TooMany = SACN_SOURCE_TOO_MANY: "There are more than 512 levels.",
+        BadPriority = SACN_SOURCE_BAD_PRIORITY: "The source's priority is above 200.",
+    }
+}
+
+faults! {
     /// Why no table of sources is made (`enum sacn_sources_fault`).
     SourcesFault {
         OutOfMemory = SACN_SOURCES_OUT_OF_MEMORY: "A request for memory was refused while the table was made.",
@@ -143,6 +159,8 @@ pub enum Error {
     Show(ShowFault),
     /// A console refuses a command.
     Console(ConsoleFault),
+    /// A source isn't made, or refuses a call.
+    Source(SourceFault),
     /// No table of sources is made.
     Sources(SourcesFault),
     /// The library answers a number that this crate doesn't know.
@@ -158,6 +176,7 @@ impl Error {
             Error::Setup(fault) => fault.status(),
             Error::Show(fault) => fault.status(),
             Error::Console(fault) => fault.status(),
+            Error::Source(fault) => fault.status(),
             Error::Sources(fault) => fault.status(),
             Error::Unknown(number) => number,
         }
@@ -180,6 +199,7 @@ impl Error {
             Error::Setup(fault) => (fault.name(), fault.meaning()),
             Error::Show(fault) => (fault.name(), fault.meaning()),
             Error::Console(fault) => (fault.name(), fault.meaning()),
+            Error::Source(fault) => (fault.name(), fault.meaning()),
             Error::Sources(fault) => (fault.name(), fault.meaning()),
             Error::Unknown(_) => ("unknown", "The library answers a number that this crate doesn't know."),
         }
@@ -199,6 +219,10 @@ impl Error {
 
     pub(crate) fn console(status: i32) -> Option<Self> {
         ConsoleFault::of(status).map(Error::Console)
+    }
+
+    pub(crate) fn source(status: i32) -> Option<Self> {
+        SourceFault::of(status).map(Error::Source)
     }
 
     pub(crate) fn sources(status: i32) -> Option<Self> {

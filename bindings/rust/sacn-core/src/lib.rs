@@ -3,7 +3,7 @@
 //! - A [`Node`] takes datagrams, merges their sources by priority and highest level, and shows the frames of its ports;
 //!   [`Sources`] is the merge of one universe alone, for who has the rest of a receiver.
 //! - A [`Collector`] gathers the lists of universe discovery.
-//! - A [`Console`] plays a show, and gives the datagrams that are due.
+//! - A [`Console`] plays a show, and gives the datagrams that are due; a [`Source`] does so of levels that it is handed.
 //! - A [`Monitor`] keeps an account of each source on each universe.
 //! - [`read_packet`], [`write_data`] and their like are for who has all else.
 //!
@@ -45,16 +45,18 @@ mod node;
 mod packet;
 #[allow(unsafe_code)]
 mod raw;
+mod source;
 
 pub use collector::Collector;
 pub use console::{Command, Console, ConsoleUniverse, Datagram, UniverseState};
-pub use error::{ConsoleFault, Error, PacketFault, SetupFault, ShowFault, SourcesFault, Status};
+pub use error::{ConsoleFault, Error, PacketFault, SetupFault, ShowFault, SourceFault, SourcesFault, Status};
 pub use monitor::{Event, Monitor, News, Noted, Stream, StreamState};
 pub use node::{HeldSource, Node, Sources, Taken};
 pub use packet::{
     in_sequence, multicast_group, read_packet, read_universes, write_data, write_page, Cid, DataPacket, Name, Packet,
     Page, Slots,
 };
+pub use source::Source;
 
 use sacn_core_sys as sys;
 
@@ -64,7 +66,7 @@ pub const SLOTS: usize = sys::SACN_SLOTS;
 pub const FRAME_OCTETS: usize = sys::SACN_FRAME_OCTETS;
 /// The octets of the longest data packet.
 pub const DATA_OCTETS: usize = sys::SACN_DATA_OCTETS;
-/// The octets of the longest packet that a console gives.
+/// The octets of the longest packet that a console or a source gives.
 pub const MAX_DATAGRAM: usize = sys::SACN_MAX_DATAGRAM;
 /// The UDP port of streaming ACN.
 pub const UDP_PORT: u16 = sys::SACN_UDP_PORT;
@@ -78,6 +80,8 @@ pub const MAX_SOURCES: usize = sys::SACN_MAX_SOURCES;
 pub const MAX_PORTS: usize = sys::SACN_MAX_PORTS;
 /// How many universes a node has at most.
 pub const MAX_UNIVERSES: usize = sys::SACN_MAX_UNIVERSES;
+/// The most universes of a source.
+pub const SOURCE_UNIVERSES: usize = sys::SACN_SOURCE_UNIVERSES;
 /// A source that sent nothing for so many milliseconds is lost (6.7.1).
 pub const DATA_LOSS: u64 = sys::SACN_DATA_LOSS;
 /// A list of universes whose latest page is so many milliseconds old is forgotten.

@@ -29,6 +29,7 @@ kinds! {
     sacn_sources: sacn_sources_free,
     sacn_collector: sacn_collector_free,
     sacn_console: sacn_console_free,
+    sacn_source_handle: sacn_source_free,
     sacn_monitor: sacn_monitor_free,
 }
 
@@ -228,6 +229,46 @@ pub fn console_universe(console: &mut Handle<sacn_console>, place: usize, univer
 
 pub fn console_cue(console: &mut Handle<sacn_console>, number: &mut u16) -> c_int {
     unsafe { sacn_console_cue(&mut console.0, number) }
+}
+
+pub fn source_new(cid: &[u8; 16], name: &[u8], priority: u8, room: usize, first: u8) -> Made<sacn_source_handle> {
+    made(|source| unsafe {
+        sacn_source_new(source, cid.as_ptr(), name.as_ptr().cast(), name.len(), priority, room, first)
+    })
+}
+
+pub fn source_add(source: &mut Handle<sacn_source_handle>, universe: u16) -> c_int {
+    unsafe { sacn_source_add(&mut source.0, universe) }
+}
+
+pub fn source_levels(source: &mut Handle<sacn_source_handle>, universe: u16, slots: &[u8]) -> c_int {
+    unsafe { sacn_source_levels(&mut source.0, universe, slots.as_ptr(), slots.len()) }
+}
+
+pub fn source_priority(source: &mut Handle<sacn_source_handle>, universe: u16, priority: u8) -> c_int {
+    unsafe { sacn_source_priority(&mut source.0, universe, priority) }
+}
+
+pub fn source_end(source: &mut Handle<sacn_source_handle>, universe: u16) -> c_int {
+    unsafe { sacn_source_end(&mut source.0, universe) }
+}
+
+pub fn source_end_all(source: &mut Handle<sacn_source_handle>) -> c_int {
+    unsafe { sacn_source_end_all(&mut source.0) }
+}
+
+pub fn source_poll(
+    source: &mut Handle<sacn_source_handle>,
+    now: u64,
+    out: &mut [u8; SACN_MAX_DATAGRAM],
+    count: &mut usize,
+    universe: &mut u16,
+) -> c_int {
+    unsafe { sacn_source_poll(&mut source.0, now, out.as_mut_ptr(), count, universe) }
+}
+
+pub fn source_wakes(source: &mut Handle<sacn_source_handle>, moment: &mut u64) -> c_int {
+    unsafe { sacn_source_wakes(&mut source.0, moment) }
 }
 
 pub fn monitor_new() -> Made<sacn_monitor> {

@@ -327,6 +327,70 @@ fn three_terminations_after_an_end() -> Result<(), Error> {
 }
 
 #[test]
+fn levels_and_three_terminations() -> Result<(), Error> {
+    let mut source = Source::new(&CID, "Desk", 120, 1, 255)?;
+    let mut out = [0; MAX_DATAGRAM];
+    source.add(7)?;
+    source.levels(7, &[255, 128])?;
+    let octets = data(&CID, 255, &padded(&[255, 128]), 120, 0, 7);
+    assert_eq!(source.poll(0, &mut out)?, Some(Datagram { octets: &octets, universe: 7 }));
+    let octets = page(&CID, &[7], 0, 0);
+    assert_eq!(source.poll(0, &mut out)?, Some(Datagram { octets: &octets, universe: 64214 }));
+    assert_eq!(source.poll(0, &mut out)?, None);
+    // (a packet is sent three times more, 25 ms apart, and then each 900 ms)
+    let mut told = Vec::new();
+    for moment in 1..2000 {
+        while let Some(datagram) = source.poll(moment, &mut out)? {
+            told.push((moment, datagram.octets[111]));
+        }
+    }
+    assert_eq!(told, [(25, 0), (50, 1), (75, 2), (975, 3), (1875, 4)]);
+    assert_eq!(source.wakes()?, 2775);
+    source.priority(7, 200)?;
+    let octets = data(&CID, 5, &padded(&[255, 128]), 200, 0, 7);
+    assert_eq!(source.poll(2000, &mut out)?, Some(Datagram { octets: &octets, universe: 7 }));
+    source.end(7)?;
+    let mut ends = Vec::new();
+    for moment in 2000..4000 {
+        while let Some(datagram) = source.poll(moment, &mut out)? {
+            ends.push((moment, datagram.octets[111], datagram.octets[112]));
+        }
+    }
+    assert_eq!(ends, [(2025, 6, 0x40), (2050, 7, 0x40), (2075, 8, 0x40)]);
+    assert_eq!(source.wakes()?, 10000);
+    Ok(())
+}
+
+#[test]
+fn a_source_refuses() -> Result<(), Error> {
+    let mut source = Source::new(&OTHER, &"x".repeat(63), 100, 2, 0)?;
+    for universe in [0, 64000] {
+        assert_eq!(source.add(universe), Err(Error::Source(SourceFault::BadUniverse)));
+    }
+    assert_eq!(source.levels(1, &[]), Err(Error::Source(SourceFault::NoUniverse)));
+    source.add(2)?;
+    assert_eq!(source.add(2), Err(Error::Source(SourceFault::Running)));
+    source.add(1)?;
+    assert_eq!(source.add(3), Err(Error::Source(SourceFault::Full)));
+    source.levels(1, &[0; 512])?;
+    assert_eq!(source.levels(1, &[0; 513]), Err(Error::Source(SourceFault::TooMany)));
+    assert_eq!(source.priority(1, 201), Err(Error::Source(SourceFault::BadPriority)));
+    source.end_all()?;
+    assert_eq!(source.end(1), Err(Error::Source(SourceFault::Ending)));
+    let (mut out, mut universes) = ([0; MAX_DATAGRAM], Vec::new());
+    for moment in [0, 0, 25, 25, 50, 50] {
+        universes.extend(source.poll(moment, &mut out)?.map(|datagram| datagram.universe));
+    }
+    assert_eq!(universes, [1, 2, 1, 2, 1, 2]);
+    assert_eq!(source.end(1), Err(Error::Source(SourceFault::Stopped)));
+    for name in [&"x".repeat(64), "a\0b"] {
+        assert_eq!(Source::new(&CID, name, 201, 1, 0).err(), Some(Error::Status(Status::Name)));
+    }
+    assert_eq!(Source::new(&CID, "", 201, 1, 0).err(), Some(Error::Source(SourceFault::BadPriority)));
+    Ok(())
+}
+
+#[test]
 fn commands() -> Result<(), Error> {
     let mut console = Console::new(SHOW, 0)?;
     assert_eq!(console.universes()?[0].latest, None);
@@ -437,7 +501,13 @@ fn handles_go_to_other_threads_and_are_freed() {
         let mut sources = Sources::new().unwrap();
         let merged = std::thread::spawn(move || sources.merged(0)).join().unwrap();
         assert_eq!(merged, Ok([0; SLOTS]));
-        let _handles = (Node::new(SETUP), Collector::new(), Console::new(SHOW, 0), Monitor::new());
+        let _handles = (
+            Node::new(SETUP),
+            Collector::new(),
+            Console::new(SHOW, 0),
+            Monitor::new(),
+            Source::new(&CID, "Desk", 100, 1, 0),
+        );
     }
     (0..20).for_each(|_| turn());
     let before = resident();
