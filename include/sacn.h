@@ -447,8 +447,8 @@ int sacn_console_cue(struct sacn_console *console, uint16_t *number);
 #define SACN_SOURCE_UNIVERSES 1024
 
 /* A source: it is handed the levels of its universes whenever they change, and gives the datagrams that are due. The first packet on a universe,
-   and each one with other levels or another priority, is repeated three times, at least 25 ms apart; then one is sent each 900 ms (E1.31, 6.6.2).
-   The numbers of a universe's packets rise by one (6.2.5). Each 10 s pages list its universes, but for those that are stopped (8). */
+   and each one with other levels than the one before, is repeated three times, at least 25 ms apart; then one is sent each 900 ms (E1.31, 6.6.2).
+   A packet has 512 slots, and the numbers of a universe's packets rise by one (6.2.5). Each 10 s pages list the universes that aren't stopped (8). */
 struct sacn_source_handle {
     void *behind;
 };
@@ -473,7 +473,8 @@ int sacn_source_add(struct sacn_source_handle *source, uint16_t universe);
    it begins again. Status: SACN_SOURCE_NO_UNIVERSE, then SACN_SOURCE_TOO_MANY. */
 int sacn_source_levels(struct sacn_source_handle *source, uint16_t universe, const uint8_t *slots, size_t count);
 
-/* Gives a universe another priority, 0 to 200 (6.2.3). Status: SACN_SOURCE_NO_UNIVERSE, then SACN_SOURCE_BAD_PRIORITY. */
+/* Gives a universe a priority, 0 to 200 (6.2.3). Where that is another one, and the universe runs, its next packet is sent as its first one was.
+   Status: SACN_SOURCE_NO_UNIVERSE, then SACN_SOURCE_BAD_PRIORITY. */
 int sacn_source_priority(struct sacn_source_handle *source, uint16_t universe, uint8_t priority);
 
 /* Ends a universe: three terminated packets, at least 25 ms apart, and then it is stopped (6.2.6). Status: SACN_SOURCE_NO_UNIVERSE;

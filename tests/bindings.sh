@@ -13,19 +13,11 @@ ok() { verdict "$1" 0; }
 fails() { verdict "$1" 1 "${2-}"; }
 
 prefix=${given:-$room/prefix}
-installed() {
-  if [ -n "$given" ]; then return; fi
-  if [ -n "${SACN_GATE_SECONDS:-}" ] && python3 "$top/tools/archive.py"; then
-    "$top/tools/library.sh" "$prefix"
-  else
-    "$top/sacn" library "$prefix"
-  fi
-}
 if [ -z "$given" ] && ! command -v "${CC:-cc}" >/dev/null && ! command -v gcc >/dev/null && ! command -v clang >/dev/null; then
   skips "all" "this machine has no C compiler, and SACN_LIBRARY_PREFIX names no library"
   exit 0
 fi
-if ! installed >"$room/said" 2>&1; then
+if [ -z "$given" ] && ! library_installed "$prefix" >"$room/said" 2>&1; then
   fails "install" "$(tail -n 1 "$room/said")"
   exit 0
 fi
@@ -57,9 +49,22 @@ python() {
   else
     fails "Python" "$(grep -m 2 -E '^(FAIL|ERROR|[A-Za-z]*Error)' "$room/said" | tr '\n' ' ')"
   fi
-  for it in receive send; do
+  for it in receive send levels; do
     example python $it env SACN_LIBRARY="$prefix/lib/libsacn.so" PYTHONPATH="$top/bindings/python" python3 -B "$top/examples/python/$it.py"
   done
+}
+
+# The sender of levels in C, heard by the receiver in Python.
+c() {
+  local compiler
+  compiler=$(command -v "${CC:-cc}" || command -v gcc || command -v clang)
+  if [ -z "$compiler" ]; then skips "C" "there is no compiler"; return; fi
+  if "$compiler" -D_DEFAULT_SOURCE -std=c99 -O1 -Wall -Wextra -Werror -I"$prefix/include" -o "$room/levels.c" "$top/examples/c/levels.c" "$prefix/lib/libsacn.a" 2>"$room/said"; then
+    example c levels "$room/levels.c"
+    if [ -x "$room/python/receive" ]; then ln -s ../python/receive "$room/c/receive"; fi
+  else
+    fails "levels.c" "$(grep -m 1 error "$room/said")"
+  fi
 }
 
 rust() {
@@ -74,7 +79,7 @@ rust() {
     return
   fi
   if SACN_LIB_DIR=$prefix/lib cargo build -q --offline --locked --examples --manifest-path "$manifest" 2>"$room/said"; then
-    for it in receive send; do example rust $it "$CARGO_TARGET_DIR/debug/examples/$it"; done
+    for it in receive send levels; do example rust $it "$CARGO_TARGET_DIR/debug/examples/$it"; done
   else
     fails "Rust's examples" "$(grep -m 1 -E '^error' "$room/said")"
   fi
@@ -110,7 +115,7 @@ cxx() {
     return
   fi
   if ${watched[@]+"${watched[@]}"} "$room/test" >"$room/said" 2>&1; then ok "$how: $(grep -c 'CHECK(' "$top/bindings/cxx/test_sacn.cpp") looks"; else fails "$how" "$(head -n 1 "$room/said")"; fi
-  for it in receive send; do
+  for it in receive send levels; do
     if "$compiler" -std=c++17 -O1 -Wall -Wextra -Werror -I"$prefix/include" -I"$top/bindings/cxx" -o "$room/$it.cxx" "$top/examples/cxx/$it.cpp" "$prefix/lib/libsacn.a" 2>"$room/said"; then
       example cxx $it "$room/$it.cxx"
     else
@@ -127,16 +132,16 @@ elif unshare -rn ip link set lo up 2>/dev/null; then
   apart=(unshare -rn)
 fi
 
-# lit FOLDER UNIVERSE PORT [APART]: a folder's receiver joins the universe's group, and its sender lights slot 1 for a second and ends its stream.
+# lit FOLDER SENDER UNIVERSE PORT [APART]: a folder's receiver joins the universe's group, and a sender lights slot 1 for a second and ends its stream.
 # It says what isn't so. APART, where the network has nothing up yet.
 lit() {
-  local folder=$1 universe=$2 port=$3 receiver group sent on off
-  if [ -n "${4-}" ]; then ip link set lo up; fi
+  local folder=$1 sender=$2 universe=$3 port=$4 receiver group sent on off
+  if [ -n "${5-}" ]; then ip link set lo up; fi
   "$folder/receive" "$universe" 120 "$port" 127.0.0.1 >"$folder/heard" 2>"$folder/said" &
   receiver=$!
   group=$(printf '%02X%02XFFEF' $((universe % 256)) $((universe / 256)))
   wait_until grep -q "$group" /proc/net/igmp
-  timeout 30 "$folder/send" "$universe" 1 "$port" 127.0.0.1 >"$folder/sent" 2>&1
+  timeout 30 "$folder/$sender" "$universe" 1 "$port" 127.0.0.1 >"$folder/sent" 2>&1
   sent=$?
   # (start code, slot 1 and nothing else; and then dark, since it was told that the stream has ended, and not since it was lost)
   wait_until is_through "$folder/heard"
@@ -159,17 +164,21 @@ is_through() {
 }
 export -f lit is_through wait_until
 
-# lights LANGUAGE FOLDER UNIVERSE PORT
+# lights LANGUAGE FOLDER UNIVERSE PORT SENDER..: by its player of a show, its sender of levels
 lights() {
-  local problem
-  if [ ! -x "$room/$2/receive" ] || [ ! -x "$room/$2/send" ]; then skips "$1: a sender lights a receiver" "there are no examples"; return; fi
-  problem=$(${apart[@]+"${apart[@]}"} bash -c 'lit "$@"' lit "$room/$2" "$3" "$4" "${apart[*]-}")
-  if [ -z "$problem" ]; then ok "$1: a sender lights a receiver by multicast, and ends"; else fails "$1: a sender lights a receiver" "$problem"; fi
+  local problem sender
+  for sender in "${@:5}"; do
+    if [ ! -x "$room/$2/receive" ] || [ ! -x "$room/$2/$sender" ]; then skips "$1: $sender lights a receiver" "there are no examples"; continue; fi
+    problem=$(${apart[@]+"${apart[@]}"} bash -c 'lit "$@"' lit "$room/$2" $sender "$3" "$4" "${apart[*]-}")
+    if [ -z "$problem" ]; then ok "$1: $sender lights a receiver by multicast, and ends"; else fails "$1: $sender lights a receiver" "$problem"; fi
+  done
 }
 
 python
+c
 rust
 cxx
-lights "Python" python 61 "$(free_udp_port)"
-lights "Rust" rust 62 "$(free_udp_port)"
-lights "C++" cxx 300 "$(free_udp_port)"
+lights "Python" python 61 "$(free_udp_port)" send levels
+lights "C" c 60 "$(free_udp_port)" levels
+lights "Rust" rust 62 "$(free_udp_port)" send levels
+lights "C++" cxx 300 "$(free_udp_port)" send levels

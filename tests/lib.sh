@@ -17,6 +17,7 @@
 #   wait_for_line FILE PATTERN [SECONDS]     the same, until the file has such a line (of grep -E) as a whole
 #   wait_for_end PID                         waits for a process of this shell's, which is killed outright where it goes on for a minute; its status
 #   is_taken PORT                            whether no datagram waits at a UDP port: what was sent there is read (of this machine's network, or this namespace's)
+#   library_installed PREFIX                 installs the library for C in a folder: what the gate or the launcher has proved of it isn't proved again
 #   free_udp_port, free_tcp_port             prints a port that nothing has, another one each time
 #
 # Its Python finds e131.py: packets, recordings and ports.
@@ -85,6 +86,16 @@ is_gone() { ! kill -0 "$1" 2>/dev/null; }
 wait_for_end() {
   patience=${patience:-60} wait_until is_gone "$1" || kill -KILL "$1" 2>/dev/null
   wait "$1" 2>/dev/null
+}
+
+# The gate builds no archive, but leaves its build of the libraries below it: so after the gate one crate is proved once more, and nothing else.
+# Elsewhere the launcher proves what isn't proved yet.
+library_installed() {
+  if [ -n "${SACN_GATE_SECONDS:-}" ] && python3 "$top/tools/archive.py"; then
+    "$top/tools/library.sh" "$1"
+  else
+    "$top/sacn" library "$1"
+  fi
 }
 
 is_taken() { awk -v port=":$(printf %04X "$1")" '$2 ~ port "$" && $5 !~ /:0+$/ { waits = 1 } END { exit waits }' /proc/net/udp; }

@@ -16,16 +16,7 @@ export PKG_CONFIG_PATH=$prefix/lib/pkgconfig
 ok() { verdict "$1" 0; }
 fails() { verdict "$1" 1 "$2"; }
 
-# The gate builds no archive, but leaves its build of the libraries below it: so after the gate one crate is proved once more, and nothing else.
-# Elsewhere the launcher proves what isn't proved yet.
-installed() {
-  if [ -n "${SACN_GATE_SECONDS:-}" ] && python3 "$top/tools/archive.py"; then
-    "$top/tools/library.sh" "$prefix"
-  else
-    "$top/sacn" library "$prefix"
-  fi
-}
-if ! installed >"$room/said" 2>&1; then
+if ! library_installed "$prefix" >"$room/said" 2>&1; then
   fails "install" "$(tail -n 1 "$room/said")"
   exit 0
 fi
