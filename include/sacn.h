@@ -36,6 +36,7 @@
  * them. What a call writes does not overlap what it reads, nor anything else that it writes. Of all this a call sees null pointers alone.
  *
  * Statuses. 0 is SACN_DONE. 1 to 18 are the fault's own number, of the family that the call names. From 1001 on they are the border's.
+ * sacn_status_text has a sentence of each.
  * Where a status isn't SACN_DONE nothing is written, but where the call says otherwise. Each call with a pointer can answer SACN_NULL, each with a
  * count SACN_LENGTH, and each with a handle but `.._new` and `.._free` SACN_WRONG_HANDLE, whatever else it names.
  *
@@ -152,6 +153,22 @@ enum sacn_source_fault {
     /* The priority is above 200. */
     SACN_SOURCE_BAD_PRIORITY = 9
 };
+
+/* Which enum the statuses from 1 to 18 of a call are of. */
+enum sacn_family {
+    /* of none: the call answers enum sacn_status alone */
+    SACN_FAMILY_STATUS = 0,
+    SACN_FAMILY_PACKET = 1,
+    SACN_FAMILY_SETUP = 2,
+    SACN_FAMILY_SHOW = 3,
+    SACN_FAMILY_CONSOLE = 4,
+    SACN_FAMILY_SOURCE = 5,
+    SACN_FAMILY_SOURCES = 6
+};
+
+/* What a status means that a call of this family answered, in one sentence of ASCII: a text of the library's own, never null, which stays as it is.
+   One that no call of the family answers has a sentence that says so. */
+const char *sacn_status_text(enum sacn_family family, int status);
 
 /* ---- packets ---- */
 

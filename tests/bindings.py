@@ -62,8 +62,10 @@ def header_is_read():
 
 
 def rust_numbers():
+    # (a family is a type there)
+    numbers = {name: it for enum, its in ENUM.items() if enum != "sacn_family" for name, it in its.items()}
     found = dict(re.findall(r"pub const (SACN_\w+): \w+ = (\d+);", LIBRARY))
-    return differ({**SIZES, **{name: it for numbers in ENUM.values() for name, it in numbers.items()}}, found)
+    return differ({**SIZES, **numbers}, found)
 
 
 def rust_structs():
@@ -152,6 +154,7 @@ def sentences():
     for path, pattern in (
         ("bindings/rust/sacn-core/src/error.rs", r'= (SACN_\w+):\s+"(.*?)",'),
         ("bindings/cxx/sacn.hpp", r'SACN_TOLD\(\w+, (SACN_\w+),\s+"(.*?)"\)'),
+        ("crates/sacn_c/border/border.c", r'\{SACN_FAMILY_\w+, (SACN_\w+),\s+"(.*?)"\}'),
     ):
         found = re.findall(pattern, text_of(path))
         if len(found) != len(python):

@@ -458,7 +458,23 @@ static void monitor(void) {
     CHECK(sacn_monitor_free(&monitor) == SACN_DONE && sacn_monitor_free(&monitor) == SACN_NULL && sacn_monitor_free(NULL) == SACN_NULL);
 }
 
+/* Each status has a sentence, and any other number the one that says so. */
+static void texts(void) {
+    static const int last[] = {0, 18, 10, 8, 6, 9, 1};
+    const char *unknown = sacn_status_text(SACN_FAMILY_STATUS, -1);
+    CHECK(unknown && strcmp(sacn_status_text(SACN_FAMILY_SOURCE, SACN_SOURCE_FULL), "The source has no room for one more universe.") == 0);
+    for (int family = SACN_FAMILY_STATUS; family <= SACN_FAMILY_SOURCES; family++) {
+        for (int status = -5; status < 1100; status++) {
+            const char *text = sacn_status_text((enum sacn_family)family, status);
+            int is_known = (status >= 0 && status <= last[family]) || (status >= SACN_NULL && status <= SACN_NAME);
+            CHECK(text && (strcmp(text, unknown) != 0) == is_known);
+        }
+    }
+    CHECK(sacn_status_text((enum sacn_family)99, 1) == unknown && sacn_status_text((enum sacn_family)99, SACN_RANGE) != unknown);
+}
+
 int main(void) {
+    texts();
     packets();
     pages();
     node();

@@ -357,3 +357,78 @@ int sacn_monitor_rivals(struct sacn_monitor *monitor, uint16_t universe, size_t 
     if (!monitor || !monitor->behind || !count || !priority) return SACN_NULL;
     return (int)sacn_proved_monitor_rivals(&monitor->behind, universe, count, priority);
 }
+
+/* What the statuses mean. */
+static const struct {
+    enum sacn_family family;
+    int status;
+    const char *text;
+} texts[] = {
+    {SACN_FAMILY_STATUS, SACN_NULL, "The handle was freed or never made."},
+    {SACN_FAMILY_STATUS, SACN_LENGTH, "A count is out of the range that the call names."},
+    {SACN_FAMILY_STATUS, SACN_WRONG_HANDLE, "The handle stands for something else."},
+    {SACN_FAMILY_STATUS, SACN_RANGE, "An argument is out of range, or there is nothing of this number."},
+    {SACN_FAMILY_STATUS, SACN_NOT_EMPTY, "The handle that is to be made is one already."},
+    {SACN_FAMILY_STATUS, SACN_OUT_OF_MEMORY, "A request for memory was refused."},
+    {SACN_FAMILY_STATUS, SACN_NAME, "The name isn't UTF-8, has a NUL, or is longer than 63 octets."},
+    {SACN_FAMILY_PACKET, SACN_PACKET_TOO_SHORT, "The octets end before the packet does."},
+    {SACN_FAMILY_PACKET, SACN_PACKET_PREAMBLE, "The preamble size isn't 0x0010."},
+    {SACN_FAMILY_PACKET, SACN_PACKET_POSTAMBLE, "The post-amble size isn't 0."},
+    {SACN_FAMILY_PACKET, SACN_PACKET_IDENTIFIER, "The ACN packet identifier isn't ASC-E1.17."},
+    {SACN_FAMILY_PACKET, SACN_PACKET_FLAGS, "The flags of a layer aren't 7."},
+    {SACN_FAMILY_PACKET, SACN_PACKET_LENGTH, "The length of a layer doesn't fit what is around it or in it."},
+    {SACN_FAMILY_PACKET, SACN_PACKET_ROOT_VECTOR, "The root vector is neither that of data nor that of extended packets."},
+    {SACN_FAMILY_PACKET, SACN_PACKET_FRAMING_VECTOR, "The framing vector is none of this kind of packet."},
+    {SACN_FAMILY_PACKET, SACN_PACKET_DMP_VECTOR, "The DMP vector isn't 2."},
+    {SACN_FAMILY_PACKET, SACN_PACKET_ADDRESS_TYPE, "The address and data type isn't 0xa1."},
+    {SACN_FAMILY_PACKET, SACN_PACKET_FIRST_ADDRESS, "The first property address isn't 0."},
+    {SACN_FAMILY_PACKET, SACN_PACKET_INCREMENT, "The address increment isn't 1."},
+    {SACN_FAMILY_PACKET, SACN_PACKET_VALUE_COUNT, "The property value count isn't 1 to 513, or not that of the values."},
+    {SACN_FAMILY_PACKET, SACN_PACKET_PRIORITY, "The priority is above 200."},
+    {SACN_FAMILY_PACKET, SACN_PACKET_UNIVERSE, "The universe isn't 1 to 63999."},
+    {SACN_FAMILY_PACKET, SACN_PACKET_DISCOVERY_VECTOR, "The universe discovery vector isn't 1."},
+    {SACN_FAMILY_PACKET, SACN_PACKET_PAGE_RANGE, "The page's number is above that of the last page."},
+    {SACN_FAMILY_PACKET, SACN_PACKET_TOO_MANY_UNIVERSES, "The page has more than 512 universes."},
+    {SACN_FAMILY_SETUP, SACN_SETUP_OUT_OF_MEMORY, "A request for memory was refused while the setup was read."},
+    {SACN_FAMILY_SETUP, SACN_SETUP_TOML, "The setup is no TOML document."},
+    {SACN_FAMILY_SETUP, SACN_SETUP_MISSING_KEY, "The setup lacks a key that is required."},
+    {SACN_FAMILY_SETUP, SACN_SETUP_UNKNOWN_KEY, "The setup has a key that its version doesn't know."},
+    {SACN_FAMILY_SETUP, SACN_SETUP_KEY_VALUE, "A key of the setup has a value of another type or out of its range."},
+    {SACN_FAMILY_SETUP, SACN_SETUP_VERSION, "The setup's version isn't 1 or 2."},
+    {SACN_FAMILY_SETUP, SACN_SETUP_PORT_TAKEN, "Two ports of the setup have one number."},
+    {SACN_FAMILY_SETUP, SACN_SETUP_LIMIT, "The setup has more than 16 ports or 16 universes."},
+    {SACN_FAMILY_SETUP, SACN_SETUP_RANGE_END, "A range of the setup ends behind slot 512."},
+    {SACN_FAMILY_SETUP, SACN_SETUP_OVERLAP, "Two ranges of one port share a slot of the port."},
+    {SACN_FAMILY_SHOW, SACN_SHOW_OUT_OF_MEMORY, "A request for memory was refused while the show was read."},
+    {SACN_FAMILY_SHOW, SACN_SHOW_TOML, "The show is no TOML document."},
+    {SACN_FAMILY_SHOW, SACN_SHOW_MISSING_KEY, "The show lacks a key that is required."},
+    {SACN_FAMILY_SHOW, SACN_SHOW_UNKNOWN_KEY, "The show has a key that its version doesn't know."},
+    {SACN_FAMILY_SHOW, SACN_SHOW_KEY_VALUE, "A key of the show has a value of another type or out of its range."},
+    {SACN_FAMILY_SHOW, SACN_SHOW_VERSION, "The show's version isn't 1 or 2."},
+    {SACN_FAMILY_SHOW, SACN_SHOW_CUE, "A cue of the show has a taken number, a channel out of range or too long a time, or is one too many."},
+    {SACN_FAMILY_SHOW, SACN_SHOW_PATCH, "A patch of the show has an unlisted universe, a channel or slot out of range, or a taken slot."},
+    {SACN_FAMILY_CONSOLE, SACN_CONSOLE_NO_CUE, "The show has no such cue, or none above the current one."},
+    {SACN_FAMILY_CONSOLE, SACN_CONSOLE_CHANNEL_RANGE, "The channel isn't 1 to 2048."},
+    {SACN_FAMILY_CONSOLE, SACN_CONSOLE_NO_UNIVERSE, "The show has no such universe."},
+    {SACN_FAMILY_CONSOLE, SACN_CONSOLE_ENDING, "The universe is ending."},
+    {SACN_FAMILY_CONSOLE, SACN_CONSOLE_RUNNING, "The universe runs already."},
+    {SACN_FAMILY_CONSOLE, SACN_CONSOLE_STOPPED, "The universe is stopped already."},
+    {SACN_FAMILY_SOURCE, SACN_SOURCE_OUT_OF_MEMORY, "A request for memory was refused while the source was made."},
+    {SACN_FAMILY_SOURCE, SACN_SOURCE_BAD_UNIVERSE, "The source's universe isn't 1 to 63999."},
+    {SACN_FAMILY_SOURCE, SACN_SOURCE_NO_UNIVERSE, "The source has no such universe."},
+    {SACN_FAMILY_SOURCE, SACN_SOURCE_RUNNING, "The source's universe runs already."},
+    {SACN_FAMILY_SOURCE, SACN_SOURCE_ENDING, "The source's universe is ending."},
+    {SACN_FAMILY_SOURCE, SACN_SOURCE_STOPPED, "The source's universe is stopped already."},
+    {SACN_FAMILY_SOURCE, SACN_SOURCE_FULL, "The source has no room for one more universe."},
+    {SACN_FAMILY_SOURCE, SACN_SOURCE_TOO_MANY, "There are more than 512 levels."},
+    {SACN_FAMILY_SOURCE, SACN_SOURCE_BAD_PRIORITY, "The source's priority is above 200."},
+    {SACN_FAMILY_SOURCES, SACN_SOURCES_OUT_OF_MEMORY, "A request for memory was refused while the table was made."},
+};
+
+const char *sacn_status_text(enum sacn_family family, int status) {
+    if (status == SACN_DONE) return "The call is done.";
+    for (size_t i = 0; i < sizeof texts / sizeof *texts; i++) {
+        if (texts[i].status == status && (texts[i].family == family || texts[i].family == SACN_FAMILY_STATUS)) return texts[i].text;
+    }
+    return "No call of this family answers this number.";
+}
