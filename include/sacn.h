@@ -433,13 +433,13 @@ enum sacn_universe_state {
     SACN_UNIVERSE_RUNNING = 1,
     /* Its three terminations aren't all given yet (6.2.6). */
     SACN_UNIVERSE_ENDING = 2,
-    /* It is sent no more, until it is started. */
+    /* It is sent no more, until it is started, or added again. */
     SACN_UNIVERSE_STOPPED = 3
 };
 
-/* A universe of a console. */
+/* A universe of a console, or of a source. */
 struct sacn_universe {
-    /* The moment of its latest packet since the console was made, UINT64_MAX where there was none. */
+    /* The moment of its latest packet since that was made, UINT64_MAX where there was none. */
     uint64_t latest;
     /* 1 to 63999 (6.2.7). */
     uint16_t universe;
@@ -478,7 +478,7 @@ int sacn_source_new(struct sacn_source_handle *source, const uint8_t cid[16], co
                     uint8_t first);
 
 /* Gives back all memory of a source, which is then empty. Status: SACN_NULL where it is already. Before that end all universes, and poll as
-   sacn_source_wakes says until 75 ms later, when all terminations are given: else nodes show its last levels until they count it as lost. */
+   sacn_source_wakes says until each is stopped, at most 75 ms later: else nodes show its last levels until they count it as lost. */
 int sacn_source_free(struct sacn_source_handle *source);
 
 /* Begins a universe, 1 to 63999 (6.2.7). A new one has levels of 0 and the source's priority; one that is stopped begins again: its numbers go on,
@@ -508,6 +508,9 @@ int sacn_source_poll(struct sacn_source_handle *source, uint64_t now, uint8_t ou
 
 /* The first moment at which something is due as long as no other call comes, and no earlier poll gives anything; 0 where something is due now. */
 int sacn_source_wakes(struct sacn_source_handle *source, uint64_t *moment);
+
+/* The universe at a place, by ascending number, from 0 on. Status: SACN_RANGE where there is none. */
+int sacn_source_universe(struct sacn_source_handle *source, size_t place, struct sacn_universe *universe);
 
 /* ---- monitor ---- */
 

@@ -2,8 +2,8 @@
 
 usage: source.py LIBRARY COUNT [SEED]     a line 'ok WHAT' or 'not ok WHAT: why'
 
-The model is written from E1.31-2018 and include/sacn.h alone. Each call's status, each octet and number that it writes, and after each the first moment at
-which something is due, are compared.
+The model is written from E1.31-2018 and include/sacn.h alone. Each call's status, each octet and number that it writes, the first moment at which something
+is due behind each poll, and at the end what is told of the universes are compared.
 """
 
 import ctypes
@@ -18,6 +18,7 @@ BAD_UNIVERSE, NO_UNIVERSE, RUNNING, ENDING, STOPPED, FULL, TOO_MANY, BAD_PRIORIT
 GAP, KEEP_ALIVE, CYCLE = 25, 900, 10_000
 REPEATS, TERMINATIONS = 3, 3
 LAST_MOMENT = 2**64 - 1
+STATES = {"running": 1, "ending": 2, "stopped": 3}
 MAX_DATAGRAM, PAGE_UNIVERSES, MOST_UNIVERSES = 1144, 512, 1024
 
 
@@ -128,6 +129,13 @@ class Model:
             return 0
         return min(self.begun + CYCLE, LAST_MOMENT, *(it.due_from() for it in known))
 
+    def told(self):
+        """Each universe by rising number: the moment of its latest packet, its state and the number of its next packet."""
+        return [
+            (LAST_MOMENT if known.latest is None else known.latest, universe, STATES[known.state], known.number)
+            for universe, known in sorted(self.universes.items())
+        ]
+
     # E1.31, tables 4-1 to 4-3 and 8-9: each layer's length is that from its own first octet on.
     def data(self, universe, known):
         options = 0x40 if known.state == "ending" else 0
@@ -152,6 +160,12 @@ class Handle(ctypes.Structure):
     _fields_ = [("behind", ctypes.c_void_p)]
 
 
+class Told(ctypes.Structure):
+    _fields_ = [
+        ("latest", ctypes.c_uint64), ("universe", ctypes.c_uint16), ("state", ctypes.c_uint8), ("number", ctypes.c_uint8), ("unused", ctypes.c_uint32)
+    ]
+
+
 class Library:
     """The library's calls of one source."""
 
@@ -163,6 +177,7 @@ class Library:
         for name, arguments in {
             "new": (text, text, size, u8, size, u8), "free": (), "add": (u16,), "levels": (u16, text, size), "priority": (u16, u8), "end": (u16,),
             "end_all": (), "poll": (u64, ctypes.c_void_p, ctypes.POINTER(size), ctypes.POINTER(u16)), "wakes": (ctypes.POINTER(u64),),
+            "universe": (size, ctypes.POINTER(Told)),
         }.items():
             call = getattr(loaded, f"sacn_source_{name}")
             call.argtypes, call.restype = (handle, *arguments), ctypes.c_int
@@ -239,6 +254,12 @@ class Comparison:
         self.same(self.library.wakes(self.handle, self.moment), DONE, "wakes")
         self.same(self.moment.value, self.model.wakes(), "moment")
 
+    def universes(self):
+        told, found = Told(), []
+        while self.library.universe(self.handle, len(found), told) == DONE:
+            found.append((told.latest, told.universe, told.state, told.number))
+        self.same(found, self.model.told(), "universes")
+
     def many(self):
         """More universes than stand on one page."""
         for universe in self.chance.sample(range(1, 64000), self.chance.choice((513, 600, 1025))):
@@ -259,6 +280,7 @@ class Comparison:
                 self.poll()
             else:
                 self.order()
+        self.universes()
         self.same(self.library.free(self.handle), DONE, "free")
         self.same(self.handle.behind, None, "behind")
 

@@ -491,8 +491,8 @@ struct SourceDatagram {
 };
 
 /** A source: it is handed the levels of its universes whenever they change, and gives the datagrams that are due. Before
-    its end its universes are ended, and it is polled for 75 ms more: else nodes show its last levels until they count it
-    as lost. */
+    its end its universes are ended, and it is polled until each is stopped: else nodes show its last levels until they
+    count it as lost. */
 class Source : public Handle<sacn_source_handle, sacn_source_free> {
   public:
     /** Of a name of at most 63 octets of UTF-8 without a NUL, with the priority of each universe that is added, and room
@@ -538,6 +538,14 @@ class Source : public Handle<sacn_source_handle, sacn_source_free> {
         std::uint64_t moment = 0;
         detail::check(sacn_source_wakes(raw(), &moment));
         return moment;
+    }
+
+    /** The universes that were added, by ascending number. */
+    std::vector<sacn_universe> universes() {
+        std::vector<sacn_universe> universes;
+        sacn_universe told{};
+        while (detail::found(sacn_source_universe(raw(), universes.size(), &told))) universes.push_back(told);
+        return universes;
     }
 };
 

@@ -290,6 +290,8 @@ void source() {
         while ((due = source.poll(moment))) told.push_back({moment, due->octets[111], due->octets[112]});
     }
     CHECK(told == std::vector<std::array<std::uint64_t, 3>>{{2025, 6, 0x40}, {2050, 7, 0x40}, {2075, 8, 0x40}});
+    const sacn_universe stopped = source.universes().at(0);
+    CHECK(stopped.state == SACN_UNIVERSE_STOPPED && stopped.number == 9 && stopped.latest == 2075);
     CHECK(throws(sacn::Family::source, SACN_SOURCE_STOPPED, [&] { source.end(7); }));
     CHECK(throws(sacn::Family::source, SACN_SOURCE_FULL, [&] { source.add(8); }));
     CHECK(throws(sacn::Family::source, SACN_SOURCE_BAD_UNIVERSE, [&] { source.add(0); }));

@@ -401,6 +401,7 @@ _CALLS: Dict[str, Tuple[Any, ...]] = {
     "source_end_all": (_made,),
     "source_poll": (_made, _u64, _to(_u8), _to(_size), _to(_u16)),
     "source_wakes": (_made, _to(_u64)),
+    "source_universe": (_made, _size, _to(_Universe)),
     "monitor_new": (_made,),
     "monitor_free": (_made,),
     "monitor_take": (_made, _u64, _to(_Sender), *_in, _to(_News)),
@@ -649,6 +650,15 @@ class _Handle:
         _check(status)
         return True
 
+    def _universes(self) -> Tuple["ConsoleUniverse", ...]:
+        """The universes of a console or a source, by ascending number."""
+        found: List[ConsoleUniverse] = []
+        told = _Universe()
+        while self._found("universe", len(found), told):
+            latest = None if told.latest == _LAST_MOMENT else told.latest
+            found.append(ConsoleUniverse(told.universe, UniverseState(told.state), told.number, latest))
+        return tuple(found)
+
     def close(self) -> None:
         """Gives back all memory of the handle, once; a further call does nothing."""
         if self._raw.behind:
@@ -844,24 +854,24 @@ class Command(IntEnum):
 
 
 class UniverseState(IntEnum):
-    """Whether a console sends a universe (enum sacn_universe_state)."""
+    """Whether a console or a source sends a universe (enum sacn_universe_state)."""
 
     RUNNING = 1
     #: Its three terminations aren't all given yet (E1.31, 6.2.6).
     ENDING = 2
-    #: It is sent no more, until it is started.
+    #: It is sent no more, until it is started, or added again.
     STOPPED = 3
 
 
 @dataclass(frozen=True)
 class ConsoleUniverse:
-    """A universe of a console."""
+    """A universe of a console, or of a source."""
 
     universe: int
     state: UniverseState
     #: The sequence number of its next packet (E1.31, 6.2.5).
     number: int
-    #: The moment of its latest packet since the console was made; None where there was none.
+    #: The moment of its latest packet since that was made; None where there was none.
     latest: Optional[int]
 
 
@@ -942,12 +952,7 @@ class Console(_Handle):
 
     def universes(self) -> Tuple[ConsoleUniverse, ...]:
         """The show's universes, by ascending number."""
-        found: List[ConsoleUniverse] = []
-        told = _Universe()
-        while self._found("universe", len(found), told):
-            latest = None if told.latest == _LAST_MOMENT else told.latest
-            found.append(ConsoleUniverse(told.universe, UniverseState(told.state), told.number, latest))
-        return tuple(found)
+        return self._universes()
 
     def cue(self) -> Optional[int]:
         """The number of the cue that was gone to last; None before the first."""
@@ -961,7 +966,8 @@ class Source(_Handle):
     `name` has at most 63 octets of UTF-8, and no NUL (E1.31, 6.2.2). `priority`, 0 to 200, is that of each universe that
     is added. There is room for `room` universes, at most SOURCE_UNIVERSES. The first packet on each has the number
     `first`, 0 to 255. SacnError with Status.NAME or a SourceFault where it isn't made. Before a source is freed its
-    universes are ended, and it is polled for 75 ms more: else nodes show its last levels until they count it as lost.
+    universes are ended, and it is polled until each is stopped: else nodes show its last levels until they count it as
+    lost.
     """
 
     _kind = "source"
@@ -1016,6 +1022,10 @@ class Source(_Handle):
         moment = _u64()
         _check(self._status("wakes", moment))
         return moment.value
+
+    def universes(self) -> Tuple[ConsoleUniverse, ...]:
+        """The universes that were added, by ascending number."""
+        return self._universes()
 
 
 class Noted(IntEnum):

@@ -349,6 +349,7 @@ class Sending(Base):
                 while (it := source.poll(moment)) is not None:
                     ends.append((moment, it.octets[111], it.octets[112]))
             self.assertEqual(ends, [(2025, 6, 0x40), (2050, 7, 0x40), (2075, 8, 0x40)])
+            self.assertEqual(source.universes(), (sacn_core.ConsoleUniverse(7, UniverseState.STOPPED, 9, 2075),))
             self.assertEqual(source.wakes(), 10000)
             source.add(7)
             self.assertEqual(source.poll(4000).octets, data(CID, 9, padded(255, 128), 200, universe=7))
@@ -367,7 +368,10 @@ class Sending(Base):
             source.levels(1, bytes(512))
             self.refused(SourceFault.TOO_MANY, source.levels, 1, bytes(513))
             self.refused(SourceFault.BAD_PRIORITY, source.priority, 1, 201)
+            self.assertEqual([it.universe for it in source.universes()], [1, 2])
+            self.assertEqual(source.universes()[0], sacn_core.ConsoleUniverse(1, UniverseState.RUNNING, 0, None))
             source.end_all()
+            self.assertEqual({it.state for it in source.universes()}, {UniverseState.ENDING})
             self.refused(SourceFault.ENDING, source.add, 2)
             self.refused(SourceFault.ENDING, source.end, 1)
             # (the lesser number is first)
@@ -435,7 +439,7 @@ class Handles(Base):
             (monitor.take, (0, LEVELS, ("10.0.0.1", 1))), (monitor.tick, (0,)), (monitor.wakes, ()),
             (monitor.count, ()), (monitor.account, (0,)), (monitor.rivals, (1,)), (source.add, (1,)),
             (source.levels, (1, b"")), (source.priority, (1, 1)), (source.end, (1,)), (source.end_all, ()),
-            (source.poll, (0,)), (source.wakes, ()),
+            (source.poll, (0,)), (source.wakes, ()), (source.universes, ()),
         ):
             error = self.refused(Status.NULL, call, *arguments)
             self.assertEqual((error.name, int(error.status)), ("SACN_NULL", 1001))

@@ -16,10 +16,10 @@ int main(int count, char **words) {
     const std::uint8_t slots[] = {255};
     source.add(universe);
     source.levels(universe, slots, sizeof slots);
-    for (int is_ending = 0, terminations = 0; terminations < 3;) {
+    for (bool is_ending = false; source.universes()[0].state != SACN_UNIVERSE_STOPPED;) {
         const auto now = std::uint64_t((std::chrono::steady_clock::now() - began) / std::chrono::milliseconds(1));
-        if (now >= end && !is_ending++) source.end_all();
-        for (; const auto due = source.poll(now); terminations += is_ending && due->universe == universe) {
+        if (now >= end && !is_ending) source.end_all(), is_ending = true;
+        while (const auto due = source.poll(now)) {
             const sockaddr_in to{AF_INET, htons(std::uint16_t(std::stoi(word(3, "5568")))), {htonl(0xefff0000u | due->universe)}, {}};
             sendto(out, due->octets.data(), due->count, 0, (const sockaddr *)&to, sizeof to);
         }

@@ -11,15 +11,14 @@ def main(universe, seconds="5", udp_port="5568", address="0.0.0.0"):
         out.bind((address, 0))
         source.add(int(universe))
         source.levels(int(universe), bytes([255]))
-        began, end, is_ending, terminations = time.monotonic(), int(1000 * float(seconds)), False, 0
-        while terminations < 3:
+        began, end, is_ending = time.monotonic(), int(1000 * float(seconds)), False
+        while source.universes()[0].state != sacn_core.UniverseState.STOPPED:
             now = int(1000 * (time.monotonic() - began))
             if now >= end and not is_ending:
                 source.end_all()
                 is_ending = True
             while datagram := source.poll(now):
                 out.sendto(datagram.octets, (datagram.group, int(udp_port)))
-                terminations += is_ending and datagram.universe == int(universe)
             wakes = min(source.wakes(), now + 25 if is_ending else end)
             time.sleep(max(0, wakes / 1000 - (time.monotonic() - began)))
 

@@ -334,6 +334,7 @@ static void source(void) {
     struct sacn_source_handle source = {0}, empty = {0};
     struct sacn_console console = {0};
     struct sacn_packet packet;
+    struct sacn_universe told;
     uint8_t out[SACN_MAX_DATAGRAM], frame[SACN_FRAME_OCTETS], levels[513] = {255, 128}, cid[16] = {9, 8, 7};
     uint64_t wakes = 77;
     uint16_t universe = 77;
@@ -358,6 +359,7 @@ static void source(void) {
     CHECK(sacn_source_levels(&source, 9, NULL, 0) == SACN_DONE && sacn_source_levels(&source, 9, NULL, 1) == SACN_NULL);
     CHECK(sacn_source_end(&source, 7) == SACN_DONE && sacn_source_end(&source, 7) == SACN_SOURCE_ENDING && sacn_source_end_all(&source) == SACN_DONE);
     CHECK(sacn_source_add(&source, 9) == SACN_SOURCE_ENDING);
+    CHECK(sacn_source_universe(&source, 1, &told) == SACN_DONE && told.universe == 9 && told.state == SACN_UNIVERSE_ENDING && told.number == 0);
     /* (three terminations of each, 25 ms apart) */
     for (uint64_t moment = 25; moment <= 75; moment += 25) {
         CHECK(sacn_source_poll(&source, moment, out, &count, &universe) == SACN_DONE && universe == 7 && out[112] == 0x40);
@@ -365,11 +367,14 @@ static void source(void) {
     }
     CHECK(sacn_source_poll(&source, 100, out, &count, &universe) == SACN_DONE && count == 0);
     CHECK(sacn_source_wakes(&source, &wakes) == SACN_DONE && wakes == 10000 && sacn_source_end(&source, 9) == SACN_SOURCE_STOPPED);
+    CHECK(sacn_source_universe(&source, 0, &told) == SACN_DONE && told.universe == 7 && told.state == SACN_UNIVERSE_STOPPED && told.latest == 75);
+    CHECK(sacn_source_universe(&source, 2, &told) == SACN_RANGE && told.universe == 7 && sacn_source_universe(&source, 0, NULL) == SACN_NULL);
     CHECK(sacn_source_add(&empty, 7) == SACN_NULL && sacn_source_add(NULL, 7) == SACN_NULL && sacn_source_levels(&empty, 7, levels, 1) == SACN_NULL);
     CHECK(sacn_source_priority(&empty, 7, 1) == SACN_NULL && sacn_source_end(&empty, 7) == SACN_NULL && sacn_source_end_all(&empty) == SACN_NULL);
     CHECK(sacn_source_poll(&empty, 0, out, &count, &universe) == SACN_NULL && sacn_source_poll(&source, 0, NULL, &count, &universe) == SACN_NULL);
     CHECK(sacn_source_poll(&source, 0, out, NULL, &universe) == SACN_NULL && sacn_source_poll(&source, 0, out, &count, NULL) == SACN_NULL);
     CHECK(sacn_source_wakes(&empty, &wakes) == SACN_NULL && sacn_source_wakes(&source, NULL) == SACN_NULL);
+    CHECK(sacn_source_universe(&empty, 0, &told) == SACN_NULL);
     console.behind = source.behind;
     CHECK(sacn_console_command(&console, 0, SACN_GO, 0, 0) == SACN_WRONG_HANDLE);
     CHECK(sacn_source_free(&source) == SACN_DONE && sacn_source_free(&source) == SACN_NULL && sacn_source_free(NULL) == SACN_NULL);
@@ -379,6 +384,7 @@ static void source(void) {
     source.behind = console.behind;
     CHECK(sacn_source_add(&source, 7) == SACN_WRONG_HANDLE && sacn_source_levels(&source, 7, levels, 1) == SACN_WRONG_HANDLE);
     CHECK(sacn_source_priority(&source, 7, 1) == SACN_WRONG_HANDLE && sacn_source_end(&source, 7) == SACN_WRONG_HANDLE);
+    CHECK(sacn_source_universe(&source, 0, &told) == SACN_WRONG_HANDLE && sacn_console_universe(&console, 0, &told) == SACN_DONE);
     CHECK(sacn_source_end_all(&source) == SACN_WRONG_HANDLE && sacn_source_wakes(&source, &wakes) == SACN_WRONG_HANDLE);
     CHECK(sacn_source_poll(&source, 0, out, &count, &universe) == SACN_WRONG_HANDLE && sacn_console_free(&console) == SACN_DONE);
     source.behind = NULL;

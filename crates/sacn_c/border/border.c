@@ -42,6 +42,7 @@ uint32_t sacn_proved_source_end(void **handle, uint16_t universe);
 uint32_t sacn_proved_source_end_all(void **handle);
 uint32_t sacn_proved_source_poll(void **handle, uint64_t now, uint8_t *out, size_t *count, uint16_t *universe);
 uint32_t sacn_proved_source_wakes(void **handle, uint64_t *moment);
+uint32_t sacn_proved_source_universe(void **handle, size_t place, struct sacn_universe *universe);
 uint32_t sacn_proved_monitor_new(void **handle);
 uint32_t sacn_proved_monitor_take(void **handle, uint64_t now, const struct sacn_sender *sender, const uint8_t *octets, size_t count,
                                   struct sacn_news *news);
@@ -312,6 +313,11 @@ int sacn_source_poll(struct sacn_source_handle *source, uint64_t now, uint8_t ou
 int sacn_source_wakes(struct sacn_source_handle *source, uint64_t *moment) {
     if (!source || !source->behind || !moment) return SACN_NULL;
     return (int)sacn_proved_source_wakes(&source->behind, moment);
+}
+
+int sacn_source_universe(struct sacn_source_handle *source, size_t place, struct sacn_universe *universe) {
+    if (!source || !source->behind || !universe) return SACN_NULL;
+    return (int)sacn_proved_source_universe(&source->behind, place, universe);
 }
 
 int sacn_monitor_new(struct sacn_monitor *monitor) {

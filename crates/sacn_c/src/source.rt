@@ -1,21 +1,24 @@
 //! Sources that a program hands levels, for C.
-ghost use Rattle.std.specs.Prelude.{◌≡◌, ◌↔◌, ◌<◌, ◌≤◌, ◌+◌, min, is_some, true, false, Option, None, Some, IfSome, ℕ, nat_lt};
+ghost use Rattle.std.specs.Prelude.{◌≡◌, ◌↔◌, ◌<◌, ◌≤◌, ◌+◌, min, is_some, true, false, slice_get, [], Option, None, Some, IfSome, ℕ, nat_lt};
 ghost use Rattle.std.specs.Option.{option_map};
 ghost use Rattle.std.specs.Str.{IsUtf8};
 ghost use Rattle.sacn_packets.specs.Naming.{name_from};
+ghost use Rattle.sacn_packets.specs.Universe.{Rising};
 ghost use Rattle.sacn_console.specs.Core.{IsLawful, due_datagram, over};
 ghost use Rattle.sacn_console.specs.Lines.{Datagram};
 ghost use Rattle.sacn_console.specs.Wakes.{last_moment};
 ghost use Rattle.sacn_source.specs.Source.{Source, after_order, after_poll, at, due};
-ghost use Rattle.sacn_source.specs.Table.{Add, SetLevels, SetPriority, End, EndAll, answer};
+ghost use Rattle.sacn_source.specs.Table.{Add, SetLevels, SetPriority, End, EndAll, answer, universes_of};
 ghost use Rattle.sacn_c.specs.Kinds.{of_source};
-ghost use Rattle.sacn_c.specs.Sending.{due_size};
+ghost use Rattle.sacn_c.specs.Numbers.{found_status, found_or};
+ghost use Rattle.sacn_c.specs.Sending.{due_size, line_told};
 ghost use Rattle.sacn_c.specs.Sourcing.{SourceOf, SourceStatus, due_universe, order_status};
 ghost use Rattle.sacn_c.specs.declared.status.TheConstants.{DONE, WRONG_HANDLE};
 
 use crate::handle::Handle;
 use crate::held_value::Held;
-use crate::status::{DONE, NAME, WRONG_HANDLE};
+use crate::state::{LineFields, line_told};
+use crate::status::{DONE, NAME, RANGE, WRONG_HANDLE};
 use sacn_console::limits::MAX_DATAGRAM;
 use sacn_console::{DueDatagram, Sender};
 use sacn_packets::source_name;
@@ -236,6 +239,36 @@ pub extern "C" fn sacn_proved_source_wakes(handle: &mut Handle, moment: &mut u64
             *moment = source.wakes();
             DONE
         }
+        _ => WRONG_HANDLE,
+    }
+}
+
+/// What is kept of the universe at a place, by ascending number, from 0 on, as `SourceCore::universes`. The status is `RANGE`, and the fields as
+/// they were, where there is none.
+#[unsafe(no_mangle)]
+pub extern "C" fn sacn_proved_source_universe(
+    handle: &mut Handle,
+    place: usize,
+    fields: &mut LineFields,
+) -> u32
+    requires { is_some handle.old.value ≡ true }
+    ensures status { IfSome handle.old.value (λ held. result
+        ≡ of_source WRONG_HANDLE (λ s. found_status (slice_get s.table.rows place)) held) }
+    ensures fields { IfSome handle.old.value (λ held. fields.new
+        ≡ of_source fields.old (λ s. found_or fields.old
+        (option_map (λ r. line_told r.line) (slice_get s.table.rows place))) held) }
+    ensures ascending { IfSome handle.old.value
+        (λ held. Rising (of_source [] (λ s. universes_of s.table.rows) held)) }
+    ensures after { handle.new.value ≡ handle.old.value }
+{
+    match handle.held() {
+        Held::Source(source) => match source.universes().get(place) {
+            Some(row) => {
+                *fields = line_told(&row.line);
+                DONE
+            }
+            None => RANGE,
+        },
         _ => WRONG_HANDLE,
     }
 }

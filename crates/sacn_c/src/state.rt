@@ -1,10 +1,10 @@
-//! What C is told of a universe of a console.
+//! What C is told of a universe of a console or a source.
 ghost use Rattle.std.specs.Prelude.{◌≡◌};
 ghost use Rattle.sacn_c.specs.Sending.{state_number, line_told};
 
 use sacn_console::{State, UniverseLine};
 
-/// A universe of a console, in numbers. `sacn.h` says what each field means.
+/// A universe of a console or a source, in numbers. `sacn.h` says what each field means.
 #[repr(C)]
 #[derive(Clone, Copy)]
 pub struct LineFields {

@@ -6,6 +6,7 @@ mod giving;
 
 use crate::fault::SourceFault;
 use crate::looks::Looks;
+use crate::source_universe::SourceUniverse;
 use crate::source_universes::SourceUniverses;
 use arrayvec::ArrayVec;
 use sacn_console::limits::MAX_DATAGRAM;
@@ -45,7 +46,8 @@ impl SourceCore {
     ghost use Rattle.std.specs.Option.{option_map};
     ghost use Rattle.sacn_console.specs.Lines.{Datagram};
     ghost use Rattle.sacn_console.specs.Core.{due_datagram, over, IsLawful};
-    ghost use Rattle.sacn_source.specs.Table.{Order, Add, SetLevels, SetPriority, End, EndAll, answer};
+    ghost use Rattle.sacn_packets.specs.Universe.{Rising};
+    ghost use Rattle.sacn_source.specs.Table.{Order, Add, SetLevels, SetPriority, End, EndAll, answer, universes_of};
     ghost use Rattle.sacn_source.specs.Source.{Source, due, at, after_poll, after_order};
     ghost use Rattle.sacn_source.specs.Source.{new_source, new_fault};
 
@@ -145,6 +147,15 @@ impl SourceCore {
         self.tell_lawful(now);
         self.move_clock(now);
         self.give(out)
+    }
+
+    /// What is kept of each universe, in ascending order of number: its state, the number of its next
+    /// packet, the moment of its latest one, its levels and its priority.
+    pub fn universes(&self) -> &[SourceUniverse]
+        ensures universes { result.now ≡ self.now.table.rows }
+        ensures ascending { Rising (universes_of self.now.table.rows) }
+    {
+        self.rows.as_slice()
     }
 
     // What is due at a moment can be said by a packet. This costs nothing.

@@ -140,6 +140,14 @@ impl SourceUniverses {
         first_wake(&self.rows)
     }
 
+    /// All of them, by rising number.
+    pub(crate) fn as_slice(&self) -> &[SourceUniverse]
+        ensures rows { result.now ≡ self.now.rows }
+        ensures rising { Rising (universes_of self.now.rows) }
+    {
+        self.rows.as_slice()
+    }
+
     /// The universe at a place.
     pub(crate) fn at(&self, place: usize) -> &SourceUniverse
         requires { place < length self.now.rows }

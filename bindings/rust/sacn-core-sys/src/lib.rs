@@ -382,6 +382,7 @@ extern "C" {
         universe: *mut u16,
     ) -> c_int;
     pub fn sacn_source_wakes(source: *mut sacn_source_handle, moment: *mut u64) -> c_int;
+    pub fn sacn_source_universe(source: *mut sacn_source_handle, place: usize, universe: *mut sacn_universe) -> c_int;
     pub fn sacn_monitor_new(monitor: *mut sacn_monitor) -> c_int;
     pub fn sacn_monitor_free(monitor: *mut sacn_monitor) -> c_int;
     pub fn sacn_monitor_take(

@@ -43,18 +43,18 @@ impl Command {
 }
 
 numbers! {
-    /// Whether a console sends a universe (`enum sacn_universe_state`).
+    /// Whether a console or a source sends a universe (`enum sacn_universe_state`).
     UniverseState {
         /// It is sent.
         Running = SACN_UNIVERSE_RUNNING,
         /// Its three terminations aren't all given yet (E1.31, 6.2.6).
         Ending = SACN_UNIVERSE_ENDING,
-        /// It is sent no more, until it is started.
+        /// It is sent no more, until it is started, or added again.
         Stopped = SACN_UNIVERSE_STOPPED,
     }
 }
 
-/// A universe of a console.
+/// A universe of a console, or of a source.
 #[derive(Clone, Debug, PartialEq, Eq)]
 pub struct ConsoleUniverse {
     /// 1 to 63999.
@@ -63,8 +63,22 @@ pub struct ConsoleUniverse {
     pub state: UniverseState,
     /// The sequence number of its next packet (E1.31, 6.2.5).
     pub number: u8,
-    /// The moment of its latest packet since the console was made; `None` where there was none.
+    /// The moment of its latest packet since that was made; `None` where there was none.
     pub latest: Option<u64>,
+}
+
+/// The universes that a call tells place by place.
+pub(crate) fn universes_by(
+    mut tell: impl FnMut(usize, &mut sys::sacn_universe) -> i32,
+) -> Result<Vec<ConsoleUniverse>, Error> {
+    let mut universes = Vec::new();
+    let mut told = sys::sacn_universe::default();
+    while found(tell(universes.len(), &mut told))? {
+        let state = known(told.state, UniverseState::of)?;
+        let latest = (told.latest != u64::MAX).then_some(told.latest);
+        universes.push(ConsoleUniverse { universe: told.universe, state, number: told.number, latest });
+    }
+    Ok(universes)
 }
 
 /// A datagram that a console or a source gives.
@@ -137,14 +151,7 @@ impl Console {
 
     /// The show's universes, by ascending number.
     pub fn universes(&mut self) -> Result<Vec<ConsoleUniverse>, Error> {
-        let mut universes = Vec::new();
-        let mut told = sys::sacn_universe::default();
-        while found(raw::console_universe(&mut self.handle, universes.len(), &mut told))? {
-            let state = known(told.state, UniverseState::of)?;
-            let latest = (told.latest != u64::MAX).then_some(told.latest);
-            universes.push(ConsoleUniverse { universe: told.universe, state, number: told.number, latest });
-        }
-        Ok(universes)
+        universes_by(|place, told| raw::console_universe(&mut self.handle, place, told))
     }
 
     /// The number of the cue that was gone to last; `None` before the first.

@@ -271,6 +271,10 @@ pub fn source_wakes(source: &mut Handle<sacn_source_handle>, moment: &mut u64) -
     unsafe { sacn_source_wakes(&mut source.0, moment) }
 }
 
+pub fn source_universe(source: &mut Handle<sacn_source_handle>, place: usize, universe: &mut sacn_universe) -> c_int {
+    unsafe { sacn_source_universe(&mut source.0, place, universe) }
+}
+
 pub fn monitor_new() -> Made<sacn_monitor> {
     made(|monitor| unsafe { sacn_monitor_new(monitor) })
 }

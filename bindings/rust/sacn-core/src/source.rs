@@ -1,6 +1,6 @@
 //! A source of levels.
 
-use crate::console::Datagram;
+use crate::console::{universes_by, ConsoleUniverse, Datagram};
 use crate::error::{check, refused, Error};
 use crate::packet::Cid;
 use crate::raw;
@@ -8,8 +8,8 @@ use sacn_core_sys as sys;
 
 /// A source: it is handed the levels of its universes whenever they change, and gives the datagrams that are due.
 ///
-/// Before it is dropped its universes are ended, and it is polled for 75 ms more: else nodes show its last levels until
-/// they count it as lost.
+/// Before it is dropped its universes are ended, and it is polled until each is stopped: else nodes show its last levels
+/// until they count it as lost.
 #[derive(Debug)]
 pub struct Source {
     handle: raw::Handle<sys::sacn_source_handle>,
@@ -72,5 +72,10 @@ impl Source {
         let mut moment = 0;
         check(raw::source_wakes(&mut self.handle, &mut moment), Error::none)?;
         Ok(moment)
+    }
+
+    /// The universes that were added, by ascending number.
+    pub fn universes(&mut self) -> Result<Vec<ConsoleUniverse>, Error> {
+        universes_by(|place, told| raw::source_universe(&mut self.handle, place, told))
     }
 }

@@ -357,6 +357,8 @@ fn levels_and_three_terminations() -> Result<(), Error> {
         }
     }
     assert_eq!(ends, [(2025, 6, 0x40), (2050, 7, 0x40), (2075, 8, 0x40)]);
+    let stopped = ConsoleUniverse { universe: 7, state: UniverseState::Stopped, number: 9, latest: Some(2075) };
+    assert_eq!(source.universes()?, [stopped]);
     assert_eq!(source.wakes()?, 10000);
     Ok(())
 }
