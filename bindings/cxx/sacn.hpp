@@ -408,7 +408,7 @@ class Collector : public Handle<sacn_collector, sacn_collector_free> {
     }
 };
 
-/** A datagram that a console gives. */
+/** A datagram that a console or a source gives. */
 struct Datagram {
     std::array<std::uint8_t, SACN_MAX_DATAGRAM> octets;
     std::size_t count;
@@ -482,14 +482,6 @@ class Console : public Handle<sacn_console, sacn_console_free> {
     }
 };
 
-/** A datagram that a source gives. */
-struct SourceDatagram {
-    std::array<std::uint8_t, SACN_MAX_DATAGRAM> octets;
-    std::size_t count;
-    /** The universe to whose group it goes: a data packet's own, and SACN_DISCOVERY_UNIVERSE of a page. */
-    std::uint16_t universe;
-};
-
 /** A source: it is handed the levels of its universes whenever they change, and gives the datagrams that are due. Before
     its end its universes are ended, and it is polled until each is stopped: else nodes show its last levels until they
     count it as lost. */
@@ -525,12 +517,12 @@ class Source : public Handle<sacn_source_handle, sacn_source_free> {
     void end_all() { detail::check(sacn_source_end_all(raw())); }
 
     /** The datagram that is due; nothing where none is. Poll until none is. */
-    std::optional<SourceDatagram> poll(std::uint64_t now) {
-        SourceDatagram due{};
-        detail::check(sacn_source_poll(raw(), now, due.octets.data(), &due.count, &due.universe));
-        if (due.count == 0) return std::nullopt;
-        if (due.universe == 0) due.universe = SACN_DISCOVERY_UNIVERSE;
-        return due;
+    std::optional<Datagram> poll(std::uint64_t now) {
+        Datagram datagram{};
+        std::uint16_t universe = 0;
+        detail::check(sacn_source_poll(raw(), now, datagram.octets.data(), &datagram.count, &universe));
+        if (datagram.count == 0) return std::nullopt;
+        return datagram;
     }
 
     /** The first moment at which something is due as long as no other call comes. */

@@ -269,11 +269,11 @@ void source() {
     source.add(7);
     const Octets two_levels{255, 128};
     source.levels(7, two_levels.data(), two_levels.size());
-    std::optional<sacn::SourceDatagram> due = source.poll(0);
+    std::optional<sacn::Datagram> due = source.poll(0);
     CHECK(due && begins(due->octets, due->count, data(cid, 255, whole(padded({255, 128})), 120, 0, 7)));
-    CHECK(due && due->universe == 7);
+    CHECK(due && due->universe() == 7);
     due = source.poll(0);
-    CHECK(due && begins(due->octets, due->count, page(cid, {7})) && due->universe == 64214);
+    CHECK(due && begins(due->octets, due->count, page(cid, {7})) && due->universe() == 64214);
     /* (a packet is sent three times more, 25 ms apart, and then each 900 ms) */
     CHECK(!source.poll(0) && source.wakes() == 25);
     std::vector<std::array<std::uint64_t, 3>> told;

@@ -20,7 +20,7 @@ int main(int count, char **words) {
         const auto now = std::uint64_t((std::chrono::steady_clock::now() - began) / std::chrono::milliseconds(1));
         if (now >= end && !is_ending) source.end_all(), is_ending = true;
         while (const auto due = source.poll(now)) {
-            const sockaddr_in to{AF_INET, htons(std::uint16_t(std::stoi(word(3, "5568")))), {htonl(0xefff0000u | due->universe)}, {}};
+            const sockaddr_in to{AF_INET, htons(std::uint16_t(std::stoi(word(3, "5568")))), {htonl(0xefff0000u | due->universe())}, {}};
             sendto(out, due->octets.data(), due->count, 0, (const sockaddr *)&to, sizeof to);
         }
         std::this_thread::sleep_until(began + std::chrono::milliseconds(std::min(source.wakes(), is_ending ? now + 25 : end)));
