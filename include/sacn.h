@@ -471,9 +471,9 @@ struct sacn_source_handle {
 };
 
 /* Makes a source that has no universe yet. The handle must be empty. `cid` is its component identifier (5.6), and its name `length` octets of UTF-8
-   without a NUL, at most 63 (6.2.2). `priority`, 0 to 200, is that of each universe that is added (6.2.3). All memory is taken here: for `room`
-   universes, or for SACN_SOURCE_UNIVERSES where that is more. The first packet on each universe has the number `first`. Status: SACN_NAME, then
-   SACN_SOURCE_BAD_PRIORITY, then SACN_SOURCE_OUT_OF_MEMORY. */
+   without a NUL, at most 63 (6.2.2). `priority`, 0 to 200, is that of each universe that is added (6.2.3). There is room for `room` universes, at
+   most SACN_SOURCE_UNIVERSES, and all their memory is taken here, some 1100 octets each. The first packet on each has the number `first`. Status:
+   SACN_NAME, then SACN_SOURCE_BAD_PRIORITY, then SACN_SOURCE_OUT_OF_MEMORY. */
 int sacn_source_new(struct sacn_source_handle *source, const uint8_t cid[16], const char *name, size_t length, uint8_t priority, size_t room,
                     uint8_t first);
 
