@@ -1,2 +1,4 @@
 pub mod Universes
 pub mod Played
+pub mod Calls
+pub mod Laws
