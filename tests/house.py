@@ -15,7 +15,7 @@ DOCUMENTS = ["README.md", "CHANGELOG.md", "tests/README.md", "tests/rows/README.
 # What stands once, or so often at most, in the code of the product's crates.
 MOST = {
     # (by a desk that stands by, too: which stream a packet of its own ends; by what tells a recording's incidents; by an audit; and by a recorder and a playback, which universe)
-    "a datagram is read": (r"(?<!fn )(?<!proved_)\bread_packet\(", 15),
+    "a datagram is read": (r"(?<!fn )(?<!proved_)\bread_packet\(", 16),
     "a packet's kind is told": (r"\bfn kind_of\(packet\b", 1),
     # (by the network's loop of losses, where it has none, and by C)
     "a monitor's clock is moved": (r"\bmonitor\.tick\(", 3),
