@@ -1,8 +1,7 @@
 -- The first element of a list that passes a test, at its place.
 use Rattle.std.proofs.Common.{◌≡◌, ℕ, zero, suc, ◌+◌, ◌<◌, Bool, true, false, not, cond, List, [], ◌∷◌, length, map, find, get_or, set, Option, Some, None, refl, arith, ap, sym, ◌∙◌}
-use Rattle.std.specs.List.{list_any}
+use Rattle.std.specs.List.{position_or_len}
 use Rattle.std.specs.Option.{option_map}
-use Rattle.core.specs.List.{position_or_len}
 
 one_more : (n : ℕ) → 1 + n ≡ suc n
 one_more n = omega arith
