@@ -39,7 +39,7 @@ packed() { gzip -9n >"$1"; chmod 644 "$1"; }
 
 # What is packed of the documents in docs/.
 documents="RIG FILES PROTOCOL AUDIT THEOREMS"
-commands="gateway|desk|watch|record|explain|audit|check|decode|sim|console|node|groups|manual|completion|--help|<"
+commands="gateway|desk|watch|record|replay|explain|audit|check|decode|sim|console|node|groups|manual|completion|--help|<"
 
 # A document on standard input, without links to what isn't packed.
 linked() {
