@@ -64,7 +64,7 @@ in_small_spaces() {
     skips "$name" "it isn't built"
     return
   fi
-  for size in $(seq 3000 50 6400); do
+  for size in $(seq 3000 50 8000); do
     status=0
     # shellcheck disable=SC2016
     timeout 60 bash -c 'ulimit -v "$1" && shift && exec "$@"' small "$size" "$@" </dev/null >/dev/null 2>"$room/err" || status=$?
