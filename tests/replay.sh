@@ -261,7 +261,33 @@ wait "$gateway" 2>/dev/null
 [ "$(wc -l <wanted)" = 14 ] && digits frames | head -n 14 | cmp -s - wanted
 verdict "a node shows frame for frame what explain says of the recording" $? "$(digits frames | wc -l) of $(wc -l <wanted)"
 
-# Under the launcher, which looks names up and ends it by a signal.
+# Under the launcher, which looks names up and ends it by a signal. On a terminal nothing stands between its keys and the orders, and it has its modes back at the end.
+cat >terminal.py <<'P'
+import os, pty, select, sys, termios, time
+pid, terminal = pty.fork()
+if pid == 0:
+    os.execvp("bash", ["bash", "-eu", "-c", '. "$0"; run "$1" replay long.pcap --to "localhost:$2"; true', *sys.argv[1:]])
+said, typed = b"", 0
+until = time.monotonic() + 40
+while time.monotonic() < until:
+    if select.select([terminal], [], [], 0.1)[0]:
+        try:
+            octets = os.read(terminal, 4096)
+        except OSError:
+            break
+        if not octets:
+            break
+        said += octets
+    if typed == 0 and b"plays long.pcap" in said:
+        # (a key, taken back; then an order)
+        typed = os.write(terminal, b"x\x7fpause\n")
+    if typed == 8 and b"ok paused at" in said:
+        canonical = termios.tcgetattr(terminal)[3] & termios.ICANON
+        typed += os.write(terminal, b"\x04")
+print("canonical" if typed == 9 and canonical else "raw", b"played" in said, b"line 1" in said)
+P
+[ "$(timeout 60 python3 terminal.py "$top/tools/run.sh" "$sacn" "$port")" = "canonical True False" ]
+verdict "on a terminal a line is edited, and Ctrl-D ends it" $?
 for signal in TERM INT; do
   hears "$port"
   : >err

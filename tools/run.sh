@@ -1,4 +1,4 @@
-# How the program runs, also where it is installed: what the launcher does around it that it can't do itself. It ends a desk by the end of its input, tells a
+# How the program runs, also where it is installed: what the launcher does around it that it can't do itself. It ends a desk and a replay by the end of their input, tells a
 # watch how large its terminal is, and joins multicast groups. Read by ./sacn and by a package's /usr/bin/sacn, which say in $sacn_join where sacn-join is.
 
 say() { echo "sacn: $*" >&2; }
@@ -14,10 +14,10 @@ is_ordered() {
 # Whether the word is that of a command which is ordered by its input.
 takes_orders() { [ "$1" = desk ] || [ "$1" = replay ]; }
 
-# Copies the orders of a command. A replay's input that ends at once and had none isn't ended, so that a signal ends it later.
+# Copies the orders of a command. A replay's input that is no terminal, ends at once and had none isn't ended, so that a signal ends it later.
 copy_orders() {
   local first
-  if [ "$1" = replay ]; then
+  if [ "$1" = replay ] && ! [ -t "$in" ]; then
     if IFS= read -r -N 1 first <&"$in"; then
       printf %s "$first"
     elif [ $((SECONDS - since)) -le 1 ]; then
@@ -27,9 +27,9 @@ copy_orders() {
   exec cat <&"$in"
 }
 
-# Gives a desk its input until the launcher lets go of its end of a pipe, or is gone: an end of input in a desk's first second is none, so that
-# it comes after that second. A line on the pipe says that the desk has ended by itself.
-feed_desk() {
+# Gives a desk or a replay its input until the launcher lets go of its end of a pipe, or is gone: an end of input in its first second is none, so that
+# it comes after that second. A line on the pipe says that it has ended by itself.
+feed_orders() {
   local copy=
   trap '' INT TERM HUP QUIT
   exec {life}>&-
@@ -154,7 +154,7 @@ feed() {
   exec {lives}<"/proc/self/fd/$life"
   # (A desk or a replay is ordered by its input, and a screen steered by keys; else a watch or a recording only waits for the end of it, whatever stands there.)
   if takes_orders "$2"; then
-    exec {out}< <(feed_desk "$@")
+    exec {out}< <(feed_orders "$@")
   elif [ -n "$modes" ]; then
     export SACN_KEYS=yes
     exec {out}< <(feed_keys)

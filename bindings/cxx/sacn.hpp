@@ -56,7 +56,7 @@ struct Told {
 
 #define SACN_TOLD(family, status, meaning) Told{Family::family, status, #status, meaning}
 inline constexpr Told statuses[] = {
-    SACN_TOLD(status, SACN_NULL, "The handle was freed or never made."),
+    SACN_TOLD(status, SACN_NULL, "A pointer is null, or the handle was freed or never made."),
     SACN_TOLD(status, SACN_LENGTH, "A count is out of the range that the call names."),
     SACN_TOLD(status, SACN_WRONG_HANDLE, "The handle stands for something else."),
     SACN_TOLD(status, SACN_RANGE, "An argument is out of range, or there is nothing of this number."),

@@ -99,7 +99,7 @@ class _Fault(IntEnum):
 class Status(_Fault):
     """What every call can answer (enum sacn_status)."""
 
-    NULL = 1001, "The handle was freed or never made."
+    NULL = 1001, "A pointer is null, or the handle was freed or never made."
     LENGTH = 1002, "A count is out of the range that the call names."
     WRONG_HANDLE = 1003, "The handle stands for something else."
     RANGE = 1004, "An argument is out of range, or there is nothing of this number."

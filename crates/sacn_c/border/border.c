@@ -370,7 +370,7 @@ static const struct {
     int status;
     const char *text;
 } texts[] = {
-    {SACN_FAMILY_STATUS, SACN_NULL, "The handle was freed or never made."},
+    {SACN_FAMILY_STATUS, SACN_NULL, "A pointer is null, or the handle was freed or never made."},
     {SACN_FAMILY_STATUS, SACN_LENGTH, "A count is out of the range that the call names."},
     {SACN_FAMILY_STATUS, SACN_WRONG_HANDLE, "The handle stands for something else."},
     {SACN_FAMILY_STATUS, SACN_RANGE, "An argument is out of range, or there is nothing of this number."},

@@ -45,7 +45,7 @@ macro_rules! faults {
 faults! {
     /// What every call can answer (`enum sacn_status`).
     Status {
-        Null = SACN_NULL: "The handle was freed or never made.",
+        Null = SACN_NULL: "A pointer is null, or the handle was freed or never made.",
         Length = SACN_LENGTH: "A count is out of the range that the call names.",
         WrongHandle = SACN_WRONG_HANDLE: "The handle stands for something else.",
         Range = SACN_RANGE: "An argument is out of range, or there is nothing of this number.",
