@@ -63,13 +63,14 @@ fn play<R: AllocGlobal + Files + Env + Net + Clock>(
     tape: &mut FileTape<R>,
     outputs: &Outputs,
 ) -> Result<(), Ending> {
-    if tape.has_datagram() {
+    let has_datagram = tape.has_datagram();
+    if has_datagram {
         let first = first_of_day(rt, tape.first())?;
         send(rt, asked, plan, destinations, (tape, first), outputs)?;
     }
     match tape.fault() {
         Some(fault) => Err(say_capture_fault(asked.capture, fault, &mut outputs.err())),
-        None if tape.first().is_none() => Err(say_nothing(asked, &mut outputs.err())),
+        None if !has_datagram => Err(say_nothing(asked, &mut outputs.err())),
         None => Ok(()),
     }
 }

@@ -2,11 +2,16 @@
 use sacn_desk::{DeskDatagram, DeskSender};
 use sacn_edge::{BUFFER_OCTETS, Clock, Link, Received};
 use sacn_machine::Sockets;
-use sacn_packets::{Packet, read_packet};
+use sacn_packets::{MAX_UNIVERSE, MIN_UNIVERSE, Packet, read_packet};
 use std::io::Write;
 
 /// Where the universe of a synchronization packet stands (E1.31, 6.3.3), the high octet first.
 const SYNCHRONIZATION_AT: usize = 45;
+
+// Whether a universe has a group of its own (E1.31, 6.2.7): a synchronization packet may name none.
+fn has_group(universe: u16) -> bool {
+    (MIN_UNIVERSE..=MAX_UNIVERSE).contains(&universe)
+}
 
 /// What sends the datagrams of a recording, octet by octet: a data packet to each host that takes its universe and, where groups are sent
 /// to, to the universe's; a page to all hosts and to the group of discovery; a synchronization packet to all hosts and to the group of the
@@ -54,7 +59,7 @@ impl<S: Sockets, C: Clock, E: Write + Drop> PlayedLink<S, C, E> {
         let is_taken = match octets.get(SYNCHRONIZATION_AT..SYNCHRONIZATION_AT + 2) {
             Some([high, low]) => {
                 let universe = u16::from_be_bytes([*high, *low]);
-                self.sender.send_to_group(octets, universe)
+                !has_group(universe) || self.sender.send_to_group(octets, universe)
             }
             _ => true,
         };

@@ -26,6 +26,8 @@ pub struct TypedOrders<'a, R, O> {
     line_number: usize,
     /// The time of day of the first datagram, in milliseconds since midnight; None where it isn't known.
     first: Option<u64>,
+    // What the line says that is next. It is read ahead of its turn, so that the end of the orders is heard at once.
+    ahead: Option<Result<PlayLine, LineFault>>,
     // What is answered once the latest order holds.
     answer: Option<Answer>,
     is_absent: bool,
@@ -43,6 +45,7 @@ impl<'a, R: MachineClock, O: Write> TypedOrders<'a, R, O> {
             input: TypedInput::new(alloc),
             line_number: 0,
             first,
+            ahead: None,
             answer: None,
             is_absent: false,
             has_ended: false,
@@ -77,11 +80,30 @@ impl<'a, R: MachineClock, O: Write> TypedOrders<'a, R, O> {
         }
     }
 
-    // The order of the line that is there; None where it is something else, which is then done.
-    fn take_line(&mut self) -> Option<PlayOrder> {
+    // Reads ahead where no line is next.
+    fn read_ahead(&mut self, now: u64) {
+        if self.has_ended || self.ahead.is_some() {
+            return;
+        }
+        match self.input.next() {
+            InputState::Nothing => {}
+            InputState::Line => self.read_line(),
+            InputState::OutOfMemory => {
+                self.say_fault(LineFault::OutOfMemory);
+                self.has_ended = true;
+            }
+            InputState::End => self.end_input(now),
+        }
+    }
+
+    fn read_line(&mut self) {
         self.line_number = self.line_number.saturating_add(1);
-        let said = line_said(self.alloc, self.input.line.line());
+        self.ahead = Some(line_said(self.alloc, self.input.line.line()));
         self.input.line.clear();
+    }
+
+    // The order of a line; None where it is something else, which is then done.
+    fn take_line(&mut self, said: Result<PlayLine, LineFault>) -> Option<PlayOrder> {
         match said {
             Ok(line) => self.take_said(line),
             Err(fault) => {
@@ -142,7 +164,7 @@ impl<'a, R: MachineClock, O: Write> TypedOrders<'a, R, O> {
 
 impl<'a, R: MachineClock, O: Write> PlayOrders for TypedOrders<'a, R, O> {
     fn wait(&mut self, until: u64) {
-        if self.has_ended || self.input.has_more() {
+        if self.has_ended || self.ahead.is_some() || self.input.has_more() {
             return;
         }
         let millis = self.clock.millis_until(until);
@@ -159,20 +181,10 @@ impl<'a, R: MachineClock, O: Write> PlayOrders for TypedOrders<'a, R, O> {
             if self.has_ended || self.answer.is_some() {
                 return None;
             }
-            match self.input.next() {
-                InputState::Nothing => return None,
-                InputState::Line => match self.take_line() {
-                    Some(order) => return Some(order),
-                    None => {}
-                },
-                InputState::OutOfMemory => {
-                    self.say_fault(LineFault::OutOfMemory);
-                    self.has_ended = true;
-                }
-                InputState::End => {
-                    self.end_input(now);
-                    return None;
-                }
+            self.read_ahead(now);
+            let said = self.ahead.take()?;
+            if let Some(order) = self.take_line(said) {
+                return Some(order);
             }
         }
         None
@@ -186,6 +198,8 @@ impl<'a, R: MachineClock, O: Write> PlayOrders for TypedOrders<'a, R, O> {
     }
 
     fn has_ended(&mut self) -> bool {
-        self.has_ended
+        let now = self.clock.now();
+        self.read_ahead(now);
+        self.has_ended || matches!(self.ahead, Some(Ok(PlayLine::Quit)))
     }
 }
