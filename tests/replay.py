@@ -7,6 +7,7 @@ replay.py hear FILE WORD..  notes each datagram in a line of a file: the millise
 
 import selectors
 import socket
+import struct
 import sys
 import time
 
@@ -33,6 +34,21 @@ def evening(path, start=1000):
             recording.sent(500, 3, level(1, 99), port=5569)
     recording.close()
     return played
+
+
+def simple(path, datagrams):
+    """A pcapng of simple packets, which have no moments."""
+
+    def block(kind, body):
+        body += bytes(-len(body) % 4)
+        return struct.pack("<II", kind, len(body) + 12) + body + struct.pack("<I", len(body) + 12)
+
+    with open(path, "wb") as file:
+        file.write(block(0x0A0D0D0A, struct.pack("<IHHq", 0x1A2B3C4D, 1, 0, -1)))
+        file.write(block(1, struct.pack("<HHI", 1, 0, 0)))
+        for octets in datagrams:
+            frame = e131.carried(3, octets)
+            file.write(block(3, struct.pack("<I", len(frame)) + frame))
 
 
 def write_lines(path, lines):
@@ -62,6 +78,7 @@ def make():
     recording.close()
     write_lines("far", [level(1, value).hex() for value in (1, 2)])
     e131.Recording("empty.pcap").close()
+    simple("simple.pcapng", [level(1, value) for value in (1, 2)])
     # Frames of one port, a fifth of a second apart, for a node: two sources, the second at a higher priority, which ends.
     recording = e131.Recording("rig.pcap")
     other = bytes(range(16, 32))

@@ -88,6 +88,7 @@ plays "fifty minutes are three seconds at speed 1000" far 2 far.pcap --speed 100
 plays "a universe under another number" moved 7 evening.pcap --universe 1=7
 plays "from a moment on, up to another" between 4 evening.pcap --from 0.2 --until 0.6
 plays "those of another port" other 1 evening.pcap --port 5569
+plays "a recording without moments goes out at once" far 2 simple.pcapng
 
 # Where datagrams go.
 hears "$port" "$second"
