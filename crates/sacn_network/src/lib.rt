@@ -22,6 +22,3 @@ pub use lit_universe::LitUniverse;
 pub use network::Network;
 pub use observer::{Observer, Unobserved};
 pub use occurrence::{Contest, Occurrence, What};
-
-#[cfg(test)]
-mod tests;
