@@ -28,6 +28,13 @@ impl<'a> Model for HeldView<'a> {
 }
 
 impl<'a> HeldView<'a> {
+    /// The source's CID.
+    pub fn cid(&self) -> [u8; 16]
+        ensures { result ≡ self.now.source }
+    {
+        self.cid
+    }
+
     /// The sequence number of the latest packet that was accepted from the source (Held, Observed or EndedNow).
     pub fn number(&self) -> u8
         ensures { result ≡ self.now.sequence_number }

@@ -3,7 +3,7 @@
 mod copying;
 mod giving;
 
-ghost use Rattle.std.specs.Prelude.{◌≡◌, ◌↔◌, ◌<◌, ◌≤◌, IsTrue, false, not, remove, ℕ, [], length, is_some, slice_index_or, slice_set, max, IfOk, IfErr};
+ghost use Rattle.std.specs.Prelude.{◌≡◌, ◌↔◌, ◌<◌, ◌≤◌, IsTrue, false, not, remove, ℕ, [], length, is_some, slice_get, slice_index_or, slice_set, max, IfOk, IfErr};
 
 use crate::answer::Taken;
 use crate::entry::{Entry, entry_at, oldest_entry, place_of, renew, renumber};
@@ -152,9 +152,19 @@ impl Store {
     pub(crate) fn held(&self, cid: &[u8; 16]) -> Option<HeldView<'_>>
         ensures { result ≡ row_of cid.now self.now.rows }
     {
-        let Ok(at) = self.search(cid) else {
+        match self.search(cid) {
+            Ok(at) => self.source_at(at),
+            Err(_) => None,
+        }
+    }
+
+    /// The source at a place, by ascending CID.
+    pub(crate) fn source_at(&self, at: usize) -> Option<HeldView<'_>>
+        ensures { result ≡ slice_get self.now.rows at }
+    {
+        if self.count() <= at {
             return None;
-        };
+        }
         let entry = entry_at(&self.entries, at);
         let shown = match entry.priority {
             Some(priority) => Some(Layer {

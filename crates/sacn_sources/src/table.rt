@@ -1,6 +1,6 @@
 //! The table of sources, with its latest merge.
 
-ghost use Rattle.std.specs.Prelude.{◌≡◌, ◌+◌, ◌<◌, ◌≤◌, ◌^◌, ℕ, length, take, drop, max, IfOk, IfSome, IfNone};
+ghost use Rattle.std.specs.Prelude.{◌≡◌, ◌+◌, ◌<◌, ◌≤◌, ◌^◌, ℕ, length, slice_get, take, drop, max, IfOk, IfSome, IfNone};
 
 use crate::answer::Taken;
 use crate::fault::TableFault;
@@ -147,6 +147,13 @@ impl SourceTable {
         ensures { result ≡ row_of cid.now self.now.table.rows }
     {
         self.store.held(cid)
+    }
+
+    /// The source at a place in ascending order of CID, as the latest call with a moment left it; `None` behind the last.
+    pub fn source_at(&self, place: usize) -> Option<HeldView<'_>>
+        ensures { result ≡ slice_get self.now.table.rows place }
+    {
+        self.store.source_at(place)
     }
 
     /// The moment of the source that was renewed the longest ago, ended ones too, and `u64::MAX` where none is held.
