@@ -2,13 +2,13 @@
 
 mod copying;
 mod giving;
+mod lending;
 
-ghost use Rattle.std.specs.Prelude.{◌≡◌, ◌↔◌, ◌<◌, ◌≤◌, IsTrue, false, not, remove, ℕ, [], length, is_some, slice_get, slice_index_or, slice_set, max, IfOk, IfErr};
+ghost use Rattle.std.specs.Prelude.{◌≡◌, ◌↔◌, ◌<◌, ◌≤◌, IsTrue, false, not, remove, ℕ, [], length, is_some, slice_index_or, slice_set, max, IfOk, IfErr};
 
 use crate::answer::Taken;
 use crate::entry::{Entry, entry_at, oldest_entry, place_of, renew, renumber};
 use crate::fault::TableFault;
-use crate::held_view::HeldView;
 use crate::kind::{Kind, kind_of};
 use crate::limits::{MAX_SOURCES, NETWORK_DATA_LOSS};
 use crate::sequence::in_sequence;
@@ -146,39 +146,6 @@ impl Store {
             }
         }
         merge_into(&layers[..count], slots);
-    }
-
-    /// The source of this CID.
-    pub(crate) fn held(&self, cid: &[u8; 16]) -> Option<HeldView<'_>>
-        ensures { result ≡ row_of cid.now self.now.rows }
-    {
-        match self.search(cid) {
-            Ok(at) => self.source_at(at),
-            Err(_) => None,
-        }
-    }
-
-    /// The source at a place, by ascending CID.
-    pub(crate) fn source_at(&self, at: usize) -> Option<HeldView<'_>>
-        ensures { result ≡ slice_get self.now.rows at }
-    {
-        if self.count() <= at {
-            return None;
-        }
-        let entry = entry_at(&self.entries, at);
-        let shown = match entry.priority {
-            Some(priority) => Some(Layer {
-                priority,
-                levels: &self.frames[entry.key],
-            }),
-            None => None,
-        };
-        Some(HeldView {
-            cid: entry.cid,
-            sequence_number: entry.sequence_number,
-            shown,
-            moment: entry.moment,
-        })
     }
 
     /// The moment of the source that was renewed the longest ago, and `u64::MAX` where none is held.
