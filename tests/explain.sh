@@ -201,6 +201,55 @@ timeout 60 "$sacn" explain met.pcap --json 2>err </dev/null | grep '"event":"inc
 cmp -s wanted out
 verdict "what a console does is one object" $? "$(diff wanted out | head -n 3 | cut -c 1-160)"
 
+# Which deeds are of one incident: those of one console and one kind that come within a second of its first. N and O meet on three universes, 10 ms one behind the other,
+# and fall silent. T appears on four, the second of which is a second behind the first, and the third a millisecond later. Of 256 consoles U0 to U255 each begins an
+# incident, and no more are gathered at once: where one of another kind begins, that of U0 is told, so its next deed begins another, for which that of U1 is told. What
+# U255 and U0 do before belongs to their incidents and wants no room.
+python3 - <<'P' || verdict "recordings of what is gathered" 1
+import e131
+def made(name, *packets):
+    recording = e131.Recording(name)
+    for at, cid, letters, universe, *ended in packets:
+        octets = e131.data(universe, 1 if ended else 0, b"\xff", bytes([cid]) * 16, letters.encode(), 100, e131.TERMINATED if ended else 0) if letters else b""
+        recording.sent(at, 5, octets, from_port=5568)
+    recording.close()
+def console(at, it, universe, *ended): return (at, it, f"U{it}", universe, *ended)
+made("silent.pcap", *((10 * it, 1, "N", 1 + it) for it in range(3)), *((100 + 10 * it, 2, "O", 1 + it) for it in range(3)), (5000, 0, "", 0))
+made("second.pcap", (0, 3, "T", 1), (1000, 3, "T", 2), (1001, 3, "T", 3), (1600, 3, "T", 4), (5000, 0, "", 0))
+made("room.pcap", *(console(it, it, 1 + it) for it in range(256)), console(300, 255, 1000), console(310, 0, 1001), console(320, 0, 1, 1), console(330, 0, 1002),
+     console(340, 1, 1003))
+P
+cat >wanted <<'E'
+     0.000 s  "N" 0101..01 appears on 1-3 at 10.0.0.5:5568, priority 100 (3 times, the latest at 0.020 s)
+     0.100 s  "O" 0202..02 appears on 1-3 at 10.0.0.5:5568, priority 100 (3 times, the latest at 0.120 s)
+     0.100 s  "N" 0101..01 and "O" 0202..02 both send on 1-3 at priority 100 (3 times, the latest at 0.120 s)
+     2.500 s  "N" 0101..01 lost on 1-3, last at 10.0.0.5:5568, priority 100 (3 times, the latest at 2.520 s)
+     2.600 s  "O" 0202..02 lost on 1-3, last at 10.0.0.5:5568, priority 100 (3 times, the latest at 2.620 s)
+
+E
+what_is_done silent.pcap && cmp -s wanted out
+verdict "consoles that meet and fall silent on three universes" $? "$(diff wanted out | head -n 3)"
+cat >wanted <<'E'
+     0.000 s  "T" 0303..03 appears on 1-2 at 10.0.0.5:5568, priority 100 (2 times, the latest at 1.000 s)
+     1.001 s  "T" 0303..03 appears on 3-4 at 10.0.0.5:5568, priority 100 (2 times, the latest at 1.600 s)
+     2.500 s  "T" 0303..03 lost on 1-2, last at 10.0.0.5:5568, priority 100 (2 times, the latest at 3.500 s)
+     3.501 s  "T" 0303..03 lost on 3-4, last at 10.0.0.5:5568, priority 100 (2 times, the latest at 4.100 s)
+
+E
+what_is_done second.pcap && cmp -s wanted out
+verdict "a deed a second behind the first is of its incident, and one a millisecond later begins another" $? "$(diff wanted out | head -n 3)"
+cat >wanted <<'E'
+     0.000 s  "U0" 0000..00 appears on 1, 1001 at 10.0.0.5:5568, priority 100 (2 times, the latest at 0.310 s)
+     0.001 s  "U1" 0101..01 appears on 2 at 10.0.0.5:5568, priority 100
+     0.002 s  "U2" 0202..02 appears on 3 at 10.0.0.5:5568, priority 100
+     0.255 s  "U255" ffff..ff appears on 256, 1000 at 10.0.0.5:5568, priority 100 (2 times, the latest at 0.300 s)
+     0.320 s  "U0" 0000..00 ends its stream on 1
+     0.330 s  "U0" 0000..00 appears on 1002 at 10.0.0.5:5568, priority 100
+     0.340 s  "U1" 0101..01 appears on 1003 at 10.0.0.5:5568, priority 100
+E
+what_is_done room.pcap && [ "$(wc -l <out)" = 260 ] && grep -E '"U(0|1|2|255)" ' out | cmp -s wanted -
+verdict "where one more begins than there is room for the oldest is told" $? "$(wc -l <out) lines, $(grep -E '"U(0|1|2|255)" ' out | diff wanted - | head -n 3)"
+
 # Faulty recordings: what was told before the fault stays, and the tables follow.
 head -c 1311 "$top/examples/ola.pcap" >cut.pcap
 {

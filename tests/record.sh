@@ -1,6 +1,6 @@
 #!/usr/bin/env bash
 # Records loopback with the built program: packets that are written here octet by octet, read again by tshark (and capinfos), by this program's `explain`, and by
-# `audit`; what is asked for, files in the way, full disks, ends, and a ring's names. What a ring's turn does stands in crates/sacn_record/src/tests.rt.
+# `audit`; what is asked for, files in the way, full disks, ends, and a ring's names; and under a clock that is set here, octet for octet, with a ring's turns.
 # Prints 'ok NAME', 'not ok NAME: why' or 'skipped NAME: why' for each, as ./test counts them.
 set -u
 # shellcheck source=tests/lib.sh
@@ -77,22 +77,6 @@ refused "a folder that isn't there" 4 "hears 0.0.0.0:$port" "device write absent
 refused "an address of another machine" 4 "device socket 192.0.2.1:$port AddrNotAvailable" "*" none --listen 192.0.2.1 --port "$port"
 [ ! -e none ]
 verdict "that begins no file" $?
-
-# Two rings of a minute, which turn while the rest is looked at; the file of one is moved away before.
-mkfifo turning
-for it in ring away; do
-  free_udp_port >"$it.port"
-  "$sacn" record "$it.pcapng" --port "$(<"$it.port")" --ring 1 <turning >/dev/null 2>"$it.err" &
-done
-exec 5>turning
-for it in ring away; do
-  wait_for_line "$it.err" '^hears'
-  python3 sender.py "$(<"$it.port")" one >sent
-  waits_for 808 "$it.pcapng"
-done
-# (both have begun by now)
-minutes=$SECONDS
-mv away.pcapng kept.pcapng
 
 before=$(date +%s.%N)
 begins all.pcapng
@@ -237,16 +221,107 @@ timeout 20 "$sacn" record other.pcapng --port "$port" --seconds 1 --beside </dev
 verdict "--beside shares its port" $? "$(head -n 1 refused)"
 ends
 
-# The rings: a minute after their begin what comes next is in another file.
-minute_is_over() { [ $((SECONDS - minutes)) -ge 62 ]; }
-patience=70 wait_until minute_is_over
-for it in ring away; do python3 sender.py "$(<"$it.port")" two two >sent; done
-wait_for_two() { [ "$(stat -c %s "$1.pcapng" 2>/dev/null)" = 1508 ]; }
-for it in ring away; do wait_until wait_for_two "$it"; done
+# Under a clock that is set here (tests/c/clock.c), by which a minute is over at once.
+compiler=$(command -v "${CC:-cc}" || command -v gcc || command -v clang || true)
+if [ -z "$compiler" ]; then
+  skips "octet for octet, and a ring's turns" "this machine has no C compiler"
+  exit 0
+fi
+"$compiler" -O2 -shared -fPIC -o clock.so "$top/tests/c/clock.c" || { verdict "clock.c" 1 "it doesn't compile"; exit 0; }
+# at MOMENT PASSED: nanoseconds since 1970, and since the recorders began
+at() { echo "$1 $((50000000000000 + $2))" >clock.next && mv clock.next clock; }
+clocked() { LD_PRELOAD=$room/clock.so CLOCK=$room/clock exec "$sacn" record "$@"; }
+is_exactly() { [ "$(stat -c %s "$2" 2>/dev/null)" = "$1" ]; }
+# When datagrams come to a ring of a minute, in nanoseconds, and how many its newest file then has.
+TURNS="10000000:1 59999999999:2 60000000000:1 119999999999:2"
+
+# Two rings, of one of which the file is moved away before it turns.
+mkfifo turning
+at 0 0
+for it in ring away; do
+  free_udp_port >"$it.port"
+  (clocked "$it.pcapng" --port "$(<"$it.port")" --ring 1 <turning >/dev/null 2>"$it.err") &
+done
+exec 5>turning
+for it in ring away; do wait_until is_exactly 108 "$it.pcapng"; done
+for turn in $TURNS; do
+  at 0 "${turn%:*}"
+  what=one
+  if [ "${turn%:*}" -ge 60000000000 ]; then what=two; fi
+  if [ "$turn" = 60000000000:1 ]; then mv away.pcapng kept.pcapng; fi
+  for it in ring away; do
+    python3 sender.py "$(<"$it.port")" $what >sent
+    wait_until is_exactly $((108 + 700 * ${turn#*:})) "$it.pcapng"
+  done
+done
 exec 5>&-
 wait
 tells_universe() { "$sacn" explain "$1" --port "$(<"$2.port")" 2>&1 | grep -q "appears on $3 at 127.0.0.1"; }
-[ "$(stat -c %s ring-older.pcapng)" = 808 ] && tells_universe ring-older.pcapng ring 1 && tells_universe ring.pcapng ring 256 && grep -q '^recorded 3 datagrams, 2316 octets' ring.err
+is_exactly 1508 ring-older.pcapng && is_exactly 1508 ring.pcapng && tells_universe ring-older.pcapng ring 1 && tells_universe ring.pcapng ring 256 && grep -qx 'recorded 4 datagrams, 3016 octets, in 119.999 s' ring.err
 verdict "a ring turns: the file before has its older name, and the newest what came since" $? "$(stat -c '%n %s' ring*.pcapng | paste -s -d ' ') $(tail -n 1 ring.err)"
-[ "$(stat -c %s kept.pcapng)" = 808 ] && [ ! -e away-older.pcapng ] && tells_universe kept.pcapng away 1 && tells_universe away.pcapng away 256 && grep -q '^recorded 3 datagrams, 2316 octets' away.err
+is_exactly 1508 kept.pcapng && [ ! -e away-older.pcapng ] && tells_universe kept.pcapng away 1 && tells_universe away.pcapng away 256 && grep -qx 'recorded 4 datagrams, 3016 octets, in 119.999 s' away.err
 verdict "a file that was moved away stays there, and the ring goes on" $? "$(stat -c '%n %s' away*.pcapng kept.pcapng | paste -s -d ' ') $(tail -n 1 away.err)"
+
+# In a network of its own, where senders have their addresses and ports, beside the same made by hand from the descriptions of pcapng, IPv4 and UDP, in which
+# Wireshark finds both checksums right: the beginning, a datagram of five octets, and one of none, whose moment fills its low half.
+printf '%b' '\x0a\x0d\x0d\x0a\x4c\x00\x00\x00\x4d\x3c\x2b\x1a\x01\x00\x00\x00\xff\xff\xff\xff\xff\xff\xff\xff' \
+  '\x04\x00\x28\x00sacn 1, streaming ACN by ANSI E1.31-2018\x00\x00\x00\x00\x4c\x00\x00\x00' \
+  '\x01\x00\x00\x00\x20\x00\x00\x00\xe4\x00\x00\x00\x00\x00\x00\x00\x09\x00\x01\x00\x06\x00\x00\x00' \
+  '\x00\x00\x00\x00\x20\x00\x00\x00' >beginning
+printf '%b' '\x06\x00\x00\x00\x44\x00\x00\x00\x00\x00\x00\x00\x24\x0a\x06\x00\x40\x22\x20\x18\x21\x00\x00\x00\x21\x00\x00\x00' \
+  '\x45\x00\x00\x21\x00\x00\x40\x00\x40\x11\x83\x0f\xc0\xa8\x07\x14\xef\xff\x00\x01\x15\xc0\x15\xc0\x00\x0d\x00\x00' \
+  '\x00\x10\x00\x00\x41\x00\x00\x00\x44\x00\x00\x00' >five
+printf '%b' '\x06\x00\x00\x00\x3c\x00\x00\x00\x00\x00\x00\x00\x02\x00\x00\x00\xff\xff\xff\xff\x1c\x00\x00\x00\x1c\x00\x00\x00' \
+  '\x45\x00\x00\x1c\x00\x00\x40\x00\x40\x11\x44\xfc\x0a\x00\x00\xff\xef\xff\xfa\xd6\xc0\x00\x15\xc0\x00\x08\x00\x00' \
+  '\x3c\x00\x00\x00' >none
+# Joins both groups, and sends what its lines say: address, port, group, octets.
+cat >senders.py <<'P'
+import socket, sys
+members = socket.socket(socket.AF_INET, socket.SOCK_DGRAM)
+for group in ("239.255.0.1", "239.255.250.214"):
+    members.setsockopt(socket.IPPROTO_IP, socket.IP_ADD_MEMBERSHIP, socket.inet_aton(group) + socket.inet_aton("127.0.0.1"))
+for line in sys.stdin:
+    address, port, group, octets = line.split(" ")
+    with socket.socket(socket.AF_INET, socket.SOCK_DGRAM) as out:
+        out.bind((address, int(port)))
+        out.sendto(bytes.fromhex(octets), (group, 5568))
+P
+own_network() {
+  local recorders
+  ip link set lo up && ip link set lo multicast on && ip route add 224.0.0.0/4 dev lo && ip address add 192.168.7.20/32 dev lo && ip address add 10.0.0.255/32 dev lo || return 1
+  mkfifo apart orders
+  at 0 0
+  (clocked turning.pcapng --listen 239.255.0.1 --ring 1 <apart >/dev/null 2>turning.err) &
+  recorders=$!
+  (clocked empty.pcapng --listen 239.255.250.214 <apart >/dev/null 2>empty.err) &
+  recorders="$recorders $!"
+  python3 senders.py <orders &
+  exec 6>apart 7>orders
+  for it in turning empty; do wait_until is_exactly 108 $it.pcapng; done
+  for turn in $TURNS; do
+    at 1700000000123456999 "${turn%:*}"
+    echo "192.168.7.20 5568 239.255.0.1 0010000041" >&7
+    wait_until is_exactly $((108 + 68 * ${turn#*:})) turning.pcapng
+  done
+  at 12884901887999 119999999999
+  echo "10.0.0.255 49152 239.255.250.214 " >&7
+  wait_until is_exactly 168 empty.pcapng
+  exec 6>&- 7>&-
+  # shellcheck disable=SC2086
+  wait $recorders
+}
+apart=
+for it in "unshare -n" "unshare -rn"; do
+  if [ -z "$apart" ] && $it ip address add 192.168.7.20/32 dev lo 2>/dev/null; then apart=$it; fi
+done
+if [ -z "$apart" ]; then
+  skips "octet for octet" "no network can be made here"
+  exit 0
+fi
+export room sacn TURNS
+# shellcheck disable=SC2086
+timeout 120 $apart bash -c "set -u; $(declare -f wait_until is_exactly at clocked own_network); own_network" 2>apart.err
+cat beginning five five | cmp -s - turning-older.pcapng && cmp -s turning-older.pcapng turning.pcapng && grep -qx 'recorded 4 datagrams, 488 octets, in 119.999 s' turning.err
+verdict "octet for octet, a ring, which turns a minute after a file was begun, and no nanosecond before" $? "$(stat -c '%n %s' turning*.pcapng | paste -s -d ' ') $(tail -n 1 turning.err) $(head -n 1 apart.err)"
+cat beginning none | cmp -s - empty.pcapng && grep -qx 'recorded 1 datagram, 168 octets, in 119.999 s' empty.err
+verdict "octet for octet, a datagram of no octets, whose moment fills its low half" $? "$(cat beginning none | cmp - empty.pcapng 2>&1) $(tail -n 1 empty.err)"

@@ -16,6 +16,3 @@ pub use deed::{Act, Deed, Rival, deed_of};
 pub use incident::Incident;
 pub use incidents::Incidents;
 pub use limits::{MAX_OPEN, SPAN};
-
-#[cfg(test)]
-mod tests;
