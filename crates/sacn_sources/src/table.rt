@@ -149,6 +149,14 @@ impl SourceTable {
         self.store.held(cid)
     }
 
+    /// How many sources are held, ended ones too.
+    pub fn sources(&self) -> usize
+        ensures count { result ≡ length self.now.table.rows }
+        ensures few { result ≤ MAX_SOURCES }
+    {
+        self.store.sources()
+    }
+
     /// The source at a place in ascending order of CID, as the latest call with a moment left it; `None` behind the last.
     pub fn source_at(&self, place: usize) -> Option<HeldView<'_>>
         ensures { result ≡ slice_get self.now.table.rows place }

@@ -1,9 +1,10 @@
 //! Sources lent out of a store.
 
-ghost use Rattle.std.specs.Prelude.{◌≡◌, slice_get};
+ghost use Rattle.std.specs.Prelude.{◌≡◌, ◌≤◌, length, slice_get};
 
 use crate::entry::entry_at;
 use crate::held_view::HeldView;
+use crate::limits::MAX_SOURCES;
 use crate::slots::Layer;
 use crate::store::Store;
 
@@ -18,6 +19,14 @@ impl Store {
             Ok(at) => self.source_at(at),
             Err(_) => None,
         }
+    }
+
+    /// How many sources are held.
+    pub(crate) fn sources(&self) -> usize
+        ensures count { result ≡ length self.now.rows }
+        ensures few { result ≤ MAX_SOURCES }
+    {
+        self.entries.len()
     }
 
     /// The source at a place, by ascending CID.
