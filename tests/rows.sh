@@ -1,6 +1,6 @@
 #!/usr/bin/env bash
-# Runs the rows of tests/rows, and rows that are wrong, each of which has to be told by file and line. Prints 'ok NAME' or 'not ok NAME: why' for each
-# run, as ./test counts them. The program is crates/rows/out/rows, or what ROWS names.
+# Runs the rows of tests/rows, those that plain twins in Python write (tests/twins.py), and rows that are wrong, each of which has to be told by file and
+# line. Prints 'ok NAME' or 'not ok NAME: why' for each run, as ./test counts them. The program is crates/rows/out/rows, or what ROWS names.
 set -u
 # shellcheck source=tests/lib.sh
 . "$(dirname "$(readlink -f "$0")")/lib.sh"
@@ -14,7 +14,7 @@ fi
 # ends NAME STATUS WANTED: reads a file of rows, which ends with the status, and prints this and nothing else
 ends() {
   local status=0 said
-  said=$(timeout 60 "$rows" "$1" 2>&1) || status=$?
+  said=$(timeout 240 "$rows" "$1" 2>&1) || status=$?
   [ "$status" = "$2" ] && [ "$said" = "$3" ]
   verdict "$4" $? "status $status, '$(head -c 300 <<<"$said")'"
 }
@@ -36,6 +36,14 @@ for file in "$top"/tests/rows/*.rows; do
   ends "$name" 0 "$name: $steps steps of $stories stories" "$name: $steps steps of $stories stories" <"$file"
 done
 if [ "$files" = 0 ]; then verdict "files" 1 "there are none"; fi
+for it in "console: 6002 steps of 2 stories" "node: 17996 steps of 1 stories"; do
+  if ! command -v python3 >/dev/null; then
+    skips "a plain ${it%%:*}" "there is no python3"
+    continue
+  fi
+  python3 "$top/tests/twins.py" "${it%%:*}" >twin.rows || verdict "the twin of a ${it%%:*}" 1 "it ends with status $?"
+  ends "${it%%:*}" 0 "$it" "a ${it%%:*} answers as its plain twin does" <twin.rows
+done
 
 long=$(printf 'x%.0s' $(seq 4001))
 told "a wrong answer" "3: wanted '2', came '0'" "of sources" "story one" "expire 5 = 2"

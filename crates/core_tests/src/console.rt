@@ -1,10 +1,7 @@
-//! The console, where requests for memory are refused, and beside a plain program.
-mod due;
-mod plain;
+//! The console, where requests for memory are refused.
 mod refusals;
 
-use sacn_console::{ConsoleCore, ShowFault, read_show};
-use std::alloc::Global;
+use sacn_console::ConsoleCore;
 
 /// What a poll gives: the octets, and of a data packet the number, the options, the universe and slot 1.
 type Given = (usize, u8, u8, u16, u8);
@@ -12,11 +9,6 @@ type Given = (usize, u8, u8, u16, u8);
 const NOTHING: Given = (0, 0, 0, 0, 0);
 
 const PACKET: usize = 638;
-
-fn core(alloc: Global, text: &str, first: u8) -> Result<ConsoleCore, ShowFault> {
-    let show = read_show(alloc, text)?;
-    ConsoleCore::new(alloc, &show, first)
-}
 
 fn polled(core: &mut ConsoleCore, now: u64) -> Given {
     let mut out = [0; 1144];

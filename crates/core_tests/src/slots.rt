@@ -36,49 +36,46 @@ fn follows_the_greatest_priority_in_every_order(rt: HostRuntime) {
         merge_of_three(c, a, b),
         merge_of_three(c, b, a),
     ];
-    for slots in orders {
-        assert_eq!(rt; slots, beginning_with([50, 200, 7]));
-    }
-
     // the others are gone
     let mut slots = [77; SLOTS];
     merge_into(&[c], &mut slots);
-    assert_eq!(rt; slots, [255; SLOTS]);
+    assert!(rt; (orders == [beginning_with([50, 200, 7]); 6]) & (slots == [255; SLOTS]));
 }
 
 #[test]
 fn a_shorter_packet_leaves_nothing_behind(rt: HostRuntime) {
     let mut levels = Levels::of(&[9; SLOTS]);
-    assert_eq!(rt; levels.given(), 512);
-    assert_eq!(rt; levels.at(511), 9);
+    let whole = (levels.given(), levels.at(511));
     levels.set(&[1, 2]);
-    assert_eq!(rt; levels.given(), 2);
-    assert_eq!(rt; (levels.at(1), levels.at(2), levels.at(511)), (2, 0, 0));
+    let short = (levels.given(), levels.at(1), levels.at(2), levels.at(511));
     let mut slots = [77; SLOTS];
     merge_into(&[layer(100, &levels)], &mut slots);
-    assert_eq!(rt; slots, beginning_with([1, 2, 0]));
+    let is_merged = slots == beginning_with([1, 2, 0]);
+    assert_eq!(rt; (whole, short, is_merged), ((512, 9), (2, 2, 0, 0), true));
 }
 
 #[test]
 fn none_and_one(rt: HostRuntime) {
     let mut slots = [77; SLOTS];
     merge_into(&[], &mut slots);
-    assert_eq!(rt; slots, [0; SLOTS]);
+    let is_dark = slots == [0; SLOTS];
 
     // the least priority is followed where there is no other
     let ramp = Levels::of(&[1, 2, 3]);
     merge_into(&[layer(0, &ramp)], &mut slots);
-    assert_eq!(rt; slots, beginning_with([1, 2, 3]));
+    assert!(rt; is_dark & (slots == beginning_with([1, 2, 3])));
 }
 
 #[test]
 fn a_frame_is_the_start_code_and_the_slots(rt: HostRuntime) {
     let mut frame = [77; FRAME_OCTETS];
     frame_bytes(&beginning_with([50, 200, 7]), &mut frame);
-    assert_eq!(rt; &frame[..5], [0, 50, 200, 7, 0].as_slice());
-    assert_eq!(rt; frame[512], 0);
+    let begins = frame.starts_with(&[0, 50, 200, 7, 0]) & (frame[512] == 0);
     frame_bytes(&[255; SLOTS], &mut frame);
-    assert_eq!(rt; (frame[0], frame[1], frame[512]), (0, 255, 255));
+    assert_eq!(rt;
+        (begins, frame[0], frame[1], frame[512]),
+        (true, 0, 255, 255)
+    );
 }
 
 // A fixed row of numbers: the linear congruential generator of "Numerical Recipes".
