@@ -28,7 +28,8 @@ fn moments_stand_on_the_calendar(rt: HostRuntime) {
         let text = time_text(*millis);
         assert!(rt; text.is_some_and(|text| text.as_str() == *wanted));
     }
-    assert!(rt; time_text(253_402_300_800_000).is_none() & time_text(u64::MAX).is_none());
+    assert!(rt; time_text(253_402_300_800_000).is_none());
+    assert!(rt; time_text(u64::MAX).is_none());
 }
 
 fn shows(millis: u64, zone: &TimeZone<'_>, wanted: &str) -> bool {
@@ -37,20 +38,17 @@ fn shows(millis: u64, zone: &TimeZone<'_>, wanted: &str) -> bool {
 
 #[test]
 fn times_of_day_are_those_of_a_zone(rt: HostRuntime) {
+    assert!(rt; shows(86_399_999, &TimeZone::UTC, "23:59:59.999 "));
+    assert!(rt; shows(86_400_000, &TimeZone::UTC, "00:00:00.000 "));
     let Ok(zone) = TimeZone::posix("CET-1CEST,M3.5.0,M10.5.0/3") else {
         assert!(rt; false);
         return;
     };
     // (the hours that a summer skips and repeats)
-    let found = [
-        shows(86_399_999, &TimeZone::UTC, "23:59:59.999 "),
-        shows(86_400_000, &TimeZone::UTC, "00:00:00.000 "),
-        shows(1_774_745_999_999, &zone, "01:59:59.999 "),
-        shows(1_774_746_000_000, &zone, "03:00:00.000 "),
-        shows(1_792_889_999_999, &zone, "02:59:59.999 "),
-        shows(1_792_890_000_000, &zone, "02:00:00.000 "),
-    ];
-    assert!(rt; found == [true; 6], "{found:?}");
+    assert!(rt; shows(1_774_745_999_999, &zone, "01:59:59.999 "));
+    assert!(rt; shows(1_774_746_000_000, &zone, "03:00:00.000 "));
+    assert!(rt; shows(1_792_889_999_999, &zone, "02:59:59.999 "));
+    assert!(rt; shows(1_792_890_000_000, &zone, "02:00:00.000 "));
 }
 
 #[test]
