@@ -3,6 +3,7 @@ ghost use Rattle.std.specs.Prelude.{◌≡◌, ◌≤◌, ◌∷◌, not, filter
 ghost use Rattle.sacn_sources.specs.Packets.{packet_of};
 ghost use Rattle.sacn_slots.specs.declared.given.Given.{Given as Kept};
 ghost use Rattle.sacn_slots.specs.SlotTables.{counts, given_by, give, gives, is_by, priorities_given, without};
+ghost use Rattle.sacn_slots.specs.SlotWakes.{oldest_given};
 
 use arrayvec::ArrayVec;
 use sacn_packets::DataView;
@@ -104,4 +105,15 @@ pub(crate) fn priorities_given<'a>(all: &'a AllGiven, cid: &[u8; 16]) -> Option<
         }
     }
     None
+}
+
+/// The moment of what was given the longest ago, and `u64::MAX` where there is nothing.
+pub(crate) fn oldest(all: &AllGiven) -> u64
+    ensures { result ≡ oldest_given all.now.items }
+{
+    let mut oldest = u64::MAX;
+    for given in all.as_slice() {
+        oldest = oldest.min(given.moment);
+    }
+    oldest
 }

@@ -1,12 +1,12 @@
 //! The table of a universe's sources, some of which give priorities for single slots.
-ghost use Rattle.std.specs.Prelude.{◌≡◌, ◌<◌, length, max, IfOk, EachIndex, slice_index, slice_index_or, option_map};
+ghost use Rattle.std.specs.Prelude.{◌≡◌, ◌<◌, ◌^◌, ℕ, length, max, IfOk, IfSome, IfNone, EachIndex, slice_index, slice_index_or, option_map};
 
-use crate::given::{AllGiven, forget, give, gives, priorities_given, sweep};
+use crate::given::{AllGiven, forget, give, gives, oldest, priorities_given, sweep};
 use crate::layer::SlotLayer;
 use crate::merge::merge_with_priorities;
 use arrayvec::ArrayVec;
 use sacn_packets::{DataView, SLOTS};
-use sacn_sources::{HeldView, Layer, Levels, MAX_SOURCES, SourceTable, TableFault, Taken};
+use sacn_sources::{HeldView, Layer, Levels, MAX_SOURCES, NETWORK_DATA_LOSS, SourceTable, TableFault, Taken};
 use std::alloc::Global;
 use std::marker::Model;
 
@@ -29,6 +29,7 @@ pub struct SlotTable {
 impl Model for SlotTable {
     ghost use Rattle.std.specs.Prelude.{◌≡◌};
     ghost use Rattle.sacn_slots.specs.SlotTables.{SlotSources, slot_sources_code};
+    ghost use Rattle.sacn_slots.specs.SlotWakes.{IsYoung};
 
     ghost Value = { SlotSources };
 
@@ -36,7 +37,7 @@ impl Model for SlotTable {
 
     ghost view = { λ t. record { sources = t.sources; given = t.given.items } };
 
-    ghost invariant = { λ t. t.moment ≡ t.sources.table.moment };
+    ghost invariant = { λ t. (t.moment ≡ t.sources.table.moment) × IsYoung t.moment t.given.items };
 }
 
 impl SlotTable {
@@ -46,6 +47,7 @@ impl SlotTable {
     ghost use Rattle.sacn_slots.specs.SlotLayers.{member_of};
     ghost use Rattle.sacn_slots.specs.SlotMerge.{merge_by_slot, priority_of_slot};
     ghost use Rattle.sacn_slots.specs.SlotTables.{new_sources, after_expire, after_take, given_after, priorities_given, member_at, members};
+    ghost use Rattle.sacn_slots.specs.SlotWakes.{NothingIsLost, SomethingIsLost};
 
     /// An empty table at moment 0. All its room is taken here, and a refusal is `OutOfMemory`.
     pub fn new(alloc: Global) -> Result<Self, TableFault>
@@ -177,5 +179,22 @@ impl SlotTable {
         ensures { option_map (λ p. p.now) result ≡ priorities_given cid.now self.now.given }
     {
         priorities_given(&self.given, cid)
+    }
+
+    /// The first moment at which something that is held is lost, if no packet comes: a source, ended ones too, or slot priorities. At any
+    /// earlier moment `expire` drops nothing. `None` where nothing is held, or nothing is lost at a moment of a `u64`.
+    pub fn wakes(&self) -> Option<u64>
+        ensures never { IfNone result ((t : ℕ) → t < 2 ^ 64 → NothingIsLost self.now t) }
+        ensures asleep { IfSome result (λ w. (t : ℕ) → t < w → NothingIsLost self.now t) }
+        ensures awake { IfSome result (λ w. SomethingIsLost self.now w) }
+    {
+        let sources = self.sources.wakes();
+        let Some(given) = oldest(&self.given).checked_add(NETWORK_DATA_LOSS) else {
+            return sources;
+        };
+        match sources {
+            Some(source) => Some(source.min(given)),
+            None => Some(given),
+        }
     }
 }
