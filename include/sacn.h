@@ -5,7 +5,7 @@
  * A node, in short (examples/c/receive.c has it with its socket):
  *
  *     struct sacn_node node = {0};
- *     if (sacn_node_new(&node, setup, length, &udp_port)) ..         a setup in TOML; its fault's number, or 0
+ *     if (sacn_node_of_universes(&node, universes, 2)) ..            whole universes, or sacn_node_new: a setup in TOML; a fault's number, or 0
  *     sacn_node_take(&node, now, datagram, count, &taken);           for each datagram, of whatever octets
  *     sacn_node_frame(&node, now, port, frame);                      what the port shows now
  *     sacn_node_wakes(&node, &moment);                               how long to wait for the next datagram
@@ -22,14 +22,15 @@
  *     sacn_source_free(&source);
  *
  * Handles. A `struct sacn_node`, `sacn_sources`, `sacn_collector`, `sacn_console`, `sacn_source_handle` or `sacn_monitor` is memory of the caller's:
- * set it to zero, make it by `.._new`, end it by `.._free`. What is `behind` it is the library's: don't look, don't write. A handle is never copied:
- * two copies of one handle are one handle that is ended twice, and the second one's next call reads memory that was given back.
+ * set it to zero, make it by `.._new` or `.._of_universes`, end it by `.._free`. What is `behind` it is the library's: don't look, don't write. A
+ * handle is never copied: two copies of one handle are one handle that is ended twice, and the second one's next call reads memory that was given
+ * back.
  *
  * Threads. A handle is used by one thread at a time, in any call, also in those that only ask. Two handles have nothing in common: each may have
  * a thread of its own. Calls without a handle may be made by any number of threads.
  *
- * Memory. Only the calls `.._new`, and a collector's `.._take` and `.._list`, take memory, by the program's malloc, and `.._free` gives all of it
- * back. No call keeps a pointer that it was given, and no call prints, waits, opens anything, reads a clock, aborts or jumps out.
+ * Memory. Only the calls that make a handle, and a collector's `.._take` and `.._list`, take memory, by the program's malloc, and `.._free` gives all
+ * of it back. No call keeps a pointer that it was given, and no call prints, waits, opens anything, reads a clock, aborts or jumps out.
  *
  * Pointers. A pointer with a count points to so many elements and may be null where the count is 0. Every other pointer points to what its
  * type says, in memory that may be written where it isn't const; arrays have the length that stands in the declaration, and numbers lie as C lays
@@ -38,7 +39,7 @@
  * Statuses. 0 is SACN_DONE. 1 to 18 are the fault's own number, of the family that the call names. From 1001 on they are the border's.
  * sacn_status_text has a sentence of each.
  * Where a status isn't SACN_DONE nothing is written, but where the call says otherwise. Each call with a pointer can answer SACN_NULL, each with a
- * count SACN_LENGTH, and each with a handle but `.._new` and `.._free` SACN_WRONG_HANDLE, whatever else it names.
+ * count SACN_LENGTH, and each with a handle SACN_WRONG_HANDLE, but those that make or free one, whatever else it names.
  *
  * Moments are milliseconds of a clock of the caller's that doesn't go back, as CLOCK_MONOTONIC; where it begins doesn't matter. A handle uses the
  * greatest moment that it was handed: an earlier one counts as that, and after one that lies far ahead the handle's time stands still until the
@@ -288,6 +289,11 @@ struct sacn_node {
 /* Makes a node of a setup: `length` octets of TOML, as docs/FILES.md has them. The node must be empty (zero, or freed). `udp_port` is the port that
    it is to hear. Status: enum sacn_setup_fault. */
 int sacn_node_new(struct sacn_node *node, const char *setup, size_t length, uint16_t *udp_port);
+
+/* Makes a node of 1 to SACN_MAX_PORTS universes, without a setup: port i + 1 shows all slots of `universes[i]`, and each universe, 1 to 63999, stands
+   once. The node must be empty (zero, or freed); it is to hear SACN_UDP_PORT, or wherever the caller does. Status: SACN_LENGTH, SACN_RANGE where a
+   universe is out of range or stands twice, SACN_OUT_OF_MEMORY. */
+int sacn_node_of_universes(struct sacn_node *node, const uint16_t *universes, size_t count);
 
 /* Gives back all memory of a node, which is then empty. Status: SACN_NULL where it is already. */
 int sacn_node_free(struct sacn_node *node);

@@ -1,7 +1,7 @@
 /*
  * Streaming ACN (ANSI E1.31-2018, stage lighting) for C++17 over sacn.h: handles that free themselves, and exceptions.
  *
- *     sacn::Node node(setup);                          a setup in TOML
+ *     auto node = sacn::Node::of_universes({1, 2});    or of a setup in TOML
  *     node.take(now, datagram, count);                 for each datagram, of whatever octets
  *     node.frame(now, port);                           start code and 512 slots, merged
  *
@@ -277,6 +277,14 @@ class Node : public Handle<sacn_node, sacn_node_free> {
         detail::check(sacn_node_new(raw(), setup.data(), setup.size(), &udp_port_), Family::setup);
     }
 
+    /** Of 1 to SACN_MAX_PORTS universes, each 1 to 63999 and once, without a setup: port i + 1 shows all slots of
+        `universes[i]`. Throws SACN_LENGTH or SACN_RANGE. */
+    static Node of_universes(const std::vector<std::uint16_t> &universes) {
+        Node node;
+        detail::check(sacn_node_of_universes(node.raw(), universes.data(), universes.size()));
+        return node;
+    }
+
     /** The UDP port that the node is to hear. */
     std::uint16_t udp_port() const noexcept { return udp_port_; }
 
@@ -327,7 +335,9 @@ class Node : public Handle<sacn_node, sacn_node_free> {
     }
 
   private:
-    std::uint16_t udp_port_ = 0;
+    Node() = default;
+
+    std::uint16_t udp_port_ = SACN_UDP_PORT;
 };
 
 /** The sources of one universe, at most 16, and the merge of what they show: for who has the rest of a receiver. */

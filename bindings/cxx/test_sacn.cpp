@@ -209,6 +209,15 @@ void node() {
     CHECK(throws(sacn::Family::setup, SACN_SETUP_TOML, [] { sacn::Node("x"); }));
     CHECK(throws(sacn::Family::setup, SACN_SETUP_MISSING_KEY, [] { sacn::Node{std::string_view{}}; }));
     CHECK(throws(sacn::Family::setup, SACN_SETUP_VERSION, [] { sacn::Node("version = 3"); }));
+
+    /* (port 1 shows the first universe) */
+    auto whole = sacn::Node::of_universes({7, 1});
+    CHECK(whole.udp_port() == 5568 && whole.ports() == Octets({1, 2}));
+    CHECK(take(whole, 100, levels()) == SACN_TAKEN_HELD && whole.frame(100, 2) == frame && whole.frame(100, 1) == sacn::Frame{});
+    CHECK(refuses(SACN_LENGTH, [] { sacn::Node::of_universes({}); }));
+    CHECK(refuses(SACN_LENGTH, [] { sacn::Node::of_universes({1, 2, 3, 4, 5, 6, 7, 8, 9, 10, 11, 12, 13, 14, 15, 16, 17}); }));
+    CHECK(refuses(SACN_RANGE, [] { sacn::Node::of_universes({1, 0}); }));
+    CHECK(refuses(SACN_RANGE, [] { sacn::Node::of_universes({5, 5}); }));
 }
 
 void collector() {

@@ -1,6 +1,6 @@
 """Streaming ACN (ANSI E1.31-2018, stage lighting) from Python, over the C library of proved cores (sacn.h).
 
-    with sacn_core.Node(setup) as node:                  # a setup in TOML
+    with sacn_core.Node.of_universes([1, 2]) as node:    # or Node(setup), a setup in TOML
         node.take(now, datagram)                         # for each datagram, of whatever octets
         node.frame(now, port)                            # start code and 512 slots, merged
 
@@ -366,6 +366,7 @@ _CALLS: Dict[str, Tuple[Any, ...]] = {
     "in_sequence": (_u8, _u8),
     "multicast_group": (_u16, _to(_u8)),
     "node_new": (_made, *_in, _to(_u16)),
+    "node_of_universes": (_made, _to(_u16), _size),
     "node_free": (_made,),
     "node_take": (_made, _u64, *_in, _to(_u8)),
     "node_tick": (_made, _u64, _to(_size)),
@@ -622,13 +623,13 @@ class _Handle:
 
     _kind = ""
 
-    def __init__(self, *arguments: Any, family: Optional[Type[_Fault]] = None) -> None:
+    def __init__(self, *arguments: Any, family: Optional[Type[_Fault]] = None, made: str = "new") -> None:
         # (begun anew it gives back what it had)
         if hasattr(self, "_raw"):
             self.close()
         self._calls = _library().calls
         self._raw = _Raw()
-        _check(self._calls[self._kind + "_new"](self._raw, *arguments), family)
+        _check(self._calls[f"{self._kind}_{made}"](self._raw, *arguments), family)
 
     def _status(self, name: str, *arguments: Any) -> int:
         if not self._raw.behind:
@@ -764,6 +765,16 @@ class Node(_Receiver):
         text, udp_port = _text(setup, "setup"), _u16()
         super().__init__(text, len(text), udp_port, family=SetupFault)
         self.udp_port = udp_port.value
+
+    @classmethod
+    def of_universes(cls, universes: Iterable[int]) -> "Node":
+        """A node of 1 to MAX_PORTS universes, each 1 to 63999 and once, without a setup: port i + 1 shows all slots of
+        `universes[i]`. SacnError with Status.LENGTH or RANGE where they aren't that."""
+        numbers = [_number(it, "universe", 65535) for it in universes]
+        node = cls.__new__(cls)
+        _Handle.__init__(node, (_u16 * len(numbers))(*numbers), len(numbers), made="of_universes")
+        node.udp_port = UDP_PORT
+        return node
 
     def ports(self) -> Tuple[int, ...]:
         """The numbers of the ports, 1 to 255, ascending: at most 16."""

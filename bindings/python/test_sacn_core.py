@@ -237,6 +237,20 @@ class Merging(Base):
         with Node(b'version = 1\nudp_port = 6000\n') as node:
             self.assertEqual((node.udp_port, node.ports()), (6000, ()))
 
+    def test_a_node_of_universes(self):
+        # (port 1 shows the first universe)
+        with Node.of_universes([7, 1]) as node:
+            self.assertEqual((node.udp_port, node.ports()), (5568, (1, 2)))
+            self.assertEqual(node.take(100, LEVELS), Taken.HELD)
+            self.assertEqual(node.frame(100, 2), b"\0" + padded(255, 128, 64))
+            self.assertEqual(node.frame(100, 1), bytes(513))
+        for universes in [], range(1, 18):
+            self.refused(Status.LENGTH, Node.of_universes, universes)
+        for universes in (0,), (64000,), (5, 6, 5):
+            self.refused(Status.RANGE, Node.of_universes, universes)
+        self.assertRaises(ValueError, Node.of_universes, [65536])
+        self.assertRaises(TypeError, Node.of_universes, 1)
+
     def test_refused_setups(self):
         for setup, fault in (
             ("x", SetupFault.TOML), (b"\xff", SetupFault.TOML), ("", SetupFault.MISSING_KEY),

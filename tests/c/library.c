@@ -195,6 +195,29 @@ static void node(void) {
     CHECK(sacn_node_new(&node, "version = 3", 11, &port) == SACN_SETUP_VERSION && !node.behind);
 }
 
+/* Port 1 shows the first universe, whatever their order. */
+static void node_of_universes(void) {
+    struct sacn_node node = {0};
+    const uint16_t universes[3] = {63999, 7, 1}, twice[3] = {7, 1, 7}, least[2] = {1, 0}, greatest[2] = {64000, 1};
+    uint16_t many[17];
+    uint8_t out[SACN_DATA_OCTETS], frame[SACN_FRAME_OCTETS], taken;
+    size_t count = 77;
+    for (int i = 0; i < 17; i++) many[i] = (uint16_t)(i + 1);
+    CHECK(sacn_node_of_universes(NULL, universes, 3) == SACN_NULL && sacn_node_of_universes(&node, NULL, 3) == SACN_NULL);
+    CHECK(sacn_node_of_universes(&node, NULL, 0) == SACN_LENGTH && sacn_node_of_universes(&node, universes, 0) == SACN_LENGTH);
+    CHECK(sacn_node_of_universes(&node, many, 17) == SACN_LENGTH && sacn_node_of_universes(&node, many, SIZE_MAX) == SACN_LENGTH);
+    CHECK(sacn_node_of_universes(&node, twice, 3) == SACN_RANGE && sacn_node_of_universes(&node, least, 2) == SACN_RANGE);
+    CHECK(sacn_node_of_universes(&node, greatest, 2) == SACN_RANGE && !node.behind);
+    CHECK(sacn_node_of_universes(&node, universes, 3) == SACN_DONE && sacn_node_of_universes(&node, universes, 3) == SACN_NOT_EMPTY);
+    CHECK(sacn_node_ports(&node, frame, 3, &count) == SACN_DONE && count == 3 && frame[0] == 1 && frame[1] == 2 && frame[2] == 3);
+    CHECK(sacn_node_take(&node, 0, out, packet_of(1, 200, 0, out), &taken) == SACN_DONE && taken == SACN_TAKEN_HELD);
+    CHECK(sacn_node_frame(&node, 0, 2, frame) == SACN_DONE && frame[0] == 0 && frame[1] == 200 && frame[2] == 0);
+    CHECK(sacn_node_frame(&node, 0, 1, frame) == SACN_DONE && frame[1] == 0 && sacn_node_frame(&node, 0, 4, frame) == SACN_RANGE);
+    CHECK(sacn_node_free(&node) == SACN_DONE && sacn_node_of_universes(&node, many, 16) == SACN_DONE);
+    CHECK(sacn_node_ports(&node, frame, 16, &count) == SACN_DONE && count == 16 && frame[15] == 16);
+    CHECK(sacn_node_free(&node) == SACN_DONE);
+}
+
 static void sources(void) {
     struct sacn_sources sources = {0}, empty = {0};
     struct sacn_node node = {0};
@@ -484,6 +507,7 @@ int main(void) {
     packets();
     pages();
     node();
+    node_of_universes();
     sources();
     collector();
     console();

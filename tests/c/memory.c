@@ -19,7 +19,7 @@ static const char show[] =
     "version = 2\ncid = \"00010203-0405-0607-0809-0a0b0c0d0e0f\"\nname = \"Desk\"\nuniverses = [7]\n"
     "[[cue]]\nnumber = 1\nup = 0\ndown = 0\nlevels = [[1, 65535]]\n[[patch]]\nchannel = 1\nuniverse = 7\nslot = 1\n";
 
-static struct sacn_node node;
+static struct sacn_node node, other;
 static struct sacn_sources sources;
 static struct sacn_collector collector;
 static struct sacn_console console;
@@ -31,6 +31,7 @@ static size_t length, count;
 static uint16_t port, universes[3] = {1, 2, 7}, got[3];
 
 static int make_node(void) { return sacn_node_new(&node, setup, strlen(setup), &port); }
+static int make_node_of_universes(void) { return sacn_node_of_universes(&other, universes, 3); }
 static int make_sources(void) { return sacn_sources_new(&sources); }
 static int make_collector(void) { return sacn_collector_new(&collector); }
 static int make_console(void) { return sacn_console_new(&console, show, strlen(show), 0); }
@@ -62,6 +63,7 @@ static void refuse_each(const char *name, int (*call)(void), int lacking, void *
 int main(void) {
     if (sacn_write_page(&packet, universes, 3, page, &length)) return 1;
     refuse_each("node_new", make_node, SACN_SETUP_OUT_OF_MEMORY, &node.behind);
+    refuse_each("node_of_universes", make_node_of_universes, SACN_OUT_OF_MEMORY, &other.behind);
     refuse_each("sources_new", make_sources, 1, &sources.behind);
     refuse_each("collector_new", make_collector, SACN_OUT_OF_MEMORY, &collector.behind);
     refuse_each("console_new", make_console, SACN_SHOW_OUT_OF_MEMORY, &console.behind);
@@ -71,6 +73,7 @@ int main(void) {
     refuse_each("collector_list", list, SACN_OUT_OF_MEMORY, NULL);
     if (count != 3 || memcmp(got, universes, sizeof got)) failed++, puts("collector_list: another list");
     sacn_node_free(&node);
+    sacn_node_free(&other);
     sacn_sources_free(&sources);
     sacn_collector_free(&collector);
     sacn_console_free(&console);

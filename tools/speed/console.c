@@ -1,4 +1,4 @@
-/* A console and a player of cues by hand. A fade's slope is a number of parts of a step of level, 2^44 of which are a step. */
+/* A console, a source and a player of cues by hand. A fade's slope is a number of parts of a step of level, 2^44 of which are a step. */
 #include "plain.h"
 #include <string.h>
 
@@ -82,4 +82,44 @@ size_t plain_poll(struct plain_console *console, uint64_t now, uint8_t out[MOST_
     }
     console->from = console->count;
     return page(console, now, out);
+}
+
+size_t plain_send(struct plain_console *source, uint64_t now, uint8_t out[MOST_DATAGRAM]) {
+    if (now != source->moment) source->moment = now, source->from = 0;
+    for (size_t i = source->from; i < source->count; i++) {
+        struct plain_line *line = &source->lines[i];
+        if (!has_passed(line, GAP, now) || !sends(line, now, source->given[i])) continue;
+        plain_head(source->cid, source->name, line->universe, line->number++, out);
+        memcpy(out + 126, source->given[i], SLOTS);
+        source->from = i + 1;
+        return DATA_OCTETS;
+    }
+    source->from = source->count;
+    return page(source, now, out);
+}
+
+bool plain_show_levels(struct plain_console *source, uint16_t universe, const uint8_t *levels, size_t count) {
+    size_t low = 0, high = source->count;
+    while (low < high) {
+        size_t middle = (low + high) / 2;
+        if (source->lines[middle].universe < universe) low = middle + 1;
+        else high = middle;
+    }
+    if (low == source->count || source->lines[low].universe != universe || count > SLOTS) return false;
+    memcpy(source->given[low], levels, count), memset(source->given[low] + count, 0, SLOTS - count);
+    if (low < source->from) source->from = low;
+    return true;
+}
+
+uint64_t plain_wakes(const struct plain_console *source) {
+    uint64_t first = source->begun + DISCOVERY;
+    for (size_t i = 0; i < source->count; i++) {
+        const struct plain_line *line = &source->lines[i];
+        if (!line->has_sent) return 0;
+        bool waits = !line->owed && !memcmp(line->frame, source->given[i], SLOTS);
+        uint64_t wake = line->last + (waits ? KEEP_ALIVE : GAP);
+        if (wake <= source->moment) return 0;
+        if (wake < first) first = wake;
+    }
+    return first;
 }

@@ -73,7 +73,7 @@ struct plain_line {
     uint8_t frame[SLOTS];
 };
 
-/* A console whose universes all run, at the full master. */
+/* A console whose universes all run, at the full master; or a source, which has the levels of each universe in place of a patch. */
 struct plain_console {
     uint8_t cid[16];
     char name[64];
@@ -83,6 +83,7 @@ struct plain_console {
     struct {
         uint16_t slot, channel;
     } *patch;
+    uint8_t (*given)[SLOTS];
     struct plain_line *lines;
     size_t slots, count, from, next_page;
     bool has_paged;
@@ -91,6 +92,10 @@ struct plain_console {
 
 /* The datagram that is due: its octets, or 0. */
 size_t plain_poll(struct plain_console *console, uint64_t now, uint8_t out[MOST_DATAGRAM]);
+/* The same of a source, whose universes rise; the levels of one; and when a packet or a page is due next. */
+size_t plain_send(struct plain_console *source, uint64_t now, uint8_t out[MOST_DATAGRAM]);
+bool plain_show_levels(struct plain_console *source, uint16_t universe, const uint8_t *levels, size_t count);
+uint64_t plain_wakes(const struct plain_console *source);
 
 /* A player that keeps what going to each cue gives, of cues that name all channels. */
 struct plain_cue {

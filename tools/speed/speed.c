@@ -267,6 +267,56 @@ static void measure_wide(void) {
     measure("the same, all 1024 universes having changed", 1024 * divisor, idle, NULL);
 }
 
+static struct sacn_source_handle source;
+static struct plain_console plain_source;
+static uint8_t levels[2][SLOTS];
+enum { SENT = 64 };
+/* (one datagram; where none is due, other levels for all universes, at the moment when one is) */
+static uint64_t send(uint64_t i) {
+    uint16_t universe;
+    (void)i, sacn_source_poll(&source, moment, out, &length, &universe);
+    if (length) return digest(length);
+    sacn_source_wakes(&source, &moment);
+    for (uint16_t n = 1; n <= SENT; n++) sacn_source_levels(&source, n, levels[moment % 2], SLOTS);
+    sacn_source_poll(&source, moment, out, &length, &universe);
+    return digest(length);
+}
+static uint64_t plain_send_one(uint64_t i) {
+    (void)i, length = plain_send(&plain_source, plain_moment, out);
+    if (length) return digest(length);
+    plain_moment = plain_wakes(&plain_source);
+    for (uint16_t n = 1; n <= SENT; n++) plain_show_levels(&plain_source, n, levels[plain_moment % 2], SLOTS);
+    length = plain_send(&plain_source, plain_moment, out);
+    return digest(length);
+}
+/* (the same levels again, for one universe, and nothing is due) */
+static uint64_t show_again(uint64_t i) {
+    uint16_t universe;
+    sacn_source_levels(&source, (uint16_t)(i % SENT + 1), levels[0], SLOTS);
+    sacn_source_poll(&source, moment, out, &length, &universe);
+    return length;
+}
+static uint64_t plain_show_again(uint64_t i) {
+    plain_show_levels(&plain_source, (uint16_t)(i % SENT + 1), levels[0], SLOTS);
+    return plain_send(&plain_source, plain_moment, out);
+}
+
+static void measure_sources_of_levels(void) {
+    struct plain_console *it = &plain_source;
+    memset(it, 0, sizeof *it), memcpy(it->name, "Desk", 4), memset(levels, 1, SLOTS), memset(levels[1], 255, SLOTS);
+    it->count = SENT, it->lines = calloc(SENT, sizeof *it->lines), it->given = calloc(SENT, sizeof *it->given);
+    if (sacn_source_new(&source, it->cid, "Desk", 4, 100, SENT, 0)) stop("no source");
+    for (uint16_t n = 1; n <= SENT; n++) it->lines[n - 1].universe = n, sacn_source_add(&source, n);
+    moment = plain_moment = 0;
+    measure("a datagram of a source of 64 universes that all change", 3000000, send, plain_send_one);
+    for (int turns = 0; turns < 6; turns++, moment += 25, plain_moment += 25)
+        for (int n = 0; n <= SENT; n++) {
+            for (uint16_t u = 1; u <= SENT; u++) show_again(u), plain_show_again(u);
+        }
+    measure("such a source is handed the levels that it has", 3000000, show_again, plain_show_again);
+    sacn_source_free(&source), free(it->lines), free(it->given);
+}
+
 static struct plain_player player;
 static uint64_t cues, going, plain_going;
 static uint16_t level_of(unsigned number, unsigned channel) { return (uint16_t)(number * 7919u + channel * 104729u); }
@@ -325,6 +375,7 @@ int main(int count, char **words) {
     say_show(1024, 27, CHANNELS / 2), make_console(), sacn_console_command(&console, 0, SACN_GO, 0, 0);
     measure("a millisecond of 1024 universes of 27 slots, half of which fade", 3000, pass_millisecond, NULL);
     measure("when 1024 universes next have something due", 100000, wake, NULL);
+    measure_sources_of_levels();
     measure_players(100, 0, "going to the last of 100 cues over 2048 channels");
     measure_players(1000, 0, "going to the last of 1000");
     measure_players(1000, 1000, "going to one after another of 1000, every channel fading");

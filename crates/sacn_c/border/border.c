@@ -12,6 +12,7 @@ uint8_t sacn_proved_in_sequence(uint8_t held, uint8_t arrived);
 void sacn_proved_multicast_group(uint16_t universe, uint8_t *group);
 void sacn_proved_free(void **handle);
 uint32_t sacn_proved_node_new(void **handle, const uint8_t *text, size_t length, uint16_t *udp_port);
+uint32_t sacn_proved_node_of_universes(void **handle, const uint16_t *universes, size_t count);
 uint32_t sacn_proved_node_take(void **handle, uint64_t now, const uint8_t *octets, size_t count, uint8_t *taken);
 uint32_t sacn_proved_node_tick(void **handle, uint64_t now, size_t *lost);
 uint32_t sacn_proved_node_frame(void **handle, uint64_t now, uint8_t port, uint8_t *frame);
@@ -119,6 +120,13 @@ int sacn_node_new(struct sacn_node *node, const char *setup, size_t length, uint
     if (is_long(length)) return SACN_LENGTH;
     if (node->behind) return SACN_NOT_EMPTY;
     return (int)sacn_proved_node_new(&node->behind, start(setup), length, udp_port);
+}
+
+int sacn_node_of_universes(struct sacn_node *node, const uint16_t *universes, size_t count) {
+    if (!node || is_bad(universes, count)) return SACN_NULL;
+    if (is_long_list(count)) return SACN_LENGTH;
+    if (node->behind) return SACN_NOT_EMPTY;
+    return (int)sacn_proved_node_of_universes(&node->behind, universes ? universes : no_numbers, count);
 }
 
 int sacn_node_free(struct sacn_node *node) {

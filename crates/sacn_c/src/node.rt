@@ -1,17 +1,18 @@
 //! Nodes, for C.
-ghost use Rattle.std.specs.Prelude.{◌≡◌, ◌==◌, ◌<◌, ◌≤◌, ◌^◌, ◌-◌, is_some, true, [], None, IfSome, MatchOption, ℕ, length, slice_index, if◌then◌else◌, IfOk, IfErr};
+ghost use Rattle.std.specs.Prelude.{◌≡◌, ◌==◌, ◌<◌, ◌≤◌, ◌^◌, ◌-◌, is_some, true, [], None, Some, IfSome, MatchOption, ℕ, length, slice_index, if◌then◌else◌, IfOk, IfErr};
 ghost use Rattle.std.specs.List.Sorted.{IsStrictlyIncreasing};
 ghost use Rattle.std.specs.Option.{option_map};
 ghost use Rattle.std.specs.Str.{IsUtf8};
 ghost use Rattle.toml.specs.Parse.{parse_document};
 ghost use Rattle.sacn_packets.specs.PacketReading.{reading_packet};
-ghost use Rattle.sacn_node.specs.Cores.{core_at, core_lost, core_row, node_frame};
+ghost use Rattle.sacn_node.specs.Cores.{core_at, core_lost, core_row, new_node, node_frame};
 ghost use Rattle.sacn_node.specs.Readings.{reply_to, after_reading};
 ghost use Rattle.sacn_node.specs.Setup.{port_numbers};
-ghost use Rattle.sacn_node.specs.declared.limits.TheConstants.{MAX_PORTS};
+ghost use Rattle.sacn_node.specs.declared.limits.TheConstants.{MAX_PORTS, MIN_PORT};
 ghost use Rattle.sacn_node.specs.SetupReading.{setup_or_toml};
+ghost use Rattle.sacn_node.specs.WholeUniverses.{whole_ports};
 ghost use Rattle.sacn_c.specs.Kinds.{of_node};
-ghost use Rattle.sacn_c.specs.Making.{NodeOf, SetupStatus};
+ghost use Rattle.sacn_c.specs.Making.{NodeOf, SetupStatus, IsWant, universes_status};
 ghost use Rattle.sacn_c.specs.Merging.{source_told, levels_told};
 ghost use Rattle.sacn_c.specs.Numbers.{node_taken_number, node_taken_status, frame_status, frame_or, found_status, found_or};
 ghost use Rattle.sacn_c.specs.Rooms.{room_status, room_with};
@@ -24,8 +25,9 @@ use crate::held_value::Held;
 use crate::numbers::{node_taken_number, node_taken_status};
 use crate::rooms::put_list;
 use crate::sources::{SourceFields, put_source};
-use crate::status::{DONE, RANGE, WRONG_HANDLE};
-use sacn_node::{NodeCore, NodeSetup, SetupFault, read_node};
+use crate::status::{DONE, LENGTH, OUT_OF_MEMORY, RANGE, WRONG_HANDLE};
+use sacn_files::numbers::has_repeat;
+use sacn_node::{MAX_PORTS, NodeCore, NodeSetup, SetupFault, read_node, setup_of_universes};
 use sacn_packets::FRAME_OCTETS;
 use std::alloc::Global;
 
@@ -73,6 +75,57 @@ pub extern "C" fn sacn_proved_node_new(
             DONE
         }
         Err(_) => u32::from(SetupFault::OutOfMemory.number()),
+    }
+}
+
+/// The node of universes, as `setup_of_universes` and `NodeCore::new`, or why there is none.
+fn node_of(alloc: Global, universes: &[u16]) -> Result<NodeCore, u32>
+    ensures made { IfOk result (λ n. n ≡ new_node (whole_ports MIN_PORT universes.now)) }
+    ensures only { IfOk result (λ n. universes_status universes.now ≡ DONE) }
+    ensures status { IfErr result (λ status. IsWant universes.now status) }
+    ensures counts { IfErr result (λ status. 1 ≤ status) }
+{
+    if universes.is_empty() || MAX_PORTS < universes.len() {
+        return Err(LENGTH);
+    }
+    if has_repeat(universes) {
+        return Err(RANGE);
+    }
+    let setup = match setup_of_universes(alloc, universes) {
+        Ok(setup) => setup,
+        Err(SetupFault::KeyValue) => return Err(RANGE),
+        Err(_) => return Err(OUT_OF_MEMORY),
+    };
+    match NodeCore::new(alloc, &setup) {
+        Ok(node) => Ok(node),
+        Err(_) => Err(OUT_OF_MEMORY),
+    }
+}
+
+/// A node whose port `i + 1` shows the whole of `universes[i]`. The status is `LENGTH` where there are none or more than `MAX_PORTS`, `RANGE` where
+/// one isn't 1 to 63999 or stands twice, and `OUT_OF_MEMORY`.
+#[unsafe(no_mangle)]
+pub extern "C" fn sacn_proved_node_of_universes(
+    alloc: Global,
+    handle: &mut Handle,
+    universes: &[u16],
+) -> u32
+    ensures made { result ≡ DONE → handle.new.value
+        ≡ Some (Held.Node (new_node (whole_ports MIN_PORT universes.now))) }
+    ensures only { result ≡ DONE → universes_status universes.now ≡ DONE }
+    ensures refused { (result ≡ DONE → ⊥) → handle.new.value ≡ handle.old.value }
+    ensures status { (result ≡ DONE → ⊥) → IsWant universes.now result }
+{
+    let node = match node_of(alloc, universes) {
+        Ok(node) => node,
+        Err(status) => return status,
+    };
+    match Handle::new(alloc, Held::Node(node)) {
+        Ok(made) => {
+            *handle = made;
+            DONE
+        }
+        Err(_) => OUT_OF_MEMORY,
     }
 }
 

@@ -309,6 +309,7 @@ extern "C" {
     pub fn sacn_in_sequence(held: u8, arrived: u8) -> c_int;
     pub fn sacn_multicast_group(universe: u16, group: *mut u8) -> c_int;
     pub fn sacn_node_new(node: *mut sacn_node, setup: *const c_char, length: usize, udp_port: *mut u16) -> c_int;
+    pub fn sacn_node_of_universes(node: *mut sacn_node, universes: *const u16, count: usize) -> c_int;
     pub fn sacn_node_free(node: *mut sacn_node) -> c_int;
     pub fn sacn_node_take(node: *mut sacn_node, now: u64, octets: *const u8, count: usize, taken: *mut u8) -> c_int;
     pub fn sacn_node_tick(node: *mut sacn_node, now: u64, lost: *mut usize) -> c_int;

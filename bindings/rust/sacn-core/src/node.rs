@@ -79,6 +79,14 @@ impl Node {
         Ok(Node { handle, udp_port })
     }
 
+    /// Makes a node of 1 to 16 universes, each 1 to 63999 and once, without a setup: port `i + 1` shows all slots of
+    /// `universes[i]`. [`Status::Length`](crate::Status::Length) or [`Status::Range`](crate::Status::Range) where they
+    /// aren't that.
+    pub fn of_universes(universes: &[u16]) -> Result<Self, Error> {
+        let handle = raw::node_of_universes(universes).map_err(|status| refused(status, Error::none))?;
+        Ok(Node { handle, udp_port: sys::SACN_UDP_PORT })
+    }
+
     /// The UDP port that the node is to hear.
     pub fn udp_port(&self) -> u16 {
         self.udp_port

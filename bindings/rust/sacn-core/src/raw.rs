@@ -120,6 +120,10 @@ pub fn node_new(setup: &[u8], udp_port: &mut u16) -> Made<sacn_node> {
     made(|node| unsafe { sacn_node_new(node, setup.as_ptr().cast(), setup.len(), udp_port) })
 }
 
+pub fn node_of_universes(universes: &[u16]) -> Made<sacn_node> {
+    made(|node| unsafe { sacn_node_of_universes(node, universes.as_ptr(), universes.len()) })
+}
+
 pub fn node_take(node: &mut Handle<sacn_node>, now: u64, octets: &[u8], taken: &mut u8) -> c_int {
     unsafe { sacn_node_take(&mut node.0, now, octets.as_ptr(), octets.len(), taken) }
 }

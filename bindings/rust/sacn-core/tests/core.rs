@@ -247,6 +247,26 @@ fn what_is_held_of_a_source() -> Result<(), Error> {
     Ok(())
 }
 
+/// Port 1 shows the first universe.
+#[test]
+fn a_node_of_universes() -> Result<(), Error> {
+    let mut node = Node::of_universes(&[7, 1])?;
+    assert_eq!((node.udp_port(), node.ports()?), (5568, vec![1, 2]));
+    assert_eq!(node.take(100, &levels())?, Taken::Held);
+    assert_eq!(node.frame(100, 2)?[..4], [0, 255, 128, 64]);
+    assert_eq!(node.frame(100, 1)?, [0; FRAME_OCTETS]);
+    for (universes, status) in [
+        (&[][..], Status::Length),
+        (&(1..18).collect::<Vec<u16>>(), Status::Length),
+        (&[1, 0], Status::Range),
+        (&[64000], Status::Range),
+        (&[5, 6, 5], Status::Range),
+    ] {
+        assert_eq!(Node::of_universes(universes).err(), Some(Error::Status(status)));
+    }
+    Ok(())
+}
+
 #[test]
 fn a_node() -> Result<(), Error> {
     let mut node = Node::new(SETUP)?;
