@@ -1,16 +1,17 @@
 -- Where a universe is among rising ones, or where it would go.
-use Rattle.std.proofs.Common.{◌≡◌, ℕ, ◌-◌, ◌+◌, ◌<◌, ◌≤◌, Bool, true, false, ◌==◌, nat_lt, if◌then◌else◌, List, [], ◌∷◌, length, get_or, find, None, Some, Result, Ok, Err, IfOk, IfErr, suc, zero, refl, arith, ap, sym}
+use Rattle.std.proofs.Common.{◌≡◌, ℕ, ◌-◌, ◌+◌, ◌<◌, ◌≤◌, Bool, true, false, ◌==◌, nat_lt, if◌then◌else◌, List, [], ◌∷◌, length, get_or, find, None, Some, slice_index_or, Result, Ok, Err, IfOk, IfErr, suc, zero, refl, arith, ap, sym}
 use Rattle.std.specs.List.{insert, AllByRecursion}
 use Rattle.std.specs.List.Sorted.{IsSearchInRange, IsBinarySearchResult, IsNonDecreasingBy}
 use Rattle.std.specs.declared.cmp.Ordering.TheVariants.{Less, Equal, Greater}
 use Rattle.std.specs.Ordering.{nat_cmp, ordering_index}
 use Rattle.std.proofs.lemmas.Bool.Decides.{nat_tests}
 use Rattle.std.proofs.lemmas.Cmp.{ranked}
+use Rattle.std.proofs.lemmas.List.{get_or_read}
 use Rattle.sacn_packets.specs.Universe.{Rising}
 use Rattle.sacn_console.specs.declared.line.State.TheVariants.{Running}
 use Rattle.sacn_source.specs.declared.source_universe.SourceUniverse.{SourceUniverse}
 use Rattle.sacn_source.specs.Rows.{row_in}
-use Rattle.sacn_source.specs.Table.{Table, TableOk, RowOk, universes_of, is_of, no_row, with_universe}
+use Rattle.sacn_source.specs.Table.{Table, TableOk, RowOk, universes_of, is_of, row_at, no_row, with_universe}
 use Rattle.sacn_source.proofs.Changes.{below_all, find_at}
 use Rattle.sacn_source.proofs.RowLemmas.{in_ok}
 
@@ -156,3 +157,11 @@ ok_admitted v c n rows is ok its lt e =
 
 pub gap_read : (v c : Table) (n : SourceUniverse) (rows : List SourceUniverse) → v ≡ c → rows ≡ with_universe n c.rows → record v { rows = rows } ≡ record { room = c.room; rows = with_universe n c.rows }
 gap_read v c n rows is e = λ i. record { room = (is i).room; rows = e i }
+
+-- a row that was read at a place: v is what c is seen to be
+pub read_there : (v c : Table) (u i : ℕ) (x : SourceUniverse) → v ≡ c → TableOk v → i < length v.rows → x ≡ slice_index_or v.rows i x → x.line.universe ≡ u →
+    (i < length c.rows) × (find (is_of u) c.rows ≡ Some (row_at c i)) × ((row_at c i).line.universe ≡ u)
+read_there v c u i x is ok lt read e =
+    let here : x ≡ get_or v.rows i no_row = get_or_read v.rows i x lt read no_row in
+    let its : (get_or v.rows i no_row).line.universe ≡ u = rw (← here) e in
+    rw (← is) (lt, find_at u v.rows i no_row ok.rising lt its, its)

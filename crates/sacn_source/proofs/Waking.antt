@@ -306,3 +306,16 @@ unfolding row_found
 none_before v c l b e ok tells h =
     let before : v.moment < l.least = is_lt v.moment l.least (sym tells ∙ h) in
     rw (← e) (find_nothing (row_due v.moment) v.table.rows (λ j d within. asleep v.moment (get_or v.table.rows j d) (let le = ok.first j d within in omega (arith, le, before))))
+
+-- the same of the rows as they are seen
+pub rests_before : (v : Source) (l : Looks) (b : Bool) → IsLooked l v → b ≡ nat_lt v.moment l.least → b ≡ true → find (row_due v.moment) v.table.rows ≡ None
+rests_before v l b ok tells h =
+    let before : v.moment < l.least = is_lt v.moment l.least (sym tells ∙ h) in
+    find_nothing (row_due v.moment) v.table.rows (λ j d within. asleep v.moment (get_or v.table.rows j d) (let le = ok.first j d within in omega (arith, le, before)))
+
+-- what is found from the place on is the first of all
+pub none_from : (v : Source) (l : Looks) → IsLooked l v → find (row_due v.moment) (drop l.from v.table.rows) ≡ None → find (row_due v.moment) v.table.rows ≡ None
+none_from v l ok h = sym (quiet_dropped (row_due v.moment) v.table.rows l.from ok.quiet) ∙ h
+
+pub some_from : (v : Source) (l : Looks) (r : SourceUniverse) → IsLooked l v → find (row_due v.moment) (drop l.from v.table.rows) ≡ Some r → find (row_due v.moment) v.table.rows ≡ Some r
+some_from v l r ok h = sym (quiet_dropped (row_due v.moment) v.table.rows l.from ok.quiet) ∙ h

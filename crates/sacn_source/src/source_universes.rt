@@ -1,5 +1,5 @@
 //! The universes of a source, by rising number.
-ghost use Rattle.std.specs.Prelude.{◌≡◌, ◌<◌, ◌≤◌, ◌&&◌, nat_le, nat_lt, ℕ, List, [], ◌∷◌, ◌++◌, drop, find, insert, length, map, slice_index_or, slice_set, Some, None, MatchOption, IfOk, IfErr};
+ghost use Rattle.std.specs.Prelude.{◌≡◌, ◌<◌, ◌≤◌, ◌&&◌, nat_le, nat_lt, ℕ, List, [], ◌∷◌, ◌++◌, drop, find, insert, length, map, slice_index_or, slice_set, Some, None, MatchOption, IfSome, IfOk, IfErr};
 ghost use Rattle.sacn_console.specs.declared.line.State.TheVariants as State;
 ghost use Rattle.sacn_source.specs.declared.source_universe.SourceUniverse.{SourceUniverse as KeptRow};
 ghost use Rattle.sacn_source.specs.Rows.{row_due, row_sent, row_in, row_ended, row_showing, row_prior, new_row, slots_of};
@@ -199,10 +199,31 @@ impl SourceUniverses {
             × (find (is_of universe) self.now.rows ≡ Some (row_at self.now i))
             × ((row_at self.now i).line.universe ≡ universe)) }
     {
+        if let Some(place) = self.guess(universe) {
+            return Some(place);
+        }
         match self.search(universe) {
             Ok(place) => Some(place),
             Err(_) => None,
         }
+    }
+
+    // Where a universe is, if none is missing between the first and it.
+    fn guess(&self, universe: u16) -> Option<usize>
+        ensures { IfSome result (λ i. (i < length self.now.rows)
+            × (find (is_of universe) self.now.rows ≡ Some (row_at self.now i))
+            × ((row_at self.now i).line.universe ≡ universe)) }
+    {
+        let first = self.rows.first()?.line.universe;
+        let place = usize::from(universe.wrapping_sub(first));
+        if place >= self.rows.len() {
+            return None;
+        }
+        let row = &self.rows[place];
+        if row.line.universe != universe {
+            return None;
+        }
+        Some(place)
     }
 
     // A universe that is there begins again.

@@ -39,7 +39,10 @@ impl SourceCore {
         ensures ahead { 0 < result → min (self.now.moment + 1) last_moment ≤ result }
         ensures exact { result < last_moment → is_some (row_found (at result self.now)) ≡ true }
     {
-        match self.rows.first_due(0, self.moment) {
+        if self.looks.rests_at(self.moment) {
+            return self.rows.first_wake();
+        }
+        match self.rows.first_due(self.looks.from, self.moment) {
             Some(_) => 0,
             None => self.rows.first_wake(),
         }
