@@ -54,17 +54,17 @@ python() {
   done
 }
 
-# The sender of levels in C, heard by the receiver in Python.
 c() {
   local compiler
   compiler=$(command -v "${CC:-cc}" || command -v gcc || command -v clang)
   if [ -z "$compiler" ]; then skips "C" "there is no compiler"; return; fi
-  if "$compiler" -D_DEFAULT_SOURCE -std=c99 -O1 -Wall -Wextra -Werror -I"$prefix/include" -o "$room/levels.c" "$top/examples/c/levels.c" "$prefix/lib/libsacn.a" 2>"$room/said"; then
-    example c levels "$room/levels.c"
-    if [ -x "$room/python/receive" ]; then ln -s ../python/receive "$room/c/receive"; fi
-  else
-    fails "levels.c" "$(grep -m 1 error "$room/said")"
-  fi
+  for it in receive levels; do
+    if "$compiler" -D_DEFAULT_SOURCE -std=c99 -O1 -Wall -Wextra -Werror -I"$prefix/include" -o "$room/$it.c" "$top/examples/c/$it.c" "$prefix/lib/libsacn.a" 2>"$room/said"; then
+      example c $it "$room/$it.c"
+    else
+      fails "$it.c" "$(grep -m 1 error "$room/said")"
+    fi
+  done
 }
 
 rust() {

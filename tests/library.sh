@@ -119,7 +119,7 @@ if [ ! -x "$sacn" ]; then
 else
   port=$(free_udp_port)
   setup "$port" >"$room/node.toml"
-  if built receive "$top/examples/c/receive.c" -std=c99 -O2; then hears "receive.c hears a desk" "$port" "$room/receive" "$room/node.toml" 8; fi
+  if built receive "$top/examples/c/receive.c" -std=c99 -O2; then hears "receive.c hears a desk" "$port" "$room/receive" 1 8 "$port" 127.0.0.1; fi
   if command -v python3 >/dev/null && [ -f "$prefix/lib/libsacn.so" ]; then
     hears "receive.py hears a desk" "$port" env SACN_LIBRARY="$prefix/lib/libsacn.so" PYTHONPATH="$top/bindings/python" python3 "$top/examples/python/receive.py" 1 8 "$port" 127.0.0.1
   else

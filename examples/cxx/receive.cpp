@@ -8,10 +8,10 @@
 
 int main(int count, char **words) {
     const auto word = [&](int place, const char *other) { return std::string(place < count ? words[place] : other); };
-    const std::string universe = word(1, "1"), port = "[[port]]\nnumber = 1\nuniverse = " + universe;
-    sacn::Node node("version = 1\nudp_port = " + word(3, "5568") + "\n" + port);
-    const sockaddr_in at{AF_INET, htons(node.udp_port()), {}, {}};
-    const ip_mreq group{{htonl(0xefff0000u | std::stoi(universe))}, {inet_addr(word(4, "0.0.0.0").c_str())}};
+    const auto universe = std::uint16_t(std::stoi(word(1, "1"))), port = std::uint16_t(std::stoi(word(3, "5568")));
+    auto node = sacn::Node::of_universes({universe});
+    const sockaddr_in at{AF_INET, htons(port), {}, {}};
+    const ip_mreq group{{htonl(0xefff0000u | universe)}, {inet_addr(word(4, "0.0.0.0").c_str())}};
     pollfd hears{socket(AF_INET, SOCK_DGRAM, 0), POLLIN, 0};
     if (bind(hears.fd, (const sockaddr *)&at, sizeof at)) return std::cerr << "no port\n", 4;
     if (setsockopt(hears.fd, IPPROTO_IP, IP_ADD_MEMBERSHIP, &group, sizeof group)) return std::cerr << "no group\n", 4;

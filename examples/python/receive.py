@@ -7,9 +7,9 @@ import sacn_core
 
 
 def main(universe, seconds="inf", udp_port="5568", address="0.0.0.0"):
-    setup = f"version = 1\nudp_port = {udp_port}\n[[port]]\nnumber = 1\nuniverse = {universe}\n"
-    with sacn_core.Node(setup) as node, socket.socket(socket.AF_INET, socket.SOCK_DGRAM) as hears:
-        hears.bind(("", node.udp_port))
+    node, hears = sacn_core.Node.of_universes([int(universe)]), socket.socket(socket.AF_INET, socket.SOCK_DGRAM)
+    with node, hears:
+        hears.bind(("", int(udp_port)))
         joined = socket.inet_aton(sacn_core.multicast_group(int(universe))) + socket.inet_aton(address)
         hears.setsockopt(socket.IPPROTO_IP, socket.IP_ADD_MEMBERSHIP, joined)
         began, shown, now = time.monotonic(), None, 0

@@ -7,9 +7,8 @@ fn main() -> Result<(), Box<dyn std::error::Error>> {
     let words: Vec<String> = std::env::args().skip(1).collect();
     let word = |place: usize, other: &str| words.get(place).map_or(other.to_string(), String::clone);
     let (universe, end) = (word(0, "1").parse()?, 1000 * word(1, "1000000").parse::<u64>()?);
-    let port = format!("[[port]]\nnumber = 1\nuniverse = {universe}\n");
-    let mut node = sacn_core::Node::new(format!("version = 1\nudp_port = {}\n{port}", word(2, "5568")))?;
-    let hears = UdpSocket::bind((Ipv4Addr::UNSPECIFIED, node.udp_port()))?;
+    let mut node = sacn_core::Node::of_universes(&[universe])?;
+    let hears = UdpSocket::bind((Ipv4Addr::UNSPECIFIED, word(2, "5568").parse()?))?;
     hears.join_multicast_v4(&sacn_core::multicast_group(universe), &word(3, "0.0.0.0").parse()?)?;
     let (began, mut now, mut shown, mut octets) = (Instant::now(), 0, None, [0; 2048]);
     while now < end {
