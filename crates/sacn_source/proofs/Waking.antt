@@ -1,8 +1,8 @@
 -- When a source has something due.
-use Rattle.std.proofs.Common.{◌≡◌, ℕ, ◌+◌, ◌-◌, ◌<◌, ◌≤◌, max, min, Bool, true, false, not, ◌&&◌, ◌||◌, if◌then◌else◌, nat_lt, nat_le, List, [], ◌∷◌, length, get_or, drop, find, Option, MatchOption, ◌==◌, Some, None, is_some, suc, zero, refl, arith, ap, sym, ◌∙◌}
+use Rattle.std.proofs.Common.{◌≡◌, ℕ, ◌+◌, ◌-◌, ◌<◌, ◌≤◌, max, min, Bool, true, false, not, ◌&&◌, ◌||◌, if◌then◌else◌, nat_lt, nat_le, List, [], ◌∷◌, length, get_or, drop, find, Option, MatchOption, ◌==◌, Some, None, is_some, suc, zero, slice_set, ◌≢◌, refl, arith, ap, sym, ◌∙◌}
 use Rattle.std.specs.Option.{option_map}
 use Rattle.std.proofs.lemmas.Bool.Decides.{nat_tests}
-use Rattle.std.proofs.lemmas.List.{length-map, get_or-map}
+use Rattle.std.proofs.lemmas.List.{length-map, get_or-map, length-set, get_or-set_same, get_or-set_other}
 use Rattle.sacn_console.proofs.Plain.{same_number}
 use Rattle.sacn_console.specs.declared.limits.TheConstants.{MIN_GAP, KEEP_ALIVE}
 use Rattle.sacn_console.specs.Lines.{Page, Paged, same, has_passed, asks, line_sent}
@@ -222,17 +222,18 @@ exact_first c w a b last e ha hb lt = rw e (earlier_by c a b last ha hb (nat_le 
 -- ---- what spares looking
 
 -- every row is looked at
-pub looked_anew : (l : Looks) (c : Source) → l ≡ record { least = 0; from = 0 } → IsLooked l c
-looked_anew l c e = rw e (record { first = λ i d within. omega arith; quiet = λ i d before within. absurd (omega (arith, before)) })
+pub looked_anew : (l : Looks) (c : Source) → l ≡ record { least = 0; is_exact = false; from = 0 } → IsLooked l c
+looked_anew l c e = rw e (record { first = λ i d within. omega arith; exact = λ is. absurd (cc); quiet = λ i d before within. absurd (omega (arith, before)) })
 
 looked_by : (m now from i : ℕ) (b : Bool) → nat_lt m now ≡ b → i < (if b then 0 else from) → (i < from) × (max m now ≡ m)
 looked_by m now from i true is before = absurd (omega (arith, before))
 looked_by m now from i false is before = (before, grind (arith, nat_tests, is))
 
 -- the clock moves
-pub looked_moved : (l new : Looks) (v : Source) (now m : ℕ) → IsLooked l v → new ≡ record { least = l.least; from = if nat_lt v.moment now then 0 else l.from } → m ≡ max v.moment now → IsLooked new (record v { moment = m })
+pub looked_moved : (l new : Looks) (v : Source) (now m : ℕ) → IsLooked l v → new ≡ record { least = l.least; is_exact = l.is_exact; from = if nat_lt v.moment now then 0 else l.from } → m ≡ max v.moment now → IsLooked new (record v { moment = m })
 looked_moved l new v now m ok e is = rw (e, is) (record {
   first = ok.first;
+  exact = ok.exact;
   quiet = λ i d before within.
       let here = looked_by v.moment now l.from i (nat_lt v.moment now) refl before in
       ap (λ (t : ℕ). row_due t (get_or v.table.rows i d)) here.1 ∙ ok.quiet i d here.0 within;
@@ -240,11 +241,11 @@ looked_moved l new v now m ok e is = rw (e, is) (record {
 
 -- a page was given
 pub looked_kept : (l : Looks) (v : Source) (cycle : Option Begun) (listed : List ℕ) → IsLooked l v → IsLooked l (record v { cycle = cycle; listed = listed })
-looked_kept l v cycle listed ok = record { first = ok.first; quiet = ok.quiet }
+looked_kept l v cycle listed ok = record { first = ok.first; exact = ok.exact; quiet = ok.quiet }
 
 -- none was found due
-pub looked_none : (l : Looks) (v : Source) (least : ℕ) → IsLooked l v → IsFirst v.table.rows least → IsLooked (record l { least = least }) v
-looked_none l v least ok first = record { first = first; quiet = ok.quiet }
+pub looked_none : (l : Looks) (v : Source) (least : ℕ) → IsLooked l v → IsFirst v.table.rows least → IsReached v.table.rows least → IsLooked (record l { least = least; is_exact = true }) v
+looked_none l v least ok first reached = record { first = first; exact = λ is. reached; quiet = ok.quiet }
 
 gap_begins : (t : ℕ) → nat_le MIN_GAP (t - t) ≡ false
 gap_begins t = le_false MIN_GAP (t - t) (omega arith)
@@ -274,9 +275,10 @@ sent_by rows t place from i d quiet within before false is =
     (λ differs. quiet i no_row (passed_by_place place from i (from == place) refl before is) within)
 
 -- a packet was sent
-pub looked_sent : (l new : Looks) (v : Source) (place : ℕ) (table : Table) → IsLooked l v → new.least ≡ 0 → new.from ≤ passed_over place l.from → table ≡ changed place (row_sent v.moment) v.table → IsLooked new (record v { table = table })
-looked_sent l new v place table ok least from e = rw e (record {
+pub looked_sent : (l new : Looks) (v : Source) (place : ℕ) (table : Table) → IsLooked l v → new.least ≡ 0 → new.is_exact ≡ false → new.from ≤ passed_over place l.from → table ≡ changed place (row_sent v.moment) v.table → IsLooked new (record v { table = table })
+looked_sent l new v place table ok least loose from e = rw e (record {
   first = λ i d within. rw least (omega arith);
+  exact = λ is. let bad : false ≡ true = sym loose ∙ is in absurd (cc);
   quiet = λ i d before within.
       let there : i < length v.table.rows = rw length-map at within in
       ap (row_due v.moment) (get_or-map (on (row_at v.table place).line.universe (row_sent v.moment)) v.table.rows i no_row d there)
@@ -307,15 +309,56 @@ none_before v c l b e ok tells h =
     let before : v.moment < l.least = is_lt v.moment l.least (sym tells ∙ h) in
     rw (← e) (find_nothing (row_due v.moment) v.table.rows (λ j d within. asleep v.moment (get_or v.table.rows j d) (let le = ok.first j d within in omega (arith, le, before))))
 
--- the same of the rows as they are seen
-pub rests_before : (v : Source) (l : Looks) (b : Bool) → IsLooked l v → b ≡ nat_lt v.moment l.least → b ≡ true → find (row_due v.moment) v.table.rows ≡ None
-rests_before v l b ok tells h =
-    let before : v.moment < l.least = is_lt v.moment l.least (sym tells ∙ h) in
-    find_nothing (row_due v.moment) v.table.rows (λ j d within. asleep v.moment (get_or v.table.rows j d) (let le = ok.first j d within in omega (arith, le, before)))
-
 -- what is found from the place on is the first of all
 pub none_from : (v : Source) (l : Looks) → IsLooked l v → find (row_due v.moment) (drop l.from v.table.rows) ≡ None → find (row_due v.moment) v.table.rows ≡ None
 none_from v l ok h = sym (quiet_dropped (row_due v.moment) v.table.rows l.from ok.quiet) ∙ h
 
 pub some_from : (v : Source) (l : Looks) (r : SourceUniverse) → IsLooked l v → find (row_due v.moment) (drop l.from v.table.rows) ≡ Some r → find (row_due v.moment) v.table.rows ≡ Some r
 some_from v l r ok h = sym (quiet_dropped (row_due v.moment) v.table.rows l.from ok.quiet) ∙ h
+
+-- ---- other levels of the universe at a place: its row is written, and no other one changes
+
+differs : (i place : ℕ) → (i == place) ≡ false → i ≢ place
+differs i place h e = absurd (grind (arith, nat_tests, h, e))
+
+lower : (a b : ℕ) → min a b ≤ b
+lower a b = omega arith
+
+lower_first : (a b : ℕ) → min a b ≤ a
+lower_first a b = omega arith
+
+at_or_other : (P : SourceUniverse → Type 0) (rows : List SourceUniverse) (place i : ℕ) (x d : SourceUniverse) → i < length rows → P x → ((i == place) ≡ false → P (get_or rows i d)) → (b : Bool) → (i == place) ≡ b → P (get_or (slice_set rows place x) i d)
+at_or_other P rows place i x d within here there true is =
+    let same : place ≡ i = sym (same_number i place is) in
+    rw (same, get_or-set_same rows i x d within) here
+at_or_other P rows place i x d within here there false is = rw (get_or-set_other rows place i x d (differs i place is)) (there is)
+
+before_both : (i from place : ℕ) → i < min from place → (i < from) × ((i == place) ≡ false)
+before_both i from place h = (omega (arith, h), grind (arith, nat_tests, h))
+
+pub looked_stirred : (l new : Looks) (v : Source) (place wake : ℕ) (table : Table) (x : SourceUniverse) → IsLooked l v → place < length v.table.rows → table ≡ record { room = v.table.room; rows = slice_set v.table.rows place x } → wake ≡ row_wake x →
+    new ≡ record { least = min l.least wake; is_exact = nat_le wake l.least; from = min l.from place } → IsLooked new (record v { table = table })
+looked_stirred l new v place wake table x ok there set next e = rw (e, set) (record {
+  first = λ i d within.
+      let inside : i < length v.table.rows = rw length-set at within in
+      at_or_other (λ r. min l.least wake ≤ row_wake r) v.table.rows place i x d inside (rw (← next) (lower l.least wake)) (λ other. let le = ok.first i d inside in (let low = lower_first l.least wake in omega (arith, le, low))) (i == place) refl;
+  exact = λ is before. (place, rw (length-set v.table.rows place x) there, λ d. rw (get_or-set_same v.table.rows place x d there, ← next) (least_is l.least wake is));
+  quiet = λ i d before within.
+      let inside : i < length v.table.rows = rw length-set at within in
+      let both = before_both i l.from place before in
+      rw (get_or-set_other v.table.rows place i x d (differs i place both.1)) (ok.quiet i d both.0 inside);
+})
+  where
+    least_is : (a b : ℕ) → nat_le b a ≡ true → b ≡ min a b
+    least_is a b h = grind (arith, nat_tests, h)
+
+-- a call was refused
+pub looked_same : (l : Looks) (v : Source) (table : Table) → IsLooked l v → table ≡ v.table → IsLooked l (record v { table = table })
+looked_same l v table ok e = rw e ok
+
+pub found_none : (c : Source) → row_found c ≡ None → find (row_due c.moment) c.table.rows ≡ None
+unfolding row_found
+found_none c e = e
+
+pub written_at : (t table : Table) (place : ℕ) (x : SourceUniverse) → place < length t.rows → table ≡ record { room = t.room; rows = slice_set t.rows place x } → row_at table place ≡ x
+written_at t table place x there e = rw e (get_or-set_same t.rows place x no_row there)

@@ -1,5 +1,5 @@
 -- The universes of a source, and what calls make of them.
-use Rattle.std.specs.Prelude.{◌≡◌, ◌≤◌, ℕ, Bool, not, ◌&&◌, ◌==◌, nat_lt, nat_le, if◌then◌else◌, List, [], ◌∷◌, map, filter, find, length, slice_index_or, Option, Some, None, Result, Ok, Err}
+use Rattle.std.specs.Prelude.{◌≡◌, ◌≤◌, ℕ, Bool, not, ◌&&◌, ◌==◌, nat_lt, nat_le, if◌then◌else◌, List, [], ◌∷◌, map, filter, find, length, slice_index_or, slice_set, Option, Some, None, Result, Ok, Err}
 use Rattle.std.specs.List.{AllByRecursion}
 use Rattle.sacn_packets.specs.Universe.{IsUniverse, IsPriority, Rising}
 use Rattle.sacn_console.specs.Core.{no_line}
@@ -56,6 +56,10 @@ on u f r = if r.line.universe == u then f r else r
 abbrev pub changed : ℕ → (SourceUniverse → SourceUniverse) → Table → Table
 changed i f t = record { room = t.room; rows = map (on (row_at t i).line.universe f) t.rows }
 
+-- the same of the place alone
+abbrev pub written : ℕ → (SourceUniverse → SourceUniverse) → Table → Table
+written i f t = record { room = t.room; rows = slice_set t.rows i (f (row_at t i)) }
+
 -- the rows after an order that was accepted; `first` is the number of a new universe's first packet, `priority` the sender's
 abbrev pub rows_after : ℕ → ℕ → Order → List SourceUniverse → List SourceUniverse
 rows_after first priority (Add u) rows = with_universe (new_row first priority u) rows
@@ -86,6 +90,11 @@ answer (SetLevels u levels) t = for_row (λ r. unless (nat_lt 512 (length levels
 answer (SetPriority u p) t = for_row (λ r. unless (nat_lt 200 p) fault.BadPriority) (find (is_of u) t.rows)
 answer (End u) t = for_row (λ r. end_answer r.line.state) (find (is_of u) t.rows)
 answer EndAll t = Ok tt
+
+-- what is answered of a call that says more
+abbrev pub done : {X : Type 0} → Result X SourceFault → Result (Unit {0}) SourceFault
+done (Ok x) = Ok tt
+done (Err f) = Err f
 
 -- a table that changed, where that was accepted
 abbrev pub kept_or : Result (Unit {0}) SourceFault → Table → Table → Table

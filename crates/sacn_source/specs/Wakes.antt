@@ -1,5 +1,5 @@
 -- When a universe of a source is due next.
-use Rattle.std.specs.Prelude.{◌≡◌, ℕ, ◌<◌, ◌≤◌, false, not, ◌||◌, nat_lt, if◌then◌else◌, List, length, slice_index_or, Option, Some, None}
+use Rattle.std.specs.Prelude.{◌≡◌, ℕ, ◌<◌, ◌≤◌, true, false, not, ◌||◌, nat_lt, if◌then◌else◌, List, length, slice_index_or, Option, Some, None}
 use Rattle.sacn_console.specs.Lines.{same}
 use Rattle.sacn_console.specs.Wakes.{when_passed, last_moment}
 use Rattle.sacn_console.specs.declared.limits.TheConstants.{MIN_GAP, KEEP_ALIVE}
@@ -32,7 +32,8 @@ IsReached rows first = first < last_moment → (i : ℕ) × (i < length rows) ×
 abbrev pub QuietBefore : List SourceUniverse → ℕ → ℕ → Type 0
 QuietBefore rows t from = (i : ℕ) (d : SourceUniverse) → i < from → i < length rows → row_due t (slice_index_or rows i d) ≡ false
 
--- no row is due before the least, and none before the place at the core's moment
+-- no row is due before the least, one is then where that is exact, and none before the place at the core's moment
 pub record IsLooked (l : Looks) (c : Source) : Type 0 where
   pub first : IsFirst c.table.rows l.least
+  pub exact : l.is_exact ≡ true → IsReached c.table.rows l.least
   pub quiet : QuietBefore c.table.rows c.moment l.from

@@ -98,8 +98,14 @@ impl SourceCore {
         ensures answer { result ≡ answer (SetLevels universe levels.now) self.old.table }
         ensures core { self.new ≡ after_order (SetLevels universe levels.now) self.old }
     {
-        self.looks = Looks::anew();
-        self.rows.set_levels(universe, levels)
+        match self.rows.set_levels(universe, levels) {
+            Ok(place) => {
+                let wake = self.rows.at(place).wake();
+                self.looks = self.looks.stirred(place, wake);
+                Ok(())
+            }
+            Err(fault) => Err(fault),
+        }
     }
 
     /// Gives a universe another priority, 0 to 200 (E1.31, 6.2.3). Where it runs, its next packet is

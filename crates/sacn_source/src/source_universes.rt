@@ -36,7 +36,7 @@ impl Model for SourceUniverses {
 impl SourceUniverses {
     ghost use Rattle.std.specs.List.{AllByRecursion};
     ghost use Rattle.sacn_packets.specs.Universe.{Rising};
-    ghost use Rattle.sacn_source.specs.Table.{Table, RowOk, universes_of, row_at, is_of, answer, taken, changed, kept_or, room_answer, with_universe, Add, SetLevels, SetPriority, End, EndAll, rows_after};
+    ghost use Rattle.sacn_source.specs.Table.{Table, RowOk, universes_of, row_at, is_of, answer, done, taken, changed, written, kept_or, room_answer, with_universe, Add, SetLevels, SetPriority, End, EndAll, rows_after};
     ghost use Rattle.sacn_source.specs.Rows.{end_answer, add_answer};
     ghost use Rattle.sacn_source.specs.declared.fault.SourceFault.TheVariants as fault;
 
@@ -65,9 +65,12 @@ impl SourceUniverses {
         }
     }
 
-    /// Gives a universe other levels.
-    pub(crate) fn set_levels(&mut self, universe: u16, levels: &[u8]) -> Result<(), SourceFault>
-        ensures answer { result ≡ answer (SetLevels universe levels.now) self.old }
+    /// Gives a universe other levels, and says where it is.
+    pub(crate) fn set_levels(&mut self, universe: u16, levels: &[u8]) -> Result<usize, SourceFault>
+        ensures answer { done result ≡ answer (SetLevels universe levels.now) self.old }
+        ensures place { IfOk result (λ i. (i < length self.old.rows)
+            × (self.new ≡ written i (row_showing (slots_of levels.now)) self.old)) }
+        ensures refused { IfErr result (λ fault. self.new ≡ self.old) }
         ensures table { (first priority : ℕ) → self.new ≡ taken first priority
             (SetLevels universe levels.now) (answer (SetLevels universe levels.now) self.old)
             self.old }
@@ -77,7 +80,7 @@ impl SourceUniverses {
             return Err(SourceFault::TooMany);
         }
         self.show(place, levels);
-        Ok(())
+        Ok(place)
     }
 
     /// Gives a universe another priority.
@@ -284,7 +287,8 @@ impl SourceUniverses {
     fn show(&mut self, place: usize, levels: &[u8])
         requires there { place < length self.old.rows }
         requires few { length levels.now ≤ 512 }
-        ensures { self.new ≡ changed place (row_showing (slots_of levels.now)) self.old }
+        ensures changed { self.new ≡ changed place (row_showing (slots_of levels.now)) self.old }
+        ensures written { self.new ≡ written place (row_showing (slots_of levels.now)) self.old }
     {
         let row = &mut self.rows[place];
         row.show(levels);

@@ -4,6 +4,7 @@ ghost use Rattle.std.specs.Option.{option_map};
 ghost use Rattle.sacn_console.specs.Core.{packet_text, page_of_length};
 ghost use Rattle.sacn_source.specs.Table.{RowOk};
 ghost use Rattle.sacn_source.specs.Source.{packet_of};
+ghost use Rattle.sacn_source.specs.Wakes.{IsFirst, IsReached};
 
 use super::SourceCore;
 use crate::source_universe::SourceUniverse;
@@ -40,11 +41,23 @@ impl SourceCore {
         ensures exact { result < last_moment → is_some (row_found (at result self.now)) ≡ true }
     {
         if self.looks.rests_at(self.moment) {
-            return self.rows.first_wake();
+            return self.least_wake();
         }
         match self.rows.first_due(self.looks.from, self.moment) {
             Some(_) => 0,
             None => self.rows.first_wake(),
+        }
+    }
+
+    // The first moment at which a packet is due.
+    fn least_wake(&self) -> u64
+        ensures first { IsFirst self.now.table.rows result }
+        ensures reached { IsReached self.now.table.rows result }
+    {
+        if self.looks.is_exact {
+            self.looks.least
+        } else {
+            self.rows.first_wake()
         }
     }
 
@@ -94,6 +107,7 @@ impl SourceCore {
             Some(place) => Some(place),
             None => {
                 self.looks.least = self.rows.first_wake();
+                self.looks.is_exact = true;
                 None
             }
         }

@@ -12,4 +12,4 @@ pub returns-in-None-clause-found : goal.returns-in-None-clause-found
 returns-in-None-clause-found c = place_from _ c.args.self.now _ None c.self.view_is c.self.invariant.1 c.in-None.ensures
 
 pub invariant_of-self : goal.invariant_of-self
-invariant_of-self c = (c.self.invariant.0, looked_none _ _ _ c.self.invariant.1 c.first_wake-self-inside.ensures.first)
+invariant_of-self c = (c.self.invariant.0, looked_none _ _ _ c.self.invariant.1 c.first_wake-self-inside.ensures.first c.first_wake-self-inside.ensures.reached)

@@ -8,7 +8,7 @@ use Rattle.sacn_source.proofs.Waking.{looked_sent}
 use Rattle.sacn_source.proofs.source.SourceCore.give_packet.Goals as goal
 
 pub invariant_of-self : goal.invariant_of-self
-invariant_of-self c = (ok_given _ _ c.self.invariant.0, looked_sent _ _ _ c.args.place _ c.self.invariant.1 c.passed-self-inside.ensures.least c.passed-self-inside.ensures.from c.note_packet.ensures)
+invariant_of-self c = (ok_given _ _ c.self.invariant.0, looked_sent _ _ _ c.args.place _ c.self.invariant.1 c.passed-self-inside.ensures.least c.passed-self-inside.ensures.exact c.passed-self-inside.ensures.from c.note_packet.ensures)
 
 pub returns-clause-answer : goal.returns-clause-answer
 returns-clause-answer c =

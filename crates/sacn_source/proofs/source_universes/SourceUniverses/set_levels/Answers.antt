@@ -21,4 +21,4 @@ returns-clause-answer c = rw (levels_few c.args.self.now c.args.universe c.in_ok
 pub returns-clause-table : goal.returns-clause-table
 returns-clause-table c = λ first p.
     rw (levels_few c.args.self.now c.args.universe c.in_ok-place.place c.args.levels.now (rw c.in_ok-place.ensures.ok_part at c.place_of.ensures.found).1 c.if-levels-gt-SLOTS.false)
-    (c.show.ensures ∙ changed_is c.args.self.now c.in_ok-place.place c.args.universe (row_showing (slots_of c.args.levels.now)) (rw c.in_ok-place.ensures.ok_part at c.place_of.ensures.found).2)
+    (c.show.ensures.changed ∙ changed_is c.args.self.now c.in_ok-place.place c.args.universe (row_showing (slots_of c.args.levels.now)) (rw c.in_ok-place.ensures.ok_part at c.place_of.ensures.found).2)
