@@ -51,7 +51,7 @@ fi
 (cd "$room" && "${cross}ar" rcs libsacn.a ./*.o)
 # The shared object gives out what the header names, and not the proved calls beneath, which refuse no null pointer.
 printf '{ global: %s local: *; };\n' "$(grep -oE '\bsacn_[a-z_]+\(' "$top/include/sacn.h" | tr '(' ';' | sort -u | tr -d '\n')" >"$room/names"
-"$compiler" -shared -o "$room/libsacn.so.1" -Wl,--whole-archive "$room/libsacn.a" -Wl,--no-whole-archive -Wl,--version-script="$room/names" -Wl,-soname,libsacn.so.1 ||
+"$compiler" -shared -o "$room/libsacn.so.1" -Wl,--whole-archive "$room/libsacn.a" -Wl,--no-whole-archive -Wl,--version-script="$room/names" -Wl,-soname,libsacn.so.1 -Wl,-z,now ||
   echo "sacn: the archive makes no shared object here" >&2
 
 install -m 644 "$top/include/sacn.h" "$top/bindings/cxx/sacn.hpp" "$prefix/include/"

@@ -99,7 +99,16 @@ control() {
   cat
 }
 
+# debian FILE: packs what is laid out, with the sums of its files, and what lintian is answered.
 debian() {
+  local name=${1%%_*} sums
+  if [ -f "$top/packaging/$name.lintian-overrides" ]; then
+    install -d "$root/usr/share/lintian/overrides"
+    install -m 644 "$top/packaging/$name.lintian-overrides" "$root/usr/share/lintian/overrides/$name"
+  fi
+  sums=$(cd "$root" && find . -path ./DEBIAN -prune -o -type f -printf '%P\0' | LC_ALL=C sort -z | xargs -0 md5sum)
+  echo "$sums" >"$root/DEBIAN/md5sums"
+  chmod 644 "$root/DEBIAN/md5sums"
   find "$root" -newermt "@$moment" -print0 | xargs -0r touch -h -d "@$moment"
   dpkg-deb --root-owner-group -Zxz --build "$root" "$folder/$1" >/dev/null
   say "made $folder/$1"
@@ -111,8 +120,7 @@ for pair in x86_64:amd64 aarch64:arm64; do
   tree "$root" "$processor"
   tar -C "$room" --owner=0 --group=0 --numeric-owner --sort=name --mtime="@$moment" -czf "$folder/sacn_${version}_$architecture.tar.gz" "${root##*/}"
   say "made $folder/sacn_${version}_$architecture.tar.gz"
-  install -d "$root/DEBIAN" "$root/usr/share/lintian/overrides"
-  install -m 644 "$top/packaging/sacn.lintian-overrides" "$root/usr/share/lintian/overrides/sacn"
+  install -d "$root/DEBIAN"
   install -m 755 "$top/packaging/postrm" "$root/DEBIAN/postrm"
   control "$architecture" sacn "bash (>= 4.4), libc6 (>= 2.34)" net >"$root/DEBIAN/control" <<'TEXT'
 Suggests: rlwrap
