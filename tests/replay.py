@@ -3,6 +3,9 @@
 replay.py make              writes the recordings, and what of them is to be heard: a line of digits for each datagram, in files of that name
 replay.py hear FILE WORD..  notes each datagram in a line of a file: the milliseconds of the machine's clock, the port, and its octets. A word is a port of 127.0.0.1, or
                             GROUP:PORT; it prints `hears` once it does.
+replay.py packets FILE      the data packets of such a file, a line each: universe, number, `ends` of a terminated one, else `sends`, priority, the CID's last octet, name, and the
+                            levels of slots 1 to 3; of a page `page`, the CID's last octet, and its universes
+replay.py runs FILE         whether the packets of each universe have numbers that follow one another behind the first, and end with three terminated ones
 """
 
 import selectors
@@ -91,6 +94,15 @@ def make():
     for place in range(6, 9):
         recording.sent(2100 + 200 * (place - 6), 3, e131.data(1, place, [20 + place] * 3))
     recording.close()
+    # Two sources of one priority on universe 1, whose slots are merged by the highest: 50, 200, 30 and from a second on 50, 100, 30. One of them alone on 2, and on 9.
+    recording = e131.Recording("pair.pcap")
+    for place in range(9):
+        recording.sent(200 * place, 3, e131.data(1, place, [10, 200 if place < 5 else 20, 0]))
+        recording.sent(200 * place, 4, e131.data(1, place, [50, 100, 30], cid=other, name=b"Other"))
+        recording.sent(200 * place, 3, e131.data(2, place, [7, 8, 9]))
+        recording.sent(200 * place, 3, e131.data(9, place, [99, 98, 97]))
+    recording.sent(1600, 3, PAGE)
+    recording.close()
 
 
 def socket_of(word):
@@ -119,7 +131,41 @@ def hear(path, words):
                 text.flush()
 
 
+def heard_in(path):
+    with open(path, encoding="ascii") as text:
+        return [bytes.fromhex(line.split()[2]) for line in text]
+
+
+def packets(path):
+    for octets in heard_in(path):
+        packet = e131.read(octets)
+        if packet:
+            ends = "ends" if packet.options & e131.TERMINATED else "sends"
+            print(packet.universe, packet.number, ends, packet.priority, packet.cid[15], packet.name.decode(), *packet.slots[:3])
+        else:
+            print("page", octets[37], *struct.unpack(f">{len(octets[120:]) // 2}H", octets[120:]))
+
+
+def runs(path):
+    found = {}
+    for packet in filter(None, map(e131.read, heard_in(path))):
+        found.setdefault(packet.universe, []).append(packet)
+    for universe, sent in found.items():
+        numbers = [packet.number for packet in sent]
+        # (a copy goes before the first one, with a number less by 20)
+        if numbers[0] != (numbers[1] - 20) % 256 or any((number + 1) % 256 != behind for number, behind in zip(numbers[1:], numbers[2:])):
+            sys.exit(f"universe {universe} has the numbers {numbers}")
+        ended = [bool(packet.options & e131.TERMINATED) for packet in sent]
+        if ended[-3:] != [True] * 3 or any(ended[:-3]):
+            sys.exit(f"universe {universe} ends {ended}")
+    print(*sorted(found))
+
+
 if sys.argv[1] == "make":
     make()
-else:
+elif sys.argv[1] == "hear":
     hear(sys.argv[2], sys.argv[3:])
+elif sys.argv[1] == "packets":
+    packets(sys.argv[2])
+else:
+    runs(sys.argv[2])

@@ -221,7 +221,8 @@ refused "a file that isn't there" 4 "device read absent" absent
 refused "no file" 2 "error: *"
 refused "standard input as its file" 2 "error: -: InputTaken" -
 refused "a speed of 0" 2 "error: --speed: a speed is 0.001 to 1000" evening.pcap --speed 0
-refused "a speed below 0" 2 "error: --speed: a speed is a number such as 2, 0.5 or 1.25" evening.pcap --speed=-1
+refused "a speed below 0" 2 "error: --speed: a speed is 0.001 to 1000, as 2, 0.5 or 1.25" evening.pcap --speed=-1
+refused "a speed above 1000" 2 "error: --speed: a speed is 0.001 to 1000, as 2, 0.5 or 1.25" evening.pcap --speed 10000
 refused "a beginning in words" 2 "error: --from: it is seconds behind the first datagram, as 90 or 12.5" evening.pcap --from noon
 refused "an end before the beginning" 2 "error: --until: it lies before --from" evening.pcap --from 2 --until 1
 refused "a universe that carries no data" 2 "error: 0=1: Universe" evening.pcap --universe 0=1
@@ -261,6 +262,90 @@ wait "$gateway" 2>/dev/null
 # (14 packets change a frame: six and three of the one, three of the other, its end, and the start)
 [ "$(wc -l <wanted)" = 14 ] && digits frames | head -n 14 | cmp -s - wanted
 verdict "a node shows frame for frame what explain says of the recording" $? "$(digits frames | wc -l) of $(wc -l <wanted)"
+
+# Played as the source of a show, which has no cues and three universes; the recording has the first two of them, and another one.
+cat >backup.toml <<'S'
+version = 1
+cid = "00010203-0405-0607-0809-0a0b0c0d0eff"
+name = "Backup"
+priority = 90
+universes = [1, 2, 3]
+S
+packets() { python3 "$looks" packets heard; }
+# levels U: the levels that came on a universe, each once behind another
+levels() { packets | awk -v u="$1" '$1 == u {print $7, $8, $9}' | uniq | paste -s -d , ; }
+hears "$port"
+status=0
+timeout 60 "$sacn" replay pair.pcap --as backup.toml --to "127.0.0.1:$port" </dev/null >said 2>err || status=$?
+all_ended() { [ "$(packets | grep -c ' ends ')" -ge 9 ]; }
+wait_until all_ended
+deafens
+[ "$(head -n 1 err)" = "plays pair.pcap as \"Backup\" 0001..ff priority 90 universes 1-3 to 127.0.0.1:$port" ]
+verdict "as a show's source: it says as whom it plays" $? "$(head -n 1 err)"
+[ "$status" = 0 ] && grep -qxE "played 27 datagrams, passed over 9 of other universes, sent [0-9]+" err && [ ! -s said ]
+verdict "and what it took, passed over and sent" $? "status $status, $(tail -n 1 err)"
+[ "$(packets | awk '$1 != "page" {print $4, $5, $6}' | sort -u)" = "90 255 Backup" ]
+verdict "CID, name and priority are the show's" $? "$(packets | cut -d ' ' -f 4-6 | sort -u | paste -s -d ,)"
+[ "$(levels 1)" = "50 200 30,50 100 30" ] && [ "$(levels 2)" = "7 8 9" ] && [ "$(levels 3)" = "0 0 0" ]
+verdict "levels are the merge of the recorded sources" $? "$(levels 1); $(levels 2); $(levels 3)"
+[ "$(python3 "$looks" runs heard 2>&1)" = "1 2 3" ]
+verdict "the show's universes alone are sent, their numbers run on, and each ends with three terminated packets" $? "$(python3 "$looks" runs heard 2>&1)"
+[ "$(packets | grep '^page')" = "page 255 1 2 3" ]
+verdict "a page of discovery lists them" $? "$(packets | grep '^page')"
+
+hears "$port"
+begins pair.pcap --as backup.toml --loop --universe 9=3
+# (past the end of the second turn, by the levels with which each turn begins)
+turns() { [ "$(packets | awk '$1 == 1 {print $8}' | uniq | grep -c 200)" -ge "$1" ]; }
+wait_until turns 3
+answers pause '^ok paused at [0-9]+\.[0-9]{3} s$'
+answers status '^paused at [0-9]+\.[0-9]{3} s, speed 1, taken [0-9]+, left out 0$'
+held=$(packets | awk '$1 == 1 {print $7, $8, $9}' | tail -n 1)
+count=$(packets | grep -c '^1 ')
+# (more than the repeats behind a change)
+stays() { [ "$(packets | grep -c '^1 ')" -ge $((count + 5)) ]; }
+wait_until stays
+[ "$(packets | awk '$1 == 1 {print $7, $8, $9}' | tail -n 1)" = "$held" ]
+verdict "while it is paused its light stays, and is kept alive" $? "$held; $(packets | grep '^1 ' | tail -n 5 | paste -s -d ,)"
+ends
+wait_until all_ended
+deafens
+[ "$status" = 0 ] && [ "$(python3 "$looks" runs heard 2>&1)" = "1 2 3" ]
+verdict "numbers go on in a loop and over a pause, and the end of its orders ends it so" $? "status $status, $(python3 "$looks" runs heard 2>&1)"
+[ "$(levels 3)" = "99 98 97" ] && grep -qxE "played [0-9]+ datagrams, sent [0-9]+" err
+verdict "a universe of the recording under a number of the show" $? "$(levels 3), $(tail -n 1 err)"
+hears "$port"
+timeout 60 "$sacn" replay pair.pcap --as backup.toml --universe 1=2 --to "127.0.0.1:$port" </dev/null >said 2>err
+wait_until all_ended
+deafens
+[ "$(levels 1)" = "0 0 0" ] && [ "$(levels 2)" = "50 200 30,50 100 30" ] && grep -qxE "played 18 datagrams, passed over 18 of other universes, sent [0-9]+" err
+verdict "one in whose place another is sent is left out" $? "$(levels 1); $(levels 2), $(tail -n 1 err)"
+
+# Stopped for longer than 2500 ms it skips what is older by then, and goes on as the same source.
+hears "$port"
+begins long.pcap --as backup.toml
+wait_until has 12
+kill -STOP "$player"
+# (that long is what is looked at)
+sleep 3.5
+kill -CONT "$player"
+answers status '^plays at [0-9]+\.[0-9]{3} s, speed 1, taken [0-9]+, left out [1-9][0-9]*$'
+types quit
+status=0
+wait_for_end "$player" || status=$?
+exec 4>&-
+wait_until all_ended
+deafens
+[ "$status" = 0 ] && [ "$(python3 "$looks" runs heard 2>&1)" = "1 2 3" ] && grep -qE 'left out [1-9][0-9]* that were more than 2500 ms late, sent' err
+verdict "after a stop it leaves out what is late, and its numbers run on" $? "status $status, $(python3 "$looks" runs heard 2>&1), $(tail -n 1 err)"
+sed 's/\[1, 2, 3\]/[5]/' backup.toml >five.toml
+sed 's/^name/names/' backup.toml >faulty.toml
+refused "a recording without the show's universes" 3 "pair.pcap: it has no data packet to UDP port 5568 of a universe of five.toml; --universe and --port name others" pair.pcap --as five.toml
+refused "a faulty show" 3 "refused faulty.toml UnknownKey*" pair.pcap --as faulty.toml
+refused "a setup in its place" 3 "refused node.toml *" pair.pcap --as node.toml
+grep -qx 'node.toml: this is a setup, which sacn gateway runs' err
+verdict "which it says" $? "$(paste -s -d ' ' err)"
+refused "a show that isn't there" 4 "device read absent" pair.pcap --as absent
 
 # Under the launcher, which looks names up and ends it by a signal. On a terminal nothing stands between its keys and the orders, and it has its modes back at the end.
 cat >terminal.py <<'P'

@@ -92,7 +92,8 @@ pub fn setup_of_word<R: AllocGlobal + Files, I: Read + Drop, E: Write>(
     }
 }
 
-fn show_of_file<R: AllocGlobal + Files, E: Write>(
+/// The show in a file. One that is refused is said, as `check` does.
+pub fn show_of_file<R: AllocGlobal + Files, E: Write>(
     rt: &R,
     path: &str,
     err: &mut E,

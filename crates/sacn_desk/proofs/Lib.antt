@@ -5,5 +5,5 @@ mod FairEnds
 mod FairDesks
 mod SendingLists
 mod SendingPlaces
-mod Handing
+pub mod Handing
 mod Copies

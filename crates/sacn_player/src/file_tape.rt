@@ -1,6 +1,7 @@
 //! A recording in a file.
+use crate::tape_choice::{Chosen, TapeChoice};
 use sacn_capture::{Capture, CaptureFault, FaultKind, Record};
-use sacn_replay::{RecordReader, UniverseMap};
+use sacn_replay::RecordReader;
 use std::alloc::{AllocError, Global};
 use std::fs::OpenFile;
 use std::io::{self, BufReader, ErrorKind, Seek, SeekFrom};
@@ -9,17 +10,18 @@ use std::rt::Files;
 /// The octets of a recording that are read at once.
 const ROOM: usize = 65_536;
 
-/// The datagrams of a recording in a file that went to one UDP port, universes under the numbers of a map. A faulty file is played up to its
-/// fault. Memory doesn't grow with the file.
+/// The datagrams of a recording in a file that are played by a choice. A faulty file is played up to its fault. Memory doesn't grow with
+/// the file.
 #[derive(Drop)]
 pub struct FileTape<R: Files> {
     alloc: Global,
     file: R::File,
     capture: Option<Capture<BufReader<R::File>>>,
-    port: u16,
-    universes: UniverseMap,
-    /// The moment of the first datagram that has one, in milliseconds since 1970.
+    choice: TapeChoice,
+    /// The moment of the first datagram to the port that has one, in milliseconds since 1970.
     first: Option<u64>,
+    /// How many data packets of other universes than the choice's were read.
+    others: u64,
     /// Whether the next datagram was read: its octets, and its moment, None where there is no further one.
     is_read: bool,
     moment: Option<u64>,
@@ -38,40 +40,46 @@ fn fault_of(kind: ErrorKind) -> CaptureFault {
 
 // What came of a look at a frame.
 enum Kept {
-    /// It carries a datagram to the port, which is kept; its moment, in milliseconds since 1970.
+    /// It carries a datagram that is played, which is kept; its moment, in milliseconds since 1970.
     Datagram(Option<u64>),
+    /// It carries another one to the port; its moment, and whether that is a data packet.
+    Other(Option<u64>, bool),
     Nothing,
 }
 
-// Keeps the octets of a frame's datagram, where it went to this port.
-fn keep(record: &Record<'_>, port: u16, octets: &mut Vec<u8>) -> Result<Kept, AllocError> {
-    match record.content {
-        Ok(datagram) if datagram.destination_port == port => {
+// Keeps the octets of a frame's datagram, where it is played.
+fn keep(
+    record: &Record<'_>,
+    choice: &TapeChoice,
+    octets: &mut Vec<u8>,
+) -> Result<Kept, AllocError> {
+    let datagram = match record.content {
+        Ok(datagram) if datagram.destination_port == choice.port => datagram,
+        _ => return Ok(Kept::Nothing),
+    };
+    match choice.of(datagram.payload) {
+        Chosen::Played => {
             octets.clear();
             octets.extend_from_slice(datagram.payload)?;
             Ok(Kept::Datagram(record.moment))
         }
-        _ => Ok(Kept::Nothing),
+        Chosen::OtherUniverse => Ok(Kept::Other(record.moment, true)),
+        Chosen::NoData => Ok(Kept::Other(record.moment, false)),
     }
 }
 
 impl<R: Files> FileTape<R> {
-    /// The recording in a file, from its first datagram to this port on.
+    /// The recording in a file, from the first datagram on that is played by this choice.
     ///
     /// Errors: those of `Capture::open`, and of the machine's files.
-    pub fn open(
-        alloc: Global,
-        file: R::File,
-        port: u16,
-        universes: UniverseMap,
-    ) -> Result<Self, CaptureFault> {
+    pub fn open(alloc: Global, file: R::File, choice: TapeChoice) -> Result<Self, CaptureFault> {
         let mut tape = FileTape {
             alloc,
             file,
             capture: None,
-            port,
-            universes,
+            choice,
             first: None,
+            others: 0,
             is_read: false,
             moment: None,
             octets: Vec::new(alloc),
@@ -87,9 +95,14 @@ impl<R: Files> FileTape<R> {
         self.fault
     }
 
-    /// The moment of its first datagram, in milliseconds since 1970.
+    /// The moment of its first datagram to the port, in milliseconds since 1970.
     pub fn first(&self) -> Option<u64> {
         self.first
+    }
+
+    /// How many data packets of other universes than the choice's were read so far.
+    pub fn others(&self) -> u64 {
+        self.others
     }
 
     /// Whether there is a datagram to play.
@@ -124,7 +137,7 @@ impl<R: Files> FileTape<R> {
         if self.moment.is_none() {
             self.octets.clear();
         }
-        self.universes.rewrite(self.octets.as_mut_slice());
+        self.choice.universes.rewrite(self.octets.as_mut_slice());
     }
 
     // The next datagram's moment, in milliseconds since the first one's; one without a moment has that of the first.
@@ -133,10 +146,19 @@ impl<R: Files> FileTape<R> {
             match self.look()? {
                 None => return Ok(None),
                 Some(Kept::Nothing) => {}
+                Some(Kept::Other(moment, is_data)) => self.pass_over(moment, is_data),
                 Some(Kept::Datagram(moment)) => return Ok(Some(self.since_first(moment))),
             }
         }
         Ok(None)
+    }
+
+    // Passes over a datagram that isn't played.
+    fn pass_over(&mut self, moment: Option<u64>, is_data: bool) {
+        let _ = self.since_first(moment);
+        if is_data {
+            self.others = self.others.saturating_add(1);
+        }
     }
 
     // Looks at the next frame; None at the end.
@@ -146,7 +168,7 @@ impl<R: Files> FileTape<R> {
         };
         match capture.next()? {
             None => Ok(None),
-            Some(record) => match keep(&record, self.port, &mut self.octets) {
+            Some(record) => match keep(&record, &self.choice, &mut self.octets) {
                 Ok(kept) => Ok(Some(kept)),
                 Err(_) => Err(fault_of(ErrorKind::OutOfMemory)),
             },

@@ -1,5 +1,6 @@
 //! Moments as they are typed.
 use sacn_files::words::number_in;
+use sacn_replay::decimals_in;
 
 /// The most seconds that a word says: more than thirty years.
 const MAX_SECONDS: u64 = 1_000_000_000;
@@ -10,21 +11,10 @@ const MINUTE: u64 = 60_000;
 /// The milliseconds of a day.
 const DAY: u64 = 24 * 60 * MINUTE;
 
-/// The milliseconds that decimals of a second are, one to three.
-fn decimal_millis(digits: &str) -> Option<u64> {
-    let value = number_in(999, digits)?;
-    match digits.len() {
-        1 => Some(value.saturating_mul(100)),
-        2 => Some(value.saturating_mul(10)),
-        3 => Some(value),
-        _ => None,
-    }
-}
-
 /// The milliseconds of seconds, as `90` or `12.5`: at most 1000000000, with one to three decimals behind a point.
 pub fn millis_in(word: &str) -> Option<u64> {
     let (whole, decimals) = match word.split_once('.') {
-        Some((whole, digits)) => (whole, decimal_millis(digits)?),
+        Some((whole, digits)) => (whole, u64::from(decimals_in(digits.as_bytes())?)),
         None => (word, 0),
     };
     let seconds = number_in(MAX_SECONDS, whole)?;

@@ -1,5 +1,5 @@
 //! What a player says.
-use sacn_desk::{Destination, Destinations, write_range};
+use sacn_desk::{Destination, Destinations, write_range, write_ranges};
 use sacn_replay::{ReplayCore, ReplayCounts, Speed, UNIT_SPEED};
 use std::io::{self, Write};
 
@@ -37,7 +37,7 @@ fn write_speed<O: Write>(out: &mut O, speed: Speed) -> io::Result<()> {
     }
 }
 
-fn write_status<O: Write>(out: &mut O, core: &ReplayCore) -> io::Result<()> {
+fn write_status<O: Write>(out: &mut O, core: &ReplayCore, played: &str) -> io::Result<()> {
     let word = if core.head().is_paused() {
         "paused at "
     } else {
@@ -48,7 +48,7 @@ fn write_status<O: Write>(out: &mut O, core: &ReplayCore) -> io::Result<()> {
     out.write_all(b", speed ")?;
     write_speed(out, core.head().speed())?;
     let counts = core.counts();
-    writeln!(out, ", sent {}, left out {}", counts.sent, counts.stale)
+    writeln!(out, ", {played} {}, left out {}", counts.sent, counts.stale)
 }
 
 fn write_ok<O: Write>(out: &mut O, word: &str, core: &ReplayCore) -> io::Result<()> {
@@ -57,11 +57,12 @@ fn write_ok<O: Write>(out: &mut O, word: &str, core: &ReplayCore) -> io::Result<
     out.write_all(b"\n")
 }
 
-/// Answers an order, which holds by now.
+/// Answers an order, which holds by now; a status says by this word what was done with the datagrams that were played.
 pub(crate) fn write_answer<O: Write>(
     out: &mut O,
     answer: Answer,
     core: &ReplayCore,
+    played: &str,
 ) -> io::Result<()> {
     match answer {
         Answer::Paused => write_ok(out, "paused at", core),
@@ -72,7 +73,7 @@ pub(crate) fn write_answer<O: Write>(
             write_speed(out, core.head().speed())?;
             out.write_all(b"\n")
         }
-        Answer::Status => write_status(out, core),
+        Answer::Status => write_status(out, core, played),
     }
 }
 
@@ -88,14 +89,37 @@ fn write_host<O: Write>(out: &mut O, host: &Destination) -> io::Result<()> {
     write!(out, "{sign}{a}.{b}.{c}.{d}:{}", host.address.port())
 }
 
-/// Writes what is played and where it goes, in a line.
+/// As whom a recording is played.
+#[derive(Clone, Copy)]
+pub struct PlayedAs<'a> {
+    /// The source's name and its CID, as a line has them.
+    pub name: &'a str,
+    pub priority: u8,
+    /// Its universes, ascending.
+    pub universes: &'a [u16],
+}
+
+fn write_source<O: Write>(out: &mut O, source: &PlayedAs<'_>) -> io::Result<()> {
+    write!(
+        out,
+        " as {} priority {} universes ",
+        source.name, source.priority
+    )?;
+    write_ranges(out, source.universes)
+}
+
+/// Writes what is played and where it goes, in a line; and as whom, where it is played as a source.
 pub fn write_start<O: Write>(
     out: &mut O,
     name: &str,
+    source: Option<&PlayedAs<'_>>,
     places: &Destinations,
     speed: Speed,
 ) -> io::Result<()> {
     write!(out, "plays {name}")?;
+    if let Some(source) = source {
+        write_source(out, source)?;
+    }
     let mut between = " to ";
     for host in places.hosts.as_slice() {
         out.write_all(between.as_bytes())?;
@@ -112,9 +136,8 @@ pub fn write_start<O: Write>(
     out.write_all(b"\n")
 }
 
-/// Writes what was played, in a line: how many datagrams went out, how many were more than 2500 ms late and so left out (E1.31, 6.7.1), and
-/// how many weren't taken by each destination.
-pub fn write_totals<O: Write>(out: &mut O, counts: &ReplayCounts, failed: u64) -> io::Result<()> {
+// How many datagrams were played, and how many were more than 2500 ms late and so left out (E1.31, 6.7.1).
+fn write_played<O: Write>(out: &mut O, counts: &ReplayCounts) -> io::Result<()> {
     let word = if counts.sent == 1 {
         "datagram"
     } else {
@@ -128,8 +151,41 @@ pub fn write_totals<O: Write>(out: &mut O, counts: &ReplayCounts, failed: u64) -
             counts.stale
         )?;
     }
+    Ok(())
+}
+
+fn write_failed<O: Write>(out: &mut O, failed: u64) -> io::Result<()> {
     if failed > 0 {
         write!(out, ", failed {failed}")?;
     }
     out.write_all(b"\n")
+}
+
+/// Writes what was played, in a line: how many datagrams went out, how many were left out, and how many weren't taken by each destination.
+pub fn write_totals<O: Write>(out: &mut O, counts: &ReplayCounts, failed: u64) -> io::Result<()> {
+    write_played(out, counts)?;
+    write_failed(out, failed)
+}
+
+/// What came of a recording that was played as a source.
+#[derive(Clone, Copy)]
+pub struct SourceTotals {
+    /// What was done with its datagrams.
+    pub counts: ReplayCounts,
+    /// How many of its data packets were of no universe of the show.
+    pub others: u64,
+    /// How many packets the source sent.
+    pub sent: u64,
+    /// How many weren't taken by each destination.
+    pub failed: u64,
+}
+
+/// Writes what came of a recording that was played as a source, in a line.
+pub fn write_source_totals<O: Write>(out: &mut O, totals: &SourceTotals) -> io::Result<()> {
+    write_played(out, &totals.counts)?;
+    if totals.others > 0 {
+        write!(out, ", passed over {} of other universes", totals.others)?;
+    }
+    write!(out, ", sent {}", totals.sent)?;
+    write_failed(out, totals.failed)
 }

@@ -30,6 +30,8 @@ pub struct TypedOrders<'a, R, O> {
     ahead: Option<Result<PlayLine, LineFault>>,
     // What is answered once the latest order holds.
     answer: Option<Answer>,
+    // What a status says of the datagrams that were played: that they were sent, or taken by a source.
+    played: &'static str,
     is_absent: bool,
     has_ended: bool,
     write_failed: bool,
@@ -47,9 +49,18 @@ impl<'a, R: MachineClock, O: Write> TypedOrders<'a, R, O> {
             first,
             ahead: None,
             answer: None,
+            played: "sent",
             is_absent: false,
             has_ended: false,
             write_failed: false,
+        }
+    }
+
+    /// The same, of a recording that is played as a source: a status says how many datagrams were taken.
+    pub fn as_source(self) -> Self {
+        TypedOrders {
+            played: "taken",
+            ..self
         }
     }
 
@@ -176,6 +187,11 @@ impl<'a, R: MachineClock, O: Write> PlayOrders for TypedOrders<'a, R, O> {
         wait_readable(input, NO_DESCRIPTOR, NO_DESCRIPTOR, millis);
     }
 
+    fn rest(&mut self, until: u64) {
+        let millis = self.clock.millis_until(until);
+        wait_readable(NO_DESCRIPTOR, NO_DESCRIPTOR, NO_DESCRIPTOR, millis);
+    }
+
     fn next(&mut self, now: u64) -> Option<PlayOrder> {
         for _ in 0..MAX_LINES {
             if self.has_ended || self.answer.is_some() {
@@ -192,7 +208,7 @@ impl<'a, R: MachineClock, O: Write> PlayOrders for TypedOrders<'a, R, O> {
 
     fn look(&mut self, core: &ReplayCore) {
         if let Some(answer) = self.answer.take() {
-            let written = write_answer(&mut self.out, answer, core);
+            let written = write_answer(&mut self.out, answer, core, self.played);
             self.note_write(written);
         }
     }

@@ -9,7 +9,7 @@ pub enum ReplayFault {
     #[error("a speed is 0.001 to 1000")]
     SpeedRange,
     /// A word that is no number of at most four digits and three decimals.
-    #[error("a speed is a number such as 2, 0.5 or 1.25")]
+    #[error("a speed is 0.001 to 1000, as 2, 0.5 or 1.25")]
     SpeedWord,
     /// A universe that carries no data (E1.31, 6.2.7).
     #[error("a universe is 1 to 63999")]

@@ -1,4 +1,4 @@
-//! A tape over memory, for tests.
+//! A tape over memory, which tells its records.
 
 ghost use Rattle.std.specs.Prelude.{◌≡◌, Some};
 ghost use Rattle.sacn_replay.specs.MemoryTapes.{reel_of, tape_told};

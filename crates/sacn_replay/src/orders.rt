@@ -2,7 +2,7 @@
 
 ghost use Rattle.std.specs.Prelude.{List, [], ◌∷◌, None, Option};
 ghost use Rattle.sacn_edge.specs.Additions.{Extends};
-ghost use Rattle.sacn_replay.specs.Talks.{Talk, Waited, Asked, Looked, EndAsked};
+ghost use Rattle.sacn_replay.specs.Talks.{Talk, Waited, Rested, Asked, Looked, EndAsked};
 
 use crate::replay::ReplayCore;
 use crate::speed::Speed;
@@ -28,6 +28,10 @@ pub trait PlayOrders {
     /// Waits until an order may be there, or until its clock reads this moment, whichever comes first. It may come back before.
     fn wait(&mut self, until: u64)
         ensures told { Extends (told self.old) (told self.new) (Waited until ∷ []) };
+
+    /// Waits until its clock reads this moment, whatever orders are there. It may come back before.
+    fn rest(&mut self, until: u64)
+        ensures told { Extends (told self.old) (told self.new) (Rested until ∷ []) };
 
     /// The next order that is there at this reading, without waiting.
     fn next(&mut self, now: u64) -> Option<PlayOrder>

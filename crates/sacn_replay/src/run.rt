@@ -17,12 +17,12 @@ use crate::replay::ReplayCore;
 use crate::step::Step;
 use sacn_edge::{Clock, Link};
 
-/// The most steps of a round. What is due behind them waits for the next one, so that an order is heard in between.
+/// The most steps of a round. What is due behind them waits for the next one, which comes at once.
 pub const MAX_STEPS: usize = 4096;
 
 /// What comes after a round.
 #[derive(Clone, Copy)]
-enum Next {
+pub enum Next {
     /// The next round, at once.
     Round,
     /// The next round, once this moment is there or an order.
@@ -164,7 +164,7 @@ fn hand_over<T: RecordReader, L: Link>(tape: &T, link: &mut L, step: Step)
 }
 
 /// Winds the tape to the record that is next after a step.
-fn wind<T: RecordReader>(tape: &mut T, step: Step)
+pub fn wind<T: RecordReader>(tape: &mut T, step: Step)
     ensures { T.told tape.new ≡ option_map (wound step) (T.told tape.old) }
 {
     match step {
@@ -175,7 +175,7 @@ fn wind<T: RecordReader>(tape: &mut T, step: Step)
 }
 
 /// Whether no other step is made at the same reading.
-fn has_to_wait(step: Step) -> bool
+pub fn has_to_wait(step: Step) -> bool
     ensures { result ≡ has_to_wait step }
 {
     match step {
@@ -185,7 +185,7 @@ fn has_to_wait(step: Step) -> bool
 }
 
 /// Takes an order, where the player has to wait. Returns whether one was there.
-fn take_order<O: PlayOrders>(
+pub fn take_order<O: PlayOrders>(
     orders: &mut O,
     core: &mut ReplayCore,
     now: u64,
@@ -220,7 +220,7 @@ fn give(core: &mut ReplayCore, now: u64, order: PlayOrder)
 }
 
 /// What comes after a round: after an order, and after the most steps, the next one at once.
-fn next_of(came_to: Option<Step>, is_ordered: bool) -> Next
+pub fn next_of(came_to: Option<Step>, is_ordered: bool) -> Next
     ensures { result ≡ next_of came_to is_ordered }
 {
     if is_ordered {
@@ -235,7 +235,7 @@ fn next_of(came_to: Option<Step>, is_ordered: bool) -> Next
 }
 
 /// Ends a round, and waits where the player has to. Returns whether it was the last.
-fn close<O: PlayOrders>(orders: &mut O, next: Next) -> bool
+pub fn close<O: PlayOrders>(orders: &mut O, next: Next) -> bool
     ensures { (ends : Bool) × Extends (O.told orders.old) (O.told orders.new)
         (closing next ends) × (result ≡ is_over next ends) }
 {

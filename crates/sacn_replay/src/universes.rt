@@ -109,13 +109,15 @@ impl UniverseMap {
         }
     }
 
-    fn has_from(&self, universe: u16) -> bool
+    /// Whether the list sends a universe to a number.
+    pub fn has_from(&self, universe: u16) -> bool
         ensures { result ≡ list_any (λ p. p.from == universe) self.now }
     {
         self.mappings.iter().any(|mapping| mapping.from == universe)
     }
 
-    fn has_to(&self, universe: u16) -> bool
+    /// Whether the list sends a universe to this number.
+    pub fn has_to(&self, universe: u16) -> bool
         ensures { result ≡ list_any (λ p. p.to == universe) self.now }
     {
         self.mappings.iter().any(|mapping| mapping.to == universe)
@@ -142,8 +144,8 @@ fn carries_data(universe: u16) -> bool
     (MIN_UNIVERSE <= universe) & (universe <= MAX_UNIVERSE)
 }
 
-// The universe of a data packet.
-fn universe_in(octets: &[u8]) -> Option<u16>
+/// The universe of a data packet, 1 to 63999; None where the octets are none.
+pub fn universe_in(octets: &[u8]) -> Option<u16>
     ensures value { result ≡ universe_in octets.now }
     ensures range { IfSome result IsUniverse }
     ensures room { IfSome result (λ _. 115 ≤ length octets.now) }

@@ -61,8 +61,8 @@ fn with_point(before: &[u8], behind: &[u8]) -> Option<u32>
     Some(THOUSANDTHS * whole + decimals)
 }
 
-// The number of thousandths that decimals are.
-fn decimals_in(digits: &[u8]) -> Option<u32>
+/// The number of thousandths that decimals are, one to three digits. None where they are others.
+pub fn decimals_in(digits: &[u8]) -> Option<u32>
     ensures value { result ≡ decimals_in digits.now }
     ensures bound { IfSome result (λ n. n ≤ 230000000) }
 {

@@ -121,6 +121,12 @@ pub const REPLAY: Subcommand<'static> = Subcommand {
         TTL,
         BIND,
         Argument {
+            name: "as",
+            help: "Plays it as the source of a show file, by its CID, name, priority and universes: what a node holds of the recording is sent as a desk sends, beside other sources",
+            value: Some("SHOW"),
+            ..OPTION
+        },
+        Argument {
             name: "port",
             help: "The UDP port of the datagrams that are played, else 5568",
             value: Some("P"),
@@ -128,7 +134,7 @@ pub const REPLAY: Subcommand<'static> = Subcommand {
         },
         Argument {
             name: "universe",
-            help: "Sends universe A under the number B, at most 64; no two under one",
+            help: "Sends universe A under the number B, at most 64, no two of them under one; a universe B that isn't sent elsewhere keeps its number beside A, and is left out with --as",
             value: Some("A=B"),
             is_repeated: true,
             ..OPTION

@@ -10,6 +10,8 @@ use std::net::Ipv4Addr;
 #[derive(Drop)]
 pub struct ReplayAsked<'a> {
     pub capture: &'a str,
+    /// The show as whose source it is played, where there is one.
+    pub show: Option<&'a str>,
     /// Empty where nothing says where. No two have one address.
     pub to: Vec<Destination>,
     pub is_multicast: bool,
@@ -34,6 +36,7 @@ pub fn replay_asked<'a>(words: &mut Words<'_, 'a>) -> ReplayAsked<'a> {
     // (its orders are there)
     words.take_input();
     ReplayAsked {
+        show: words.optional_file("as"),
         to,
         is_multicast: words.is_given("multicast"),
         ttl,

@@ -1,0 +1,4 @@
+pub mod Calling
+pub mod Giving
+pub mod Rounding
+pub mod Heard
