@@ -1,14 +1,13 @@
 -- Calls behind calls.
-use Rattle.std.proofs.Common.{◌≡◌, ℕ, suc, ◌+◌, ◌<◌, Bool, List, [], ◌∷◌, ◌++◌, Option, append_assoc, append-nil, refl, sym, ap, subst, ◌∙◌, arith}
+use Rattle.std.proofs.Common.{◌≡◌, ℕ, suc, ◌+◌, Bool, List, [], ◌∷◌, ◌++◌, Option, append_assoc, append-nil, refl, sym, ap, subst, ◌∙◌, arith}
 use Rattle.std.proofs.lemmas.List.{map-append}
 use Rattle.sacn_edge.specs.Additions.{Extends}
 use Rattle.sacn_edge.specs.ConsoleSends.{Handed, datagrams}
 use Rattle.sacn_played_source.specs.Played.{Played}
 use Rattle.sacn_played_source.specs.Calls.{Call, step}
-use Rattle.sacn_replay.specs.declared.step.Step.{Step}
 use Rattle.sacn_replay.specs.Runs.{Player, played}
 use Rattle.sacn_replay.specs.Talks.{Talk}
-use Rattle.sacn_played_run.specs.Calls.{after, given_at, given_by, polls}
+use Rattle.sacn_played_run.specs.Calls.{after, given_at, given_by}
 use Rattle.sacn_played_run.specs.Taking.{calls_at, due_calls}
 use Rattle.sacn_played_run.specs.Endings.{EndRound, end_talk}
 

@@ -1,12 +1,10 @@
 -- What the polls of a source hand over.
-use Rattle.std.proofs.Common.{◌≡◌, ◌≤◌, ℕ, zero, suc, ◌+◌, ◌<◌, true, false, true≢false, Bool, List, [], ◌∷◌, ◌++◌, length, map, take, drop, Option, Some, None, is_some, refl, sym, ap, subst, ◌∙◌, arith, append-nil}
+use Rattle.std.proofs.Common.{◌≡◌, ℕ, suc, ◌+◌, false, true≢false, Bool, List, [], ◌∷◌, ◌++◌, length, take, Option, Some, None, is_some, refl, sym, ap, ◌∙◌, arith}
 use Rattle.std.specs.Option.{option_map}
-use Rattle.std.proofs.lemmas.List.{map-append}
 use Rattle.sacn_console.specs.declared.sender.Sender.{Sender}
 use Rattle.sacn_console.specs.declared.console.DueDatagram.{DueDatagram}
-use Rattle.sacn_console.specs.Lines.{Datagram, Packet, Paged}
+use Rattle.sacn_console.specs.Lines.{Datagram}
 use Rattle.sacn_console.specs.Core.{IsLawful, due_datagram, over, size, text}
-use Rattle.sacn_edge.specs.Hearings.{Transcript, Hands}
 use Rattle.sacn_edge.specs.ConsoleSends.{Handed, datagrams, handed_of, octets_of}
 use Rattle.sacn_edge.proofs.ConsoleLemmas.{front}
 use Rattle.sacn_desk.proofs.Handing.{given_fits}
@@ -15,7 +13,7 @@ use Rattle.sacn_source.specs.Source.{Source, due, at}
 use Rattle.sacn_played_source.specs.Played.{Played, after_poll}
 use Rattle.sacn_played_source.specs.Calls.{Poll}
 use Rattle.sacn_played_run.specs.Calls.{after, given_by, polled, polls}
-use Rattle.sacn_played_run.proofs.Calling.{given_more, after_more}
+use Rattle.sacn_played_run.proofs.Calling.{given_more}
 
 -- the octets that are handed over are those of the datagram that is due
 pub handed_is : (sender : Sender) (o : Option Datagram) (g : DueDatagram) → Some g ≡ option_map due_datagram o → ((d : Datagram) → o ≡ Some d → IsLawful sender d)

@@ -5,7 +5,7 @@ use Rattle.sacn_replay.specs.declared.step.Step.{Step}
 use Rattle.sacn_replay.specs.declared.step.Step.TheVariants.{Wait, Send, Skip, Pass, Again, End, Rest}
 use Rattle.sacn_replay.specs.Reels.{next_moment, next_octets}
 use Rattle.sacn_replay.specs.Runs.{Player, after_rounds, octets_sent, played, run_sends, sends, step_taken}
-use Rattle.sacn_played_source.specs.Played.{Played, new_played}
+use Rattle.sacn_played_source.specs.Played.{new_played}
 use Rattle.sacn_played_source.specs.Calls.{Call, Hear, Advance, Rewind, Poll, EndAll, after_calls, step}
 use Rattle.sacn_played_run.specs.Calls.{after, polls}
 use Rattle.sacn_played_run.specs.Taking.{calls_at, due_calls, moment_or_0, step_calls}

@@ -1,4 +1,4 @@
-use Rattle.std.proofs.Common.{◌≡◌, ◌++◌, ap, ◌∙◌}
+use Rattle.std.proofs.Common.{◌++◌, ap, ◌∙◌}
 use Rattle.sacn_played_source.specs.Played.{Played}
 use Rattle.sacn_played_source.specs.Laws.{levels_on}
 use Rattle.sacn_played_source.proofs.Told.{sends_what_the_list_says}

@@ -1,4 +1,4 @@
-use Rattle.std.proofs.Common.{◌+◌, ◌∷◌, ◌++◌, [], map, refl, sym, subst, ◌∙◌, true≢false, arith}
+use Rattle.std.proofs.Common.{◌∷◌, ◌++◌, [], map, refl, sym, subst, ◌∙◌, true≢false, arith}
 use Rattle.sacn_edge.proofs.NodeLemmas.{Extends-append}
 use Rattle.sacn_edge.proofs.ConsoleLemmas.{Hands-append, Hands-nil}
 use Rattle.sacn_replay.specs.Runs.{after_rounds}
