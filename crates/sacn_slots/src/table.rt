@@ -6,7 +6,9 @@ use crate::layer::SlotLayer;
 use crate::merge::merge_with_priorities;
 use arrayvec::ArrayVec;
 use sacn_packets::{DataView, SLOTS};
-use sacn_sources::{HeldView, Layer, Levels, MAX_SOURCES, NETWORK_DATA_LOSS, SourceTable, TableFault, Taken};
+use sacn_sources::{
+    HeldView, Layer, Levels, MAX_SOURCES, NETWORK_DATA_LOSS, SourceTable, TableFault, Taken,
+};
 use std::alloc::Global;
 use std::marker::Model;
 
