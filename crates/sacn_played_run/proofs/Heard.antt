@@ -1,15 +1,16 @@
 -- What the calls of a run take.
-use Rattle.std.proofs.Common.{◌≡◌, ℕ, zero, suc, List, [], ◌∷◌, ◌++◌, map, append_assoc, append-nil, refl, sym, ap, ◌∙◌}
+use Rattle.std.proofs.Common.{◌≡◌, ℕ, zero, suc, List, [], ◌∷◌, ◌++◌, map, Option, Some, None, append_assoc, append-nil, refl, sym, ap, ◌∙◌}
 use Rattle.sacn_console.specs.declared.sender.Sender.{Sender}
 use Rattle.sacn_replay.specs.declared.step.Step.{Step}
 use Rattle.sacn_replay.specs.declared.step.Step.TheVariants.{Wait, Send, Skip, Pass, Again, End, Rest}
+use Rattle.sacn_replay.specs.Heads as head
 use Rattle.sacn_replay.specs.Reels.{next_moment, next_octets}
 use Rattle.sacn_replay.specs.Runs.{Player, after_rounds, octets_sent, played, run_sends, sends, step_taken}
 use Rattle.sacn_played_source.specs.Played.{new_played}
 use Rattle.sacn_played_source.specs.Calls.{Call, Hear, Advance, Rewind, Poll, EndAll, after_calls, step}
 use Rattle.sacn_played_run.specs.Calls.{after, polls}
 use Rattle.sacn_played_run.specs.Taking.{calls_at, due_calls, moment_or_0, step_calls}
-use Rattle.sacn_played_run.specs.Rounds.{SourceRound, bare, round_calls, run_calls}
+use Rattle.sacn_played_run.specs.Rounds.{SourceRound, advance_calls, bare, round_calls, run_calls}
 use Rattle.sacn_played_run.specs.Endings.{EndRound, end_calls}
 use Rattle.sacn_played_run.specs.Laws.{TakesWhatIsDue, heard_in}
 
@@ -43,8 +44,15 @@ due_hears now (suc n) p =
     ∙ ap (λ (xs : List (List ℕ)). xs ++ heard_in (calls_at now q)) (due_hears now n p)
     ∙ ap (λ (xs : List (List ℕ)). sends now n p ++ xs) (step_hears (step_taken now q) (moment_or_0 (next_moment q.reel.left)) (next_octets q.reel.left))
 
+advance_hears : (came_to : Option Step) (moment : ℕ) (b : List Call) → heard_in (advance_calls came_to moment ++ b) ≡ heard_in b
+advance_hears None moment b = refl
+advance_hears (Some step) moment b = refl
+
 round_hears : (r : SourceRound) (p : Player) → heard_in (round_calls r p) ≡ sends r.round.now r.round.steps p
-round_hears r p = polls_hear r.round.now r.polls _ ∙ due_hears r.round.now r.round.steps p
+round_hears r p =
+    polls_hear r.round.now r.polls (advance_calls r.round.came_to (head.played (played r.round.now r.round.steps p).core.head) ++ due_calls r.round.now r.round.steps p)
+    ∙ advance_hears r.round.came_to (head.played (played r.round.now r.round.steps p).core.head) (due_calls r.round.now r.round.steps p)
+    ∙ due_hears r.round.now r.round.steps p
 
 run_hears : (p : Player) (rs : List SourceRound) → heard_in (run_calls p rs) ≡ run_sends p (map bare rs)
 run_hears p [] = refl

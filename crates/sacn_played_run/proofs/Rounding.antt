@@ -1,5 +1,5 @@
 -- One round after another of a source that plays a recording.
-use Rattle.std.proofs.Common.{◌≡◌, ℕ, zero, suc, min, Bool, List, [], ◌∷◌, ◌++◌, length, Option, is_some, refl, sym, ap, subst, ◌∙◌, arith}
+use Rattle.std.proofs.Common.{◌≡◌, ℕ, zero, suc, min, Bool, List, [], ◌∷◌, ◌++◌, length, Option, Some, None, is_some, refl, sym, ap, subst, ◌∙◌, arith}
 use Rattle.sacn_edge.specs.Additions.{Extends}
 use Rattle.sacn_edge.specs.ConsoleSends.{Handed, datagrams}
 use Rattle.sacn_edge.proofs.NodeLemmas.{Extends-append}
@@ -13,13 +13,13 @@ use Rattle.sacn_replay.specs.Heads as head
 use Rattle.sacn_replay.specs.Reels.{next_moment, next_octets}
 use Rattle.sacn_replay.specs.Talks.{Talk, Looked}
 use Rattle.sacn_replay.specs.Runs.{Player, after_round, asked_for, closing, is_last, is_over, next_of, played, step_taken}
-use Rattle.sacn_played_source.specs.Played.{Played, after_advance}
-use Rattle.sacn_played_source.specs.Calls.{Call, Advance}
+use Rattle.sacn_played_source.specs.Played.{Played}
+use Rattle.sacn_played_source.specs.Calls.{Call}
 use Rattle.sacn_played_run.specs.Calls.{after, given_by, polls}
 use Rattle.sacn_played_run.specs.Taking.{calls_at, due_calls, moment_or_0, step_calls}
-use Rattle.sacn_played_run.specs.Rounds.{SourceRound, loss_reading, next_after, round_calls, sooner, source_talk}
+use Rattle.sacn_played_run.specs.Rounds.{SourceRound, advance_calls, loss_reading, next_after, round_calls, sooner, source_talk}
 use Rattle.sacn_played_run.specs.Endings.{EndRound, AllOwe, AreEndRounds, IsEnd}
-use Rattle.sacn_played_run.proofs.Calling.{after_more, given_both}
+use Rattle.sacn_played_run.proofs.Calling.{after_both, after_more, given_both}
 
 -- ---- what a round says
 
@@ -72,21 +72,31 @@ due_gives now (suc n) p s =
     ∙ ap (λ (xs : List (List ℕ)). xs ++ given_by (calls_at now q) t) (due_gives now n p s)
     ∙ step_gives (step_taken now q) (moment_or_0 (next_moment q.reel.left)) (next_octets q.reel.left) t
 
-module _ (r : SourceRound) (p : Player) (s mid advanced new : Played) (took : mid ≡ after (due_calls r.round.now r.round.steps p) s) (at : Playhead) (at_is : at ≡ (played r.round.now r.round.steps p).core.head) (moment : ℕ) (moment_is : moment ≡ head.played at) (advances : advanced ≡ after_advance moment mid) (sends : new ≡ after (polls r.round.now r.polls) advanced) where
-  abbrev before : List Call
-  before = Advance (head.played (played r.round.now r.round.steps p).core.head) ∷ due_calls r.round.now r.round.steps p
+advance_gives : (came_to : Option Step) (moment : ℕ) (s : Played) → given_by (advance_calls came_to moment) s ≡ []
+advance_gives None moment s = refl
+advance_gives (Some step) moment s = refl
 
-  its_moment : moment ≡ head.played (played r.round.now r.round.steps p).core.head
-  its_moment = moment_is ∙ ap head.played at_is
+module _ (r : SourceRound) (p : Player) (s mid advanced new : Played) (took : mid ≡ after (due_calls r.round.now r.round.steps p) s) (at : Playhead) (at_is : at ≡ (played r.round.now r.round.steps p).core.head) (advances : advanced ≡ after (advance_calls r.round.came_to (head.played at)) mid) (sends : new ≡ after (polls r.round.now r.polls) advanced) where
+  abbrev dues : List Call
+  dues = due_calls r.round.now r.round.steps p
+
+  abbrev advance : List Call
+  advance = advance_calls r.round.came_to (head.played (played r.round.now r.round.steps p).core.head)
+
+  abbrev before : List Call
+  before = advance ++ dues
 
   advanced_is : advanced ≡ after before s
-  advanced_is = advances ∙ (λ i. after_advance (its_moment i) (took i))
+  advanced_is = advances ∙ (λ i. after (advance_calls r.round.came_to (head.played (at_is i))) (took i)) ∙ sym (after_both advance dues s)
 
   pub source_round : new ≡ after (round_calls r p) s
   source_round = after_more (polls r.round.now r.polls) before s advanced advanced_is new sends
 
   before_gives : given_by before s ≡ []
-  before_gives = ap (λ (xs : List (List ℕ)). xs ++ []) (due_gives r.round.now r.round.steps p s)
+  before_gives =
+      given_both advance dues s
+      ∙ ap (λ (xs : List (List ℕ)). xs ++ given_by advance (after dues s)) (due_gives r.round.now r.round.steps p s)
+      ∙ advance_gives r.round.came_to (head.played (played r.round.now r.round.steps p).core.head) (after dues s)
 
   pub given_round : (hs : Handed) → datagrams hs ≡ given_by (polls r.round.now r.polls) advanced → datagrams hs ≡ given_by (round_calls r p) s
   given_round hs gives =

@@ -1,6 +1,7 @@
 -- The rounds of a recording that is played as a source. Lists of rounds and of calls have the latest first.
 use Rattle.std.specs.Prelude.{◌≡◌, ◌<◌, ◌≤◌, ◌^◌, ℕ, ⊤, min, true, List, [], ◌∷◌, ◌++◌, map, Option, None, Some, is_some}
 use Rattle.sacn_replay.specs.declared.head.Playhead.{Playhead}
+use Rattle.sacn_replay.specs.declared.step.Step.{Step}
 use Rattle.sacn_replay.specs.declared.run.Next.{Next}
 use Rattle.sacn_replay.specs.declared.run.Next.TheVariants.{Round as NextRound, Wait as NextWait, Nothing}
 use Rattle.sacn_replay.specs.Heads.{last_moment, due_at}
@@ -26,10 +27,16 @@ pub record SourceRound : Type 0 where
 abbrev pub bare : SourceRound → Round
 bare r = r.round
 
--- a round takes what is due, advances to the moment that is played, and polls
+-- the recording is at a moment, unless records that are due by then are left to take
+abbrev pub advance_calls : Option Step → ℕ → List Call
+advance_calls None moment = []
+advance_calls (Some step) moment = Advance moment ∷ []
+
+-- a round takes what is due, advances to the moment that is played once all of it is taken, and polls
 abbrev pub round_calls : SourceRound → Player → List Call
 round_calls r p =
-    polls r.round.now r.polls ++ Advance (head.played (played r.round.now r.round.steps p).core.head) ∷ due_calls r.round.now r.round.steps p
+    polls r.round.now r.polls
+    ++ (advance_calls r.round.came_to (head.played (played r.round.now r.round.steps p).core.head) ++ due_calls r.round.now r.round.steps p)
 
 abbrev pub run_calls : Player → List SourceRound → List Call
 run_calls first [] = []

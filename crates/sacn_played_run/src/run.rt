@@ -7,7 +7,8 @@ ghost use Rattle.sacn_edge.specs.Hearings.{Hands};
 ghost use Rattle.sacn_replay.specs.Reels.{Reel};
 ghost use Rattle.sacn_replay.specs.Runs.{Player, Holds, IsRun, AreRounds, after_round, after_rounds, begun_player, is_last};
 ghost use Rattle.sacn_played_run.specs.Calls.{after, given_by};
-ghost use Rattle.sacn_played_run.specs.Rounds.{SourceRound, AreSourceRounds, IsSourceRound, IsNextLoss, Sleeps, bare, loss_reading, readings, round_calls, run_calls, run_talk, sooner, source_talk};
+ghost use Rattle.sacn_replay.specs.Heads as head;
+ghost use Rattle.sacn_played_run.specs.Rounds.{SourceRound, AreSourceRounds, IsSourceRound, IsNextLoss, Sleeps, advance_calls, bare, loss_reading, readings, round_calls, run_calls, run_talk, sooner, source_talk};
 ghost use Rattle.sacn_played_run.specs.Endings.{EndRound, IsEnd, end_calls, end_readings, end_talk};
 
 use crate::ending::end;
@@ -17,7 +18,7 @@ use sacn_desk::DeskLink;
 use sacn_edge::Clock;
 use sacn_played_source::PlayedSource;
 use sacn_replay::{
-    Next, PlayOrders, RecordReader, ReplayCore, ReplayCounts, ReplayPlan, close, next_of,
+    Next, PlayOrders, RecordReader, ReplayCore, ReplayCounts, ReplayPlan, Step, close, next_of,
     take_order,
 };
 use sacn_source::SourceFault;
@@ -27,8 +28,8 @@ use std::alloc::Global;
 /// terminated packets at their moments.
 ///
 /// A round reads the clock once, and takes record after record that is due at that reading, until one has to wait or 4096 steps were made;
-/// a record of more than 2500 ms ago isn't taken. Then the recording is at the moment that is played, and a source of it that was silent
-/// for 2500 ms by then is lost. Where a record has to wait, the round takes an order, which holds from that reading on. Last it sends what
+/// a record of more than 2500 ms ago isn't taken. Once all that is due is taken the recording is at the moment that is played, and a source of
+/// it that was silent for 2500 ms by then is lost. Where a record has to wait, the round takes an order, which holds from that reading on. Last it sends what
 /// is due at the reading, and waits until the next record is due, a datagram is, or a source is lost. While the recording is paused its
 /// light stays, and is kept alive.
 ///
@@ -126,12 +127,23 @@ fn play_round<T: RecordReader, L: DeskLink, C: Clock, O: PlayOrders>(
 {
     let now = clock.now();
     let came_to = take_due(alloc, tape, source, core, now)?;
-    source.advance(core.head().moment());
+    advance(source, core, came_to);
     let is_ordered = take_order(orders, core, now, came_to);
     send_due(link, source, now);
     orders.look(core);
     let next = sooner(next_of(came_to, is_ordered), next_wake(source, core));
     Ok(close(orders, next))
+}
+
+/// The recording is at the moment that is played, unless records that are due by then are left to take: these may hold what would else be
+/// lost.
+fn advance(source: &mut PlayedSource, core: &ReplayCore, came_to: Option<Step>)
+    ensures { source.new
+        ≡ after (advance_calls came_to (head.played core.now.head)) source.old }
+{
+    if came_to.is_some() {
+        source.advance(core.head().moment());
+    }
 }
 
 /// The reading of the clock before which no datagram of the source is due, and no source of the recording is lost.

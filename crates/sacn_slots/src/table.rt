@@ -17,7 +17,7 @@ use std::marker::Model;
 ///
 /// Its sources, their numbers and their loss are those of a [`SourceTable`]. A source has slot priorities from an accepted packet of
 /// them on, until `NETWORK_DATA_LOSS` milliseconds have passed without another, or it ends its stream, or it is lost. Such a packet
-/// begins no source, and renews none.
+/// begins no source, and renews none. One that comes after the end counts for the levels that follow it.
 ///
 /// Moments are milliseconds, and used as a `SourceTable` uses them. Only `new` takes memory.
 #[derive(Drop)]

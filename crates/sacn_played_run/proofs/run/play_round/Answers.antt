@@ -20,8 +20,8 @@ returns g c = λ p holds.
     let r : SourceRound = record { round = round; polls = s.0; wakes = w.0; loss = w.1 } in
     let core = ordered_more now o.0 (played now d.0 p) _ _ o.3 d.2.1 in
     let next = next_is r p _ core _ o.4 _ c.next_of.ensures _ w.4 _ c.sooner-next.ensures in
-    let at = c.head.ensures ∙ ap (λ (k : ReplayCore). k.head) d.2.1 in
-    let source = source_round r p c.args.source.now _ _ _ d.3 _ at _ c.moment.ensures c.advance.ensures s.6 in (
+    let at = ap (λ (k : ReplayCore). k.head) d.2.1 in
+    let source = source_round r p c.args.source.now _ _ _ d.3 _ at c.advance.ensures s.6 in (
       r,
       s.1,
       (
@@ -35,7 +35,7 @@ returns g c = λ p holds.
       c.now-now.ensures.told,
       talk_round r p _ next _ _ _ _ _ core o.2 c.look.ensures.told e.1,
       s.4,
-      given_round r p c.args.source.now _ _ _ d.3 _ at _ c.moment.ensures c.advance.ensures s.6 s.1 s.5,
+      given_round r p c.args.source.now _ _ _ d.3 _ at c.advance.ensures s.6 s.1 s.5,
       source,
       (d.2.0, core),
       over_round r p _ next _ e.2,
