@@ -2,8 +2,7 @@
 
 ghost use Rattle.sacn_played_run.specs.Laws.{SendsWhatTheListSays, TakesWhatIsDue};
 
-/// What a run takes of a recording is what a player of its rounds hands over: each record that is due, once, at its moment, in the order of
-/// the file (`sacn_replay`, `runs_hand_over_what_is_due`).
+/// What a run takes of a recording is what a player of its rounds hands over: each record that is due, once, in the order of the file (`sacn_replay`, `runs_hand_over_what_is_due`).
 pub fn takes_what_is_due()
     ensures { TakesWhatIsDue }
 {}
