@@ -291,7 +291,7 @@ struct sacn_node {
 int sacn_node_new(struct sacn_node *node, const char *setup, size_t length, uint16_t *udp_port);
 
 /* Makes a node of 1 to SACN_MAX_PORTS universes, without a setup: port i + 1 shows all slots of `universes[i]`, and each universe, 1 to 63999, stands
-   once. The node must be empty (zero, or freed); it is to hear SACN_UDP_PORT, or wherever the caller does. Status: SACN_LENGTH, SACN_RANGE where a
+   once. The node must be empty (zero, or freed); the caller hears on SACN_UDP_PORT, or on another port. Status: SACN_LENGTH, SACN_RANGE where a
    universe is out of range or stands twice, SACN_OUT_OF_MEMORY. */
 int sacn_node_of_universes(struct sacn_node *node, const uint16_t *universes, size_t count);
 

@@ -290,7 +290,7 @@ verdict "CID, name and priority are the show's" $? "$(packets | cut -d ' ' -f 4-
 verdict "levels are the merge of the recorded sources" $? "$(levels 1); $(levels 2); $(levels 3)"
 [ "$(python3 "$looks" runs heard 2>&1)" = "1 2 3" ]
 verdict "the show's universes alone are sent, their numbers run on, and each ends with three terminated packets" $? "$(python3 "$looks" runs heard 2>&1)"
-[ "$(packets | grep '^page')" = "page 255 1 2 3" ]
+[ "$(packets | grep '^page' | sort -u)" = "page 255 1 2 3" ]
 verdict "a page of discovery lists them" $? "$(packets | grep '^page')"
 
 hears "$port"

@@ -310,19 +310,30 @@ def any_order(numbers):
     return words[which] if which < 6 else ("start", one)
 
 
+# Of a console's orders: done, and refused for each of the six reasons in `fault`; of its polls: nothing, a page, levels, and a terminated packet.
+KINDS_OF_A_CONSOLE = 7 + 4
+
+
 def console(numbers, steps=3000):
     print("of console")
     for numbers in (numbers, Numbers(2026)):
         print(f"story beside a plain console\n{SHOW}\nshow {FIRST} = ok")
-        desk, moment = Desk(), 0
+        desk, moment, kinds = Desk(), 0, set()
         for _ in range(steps):
             now = max(0, moment + numbers.below(40) - 10)
             moment = max(moment, now)
             if numbers.below(8) == 0:
                 order = any_order(numbers)
-                row(f"order {now} {' '.join(map(str, order))}", desk.order(moment, *order))
+                answer = desk.order(moment, *order)
+                row(f"order {now} {' '.join(map(str, order))}", answer)
+                kinds.add(("order", answer))
             else:
-                row(f"poll {now}", desk.poll(moment))
+                answer = desk.poll(moment)
+                row(f"poll {now}", answer)
+                # (a packet's options are its second number)
+                kinds.add(("poll", answer.split(" ")[0], answer.split(" ")[2] if answer.startswith("packet") else ""))
+        if len(kinds) != KINDS_OF_A_CONSOLE:
+            return False
     return True
 
 

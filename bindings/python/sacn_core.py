@@ -769,7 +769,7 @@ class Node(_Receiver):
     @classmethod
     def of_universes(cls, universes: Iterable[int]) -> "Node":
         """A node of 1 to MAX_PORTS universes, each 1 to 63999 and once, without a setup: port i + 1 shows all slots of
-        `universes[i]`. SacnError with Status.LENGTH or RANGE where they aren't that."""
+        `universes[i]`. SacnError with Status.LENGTH or RANGE where they aren't that; ValueError beyond 65535."""
         numbers = [_number(it, "universe", 65535) for it in universes]
         node = cls.__new__(cls)
         _Handle.__init__(node, (_u16 * len(numbers))(*numbers), len(numbers), made="of_universes")
