@@ -111,9 +111,9 @@ arm_calls() { arm_built smoke-arm "$top/tests/c/library.c" libsacn.a && "${arm[@
 arm_hears() {
   local port
   port=$(free_udp_port)
-  setup "$port" >"$room/node.toml" && show "$port" >"$room/show.toml"
+  show "$port" >"$room/show.toml"
   arm_built receive-arm "$top/examples/c/receive.c" libsacn.so.1 || return 1
-  "${arm[@]}" -E LD_LIBRARY_PATH="$release/aarch64-linux" "$room/receive-arm" "$room/node.toml" 20 >"$room/lines" 2>"$room/said" &
+  "${arm[@]}" -E LD_LIBRARY_PATH="$release/aarch64-linux" "$room/receive-arm" 1 20 "$port" 127.0.0.1 >"$room/lines" 2>"$room/said" &
   running+=($!)
   wait_until grep -q "$(printf ':%04X ' "$port")" /proc/net/udp || return 1
   (echo go; wait_for_line "$room/lines" '^1 [0-9]+ 00ff') | "$built" desk "$room/show.toml" >/dev/null 2>&1
