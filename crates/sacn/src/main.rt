@@ -3,6 +3,7 @@
 
 mod audit;
 mod auditing;
+mod black_box;
 mod check;
 mod explain;
 mod frames;
@@ -22,7 +23,6 @@ mod replay;
 mod screen;
 mod shown;
 mod source_lines;
-mod tapes;
 mod timed;
 mod watch;
 

@@ -46,7 +46,7 @@ impl<'r, 'p, R: AllocGlobal + Files> Sizes for KeptSize<'r, 'p, R> {
 pub fn show<R: AllocGlobal + Files + Env, L: Listener, O: Write>(
     rt: &R,
     listener: &mut L,
-    asked: &WatchAsked,
+    asked: &WatchAsked<'_>,
     keys: ScreenKeys<'_>,
     until: u64,
     out: &mut O,

@@ -41,6 +41,8 @@ pub struct Audience<C: Drop, S: Scene + Drop> {
     is_behind: bool,
     /// How many have asked for a moment of the recording.
     turns: u64,
+    /// The key of the connection that is asked first whether it takes a part of the recording.
+    taker: usize,
 }
 
 impl<C: Connection + Drop, S: Scene + Drop> Audience<C, S> {
@@ -58,6 +60,7 @@ impl<C: Connection + Drop, S: Scene + Drop> Audience<C, S> {
             first: 0,
             is_behind: false,
             turns: 0,
+            taker: 0,
         })
     }
 
@@ -259,6 +262,7 @@ impl<C: Connection + Drop, S: Scene + Drop> Audience<C, S> {
     pub fn show(&mut self, now: u64) {
         self.close_late(now);
         self.seek(now);
+        self.hand_on(now);
         self.is_behind = self.feed_viewers(now);
     }
 
@@ -298,7 +302,10 @@ impl<C: Connection + Drop, S: Scene + Drop> Audience<C, S> {
             return;
         };
         let answered = match sought {
-            Ok(()) => show_moment(self.alloc, &self.scene, viewer, goal.universe, now),
+            Ok(()) => {
+                let sought = (self.scene.sought_facts(), self.scene.sought_board());
+                show_moment(self.alloc, sought, viewer, goal.universe, now)
+            }
             Err(SeekFault::OutOfMemory) => refuse(self.alloc, viewer, RequestRefusal::Busy, now),
             Err(SeekFault::Device) => refuse(self.alloc, viewer, RequestRefusal::Unread, now),
         };
@@ -329,8 +336,10 @@ impl<C: Connection + Drop, S: Scene + Drop> Audience<C, S> {
         for key in 0..MAX_CONNECTIONS {
             if let Some(viewer) = self.viewers.get(key) {
                 least = least.min(viewer.deadline()).min(self.next_event(viewer));
-                if let Phase::Waiting(_) = viewer.phase() {
-                    least = 0;
+                match viewer.phase() {
+                    Phase::Waiting(_) => least = 0,
+                    Phase::Taking(_) if viewer.is_idle() => least = 0,
+                    _ => {}
                 }
             }
         }

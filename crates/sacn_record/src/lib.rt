@@ -7,6 +7,7 @@
 mod beside;
 mod blocks;
 mod choice;
+mod files;
 mod heard;
 pub mod laws;
 mod packets;
@@ -20,6 +21,7 @@ mod totals;
 mod wire;
 
 pub use beside::Recorder;
+pub use files::{FileTapes, InTurn, Names, open_in_turn, read_at};
 pub use heard::{Heard, LONGEST_PAYLOAD, LONGEST_PROGRAM};
 pub use plan::RecordPlan;
 pub use recorder::{begin, record};

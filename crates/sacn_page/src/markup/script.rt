@@ -65,6 +65,9 @@ function takeDocument(told) {
   }
   noteChanges();
   if (told.winners !== undefined) hex(told.winners, 4, known.winners);
+  takeAlarms(told);
+}
+function takeAlarms(told) {
   for (const alarm of told.alarms || []) keepAlarm(alarm);
   if (told.alarms) known.leftOut = told.alarms_left_out || 0;
 }
@@ -82,20 +85,32 @@ function sameAgain(before, alarm) {
 }
 
 function open(universe) {
-  if (isRecording) return look(universe);
+  if (isRecording || isBack) return look(universe);
   if (events) events.close();
   past = [];
   events = new EventSource('/events' + (universe === null ? '' : `?universe=${universe}`));
   events.addEventListener('state', (event) => {
-    const before = known.alarms;
-    known.sources.clear();
+    const before = known.alarms, told = JSON.parse(event.data);
     known.alarms = [];
-    takeDocument(JSON.parse(event.data));
+    if (isBack) {
+      heardAt = performance.now();
+      takeAlarms(told);
+    } else {
+      known.sources.clear();
+      takeDocument(told);
+    }
     known.alarms = known.alarms.map((alarm) => sameAgain(before, alarm));
+    if (isBack) return showAlarms();
     showAll();
   });
   events.addEventListener('change', (event) => {
     const told = JSON.parse(event.data);
+    if (isBack) {
+      heardAt = performance.now();
+      takeAlarms(told);
+      if (told.alarms) showAlarms();
+      return;
+    }
     takeDocument(told);
     if (told.sources || told.heard || told.alarms) showUniverses();
     if (told.sources || told.heard) showSources();
@@ -249,7 +264,7 @@ part('since').addEventListener('click', () => {
 
 // The chosen slot's level over the last minute, the newest at the right: a level stands until the next one.
 function showGraph() {
-  if (isRecording) return;
+  if (isRecording || isBack) return;
   const canvas = part('graph'), scale = window.devicePixelRatio || 1;
   const width = canvas.clientWidth, height = canvas.clientHeight;
   if (canvas.width !== Math.round(width * scale) || canvas.height !== Math.round(height * scale)) {
@@ -347,8 +362,12 @@ function showAlarms() {
 }
 // A new line of alarms, above the others.
 function itemOf(list, line) {
-  const item = document.createElement('li');
-  add(item, 'time', clock.format(new Date(Date.now() - (now() - line.ms))));
+  const item = document.createElement('li'), button = isKept ? add(item, 'button') : item;
+  add(button, 'time', clock.format(new Date(isBack ? film.start + line.ms : Date.now() - (now() - line.ms))));
+  if (isKept) {
+    button.type = 'button';
+    button.addEventListener('click', () => moveTo(item.alarms[0].ms));
+  }
   item.append('');
   list.prepend(item);
   return item;
