@@ -141,6 +141,7 @@ fn say_phase(step: &mut Step<'_>, phase: Phase) {
         Phase::Answered => "answered",
         Phase::Watching(_) => "watching",
         Phase::Waiting(_) => "waiting",
+        Phase::Taking(_) => "taking",
         Phase::Leaving => "leaving",
         Phase::Gone => "gone",
     };
