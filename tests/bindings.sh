@@ -1,6 +1,7 @@
 #!/usr/bin/env bash
 # The bindings for Python, Rust and C++ over the C library: their declarations beside sacn.h (tests/bindings.py), each one's own tests, and in each
-# language a receiver that is lit by a sender: the examples, by multicast, on a loopback of their own where the machine lets one be made.
+# language a receiver that is lit by a sender: the examples, by multicast, on a loopback of their own where the machine lets one be made. At the end the
+# examples light OLA and are lit by it (tests/bindings_ola.py), in namespaces.
 # Prints 'ok NAME', 'not ok NAME: why' or 'skipped NAME: why' for each. It takes the library in the folder SACN_LIBRARY_PREFIX (as ./sacn library lays
 # one out), and else makes it as tests/library.sh does.
 set -u
@@ -182,3 +183,29 @@ lights "Python" python 61 "$(free_udp_port)" send levels
 lights "C" c 60 "$(free_udp_port)" levels
 lights "Rust" rust 62 "$(free_udp_port)" send levels
 lights "C++" cxx 300 "$(free_udp_port)" send levels
+
+# Why OLA can't be had here; nothing where it can.
+why_not() {
+  for it in olad python3 ip unshare nsenter setpriv; do
+    command -v "$it" >/dev/null || { echo "there is no $it"; return; }
+  done
+  if [ "$(id -u)" != 0 ]; then echo "it wants root"; return; fi
+  unshare -n true 2>/dev/null || echo "no network namespaces can be made here"
+}
+
+beside_ola() {
+  local folders=() it status=0 why
+  for it in Python=python C=c Rust=rust C++=cxx; do
+    if [ -x "$room/${it#*=}/receive" ] && [ -x "$room/${it#*=}/levels" ]; then folders+=("${it%%=*}=$room/${it#*=}"); fi
+  done
+  why=$(why_not)
+  if [ ${#folders[@]} = 0 ]; then why="there are no examples"; fi
+  if [ -n "$why" ]; then skips "beside OLA" "$why"; return; fi
+  # (OLA isn't run by root, and reads its folder in there)
+  chmod 711 "$room"
+  TMPDIR=$room SPACE=1 timeout -k 5 300 unshare -n python3 "$top/tests/bindings_ola.py" "${folders[@]}" >"$room/told" 2>"$room/said" || status=$?
+  sed -E "s/^(not ok|ok) /&$label/" "$room/told"
+  if [ "$status" = 77 ]; then skips "beside OLA" "no network namespaces can be joined here"; return; fi
+  if [ "$status" != 0 ]; then fails "beside OLA" "status $status: $(tail -n 1 "$room/said")"; fi
+}
+beside_ola
