@@ -238,6 +238,40 @@ def olad_shows_what_a_desks_page_orders():
     check("olad shows the levels of before once the page restores them", is_back, f"{ola.shows(1)}")
 
 
+def olad_shows_what_is_played():
+    """A recording of two sources that is played as one lights OLA with their merge; a desk of a higher priority stands above it, and lets it through again."""
+    second_space()
+    ola = Ola(inputs=(1,))
+    recording = e131.Recording(f"{ROOM}/night.pcap")
+    for place in range(300):
+        recording.sent(200 * place, 3, e131.data(1, place, [10, 200, 0]))
+        recording.sent(200 * place, 4, e131.data(1, place, [50, 100, 30], cid=b"the other source", name=b"Other"))
+    recording.close()
+    head = f'version = 1\ncid = "{uuid.UUID(bytes=stage.CID)}"\nuniverses = [1]\nsend_to = []\n'
+    backup = write("backup.toml", f'{head}name = "Backup"\npriority = 90\n'.replace(str(uuid.UUID(bytes=stage.CID)), str(OLA_CID)))
+    show = write("over.toml", f'{head}name = "Desk"\n[[cue]]\nnumber = 1\nfade = 0\nlevels = [[1, 65535]]\n[[patch]]\nchannel = 1\nuniverse = 1\nslot = 1\n')
+    by = {"stdin": subprocess.PIPE, "stdout": subprocess.DEVNULL, "text": True}
+    said = open(f"{ROOM}/played.said", "w", encoding="utf-8")
+    player = start([SACN, "replay", f"{ROOM}/night.pcap", "--as", backup, "--multicast", "--bind", DESK], stderr=said, **by)
+    merge, lit = [50, 200, 30], [255, 0, 0]
+
+    def shows(levels):
+        return wait(lambda: (ola.levels(1) or [])[:3] == levels, 20)
+
+    is_merged = shows(merge)
+    check("olad shows the merge of a recording that is played as a source", is_merged, f"{(ola.levels(1) or [])[:3]}; {text_of('played.said')}")
+    desk = start([SACN, "desk", show, "--multicast", "--bind", DESK], stderr=subprocess.DEVNULL, **by)
+    desk.stdin.write("go\n")
+    desk.stdin.flush()
+    is_over = shows(lit)
+    desk.stdin.close()
+    desk.wait(timeout=30)
+    check("a desk of a higher priority stands above it, and lets it through", is_over and shows(merge), f"{is_over}, {(ola.levels(1) or [])[:3]}")
+    player.stdin.write("quit\n")
+    player.stdin.close()
+    check("a playback that is ended ends well", player.wait(timeout=30) == 0, text_of("played.said"))
+
+
 class Watch:
     """A watch of lines in another namespace that has joined groups there, started as users start it."""
 

@@ -8,7 +8,7 @@ set -u
 . "$(dirname "$(readlink -f "$0")")/lib.sh"
 export SACN=$sacn
 export SACN_JOIN=${SACN_JOIN:-$top/release/$(uname -m)-linux/sacn-join}
-looks=(olad_takes_a_desk_that_is_started_again olad_shows_what_a_desks_page_orders a_watch_hears_olad a_watch_hears_qlcplus)
+looks=(olad_takes_a_desk_that_is_started_again olad_shows_what_a_desks_page_orders olad_shows_what_is_played a_watch_hears_olad a_watch_hears_qlcplus)
 [ $# = 0 ] || looks=("$@")
 [ -x "$SACN" ] || { echo "not ok ola: the program is built: $SACN isn't there"; exit 1; }
 # (OLA isn't run by root, and reads its folder in there)
