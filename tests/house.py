@@ -23,8 +23,8 @@ MOST = {
     "what stirs a contest is told": (r"\bfn stirs\b", 1),
     "who gives the slots is asked": (r"(?<!fn )\bmerged_with_givers\(", 1),
     "text from elsewhere is made JSON": (r"\bfn push_foreign\b", 1),
-    # (by the node's table and its plain form, by the monitor's account, and of what a source gave for slots)
-    "a source's silence is measured": (r"(?:>=|<) NETWORK_DATA_LOSS\b", 7),
+    # (by the node's table and its plain form, by the monitor's account, of what a source gave for slots, and of what was sent before a playback began anew)
+    "a source's silence is measured": (r"(?:>=|<) NETWORK_DATA_LOSS\b", 8),
     "network data loss is a number": (r"\bconst \w+: \w+ = 2_?500;", 1),
     "the UDP port is a number": (r"\bconst \w+: \w+ = 5_?568;", 1),
 }
