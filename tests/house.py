@@ -23,13 +23,15 @@ MOST = {
     "what stirs a contest is told": (r"\bfn stirs\b", 1),
     "who gives the slots is asked": (r"(?<!fn )\bmerged_with_givers\(", 1),
     "text from elsewhere is made JSON": (r"\bfn push_foreign\b", 1),
-    # (by the node's table and its plain form, by the monitor's account, and of what a source gave for slots)
-    "a source's silence is measured": (r"(?:>=|<) NETWORK_DATA_LOSS\b", 7),
+    # (by the node's table and its plain form, by the monitor's account, of what a source gave for slots, and of what was sent before a playback began anew)
+    "a source's silence is measured": (r"(?:>=|<) NETWORK_DATA_LOSS\b", 8),
     "network data loss is a number": (r"\bconst \w+: \w+ = 2_?500;", 1),
     "the UDP port is a number": (r"\bconst \w+: \w+ = 5_?568;", 1),
 }
+# Programs of tests, which aren't proved.
+PROGRAMS = "tests/programs"
 # Crates of tests and measures.
-BESIDE = {"fixtures", "rows", "refusals", "core_tests", "loop_tests", "sacn_bench"}
+BESIDE = {"fixtures", "refusals", "sacn_bench"}
 
 # Names of files that say nothing of what is in them, so that none stands in two crates.
 VAGUE = {"lines", "rows", "texts", "words"}
@@ -83,7 +85,7 @@ def lacking_files():
     """Files that a document names with their folder, from the top or from crates/, docs/ or examples/, and that aren't there."""
     for name in [it for it in DOCUMENTS if not it.endswith(("NOTES.md", "CHANGELOG.md"))]:
         for word in re.findall(r"`([\w.-]+(?:/[\w.-]+)+)`", prose_of(name)):
-            if word.startswith(EXAMPLES) or not re.search(r"\.(rt|antt|md|sh|py|rows|c|h|toml|txt|pcap|sacn|hex)$", word):
+            if word.startswith(EXAMPLES) or not re.search(r"\.(rt|rs|antt|md|sh|py|rows|c|h|toml|txt|pcap|sacn|hex)$", word):
                 continue
             if not any(os.path.exists(os.path.join(folder, word)) for folder in ("", "crates")):
                 yield f"{name} names {word}, which isn't there"
@@ -108,13 +110,13 @@ def sinking_crates():
 
 
 def idle_crates():
-    """Crates of a line of crates.txt whose names stand in no file of the crate that the line is of."""
-    for line in text_of("crates.txt").split("\n"):
+    """Crates of a line of crates.txt, or of tests/programs/list, whose names stand in no file of the crate that the line is of."""
+    for folder, line in [("crates", it) for it in text_of("crates.txt").split("\n")] + [(PROGRAMS, it) for it in text_of(f"{PROGRAMS}/list").split("\n")]:
         head, _, below = line.partition("#")[0].partition(":")
         if not below.strip():
             continue
         name = head.split()[0]
-        files = [it for kind in ("rt", "antt", "edit") for it in glob.glob(f"crates/{name}/**/*.{kind}", recursive=True) if "/out/" not in it]
+        files = [it for kind in ("rt", "rs", "antt", "edit") for it in glob.glob(f"{folder}/{name}/**/*.{kind}", recursive=True) if "/out/" not in it]
         words = set(re.findall(r"\w+", "\n".join(map(text_of, files))))
         for it in below.split():
             if it not in words:
@@ -183,7 +185,7 @@ def large_crates():
 
 
 def long_files():
-    for path in sorted(glob.glob("crates/*/src/**/*.rt", recursive=True)):
+    for path in sorted(glob.glob("crates/*/src/**/*.rt", recursive=True) + glob.glob(f"{PROGRAMS}/*/src/**/*.rs", recursive=True)):
         lines = text_of(path).count("\n")
         if lines > FILE_LINES:
             yield f"{path} has {lines} lines, more than {FILE_LINES}"

@@ -19,6 +19,7 @@
 #   is_taken PORT                            whether no datagram waits at a UDP port: what was sent there is read (of this machine's network, or this namespace's)
 #   library_installed PREFIX                 installs the library for C in a folder: what the gate or the launcher has proved of it isn't proved again
 #   free_udp_port, free_tcp_port             prints a port that nothing has, another one each time
+#   tried NAME WORD..                        `rt try` of a crate of tests/programs: builds it, unproved but with checks and an address sanitizer, and runs it
 #
 # Its Python finds e131.py: packets, recordings and ports.
 
@@ -96,6 +97,20 @@ library_installed() {
   else
     "$top/sacn" library "$1"
   fi
+}
+
+# (in a copy of the crates, whose list has those of tests/programs too; their files are named .rs, since the gate wants each .rt in a crate that it proves)
+tried() {
+  local name=$1 longest=()
+  shift
+  # (it has ten minutes, where the kit gives it more than one)
+  if rt 2>&1 | grep -qF -- '--seconds'; then longest=(--seconds 600); fi
+  mkdir -p tree &&
+    tar -C "$top" --exclude='crates/*/out' -c HANDLES crates | tar -C tree -x &&
+    cp -r "$top/tests/programs/." tree/crates &&
+    cat "$top/crates.txt" "$top/tests/programs/list" >tree/crates.txt &&
+    find "tree/crates/$name" -name '*.rs' -exec sh -c 'for it; do mv "$it" "${it%.rs}.rt"; done' sh {} + &&
+    (cd "tree/crates/$name" && rt try "${longest[@]}" "$@")
 }
 
 is_taken() { awk -v port=":$(printf %04X "$1")" '$2 ~ port "$" && $5 !~ /:0+$/ { waits = 1 } END { exit waits }' /proc/net/udp; }

@@ -1,29 +1,25 @@
 #!/usr/bin/env bash
 # Runs the rows of tests/rows, those that plain twins in Python write (tests/twins.py), and rows that are wrong, each of which has to be told by file and
-# line. Prints 'ok NAME' or 'not ok NAME: why' for each run, as ./test counts them. The program is crates/rows/out/rows, or what ROWS names.
+# line. Prints 'ok NAME' or 'not ok NAME: why' for each, as ./test counts them. The program is tests/programs/rows, which is built once.
 set -u
 # shellcheck source=tests/lib.sh
 . "$(dirname "$(readlink -f "$0")")/lib.sh"
-rows=${ROWS:-$top/crates/rows/out/rows}
-case $rows in /*) ;; *) rows=$here/$rows ;; esac
-if [ ! -x "$rows" ]; then
-  echo "not ok rows: the program isn't built"
-  exit 1
-fi
+need rt
 
-# ends NAME STATUS WANTED: reads a file of rows, which ends with the status, and prints this and nothing else
+# ends NAME STATUS WANTED LABEL: a file of rows, read from standard input, is to be told so, and nothing else of it
+labels=()
+wanted=()
 ends() {
-  local status=0 said
-  said=$(timeout 240 "$rows" "$1" 2>&1) || status=$?
-  [ "$status" = "$2" ] && [ "$said" = "$3" ]
-  verdict "$4" $? "status $status, '$(head -c 300 <<<"$said")'"
+  labels+=("$4")
+  wanted+=("$1"$'\n'"$2"$'\n'"$3"$'\n')
+  { echo "$1" && cat && printf '\f'; } >>files
 }
 
-# told WHAT WANTED LINE..: a file of these lines is told so, and nothing else of it
+# told WHAT WANTED LINE..: the same of a file of these lines
 told() {
-  local what=$1 wanted=$2
+  local what=$1 said=$2
   shift 2
-  ends bad.rows 1 "bad.rows:$wanted" "$what" < <(printf '%s\n' "$@")
+  ends bad.rows 1 "bad.rows:$said" "$what" < <(printf '%s\n' "$@")
 }
 
 files=0
@@ -64,4 +60,15 @@ told "two wrong lines" "3: wanted '1', came '0'"$'\n'"bad.rows:5: wanted '2', ca
 told "no step" "1: the file has no step" "of sources" "story one"
 ends bad.rows 1 "bad.rows:1: the file has no step" "nothing at all" </dev/null
 ends bad.rows 1 "bad.rows: the file isn't read as UTF-8 text" "octets that are no text" < <(printf 'of sources\nstory one\nrenewals = \xff\n')
+
+tried rows <files >told 2>said || verdict "the program" $? "$(tail -n 3 said)"
+place=0
+while [ "$place" -lt "${#labels[@]}" ]; do
+  found=
+  IFS= read -r -d $'\f' found
+  found=${found#$'\n'}
+  [ "$found" = "${wanted[$place]}" ]
+  verdict "${labels[$place]}" $? "'$(head -c 300 <<<"$found")'"
+  place=$((place + 1))
+done <told
 [ "$failed" = 0 ]

@@ -241,6 +241,15 @@ split_join() {
   done
 }
 
+# What this machine knows of a host's addresses of IPv4, the first in front. Without -A, which older ones lack, that is nothing where the machine has no address itself
+# but the loopback's, as with its cable out.
+addresses_of() {
+  local status=0
+  getent -A ahostsv4 "$1" 2>/dev/null || status=$?
+  # (2: it knows none)
+  case $status in 0 | 2) ;; *) getent ahostsv4 "$1" 2>/dev/null || true ;; esac
+}
+
 # Puts into `resolved` what `--to` names, `[UNIVERSES=]HOST[:PORT]`, with the address of a host that is named; what is no name is left to the program. A name that
 # this machine doesn't know ends the run.
 resolve_host() {
@@ -253,7 +262,7 @@ resolve_host() {
     say "--to $1: names of hosts are looked up by getent, which isn't here: give the address of $host, as 10.0.0.5"
     exit 2
   fi
-  if ! read -r address _ < <(getent ahostsv4 "$host" 2>/dev/null); then
+  if ! read -r address _ < <(addresses_of "$host"); then
     say "--to $1: this machine knows no host $host with an IPv4 address: give its address, as 10.0.0.5, or a line \`10.0.0.5 $host\` to /etc/hosts"
     exit 2
   fi

@@ -1,4 +1,4 @@
-//! Calls that take memory, each checked where one request of the run is refused.
+//! Calls that take memory, each checked where one request of the run is refused, and (module `reliance`) what a caller can rely on.
 //!
 //! With ample memory it prints `all calls done` and ends with status 0. `rt try --fail-alloc N` makes the Nth
 //! request fail. A run in which a call answered for want of memory, left what its contract says and
@@ -10,6 +10,7 @@ mod cues;
 mod discovery;
 mod nodes;
 mod patches;
+mod reliance;
 mod simulations;
 mod sources;
 mod world_files;
@@ -55,6 +56,7 @@ fn calls_made(rt: &impl AllocGlobal) -> Result<Outcome, AllocError> {
     let consoles = consoles::calls_made(rt.alloc());
     let world_files = world_files::calls_made(rt.alloc());
     let worlds = worlds::calls_made(rt.alloc());
+    let reliance = reliance::calls_made(rt.alloc());
     let simulations = simulations::calls_made(rt.alloc());
     Ok(
         patches
@@ -65,6 +67,7 @@ fn calls_made(rt: &impl AllocGlobal) -> Result<Outcome, AllocError> {
             .then(consoles)
             .then(world_files)
             .then(worlds)
+            .then(reliance)
             .then(simulations),
     )
 }

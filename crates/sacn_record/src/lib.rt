@@ -24,6 +24,3 @@ pub use session::run_record;
 pub use tapes::Tapes;
 pub use totals::Totals;
 pub use wire::{Arrived, Caught, Wire};
-
-#[cfg(test)]
-mod tests;

@@ -1,6 +1,4 @@
 //! Calls of datagrams: what is read of octets, what is written, and lists of universes that are known of pages.
-ghost use Rattle.std.specs.Prelude.{◌≡◌, IsTrue};
-ghost use Rattle.std.specs.List.Sorted.{IsStrictlyIncreasing};
 
 use crate::layers::layer_answer;
 use crate::packet::{cid_in, write_packet};
@@ -150,9 +148,7 @@ impl Packets {
 }
 
 /// Whether each number is below the next.
-fn rises(list: &[u16]) -> bool
-    ensures { IsTrue result → IsStrictlyIncreasing list.now }
-{
+fn rises(list: &[u16]) -> bool {
     for i in 1..list.len() {
         if list[i - 1] >= list[i] {
             return false;

@@ -1,5 +1,4 @@
 //! The table beside the plain program, call by call.
-ghost use Rattle.std.specs.Prelude.{◌<◌};
 
 use crate::packet_rows::{Numbers, Sent, cid_of, write_sent};
 use sacn_packets::{Packet, SLOTS, read_packet};
@@ -54,9 +53,7 @@ struct Both {
     answers: [u64; 6],
 }
 
-fn place_of(taken: Taken) -> usize
-    ensures { result < 6 }
-{
+fn place_of(taken: Taken) -> usize {
     match taken {
         Taken::Held => 0,
         Taken::Observed => 1,

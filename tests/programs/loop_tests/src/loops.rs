@@ -1,5 +1,4 @@
 //! Links and sinks over memory that cut and that fail.
-ghost use Rattle.std.specs.Prelude.{◌≡◌, false};
 
 use fixtures::packets::{DESK, TWO_SLOTS, data};
 use fixtures::texts::{ONE_PORT, frame_line};
@@ -60,9 +59,7 @@ fn run_three_turns<O: Out>(
     alloc: Global,
     link: &mut MemoryLink,
     out: &mut O,
-) -> Option<Result<NodeReport, WriteFailed>>
-    requires { O.failed out.old ≡ false }
-{
+) -> Option<Result<NodeReport, WriteFailed>> {
     let mut clock = ListClock::new(Vec::from_slice(alloc, &[0, 100, 2500]).ok()?);
     let mut node = port_node(alloc)?;
     Some(run_node(link, &mut clock, out, &mut node, 3))

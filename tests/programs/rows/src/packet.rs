@@ -1,5 +1,4 @@
 //! Data packets as words say them.
-ghost use Rattle.std.specs.Prelude.{◌≤◌, IfOk};
 
 use crate::step::{Step, StepFault};
 use hex::FromHex;
@@ -45,9 +44,7 @@ fn name_in(step: &mut Step<'_>) -> [u8; 64] {
 /// # Errors
 ///
 /// There is no such packet, or no memory.
-pub fn write_packet(step: &mut Step<'_>, room: &mut [u8; 638]) -> Result<usize, StepFault>
-    ensures { IfOk result (λ len. len ≤ 638) }
-{
+pub fn write_packet(step: &mut Step<'_>, room: &mut [u8; 638]) -> Result<usize, StepFault> {
     let mut slots = Vec::new(step.alloc());
     let mut fields = DataFields {
         cid: cid_of(1),

@@ -1,5 +1,4 @@
 //! Calls of a node.
-ghost use Rattle.std.specs.Prelude.{◌≤◌};
 
 use crate::packet::{cid_in, cid_of, packet_in};
 use crate::sources::{say_held, say_moment, say_taken};
@@ -96,9 +95,7 @@ pub fn say_node_taken(step: &mut Step<'_>, taken: NodeTaken) {
 }
 
 /// The octets of a live packet of one slot on universe 1: a source's number modulo 256.
-fn one_slot(source: u64, number: u8, octets: &mut [u8; 638]) -> usize
-    ensures { result ≤ 638 }
-{
+fn one_slot(source: u64, number: u8, octets: &mut [u8; 638]) -> usize {
     let fields = DataFields {
         cid: cid_of(source),
         name: [0; 64],

@@ -1,7 +1,8 @@
 //! A recording's beginning, made by hand from the description of pcapng, whose program has a name that is filled up.
 
-use crate::begin;
 use arrayvec::ArrayVec;
+use sacn_record::begin;
+use std::test::*;
 
 const BEGINNING: &[u8] = b"\
     \x0a\x0d\x0d\x0a\x30\x00\x00\x00\x4d\x3c\x2b\x1a\x01\x00\x00\x00\xff\xff\xff\xff\xff\xff\xff\xff\

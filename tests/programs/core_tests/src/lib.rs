@@ -1,6 +1,5 @@
 //! Tests of the merge, the source table, the node, the cue player, the patch, the console, the kinds of files and what is found in them that no rows say: beside
 //! plain programs over generators, and where requests for memory are refused.
-#![tactic(auto)]
 
 #[cfg(test)]
 mod console;

@@ -1,5 +1,4 @@
 //! Data packets as rows of tables say them.
-ghost use Rattle.std.specs.Prelude.{◌≤◌};
 
 use sacn_packets::{DataFields, SLOTS, write_data};
 use sacn_sources::{HeldView, Kind};
@@ -33,9 +32,7 @@ pub(crate) fn cid_of(cid: u32) -> [u8; 16] {
 }
 
 /// Writes the packet's octets, and returns how many they are: 0 where there is no such packet.
-pub(crate) fn write_sent(sent: &Sent<'_>, octets: &mut [u8; 638]) -> usize
-    ensures { result ≤ 638 }
-{
+pub(crate) fn write_sent(sent: &Sent<'_>, octets: &mut [u8; 638]) -> usize {
     if sent.priority > 200 || sent.slots.len() > SLOTS {
         return 0;
     }
