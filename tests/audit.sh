@@ -41,11 +41,11 @@ def write(name, packets, text, lists=None):
         recording.sent(at, address, octets, to=to[0] if to else group(octets), from_port=5568)
     recording.close()
     open(name + ".text", "w", encoding="utf-8").write(text)
-def stream(source, moments, address=5, numbers=None, ends=3, **fields):
-    """A stream whose numbers go up by one, and three packets that end it, 20 ms apart."""
+def stream(source, moments, address=5, numbers=None, ends=3, apart=20, **fields):
+    """A stream whose numbers go up by one, and three packets that end it, 20 ms or so many apart."""
     numbers = range(len(moments)) if numbers is None else numbers
     made = [(at, packet(source, number, **fields), address) for at, number in zip(moments, numbers)]
-    return made + [(moments[-1] + 20 * (1 + it), packet(source, numbers[-1] + 1 + it, ends=True, **fields), address) for it in range(ends)]
+    return made + [(moments[-1] + apart * (1 + it), packet(source, numbers[-1] + 1 + it, ends=True, **fields), address) for it in range(ends)]
 steady = list(range(0, 20000, 25))
 at = '"Source %d" %s at 10.0.0.5'
 def who(source, address=5): return '"Source %d" %02x%02x..%02x at 10.0.0.%d' % (source, source, source, source, address)
@@ -104,6 +104,12 @@ end = stream(13, steady, ends=2)
 write("end2", end, who(13) + ":\n  6.2.6 ended by fewer than three packets on 1, and nothing came after them\n")
 write("ended2", end + stream(13, [25000 + it for it in steady], numbers=range(802, 802 + len(steady))),
       who(13) + ":\n  6.2.6 ended by fewer than three packets on 1 (once, at 25.000 s)\n")
+# Ends 19 ms apart on three universes: the second and the third packet of each, at 20.013 s and 20.032 s. And some 20 ms apart, with a packet that begins the stream again between
+# the last one and the next, 9 ms later.
+close = sum((stream(49, steady, universe=it, apart=19) for it in (1, 2, 3)), [])
+write("close", close, who(49) + ": conforms\n  seen, no breach: 6.2.6 the packets of an end less than 20 ms apart on 1-3 (6 times, the first at 20.013 s, the latest at 20.032 s)\n")
+again = [(20037, packet(50, 803), 5)] + [(20044 + 20 * it, packet(50, 804 + it, ends=True), 5) for it in range(3)]
+write("close20", stream(50, steady) + again, who(50) + ": conforms\n")
 write("name64", stream(14, steady[:1], name=b"n" * 64),
       '"' + "n" * 64 + '" 0e0e..0e at 10.0.0.5:\n  6.2.2 a name without an end on 1 (4 times, the first at 0.000 s, the latest at 0.060 s)\n'
       "  can't be seen in so short a recording: 6.2.5 numbers that don't go up; 6.2.5 a number left out in each turn; 6.6.1 faster than 44 a second; 6.6.2 levels more than 1 s apart; 6.6.2 changed levels sent fewer than three times; 8 no list of universes for 12 s; 8 a list that lacks a universe it sends\n")
@@ -240,6 +246,91 @@ with open("frames", "w") as frames:
     while at < len(octets):
         frames.write("%d\n" % at)
         at += 16 + int.from_bytes(octets[at + 8:at + 12], "little")
+# The nearest on the other side, where it doesn't stand above. Forty-five a second in two seconds in a row, and in no other (rate45once has no two in a row):
+write("rate45twice", stream(50, [1000 * second + 20 * count for second in range(20) for count in range(45 if second in (5, 6) else 44)]),
+      who(50) + ":\n  6.6.1 faster than 44 a second on 1 (once, at 6.880 s)\n")
+# priorities for slots, every second packet, count for the rate
+def with_priorities(source, moments):
+    return [(at, packet(source, number, start=0xdd if number % 2 else 0), 5) for number, at in enumerate(moments)] + \
+        [(moments[-1] + 20 * (1 + it), packet(source, len(moments) + it, ends=True), 5) for it in range(3)]
+write("ratedd44", with_priorities(49, edge), who(49) + ": conforms\n")
+write("ratedd45", with_priorities(49, [1000 * second + 20 * count for second in range(20) for count in range(45)]),
+      who(49) + ":\n  6.6.1 faster than 44 a second on 1 (19 times, the first at 1.880 s, the latest at 19.880 s)\n")
+# three turns that pass over two numbers, 0 and 1
+write("skipspair", stream(51, steady, numbers=[2 + it % 254 for it in range(len(steady))]), who(51) + ": conforms\n")
+# a ninth universe beside those of `counters`: the eight packets behind that of universe 1 count on, in each turn
+write("counters9", sum((stream(52, steady, universe=it, numbers=range(it, it + len(steady))) for it in range(1, 10)), []),
+      who(52) + ":\n  6.2.5 one counter for several universes (803 times, the first at 0.000 s, the latest at 20.035 s)\n")
+# two universes by one counter as in `counter`, but two packets of one and then two of the other: every second packet is on the universe of the one before
+twos = [(25 * it, packet(64, it, universe=1 + it // 2 % 2), 5) for it in range(800)]
+write("countertwos", twos + [(20000 + 20 * it, packet(64, 800 + it, universe=1 + it // 3, ends=True), 5) for it in range(6)], who(64) + ": conforms\n")
+# other levels twice, as in change2, and then 500 ms without a packet, or 501 in which one is lost
+def paused(source, pause, lost=0):
+    moments = [it if it < 10050 else it + pause - 25 for it in steady]
+    numbers = [it + (lost if it >= 402 else 0) for it in range(len(steady))]
+    return stream(source, moments, numbers=numbers, ends=0)[:400] + stream(source, moments, numbers=numbers, slots=b"\x07")[400:]
+write("change500", paused(53, 500), who(53) + ": conforms\n")
+write("change501", paused(53, 501), who(53) + ":\n  6.6.2 changed levels sent fewer than three times on 1 (once, at 10.526 s)\n")
+write("changelost", paused(53, 501, 1), who(53) + ": conforms\n")
+# the start codes beside 0 and 0xDD, and the bit of a preview
+starts = [(10 * it, packet(54, it, start=start), 5) for it, start in enumerate((0, 1, 0xdc, 0xdd, 0xde))]
+write("starts", starts + stream(54, [it + 50 for it in steady], numbers=range(5, 5 + len(steady))),
+      who(54) + ": conforms\n  seen, no breach: 7.7 a start code other than 0 and 0xDD on 1 (3 times, the first at 0.010 s, the latest at 0.040 s)\n")
+write("bit7", with_options(stream(55, steady), 0x80), who(55) + ": conforms\n")
+# A list 12,001 ms before a packet that none came before, and 12,000 ms; and a source silent for 2500 ms, of which a list is awaited since its first packet, and for 2501 ms,
+# of which it is awaited anew (five of its packets are lost, so that nothing is told of its silence).
+write("list12001", stream(56, minute), who(56) + ":\n  8 no list of universes for 12 s (once, at 22.000 s)\n", listed(56, [1], 0, 9999, 22010))
+write("list12000", stream(56, minute), who(56) + ": conforms\n", listed(56, [1], 0, 10000, 22010))
+def resumed(source, moment, universe=1, before=400, after=400):
+    """A stream that sends until 25 ms * before - 25 ms, and goes on at this moment."""
+    return stream(source, steady[:before], universe=universe, ends=0) + stream(source, [moment + it for it in steady[:after]], universe=universe, numbers=range(before + 5, before + 5 + after))
+write("anew2500", resumed(57, 12475), who(57) + ":\n  8 no list of universes for 12 s (once, at 12.475 s)\n", listed(57, [1], 0, 13000))
+write("anew2501", resumed(57, 12476), who(57) + ": conforms\n", listed(57, [1], 0, 13000))
+# A list that lacks a universe whose stream paused for 2500 ms, and for 2501 ms, of which it was sent for 10 s no more; and one whose latest packet came so long before the list.
+def beside_1(source, second): return stream(source, steady, universe=1) + second
+write("lacks2500", beside_1(58, resumed(58, 7500, 2, 201)), who(58) + ":\n  8 a list that lacks a universe it sends (once, at 10.001 s)\n", listed(58, [1], 0, 10001) + listed(58, [1, 2], 20000))
+write("lacks2501", beside_1(58, resumed(58, 7501, 2, 201)), who(58) + ": conforms\n", listed(58, [1], 0, 10001) + listed(58, [1, 2], 20000))
+silenced = beside_1(59, stream(59, steady[:401], universe=2, ends=0))
+write("lackslost2500", silenced, who(59) + ":\n  8 a list that lacks a universe it sends (once, at 12.500 s)\n", listed(59, [1, 2], 0, 5000) + listed(59, [1], 12500))
+write("lackslost2501", silenced, who(59) + ": conforms\n", listed(59, [1, 2], 0, 5000) + listed(59, [1], 12501))
+# Universe 4 between the last number of a page and the first of the next one, and in one page without it.
+three = parts + stream(26, steady, universe=4)
+write("pagesbetween", three, who(26) + ": conforms\n", [(at, page(26, numbers, number, 1), 5) for at in (0, 10500) for number, numbers in enumerate(([1, 2], [6, 9]))])
+write("pagewhole", three, who(26) + ":\n  8 a list that lacks a universe it sends (once, at 10.500 s)\n", listed(26, [1, 2, 6, 9], 0, 10500))
+# Lists alone, of a universe on which nothing is sent: 12,000 ms apart, which is one time, in which the third is 18 s behind the first; and 12,001 ms apart, behind which the time begins anew.
+def silent_list(source, *moments): return listed(source, [1], *moments)
+seen_silent = ": conforms\n  seen, no breach: 8 a list with a universe that wasn't heard (once, at %s s)\n"
+write("alone12000", [], who(60) + seen_silent % "18.000", silent_list(60, 0, 12000, 18000))
+write("aloneanew", [], who(60) + ": conforms\n", silent_list(60, 0, 12001, 18001, 24001))
+write("aloneanew12001", [], who(60) + seen_silent % "24.002", silent_list(60, 0, 12001, 18001, 24002))
+# a list that comes from another address than the packets before and behind it
+write("listelsewhere", stream(65, steady), who(65) + ":\n  5.6 one CID at two addresses (2 times, the first at 10.000 s, the latest at 10.025 s)\n", listed(65, [1], 0, 20000) + [(10000, page(65, [1]), 6)])
+write("listthere", stream(65, steady), who(65) + ": conforms\n", listed(65, [1], 0, 10000, 20000))
+# Two sources at one time whose names differ in a letter's height, or only behind their first NUL; and two without a name.
+def pair_of(one, other): return stream(61, steady, name=one.ljust(64, b"\0")) + stream(62, steady, address=6, name=other.ljust(64, b"\0"))
+def pair_told(one, other, same=False):
+    lines = ['"%s" %s at 10.0.0.%d' % it for it in ((one, "3d3d..3d", 5), (other, "3e3e..3e", 6))]
+    seen = ["  seen, no breach: 6.2.2 the name of another source too: %s\n" % line.split('" ')[1] if same else "" for line in reversed(lines)]
+    return "".join(line + ": conforms\n" + it for line, it in zip(lines, seen))
+write("twinscase", pair_of(b"Desk", b"desk"), pair_told("Desk", "desk"))
+write("twinsnul", pair_of(b"Desk", b"Desk\0x"), pair_told("Desk", "Desk", True))
+write("twinsempty", pair_of(b"", b""), pair_told("", ""))
+# what can't be read of 128 senders, two faults of each: all of it is told apart
+told_apart = open("pairs.text").read().rpartition("2 further")[0]
+write("pairs256", pairs[:256], told_apart, [])
+write("pairs257", pairs[:257], told_apart + "1 further packet that can't be read wasn't told apart\n", [])
+# A source heard for so many milliseconds: which rules want more (four packets of a source at rest are 3 s, and any 3 s have two whole seconds).
+wants = [(501, "6.6.2 changed levels sent fewer than three times"), (1001, "6.6.2 levels more than 1 s apart"), (3000, "6.2.5 numbers that don't go up"), (3000, "6.6.1 faster than 44 a second"),
+         (10001, "8 a list that lacks a universe it sends"), (12001, "8 no list of universes for 12 s")]
+for heard_for in (500, 501, 1000, 1001, 2999, 3000, 10000, 10001, 12000, 12001):
+    short = [words for least, words in wants if heard_for < least] + ["6.2.5 a number left out in each turn"]
+    open("heard%d.rules" % heard_for, "w").write("".join(sorted(it + "\n" for it in short)))
+    write("heard%d" % heard_for, stream(63, [*range(0, heard_for, 25), heard_for], ends=0), "")
+# 1024 sources of a packet each; one more; and one more of two
+for it in (1024, 1025, 1026):
+    recording = e131.Recording("crowd%d.pcap" % it, 1700000000)
+    for number in range(it): recording.sent(0, 5, e131.data(1, 0, b"\xff", min(number, 1024).to_bytes(16, "big"), b"Source"))
+    recording.close()
 # What is sent live: three packets of a name without an end, and one of priority 201.
 for place, octets in enumerate([packet(31, number, name=b"n" * 64) for number in range(3)] + [with_octets(packet(31, 3), 108, b"\xc9")]):
     open("live%d.sacn" % place, "wb").write(octets)
@@ -255,9 +346,22 @@ tells() {
   [ "$status" = "$wanted" ] && [[ $first == $said ]] && cmp -s "$output" out
   verdict "$name" $? "status $status, '$first', it prints something else: $(diff "$output" out | head -n 4 | cut -c 1-160)"
 }
-for name in conforms rate44 rate45 rate45once rate50 skips skips1 skips2 stays stays3 second silent silent2 silentdd change0 change1 change2 change3 end2 ended2 name64 name63 nametext nametext8 two moves moves2500 start group0 groups counter counters bits bit5 unread pairs sends201 outside inside crooked priority200 printer frames unlisted late late12 back lacks lacks10 lacksnone pages pageslack unheard unheard12 alone twins successor nothing; do
+for name in conforms rate44 rate45 rate45once rate50 skips skips1 skips2 stays stays3 second silent silent2 silentdd change0 change1 change2 change3 end2 ended2 close close20 name64 name63 nametext nametext8 two moves moves2500 start group0 groups counter counters bits bit5 unread pairs sends201 outside inside crooked priority200 printer frames unlisted late late12 back lacks lacks10 lacksnone pages pageslack unheard unheard12 alone twins successor nothing; do
   tells "$name" 0 "" $name.text $name.pcap
 done
+for name in rate45twice ratedd44 ratedd45 skipspair counters9 countertwos change500 change501 changelost starts bit7 list12001 list12000 anew2500 anew2501 lacks2500 lacks2501 lackslost2500 lackslost2501 pagesbetween pagewhole alone12000 aloneanew aloneanew12001 listelsewhere listthere twinscase twinsnul twinsempty pairs256 pairs257; do
+  tells "$name" 0 "" $name.text $name.pcap
+done
+for name in 500 501 1000 1001 2999 3000 10000 10001 12000 12001; do
+  "$sacn" audit "heard$name.pcap" </dev/null 2>err | sed -n "s/^  can't be seen in so short a recording: //p" | sed 's/; /\n/g' | LC_ALL=C sort | diff "heard$name.rules" - >differ
+  verdict "what can't be seen in $name ms" $? "$(head -n 3 differ err)"
+done
+"$sacn" audit crowd1024.pcap >out 2>err && [ "$(grep -c '^"Source" ' out)" = 1024 ] && ! grep -q further out
+verdict "1024 sources" $? "$(tail -n 1 out)"
+"$sacn" audit crowd1025.pcap >out 2>err && [ "$(grep -c '^"Source" ' out)" = 1024 ] && [ "$(tail -n 1 out)" = "1 packet of further streams wasn't looked at" ]
+verdict "one source more" $? "$(tail -n 1 out)"
+"$sacn" audit crowd1026.pcap >out 2>err && [ "$(grep -c '^"Source" ' out)" = 1024 ] && [ "$(tail -n 1 out)" = "2 packets of further streams weren't looked at" ]
+verdict "one source more, of two packets" $? "$(tail -n 1 out)"
 # What is broken is told up to where a recording is faulty; what is no recording has nothing.
 : >empty
 { cat rate50.pcap; printf 'cut'; } >cut.pcap
@@ -293,6 +397,13 @@ assert [(it["event"], it["section"], it["universes"], it["first"], it["latest"],
 assert objects[0]["cid"] == "03" * 16 and objects[0]["name"] == "Source 3" and objects[0]["address"] == "10.0.0.5", objects
 P
 verdict "objects" $? "$(head -c 300 out)"
+"$sacn" audit --json close.pcap >out 2>err && python3 - <<'P'
+import json
+objects = [json.loads(line) for line in open("out")]
+told = [tuple(it.get(key) for key in ("event", "section", "rule", "universes", "first", "latest", "times")) for it in objects]
+assert told == [("conforms", *[None] * 6), ("seen", "6.2.6", "the packets of an end less than 20 ms apart", [1, 2, 3], 20013, 20032, 6)], told
+P
+verdict "objects of ends that come close" $? "$(head -c 300 out)"
 { "$sacn" audit --json unread.pcap && "$sacn" audit --json frames.pcap; } >out 2>err && python3 - <<'P'
 import json
 objects = [json.loads(line) for line in open("out")]
@@ -357,15 +468,17 @@ short, run = [], 1
 for one, other in pairs:
     if follow(one, other) and other.at - one.at > 500 and run < 3: short.append(other.at)
     run = run + 1 if follow(one, other) and one.levels == other.levels else 1
+close = [other.at for one, other in pairs if one.ends and other.ends and other.at - one.at < 20]
 def line(rule, moments):
     if len(moments) == 1: print("  %s on 1 (once, at %.3f s)" % (rule, moments[0] / 1000))
     elif moments: print("  %s on 1 (%d times, the first at %.3f s, the latest at %.3f s)" % (rule, len(moments), moments[0] / 1000, moments[-1] / 1000))
 line("6.2.5 a number left out in each turn", left_out)
+line("seen, no breach: 6.2.6 the packets of an end less than 20 ms apart", close)
 line("6.6.1 faster than 44 a second", fast)
 line("6.6.2 levels more than 1 s apart", apart)
 line("6.6.2 changed levels sent fewer than three times", short)
 P
-for it in "ola 2" "qlcplus-turns 2"; do
+for it in "ola 3" "qlcplus-turns 2"; do
   set -- $it
   if ! command -v tshark >/dev/null; then
     skips "$1.pcap as tshark reads it" "there is no tshark"
@@ -373,7 +486,7 @@ for it in "ola 2" "qlcplus-turns 2"; do
   fi
   python3 judge.py "$top/examples/$1.pcap" >wanted 2>err
   "$sacn" audit "$top/examples/$1.pcap" >out 2>>err
-  grep -E '^  6\.(2\.5|6\.[12]) ' out | diff wanted - >differ && [ "$(wc -l <wanted)" = "$2" ] && [ ! -s err ]
+  grep -E '^  (seen, no breach: )?6\.(2\.[56]|6\.[12]) ' out | diff wanted - >differ && [ "$(wc -l <wanted)" = "$2" ] && [ ! -s err ]
   verdict "$1.pcap breaks what its packets break as tshark reads them" $? "$(head -n 3 differ err | cut -c 1-160)"
 done
 
@@ -411,7 +524,10 @@ wait_for_end $desk
 exec 4>&-
 wait_for_end $watch
 status=$?
-[ $status = 0 ] && [ "$(head -n 1 live)" = '"Desk" 0001..0f at 127.0.0.1: conforms' ] && [ "$(wc -l <live)" = 1 ]
+# (two packets of an end, which the desk sends 25 ms apart, are told as close where one of them or the watch waited for more than 5)
+others=$(tail -n +2 live)
+[ "$(cat stood)" -gt 3 ] && others=$(grep -v '^  seen, no breach: 6\.2\.6 the packets of an end ' <<<"$others")
+[ $status = 0 ] && [ "$(head -n 1 live)" = '"Desk" 0001..0f at 127.0.0.1: conforms' ] && [ -z "$others" ]
 told=$?
 kill $pulse
 if [ $told != 0 ] && [ "$(cat stood)" -gt 20 ]; then

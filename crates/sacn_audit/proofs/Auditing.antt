@@ -2,11 +2,11 @@
 use Rattle.std.proofs.Common.{◌≡◌, ◌<◌, ◌≤◌, ℕ, ◌+◌, ◌-◌, Bool, true, false, not, ◌&&◌, ◌==◌, cond, List, [], ◌∷◌, min, max, nat_lt, refl, sym, ap, ◌∙◌, arith}
 use Rattle.std.proofs.lemmas.Bool.Decides.{nat_tests}
 use Rattle.sacn_audit.specs.declared.rule.Rule.{Rule}
-use Rattle.sacn_audit.specs.declared.rule.Rule.TheVariants.{TooFast, Silent, ShortChange, ShortEnd, NameNotEnded, NameNotText, NumberStays, NumberLeftOut, ReservedBits, OtherGroup, OtherStart}
+use Rattle.sacn_audit.specs.declared.rule.Rule.TheVariants.{TooFast, Silent, ShortChange, ShortEnd, CloseEnds, NameNotEnded, NameNotText, NumberStays, NumberLeftOut, ReservedBits, OtherGroup, OtherStart}
 use Rattle.sacn_audit.specs.declared.breach.Breaches.{Breaches}
 use Rattle.sacn_audit.specs.declared.audit.StreamAudit.{StreamAudit}
 use Rattle.sacn_audit.specs.Arrivals.{Arrival, ends, follows, in_turn, latest_levels, latest_moment, packets_in, passes_one, second_of}
-use Rattle.sacn_audit.specs.Rules.{breaks, goes_to_other_group, goes_too_fast, had_short_end, has_no_text, has_other_start, keeps_number, leaves_name_open, leaves_number_out, moments_where, had_short_change, sets_reserved_bits, was_silent}
+use Rattle.sacn_audit.specs.Rules.{breaks, ends_close, goes_to_other_group, goes_too_fast, had_short_end, has_no_text, has_other_start, keeps_number, leaves_name_open, leaves_number_out, moments_where, had_short_change, sets_reserved_bits, was_silent}
 use Rattle.sacn_audit.specs.Breaches.{breach_by, breach_of, no_breach, noted_if}
 use Rattle.sacn_audit.specs.Audits.{after_at, after_packet, counted, first_audit, is_short, is_too_fast, judged, sight_of}
 use Rattle.sacn_audit.specs.Histories.{BreachesAreOfTheirPackets, ShortEndsAreOfTheirPackets, audit_by, audit_with}
@@ -21,6 +21,7 @@ breaches_of xs = record {
   silent = breach_by (moments_where was_silent xs);
   short_change = breach_by (moments_where had_short_change xs);
   short_end = breach_by (moments_where had_short_end xs);
+  close_ends = breach_by (moments_where ends_close xs);
   name_not_ended = breach_by (moments_where leaves_name_open xs);
   name_not_text = breach_by (moments_where has_no_text xs);
   number_stays = breach_by (moments_where keeps_number xs);
@@ -74,6 +75,7 @@ module _ (x y : Arrival) (earlier : List Arrival) where
       let silent = noted (was_silent (x ∷ ys)) (was_silent (x ∷ ys)) (moments_where was_silent ys) refl in
       let change = noted (follows y.packet x.packet && not y.packet.terminated && nat_lt 500 (x.moment - y.moment) && nat_lt 0 (copies ys)) (had_short_change (x ∷ ys)) (moments_where had_short_change ys) short_change in
       let end = noted (not x.packet.terminated && is_short (min (ends ys) 3)) (had_short_end (x ∷ ys)) (moments_where had_short_end ys) short_end in
+      let close = noted (ends_close (x ∷ ys)) (ends_close (x ∷ ys)) (moments_where ends_close ys) refl in
       let name = noted (leaves_name_open (x ∷ ys)) (leaves_name_open (x ∷ ys)) (moments_where leaves_name_open ys) refl in
       let text = noted (has_no_text (x ∷ ys)) (has_no_text (x ∷ ys)) (moments_where has_no_text ys) refl in
       let start = noted (has_other_start (x ∷ ys)) (has_other_start (x ∷ ys)) (moments_where has_other_start ys) refl in
@@ -86,6 +88,7 @@ module _ (x y : Arrival) (earlier : List Arrival) where
         silent = silent i;
         short_change = change i;
         short_end = end i;
+        close_ends = close i;
         name_not_ended = name i;
         name_not_text = text i;
         number_stays = stay i;
@@ -148,6 +151,7 @@ begins x =
         silent = no_breach;
         short_change = no_breach;
         short_end = end i;
+        close_ends = no_breach;
         name_not_ended = name i;
         name_not_text = text i;
         number_stays = stay i;
@@ -178,6 +182,7 @@ by_rule TooFast xs = refl
 by_rule Silent xs = refl
 by_rule ShortChange xs = refl
 by_rule ShortEnd xs = refl
+by_rule CloseEnds xs = refl
 by_rule NameNotEnded xs = refl
 by_rule NameNotText xs = refl
 by_rule NumberStays xs = refl

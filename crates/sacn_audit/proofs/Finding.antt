@@ -1,13 +1,14 @@
 -- A stream that a hint led to is the one that a look at all finds, and so is a source; and one more has a key of its own.
-use Rattle.std.proofs.Common.{◌≡◌, ℕ, ◌<◌, Bool, true, false, ◌&&◌, ◌==◌, List, [], ◌∷◌, ◌++◌, length, get_or, Some, None, refl, sym, ap, ◌∙◌}
+use Rattle.std.proofs.Common.{◌≡◌, ℕ, ◌<◌, Bool, true, false, ◌&&◌, ◌==◌, List, [], ◌∷◌, ◌++◌, length, get_or, slice_set, Some, None, refl, sym, ap, ◌∙◌}
 use Rattle.std.specs.List.{position}
 use Rattle.std.specs.Str.{bytes_eq}
 use Rattle.std.proofs.lemmas.Bool.{eqb-true}
+use Rattle.std.proofs.lemmas.List.{get_or_read}
 use Rattle.std.proofs.lemmas.Slice.Eq.{bytes_eq-Decides}
 use Rattle.sacn_audit.specs.declared.source.SourceAudit.{SourceAudit}
 use Rattle.sacn_audit.specs.declared.stream_register.AuditedStream.{AuditedStream}
 use Rattle.sacn_audit.specs.Networks.{AreApart, AreDistinct, is_from, is_of}
-use Rattle.sacn_audit.proofs.Keys.{admitted_apart, found_first}
+use Rattle.sacn_audit.proofs.Keys.{admitted_apart, changed_apart, found_first}
 
 both : (a b : Bool) → a && b ≡ true → (a ≡ true) × (b ≡ true)
 both true b e = (refl, e)
@@ -31,6 +32,12 @@ stream_found universe cid place s ss distinct low here e = found_first same (is_
 
 pub stream_admitted : (ss after : List AuditedStream) (s : AuditedStream) → AreDistinct ss → position (is_of s.universe s.cid) ss ≡ None → after ≡ ss ++ s ∷ [] → AreDistinct after
 stream_admitted ss after s distinct unknown e = admitted_apart same ss after s distinct unknown e
+
+-- x, at this place, becomes s
+pub stream_kept : (ss : List AuditedStream) (at : ℕ) (x s : AuditedStream) → AreDistinct ss → at < length ss → x ≡ get_or ss at x → s.universe ≡ x.universe → s.cid ≡ x.cid → AreDistinct (slice_set ss at s)
+stream_kept ss at x s distinct low here universe cid = changed_apart same ss at s distinct low
+    (λ y d. rw (universe, cid, ← get_or_read ss at x low here d) refl)
+    (λ y d. rw (universe, cid, ← get_or_read ss at x low here d) refl)
 
 -- ---- sources
 

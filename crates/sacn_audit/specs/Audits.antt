@@ -96,6 +96,9 @@ is_silent t s a = is_continued s a && (s.start == 0) && is_late t a.levels
 abbrev pub is_short_change : ℕ → Sight → StreamAudit → Bool
 is_short_change t s a = is_continued s a && nat_lt 500 (t - a.moment) && nat_lt 0 a.copies
 
+abbrev pub is_close_end : ℕ → Sight → StreamAudit → Bool
+is_close_end t s a = s.terminated && a.latest.terminated && nat_lt (t - a.moment) 20
+
 abbrev pub leaves_out : Sight → StreamAudit → Bool
 leaves_out s a = passes_over a.latest.number s.number && (a.habits.turns == 3)
 
@@ -116,6 +119,7 @@ judged t s a = record (judged_alone t s a.breaches) {
   silent = noted_if (is_silent t s a) t a.breaches.silent;
   short_change = noted_if (is_short_change t s a) t a.breaches.short_change;
   short_end = noted_if (not s.terminated && is_short a.ends) t a.breaches.short_end;
+  close_ends = noted_if (is_close_end t s a) t a.breaches.close_ends;
   number_stays = noted_if (a.habits.same == 4) t a.breaches.number_stays;
   number_left_out = noted_if (leaves_out s a) t a.breaches.number_left_out;
 }

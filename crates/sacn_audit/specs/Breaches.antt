@@ -1,7 +1,7 @@
 -- How often a rule was broken, and when.
 use Rattle.std.specs.Prelude.{ℕ, ◌+◌, ◌-◌, ◌^◌, min, Bool, ◌==◌, List, [], ◌∷◌, length, if◌then◌else◌}
 use Rattle.sacn_audit.specs.declared.rule.Rule.{Rule}
-use Rattle.sacn_audit.specs.declared.rule.Rule.TheVariants.{TooFast, Silent, ShortChange, ShortEnd, NameNotEnded, NameNotText, NumberStays, NumberLeftOut, ReservedBits, OtherGroup, OtherStart}
+use Rattle.sacn_audit.specs.declared.rule.Rule.TheVariants.{TooFast, Silent, ShortChange, ShortEnd, CloseEnds, NameNotEnded, NameNotText, NumberStays, NumberLeftOut, ReservedBits, OtherGroup, OtherStart}
 use Rattle.sacn_audit.specs.declared.breach.Breach.{Breach}
 use Rattle.sacn_audit.specs.declared.breach.Breaches.{Breaches}
 
@@ -33,6 +33,7 @@ no_breaches = record {
   silent = no_breach;
   short_change = no_breach;
   short_end = no_breach;
+  close_ends = no_breach;
   name_not_ended = no_breach;
   name_not_text = no_breach;
   number_stays = no_breach;
@@ -47,6 +48,7 @@ breach_of TooFast b = b.too_fast
 breach_of Silent b = b.silent
 breach_of ShortChange b = b.short_change
 breach_of ShortEnd b = b.short_end
+breach_of CloseEnds b = b.close_ends
 breach_of NameNotEnded b = b.name_not_ended
 breach_of NameNotText b = b.name_not_text
 breach_of NumberStays b = b.number_stays

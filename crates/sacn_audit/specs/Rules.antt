@@ -3,7 +3,7 @@ use Rattle.std.specs.Prelude.{ℕ, ◌-◌, nat_lt, Bool, false, not, ◌&&◌, 
 use Rattle.std.specs.List.{before_first, list_any}
 use Rattle.std.specs.Str.{is_utf8}
 use Rattle.sacn_audit.specs.declared.rule.Rule.{Rule}
-use Rattle.sacn_audit.specs.declared.rule.Rule.TheVariants.{TooFast, Silent, ShortChange, ShortEnd, NameNotEnded, NameNotText, NumberStays, NumberLeftOut, ReservedBits, OtherGroup, OtherStart}
+use Rattle.sacn_audit.specs.declared.rule.Rule.TheVariants.{TooFast, Silent, ShortChange, ShortEnd, CloseEnds, NameNotEnded, NameNotText, NumberStays, NumberLeftOut, ReservedBits, OtherGroup, OtherStart}
 use Rattle.sacn_audit.specs.Arrivals.{Arrival, changes, ends, follows, in_a_row, latest_levels, number_after, packets_in, passes_one, repeats, second_of, turns_without}
 use Rattle.sacn_audit.specs.Groups.{is_other_group}
 use Rattle.sacn_audit.specs.Options.{has_reserved_bits}
@@ -43,6 +43,12 @@ is_short_end xs = nat_lt 0 (ends xs) && nat_lt (ends xs) 3
 abbrev pub had_short_end : List Arrival → Bool
 had_short_end [] = false
 had_short_end (x ∷ earlier) = not x.packet.terminated && is_short_end earlier
+
+-- it ends the stream, as the packet before it did, and comes less than 20 ms after that one
+abbrev pub ends_close : List Arrival → Bool
+ends_close [] = false
+ends_close (x ∷ []) = false
+ends_close (x ∷ y ∷ earlier) = x.packet.terminated && y.packet.terminated && nat_lt (x.moment - y.moment) 20
 
 -- the field of its source's name has no NUL
 abbrev pub leaves_name_open : List Arrival → Bool
@@ -85,6 +91,7 @@ breaks TooFast xs = goes_too_fast xs
 breaks Silent xs = was_silent xs
 breaks ShortChange xs = had_short_change xs
 breaks ShortEnd xs = had_short_end xs
+breaks CloseEnds xs = ends_close xs
 breaks NameNotEnded xs = leaves_name_open xs
 breaks NameNotText xs = has_no_text xs
 breaks NumberStays xs = keeps_number xs

@@ -2,13 +2,15 @@
 
 ghost use Rattle.std.specs.Prelude.{◌≡◌};
 ghost use Rattle.sacn_audit.specs.Breaches.{breach_of};
-ghost use Rattle.sacn_audit.specs.Audits.{after_packet, copies_after, counted, ends_after, first_audit, is_continued, is_short_change, is_short, is_silent, judged, leaves_out, levels_after};
+ghost use Rattle.sacn_audit.specs.Audits.{after_packet, copies_after, counted, ends_after, first_audit, is_close_end, is_continued, is_short_change, is_short, is_silent, judged, leaves_out, levels_after};
 ghost use Rattle.sacn_audit.specs.Rules.{is_late};
 
 use crate::breach::{Breach, Breaches};
 use crate::content::Content;
 use crate::delivery::Delivery;
-use crate::limits::{COPIES, COPIES_IN_A_ROW, LONGEST_GAP, LONGEST_REPEAT, TURNS};
+use crate::limits::{
+    COPIES, COPIES_IN_A_ROW, LONGEST_GAP, LONGEST_REPEAT, SHORTEST_BETWEEN_ENDS, TURNS,
+};
 use crate::number_habits::{NumberHabits, passes_over};
 use crate::pace::Pace;
 use crate::rule::Rule;
@@ -127,6 +129,7 @@ impl StreamAudit {
         let is_silent = self.is_silent(moment, sight);
         let is_short_change = self.is_short_change(moment, sight);
         let had_short_end = !sight.terminated & self.is_short_end();
+        let is_close_end = self.is_close_end(moment, sight);
         let is_too_fast = self.pace.is_too_fast();
         let stays = self.habits.same == COPIES_IN_A_ROW;
         let leaves_out = self.leaves_out(sight);
@@ -134,6 +137,7 @@ impl StreamAudit {
         self.breaches.silent.note_if(is_silent, moment);
         self.breaches.short_change.note_if(is_short_change, moment);
         self.breaches.short_end.note_if(had_short_end, moment);
+        self.breaches.close_ends.note_if(is_close_end, moment);
         self.breaches.number_stays.note_if(stays, moment);
         self.breaches.number_left_out.note_if(leaves_out, moment);
         self.breaches.judge_alone(moment, sight);
@@ -174,6 +178,15 @@ impl StreamAudit {
         self.is_continued(sight)
             & (moment.saturating_sub(self.moment) > LONGEST_REPEAT)
             & (self.copies > 0)
+    }
+
+    // Whether a packet ends the stream as the latest one does, too soon after it.
+    fn is_close_end(&self, moment: u64, sight: Sight) -> bool
+        ensures { result ≡ is_close_end moment sight self.now }
+    {
+        sight.terminated
+            & self.latest.terminated
+            & (moment.saturating_sub(self.moment) < SHORTEST_BETWEEN_ENDS)
     }
 
     // Whether nothing was lost between the latest packet and the next one, and the stream hadn't ended.

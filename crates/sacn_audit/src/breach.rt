@@ -62,6 +62,8 @@ pub struct Breaches {
     pub short_change: Breach,
     /// Of `Rule::ShortEnd`.
     pub short_end: Breach,
+    /// Of `Rule::CloseEnds`.
+    pub close_ends: Breach,
     /// Of `Rule::NameNotEnded`.
     pub name_not_ended: Breach,
     /// Of `Rule::NameNotText`.
@@ -88,6 +90,7 @@ impl Breaches {
             silent: Breach::none(),
             short_change: Breach::none(),
             short_end: Breach::none(),
+            close_ends: Breach::none(),
             name_not_ended: Breach::none(),
             name_not_text: Breach::none(),
             number_stays: Breach::none(),
@@ -118,6 +121,7 @@ impl Breaches {
             Rule::Silent => self.silent,
             Rule::ShortChange => self.short_change,
             Rule::ShortEnd => self.short_end,
+            Rule::CloseEnds => self.close_ends,
             Rule::NameNotEnded => self.name_not_ended,
             Rule::NameNotText => self.name_not_text,
             Rule::NumberStays => self.number_stays,

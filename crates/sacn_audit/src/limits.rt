@@ -16,6 +16,9 @@ pub(crate) const LONGEST_REPEAT: u64 = 500;
 /// (E1.31, 6.2.6).
 pub(crate) const COPIES: u8 = 3;
 
+/// Packets that end a stream and come fewer milliseconds apart than this may be lost together.
+pub(crate) const SHORTEST_BETWEEN_ENDS: u64 = 20;
+
 /// A source that passed over one number so many turns in a row leaves it out by habit.
 pub(crate) const TURNS: u8 = 3;
 

@@ -1,6 +1,6 @@
 //! The rules that are looked at.
 
-/// A rule of E1.31 that the packets of a stream may break; and what is told of them that breaks none (`OtherStart`).
+/// A rule of E1.31 that the packets of a stream may break; and what is told of them that breaks none (`CloseEnds`, `OtherStart`).
 #[derive(Clone, Copy, PartialEq, Eq)]
 pub enum Rule {
     /// More than 44 packets in each of two whole seconds of the clock that follow one another (6.6.1). Broken once for each
@@ -19,6 +19,10 @@ pub enum Rule {
     /// An end of fewer than three packets with Stream_Terminated in a row (6.2.6). Broken at the packet without it that follows. What
     /// was lost on the way, or came before the audit began, counts as not sent.
     ShortEnd,
+    /// No breach, and told as seen: a packet with Stream_Terminated comes less than 20 ms after another one, with nothing of the stream
+    /// between them. The standard doesn't say how far apart these are (6.2.6); a full queue may lose all that come in one burst, and
+    /// receivers then hold the last look for 2500 ms. Told at each such packet; a copy that was made on the way is one.
+    CloseEnds,
     /// The field of the source's name has no NUL (6.2.2). Broken at each such packet.
     NameNotEnded,
     /// The source's name, up to the first NUL of its field, is not UTF-8 (6.2.2). Broken at each such packet.

@@ -16,7 +16,7 @@ pub(crate) struct Row {
     pub(crate) least: u64,
 }
 
-pub(crate) const ROWS: [Row; 11] = [
+pub(crate) const ROWS: [Row; 12] = [
     Row {
         rule: Rule::NameNotEnded,
         section: "6.2.2",
@@ -50,6 +50,13 @@ pub(crate) const ROWS: [Row; 11] = [
         section: "6.2.6",
         words: "ended by fewer than three packets",
         is_breach: true,
+        least: 0,
+    },
+    Row {
+        rule: Rule::CloseEnds,
+        section: "6.2.6",
+        words: "the packets of an end less than 20 ms apart",
+        is_breach: false,
         least: 0,
     },
     Row {

@@ -276,5 +276,9 @@ fn push_untracked(text: &mut String, untracked: u64) -> Result<(), AllocError> {
         return Ok(());
     }
     push_decimal(text, untracked)?;
-    text.push_str(" packets of further streams weren't looked at\n")
+    text.push_str(if untracked == 1 {
+        " packet of further streams wasn't looked at\n"
+    } else {
+        " packets of further streams weren't looked at\n"
+    })
 }

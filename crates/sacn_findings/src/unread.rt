@@ -75,7 +75,11 @@ fn push_untracked(text: &mut String, untracked: u64) -> Result<(), AllocError> {
         return Ok(());
     }
     push_decimal(text, untracked)?;
-    text.push_str(" further packets that can't be read weren't told apart\n")
+    text.push_str(if untracked == 1 {
+        " further packet that can't be read wasn't told apart\n"
+    } else {
+        " further packets that can't be read weren't told apart\n"
+    })
 }
 
 /// Pushes an object for each sender and each reason for which its packets can't be read, as `push_unread` has lines.
