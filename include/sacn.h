@@ -29,8 +29,9 @@
  * Threads. A handle is used by one thread at a time, in any call, also in those that only ask. Two handles have nothing in common: each may have
  * a thread of its own. Calls without a handle may be made by any number of threads.
  *
- * Memory. Only the calls that make a handle, and a collector's `.._take` and `.._list`, take memory, by the program's malloc, and `.._free` gives all
- * of it back. No call keeps a pointer that it was given, and no call prints, waits, opens anything, reads a clock, aborts or jumps out.
+ * Memory. Only the calls that make a handle, a collector's `.._take` and `.._list`, and `sacn_setup_faults` and `sacn_show_faults` take memory, by the
+ * program's malloc. `.._free` gives back what a handle took; the last two keep none. No call keeps a pointer that it was given, and no call prints,
+ * waits, opens anything, reads a clock, aborts or jumps out.
  *
  * Pointers. A pointer with a count points to so many elements and may be null where the count is 0. Every other pointer points to what its
  * type says, in memory that may be written where it isn't const; arrays have the length that stands in the declaration, and numbers lie as C lays
@@ -290,6 +291,17 @@ struct sacn_node {
    it is to hear. Status: enum sacn_setup_fault. */
 int sacn_node_new(struct sacn_node *node, const char *setup, size_t length, uint16_t *udp_port);
 
+/* The most octets of a setup or a show whose faults are told, as of a file (1 MiB). */
+#define SACN_MAX_TEXT 1048576
+
+/* Tells every fault of a setup, `length` octets of TOML: the lines that `sacn check` prints of a file with this text (docs/FILES.md, "Files checked"),
+   without the file's name and the colon and the space behind it, as "port[0].universe: 64000: KeyValue: a universe is 1 to 63999". Each line has
+   letters of ASCII from the space to the tilde and ends with LF; there are at most 101, and behind them no NUL. They are written to a room of `room`
+   octets, and `count` says how many octets they have: 0 exactly where sacn_node_new makes a node, as long as there is memory. Octets that aren't UTF-8
+   have a line too. Status: SACN_LENGTH where there is too little room, with `count` told, and, with `count` as it was, where the text has more than
+   SACN_MAX_TEXT octets; SACN_OUT_OF_MEMORY. So ask with a room of 0 first, and then with one of `count`. */
+int sacn_setup_faults(const char *setup, size_t length, char *lines, size_t room, size_t *count);
+
 /* Makes a node of 1 to SACN_MAX_PORTS universes, without a setup: port i + 1 shows all slots of `universes[i]`, and each universe, 1 to 63999, stands
    once. The node must be empty (zero, or freed); the caller hears on SACN_UDP_PORT, or on another port. Status: SACN_LENGTH, SACN_RANGE where a
    universe is out of range or stands twice, SACN_OUT_OF_MEMORY. */
@@ -419,6 +431,10 @@ struct sacn_console {
 /* Makes a console of a show: `length` octets of TOML, as docs/FILES.md has them. The console must be empty. The first packet on each universe has the
    number `first`. Where its datagrams are sent is the caller's to say: the show's `send_to` isn't told. Status: enum sacn_show_fault. */
 int sacn_console_new(struct sacn_console *console, const char *show, size_t length, uint8_t first);
+
+/* Tells every fault of a show, as sacn_setup_faults does of a setup: `count` is 0 exactly where sacn_console_new makes a console, as long as there is
+   memory. Status: as there. */
+int sacn_show_faults(const char *show, size_t length, char *lines, size_t room, size_t *count);
 
 /* Gives back all memory of a console, which is then empty. Status: SACN_NULL where it is already. */
 int sacn_console_free(struct sacn_console *console);

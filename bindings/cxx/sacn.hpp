@@ -13,6 +13,7 @@
  *
  * Errors are thrown as sacn::Error, with the status's number, its name in sacn.h and one sentence of what it means.
  * What receives from a network passes over those whose family is sacn::Family::packet: what came is no packet.
+ * A setup or a show that is refused throws sacn::Refused, an Error with the line of each of its faults.
  *
  * Structs, enumerators and sizes are those of sacn.h. Where a pointer stands with a count it may be null if that is 0.
  */
@@ -169,7 +170,63 @@ inline bool found(int status) {
     return true;
 }
 
+/** The lines, without their ends, that a call tells into a room, which gives their octets. */
+template <class Tell> std::vector<std::string> lines_of(Tell tell) {
+    std::string room(4096, '\0');
+    std::size_t count = 0;
+    int status = tell(room.data(), room.size(), &count);
+    if (status == SACN_LENGTH && count > room.size()) {
+        room.resize(count);
+        status = tell(room.data(), room.size(), &count);
+    }
+    check(status);
+    room.resize(count);
+    std::vector<std::string> lines;
+    for (std::size_t start = 0, end; (end = room.find('\n', start)) != std::string::npos; start = end + 1) {
+        lines.push_back(room.substr(start, end - start));
+    }
+    return lines;
+}
+
 } // namespace detail
+
+/* ---- what is wrong with a setup or a show ---- */
+
+/** Every fault of a setup in TOML, a line each, as `sacn check` prints it behind a file's name:
+    "port[0].universe: 64000: KeyValue: a universe is 1 to 63999". There are none exactly where Node takes the setup.
+    Throws SACN_LENGTH where it has more than SACN_MAX_TEXT octets. */
+inline std::vector<std::string> setup_faults(std::string_view setup) {
+    return detail::lines_of([setup](char *lines, std::size_t room, std::size_t *count) {
+        return sacn_setup_faults(setup.data(), setup.size(), lines, room, count);
+    });
+}
+
+/** The same of a show: there are none exactly where Console takes it. */
+inline std::vector<std::string> show_faults(std::string_view show) {
+    return detail::lines_of([show](char *lines, std::size_t room, std::size_t *count) {
+        return sacn_show_faults(show.data(), show.size(), lines, room, count);
+    });
+}
+
+/** A setup or a show is refused. */
+class Refused : public Error {
+  public:
+    /** By this status, of a text whose faults a call tells. */
+    Refused(Family family, int status, std::string_view text, std::vector<std::string> (*faults_of)(std::string_view))
+        : Error(family, status) {
+        try {
+            faults_ = faults_of(text);
+        } catch (const std::exception &) {
+            // (a text that is too long, or want of memory: the status stands alone)
+        }
+    }
+
+    /** The line of each fault, as of setup_faults and show_faults; none where they can't be told. */
+    const std::vector<std::string> &faults() const noexcept { return faults_; }
+
+  private:
+    std::vector<std::string> faults_;
+};
 
 /* ---- packets ---- */
 
@@ -272,9 +329,11 @@ struct Held {
 /** A node: it takes datagrams, merges its sources by priority and highest level, and shows the frames of its ports. */
 class Node : public Handle<sacn_node, sacn_node_free> {
   public:
-    /** Of a setup in TOML, as docs/FILES.md has it ("Node setups"). Throws Family::setup where it is refused. */
+    /** Of a setup in TOML, as docs/FILES.md has it ("Node setups"). Throws Refused where it is refused: of
+        Family::setup, or for a length that no text has of Family::status. */
     explicit Node(std::string_view setup) {
-        detail::check(sacn_node_new(raw(), setup.data(), setup.size(), &udp_port_), Family::setup);
+        const int status = sacn_node_new(raw(), setup.data(), setup.size(), &udp_port_);
+        if (status != SACN_DONE) throw Refused(Family::setup, status, setup, setup_faults);
     }
 
     /** Of 1 to SACN_MAX_PORTS universes, each 1 to 63999 and once, without a setup: port i + 1 shows all slots of
@@ -435,9 +494,11 @@ struct Datagram {
 class Console : public Handle<sacn_console, sacn_console_free> {
   public:
     /** Of a show in TOML, as docs/FILES.md has it ("Shows"); where datagrams are sent is the caller's to say. The first
-        packet on each universe has the number `first`. Throws Family::show where the show is refused. */
+        packet on each universe has the number `first`. Throws Refused where the show is refused: of Family::show,
+        or for a length that no text has of Family::status. */
     explicit Console(std::string_view show, std::uint8_t first = 0) {
-        detail::check(sacn_console_new(raw(), show.data(), show.size(), first), Family::show);
+        const int status = sacn_console_new(raw(), show.data(), show.size(), first);
+        if (status != SACN_DONE) throw Refused(Family::show, status, show, show_faults);
     }
 
     /** To the next cue. Throws SACN_CONSOLE_NO_CUE. */

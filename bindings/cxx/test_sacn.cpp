@@ -35,6 +35,18 @@ template <class Call> bool throws(sacn::Family family, int status, Call call) {
     return false;
 }
 
+using Lines = std::vector<std::string>;
+
+/* The faults of what a call refuses. */
+template <class Call> Lines faults_of(sacn::Family family, int status, Call call) {
+    try {
+        call();
+    } catch (const sacn::Refused &refused) {
+        if (refused.family() == family && refused.status() == status) return refused.faults();
+    }
+    return {"it isn't refused so"};
+}
+
 template <class Call> bool refuses(int status, Call call) { return throws(sacn::Family::status, status, call); }
 
 void append(Octets &octets, const Octets &more) { octets.insert(octets.end(), more.begin(), more.end()); }
@@ -210,6 +222,16 @@ void node() {
     CHECK(throws(sacn::Family::setup, SACN_SETUP_MISSING_KEY, [] { sacn::Node{std::string_view{}}; }));
     CHECK(throws(sacn::Family::setup, SACN_SETUP_VERSION, [] { sacn::Node("version = 3"); }));
 
+    const char *const bad = "version = 1\nudp_port = 0\n[[port]]\nnumber = 3\nuniverse = 64000\n";
+    const Lines lines{"udp_port: 0: KeyValue: a UDP port is 1 to 65535",
+                      "port[0].universe: 64000: KeyValue: a universe is 1 to 63999"};
+    CHECK(sacn::setup_faults(setup).empty() && sacn::setup_faults(bad) == lines);
+    CHECK(faults_of(sacn::Family::setup, SACN_SETUP_KEY_VALUE, [&] { sacn::Node{bad}; }) == lines);
+    CHECK(sacn::setup_faults("\xff") == Lines{"NotText: a text is UTF-8"});
+    const std::string longer(SACN_MAX_TEXT + 1, '\n');
+    CHECK(refuses(SACN_LENGTH, [&] { sacn::setup_faults(longer); }));
+    CHECK(faults_of(sacn::Family::setup, SACN_SETUP_MISSING_KEY, [&] { sacn::Node{longer}; }).empty());
+
     /* (port 1 shows the first universe) */
     auto whole = sacn::Node::of_universes({7, 1});
     CHECK(whole.udp_port() == 5568 && whole.ports() == Octets({1, 2}));
@@ -271,6 +293,22 @@ void console() {
     CHECK(throws(sacn::Family::console, SACN_CONSOLE_CHANNEL_RANGE, [&] { console.set_level(1000, 2049, 0); }));
     CHECK(throws(sacn::Family::show, SACN_SHOW_TOML, [] { sacn::Console("x"); }));
     CHECK(throws(sacn::Family::show, SACN_SHOW_MISSING_KEY, [] { sacn::Console("version = 2"); }));
+    std::string bad(show);
+    bad.replace(bad.find("[[1, 65535]]"), 12, "[[1, 70000], [2049, 1]]");
+    bad.replace(bad.find("slot = 1"), 8, "slot = 513");
+    const Lines lines{"cue[0].levels[0][1]: 70000: KeyValue: a level is 0 to 65535",
+                      "cue[0].levels[1][0]: 2049: Cue ChannelRange: a channel is 1 to 2048",
+                      "patch[0].slot: 513: Patch SlotRange: a slot is 1 to 512"};
+    CHECK(sacn::show_faults(show).empty() && sacn::show_faults(bad) == lines);
+    CHECK(faults_of(sacn::Family::show, SACN_SHOW_KEY_VALUE, [&] { sacn::Console{bad}; }) == lines);
+
+    /* (a hundred are told, and the others counted) */
+    std::string many(show, std::string_view(show).find("universes"));
+    many += "universes = [64000";
+    for (int universe = 64001; universe < 64150; universe++) many += ", " + std::to_string(universe);
+    const Lines told = sacn::show_faults(many + "]\n");
+    CHECK(told.size() == 101 && told.back() == "50 more");
+    CHECK(told[99] == "universes[99]: 64099: KeyValue: a universe is 1 to 63999");
 }
 
 void source() {

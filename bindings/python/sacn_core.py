@@ -20,6 +20,7 @@ Levels and datagrams are bytes-like going in (`bytes`, `bytearray`, a `memoryvie
 Errors. TypeError and ValueError are raised before the library is called: a wrong type, a length or number out of the
 range that the call names. `SacnError` is what the library answers, and the answer to a handle that was freed;
 `NotAPacket`, a SacnError, says that octets from elsewhere are no packet. What receives from a network passes over it.
+`Refused`, a SacnError, says that a setup or a show is refused; its `faults` has a line of each fault.
 
 Handles are freed at the end of `with`, by `close`, or with the object. A handle belongs to one thread at a time. Calls
 hold the interpreter's lock, so that breaking this rule does no harm where the interpreter has one.
@@ -37,13 +38,14 @@ from ipaddress import IPv4Address
 from typing import Any, Dict, Iterable, List, Optional, Sequence, Tuple, Type, TypeVar, Union
 
 __all__ = [
-    "load", "LibraryError", "SacnError", "NotAPacket",
+    "load", "LibraryError", "SacnError", "NotAPacket", "Refused",
     "Status", "PacketFault", "SetupFault", "ShowFault", "ConsoleFault", "SourceFault", "SourcesFault",
     "Taken", "Command", "UniverseState", "Noted", "Event", "StreamState",
     "SLOTS", "FRAME_OCTETS", "DATA_OCTETS", "MAX_DATAGRAM", "UDP_PORT", "DISCOVERY_UNIVERSE", "PAGE_UNIVERSES",
-    "MAX_SOURCES", "MAX_PORTS", "MAX_UNIVERSES", "SOURCE_UNIVERSES", "DATA_LOSS", "LIST_LOSS", "MAX_STREAMS",
+    "MAX_SOURCES", "MAX_PORTS", "MAX_UNIVERSES", "MAX_TEXT", "SOURCE_UNIVERSES", "DATA_LOSS", "LIST_LOSS",
+    "MAX_STREAMS",
     "DataPacket", "PagePacket", "SyncPacket", "Packet", "read_packet", "write_data", "packet_name",
-    "read_universes", "write_page", "in_sequence", "multicast_group",
+    "read_universes", "write_page", "in_sequence", "multicast_group", "setup_faults", "show_faults",
     "HeldSource", "Node", "Sources", "Collector", "Datagram", "ConsoleUniverse", "Console", "Source", "News", "Stream",
     "Monitor",
 ]
@@ -67,6 +69,8 @@ PAGE_UNIVERSES = 512
 MAX_SOURCES = 16
 MAX_PORTS = 16
 MAX_UNIVERSES = 16
+#: The most octets of a setup or a show whose faults are told.
+MAX_TEXT = 1048576
 #: The most universes of a source.
 SOURCE_UNIVERSES = 1024
 #: A source that sent nothing for so many milliseconds is lost (6.7.1); a list whose latest page is so old is forgotten.
@@ -233,6 +237,17 @@ class NotAPacket(SacnError):
     """Octets are no packet; `status` is a PacketFault."""
 
 
+class Refused(SacnError):
+    """A setup or a show is refused; `status` is a SetupFault or a ShowFault."""
+
+    #: The line of each fault, as of `setup_faults` and `show_faults`; none where they can't be told.
+    faults: List[str]
+
+    def __init__(self, status: _Fault, faults: Iterable[str] = ()) -> None:
+        super().__init__(status)
+        self.faults = list(faults)
+
+
 def _error(number: int, family: Optional[Type[_Fault]]) -> Exception:
     """The exception of a status that isn't SACN_DONE, of a call that has faults of this family."""
     known: Iterable[_Fault] = Status if number > 1000 else family or ()
@@ -365,6 +380,7 @@ _CALLS: Dict[str, Tuple[Any, ...]] = {
     "write_page": (_to(_Packet), _to(_u16), _size, _to(_u8), _to(_size)),
     "in_sequence": (_u8, _u8),
     "multicast_group": (_u16, _to(_u8)),
+    "setup_faults": (*_in, *_in, _to(_size)),
     "node_new": (_made, *_in, _to(_u16)),
     "node_of_universes": (_made, _to(_u16), _size),
     "node_free": (_made,),
@@ -386,6 +402,7 @@ _CALLS: Dict[str, Tuple[Any, ...]] = {
     "collector_take": (_made, _u64, *_in),
     "collector_list": (_made, _u64, ctypes.c_char_p, _to(_u16), _size, _to(_size)),
     "collector_tick": (_made, _u64, _to(_size)),
+    "show_faults": (*_in, *_in, _to(_size)),
     "console_new": (_made, *_in, _u8),
     "console_free": (_made,),
     "console_command": (_made, _u64, _u8, _u16, _u16),
@@ -460,6 +477,45 @@ def _library() -> _Library:
 def _call(name: str, *arguments: Any) -> int:
     status: int = _library().calls[name](*arguments)
     return status
+
+
+# ---- what is wrong with a setup or a show ----
+
+
+def _faults(call: str, text: bytes) -> Tuple[int, List[str]]:
+    """What a call answers of a text, and the lines that it tells."""
+    room, count = 4096, _size()
+    while True:
+        lines = ctypes.create_string_buffer(room)
+        status = _call(call, text, len(text), lines, room, count)
+        if status != Status.LENGTH or count.value <= room:
+            return status, [] if status else lines.raw[: count.value].decode("ascii").splitlines()
+        room = count.value
+
+
+def _refused(error: SacnError, call: str, text: bytes) -> SacnError:
+    """The error of a text that is refused, with its faults; any other one as it is."""
+    if not isinstance(error.status, (SetupFault, ShowFault)):
+        return error
+    return Refused(error.status, _faults(call, text)[1])
+
+
+def setup_faults(setup: Text) -> List[str]:
+    """Every fault of a setup in TOML, a line each, as `sacn check` prints it behind a file's name.
+
+    So "port[0].universe: 64000: KeyValue: a universe is 1 to 63999". There are none exactly where `Node` takes the
+    setup. SacnError with Status.LENGTH where it has more than MAX_TEXT octets.
+    """
+    status, lines = _faults("setup_faults", _text(setup, "setup"))
+    _check(status)
+    return lines
+
+
+def show_faults(show: Text) -> List[str]:
+    """The same of a show: there are none exactly where `Console` takes it."""
+    status, lines = _faults("show_faults", _text(show, "show"))
+    _check(status)
+    return lines
 
 
 # ---- packets ----
@@ -753,7 +809,7 @@ class _Receiver(_Handle):
 class Node(_Receiver):
     """A node: it takes datagrams, merges its sources by priority and highest level, and shows the frames of its ports.
 
-    `setup` is TOML, as docs/FILES.md has it ("Node setups"). SacnError with a SetupFault where it is refused.
+    `setup` is TOML, as docs/FILES.md has it ("Node setups"). Refused, with a SetupFault, where it is refused.
     """
 
     _kind = "node"
@@ -763,7 +819,10 @@ class Node(_Receiver):
 
     def __init__(self, setup: Text) -> None:
         text, udp_port = _text(setup, "setup"), _u16()
-        super().__init__(text, len(text), udp_port, family=SetupFault)
+        try:
+            super().__init__(text, len(text), udp_port, family=SetupFault)
+        except SacnError as error:
+            raise _refused(error, "setup_faults", text) from None
         self.udp_port = udp_port.value
 
     @classmethod
@@ -904,7 +963,7 @@ class Console(_Handle):
     """A console: it plays a show's cues, and gives the datagrams that are due.
 
     `show` is TOML, as docs/FILES.md has it ("Shows"); where datagrams are sent is the caller's to say. The first packet
-    on each universe has the number `first`, 0 to 255. SacnError with a ShowFault where the show is refused. Before a
+    on each universe has the number `first`, 0 to 255. Refused, with a ShowFault, where the show is refused. Before a
     console is freed its universes are ended, and it is polled until each is stopped: else nodes show its last levels
     until they count it as lost.
     """
@@ -912,8 +971,11 @@ class Console(_Handle):
     _kind = "console"
 
     def __init__(self, show: Text, first: int = 0) -> None:
-        text = _text(show, "show")
-        super().__init__(text, len(text), _number(first, "first", 255), family=ShowFault)
+        text, number = _text(show, "show"), _number(first, "first", 255)
+        try:
+            super().__init__(text, len(text), number, family=ShowFault)
+        except SacnError as error:
+            raise _refused(error, "show_faults", text) from None
 
     def command(self, now: int, command: Command, number: int = 0, level: int = 0) -> None:
         """Gives a command, with the number of its cue, channel or universe, and its level: those that it has not are

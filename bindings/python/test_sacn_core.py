@@ -18,8 +18,8 @@ import uuid
 import sacn_core
 from sacn_core import (
     Collector, Command, Console, ConsoleFault, DataPacket, Event, Monitor, Node, NotAPacket, Noted, PacketFault,
-    PagePacket, SacnError, SetupFault, ShowFault, Source, SourceFault, Sources, Status, StreamState, SyncPacket, Taken,
-    UniverseState,
+    PagePacket, Refused, SacnError, SetupFault, ShowFault, Source, SourceFault, Sources, Status, StreamState,
+    SyncPacket, Taken, UniverseState,
 )
 
 CID = uuid.UUID("00010203-0405-0607-0809-0a0b0c0d0e0f")
@@ -262,6 +262,27 @@ class Merging(Base):
         self.assertRaises(TypeError, Node, None)
         self.assertRaises(TypeError, Node, 5)
 
+    def test_the_faults_of_a_setup(self):
+        lines = [
+            "udp_port: 0: KeyValue: a UDP port is 1 to 65535",
+            "port[0].universe: 64000: KeyValue: a universe is 1 to 63999",
+        ]
+        setup = SETUP.replace("universe = 1", "universe = 64000").replace("\n", "\nudp_port = 0\n", 1)
+        self.assertEqual(sacn_core.setup_faults(SETUP), [])
+        self.assertEqual(sacn_core.setup_faults(setup), lines)
+        self.assertEqual(sacn_core.setup_faults(setup.encode()), lines)
+        with self.assertRaises(Refused) as caught:
+            Node(setup)
+        self.assertEqual((caught.exception.status, caught.exception.faults), (SetupFault.KEY_VALUE, lines))
+        self.assertEqual(sacn_core.setup_faults(b"\xff"), ["NotText: a text is UTF-8"])
+        self.assertRaises(TypeError, sacn_core.setup_faults, None)
+
+    def test_a_setup_that_is_too_long_to_be_told(self):
+        setup = "\n" * (sacn_core.MAX_TEXT + 1)
+        self.refused(Status.LENGTH, sacn_core.setup_faults, setup)
+        error = self.refused(SetupFault.MISSING_KEY, Node, setup)
+        self.assertEqual((type(error), error.faults), (Refused, []))
+
 
 class Discovery(Base):
     def test_a_list_of_two_pages(self):
@@ -335,6 +356,25 @@ class Playing(Base):
         self.refused(ShowFault.PATCH, Console, SHOW.replace("slot = 1", "slot = 513"))
         self.refused(ShowFault.CUE, Console, SHOW.replace("[[1, 65535]]", "[[2049, 65535]]"))
         self.assertRaises(ValueError, Console, SHOW, 256)
+
+    def test_the_faults_of_a_show(self):
+        show = SHOW.replace("[[1, 65535]]", "[[1, 70000], [2049, 1]]").replace("slot = 1", "slot = 513")
+        lines = [
+            "cue[0].levels[0][1]: 70000: KeyValue: a level is 0 to 65535",
+            "cue[0].levels[1][0]: 2049: Cue ChannelRange: a channel is 1 to 2048",
+            "patch[0].slot: 513: Patch SlotRange: a slot is 1 to 512",
+        ]
+        self.assertEqual(sacn_core.show_faults(SHOW), [])
+        self.assertEqual(sacn_core.show_faults(show), lines)
+        with self.assertRaises(Refused) as caught:
+            Console(show)
+        self.assertEqual((caught.exception.status, caught.exception.faults), (ShowFault.KEY_VALUE, lines))
+        self.assertEqual(copy.copy(caught.exception).faults, lines)
+
+    def test_a_hundred_faults_are_told_and_the_rest_counted(self):
+        head = SHOW[: SHOW.index("universes")]
+        lines = [f"universes[{place}]: {64000 + place}: KeyValue: a universe is 1 to 63999" for place in range(100)]
+        self.assertEqual(sacn_core.show_faults(f"{head}universes = {list(range(64000, 64150))}"), [*lines, "50 more"])
 
 
 class Sending(Base):

@@ -195,6 +195,46 @@ static void node(void) {
     CHECK(sacn_node_new(&node, "version = 3", 11, &port) == SACN_SETUP_VERSION && !node.behind);
 }
 
+/* The faults of a text: what `sacn check` prints of a file with it, behind the file's name. */
+static void faults(void) {
+    static const char bad[] = "version = 1\nudp_port = 0\n[[port]]\nnumber = 3\nuniverse = 64000\n";
+    static const char told[] = "udp_port: 0: KeyValue: a UDP port is 1 to 65535\nport[0].universe: 64000: KeyValue: a universe is 1 to 63999\n";
+    static const char bad_show[] =
+        "version = 2\ncid = \"00010203-0405-0607-0809-0a0b0c0d0e0f\"\nname = \"Desk\"\nuniverses = [7]\n"
+        "[[cue]]\nnumber = 1\nup = 0\ndown = 0\nlevels = [[1, 70000], [2049, 1]]\n[[patch]]\nchannel = 1\nuniverse = 7\nslot = 513\n";
+    static const char told_of_show[] = "cue[0].levels[0][1]: 70000: KeyValue: a level is 0 to 65535\n"
+                                       "cue[0].levels[1][0]: 2049: Cue ChannelRange: a channel is 1 to 2048\n"
+                                       "patch[0].slot: 513: Patch SlotRange: a slot is 1 to 512\n";
+    static const char told_of_none[] = "NotText: a text is UTF-8\n";
+    static char lines[1000], text[SACN_MAX_TEXT + 1];
+    size_t count = 99, length = strlen(told);
+    memset(lines, 77, sizeof lines);
+    CHECK(sacn_setup_faults(setup, strlen(setup), lines, sizeof lines, &count) == SACN_DONE && count == 0 && lines[0] == 77);
+    CHECK(sacn_show_faults(show, strlen(show), NULL, 0, &count) == SACN_DONE && count == 0);
+    CHECK(sacn_setup_faults(bad, strlen(bad), NULL, 0, &count) == SACN_LENGTH && count == length);
+    CHECK(sacn_setup_faults(bad, strlen(bad), lines, length - 1, &count) == SACN_LENGTH && count == length && lines[0] == 77);
+    CHECK(sacn_setup_faults(bad, strlen(bad), lines, length, &count) == SACN_DONE && count == length);
+    CHECK(!memcmp(lines, told, length) && lines[length] == 77);
+    memset(lines, 77, sizeof lines);
+    CHECK(sacn_show_faults(bad_show, strlen(bad_show), lines, sizeof lines, &count) == SACN_DONE && count == strlen(told_of_show));
+    CHECK(!memcmp(lines, told_of_show, count) && lines[count] == 77);
+    CHECK(sacn_setup_faults("\xff", 1, lines, sizeof lines, &count) == SACN_DONE && count == strlen(told_of_none) && !memcmp(lines, told_of_none, count));
+    CHECK(sacn_show_faults("\xff", 1, lines, sizeof lines, &count) == SACN_DONE && count == strlen(told_of_none) && !memcmp(lines, told_of_none, count));
+    /* (a setup is no show, and a text of nothing neither) */
+    CHECK(sacn_show_faults(setup, strlen(setup), lines, sizeof lines, &count) == SACN_DONE && count > 0 && lines[count - 1] == '\n');
+    CHECK(sacn_setup_faults(NULL, 0, lines, sizeof lines, &count) == SACN_DONE && count > 0 && lines[count - 1] == '\n');
+    CHECK(sacn_show_faults(NULL, 0, lines, sizeof lines, &count) == SACN_DONE && count > 0 && lines[count - 1] == '\n');
+    memset(text, '\n', sizeof text);
+    CHECK(sacn_setup_faults(text, SACN_MAX_TEXT, lines, sizeof lines, &count) == SACN_DONE && count > 0);
+    count = 99;
+    CHECK(sacn_setup_faults(text, SACN_MAX_TEXT + 1, lines, sizeof lines, &count) == SACN_LENGTH && count == 99);
+    CHECK(sacn_show_faults(text, SACN_MAX_TEXT + 1, lines, sizeof lines, &count) == SACN_LENGTH && count == 99);
+    CHECK(sacn_setup_faults(NULL, 1, lines, sizeof lines, &count) == SACN_NULL && sacn_setup_faults(bad, 1, NULL, 1, &count) == SACN_NULL);
+    CHECK(sacn_setup_faults(bad, 1, lines, 1, NULL) == SACN_NULL && sacn_setup_faults(bad, SIZE_MAX, lines, 1, &count) == SACN_LENGTH);
+    CHECK(sacn_show_faults(NULL, 1, lines, sizeof lines, &count) == SACN_NULL && sacn_show_faults(bad, 1, NULL, 1, &count) == SACN_NULL);
+    CHECK(sacn_show_faults(bad, 1, lines, 1, NULL) == SACN_NULL && sacn_show_faults(bad, 1, lines, SIZE_MAX, &count) == SACN_LENGTH && count == 99);
+}
+
 /* Port 1 shows the first universe, whatever their order. */
 static void node_of_universes(void) {
     struct sacn_node node = {0};
@@ -508,6 +548,7 @@ int main(void) {
     pages();
     node();
     node_of_universes();
+    faults();
     sources();
     collector();
     console();

@@ -60,6 +60,25 @@ static void refuse_each(const char *name, int (*call)(void), int lacking, void *
     }
 }
 
+/* Lines may do with less memory than they ask for: a refused request is said, and nothing told, or the lines are there. */
+static void refuse_each_of_faults(void) {
+    static const char first[] = "version: 3: Version: the version is 1 or 2\n";
+    char lines[1000];
+    long at = 0;
+    do {
+        size_t octets = 0;
+        met = 0, refused_at = ++at;
+        int status = sacn_show_faults("version = 3", 11, lines, sizeof lines, &octets);
+        refused_at = 0;
+        if (status == SACN_OUT_OF_MEMORY ? octets != 0 : status || octets < strlen(first) || memcmp(lines, first, strlen(first))) {
+            printf("show_faults: request %ld: status %d, %zu octets\n", at, status, octets);
+            failed++;
+            return;
+        }
+    } while (met >= at);
+    if (at == 1) failed++, puts("show_faults: it takes no memory");
+}
+
 int main(void) {
     if (sacn_write_page(&packet, universes, 3, page, &length)) return 1;
     refuse_each("node_new", make_node, SACN_SETUP_OUT_OF_MEMORY, &node.behind);
@@ -71,6 +90,7 @@ int main(void) {
     refuse_each("monitor_new", make_monitor, SACN_OUT_OF_MEMORY, &monitor.behind);
     refuse_each("collector_take", collect, SACN_OUT_OF_MEMORY, NULL);
     refuse_each("collector_list", list, SACN_OUT_OF_MEMORY, NULL);
+    refuse_each_of_faults();
     if (count != 3 || memcmp(got, universes, sizeof got)) failed++, puts("collector_list: another list");
     sacn_node_free(&node);
     sacn_node_free(&other);

@@ -12,6 +12,7 @@ uint8_t sacn_proved_in_sequence(uint8_t held, uint8_t arrived);
 void sacn_proved_multicast_group(uint16_t universe, uint8_t *group);
 void sacn_proved_free(void **handle);
 uint32_t sacn_proved_node_new(void **handle, const uint8_t *text, size_t length, uint16_t *udp_port);
+uint32_t sacn_proved_setup_faults(const uint8_t *text, size_t length, uint8_t *lines, size_t room, size_t *count);
 uint32_t sacn_proved_node_of_universes(void **handle, const uint16_t *universes, size_t count);
 uint32_t sacn_proved_node_take(void **handle, uint64_t now, const uint8_t *octets, size_t count, uint8_t *taken);
 uint32_t sacn_proved_node_tick(void **handle, uint64_t now, size_t *lost);
@@ -30,6 +31,7 @@ uint32_t sacn_proved_collector_take(void **handle, uint64_t now, const uint8_t *
 uint32_t sacn_proved_collector_list(void **handle, uint64_t now, const uint8_t *cid, uint16_t *universes, size_t room, size_t *count);
 uint32_t sacn_proved_collector_tick(void **handle, uint64_t now, size_t *forgotten);
 uint32_t sacn_proved_console_new(void **handle, const uint8_t *text, size_t length, uint8_t first);
+uint32_t sacn_proved_show_faults(const uint8_t *text, size_t length, uint8_t *lines, size_t room, size_t *count);
 uint32_t sacn_proved_console_command(void **handle, uint64_t now, uint8_t command, uint16_t number, uint16_t level);
 uint32_t sacn_proved_console_poll(void **handle, uint64_t now, uint8_t *out, size_t *count);
 uint32_t sacn_proved_console_wakes(void **handle, uint64_t *moment);
@@ -70,6 +72,9 @@ static int is_slice(const uint8_t **at, size_t count) {
 }
 
 static const uint8_t *start(const void *at) { return at ? at : nothing; }
+
+/* The room of a null pointer, of no octets. */
+static uint8_t no_octets[1];
 
 /* The same of numbers of two octets. */
 static const uint16_t no_numbers[1] = {0};
@@ -122,6 +127,12 @@ int sacn_node_new(struct sacn_node *node, const char *setup, size_t length, uint
     return (int)sacn_proved_node_new(&node->behind, start(setup), length, udp_port);
 }
 
+int sacn_setup_faults(const char *setup, size_t length, char *lines, size_t room, size_t *count) {
+    if (is_bad(setup, length) || is_bad(lines, room) || !count) return SACN_NULL;
+    if (is_long(length) || is_long(room)) return SACN_LENGTH;
+    return (int)sacn_proved_setup_faults(start(setup), length, lines ? (uint8_t *)lines : no_octets, room, count);
+}
+
 int sacn_node_of_universes(struct sacn_node *node, const uint16_t *universes, size_t count) {
     if (!node || is_bad(universes, count)) return SACN_NULL;
     if (is_long_list(count)) return SACN_LENGTH;
@@ -157,10 +168,9 @@ int sacn_node_wakes(struct sacn_node *node, uint64_t *moment) {
 }
 
 int sacn_node_ports(struct sacn_node *node, uint8_t *ports, size_t room, size_t *count) {
-    static uint8_t none[1];
     if (!node || !node->behind || is_bad(ports, room) || !count) return SACN_NULL;
     if (is_long(room)) return SACN_LENGTH;
-    return (int)sacn_proved_node_ports(&node->behind, ports ? ports : none, room, count);
+    return (int)sacn_proved_node_ports(&node->behind, ports ? ports : no_octets, room, count);
 }
 
 int sacn_node_held(struct sacn_node *node, uint16_t universe, const uint8_t cid[16], struct sacn_source *source, uint8_t slots[SACN_SLOTS]) {
@@ -240,6 +250,12 @@ int sacn_console_new(struct sacn_console *console, const char *show, size_t leng
     if (is_long(length)) return SACN_LENGTH;
     if (console->behind) return SACN_NOT_EMPTY;
     return (int)sacn_proved_console_new(&console->behind, start(show), length, first);
+}
+
+int sacn_show_faults(const char *show, size_t length, char *lines, size_t room, size_t *count) {
+    if (is_bad(show, length) || is_bad(lines, room) || !count) return SACN_NULL;
+    if (is_long(length) || is_long(room)) return SACN_LENGTH;
+    return (int)sacn_proved_show_faults(start(show), length, lines ? (uint8_t *)lines : no_octets, room, count);
 }
 
 int sacn_console_free(struct sacn_console *console) {

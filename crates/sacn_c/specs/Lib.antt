@@ -1,4 +1,5 @@
 pub mod Collecting
+pub mod Faults
 pub mod Hearing
 pub mod Kinds
 pub mod Lending

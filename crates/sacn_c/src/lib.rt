@@ -4,6 +4,7 @@
 
 mod collector;
 mod console;
+mod faults;
 mod handle;
 mod held_value;
 mod loose;

@@ -26,4 +26,4 @@ pub use finding::{Detail, Finding, Findings, MAX_TOLD};
 pub use kinds::{FileKind, kind_of};
 pub use quick::is_surely_show;
 pub use refusal::Refusal;
-pub use report::{ReportFault, write_report, write_unread};
+pub use report::{ReportFault, fault_lines, write_report, write_unread};

@@ -1,4 +1,6 @@
 //! What is printed of a file.
+ghost use Rattle.std.specs.Prelude.{◌≡◌, ◌==◌, is_none, string_len, IfOk};
+ghost use Rattle.sacn_check.specs.Refusals.{first_refusal};
 
 use crate::finding::{Finding, Findings};
 use crate::kinds::FileKind;
@@ -54,17 +56,55 @@ fn push_part(line: &mut String, part: &str) -> Result<(), AllocError> {
     line.push_str(": ")
 }
 
+/// What is told of a fault behind the file's name.
+fn push_fault(line: &mut String, finding: &Finding) -> Result<(), AllocError> {
+    push_part(line, finding.place.as_str())?;
+    push_part(line, finding.found.as_str())?;
+    push_name(line, finding.refusal, finding.detail)?;
+    line.push_str(": ")?;
+    line.push_str(finding.wanted.as_str())
+}
+
 /// The line of a fault.
 fn line_of(alloc: Global, file: &str, finding: &Finding) -> Result<String, AllocError> {
     let mut line = String::new(alloc);
     push_shown(&mut line, file)?;
     line.push_str(": ")?;
-    push_part(&mut line, finding.place.as_str())?;
-    push_part(&mut line, finding.found.as_str())?;
-    push_name(&mut line, finding.refusal, finding.detail)?;
-    line.push_str(": ")?;
-    line.push_str(finding.wanted.as_str())?;
+    push_fault(&mut line, finding)?;
     Ok(line)
+}
+
+/// The lines of faults, and how many others there are, without the last line's end.
+fn push_faults(lines: &mut String, findings: &Findings) -> Result<(), AllocError> {
+    let mut before = "";
+    for finding in findings.told.as_slice() {
+        lines.push_str(before)?;
+        push_fault(lines, finding)?;
+        before = "\n";
+    }
+    let more = findings.more;
+    if more > 0 {
+        write!(lines, "\n{more} more")?;
+    }
+    Ok(())
+}
+
+/// The lines that [`write_report`] prints of a file with faults, without the file's name in front, each ended by LF.
+///
+/// There are none exactly where nothing is told.
+pub fn fault_lines(alloc: Global, findings: &Findings) -> Result<String, AllocError>
+    ensures { IfOk result (λ lines. (string_len lines == 0)
+        ≡ is_none (first_refusal findings.now.told.items)) }
+{
+    let mut lines = String::new(alloc);
+    match findings.told.as_slice().first() {
+        None => Ok(lines),
+        Some(_) => {
+            push_faults(&mut lines, findings)?;
+            lines.push_str("\n")?;
+            Ok(lines)
+        }
+    }
 }
 
 /// A line for each fault, or one that says that the file is right.

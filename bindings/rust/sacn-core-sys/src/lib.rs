@@ -148,6 +148,7 @@ pub const SACN_PAGE_UNIVERSES: usize = 512;
 pub const SACN_MAX_SOURCES: usize = 16;
 pub const SACN_MAX_PORTS: usize = 16;
 pub const SACN_MAX_UNIVERSES: usize = 16;
+pub const SACN_MAX_TEXT: usize = 1048576;
 pub const SACN_DATA_LOSS: u64 = 2500;
 pub const SACN_LIST_LOSS: u64 = 25000;
 pub const SACN_TEXT_OCTETS: usize = 65;
@@ -308,6 +309,13 @@ extern "C" {
     ) -> c_int;
     pub fn sacn_in_sequence(held: u8, arrived: u8) -> c_int;
     pub fn sacn_multicast_group(universe: u16, group: *mut u8) -> c_int;
+    pub fn sacn_setup_faults(
+        setup: *const c_char,
+        length: usize,
+        lines: *mut c_char,
+        room: usize,
+        count: *mut usize,
+    ) -> c_int;
     pub fn sacn_node_new(node: *mut sacn_node, setup: *const c_char, length: usize, udp_port: *mut u16) -> c_int;
     pub fn sacn_node_of_universes(node: *mut sacn_node, universes: *const u16, count: usize) -> c_int;
     pub fn sacn_node_free(node: *mut sacn_node) -> c_int;
@@ -353,6 +361,13 @@ extern "C" {
         count: *mut usize,
     ) -> c_int;
     pub fn sacn_collector_tick(collector: *mut sacn_collector, now: u64, forgotten: *mut usize) -> c_int;
+    pub fn sacn_show_faults(
+        show: *const c_char,
+        length: usize,
+        lines: *mut c_char,
+        room: usize,
+        count: *mut usize,
+    ) -> c_int;
     pub fn sacn_console_new(console: *mut sacn_console, show: *const c_char, length: usize, first: u8) -> c_int;
     pub fn sacn_console_free(console: *mut sacn_console) -> c_int;
     pub fn sacn_console_command(console: *mut sacn_console, now: u64, command: u8, number: u16, level: u16) -> c_int;

@@ -119,7 +119,7 @@ pub struct Console {
 impl Console {
     /// Makes a console of a show in TOML, as `docs/FILES.md` has it ("Shows"); where datagrams are sent is the
     /// caller's to say. The first packet on each universe has the number `first`. [`Error::Show`] where the show is
-    /// refused.
+    /// refused: [`show_faults`](crate::show_faults) tells why.
     pub fn new(show: impl AsRef<[u8]>, first: u8) -> Result<Self, Error> {
         let handle = raw::console_new(show.as_ref(), first).map_err(|status| refused(status, Error::show))?;
         Ok(Console { handle })

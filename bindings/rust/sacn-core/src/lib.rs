@@ -32,7 +32,8 @@
 //! sources.tick(0); // it was freed
 //! ```
 //!
-//! **Errors** are what the library answers, as an [`Error`]. Nothing here panics, prints, waits, opens a socket or
+//! **Errors** are what the library answers, as an [`Error`]. Of a setup or a show that is refused [`setup_faults`] and
+//! [`show_faults`] tell each fault, with its key and place. Nothing here panics, prints, waits, opens a socket or
 //! reads a clock.
 #![deny(unsafe_code)]
 #![warn(missing_docs)]
@@ -40,6 +41,7 @@
 mod collector;
 mod console;
 mod error;
+mod faults;
 mod monitor;
 mod node;
 mod packet;
@@ -50,6 +52,7 @@ mod source;
 pub use collector::Collector;
 pub use console::{Command, Console, ConsoleUniverse, Datagram, UniverseState};
 pub use error::{ConsoleFault, Error, PacketFault, SetupFault, ShowFault, SourceFault, SourcesFault, Status};
+pub use faults::{setup_faults, show_faults};
 pub use monitor::{Event, Monitor, News, Noted, Stream, StreamState};
 pub use node::{HeldSource, Node, Sources, Taken};
 pub use packet::{
@@ -80,6 +83,8 @@ pub const MAX_SOURCES: usize = sys::SACN_MAX_SOURCES;
 pub const MAX_PORTS: usize = sys::SACN_MAX_PORTS;
 /// How many universes a node has at most.
 pub const MAX_UNIVERSES: usize = sys::SACN_MAX_UNIVERSES;
+/// The most octets of a setup or a show whose faults are told.
+pub const MAX_TEXT: usize = sys::SACN_MAX_TEXT;
 /// The most universes of a source.
 pub const SOURCE_UNIVERSES: usize = sys::SACN_SOURCE_UNIVERSES;
 /// A source that sent nothing for so many milliseconds is lost (6.7.1).

@@ -71,7 +71,7 @@ pub struct Node {
 
 impl Node {
     /// Makes a node of a setup in TOML, as `docs/FILES.md` has it ("Node setups"). [`Error::Setup`] where it is
-    /// refused.
+    /// refused: [`setup_faults`](crate::setup_faults) tells why.
     pub fn new(setup: impl AsRef<[u8]>) -> Result<Self, Error> {
         let mut udp_port = 0;
         let made = raw::node_new(setup.as_ref(), &mut udp_port);

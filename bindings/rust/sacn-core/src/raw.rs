@@ -116,6 +116,11 @@ pub fn multicast_group(universe: u16) -> [u8; 4] {
     group
 }
 
+pub fn setup_faults(setup: &[u8], lines: &mut [u8], count: &mut usize) -> c_int {
+    let (room, length) = (lines.as_mut_ptr().cast(), lines.len());
+    unsafe { sacn_setup_faults(setup.as_ptr().cast(), setup.len(), room, length, count) }
+}
+
 pub fn node_new(setup: &[u8], udp_port: &mut u16) -> Made<sacn_node> {
     made(|node| unsafe { sacn_node_new(node, setup.as_ptr().cast(), setup.len(), udp_port) })
 }
@@ -204,6 +209,11 @@ pub fn collector_list(
 
 pub fn collector_tick(collector: &mut Handle<sacn_collector>, now: u64, forgotten: &mut usize) -> c_int {
     unsafe { sacn_collector_tick(&mut collector.0, now, forgotten) }
+}
+
+pub fn show_faults(show: &[u8], lines: &mut [u8], count: &mut usize) -> c_int {
+    let (room, length) = (lines.as_mut_ptr().cast(), lines.len());
+    unsafe { sacn_show_faults(show.as_ptr().cast(), show.len(), room, length, count) }
 }
 
 pub fn console_new(show: &[u8], first: u8) -> Made<sacn_console> {
